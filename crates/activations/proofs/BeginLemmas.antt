@@ -1,5 +1,5 @@
 -- A program begins.
-use Rattle.activations.proofs.Common.{ne_eqb, or-false, ◌≡◌, ◌≢◌, refl, ℕ, zero, suc, ◌+◌, ◌*◌, ◌/◌, ◌%◌, ◌<◌, ◌≤◌, ◌==◌, ◌⊎◌, nat_lt, if◌then◌else◌, Bool, true, false, List, [], ◌∷◌, ◌++◌, All, length, map, slice_index_or, Option, Some, None, list_any, arith, ap, sym, ◌∙◌, subst, inl, inr, get_or-set_same, get_or-set_other, eqb-true, eqb-false, eq-eqb, both_ways, or_left, or_right, or_cases, or_parts, nat_tests, length-map, length-set, map-append, get_or_read, All-from_get_or, list_any-append, FlatStore, has, no_lines, has-append, no_lines_of, Authority, unowned, Program, start, registers_of_program, Begun, Entry, nobody, Fine, AreAlike, AreMarked, IsState, requested, due_to, IsCurrent, IsOrderly, current-begun, first_entry, with_first, begins-consistent, refused-consistent, told-taken, Seat, IsSeating, sitter, number_in, newcomer, next_seat, all-has, none-free, some-free, has-at, few-taken, taken-below, kept-seated, apart-taken, is_line_marked, Fits, private_segment, Live, Activity, no_program, program_at, live_in, entry_for, entry_in, entries, number_under, authority_under, authority_told, store_over, desk_over, lines_held, locks_in, request_for, request_in, state_in, shown, given, started, begun_in, IsBegin, IsSound, IsSetUp, IsIdentified, IsKept, Follows}
+use Rattle.activations.proofs.Common.{ne_eqb, or-false, ◌≡◌, ◌≢◌, refl, ℕ, zero, suc, ◌+◌, ◌*◌, ◌/◌, ◌%◌, ◌<◌, ◌≤◌, ◌==◌, ◌⊎◌, nat_lt, if◌then◌else◌, Bool, true, false, List, [], ◌∷◌, ◌++◌, All, length, map, slice_index_or, Option, Some, None, list_any, arith, ap, sym, ◌∙◌, subst, inl, inr, get_or-set_same, get_or-set_other, eqb-true, eqb-false, eq-eqb, both_ways, or_left, or_right, or_cases, or_parts, nat_tests, length-map, length-set, map-append, get_or_read, All-from_get_or, list_any-append, FlatStore, has, no_lines, has-append, no_lines_of, Authority, unowned, Program, start, registers_of_program, Begun, Entry, nobody, Fine, AreAlike, AreMarked, IsState, requested, due_to, IsCurrent, IsOrderly, current-begun, first_entry, with_first, begins-consistent, refused-consistent, told-taken, Seat, IsSeating, sitter, number_in, newcomer, next_seat, all-has, none-free, some-free, has-at, few-taken, taken-below, kept-seated, apart-taken, is_line_marked, Fits, private_segment, Live, Activity, no_program, program_at, live_in, entry_for, entry_in, entries, number_under, authority_under, authority_told, store_over, desk_over, lines_held, locks_in, request_for, request_in, state_in, shown, given, started, begun_in, IsBegin, IsSound, IsSetUp, IsIdentified, IsKept, KeepsDesk}
 use Rattle.std.proofs.lemmas.Option.{slice_get-get_or}
 use Rattle.flat_machine.specs.Serial.{Activation}
 use Rattle.desk.specs.declared.event.Event.TheVariants.{Begin}
@@ -42,7 +42,7 @@ sound-given a sound =
     sound-beside a (a.next + 1) a.reach.pool sound
     (all-of (λ seat. number_in a.seating seat < a.next + 1) a.seating.taken (λ seat inside. let was = all-has (λ seat. number_in a.seating seat < a.next) a.seating.taken seat sound.numbers inside in omega (arith, was)))
 
-pub follows-given : (a : Activity) (committed : List ℕ) → Follows a committed → Follows (given a) committed
+pub follows-given : (a : Activity) (committed : List ℕ) → KeepsDesk a committed → KeepsDesk (given a) committed
 follows-given a committed follows = record {
   orderly = refused-consistent (desk_over a committed []) follows.orderly;
   kept = record {
@@ -177,7 +177,7 @@ module _ (a : Activity) (program : ℕ) (args : List ℕ) (seat : ℕ) (sound : 
       }
 
   -- What it shows.
-  module _ (committed : List ℕ) (follows : Follows a committed) (fits : Fits a.reach.directory a.reach.pool) (known : program < length a.programs) where
+  module _ (committed : List ℕ) (follows : KeepsDesk a committed) (fits : Fits a.reach.directory a.reach.pool) (known : program < length a.programs) where
     abbrev store : FlatStore
     store = store_over a committed
 
@@ -255,7 +255,7 @@ module _ (a : Activity) (program : ℕ) (args : List ℕ) (seat : ℕ) (sound : 
             store-frame a.reach.directory a.reach.pool fits seat below code.image code.image_fits place frame there ∙ follows.kept.clean place frame within there unmarked;
       }
 
-      pub follows-begun : Follows new committed
+      pub follows-begun : KeepsDesk new committed
       follows-begun = record { orderly = subst IsOrderly (sym (desk-begun committed [])) orderly-begun; kept = kept-begun }
 
 -- the next seat is free, and there is none where sixteen are taken
@@ -280,7 +280,7 @@ module _ (a : Activity) (program : ℕ) (args : List ℕ) (sound : IsSound a) (k
       by_cases (Some seat) e (Some segment) = sound-given a sound
       by_cases (Some seat) e None = let (below, free, room) = some-next a seat sound e in sound-begun a program args seat sound below free known
 
-  module _ (committed : List ℕ) (follows : Follows a committed) (fits : Fits a.reach.directory a.reach.pool) where
+  module _ (committed : List ℕ) (follows : KeepsDesk a committed) (fits : Fits a.reach.directory a.reach.pool) where
     begin-is : (order : List (ℕ × ℕ)) → step a.programs (Begin program args) Fine (desk_over a committed order) ≡ begin program this (desk_over a committed order)
     begin-is order = ap (λ (found : Option Program). begin_if program args found (desk_over a committed order)) (slice_get-get_or a.programs program no_program known)
 
@@ -349,7 +349,7 @@ module _ (a : Activity) (program : ℕ) (args : List ℕ) (sound : IsSound a) wh
 
   -- so it is the desk's
   pub begin-goes : (now : Activity) (told : Begun) → program < length a.programs → Fits a.reach.directory a.reach.pool
-      → told ≡ (begun.begins a program args).0 → now ≡ (begun.begins a program args).1 → (committed : List ℕ) → Follows a committed → IsBegin a now program args told committed
+      → told ≡ (begun.begins a program args).0 → now ≡ (begun.begins a program args).1 → (committed : List ℕ) → KeepsDesk a committed → IsBegin a now program args told committed
   begin-goes now told known fits is_told is_new committed follows =
       subst (λ (n : Activity). IsBegin a n program args told committed) (sym is_new)
       (subst (λ (t : Begun). IsBegin a (begun.begins a program args).1 program args t committed) (sym is_told) (is-begin a program args sound known committed follows fits))

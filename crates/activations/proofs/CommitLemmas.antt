@@ -1,5 +1,5 @@
 -- A commit.
-use Rattle.activations.proofs.Common.{◌≡◌, refl, ℕ, ◌%◌, ◌<◌, ◌==◌, ◌&&◌, not, Bool, true, false, List, [], ◌∷◌, ◌++◌, length, slice_index, Some, ap, sym, ◌∙◌, subst, both_ways, eqb-true, length-map-range_with_len, Layout, byte_count, page_count, FlatStore, line_of, line-bytes-pos, has, Lines, page_of_line, no_lines, Plain, after, Pool, settled, Commit, row, Entry, Counts, no_counts, AreAlike, AreMarked, IsState, IsTold, requested, by_number, over_all, left_by, committed_at, IsAmong, due_to, IsCurrent, IsOrderly, place-laid, marked-commit, others, seat-told, told-seat, at-number, kept-seats, commit-ends, is_line_marked, bytes_over, byte_over, Fits, SettleKeeps, Keeps, Activity, program_in, entry_in, entries, store_over, desk_over, locks_in, request_in, state_for, state_in, live_in, shown, IsSound, IsKept, Follows, wrote, is_of, AreWritten, WereSettled, rolled, Commits}
+use Rattle.activations.proofs.Common.{◌≡◌, refl, ℕ, ◌%◌, ◌<◌, ◌==◌, ◌&&◌, not, Bool, true, false, List, [], ◌∷◌, ◌++◌, length, slice_index, Some, ap, sym, ◌∙◌, subst, both_ways, eqb-true, length-map-range_with_len, Layout, byte_count, page_count, FlatStore, line_of, line-bytes-pos, has, Lines, page_of_line, no_lines, Plain, after, Pool, settled, Commit, row, Entry, Counts, no_counts, AreAlike, AreMarked, IsState, IsTold, requested, by_number, over_all, left_by, committed_at, IsAmong, due_to, IsCurrent, IsOrderly, place-laid, marked-commit, others, seat-told, told-seat, at-number, kept-seats, commit-ends, is_line_marked, bytes_over, byte_over, Fits, SettleKeeps, Keeps, Activity, program_in, entry_in, entries, store_over, desk_over, locks_in, request_in, state_for, state_in, live_in, shown, IsSound, IsKept, KeepsDesk, wrote, is_of, AreWritten, WereSettled, rolled, Commits}
 use Rattle.flat_machine.proofs.Agreement.{after-whole}
 use Rattle.desk_law.proofs.EntriesEnd as law
 use Rattle.activations.proofs.RollbackLemmas.{wrote-due, locks-left, of-written}
@@ -52,7 +52,7 @@ settled-unseen settle directory lines old pool committed fits page below as_comm
     by_parts place false e none = absurd (both_ways false refl none)
 
 module _ (a : Activity) (seat : ℕ) (pool : Pool) (pages : List ℕ) (committed : List ℕ) (now : Plain)
-    (sound : IsSound a) (taken : has a.seating.taken seat ≡ true) (follows : Follows a committed)
+    (sound : IsSound a) (taken : has a.seating.taken seat ≡ true) (follows : KeepsDesk a committed)
     (at : after (entry_in a seat).runs.program (entry_in a seat).runs.args (store_over a committed) (entry_in a seat).rows ≡ Some now)
     (call : row (program_in a seat) a.reach.directory (over_all now (shown a committed)) ≡ Commit) where
   abbrev store : FlatStore

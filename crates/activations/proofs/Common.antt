@@ -132,16 +132,16 @@ pub use Rattle.activations.specs.Attempted.{CameTo, IsSelected, IsShut, IsStoppe
 pub use Rattle.activations.specs.Begins.{Begins, IsBegin, begun_in, given, idle, started}
 pub use Rattle.activations.specs.Ends.{HasSettled, HasUndone, IsDeserted, IsRestarted, WereRolled, reprinted}
 pub use Rattle.activations.specs.Fetching.{HasBrokenOff, IsBrokenOff, IsIn, IsStoreOf, IsUnread}
-pub use Rattle.activations.specs.Follows.{AreOfPages, Follows, IsIdentified, IsKept, IsSetUp, IsSound}
+pub use Rattle.activations.specs.Follows.{AreOfPages, KeepsDesk, IsIdentified, IsKept, IsSetUp, IsSound}
 pub use Rattle.activations.specs.Instructed.{GoesUncounted, IsAsked, IsEndOfRows, IsInstruction, IsPrepared, IsServed, Prepares, Serves}
 pub use Rattle.activations.specs.Kept.{AreRowsWithin, KeepsParts, StaysSeated}
 pub use Rattle.activations.specs.Recorded.{HasWritten, IsRecordOf, LeavesCommitted, line_told, recorded, with_lines, written_of}
 pub use Rattle.activations.specs.Serves.{AreTouched, IsFetched, IsToServe, attempt_in, counted_with, lines_with}
-pub use Rattle.activations.specs.Serving.{AreGranted, AreLowered, AreSet, Goes, IsContested, IsFree, IsOver, WereRefused, asking, entry_given, entry_to_read, instruction_in, is_lowered, locked, pages_lowered, with_entries}
+pub use Rattle.activations.specs.Serving.{AreGranted, AreLowered, AreSet, Goes, IsContested, IsFree, ComesToEnd, WereRefused, asking, entry_given, entry_to_read, instruction_in, is_lowered, locked, pages_lowered, with_entries}
 pub use Rattle.activations.specs.Steps.{AreAsCommitted, AreWritten, Commits, GoesOn, HasExecuted, IsMoved, RollsBack, Strides, WereSettled, WereUndone, counted, executed, is_of, rolled, vacated, with_pool, wrote}
 pub use Rattle.activations.specs.Striding.{RunsAt, StrodeTo, with_live}
 pub use Rattle.activations.specs.Touched.{AreWanted, IsApart, each_refused, is_granted, lines_between, page_if, pages_picked, pages_refused, pages_wanted, refuses_want, stores_into, wants_of, with_whole_page}
-pub use Rattle.activations.specs.Turning.{Contests, HasBroken, HasEnded, IsContestEnd, counts_of}
+pub use Rattle.activations.specs.Turning.{Contests, HasBroken, HasEnded, IsContestEnd, tally_counts}
 pub use Rattle.activations.specs.Turns.{AreTurns, ComesBack, IsAtCommit, IsStep, IsTurning, MayBeShut, commit_call, selected_in, turn_in}
 pub use Rattle.activations.specs.View.{activity_of}
 pub use Rattle.activations.specs.declared.live.Live.{Live}

@@ -1,5 +1,5 @@
 -- A contest as its loop keeps it, whatever is committed.
-use Rattle.activations.proofs.Common.{nil_from_length, map-append, ne_eqb, ◌≡◌, refl, ℕ, ◌<◌, ◌==◌, ◌&&◌, ◌||◌, not, if◌then◌else◌, Bool, true, false, List, [], ◌∷◌, ◌++◌, filter, length, map, Option, Some, None, IsSome, arith, ap, sym, ◌∙◌, eqb-true, eq-eqb, both_ways, has, victim_of, has-filter, Pool, Desk, Word, Counts, Attempt, Turning, Victim, Waits, AreConsistent, with_cycle, number_in, seat_of, sitter, cycle_of, holders, seat-found, Activity, entries, store_over, IsSound, IsKept, IsContested, IsOver, IsFree, rolled, RollsBack, Contests, Request, Cycle}
+use Rattle.activations.proofs.Common.{nil_from_length, map-append, ne_eqb, ◌≡◌, refl, ℕ, ◌<◌, ◌==◌, ◌&&◌, ◌||◌, not, if◌then◌else◌, Bool, true, false, List, [], ◌∷◌, ◌++◌, filter, length, map, Option, Some, None, IsSome, arith, ap, sym, ◌∙◌, eqb-true, eq-eqb, both_ways, has, victim_of, has-filter, Pool, Desk, Word, Counts, Attempt, Turning, Victim, Waits, AreConsistent, with_cycle, number_in, seat_of, sitter, cycle_of, holders, seat-found, Activity, entries, store_over, IsSound, IsKept, IsContested, ComesToEnd, IsFree, rolled, RollsBack, Contests, Request, Cycle}
 use Rattle.activations.proofs.ContestLemmas.{round-goes, round-loses, cycle-sits, contest-waits, contest-frees}
 use Rattle.activations.proofs.KeptLemmas.{no-more}
 
@@ -30,7 +30,7 @@ module _ (seat : ℕ) (first now : Activity) (before after : Counts) (cycle : Li
   pub contests-lost : (victim_of cycle == number_in now.seating seat) ≡ true
       → (begins : Word → Turning) (attempt : Attempt) (refused : List ℕ) (desk : Desk) (committed : List ℕ) (order : List (ℕ × ℕ))
       → attempt.entry.number ≡ number_in first.seating seat → IsContested begins attempt refused desk first committed order before
-      → IsOver begins (rolled now loser pool) committed order (with_cycle after cycle) Victim
+      → ComesToEnd begins (rolled now loser pool) committed order (with_cycle after cycle) Victim
   contests-lost it begins attempt refused desk committed order is contested =
       let here = contests begins attempt refused desk committed order is contested in
       round-loses begins attempt refused desk now seat committed order after sound taken (is ∙ sym number) here cycle found loser sits pool
@@ -75,7 +75,7 @@ module _ (seat : ℕ) (first now : Activity) (before after : Counts)
 
     pub contest-stays : (these : List ℕ) → holders now.seating seat request.wants.items ≡ these → (length these ≡ 0 → ⊥)
         → (begins : Word → Turning) (attempt : Attempt) (refused : List ℕ) (desk : Desk) (committed : List ℕ) (order : List (ℕ × ℕ))
-        → attempt.entry.number ≡ number_in first.seating seat → IsContested begins attempt refused desk first committed order before → IsOver begins now committed order after (Waits these)
+        → attempt.entry.number ≡ number_in first.seating seat → IsContested begins attempt refused desk first committed order before → ComesToEnd begins now committed order after (Waits these)
     contest-stays [] is_these some begins attempt refused desk committed order is contested = absurd (some refl)
     contest-stays (holder ∷ others) is_these some begins attempt refused desk committed order is contested =
         contest-waits begins attempt refused desk now seat committed order after sound taken (is ∙ sym number) (contests begins attempt refused desk committed order is contested) found request waits holder others is_these
@@ -95,11 +95,11 @@ module _ (seat : ℕ) (first now : Activity) (before after : Counts)
 
     pub told-stays : (length these == 0) ≡ false
         → (begins : Word → Turning) (attempt : Attempt) (refused : List ℕ) (desk : Desk) (committed : List ℕ) (order : List (ℕ × ℕ))
-        → attempt.entry.number ≡ number_in first.seating seat → IsContested begins attempt refused desk first committed order before → IsOver begins now committed order after (Waits these)
+        → attempt.entry.number ≡ number_in first.seating seat → IsContested begins attempt refused desk first committed order before → ComesToEnd begins now committed order after (Waits these)
     told-stays some = by_waits (sitter now.seating seat).waits refl waiting
       where
         by_waits : (waits : Option Request) → (sitter now.seating seat).waits ≡ waits → IsSome waits
             → (begins : Word → Turning) (attempt : Attempt) (refused : List ℕ) (desk : Desk) (committed : List ℕ) (order : List (ℕ × ℕ))
-            → attempt.entry.number ≡ number_in first.seating seat → IsContested begins attempt refused desk first committed order before → IsOver begins now committed order after (Waits these)
+            → attempt.entry.number ≡ number_in first.seating seat → IsContested begins attempt refused desk first committed order before → ComesToEnd begins now committed order after (Waits these)
         by_waits (Some request) is any = contest-stays request is found these (sym (told request is)) (λ e. both_ways (length these == 0) some (eq-eqb (length these) 0 e))
         by_waits None is none = let e : false ≡ true = none in absurd (cc (e))

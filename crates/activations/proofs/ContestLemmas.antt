@@ -1,5 +1,5 @@
 -- A contest, round by round: each cycle that a waiting seat closes is broken.
-use Rattle.activations.proofs.Common.{◌≡◌, ℕ, ◌==◌, true, false, List, [], ◌∷◌, filter, find, map, Option, Some, None, option_map, option_map_or, ap, sym, ◌∙◌, subst, has, Lines, no_lines, shown_cycle, victim_of, lines_wanted, Request, Plain, Pool, Word, Counts, Attempt, Turning, Over, Victim, Waits, contest_ends, AreAlike, by_number, kept_conflict, kept_waits, IsOrderly, KeepsPages, contest, IsUnderWay, marked, with_cycle, alike-same, told-found, at-number, IsContesting, contesting-victim, contesting-turn, contesting-loses, contesting-consistent, contesting-ready, contesting-waits, contesting-gets, number_in, seat_of, sitter, holders, cycle_of, Activity, entry_in, entries, desk_over, locks_in, request_in, state_in, shown, IsSound, Follows, IsContested, IsOver, IsFree, WereRefused, rolled, RollsBack}
+use Rattle.activations.proofs.Common.{◌≡◌, ℕ, ◌==◌, true, false, List, [], ◌∷◌, filter, find, map, Option, Some, None, option_map, option_map_or, ap, sym, ◌∙◌, subst, has, Lines, no_lines, shown_cycle, victim_of, lines_wanted, Request, Plain, Pool, Word, Counts, Attempt, Turning, Over, Victim, Waits, contest_ends, AreAlike, by_number, kept_conflict, kept_waits, IsOrderly, KeepsPages, contest, IsUnderWay, marked, with_cycle, alike-same, told-found, at-number, IsContesting, contesting-victim, contesting-turn, contesting-loses, contesting-consistent, contesting-ready, contesting-waits, contesting-gets, number_in, seat_of, sitter, holders, cycle_of, Activity, entry_in, entries, desk_over, locks_in, request_in, state_in, shown, IsSound, KeepsDesk, IsContested, ComesToEnd, IsFree, WereRefused, rolled, RollsBack}
 use Rattle.desk.specs.Desk.{Desk, Entry, Authority}
 use Rattle.activations.proofs.CommitLemmas.{told-kept}
 use Rattle.activations.proofs.WaitLemmas.{holders-told, cycle-told}
@@ -67,7 +67,7 @@ module _ (begins : Word → Turning) (attempt : Attempt) (refused : List ℕ) (f
           }
 
       -- it is the victim itself
-      pub round-loses : (victim_of cycle == attempt.entry.number) ≡ true → IsOver begins (rolled a victim pool) committed order (with_cycle counts cycle) Victim
+      pub round-loses : (victim_of cycle == attempt.entry.number) ≡ true → ComesToEnd begins (rolled a victim pool) committed order (with_cycle counts cycle) Victim
       round-loses it =
           let lost = contesting-loses begins attempt refused first desk counts locks requests states (shown a committed) told cycle (entry_in a victim) (cycle-is (Some cycle) found) victim-is (shown (rolled a victim pool) committed) rolls.laid it in
           record {
@@ -82,7 +82,7 @@ module _ (begins : Word → Turning) (attempt : Attempt) (refused : List ℕ) (f
     settled : IsOrderly desk
     settled = contesting-consistent begins attempt refused first desk counts locks requests states (shown a committed) told (cycle-is None found)
 
-    follows-here : Follows a committed
+    follows-here : KeepsDesk a committed
     follows-here = record { orderly = orderly-other a committed order settled; kept = is.kept }
 
     module _ (request : Request) (waits : (sitter a.seating seat).waits ≡ Some request) where
@@ -99,7 +99,7 @@ module _ (begins : Word → Turning) (attempt : Attempt) (refused : List ℕ) (f
           alike : AreAlike (requests attempt.entry.number) (lines_wanted request.wants.items)
           alike = subst (λ (l : Lines). AreAlike l (lines_wanted request.wants.items)) (sym asked-is) (alike-same (lines_wanted request.wants.items))
 
-      pub contest-waits : (holder : ℕ) (others : List ℕ) → holders a.seating seat request.wants.items ≡ holder ∷ others → IsOver begins a committed order counts (Waits (holder ∷ others))
+      pub contest-waits : (holder : ℕ) (others : List ℕ) → holders a.seating seat request.wants.items ≡ holder ∷ others → ComesToEnd begins a committed order counts (Waits (holder ∷ others))
       contest-waits holder others some = record {
         comes = contesting-waits begins attempt refused first desk counts locks requests states (shown a committed) told (cycle-is None found) holder others (sym holders-are ∙ some);
         follows = follows-here;

@@ -1,5 +1,5 @@
 -- What a seat that is left leaves, once its written lines are forgotten or committed.
-use Rattle.activations.proofs.Common.{false_from_ne_true, and-false, ◌≡◌, refl, ℕ, ◌+◌, ◌<◌, ◌==◌, ◌&&◌, not, Bool, true, false, List, [], slice_index, is_some, Some, arith, ap, sym, ◌∙◌, subst, both_ways, eqb-true, eqb-false, byte_count, line_of, line-bytes-pos, has, has-filter, Plain, after, Commit, row, Pool, emptied, IsSeen, Stays, Entry, no_counts, over_all, AreConsistent, due_to, place-kept, seat-told, among-any, taken-below, Reach, IsClean, is_line_marked, is_marked, bytes_over, private_bytes, Fits, Keeps, emptied-frame, emptied-stays, Activity, program_in, entry_in, entries, store_over, shown, HasUndone, HasSettled, WereRolled, IsRestarted, IsDeserted, IsSound, IsKept, Follows, rolled, vacated, with_pool, RollsBack, Commits}
+use Rattle.activations.proofs.Common.{false_from_ne_true, and-false, ◌≡◌, refl, ℕ, ◌+◌, ◌<◌, ◌==◌, ◌&&◌, not, Bool, true, false, List, [], slice_index, is_some, Some, arith, ap, sym, ◌∙◌, subst, both_ways, eqb-true, eqb-false, byte_count, line_of, line-bytes-pos, has, has-filter, Plain, after, Commit, row, Pool, emptied, IsSeen, Stays, Entry, no_counts, over_all, AreConsistent, due_to, place-kept, seat-told, among-any, taken-below, Reach, IsClean, is_line_marked, is_marked, bytes_over, private_bytes, Fits, Keeps, emptied-frame, emptied-stays, Activity, program_in, entry_in, entries, store_over, shown, HasUndone, HasSettled, WereRolled, IsRestarted, IsDeserted, IsSound, IsKept, KeepsDesk, rolled, vacated, with_pool, RollsBack, Commits}
 use Rattle.storage_unit.proofs.CommitIsUnseen.{commit-is-unseen}
 use Rattle.storage_unit.proofs.EmptyKeeps.{empty-keeps}
 use Rattle.activations.proofs.BringLemmas.{none-has}
@@ -27,7 +27,7 @@ module _ (a : Activity) (seat : ℕ) (mid : Reach) (new : Activity) (is : new �
       (rolls-back a seat mid.pool undone.pages committed sound taken consistent kept (record { all = undone.all; only = undone.only }) undone.were (undone.are committed kept.long kept.clean))
 
   -- they were committed
-  pub commits-left : HasSettled a.seating.holding seat a.reach mid → IsSound a → has a.seating.taken seat ≡ true → (committed : List ℕ) (now : Plain) → Follows a committed
+  pub commits-left : HasSettled a.seating.holding seat a.reach mid → IsSound a → has a.seating.taken seat ≡ true → (committed : List ℕ) (now : Plain) → KeepsDesk a committed
       → after (program_in a seat) (entry_in a seat).runs.args (store_over a committed) (entry_in a seat).rows ≡ Some now
       → row (program_in a seat) a.reach.directory (over_all now (shown a committed)) ≡ Commit → Commits a seat new.reach.pool committed now
   commits-left settled sound taken committed now follows at call =
@@ -62,7 +62,7 @@ pub record RolledSo (below : ℕ) (old now : Activity) : Type 0 where
   pub directory : now.reach.directory ≡ old.reach.directory
   pub sitters : now.seating.sitters ≡ old.seating.sitters
   pub gone : (seat : ℕ) → seat < below → has now.seating.taken seat ≡ false
-  pub were : (committed : List ℕ) → Follows old committed → WereRolled old now committed
+  pub were : (committed : List ℕ) → KeepsDesk old committed → WereRolled old now committed
 
 pub rolled-none : (a : Activity) → IsSound a → RolledSo 0 a a
 rolled-none a sound = record {
@@ -141,7 +141,7 @@ module _ (old now new : Activity) (so : RolledSo 16 old now) (fits : Fits now.re
     sitters = ap (λ (n : Activity). n.seating.sitters) is ∙ so.sitters;
   }
 
-  pub restarted-left : IsSeen new.reach.pool → (committed : List ℕ) → Follows old committed → IsRestarted old new committed
+  pub restarted-left : IsSeen new.reach.pool → (committed : List ℕ) → KeepsDesk old committed → IsRestarted old new committed
   restarted-left seen committed follows =
       let past = so.were committed follows in
       subst (λ (n : Activity). IsRestarted old n committed) (sym is)

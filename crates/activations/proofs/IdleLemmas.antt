@@ -1,5 +1,5 @@
 -- Nobody sits anywhere: as at first, and as after a crash.
-use Rattle.activations.proofs.Common.{◌≡◌, refl, ℕ, zero, suc, ◌+◌, ◌%◌, ◌<◌, nat_lt, if◌then◌else◌, Bool, true, false, List, [], ◌∷◌, length, map, replicate, slice_index, slice_index_or, Option, Some, None, range_with_len, option_map_or, ForSome, arith, ap, sym, ◌∙◌, subst, inl, inr, both_ways, nat_tests, same_number_lists, get_or_past, get_or-replicate, length-replicate, All-nil, All-replicate, get_or-map-range_with_len, length-map-range_with_len, Layout, byte_count, page_count, line_of, page_of, has, page_of_line, AreWithin, of_seat, no_lines_of, nothing_held, Authority, unowned, Program, Pool, frame_at, nobody, opened, restarted, owner_told, owners_told, IsCurrent, current-quiet, quiet-consistent, Seat, IsSeating, newcomer, nobody_sits, byte_in_frame, byte_over, is_line_marked, is_marked, Keeps, Live, Activity, authority_at, authority_of, authority_told, entry_in, number_under, store_over, desk_over, shown, idle, WereRolled, IsRestarted, IsSound, IsKept, Follows, IsIdentified, AreOfPages, IsMoved, with_pool}
+use Rattle.activations.proofs.Common.{◌≡◌, refl, ℕ, zero, suc, ◌+◌, ◌%◌, ◌<◌, nat_lt, if◌then◌else◌, Bool, true, false, List, [], ◌∷◌, length, map, replicate, slice_index, slice_index_or, Option, Some, None, range_with_len, option_map_or, ForSome, arith, ap, sym, ◌∙◌, subst, inl, inr, both_ways, nat_tests, same_number_lists, get_or_past, get_or-replicate, length-replicate, All-nil, All-replicate, get_or-map-range_with_len, length-map-range_with_len, Layout, byte_count, page_count, line_of, page_of, has, page_of_line, AreWithin, of_seat, no_lines_of, nothing_held, Authority, unowned, Program, Pool, frame_at, nobody, opened, restarted, owner_told, owners_told, IsCurrent, current-quiet, quiet-consistent, Seat, IsSeating, newcomer, nobody_sits, byte_in_frame, byte_over, is_line_marked, is_marked, Keeps, Live, Activity, authority_at, authority_of, authority_told, entry_in, number_under, store_over, desk_over, shown, idle, WereRolled, IsRestarted, IsSound, IsKept, KeepsDesk, IsIdentified, AreOfPages, IsMoved, with_pool}
 use Rattle.desk.specs.Desk as desk
 use Rattle.activations.proofs.PoolLemmas.{moved-follows}
 use Rattle.activations.proofs.TableLemmas.{nobody-page}
@@ -96,7 +96,7 @@ module _ (programs : List Program) (most_lines frames : ℕ) (directory : Layout
       clean = λ place frame within there unmarked. absurd (let clash : None ≡ Some frame = sym (no-frame (page_of directory place)) ∙ there in cc);
     }
 
-    pub follows-idle : Follows a committed
+    pub follows-idle : KeepsDesk a committed
     follows-idle = record { orderly = quiet-consistent (desk_over a committed []) long (omega arith) refl authority-idle; kept = kept-idle }
 
 -- Nobody is left, and all pages went out: it is the desk that a crash leaves.

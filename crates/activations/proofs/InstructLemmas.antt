@@ -1,11 +1,11 @@
 -- One instruction of who sits in a seat: a row that takes effect, and the commit call.
-use Rattle.activations.proofs.Common.{◌≡◌, ℕ, true, List, [], ap, sym, ◌∙◌, subst, has, Plain, Commit, row, Counts, IsState, over_all, Activity, live_in, program_in, entry_in, store_over, state_in, shown, IsSelected, TookEffect, CameTo, IsSound, Follows, GoesUncounted, instruction_in, GoesOn, IsAtCommit}
+use Rattle.activations.proofs.Common.{◌≡◌, ℕ, true, List, [], ap, sym, ◌∙◌, subst, has, Plain, Commit, row, Counts, IsState, over_all, Activity, live_in, program_in, entry_in, store_over, state_in, shown, IsSelected, TookEffect, CameTo, IsSound, KeepsDesk, GoesUncounted, instruction_in, GoesOn, IsAtCommit}
 use Rattle.activations.proofs.CommitLemmas.{ends}
 use Rattle.activations.proofs.RowLemmas.{goes-on}
 use Rattle.activations.proofs.SittingLemmas.{state-shows}
 
 module _ (a : Activity) (seat : ℕ) (committed : List ℕ) (order : List (ℕ × ℕ)) (counts : Counts)
-    (sound : IsSound a) (taken : has a.seating.taken seat ≡ true) (selected : IsSelected a seat) (follows : Follows a committed) where
+    (sound : IsSound a) (taken : has a.seating.taken seat ≡ true) (selected : IsSelected a seat) (follows : KeepsDesk a committed) where
   -- a row that takes effect
   pub row-goes : (after : Activity) → TookEffect a seat after → GoesUncounted (instruction_in a seat committed order counts) after seat committed order counts
   row-goes after took =

@@ -1,5 +1,5 @@
 -- Pages that come in and go out, of which those that run see nothing.
-use Rattle.activations.proofs.Common.{◌≡◌, ℕ, ◌%◌, ◌==◌, ◌||◌, not, nat_lt, if◌then◌else◌, Bool, true, false, List, [], ◌∷◌, ◌++◌, length, slice_index_or, Option, Some, None, option_to_list, remove, unwrap_or, ap, sym, ◌∙◌, subst, has, page_of_line, brought, Pool, IsState, IsCurrent, IsOrderly, taken-below, Keeps, Activity, entry_in, entries, store_over, desk_over, state_in, IsSound, IsKept, Follows, IsMoved, with_pool}
+use Rattle.activations.proofs.Common.{◌≡◌, ℕ, ◌%◌, ◌==◌, ◌||◌, not, nat_lt, if◌then◌else◌, Bool, true, false, List, [], ◌∷◌, ◌++◌, length, slice_index_or, Option, Some, None, option_to_list, remove, unwrap_or, ap, sym, ◌∙◌, subst, has, page_of_line, brought, Pool, IsState, IsCurrent, IsOrderly, taken-below, Keeps, Activity, entry_in, entries, store_over, desk_over, state_in, IsSound, IsKept, KeepsDesk, IsMoved, with_pool}
 use Rattle.frame_pool.proofs.ApartLemmas.{differs}
 use Rattle.activations.proofs.PositionLemmas.{position-same}
 
@@ -24,7 +24,7 @@ pub moved-desk : (a : Activity) (pool : Pool) (committed : List ℕ) (order : Li
 moved-desk a pool committed order moved i = record (desk_over a committed order) { frames = moved.frames i; resident = pool.resident }
 
 pub moved-follows : (a : Activity) (pool : Pool) (committed : List ℕ) → IsSound a → IsMoved a.reach.pool pool → Keeps a.reach.directory a.reach.pool pool committed
-    → Follows a committed → Follows (with_pool a pool) committed
+    → KeepsDesk a committed → KeepsDesk (with_pool a pool) committed
 moved-follows a pool committed sound moved keeps follows = record {
   orderly = subst IsOrderly (sym (moved-desk a pool committed [] moved))
       (record { whole = follows.orderly.whole; few = follows.orderly.few; active = follows.orderly.active; held = follows.orderly.held; no_cycle = follows.orderly.no_cycle });

@@ -1,5 +1,5 @@
 -- An access is prepared: its pages come in, or one of them can't be read.
-use Rattle.activations.proofs.Common.{◌≡◌, refl, ℕ, ◌+◌, nat_lt, if◌then◌else◌, Bool, true, false, List, [], ◌∷◌, length, ap, sym, ◌∙◌, subst, has, lines_wanted, Want, Authority, Plain, lines_of_access, Access, Ghosts, KeptStore, Pool, IsClean, Desk, rolled_back, Word, ReadFailed, Counts, Attempt, Turning, Over, Disk, fetches, touched_pages, AreConsistent, Touch, Activity, program_in, entry_in, entries, store_over, desk_over, IsSelected, IsShut, HasUndone, IsStoreOf, IsBrokenOff, HasBrokenOff, IsSound, IsKept, Follows, IsAsked, IsPrepared, IsToServe, IsFetched, AreTouched, attempt_in, lines_with, counted_with, instruction_in, with_pool, rolled, RollsBack, AreWanted, wants_of, pages_wanted, refuses_want, each_refused, pages_refused, HasBroken}
+use Rattle.activations.proofs.Common.{◌≡◌, refl, ℕ, ◌+◌, nat_lt, if◌then◌else◌, Bool, true, false, List, [], ◌∷◌, length, ap, sym, ◌∙◌, subst, has, lines_wanted, Want, Authority, Plain, lines_of_access, Access, Ghosts, KeptStore, Pool, IsClean, Desk, rolled_back, Word, ReadFailed, Counts, Attempt, Turning, Over, Disk, fetches, touched_pages, AreConsistent, Touch, Activity, program_in, entry_in, entries, store_over, desk_over, IsSelected, IsShut, HasUndone, IsStoreOf, IsBrokenOff, HasBrokenOff, IsSound, IsKept, KeepsDesk, IsAsked, IsPrepared, IsToServe, IsFetched, AreTouched, attempt_in, lines_with, counted_with, instruction_in, with_pool, rolled, RollsBack, AreWanted, wants_of, pages_wanted, refuses_want, each_refused, pages_refused, HasBroken}
 use mir.Val.{bool_byte}
 use Rattle.activations.proofs.EndLemmas.{rolled-follows}
 use Rattle.activations.proofs.PoolLemmas.{moved-desk, moved-follows}
@@ -25,13 +25,13 @@ module _ {W : Type 0} (G : Ghosts W) (store : KeptStore) (outside : W) (old : Ac
   }
 
   -- What began by then and was to come to that end comes to it, and what is left follows the desk after it.
-  pub broke-ends : (begins : Word → Turning) (committed : List ℕ) (order : List (ℕ × ℕ)) (counts : Counts) → IsSound old → Follows old committed → IsStoreOf G store outside committed
+  pub broke-ends : (begins : Word → Turning) (committed : List ℕ) (order : List (ℕ × ℕ)) (counts : Counts) → IsSound old → KeepsDesk old committed → IsStoreOf G store outside committed
       → HasBrokenOff G store outside old seat pages before new after
       → begins (ReadFailed after) ≡ Over (record (rolled_back (desk_over old committed order) (entry_in old seat)) { resident = [] }) (record counts { pages = after }) Disk
       → HasBroken begins new committed order (record counts { pages = after })
   broke-ends begins committed order counts sound follows is broke ends = record {
     comes = ends ∙ ap (λ (d : Desk). Over d (record counts { pages = after }) Disk) desk;
-    follows = subst (λ (a : Activity). Follows a committed) (sym broke.shape) (rolled-follows there seat new.reach.pool committed follows-there rolls);
+    follows = subst (λ (a : Activity). KeepsDesk a committed) (sym broke.shape) (rolled-follows there seat new.reach.pool committed follows-there rolls);
   }
     where
       there : Activity
@@ -40,7 +40,7 @@ module _ {W : Type 0} (G : Ghosts W) (store : KeptStore) (outside : W) (old : Ac
       off : IsBrokenOff old committed order pages before broke.pool after
       off = broke.off committed order is follows.kept.clean
 
-      follows-there : Follows there committed
+      follows-there : KeepsDesk there committed
       follows-there = moved-follows old broke.pool committed sound off.moved off.keeps follows
 
       rolls : RollsBack there seat new.reach.pool committed
@@ -55,7 +55,7 @@ module _ {W : Type 0} (G : Ghosts W) (store : KeptStore) (outside : W) (old : Ac
 
 -- the next row of who sits in a seat is shut, so its access is to be served
 pub is-to-serve : (a : Activity) (seat : ℕ) (access : Access) (wants : List Want) → IsSound a → has a.seating.taken seat ≡ true → IsSelected a seat → IsShut a seat access
-    → lines_wanted wants ≡ lines_of_access (program_in a seat) a.reach.directory access → (committed : List ℕ) → Follows a committed → (next : Plain) × IsToServe a seat committed wants next
+    → lines_wanted wants ≡ lines_of_access (program_in a seat) a.reach.directory access → (committed : List ℕ) → KeepsDesk a committed → (next : Plain) × IsToServe a seat committed wants next
 is-to-serve a seat access wants sound taken selected shut lines committed follows =
     let out = shut.shut committed follows.kept.long in
     (out.next, record { sound = sound; taken = taken; runner = selected.runner; follows = follows; goes = out.goes; touches = out.touches ∙ sym lines })

@@ -1,5 +1,5 @@
 -- What was printed in a seat in which nobody sits is nobody's.
-use Rattle.activations.proofs.Common.{◌≡◌, refl, ℕ, ◌≤◌, ◌==◌, Bool, true, false, List, length, ap, sym, ◌∙◌, subst, eqb-true, both_ways, length-set, has, IsState, Live, Activity, live_in, entry_in, store_over, state_for, reprinted, IsSound, Follows}
+use Rattle.activations.proofs.Common.{◌≡◌, refl, ℕ, ◌≤◌, ◌==◌, Bool, true, false, List, length, ap, sym, ◌∙◌, subst, eqb-true, both_ways, length-set, has, IsState, Live, Activity, live_in, entry_in, store_over, state_for, reprinted, IsSound, KeepsDesk}
 use Rattle.activations.proofs.SittingLemmas.{live-other}
 
 module _ (a : Activity) (seat : ℕ) (out : List ℕ) (free : has a.seating.taken seat ≡ false) where
@@ -34,7 +34,7 @@ module _ (a : Activity) (seat : ℕ) (out : List ℕ) (free : has a.seating.take
     identified = sound.identified;
   }
 
-  pub follows-reprinted : (committed : List ℕ) → Follows a committed → Follows (reprinted a seat out) committed
+  pub follows-reprinted : (committed : List ℕ) → KeepsDesk a committed → KeepsDesk (reprinted a seat out) committed
   follows-reprinted committed follows = record {
     orderly = follows.orderly;
     kept = record {

@@ -1,5 +1,5 @@
 -- What a record of the lines that one holds to write leaves, laid over what is committed.
-use Rattle.activations.proofs.Common.{◌≡◌, refl, ℕ, ◌+◌, ◌*◌, ◌/◌, ◌%◌, ◌<◌, ◌≤◌, ◌==◌, ◌||◌, if◌then◌else◌, Bool, true, false, List, [], ◌∷◌, length, slice_index, Some, arith, ap, sym, ◌∙◌, eqb-true, eqb-false, or_left, or_right, eq-eqb, same_number_lists, page_count, page_bytes, line_bytes, PageSize, byte_count-pages, line-bytes-pos, has, overlaid, length-overlaid, entry_bytes, laid, is_line_marked, byte-of-all, Plain, after, Commit, row, FlatStore, page_of_line, Entry, no_counts, IsLaid, over_all, due_to, place-laid, place-kept, seat-told, among-any, Activity, program_in, entry_in, entries, store_over, locks_in, shown, IsSound, Follows, line_told, recorded}
+use Rattle.activations.proofs.Common.{◌≡◌, refl, ℕ, ◌+◌, ◌*◌, ◌/◌, ◌%◌, ◌<◌, ◌≤◌, ◌==◌, ◌||◌, if◌then◌else◌, Bool, true, false, List, [], ◌∷◌, length, slice_index, Some, arith, ap, sym, ◌∙◌, eqb-true, eqb-false, or_left, or_right, eq-eqb, same_number_lists, page_count, page_bytes, line_bytes, PageSize, byte_count-pages, line-bytes-pos, has, overlaid, length-overlaid, entry_bytes, laid, is_line_marked, byte-of-all, Plain, after, Commit, row, FlatStore, page_of_line, Entry, no_counts, IsLaid, over_all, due_to, place-laid, place-kept, seat-told, among-any, Activity, program_in, entry_in, entries, store_over, locks_in, shown, IsSound, KeepsDesk, line_told, recorded}
 use Rattle.storage_unit.proofs.FillLemmas.{over-part, in-part}
 use Rattle.storage_unit.specs.Reached as reached
 use Rattle.activations.proofs.CommitLemmas.{ends}
@@ -72,7 +72,7 @@ laid-over size of bytes at (line ∷ lines) base are =
     (laid-over size of bytes (at + entry_bytes of) lines (over size bytes line lines base [] are) (are-left size bytes line lines base [] are))
 
 -- With the bytes of all where they were written, and committed ones elsewhere, it leaves what is committed by then.
-module _ (a : Activity) (seat : ℕ) (committed : List ℕ) (now : Plain) (sound : IsSound a) (reached : reached.IsSound a.reach) (taken : has a.seating.taken seat ≡ true) (follows : Follows a committed)
+module _ (a : Activity) (seat : ℕ) (committed : List ℕ) (now : Plain) (sound : IsSound a) (reached : reached.IsSound a.reach) (taken : has a.seating.taken seat ≡ true) (follows : KeepsDesk a committed)
     (at : after (entry_in a seat).runs.program (entry_in a seat).runs.args (store_over a committed) (entry_in a seat).rows ≡ Some now)
     (call : row (program_in a seat) a.reach.directory (over_all now (shown a committed)) ≡ Commit) where
   abbrev store : FlatStore

@@ -1,5 +1,5 @@
 -- The record of a commit, from the pages whose lines came into it.
-use Rattle.activations.proofs.Common.{◌≡◌, refl, ℕ, ◌+◌, ◌*◌, ◌<◌, ◌≤◌, true, List, [], ◌++◌, All, length, map, slice_index_or, AllPairs, arith, ap, sym, ◌∙◌, subst, All-nil, IsOfPage, Want, has, size-alike, write_count, of_seat, due_to, seat-told, begun_of, record_bytes_of, KeptStore, all-has, taken-below, RecordLine, laid, Activity, entry_in, store_over, locks_in, IsSound, Follows, IsRecordOf, LeavesCommitted, HasWritten, line_told, recorded, written_of, lines_with}
+use Rattle.activations.proofs.Common.{◌≡◌, refl, ℕ, ◌+◌, ◌*◌, ◌<◌, ◌≤◌, true, List, [], ◌++◌, All, length, map, slice_index_or, AllPairs, arith, ap, sym, ◌∙◌, subst, All-nil, IsOfPage, Want, has, size-alike, write_count, of_seat, due_to, seat-told, begun_of, record_bytes_of, KeptStore, all-has, taken-below, RecordLine, laid, Activity, entry_in, store_over, locks_in, IsSound, KeepsDesk, IsRecordOf, LeavesCommitted, HasWritten, line_told, recorded, written_of, lines_with}
 use Rattle.storage_unit.specs.Reached as reached
 use Rattle.activations.proofs.LimitLemmas.{size-held, written-none}
 use Rattle.activations.proofs.RecordLaid.{leaves-committed}
@@ -12,7 +12,7 @@ module _ (a : Activity) (seat : ℕ) (sound : IsSound a) (taken : has a.seating.
   with-none = written-none (of_seat a.seating.holding seat) (sound.lines seat) (record { reads = All-nil (λ (want : Want). IsOfPage want.reads); writes = All-nil (λ (want : Want). IsOfPage want.writes) })
 
   -- beside a consistent desk they are never too many
-  pub never-more : (committed : List ℕ) → Follows a committed → write_count (of_seat a.seating.holding seat) ≤ a.most_lines
+  pub never-more : (committed : List ℕ) → KeepsDesk a committed → write_count (of_seat a.seating.holding seat) ≤ a.most_lines
   never-more committed follows =
       let live = follows.orderly.active.live (entry_in a seat) (seat-told a.seating.taken (entry_in a) seat taken) in
       let alike = follows.kept.held seat taken in

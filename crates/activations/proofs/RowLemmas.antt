@@ -1,5 +1,5 @@
 -- A row of one that takes effect, over what all see.
-use Rattle.activations.proofs.Common.{open-due, ◌≡◌, ℕ, ◌+◌, ◌-◌, ◌<◌, ◌==◌, ◌||◌, true, false, List, [], Some, arith, ap, sym, ◌∙◌, subst, eq-eqb, both_ways, FlatStore, has, Lines, Plain, row, touched, Desk, Entry, with_entry, wanted, Counts, Going, no_counts, AreAlike, IsState, over_all, owners_told, AreMarked, requested, gone_on, IsAmong, due_to, IsCurrent, IsOrderly, HasGone, attempt-goes, wanted-is, replaced, alike-then, alike-back, marked-row, seat-told, told-replaced, Seat, taken-below, is_line_marked, private_bytes, plain_over, Live, Activity, live_in, program_in, entry_in, entries, store_over, desk_over, authority_under, locks_in, request_for, request_in, state_in, shown, IsSound, IsKept, Follows, counted, executed, HasExecuted, GoesOn}
+use Rattle.activations.proofs.Common.{open-due, ◌≡◌, ℕ, ◌+◌, ◌-◌, ◌<◌, ◌==◌, ◌||◌, true, false, List, [], Some, arith, ap, sym, ◌∙◌, subst, eq-eqb, both_ways, FlatStore, has, Lines, Plain, row, touched, Desk, Entry, with_entry, wanted, Counts, Going, no_counts, AreAlike, IsState, over_all, owners_told, AreMarked, requested, gone_on, IsAmong, due_to, IsCurrent, IsOrderly, HasGone, attempt-goes, wanted-is, replaced, alike-then, alike-back, marked-row, seat-told, told-replaced, Seat, taken-below, is_line_marked, private_bytes, plain_over, Live, Activity, live_in, program_in, entry_in, entries, store_over, desk_over, authority_under, locks_in, request_for, request_in, state_in, shown, IsSound, IsKept, KeepsDesk, counted, executed, HasExecuted, GoesOn}
 use Rattle.activations.proofs.SittingLemmas.{by_seat, state-shows, sitter-other, entry-counted, entry-other, under-counted, live-other, live-there}
 use Rattle.activations.proofs.TableLemmas.{there}
 
@@ -9,7 +9,7 @@ orderly-order a committed order is = record { whole = is.whole; few = is.few; ac
 
 module _ (a : Activity) (seat : ℕ) (live : Live) (bytes : List ℕ) (marked : List (List ℕ)) (committed : List ℕ)
     (sound : IsSound a) (taken : has a.seating.taken seat ≡ true) (runner : a.reach.runner ≡ seat + 1)
-    (follows : Follows a committed) (went : HasExecuted a seat live bytes marked committed) where
+    (follows : KeepsDesk a committed) (went : HasExecuted a seat live bytes marked committed) where
   abbrev next : Activity
   next = counted (executed a seat live bytes marked) seat 1
 

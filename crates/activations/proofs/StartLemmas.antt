@@ -1,5 +1,5 @@
 -- An access that isn't permitted: where its serving begins, and what becomes of it first.
-use Rattle.activations.proofs.Common.{instruction, resident-consistent, Reads, ◌≡◌, refl, ℕ, zero, suc, ◌+◌, ◌<◌, ◌==◌, nat_lt, if◌then◌else◌, Bool, true, false, List, [], ◌∷◌, ◌++◌, All, filter, length, map, Some, ap, sym, ◌∙◌, subst, eq-eqb, is_fine_page, has, size, Lines, no_lines, with_whole_pages, Request, Want, lines_wanted, Plain, On, row, touched, Pool, Desk, Entry, with_entry, rolled_back, conflicts_of, Word, Counts, Attempt, Over, Fetched, Broken, Fine, Journal, Disk, fetches, touched_pages, refused_pages, gets, contest_ends, lines_written, AreAlike, AreMarked, IsState, requested, owners_told, over_all, by_number, kept_conflict, IsAmong, due_to, IsCurrent, IsOrderly, rolled-consistent, IsReady, contest, IsUnderWay, served_attempt, alike-then, alike-back, replaced, marked-mark, seat-told, told-replaced, IsContesting, free-gets, free-none, contest-begins, Seat, sitter, holders, AreOfPage, taken-below, is_line_marked, Keeps, plain_over, Activity, live_in, program_in, entry_for, entry_in, entries, authority_under, number_under, request_for, store_over, desk_over, locks_in, request_in, state_in, shown, IsSound, IsKept, Follows, IsOver, IsFree, IsContested, WereRefused, instruction_in, asking, with_pool, rolled, IsMoved, RollsBack, IsApart, pages_refused, pages_wanted, with_whole_page}
+use Rattle.activations.proofs.Common.{instruction, resident-consistent, Reads, ◌≡◌, refl, ℕ, zero, suc, ◌+◌, ◌<◌, ◌==◌, nat_lt, if◌then◌else◌, Bool, true, false, List, [], ◌∷◌, ◌++◌, All, filter, length, map, Some, ap, sym, ◌∙◌, subst, eq-eqb, is_fine_page, has, size, Lines, no_lines, with_whole_pages, Request, Want, lines_wanted, Plain, On, row, touched, Pool, Desk, Entry, with_entry, rolled_back, conflicts_of, Word, Counts, Attempt, Over, Fetched, Broken, Fine, Journal, Disk, fetches, touched_pages, refused_pages, gets, contest_ends, lines_written, AreAlike, AreMarked, IsState, requested, owners_told, over_all, by_number, kept_conflict, IsAmong, due_to, IsCurrent, IsOrderly, rolled-consistent, IsReady, contest, IsUnderWay, served_attempt, alike-then, alike-back, replaced, marked-mark, seat-told, told-replaced, IsContesting, free-gets, free-none, contest-begins, Seat, sitter, holders, AreOfPage, taken-below, is_line_marked, Keeps, plain_over, Activity, live_in, program_in, entry_for, entry_in, entries, authority_under, number_under, request_for, store_over, desk_over, locks_in, request_in, state_in, shown, IsSound, IsKept, KeepsDesk, ComesToEnd, IsFree, IsContested, WereRefused, instruction_in, asking, with_pool, rolled, IsMoved, RollsBack, IsApart, pages_refused, pages_wanted, with_whole_page}
 use Rattle.desk_law.proofs.LinesThere.{fetches-none}
 use Rattle.desk_law.proofs.ServesToLocks.{asked_for, serve-asks, serve-outcome, serve-journal, serve-within, serve-broken, serve-ready}
 use Rattle.activations.proofs.CommitLemmas.{told-kept}
@@ -12,7 +12,7 @@ use Rattle.activations.proofs.SittingLemmas.{by_seat, state-shows, sitter-there,
 use Rattle.activations.proofs.WaitLemmas.{holders-told}
 
 module _ (a : Activity) (seat : ℕ) (committed : List ℕ) (order : List (ℕ × ℕ)) (counts : Counts) (wants : List Want) (next : Plain)
-    (sound : IsSound a) (taken : has a.seating.taken seat ≡ true) (runner : a.reach.runner ≡ seat + 1) (follows : Follows a committed)
+    (sound : IsSound a) (taken : has a.seating.taken seat ≡ true) (runner : a.reach.runner ≡ seat + 1) (follows : KeepsDesk a committed)
     (went : row (program_in a seat) a.reach.directory (plain_over committed (live_in a seat).cpu a.reach (live_in a seat).out) ≡ On next)
     (touches : touched (program_in a seat) a.reach.directory (plain_over committed (live_in a seat).cpu a.reach (live_in a seat).out) ≡ lines_wanted wants) where
   abbrev desk : Desk
@@ -50,7 +50,7 @@ module _ (a : Activity) (seat : ℕ) (committed : List ℕ) (order : List (ℕ �
   written = size ((locks_in a seat).writes ++ (lines_wanted wants).writes)
 
   -- too many lines: it is rolled back
-  pub journal : (pool : Pool) → RollsBack a seat pool committed → nat_lt a.most_lines written ≡ true → IsOver (instruction_in a seat committed order counts) (rolled a seat pool) committed order counts (Journal written a.most_lines)
+  pub journal : (pool : Pool) → RollsBack a seat pool committed → nat_lt a.most_lines written ≡ true → ComesToEnd (instruction_in a seat committed order counts) (rolled a seat pool) committed order counts (Journal written a.most_lines)
   journal pool rolls over = record {
     comes = λ word reads.
         serve-journal desk counts entry now next (shown a committed) orderly here (follows.kept.stand seat taken).at goes (locks_in a seat) (follows.kept.held seat taken)

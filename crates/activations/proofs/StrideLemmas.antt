@@ -1,5 +1,5 @@
 -- Rows that take effect one after another, before they are counted.
-use Rattle.activations.proofs.Common.{◌≡◌, refl, ℕ, suc, ◌+◌, ◌<◌, ◌==◌, true, List, length, find, Option, Some, None, option_map, arith, ap, sym, ◌∙◌, subst, has, Outcome, row, byte_count, Program, Desk, Entry, Word, Counts, Going, instruction, turns, told-found, GoesOpen, plain_over, Seat, Seating, sitter, number_in, went_on, taken-below, seat-of-taken, Live, Activity, live_in, program_in, entry_in, entries, desk_over, registers_of_program, private_segment, IsSelected, TookEffect, Strode, CameTo, plain_in, IsSound, Follows, counted, executed, HasExecuted, GoesOn, Strides}
+use Rattle.activations.proofs.Common.{◌≡◌, refl, ℕ, suc, ◌+◌, ◌<◌, ◌==◌, true, List, length, find, Option, Some, None, option_map, arith, ap, sym, ◌∙◌, subst, has, Outcome, row, byte_count, Program, Desk, Entry, Word, Counts, Going, instruction, turns, told-found, GoesOpen, plain_over, Seat, Seating, sitter, number_in, went_on, taken-below, seat-of-taken, Live, Activity, live_in, program_in, entry_in, entries, desk_over, registers_of_program, private_segment, IsSelected, TookEffect, Strode, CameTo, plain_in, IsSound, KeepsDesk, counted, executed, HasExecuted, GoesOn, Strides}
 use Rattle.activations.proofs.RowLemmas.{goes-on}
 use Rattle.activations.proofs.SoundLemmas.{sound-reseated}
 use Rattle.activations.proofs.SittingLemmas.{entry-counted, number-counted, counted-more}
@@ -7,10 +7,10 @@ use Rattle.activations.proofs.SittingLemmas.{entry-counted, number-counted, coun
 -- one row more, over so many that aren't counted yet
 pub strides : (a : Activity) (seat rows : ℕ) (live : Live) (bytes : List ℕ) (marked : List (List ℕ)) (committed : List ℕ) → IsSound (counted a seat rows) → has a.seating.taken seat ≡ true → a.reach.runner ≡ seat + 1
     → length a.seating.sitters ≡ 16
-    → Follows (counted a seat rows) committed → HasExecuted a seat live bytes marked committed → Strides a seat rows live bytes marked committed
+    → KeepsDesk (counted a seat rows) committed → HasExecuted a seat live bytes marked committed → Strides a seat rows live bytes marked committed
 strides a seat rows live bytes marked committed sound taken runner sixteen follows went = record {
   is_instruction = λ word order counts. goes.is_instruction word order counts ∙ ap (λ (next : Activity). Going (desk_over next committed order) (record counts { ran = counts.ran + 1 })) more;
-  follows = subst (λ (next : Activity). Follows next committed) more goes.follows;
+  follows = subst (λ (next : Activity). KeepsDesk next committed) more goes.follows;
 }
   where
     below : seat < 16
@@ -59,7 +59,7 @@ turns-on word number left desk later counts after entry found on =
 pub strode-none : (a : Activity) (seat : ℕ) → Strode a seat 0 a
 strode-none a seat = record {
   seating = refl;
-  follows = λ committed before follows. subst (λ (n : ℕ). Follows (counted a seat n) committed) (more before) follows;
+  follows = λ committed before follows. subst (λ (n : ℕ). KeepsDesk (counted a seat n) committed) (more before) follows;
   turns = λ word committed order before left counts follows i.
       turns word (number_in a.seating seat) (none left i) (Going (desk_over (counted a seat (more before i)) committed order) (record counts { ran = more counts.ran i }));
 }
@@ -74,14 +74,14 @@ strode-none a seat = record {
 pub one-strode : (a after : Activity) (seat : ℕ) → IsSound a → has a.seating.taken seat ≡ true → IsSelected a seat → TookEffect a seat after → Strode a seat 1 after
 one-strode a after seat sound taken selected took = record {
   seating = ap (λ (x : Activity). x.seating) took.shape;
-  follows = λ committed before follows. subst (λ (x : Activity). Follows (counted x seat (before + 1)) committed) (sym took.shape) (step committed before follows).follows;
+  follows = λ committed before follows. subst (λ (x : Activity). KeepsDesk (counted x seat (before + 1)) committed) (sym took.shape) (step committed before follows).follows;
   turns = λ word committed order before left counts follows.
       ap (λ (n : ℕ). turns word (number_in a.seating seat) n (Going (desk_over (counted a seat before) committed order) counts)) (omega arith)
       ∙ turns-on word (number_in a.seating seat) left _ _ counts _ (entry_in (counted a seat before) seat) (found-counted a seat before sound taken)
       ((step committed before follows).is_instruction word order counts ∙ ap (λ (x : Activity). Going (desk_over (counted x seat (before + 1)) committed order) (record counts { ran = counts.ran + 1 })) (sym took.shape));
 }
   where
-    step : (committed : List ℕ) (before : ℕ) → Follows (counted a seat before) committed → Strides a seat before (live_in after seat) after.reach.pool.bytes after.reach.pool.marked committed
+    step : (committed : List ℕ) (before : ℕ) → KeepsDesk (counted a seat before) committed → Strides a seat before (live_in after seat) after.reach.pool.bytes after.reach.pool.marked committed
     step committed before follows =
         strides a seat before (live_in after seat) after.reach.pool.bytes after.reach.pool.marked committed (sound-counted a seat before sound taken) taken selected.runner sound.seating.sixteen follows
         (took.went committed follows.kept.long follows.kept.clean)
@@ -90,7 +90,7 @@ one-strode a after seat sound taken selected took = record {
 pub strode-on : (a middle after : Activity) (seat rows : ℕ) → Strode a seat rows middle → Strode middle seat 1 after → Strode a seat (rows + 1) after
 strode-on a middle after seat rows first second = record {
   seating = second.seating ∙ first.seating;
-  follows = λ committed before follows. subst (λ (n : ℕ). Follows (counted after seat n) committed) (sum before) (second.follows committed (before + rows) (first.follows committed before follows));
+  follows = λ committed before follows. subst (λ (n : ℕ). KeepsDesk (counted after seat n) committed) (sum before) (second.follows committed (before + rows) (first.follows committed before follows));
   turns = λ word committed order before left counts follows.
       ap (λ (n : ℕ). turns word (number_in a.seating seat) n (Going (desk_over (counted a seat before) committed order) counts)) (later left)
       ∙ first.turns word committed order before (1 + left) counts follows

@@ -1,5 +1,5 @@
 -- The authority of pages under identifiers of seats, and the state in a seat beside its entry.
-use Rattle.activations.proofs.Common.{not-false, ◌≡◌, refl, ℕ, suc, ◌+◌, ◌*◌, ◌/◌, ◌%◌, ◌<◌, ◌≤◌, ◌==◌, nat_lt, Bool, true, false, List, length, slice_index_or, arith, ap, sym, ◌∙◌, subst, inl, inr, nat_tests, get_or_past, get_or-map-range_with_len, length-map-range_with_len, passing, has, page_of_line, permits, flat_lines, has-page, Authority, entry_of, lets, unowned, nobody, IsThere, StandsFor, Ascend, permitted, permitted-told, seat-told, sitter, IsOpenLine, Activity, authority_of, authority_at, authority_under, number_under, entry_in, entries, desk_over, IsSound, Follows, IsIdentified}
+use Rattle.activations.proofs.Common.{not-false, ◌≡◌, refl, ℕ, suc, ◌+◌, ◌*◌, ◌/◌, ◌%◌, ◌<◌, ◌≤◌, ◌==◌, nat_lt, Bool, true, false, List, length, slice_index_or, arith, ap, sym, ◌∙◌, subst, inl, inr, nat_tests, get_or_past, get_or-map-range_with_len, length-map-range_with_len, passing, has, page_of_line, permits, flat_lines, has-page, Authority, entry_of, lets, unowned, nobody, IsThere, StandsFor, Ascend, permitted, permitted-told, seat-told, sitter, IsOpenLine, Activity, authority_of, authority_at, authority_under, number_under, entry_in, entries, desk_over, IsSound, KeepsDesk, IsIdentified}
 use Rattle.desk_law.proofs.Entries.{between}
 use Rattle.desk.specs.Desk as desk
 
@@ -61,7 +61,7 @@ module _ (a : Activity) (sound : IsSound a) (committed : List ℕ) (ascend : Asc
           ap (λ (n : ℕ). n == seat + 1) is ∙ shift ∙ sym (sound.seats.apart other seat inside taken)
           ∙ sym (ap (λ (n : ℕ). number_under a n == (sitter a.seating seat).number) (is ∙ next))
 
-module _ (a : Activity) (sound : IsSound a) (committed : List ℕ) (follows : Follows a committed) where
+module _ (a : Activity) (sound : IsSound a) (committed : List ℕ) (follows : KeepsDesk a committed) where
   -- a line that is open to the selected seat is there for its activation
   pub there : (seat : ℕ) (order : List (ℕ × ℕ)) (line : ℕ) (store : Bool) → has a.seating.taken seat ≡ true → a.reach.runner ≡ seat + 1
       → IsOpenLine a.reach line store → IsThere (desk_over a committed order) (sitter a.seating seat).number line store

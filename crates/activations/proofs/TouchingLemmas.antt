@@ -1,5 +1,5 @@
 -- The lines that an access touches, page by page, and how many will have been written with them.
-use Rattle.activations.proofs.Common.{or_parts, range_with_len, arith, ap, sym, ◌∙◌, subst, eqb-true, eq-eqb, ne_eqb, leb-true, both_ways, nat_tests, append-nil, length-range_with_len, sum_by-le, All-nil, All-cons, All-head, All-tail, All-get_or, All-from_get_or, PageSize, Two, Four, Layout, start_of, length_of, byte_count, page_count, IsLegal, line_of, line_count, passing, between, difference, IsOfPage, line_bytes, of_page-where, line-below, segment-within, has, Lines, no_lines, pages_of, Want, lines_wanted, nothing, write_count, AreWithin, of_seat, held_at, Plain, Program, in_segment, in_window, in_register, located, lines_at, Registers, located_by, virtual_at, Access, lines_of_access, registers_of_program, TurnEnd, ending_told, Counts, AreConsistent, AreDistinct, filter-short, AreOfPage, Reach, private_segment, is_private, offset_of, place_at, Activity, live_in, program_in, entries, store_over, AreOfPages, IsSound, IsKept, IsToServe, AreTouched, attempt_in, lines_with, IsOver, instruction_in, rolled, RollsBack, HasEnded, Touch, lines_between, pages_wanted, wants_of, AreWanted, ◌≡◌, refl, ℕ, zero, suc, ◌+◌, ◌-◌, ◌/◌, ◌%◌, ◌^◌, ◌<◌, ◌≤◌, ◌==◌, ◌||◌, ◌&&◌, nat_le, nat_lt, not, if◌then◌else◌, Bool, true, false, List, [], ◌∷◌, ◌++◌, length, slice_index_or, Option, Some, None, Result, Ok, Err}
+use Rattle.activations.proofs.Common.{or_parts, range_with_len, arith, ap, sym, ◌∙◌, subst, eqb-true, eq-eqb, ne_eqb, leb-true, both_ways, nat_tests, append-nil, length-range_with_len, sum_by-le, All-nil, All-cons, All-head, All-tail, All-get_or, All-from_get_or, PageSize, Two, Four, Layout, start_of, length_of, byte_count, page_count, IsLegal, line_of, line_count, passing, between, difference, IsOfPage, line_bytes, of_page-where, line-below, segment-within, has, Lines, no_lines, pages_of, Want, lines_wanted, nothing, write_count, AreWithin, of_seat, held_at, Plain, Program, in_segment, in_window, in_register, located, lines_at, Registers, located_by, virtual_at, Access, lines_of_access, registers_of_program, TurnEnd, ending_told, Counts, AreConsistent, AreDistinct, filter-short, AreOfPage, Reach, private_segment, is_private, offset_of, place_at, Activity, live_in, program_in, entries, store_over, AreOfPages, IsSound, IsKept, IsToServe, AreTouched, attempt_in, lines_with, ComesToEnd, instruction_in, rolled, RollsBack, HasEnded, Touch, lines_between, pages_wanted, wants_of, AreWanted, ◌≡◌, refl, ℕ, zero, suc, ◌+◌, ◌-◌, ◌/◌, ◌%◌, ◌^◌, ◌<◌, ◌≤◌, ◌==◌, ◌||◌, ◌&&◌, nat_le, nat_lt, not, if◌then◌else◌, Bool, true, false, List, [], ◌∷◌, ◌++◌, length, slice_index_or, Option, Some, None, Result, Ok, Err}
 use Rattle.flat_machine.specs.declared.machine.Located.{Located}
 use Rattle.flat_machine.specs.declared.machine.Located.TheVariants.{Private, Shared, Refused}
 use Rattle.flat_machine.specs.declared.machine.Window.{Window}
@@ -296,5 +296,5 @@ pub over-limit : (a now : Activity) (seat : ℕ) (wants : List Want) (end : Turn
 over-limit a now seat wants end shape rolls over is committed order counts next to =
     subst (λ (how : TurnEnd). HasEnded how (instruction_in a seat committed order counts) now committed order counts) (sym is)
     (λ printed.
-    subst (λ (left : Activity). IsOver (instruction_in a seat committed order counts) left committed order counts (ending_told (TurnEnd.Journal (lines_with a seat wants) a.most_lines) printed)) (sym shape)
+    subst (λ (left : Activity). ComesToEnd (instruction_in a seat committed order counts) left committed order counts (ending_told (TurnEnd.Journal (lines_with a seat wants) a.most_lines) printed)) (sym shape)
     (journal a seat committed order counts wants next to.sound to.taken to.runner to.follows to.goes to.touches now.reach.pool (rolls committed to.follows.orderly.active to.follows.kept) over))

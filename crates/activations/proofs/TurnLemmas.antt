@@ -1,5 +1,5 @@
 -- The rows of a turn, instruction by instruction.
-use Rattle.activations.proofs.Common.{◌≡◌, refl, ℕ, suc, ◌+◌, ◌-◌, ◌<◌, ◌≤◌, true, List, length, arith, ap, sym, ◌∙◌, subst, nat_tests, has, Ghosts, ending_told, Desk, Word, ReadFailed, Counts, Turning, Going, Ending, Limit, Disk, turns, TurnEnd, Reads, IsAmong, IsOrderly, seat-told, Seating, number_in, taken-below, Tally, Activity, entry_in, entries, desk_over, Strode, IsSound, Follows, GoesUncounted, IsEndOfRows, KeepsParts, StaysSeated, IsOver, instruction_in, counted, HasBroken, HasEnded, counts_of, IsAtCommit, IsTurning, selected_in, turn_in, commit_call}
+use Rattle.activations.proofs.Common.{◌≡◌, refl, ℕ, suc, ◌+◌, ◌-◌, ◌<◌, ◌≤◌, true, List, length, arith, ap, sym, ◌∙◌, subst, nat_tests, has, Ghosts, ending_told, Desk, Word, ReadFailed, Counts, Turning, Going, Ending, Limit, Disk, turns, TurnEnd, Reads, IsAmong, IsOrderly, seat-told, Seating, number_in, taken-below, Tally, Activity, entry_in, entries, desk_over, Strode, IsSound, KeepsDesk, GoesUncounted, IsEndOfRows, KeepsParts, StaysSeated, ComesToEnd, instruction_in, counted, HasBroken, HasEnded, tally_counts, IsAtCommit, IsTurning, selected_in, turn_in, commit_call}
 use Rattle.desk_law.proofs.TurnLoop.{turning-goes, turning-ends, turning-commits, turning-limit}
 use Rattle.desk.specs.declared.answers.TurnEnd.TheVariants as end
 use Rattle.desk_law.proofs.TurnLoop as law
@@ -8,7 +8,7 @@ use Rattle.activations.proofs.RowLemmas.{orderly-order}
 use Rattle.activations.proofs.SittingLemmas.{number-counted}
 
 -- a turn begins
-pub turn-begins : (a : Activity) (seat limit : ℕ) (committed : List ℕ) (order : List (ℕ × ℕ)) (counts : Counts) → Follows a committed
+pub turn-begins : (a : Activity) (seat limit : ℕ) (committed : List ℕ) (order : List (ℕ × ℕ)) (counts : Counts) → KeepsDesk a committed
     → IsTurning (turn_in a seat limit committed order counts) a seat limit committed order counts
 turn-begins a seat limit committed order counts follows = record { comes = λ word reads. refl; follows = follows }
 
@@ -87,7 +87,7 @@ module _ (begins : Word → Turning) (a : Activity) (seat left : ℕ) (committed
   }
 
   -- or it ended
-  over : (after : Activity) (more : Counts) (ending : Ending) → counts.pages ≤ more.pages → IsOver (instruction_in a seat committed order counts) after committed order more ending → IsOver begins after committed order more ending
+  over : (after : Activity) (more : Counts) (ending : Ending) → counts.pages ≤ more.pages → ComesToEnd (instruction_in a seat committed order counts) after committed order more ending → ComesToEnd begins after committed order more ending
   over after more ending grows ended = record {
     comes = λ word reads.
         turning-ends begins (left - 1) desk counts (entry_in a seat) is here on word (desk_over after committed order) more ending (λ page few. reads page (omega (arith, few, grows))) (ended.comes word reads);
@@ -101,19 +101,19 @@ module _ (begins : Word → Turning) (a : Activity) (seat left : ℕ) (committed
   }
 
   pub turn-ends : {W : Type 0} (G : Ghosts W) (start now : W) (old new : Tally) (end : TurnEnd) (after : Activity) → counts.pages ≡ old.pages → old.pages ≤ new.pages
-      → IsEndOfRows G start now old new end → HasEnded end (instruction_in a seat committed order counts) after committed order (counts_of new) → HasEnded end begins after committed order (counts_of new)
-  turn-ends G start now old new end.Disk after same grows rows ended = let less = rows.1 in broken after (counts_of new) (omega (arith, same, less)) ended
-  turn-ends G start now old new end after same grows rows ended = λ printed. over after (counts_of new) (ending_told end printed) (omega (arith, same, grows)) (ended printed)
+      → IsEndOfRows G start now old new end → HasEnded end (instruction_in a seat committed order counts) after committed order (tally_counts new) → HasEnded end begins after committed order (tally_counts new)
+  turn-ends G start now old new end.Disk after same grows rows ended = let less = rows.1 in broken after (tally_counts new) (omega (arith, same, less)) ended
+  turn-ends G start now old new end after same grows rows ended = λ printed. over after (tally_counts new) (ending_told end printed) (omega (arith, same, grows)) (ended printed)
 
 -- no rows are left
-pub turn-limit : (begins : Word → Turning) (a : Activity) (seat : ℕ) (committed : List ℕ) (order : List (ℕ × ℕ)) (counts : Counts) → IsTurning begins a seat 0 committed order counts → IsOver begins a committed order counts Limit
+pub turn-limit : (begins : Word → Turning) (a : Activity) (seat : ℕ) (committed : List ℕ) (order : List (ℕ × ℕ)) (counts : Counts) → IsTurning begins a seat 0 committed order counts → ComesToEnd begins a committed order counts Limit
 turn-limit begins a seat committed order counts turning = record {
   comes = λ word reads. turning-limit begins (number_in a.seating seat) (desk_over a committed order) counts (record { comes = turning.comes }) word reads;
   follows = turning.follows;
 }
 
 -- a seat is selected, and nothing else
-pub follows-selected : (a : Activity) (seat : ℕ) (committed : List ℕ) → Follows a committed → Follows (selected_in a seat) committed
+pub follows-selected : (a : Activity) (seat : ℕ) (committed : List ℕ) → KeepsDesk a committed → KeepsDesk (selected_in a seat) committed
 follows-selected a seat committed follows =
     let kept = follows.kept in
     record {

@@ -12,7 +12,7 @@ use Rattle.romp_cpu.specs.declared.storage.Access.{Access}
 use Rattle.desk.specs.Instruction.{Word, Counts, Going, turns}
 use Rattle.seats.specs.Seating.{number_in}
 use Rattle.activations.specs.Activity.{Activity, live_in, program_in, desk_over}
-use Rattle.activations.specs.Follows.{Follows}
+use Rattle.activations.specs.Follows.{KeepsDesk}
 use Rattle.activations.specs.Steps.{executed, counted, HasExecuted}
 
 -- the unit is what a seat reaches
@@ -71,7 +71,7 @@ attempted a seat attempt cpu new =
 -- counted as went before, it is followed with them too, and a turn that has come so far comes so much farther.
 pub record Strode (a : Activity) (seat rows : ℕ) (after : Activity) : Type 0 where
   pub seating : after.seating ≡ a.seating
-  pub follows : (committed : List ℕ) (before : ℕ) → Follows (counted a seat before) committed → Follows (counted after seat (before + rows)) committed
-  pub turns : (word : Word) (committed : List ℕ) (order : List (ℕ × ℕ)) (before left : ℕ) (counts : Counts) → Follows (counted a seat before) committed
+  pub follows : (committed : List ℕ) (before : ℕ) → KeepsDesk (counted a seat before) committed → KeepsDesk (counted after seat (before + rows)) committed
+  pub turns : (word : Word) (committed : List ℕ) (order : List (ℕ × ℕ)) (before left : ℕ) (counts : Counts) → KeepsDesk (counted a seat before) committed
       → turns word (number_in a.seating seat) (rows + left) (Going (desk_over (counted a seat before) committed order) counts)
       ≡ turns word (number_in a.seating seat) left (Going (desk_over (counted after seat (before + rows)) committed order) (record counts { ran = counts.ran + rows }))

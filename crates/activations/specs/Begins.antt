@@ -16,7 +16,7 @@ use Rattle.storage_unit.specs.Places.{private_segment}
 use Rattle.storage_unit.specs.Served.{begun, made}
 use Rattle.activations.specs.declared.live.Live.{Live}
 use Rattle.activations.specs.Activity.{Activity, program_at, desk_over}
-use Rattle.activations.specs.Follows.{Follows}
+use Rattle.activations.specs.Follows.{KeepsDesk}
 
 -- nobody runs yet, over a store with this directory and so many frames for its pages
 abbrev pub idle : List Program → (most_lines frames : ℕ) → Layout → List Live → Activity
@@ -26,7 +26,7 @@ idle programs most_lines frames directory live =
 -- it is this desk, to which nothing has been committed yet, and follows it
 pub record Begins (a : Activity) (desk : Desk) (committed : List ℕ) : Type 0 where
   pub is_desk : desk_over a committed [] ≡ desk
-  pub follows : Follows a committed
+  pub follows : KeepsDesk a committed
 
 -- the next number is given, and all else stays
 abbrev pub given : Activity → Activity
@@ -64,4 +64,4 @@ begins a program args = begins_by (next_seat a.seating) (absent_segment a.reach.
 -- a begin with this answer is the desk's, and what is left follows the desk after it
 pub record IsBegin (old new : Activity) (program : ℕ) (args : List ℕ) (answer : Begun) (committed : List ℕ) : Type 0 where
   pub is_step : (order : List (ℕ × ℕ)) → step old.programs (Begin program args) Fine (desk_over old committed order) ≡ record { desk = desk_over new committed order; happening = begun_told program answer }
-  pub follows : Follows new committed
+  pub follows : KeepsDesk new committed

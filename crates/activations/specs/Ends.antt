@@ -10,18 +10,18 @@ use Rattle.storage_unit.specs.Bytes.{IsClean, bytes_over}
 use Rattle.storage_unit.specs.Laws.{Keeps}
 use Rattle.desk.specs.Run.{restarted}
 use Rattle.activations.specs.Activity.{Activity, live_in, desk_over}
-use Rattle.activations.specs.Follows.{Follows}
+use Rattle.activations.specs.Follows.{KeepsDesk}
 use Rattle.activations.specs.Steps.{WereUndone, AreAsCommitted, WereSettled}
 
 -- some were rolled back: what is left follows the desk, of which a crash leaves what it left before
 pub record WereRolled (old new : Activity) (committed : List ℕ) : Type 0 where
   pub restarts : (order : List (ℕ × ℕ)) → restarted (desk_over new committed order) ≡ restarted (desk_over old committed order)
-  pub follows : Follows new committed
+  pub follows : KeepsDesk new committed
 
 -- it is the desk that a crash leaves
 pub record IsRestarted (old new : Activity) (committed : List ℕ) : Type 0 where
   pub desk : (order : List (ℕ × ℕ)) → desk_over new committed order ≡ restarted (desk_over old committed order)
-  pub follows : Follows new committed
+  pub follows : KeepsDesk new committed
 
 -- nobody sits anywhere, what was told of each seat is still there, and any of the same programs may begin, with the same next
 -- number, over the same store

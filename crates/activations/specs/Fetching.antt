@@ -7,7 +7,7 @@ use Rattle.outside.specs.declared.world.Outside.{Ghosts}
 use Rattle.outside.specs.Runs.{held_of}
 use Rattle.store_format.specs.Stands.{Stands, stands}
 use Rattle.restart.specs.Kept.{KeptStore}
-use Rattle.restart.specs.Shows.{Tracks}
+use Rattle.restart.specs.Shows.{TracksStore}
 use Rattle.desk.specs.Instruction.{ReadFailed, Broken, fetches}
 use Rattle.storage_unit.specs.Laws.{Keeps}
 use Rattle.storage_unit.specs.Bytes.{IsClean}
@@ -19,7 +19,7 @@ use Rattle.activations.specs.Steps.{IsMoved, RollsBack, with_pool, rolled}
 
 -- these bytes are committed in a store that is open
 pub record IsStoreOf {W : Type 0} (G : Ghosts W) (store : KeptStore) (outside : W) (committed : List ℕ) : Type 0 where
-  pub tracks : Tracks G store outside
+  pub tracks : TracksStore G store outside
   pub number : ℕ
   pub stood : stands (held_of G outside) ≡ Stands number (record { directory = store.header.directory; bytes = committed })
 

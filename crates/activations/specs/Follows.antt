@@ -65,6 +65,6 @@ pub record IsKept (a : Activity) (committed : List ℕ) : Type 0 where
   pub clean : IsClean a.reach.directory a.reach.pool committed
 
 -- and that desk is consistent
-pub record Follows (a : Activity) (committed : List ℕ) : Type 0 where
+pub record KeepsDesk (a : Activity) (committed : List ℕ) : Type 0 where
   pub orderly : IsOrderly (desk_over a committed [])
   pub kept : IsKept a committed

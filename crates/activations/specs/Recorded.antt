@@ -20,7 +20,7 @@ use Rattle.store_format.specs.Header.{entry_bytes}
 use Rattle.store_format.specs.Bank.{RecordLine}
 use Rattle.store_format.specs.Stands.{laid}
 use Rattle.activations.specs.Activity.{Activity, program_in, entry_in, store_over, locks_in, shown}
-use Rattle.activations.specs.Follows.{Follows}
+use Rattle.activations.specs.Follows.{KeepsDesk}
 use Rattle.activations.specs.Steps.{wrote}
 
 -- the bytes of a flat line in the pool
@@ -37,7 +37,7 @@ pub record IsRecordOf (a : Activity) (seat : ℕ) (lines : List RecordLine) : Ty
 -- laid over what is committed, these lines leave what who sits in a seat commits
 abbrev pub LeavesCommitted : Activity → (seat : ℕ) → List RecordLine → Type 0
 LeavesCommitted a seat lines =
-    (committed : List ℕ) (now : Plain) → Follows a committed
+    (committed : List ℕ) (now : Plain) → KeepsDesk a committed
     → after (program_in a seat) (entry_in a seat).runs.args (store_over a committed) (entry_in a seat).rows ≡ Some now
     → row (program_in a seat) a.reach.directory (over_all now (shown a committed)) ≡ Commit
     → laid a.reach.directory.page committed lines ≡ now.store

@@ -22,8 +22,8 @@ use Rattle.storage_unit.specs.Laws.{Keeps}
 use Rattle.activations.specs.declared.live.Live.{Live}
 use Rattle.activations.specs.Activity.{Activity, program_in, entry_in, number_under, authority_under, desk_over, lines_held, locks_in, state_in, shown}
 use Rattle.activations.specs.Attempted.{plain_in}
-use Rattle.activations.specs.Follows.{AreOfPages, IsSound, Follows}
-use Rattle.activations.specs.Serving.{IsOver, IsFree, IsContested, Goes, instruction_in, locked, asking, with_entries}
+use Rattle.activations.specs.Follows.{AreOfPages, IsSound, KeepsDesk}
+use Rattle.activations.specs.Serving.{ComesToEnd, IsFree, IsContested, Goes, instruction_in, locked, asking, with_entries}
 use Rattle.activations.specs.Steps.{counted, executed, with_pool, rolled, IsMoved, RollsBack, HasExecuted}
 use Rattle.activations.specs.Touched.{IsApart, pages_refused, pages_wanted, with_whole_page}
 
@@ -32,7 +32,7 @@ pub record IsToServe (a : Activity) (seat : ℕ) (committed : List ℕ) (wants :
   pub sound : IsSound a
   pub taken : has a.seating.taken seat ≡ true
   pub runner : a.reach.runner ≡ seat + 1
-  pub follows : Follows a committed
+  pub follows : KeepsDesk a committed
   pub goes : row (program_in a seat) a.reach.directory (plain_in a seat committed) ≡ On next
   pub touches : touched (program_in a seat) a.reach.directory (plain_in a seat committed) ≡ lines_wanted wants
 
@@ -65,7 +65,7 @@ counted_with counts pages refused = record counts { pages = pages; locks = count
 -- Where nobody holds what is asked for, it is free, and else its contest begins, with what it asks for.
 pub record Starts (a : Activity) (seat : ℕ) (committed : List ℕ) (order : List (ℕ × ℕ)) (counts : Counts) (wants : List Want) (next : Plain) (to : IsToServe a seat committed wants next) : Type 0 where
   pub journal : (pool : Pool) → RollsBack a seat pool committed → nat_lt a.most_lines (lines_with a seat wants) ≡ true
-      → IsOver (instruction_in a seat committed order counts) (rolled a seat pool) committed order counts (Journal (lines_with a seat wants) a.most_lines)
+      → ComesToEnd (instruction_in a seat committed order counts) (rolled a seat pool) committed order counts (Journal (lines_with a seat wants) a.most_lines)
   pub breaks : nat_lt a.most_lines (lines_with a seat wants) ≡ false → (word : Word) (pages : ℕ)
       → fetches word (desk_over a committed order).frames (touched_pages (attempt_in a seat committed order wants next to)) (touched_pages (attempt_in a seat committed order wants next to)) (desk_over a committed order).resident counts.pages ≡ Broken pages
       → instruction_in a seat committed order counts word ≡ Over (record (rolled_back (desk_over a committed order) (entry_in a seat)) { resident = [] }) (record counts { pages = pages }) Disk

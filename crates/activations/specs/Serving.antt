@@ -16,7 +16,7 @@ use Rattle.desk.specs.Instruction.{Word, Counts, Attempt, Turning, Over, Going, 
 use Rattle.desk_law.specs.Beside.{Reads}
 use Rattle.desk_law.specs.UnderWay.{KeepsPages, contest, IsUnderWay, IsReady, marked}
 use Rattle.activations.specs.Activity.{Activity, entry_in, desk_over}
-use Rattle.activations.specs.Follows.{IsKept, Follows}
+use Rattle.activations.specs.Follows.{IsKept, KeepsDesk}
 
 -- These are the pages of an attempt whose authority refused it once, and of those that it owned then the authority is as it was.
 pub record WereRefused (attempt : Attempt) (refused : List ℕ) (now : Desk) : Type 0 where
@@ -33,9 +33,9 @@ pub record IsContested (begins : Word → Turning) (attempt : Attempt) (refused 
   pub kept : IsKept a committed
 
 -- it came to its end: this desk, these counts and this ending
-pub record IsOver (begins : Word → Turning) (a : Activity) (committed : List ℕ) (order : List (ℕ × ℕ)) (counts : Counts) (ending : Ending) : Type 0 where
+pub record ComesToEnd (begins : Word → Turning) (a : Activity) (committed : List ℕ) (order : List (ℕ × ℕ)) (counts : Counts) (ending : Ending) : Type 0 where
   pub comes : (word : Word) → Reads word counts.pages → begins word ≡ Over (desk_over a committed order) counts ending
-  pub follows : Follows a committed
+  pub follows : KeepsDesk a committed
 
 -- nobody holds any more what it asks for: it gets its pages
 pub record IsFree (begins : Word → Turning) (attempt : Attempt) (refused : List ℕ) (a : Activity) (committed : List ℕ) (order : List (ℕ × ℕ)) (counts : Counts) : Type 0 where
@@ -43,7 +43,7 @@ pub record IsFree (begins : Word → Turning) (attempt : Attempt) (refused : Lis
   pub free : conflicts_of (desk_over a committed order) attempt.entry ≡ []
   pub ready : IsReady attempt (desk_over a committed order)
   pub were : WereRefused attempt refused (desk_over a committed order)
-  pub follows : Follows a committed
+  pub follows : KeepsDesk a committed
 
 -- the next instruction of who sits in a seat, with what the turn has counted
 abbrev pub instruction_in : Activity → (seat : ℕ) → (committed : List ℕ) → (order : List (ℕ × ℕ)) → Counts → Word → Turning
@@ -92,7 +92,7 @@ locked a seat wants entries = record a { seating = took a.seating seat (map (wit
 -- a row that was served takes effect
 pub record Goes (begins : Word → Turning) (a : Activity) (committed : List ℕ) (order : List (ℕ × ℕ)) (counts : Counts) : Type 0 where
   pub comes : (word : Word) → Reads word counts.pages → begins word ≡ Going (desk_over a committed order) counts
-  pub follows : Follows a committed
+  pub follows : KeepsDesk a committed
 
 -- who sits in a seat waits for what he asked for
 abbrev pub asking : Activity → (seat : ℕ) → Request → Activity

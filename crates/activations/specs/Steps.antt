@@ -19,7 +19,7 @@ use Rattle.storage_unit.specs.Rows.{GoesOpen, LeavesSeats, plain_over}
 use Rattle.storage_unit.specs.Bytes.{IsClean, is_line_marked, bytes_over, private_bytes}
 use Rattle.activations.specs.declared.live.Live.{Live}
 use Rattle.activations.specs.Activity.{Activity, live_in, program_in, entry_in, store_over, desk_over, shown}
-use Rattle.activations.specs.Follows.{IsKept, Follows}
+use Rattle.activations.specs.Follows.{IsKept, KeepsDesk}
 
 -- who sits in a seat has done so many rows more, and waits for nothing
 abbrev pub counted : Activity → (seat rows : ℕ) → Activity
@@ -88,7 +88,7 @@ pub record WereSettled (lines : ℕ → List ℕ) (pages : List ℕ) (old new : 
 -- who sits in a seat has committed at a state: what is left follows the desk after it, over what he left
 pub record Commits (a : Activity) (seat : ℕ) (pool : Pool) (committed : List ℕ) (now : Plain) : Type 0 where
   pub desk : (order : List (ℕ × ℕ)) → desk_over (rolled a seat pool) now.store order ≡ committed_at (desk_over a committed order) (entry_in a seat) now
-  pub follows : Follows (rolled a seat pool) now.store
+  pub follows : KeepsDesk (rolled a seat pool) now.store
 
 -- frames have other bytes and pages: what was marked and private stays, whatever is committed
 pub record IsMoved (old new : Pool) : Type 0 where
@@ -106,11 +106,11 @@ pub record GoesOn (a : Activity) (seat : ℕ) (live : Live) (bytes : List ℕ) (
   pub is_instruction : (word : Word) (order : List (ℕ × ℕ)) (counts : Counts)
       → instruction word (Some (entry_in a seat)) (desk_over a committed order) counts
       ≡ Going (desk_over (counted (executed a seat live bytes marked) seat 1) committed order) (record counts { ran = counts.ran + 1 })
-  pub follows : Follows (counted (executed a seat live bytes marked) seat 1) committed
+  pub follows : KeepsDesk (counted (executed a seat live bytes marked) seat 1) committed
 
 -- the same over so many rows that took effect and aren't counted yet
 pub record Strides (a : Activity) (seat rows : ℕ) (live : Live) (bytes : List ℕ) (marked : List (List ℕ)) (committed : List ℕ) : Type 0 where
   pub is_instruction : (word : Word) (order : List (ℕ × ℕ)) (counts : Counts)
       → instruction word (Some (entry_in (counted a seat rows) seat)) (desk_over (counted a seat rows) committed order) counts
       ≡ Going (desk_over (counted (executed a seat live bytes marked) seat (rows + 1)) committed order) (record counts { ran = counts.ran + 1 })
-  pub follows : Follows (counted (executed a seat live bytes marked) seat (rows + 1)) committed
+  pub follows : KeepsDesk (counted (executed a seat live bytes marked) seat (rows + 1)) committed

@@ -8,12 +8,12 @@ use Rattle.desk.specs.Instruction.{Word, ReadFailed, Counts, Attempt, Turning, O
 use Rattle.activations.specs.declared.tally.Tally.{Tally}
 use Rattle.seats.specs.Seating.{number_in}
 use Rattle.activations.specs.Activity.{Activity, desk_over}
-use Rattle.activations.specs.Follows.{Follows}
-use Rattle.activations.specs.Serving.{IsOver, IsFree, IsContested}
+use Rattle.activations.specs.Follows.{KeepsDesk}
+use Rattle.activations.specs.Serving.{ComesToEnd, IsFree, IsContested}
 
 -- what a turn has counted
-abbrev pub counts_of : Tally → Counts
-counts_of tally =
+abbrev pub tally_counts : Tally → Counts
+tally_counts tally =
     record {
       ran = tally.ran;
       pages = tally.pages;
@@ -24,12 +24,12 @@ counts_of tally =
 -- the page that was counted last couldn't be read
 pub record HasBroken (begins : Word → Turning) (a : Activity) (committed : List ℕ) (order : List (ℕ × ℕ)) (counts : Counts) : Type 0 where
   pub comes : begins (ReadFailed counts.pages) ≡ Over (desk_over a committed order) counts Disk
-  pub follows : Follows a committed
+  pub follows : KeepsDesk a committed
 
 -- it came to this end
 abbrev pub HasEnded : TurnEnd → (begins : Word → Turning) → Activity → (committed : List ℕ) → (order : List (ℕ × ℕ)) → Counts → Type 0
 HasEnded end.Disk begins a committed order counts = HasBroken begins a committed order counts
-HasEnded end begins a committed order counts = (printed : List ℕ) → IsOver begins a committed order counts (ending_told end printed)
+HasEnded end begins a committed order counts = (printed : List ℕ) → ComesToEnd begins a committed order counts (ending_told end printed)
 
 -- a contest ends as one's own loss, or with him waiting for some that hold what he asks for
 abbrev pub IsContestEnd : (number : ℕ) → TurnEnd → Type 0

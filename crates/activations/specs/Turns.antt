@@ -14,7 +14,7 @@ use Rattle.activations.specs.declared.instructions.Went.{Went}
 use Rattle.activations.specs.declared.instructions.Went.TheVariants as went
 use Rattle.activations.specs.Activity.{Activity, live_in, program_in, entry_in, store_over, desk_over, shown}
 use Rattle.activations.specs.Attempted.{IsShut}
-use Rattle.activations.specs.Follows.{Follows}
+use Rattle.activations.specs.Follows.{KeepsDesk}
 use Rattle.activations.specs.Instructed.{GoesUncounted}
 use Rattle.activations.specs.Turning.{HasEnded}
 
@@ -29,7 +29,7 @@ pub record IsAtCommit (begins : Word → Turning) (a : Activity) (seat : ℕ) (c
   pub at : after (program_in a seat) (entry_in a seat).runs.args (store_over a committed) (entry_in a seat).rows ≡ Some now
   pub goes : row (program_in a seat) a.reach.directory (over_all now (shown a committed)) ≡ Commit
   pub comes : (word : Word) → Reads word counts.pages → begins word ≡ commits word (commit_call a seat committed order now) (desk_over a committed order) counts
-  pub follows : Follows a committed
+  pub follows : KeepsDesk a committed
 
 -- an instruction took effect, is the commit call, or ended its turn
 abbrev pub IsStep : Result Went TurnEnd → (begins : Word → Turning) → Activity → (seat : ℕ) → (committed : List ℕ) → (order : List (ℕ × ℕ)) → Counts → Type 0
@@ -53,7 +53,7 @@ MayBeShut a seat shut = (access : Access) → shut ≡ Some access → IsShut a 
 -- Wherever a turn began, it comes to so many rows more from here, at the most.
 pub record IsTurning (begins : Word → Turning) (a : Activity) (seat left : ℕ) (committed : List ℕ) (order : List (ℕ × ℕ)) (counts : Counts) : Type 0 where
   pub comes : (word : Word) → Reads word counts.pages → begins word ≡ turn_in a seat left committed order counts word
-  pub follows : Follows a committed
+  pub follows : KeepsDesk a committed
 
 -- that, or the turn came to its end
 abbrev pub ComesBack : {U : Type 0} → Result U TurnEnd → (begins : Word → Turning) → Activity → (seat left : ℕ) → (committed : List ℕ) → (order : List (ℕ × ℕ)) → Counts → Type 0

@@ -33,7 +33,7 @@ pub struct Activations {
 
 impl Activations {
     ghost use Rattle.activations.specs.Begins.{idle, begins, Begins, IsBegin};
-    ghost use Rattle.activations.specs.Follows.{IsSound, Follows};
+    ghost use Rattle.activations.specs.Follows.{IsSound, KeepsDesk};
     ghost use Rattle.activations.specs.View.{activity_of};
 
     /// Nobody runs, over a store with this header and so many frames for its pages. Any of these programs may begin. It
@@ -78,7 +78,7 @@ impl Activations {
         ensures answer { result ≡ (begins (activity_of self.old) program args).0 }
         ensures left { activity_of self.new ≡ (begins (activity_of self.old) program args).1 }
         ensures sound { IsSound (activity_of self.new) }
-        ensures is_begin { (committed : List ℕ) → Follows (activity_of self.old) committed → IsBegin (activity_of self.old) (activity_of self.new) program args result committed }
+        ensures is_begin { (committed : List ℕ) → KeepsDesk (activity_of self.old) committed → IsBegin (activity_of self.old) (activity_of self.new) program args result committed }
     {
         let number = self.next;
         self.next += 1;

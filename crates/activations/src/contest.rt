@@ -17,7 +17,7 @@ impl Activations {
     ghost use Rattle.activations.specs.Follows.{IsSound};
     ghost use Rattle.activations.specs.Kept.{KeepsParts, StaysSeated};
     ghost use Rattle.activations.specs.Serving.{IsContested};
-    ghost use Rattle.activations.specs.Turning.{counts_of, IsSettled, IsContestEnd};
+    ghost use Rattle.activations.specs.Turning.{tally_counts, IsSettled, IsContestEnd};
     ghost use Rattle.activations.specs.View.{activity_of};
     ghost use Rattle.line_locks.specs.declared.request.Request.{Request};
     ghost use Rattle.seats.specs.Seating.{number_in, sitter};
@@ -37,7 +37,7 @@ impl Activations {
         ensures stays { OnOk result (StaysSeated (activity_of self.old) (activity_of self.new) seat) }
         ensures ends { IfErr result (IsContestEnd (number_in (activity_of self.old).seating seat)) }
         ensures victim { IfErr result (IfVictim (number_in (activity_of self.old).seating seat) tally.new.cycles.items) }
-        ensures settled { (begins : Word → Turning) (attempt : Attempt) (refused : List ℕ) (first : Desk) (committed : List ℕ) (order : List (ℕ × ℕ)) → attempt.entry.number ≡ number_in (activity_of self.old).seating seat → IsContested begins attempt refused first (activity_of self.old) committed order (counts_of tally.old) → IsSettled result begins attempt refused (activity_of self.new) committed order (counts_of tally.new) }
+        ensures settled { (begins : Word → Turning) (attempt : Attempt) (refused : List ℕ) (first : Desk) (committed : List ℕ) (order : List (ℕ × ℕ)) → attempt.entry.number ≡ number_in (activity_of self.old).seating seat → IsContested begins attempt refused first (activity_of self.old) committed order (tally_counts tally.old) → IsSettled result begins attempt refused (activity_of self.new) committed order (tally_counts tally.new) }
     {
         let number = self.seats.sitter(seat).number;
         while let Some(members) = self.seats.cycle_from(seat) {

@@ -22,7 +22,7 @@ impl Activations {
     ghost use Rattle.activations.specs.Activity.{entries, entry_in, live_in, program_in, store_over, shown};
     ghost use Rattle.activations.specs.Ends.{IsDeserted, IsRestarted, reprinted};
     ghost use Rattle.seats.specs.Seating.{numbers, seat_of, sitter};
-    ghost use Rattle.activations.specs.Follows.{IsSound, IsKept, Follows};
+    ghost use Rattle.activations.specs.Follows.{IsSound, IsKept, KeepsDesk};
     ghost use Rattle.activations.specs.Steps.{rolled, vacated, RollsBack, Commits};
     ghost use Rattle.activations.specs.View.{activity_of};
 
@@ -45,7 +45,7 @@ impl Activations {
         requires taken { has (activity_of self.old).seating.taken seat ≡ true }
         ensures shape { activity_of self.new ≡ rolled (activity_of self.old) seat (activity_of self.new).reach.pool }
         ensures sound { IsSound (activity_of self.new) }
-        ensures commits { (committed : List ℕ) (now : Plain) → Follows (activity_of self.old) committed → after (program_in (activity_of self.old) seat) (entry_in (activity_of self.old) seat).runs.args (store_over (activity_of self.old) committed) (entry_in (activity_of self.old) seat).rows ≡ Some now → row.row (program_in (activity_of self.old) seat) (activity_of self.old).reach.directory (over_all now (shown (activity_of self.old) committed)) ≡ row.Commit → Commits (activity_of self.old) seat (activity_of self.new).reach.pool committed now }
+        ensures commits { (committed : List ℕ) (now : Plain) → KeepsDesk (activity_of self.old) committed → after (program_in (activity_of self.old) seat) (entry_in (activity_of self.old) seat).runs.args (store_over (activity_of self.old) committed) (entry_in (activity_of self.old) seat).rows ≡ Some now → row.row (program_in (activity_of self.old) seat) (activity_of self.old).reach.directory (over_all now (shown (activity_of self.old) committed)) ≡ row.Commit → Commits (activity_of self.old) seat (activity_of self.new).reach.pool committed now }
     {
         settle_written(&self.seats, &mut self.unit, seat);
         self.leave(seat);
@@ -56,7 +56,7 @@ impl Activations {
         requires sound { IsSound (activity_of self.old) }
         ensures sound { IsSound (activity_of self.new) }
         ensures deserted { IsDeserted (activity_of self.old) (activity_of self.new) }
-        ensures restarts { (committed : List ℕ) → Follows (activity_of self.old) committed → IsRestarted (activity_of self.old) (activity_of self.new) committed }
+        ensures restarts { (committed : List ℕ) → KeepsDesk (activity_of self.old) committed → IsRestarted (activity_of self.old) (activity_of self.new) committed }
     {
         for seat in 0..16 {
             if self.seats.taken().contains(&seat) {
@@ -96,7 +96,7 @@ impl Activations {
         ensures out { out.new ≡ (live_in (activity_of self.old) seat).out }
         ensures left { activity_of self.new ≡ reprinted (activity_of self.old) seat out.old }
         ensures sound { IsSound (activity_of self.new) }
-        ensures follows { (committed : List ℕ) → Follows (activity_of self.old) committed → Follows (activity_of self.new) committed }
+        ensures follows { (committed : List ℕ) → KeepsDesk (activity_of self.old) committed → KeepsDesk (activity_of self.new) committed }
     {
         swap(&mut self.live[usize::from(seat)].out, out);
     }

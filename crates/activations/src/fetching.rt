@@ -3,7 +3,7 @@ ghost use Rattle.std.specs.Prelude.{◌≡◌, ◌+◌, ◌<◌, ◌≤◌, ◌^
 ghost use Rattle.line_geometry.specs.Directory.{page_count};
 ghost use Rattle.lock_rules.specs.Resident.{brought};
 ghost use Rattle.lock_rules.specs.Sets.{has};
-ghost use Rattle.outside.specs.Causes.{HasCause};
+ghost use Rattle.outside.specs.Causes.{FailsOnlyCounted};
 ghost use Rattle.outside.specs.Runs.{OnlyAsks};
 ghost use Rattle.redo_journal.specs.Held.{HoldsAtLeast};
 ghost use Rattle.store_format.specs.Header.{total};
@@ -51,7 +51,7 @@ impl Activations {
         ensures shape { activity_of self.new ≡ with_pool (activity_of self.old) (activity_of self.new).reach.pool }
         ensures tally { tally.new ≡ record tally.old { pages = tally.new.pages } }
         ensures few { (tally.old.pages ≤ tally.new.pages) × (tally.new.pages ≤ tally.old.pages + 2) }
-        ensures cause { HasCause (W.disk_faults outside.old) (W.disk_faults outside.new) result }
+        ensures cause { FailsOnlyCounted (W.disk_faults outside.old) (W.disk_faults outside.new) result }
         ensures counted { OnErr result (tally.old.pages < tally.new.pages) }
         ensures none { OnErr result ((activity_of self.new).reach.pool.resident ≡ []) }
         ensures resident { OnOk result ((page : ℕ) → has (pages_wanted (wants_of touch.now)) page ≡ true → has (activity_of self.new).reach.pool.resident page ≡ true) }
@@ -86,7 +86,7 @@ impl Activations {
         ensures asks { OnlyAsks W.Outside outside.old outside.new }
         ensures shape { activity_of self.new ≡ with_pool (activity_of self.old) (activity_of self.new).reach.pool }
         ensures tally { tally.new ≡ record tally.old { pages = tally.new.pages } }
-        ensures cause { HasCause (W.disk_faults outside.old) (W.disk_faults outside.new) result }
+        ensures cause { FailsOnlyCounted (W.disk_faults outside.old) (W.disk_faults outside.new) result }
         ensures moved { IsMoved (activity_of self.old).reach.pool (activity_of self.new).reach.pool }
         ensures page_in { OnOk result (IsIn (activity_of self.old).reach.pool (activity_of self.new).reach.pool page keep tally.old.pages tally.new.pages) }
         ensures unread { OnErr result (IsUnread (activity_of self.old).reach.pool (activity_of self.new).reach.pool page tally.old.pages tally.new.pages) }
@@ -114,7 +114,7 @@ fn bring_page<W: Outside>(
     requires room { HoldsAtLeast W.Outside (total store.now.header) outside.old }
     ensures asks { OnlyAsks W.Outside outside.old outside.new }
     ensures rest { reach_of unit.new ≡ record (reach_of unit.old) { pool = (reach_of unit.new).pool } }
-    ensures cause { HasCause (W.disk_faults outside.old) (W.disk_faults outside.new) result }
+    ensures cause { FailsOnlyCounted (W.disk_faults outside.old) (W.disk_faults outside.new) result }
     ensures moved { IsMoved (reach_of unit.old).pool (reach_of unit.new).pool }
     ensures came { OnOk result ((reach_of unit.new).pool.resident ≡ brought (reach_of unit.old).pool.frames (option_to_list keep) (reach_of unit.old).pool.resident page) }
     ensures none { OnErr result ((reach_of unit.new).pool.resident ≡ []) }

@@ -37,13 +37,13 @@ impl Activations {
     ghost use Rattle.activations.specs.Causes.{IfJournal, IsNoLimit, IfVictim};
     ghost use Rattle.activations.specs.Attempted.{IsSelected, IsShut, plain_in};
     ghost use Rattle.activations.specs.Fetching.{IsStoreOf, HasBrokenOff};
-    ghost use Rattle.activations.specs.Follows.{IsSound, Follows};
+    ghost use Rattle.activations.specs.Follows.{IsSound, KeepsDesk};
     ghost use Rattle.activations.specs.Instructed.{TalliesMore, IsEndOfRows, IsCheck, IfWaits, IsInstruction, IsAsked, IsServed, Prepares, Serves};
     ghost use Rattle.activations.specs.Kept.{KeepsParts, StaysSeated};
     ghost use Rattle.activations.specs.Serves.{IsFetched};
     ghost use Rattle.activations.specs.Serving.{IsFree, instruction_in};
     ghost use Rattle.activations.specs.Steps.{rolled, with_pool};
-    ghost use Rattle.activations.specs.Turning.{counts_of, HasEnded, IsSettled, IsContestEnd};
+    ghost use Rattle.activations.specs.Turning.{tally_counts, HasEnded, IsSettled, IsContestEnd};
     ghost use Rattle.activations.specs.Turns.{IsStep, MayBeShut};
     ghost use Rattle.activations.specs.View.{activity_of};
     ghost use Rattle.seats.specs.Seating.{number_in};
@@ -82,7 +82,7 @@ impl Activations {
         ensures journal { IfErr result (IfJournal (activity_of self.new).most_lines) }
         ensures no_limit { IfErr result IsNoLimit }
         ensures victim { IfErr result (IfVictim (number_in (activity_of self.old).seating seat) tally.new.cycles.items) }
-        ensures step { (committed : List ℕ) (order : List (ℕ × ℕ)) → IsStoreOf W.Outside store.now outside.old committed → Follows (activity_of self.old) committed → IsStep result (instruction_in (activity_of self.old) seat committed order (counts_of tally.old)) (activity_of self.new) seat committed order (counts_of tally.new) }
+        ensures step { (committed : List ℕ) (order : List (ℕ × ℕ)) → IsStoreOf W.Outside store.now outside.old committed → KeepsDesk (activity_of self.old) committed → IsStep result (instruction_in (activity_of self.old) seat committed order (tally_counts tally.old)) (activity_of self.new) seat committed order (tally_counts tally.new) }
     {
         if let Some(access) = shut {
             self.serve(store, outside, seat, access, tally)?;
@@ -133,7 +133,7 @@ impl Activations {
         ensures journal { IfErr result (IfJournal (activity_of self.new).most_lines) }
         ensures no_limit { IfErr result IsNoLimit }
         ensures victim { IfErr result (IfVictim (number_in (activity_of self.old).seating seat) tally.new.cycles.items) }
-        ensures served { (committed : List ℕ) (order : List (ℕ × ℕ)) → IsStoreOf W.Outside store.now outside.old committed → Follows (activity_of self.old) committed → IsInstruction result (instruction_in (activity_of self.old) seat committed order (counts_of tally.old)) (activity_of self.new) seat committed order (counts_of tally.new) }
+        ensures served { (committed : List ℕ) (order : List (ℕ × ℕ)) → IsStoreOf W.Outside store.now outside.old committed → KeepsDesk (activity_of self.old) committed → IsInstruction result (instruction_in (activity_of self.old) seat committed order (tally_counts tally.old)) (activity_of self.new) seat committed order (tally_counts tally.new) }
     {
         let (touch, refused) = self.prepare(store, outside, seat, access, tally)?;
         self.ask(seat, &touch, tally)?;
@@ -175,7 +175,7 @@ impl Activations {
         ensures journal { IfErr result (IfJournal (activity_of self.new).most_lines) }
         ensures no_limit { IfErr result IsNoLimit }
         ensures victim { IfErr result (IfVictim (number_in (activity_of self.old).seating seat) tally.new.cycles.items) }
-        ensures prepared { (committed : List ℕ) (order : List (ℕ × ℕ)) → IsStoreOf W.Outside store.now outside.old committed → Follows (activity_of self.old) committed → Prepares result (instruction_in (activity_of self.old) seat committed order (counts_of tally.old)) (activity_of self.new) seat committed order (counts_of tally.new) }
+        ensures prepared { (committed : List ℕ) (order : List (ℕ × ℕ)) → IsStoreOf W.Outside store.now outside.old committed → KeepsDesk (activity_of self.old) committed → Prepares result (instruction_in (activity_of self.old) seat committed order (tally_counts tally.old)) (activity_of self.new) seat committed order (tally_counts tally.new) }
     {
         let touch = self.touch_of(seat, access);
         self.keep_limit(seat, &touch)?;
@@ -243,7 +243,7 @@ impl Activations {
         ensures stays { OnOk result (StaysSeated (activity_of self.old) (activity_of self.new) seat) }
         ensures ends { IfErr result (IsContestEnd (number_in (activity_of self.old).seating seat)) }
         ensures victim { IfErr result (IfVictim (number_in (activity_of self.old).seating seat) tally.new.cycles.items) }
-        ensures settled { (begins : Word → Turning) (attempt : desk.Attempt) (refused : List ℕ) (committed : List ℕ) (order : List (ℕ × ℕ)) → IsAsked begins attempt refused (activity_of self.old) seat (wants_of touch.now) committed order (counts_of tally.old) → IsSettled result begins attempt refused (activity_of self.new) committed order (counts_of tally.new) }
+        ensures settled { (begins : Word → Turning) (attempt : desk.Attempt) (refused : List ℕ) (committed : List ℕ) (order : List (ℕ × ℕ)) → IsAsked begins attempt refused (activity_of self.old) seat (wants_of touch.now) committed order (tally_counts tally.old) → IsSettled result begins attempt refused (activity_of self.new) committed order (tally_counts tally.new) }
     {
         let request = self.request(touch);
         if self.seats.holders(seat, &request).is_empty() {
@@ -284,7 +284,7 @@ impl Activations {
         ensures stays { OnOk result (StaysSeated (activity_of self.old) (activity_of self.new) seat) }
         ensures calm { OnOk result (W.disk_faults outside.new ≡ W.disk_faults outside.old) }
         ensures ends { IfErr result (λ over. (over ≡ end.Disk) × Rose (W.disk_faults outside.old) (W.disk_faults outside.new) × (tally.old.pages < tally.new.pages)) }
-        ensures served { (begins : Word → Turning) (attempt : desk.Attempt) (next : Plain) (committed : List ℕ) (order : List (ℕ × ℕ)) → IsStoreOf W.Outside store.now outside.old committed → attempt.entry.number ≡ number_in (activity_of self.old).seating seat → attempt.outcome ≡ row.On next → attempt.lines ≡ lines_wanted (wants_of touch.now) → IsFree begins attempt (pages_picked touch.now refused) (activity_of self.old) committed order (counts_of tally.old) → Serves result begins (activity_of self.new) seat (wants_of touch.now) committed order (counts_of tally.new) }
+        ensures served { (begins : Word → Turning) (attempt : desk.Attempt) (next : Plain) (committed : List ℕ) (order : List (ℕ × ℕ)) → IsStoreOf W.Outside store.now outside.old committed → attempt.entry.number ≡ number_in (activity_of self.old).seating seat → attempt.outcome ≡ row.On next → attempt.lines ≡ lines_wanted (wants_of touch.now) → IsFree begins attempt (pages_picked touch.now refused) (activity_of self.old) committed order (tally_counts tally.old) → Serves result begins (activity_of self.new) seat (wants_of touch.now) committed order (tally_counts tally.new) }
     {
         self.take(seat, touch, refused);
         self.bring(store, outside, seat, touch, tally)
@@ -321,7 +321,7 @@ impl Activations {
         ensures sound { IsSound (activity_of self.new) }
         ensures end { result ≡ end.Checked code (live_in (activity_of self.old) seat).cpu.iar }
         ensures shape { activity_of self.new ≡ rolled (activity_of self.old) seat (activity_of self.new).reach.pool }
-        ensures checked { (committed : List ℕ) (order : List (ℕ × ℕ)) (counts : Counts) → IsSelected (activity_of self.old) seat → Follows (activity_of self.old) committed → row.row (program_in (activity_of self.old) seat) (activity_of self.old).reach.directory (plain_in (activity_of self.old) seat committed) ≡ row.Check code → HasEnded result (instruction_in (activity_of self.old) seat committed order counts) (activity_of self.new) committed order counts }
+        ensures checked { (committed : List ℕ) (order : List (ℕ × ℕ)) (counts : Counts) → IsSelected (activity_of self.old) seat → KeepsDesk (activity_of self.old) committed → row.row (program_in (activity_of self.old) seat) (activity_of self.old).reach.directory (plain_in (activity_of self.old) seat committed) ≡ row.Check code → HasEnded result (instruction_in (activity_of self.old) seat committed order counts) (activity_of self.new) committed order counts }
     {
         let address = self.live[usize::from(seat)].cpu.iar;
         self.roll_back(seat);

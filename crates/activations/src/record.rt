@@ -19,7 +19,7 @@ use restart::Durable;
 
 impl Activations {
     ghost use Rattle.activations.specs.Activity.{locks_in};
-    ghost use Rattle.activations.specs.Follows.{IsSound, Follows};
+    ghost use Rattle.activations.specs.Follows.{IsSound, KeepsDesk};
     ghost use Rattle.activations.specs.Recorded.{IsRecordOf, LeavesCommitted, HasWritten};
     ghost use Rattle.restart.specs.Kept.{with_begun};
     ghost use Rattle.activations.specs.Steps.{rolled};
@@ -46,7 +46,7 @@ impl Activations {
         ensures journal { IfErr result (λ end. (end ≡ TurnEnd.Journal (write_count (of_seat (activity_of self.old).seating.holding seat)) (activity_of self.old).most_lines) × ((activity_of self.old).most_lines < write_count (of_seat (activity_of self.old).seating.holding seat))) }
         ensures rolled { OnErr result (activity_of self.new ≡ rolled (activity_of self.old) seat (activity_of self.new).reach.pool) }
         ensures unwritten { OnErr result (store.new ≡ store.old) }
-        ensures never { (committed : List ℕ) → Follows (activity_of self.old) committed → IsOk result }
+        ensures never { (committed : List ℕ) → KeepsDesk (activity_of self.old) committed → IsOk result }
     {
         match self.keep_limit(seat, &Touch::Nothing) {
             Err(end) => Err(end),

@@ -21,11 +21,11 @@ impl Activations {
     ghost use Rattle.activations.specs.Attempted.{IsSelected};
     ghost use Rattle.activations.specs.Causes.{IfJournal, IfLimit, IfVictim};
     ghost use Rattle.activations.specs.Fetching.{IsStoreOf};
-    ghost use Rattle.activations.specs.Follows.{IsSound, Follows};
+    ghost use Rattle.activations.specs.Follows.{IsSound, KeepsDesk};
     ghost use Rattle.activations.specs.Instructed.{IsEndOfRows, IfWaits};
     ghost use Rattle.activations.specs.Kept.{KeepsParts, AreRowsWithin, StaysSeated};
     ghost use Rattle.activations.specs.Steps.{counted};
-    ghost use Rattle.activations.specs.Turning.{counts_of};
+    ghost use Rattle.activations.specs.Turning.{tally_counts};
     ghost use Rattle.activations.specs.Turns.{AreTurns, ComesBack, IsTurning, MayBeShut, turn_in, selected_in};
     ghost use Rattle.activations.specs.View.{activity_of};
     ghost use Rattle.seats.specs.Seating.{number_in};
@@ -62,7 +62,7 @@ impl Activations {
         ensures journal { IfErr result (IfJournal (activity_of self.new).most_lines) }
         ensures limit { IfErr result (IfLimit limit tally.new.ran) }
         ensures victim { IfErr result (IfVictim (number_in (activity_of self.old).seating seat) tally.new.cycles.items) }
-        ensures turned { (committed : List ℕ) (order : List (ℕ × ℕ)) → IsStoreOf W.Outside store.now outside.old committed → Follows (activity_of self.old) committed → AreTurns result (turn_in (activity_of self.old) seat limit committed order (counts_of tally.old)) (activity_of self.new) seat committed order (counts_of tally.new) }
+        ensures turned { (committed : List ℕ) (order : List (ℕ × ℕ)) → IsStoreOf W.Outside store.now outside.old committed → KeepsDesk (activity_of self.old) committed → AreTurns result (turn_in (activity_of self.old) seat limit committed order (tally_counts tally.old)) (activity_of self.new) seat committed order (tally_counts tally.new) }
     {
         self.select(seat);
         let mut left = limit;
@@ -111,7 +111,7 @@ impl Activations {
         ensures shut { IfOk result (λ still. MayBeShut (activity_of self.new) seat still) }
         ensures calm { OnOk result (W.disk_faults outside.new ≡ W.disk_faults outside.old) }
         ensures ends { IfErr result (λ over. (over ≡ end.Disk) × Rose (W.disk_faults outside.old) (W.disk_faults outside.new) × (tally.old.pages < tally.new.pages)) }
-        ensures turns { (begins : Word → Turning) (left : ℕ) (committed : List ℕ) (order : List (ℕ × ℕ)) → 0 < left → IsStoreOf W.Outside store.now outside.old committed → IsTurning begins (activity_of self.old) seat left committed order (counts_of tally.old) → ComesBack result begins (activity_of self.new) seat left committed order (counts_of tally.new) }
+        ensures turns { (begins : Word → Turning) (left : ℕ) (committed : List ℕ) (order : List (ℕ × ℕ)) → 0 < left → IsStoreOf W.Outside store.now outside.old committed → IsTurning begins (activity_of self.old) seat left committed order (tally_counts tally.old) → ComesBack result begins (activity_of self.new) seat left committed order (tally_counts tally.new) }
     {
         let Some(access) = shut else {
             return Ok(None);

@@ -18,5 +18,5 @@ pub use Rattle.serial_audit.specs.Bundle.{IsBundle}
 pub use Rattle.serial_audit.specs.declared.bundle.Bundle.{Bundle}
 pub use Rattle.touch_trace.specs.declared.touch.Touch.{Touch}
 pub use Rattle.bundle_calls.specs.Audited.{AuditedBy, CanAudit, IsOfAudit, IsUnchecked, verdict_line}
-pub use Rattle.bundle_calls.specs.Bundled.{HasBundle, IsBadClosing, IsNoJob, IsOpened, IsShut, IsWrongPart, part_of}
+pub use Rattle.bundle_calls.specs.Bundled.{HasBundle, IsBadClosing, IsNoJob, AreBundleParts, IsShut, IsWrongPart, part_of}
 pub use Rattle.bundle_calls.specs.Traced.{CanTrace, IsFound, IsOfTrace, IsUntraced, TracedBy, status_of_trace, steps_line, touch_line}

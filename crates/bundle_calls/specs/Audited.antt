@@ -12,7 +12,7 @@ use Rattle.serial_audit.specs.declared.bundle.Bundle.{Bundle}
 use Rattle.call_status.specs.Call.{Call, Given}
 use Rattle.call_status.specs.declared.status.Status.{Status}
 use Rattle.call_status.specs.declared.status.Status.TheVariants as status
-use Rattle.bundle_calls.specs.Bundled.{HasBundle, IsBadClosing, IsNoJob, IsOpened, IsWrongPart, WithBundle, part_of}
+use Rattle.bundle_calls.specs.Bundled.{HasBundle, IsBadClosing, IsNoJob, AreBundleParts, IsWrongPart, WithBundle, part_of}
 use Rattle.store_calls.specs.Kept.{Keeps}
 use Rattle.call_status.specs.Opening.{IsStanding}
 use Rattle.call_status.specs.Printed.{put_of}
@@ -30,7 +30,7 @@ pub record IsChecked (bytes : List ℕ) (commits : ℕ) (verdict : Verdict) : Ty
   pub report : List OwnedLine
   pub opening : KeptStore
   pub closing : KeptStore
-  pub opened : IsOpened bytes bundle job report opening
+  pub opened : AreBundleParts bytes bundle job report opening
   pub closing_is : Keeps (part_of bytes bundle.closing) closing
   pub counted : commits ≡ length (report_told report)
   pub told : IsVerdict job opening closing (report_told report) verdict

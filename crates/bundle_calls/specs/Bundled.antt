@@ -23,7 +23,7 @@ abbrev pub part_of : List ℕ → Span → List ℕ
 part_of bytes span = bytes_at bytes span.from (span.to - span.from)
 
 -- A bundle's text, its parts in their places: its job means this one, its report has these lines, and its opening store is this one.
-pub record IsOpened (bytes : List ℕ) (bundle : Bundle) (job : Job) (report : List OwnedLine) (opening : KeptStore) : Type 0 where
+pub record AreBundleParts (bytes : List ℕ) (bundle : Bundle) (job : Job) (report : List OwnedLine) (opening : KeptStore) : Type 0 where
   pub parts : IsBundle bytes bundle
   pub job_is : job_of (part_of bytes bundle.job) ≡ Ok (content_of job)
   pub report_is : AreLinesOf (part_of bytes bundle.report) report
@@ -59,7 +59,7 @@ pub record IsBadClosing (bytes : List ℕ) (offset : ℕ) : Type 0 where
   pub job : Job
   pub report : List OwnedLine
   pub opening : KeptStore
-  pub opened : IsOpened bytes bundle job report opening
+  pub opened : AreBundleParts bytes bundle job report opening
   pub fault : IsFaultAt (part_of bytes bundle.closing) offset
 
 -- the first part that is wrong, and where: the first line or the number of bytes behind it, at 0; the report, at its first line that is

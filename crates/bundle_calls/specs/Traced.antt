@@ -16,7 +16,7 @@ use Rattle.touch_trace.specs.Trace.{IsAnswer}
 use Rattle.call_status.specs.Call.{Call, Given}
 use Rattle.call_status.specs.declared.status.Status.{Status}
 use Rattle.call_status.specs.declared.status.Status.TheVariants as status
-use Rattle.bundle_calls.specs.Bundled.{HasBundle, IsNoJob, IsOpened, IsWrongPart, WithBundle}
+use Rattle.bundle_calls.specs.Bundled.{HasBundle, IsNoJob, AreBundleParts, IsWrongPart, WithBundle}
 use Rattle.bundle_calls.specs.Audited.{IsOfAudit}
 use Rattle.call_status.specs.Printed.{put_of}
 
@@ -43,7 +43,7 @@ pub record IsFound (bytes : List ℕ) (activation : ℕ) (found : Result Trace T
   pub job : Job
   pub report : List OwnedLine
   pub opening : KeptStore
-  pub opened : IsOpened bytes bundle job report opening
+  pub opened : AreBundleParts bytes bundle job report opening
   pub told : IsAnswer job opening (report_told report) activation found
 
 -- this is an activation's trace

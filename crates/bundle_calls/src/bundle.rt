@@ -1,7 +1,7 @@
 // A bundle and its parts.
 ghost use Rattle.std.specs.Prelude.{◌≡◌, ◌⊎◌, ◌-◌, ◌≤◌, ◌<◌, ◌^◌, ℕ, length, IfOk, MatchResult};
 ghost use Rattle.report_text.specs.ReadLines.{AreLinesOf, IsFirstBad};
-ghost use Rattle.bundle_calls.specs.Bundled.{IsOpened, IsShut, part_of};
+ghost use Rattle.bundle_calls.specs.Bundled.{AreBundleParts, IsShut, part_of};
 ghost use Rattle.store_calls.specs.Kept.{Keeps};
 ghost use Rattle.call_status.specs.Opening.{IsFaultAt};
 
@@ -33,7 +33,7 @@ pub struct Opened {
 /// The status of the first part that is wrong.
 pub fn open_bundle(alloc: Global, bytes: &[u8]) -> Result<Opened, Status>
     requires { length bytes.now ≤ 33554432 }
-    ensures opened { MatchResult result (λ opened. IsOpened bytes.now opened.bundle opened.job opened.report.items opened.opening) (IsShut bytes.now) }
+    ensures opened { MatchResult result (λ opened. AreBundleParts bytes.now opened.bundle opened.job opened.report.items opened.opening) (IsShut bytes.now) }
     ensures few { IfOk result (λ opened. length opened.report.items < 2 ^ 32 - 1) }
 {
     let bundle = match split_bundle(bytes) {

@@ -9,7 +9,7 @@ pub use Rattle.outside.proofs.Runs.{asks_one, leaves_on, leaves_same}
 pub use Rattle.outside.proofs.Torn.{torn_by_written}
 pub use Rattle.outside.specs.Bytes.{Torn, Writes, bytes_at, written}
 pub use Rattle.outside.specs.Durable.{IsSure}
-pub use Rattle.outside.specs.Moments.{Elapses, Follows, IsDurable}
+pub use Rattle.outside.specs.Moments.{Elapses, LeavesStep, IsDurable}
 pub use Rattle.outside.specs.Runs.{FewerLater, Leaves, OnlyAsks, held_of}
 pub use Rattle.redo_journal.proofs.AppendLemmas.{place_is}
 pub use Rattle.redo_journal.proofs.GateLemmas.{drop-written, held_is}
@@ -17,7 +17,7 @@ pub use Rattle.redo_journal.proofs.WriteLemmas.{asks_only, held_left, writes_on,
 pub use Rattle.redo_journal.specs.Held.{OnlyWrites}
 pub use Rattle.redo_journal.specs.Kept.{KeptBank, area_end, begun_of, end_of, line_bytes_of, needed_end, number_of, place_of, with_record}
 pub use Rattle.redo_journal.specs.Records.{IsCounted, IsLineOf, IsRecordAt}
-pub use Rattle.redo_journal.specs.Tracks.{HoldsOneOf, HoldsRecords, IsAppended, IsEither, Tracks}
+pub use Rattle.redo_journal.specs.Tracks.{HoldsOneOf, HoldsRecords, IsAppended, IsEither, TracksBank}
 pub use Rattle.redo_journal.specs.Turned.{head_bytes, placed, turned}
 pub use Rattle.redo_journal.specs.declared.bank.Appended.{Appended}
 pub use Rattle.store_format.proofs.Elsewhere.{base_behind, behind_bytes, header_held, same_header, stands_alike, store_behind, store_big, store_empty, store_front}

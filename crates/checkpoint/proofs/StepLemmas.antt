@@ -1,11 +1,11 @@
 -- What a crash leaves of calls that write, one after another, from images on that weren't sure.
-use Rattle.checkpoint.proofs.Common.{◌≡◌, ⊎_elim, ℕ, List, [], sym, ap, subst, Elapses, Follows, IsDurable, Leaves, OnlyAsks, FewerLater, held_of, Writes, written, IsSure}
+use Rattle.checkpoint.proofs.Common.{◌≡◌, ⊎_elim, ℕ, List, [], sym, ap, subst, Elapses, LeavesStep, IsDurable, Leaves, OnlyAsks, FewerLater, held_of, Writes, written, IsSure}
 use Rattle.std.specs.Prelude.{Option, None, Some, Result, Ok, Err, OnOk, IsSome, IsTrue, unwrap_or}
 use Rattle.outside.specs.declared.world.Outside.{Ghosts}
 
 module _ {W : Type 0} (G : Ghosts W) (fewer_later : FewerLater G) (old mid new : W) (before : Elapses G.moment G.left_since old mid) (time : Elapses G.moment G.left_since mid new) where
   -- each image after a step is one of those before it
-  pub leaves_step : (P Q : List ℕ → List ℕ → Type 0) (step : List ℕ → List ℕ → Type 0) → Leaves G P old mid → Follows step G.moment G.left_since mid new
+  pub leaves_step : (P Q : List ℕ → List ℕ → Type 0) (step : List ℕ → List ℕ → Type 0) → Leaves G P old mid → LeavesStep step G.moment G.left_since mid new
       → ((image seen : List ℕ) → P image seen → Q image seen) → ((start image seen : List ℕ) → P start seen → step start image → Q image seen) → Leaves G Q old new
   leaves_step P Q step so_far follows same goes image seen left =
       ⊎_elim (λ past. same image seen (so_far image seen past))
@@ -13,7 +13,7 @@ module _ {W : Type 0} (G : Ghosts W) (fewer_later : FewerLater G) (old mid new :
       (time.nothing_else (G.moment old) image seen before.later left)
 
   -- a step after calls that only ask
-  pub follows_asked : (step : List ℕ → List ℕ → Type 0) → ((image : List ℕ) → step image image) → IsSome (G.held old) → OnlyAsks G old mid → Follows step G.moment G.left_since mid new → Follows step G.moment G.left_since old new
+  pub follows_asked : (step : List ℕ → List ℕ → Type 0) → ((image : List ℕ) → step image image) → IsSome (G.held old) → OnlyAsks G old mid → LeavesStep step G.moment G.left_since mid new → LeavesStep step G.moment G.left_since old new
   follows_asked step stays told asks follows image seen left =
       ⊎_elim (λ past. (image, asks.crash told image seen past, stays image))
       (λ since. let from = follows image seen since in (from.0, asks.crash told from.0 seen (fewer_later mid (G.moment old) (G.moment mid) from.0 seen before.later from.1), from.2))

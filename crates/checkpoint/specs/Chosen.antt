@@ -39,7 +39,7 @@ pub record IsOneOf (header : Header) (bank : KeptBank) : Type 0 where
   pub begun : bank.begun ≡ None
 
 -- These bytes are those of a store whose banks are like the kept one.
-pub record IsIntact (held : List ℕ) (bank : KeptBank) : Type 0 where
+pub record IsStoreLike (held : List ℕ) (bank : KeptBank) : Type 0 where
   pub header : Header
   pub which : Which
   pub base : ℕ
@@ -51,13 +51,13 @@ pub record IsIntact (held : List ℕ) (bank : KeptBank) : Type 0 where
   pub bound : line_count header.directory ≡ length bank.newest
 
 -- a disk's fault is counted; damage is a fault of the chosen bank in the bytes that are told
-abbrev pub IsReopenFault : {W : Type 0} → Ghosts W → W → W → KeptBank → ReopenFault → Type 0
-IsReopenFault G old new bank (reopening.Damaged offset) = IsSome (G.held old) → bank_in (held_of G old) bank.page (chosen (held_of G old)) bank.bank_bytes (length bank.newest) ≡ Faulty offset
-IsReopenFault G old new bank reopening.DiskFault = Rose (G.disk_faults old) (G.disk_faults new)
+abbrev pub IsChosenReopenFault : {W : Type 0} → Ghosts W → W → W → KeptBank → ReopenFault → Type 0
+IsChosenReopenFault G old new bank (reopening.Damaged offset) = IsSome (G.held old) → bank_in (held_of G old) bank.page (chosen (held_of G old)) bank.bank_bytes (length bank.newest) ≡ Faulty offset
+IsChosenReopenFault G old new bank reopening.DiskFault = Rose (G.disk_faults old) (G.disk_faults new)
 
 -- the same for banks that are opened: they are no other store's, and memory is free
-abbrev pub IsOpenFault : {W : Type 0} → Ghosts W → W → W → Header → OpenFault → Type 0
-IsOpenFault G old new header (opening.NotAStore offset) = ⊥
-IsOpenFault G old new header (opening.Damaged offset) = IsSome (G.held old) → bank_of (held_of G old) header (chosen (held_of G old)) ≡ Faulty offset
-IsOpenFault G old new header opening.DiskFault = Rose (G.disk_faults old) (G.disk_faults new)
-IsOpenFault G old new header opening.Memory = Unit {0}
+abbrev pub IsChosenOpenFault : {W : Type 0} → Ghosts W → W → W → Header → OpenFault → Type 0
+IsChosenOpenFault G old new header (opening.NotAStore offset) = ⊥
+IsChosenOpenFault G old new header (opening.Damaged offset) = IsSome (G.held old) → bank_of (held_of G old) header (chosen (held_of G old)) ≡ Faulty offset
+IsChosenOpenFault G old new header opening.DiskFault = Rose (G.disk_faults old) (G.disk_faults new)
+IsChosenOpenFault G old new header opening.Memory = Unit {0}

@@ -4,16 +4,16 @@ ghost use Rattle.std.specs.Option.{option_map};
 ghost use Rattle.line_geometry.specs.Segments.{line_bytes};
 ghost use Rattle.store_format.specs.Header.{total};
 ghost use Rattle.store_format.specs.Stands.{stands, one_more};
-ghost use Rattle.outside.specs.Causes.{Rose, HasCause};
+ghost use Rattle.outside.specs.Causes.{Rose, FailsOnlyCounted};
 ghost use Rattle.outside.specs.Runs.{OnlyAsks, Leaves, held_of};
 ghost use Rattle.redo_journal.specs.Kept.{KeptBank, area_end, number_of, begun_of, needed_end, with_line, unbegun, line_bytes_of, record_bytes_of, SameShape};
 ghost use Rattle.redo_journal.specs.Held.{HoldsAtLeast, OnlyWrites};
 ghost use Rattle.redo_journal.specs.Records.{IsRecordAt, IsFound, IsCounted, IsLineOf};
-ghost use Rattle.redo_journal.specs.Tracks.{Tracks, IsEither, HoldsOneOf, IsAppended};
+ghost use Rattle.redo_journal.specs.Tracks.{TracksBank, IsEither, HoldsOneOf, IsAppended};
 ghost use Rattle.redo_journal.specs.Appended as append;
-ghost use Rattle.checkpoint.specs.Chosen.{other, IsChosen, IsOneOf, IsIntact, IsReopenFault, IsOpenFault};
+ghost use Rattle.checkpoint.specs.Chosen.{other, IsChosen, IsOneOf, IsStoreLike, IsChosenReopenFault, IsChosenOpenFault};
 ghost use Rattle.checkpoint.specs.Home.{store_bytes};
-ghost use Rattle.checkpoint.specs.Moved.{IsSame, IsMoved, IsCheckpointed, kept_after};
+ghost use Rattle.checkpoint.specs.Moved.{IsSame, IsMoved, IsCheckpointed, bank_checkpointed};
 
 use crate::home::write_home;
 use crate::selector::{other_of, read_selector, write_selector};
@@ -60,7 +60,7 @@ impl Banks {
         ensures opened { IfOk result (IsOneOf header.now) }
         ensures read { IfOk result (λ bank. IsSome (W.held outside.old) → IsChosen (held_of W.Outside outside.old) bank) }
         ensures no_fault { IfOk result (λ bank. W.disk_faults outside.new ≡ W.disk_faults outside.old) }
-        ensures fault { IfErr result (IsOpenFault W.Outside outside.old outside.new header.now) }
+        ensures fault { IfErr result (IsChosenOpenFault W.Outside outside.old outside.new header.now) }
         ensures calm { IfErr result (λ fault. fault ≢ OpenFault.DiskFault → W.disk_faults outside.new ≡ W.disk_faults outside.old) }
     {
         let which = match read_selector(outside) {
@@ -88,9 +88,9 @@ impl Banks {
         ensures begun { self.new.begun ≡ None }
         ensures read { OnOk result (IsSome (W.held outside.old) → IsChosen (held_of W.Outside outside.old) self.new) }
         ensures no_fault { OnOk result (W.disk_faults outside.new ≡ W.disk_faults outside.old) }
-        ensures fault { IfErr result (IsReopenFault W.Outside outside.old outside.new self.old) }
+        ensures fault { IfErr result (IsChosenReopenFault W.Outside outside.old outside.new self.old) }
         ensures calm { IfErr result (λ fault. fault ≢ ReopenFault.DiskFault → W.disk_faults outside.new ≡ W.disk_faults outside.old) }
-        ensures intact { IfErr result (λ fault. IsSome (W.held outside.old) → IsIntact (held_of W.Outside outside.old) self.old → fault ≡ ReopenFault.DiskFault) }
+        ensures intact { IfErr result (λ fault. IsSome (W.held outside.old) → IsStoreLike (held_of W.Outside outside.old) self.old → fault ≡ ReopenFault.DiskFault) }
     {
         match read_selector(outside) {
             Err(Failed) => {
@@ -161,7 +161,7 @@ impl Banks {
         ensures asks { OnlyAsks W.Outside outside.old outside.new }
         ensures found { IfOk result (IsFound self.now.page self.now.bank_bytes place) }
         ensures read { IfOk result (λ found. IsSome (W.held outside.old) → (at : IsRecordAt (held_of W.Outside outside.old) self.now place) → IsCounted self.now.page place at.lines found) }
-        ensures cause { HasCause (W.disk_faults outside.old) (W.disk_faults outside.new) result }
+        ensures cause { FailsOnlyCounted (W.disk_faults outside.old) (W.disk_faults outside.new) result }
     {
         self.bank.record_at(outside, place)
     }
@@ -184,7 +184,7 @@ impl Banks {
         requires room { HoldsAtLeast W.Outside (store_bytes self.now) outside.old }
         ensures asks { OnlyAsks W.Outside outside.old outside.new }
         ensures read { IfOk result (λ line. IsSome (W.held outside.old) → (at : IsRecordAt (held_of W.Outside outside.old) self.now of.now.place) → length at.lines ≡ of.now.count → IsLineOf at.lines index line into.new) }
-        ensures cause { HasCause (W.disk_faults outside.old) (W.disk_faults outside.new) result }
+        ensures cause { FailsOnlyCounted (W.disk_faults outside.old) (W.disk_faults outside.new) result }
     {
         self.bank.line_at(outside, of, index, into)
     }
@@ -223,7 +223,7 @@ impl Banks {
         requires room { HoldsAtLeast W.Outside (store_bytes self.old) outside.old }
         ensures only { OnlyWrites W.Outside outside.old outside.new }
         ensures shape { SameShape self.old self.new }
-        ensures kept { self.new ≡ append.kept_after result self.old }
+        ensures kept { self.new ≡ append.bank_appended result self.old }
         ensures full { result ≡ Appended.Full ↔ (area_end self.old < needed_end self.old) }
         ensures nothing { result ≡ Appended.Full → outside.new ≡ outside.old }
         ensures writes { result ≡ Appended.Done → W.writes outside.new ≡ option_map (λ count. count + 2) (W.writes outside.old) }
@@ -232,11 +232,11 @@ impl Banks {
         ensures doubt_cause { result ≡ Appended.Doubt → Rose (W.disk_faults outside.old) (W.disk_faults outside.new) }
 
         // Of banks that are tracked: whenever a crash comes, it leaves what stood, or that with the record.
-        ensures crash { Tracks W.Outside self.old outside.old → Leaves W.Outside (IsEither (begun_of self.old) (held_of W.Outside outside.old)) outside.old outside.new }
-        ensures unwritten { result ≡ Appended.Unwritten → Tracks W.Outside self.old outside.old → Leaves W.Outside (λ image seen. stands image ≡ stands (held_of W.Outside outside.old)) outside.old outside.new }
-        ensures doubt { result ≡ Appended.Doubt → Tracks W.Outside self.old outside.old → Leaves W.Outside (λ image seen. stands (slice_set image self.old.gate 0xA5) ≡ one_more (begun_of self.old) (stands (held_of W.Outside outside.old))) outside.new outside.new }
-        ensures records { (tracks : Tracks W.Outside self.old outside.old) → HoldsOneOf tracks.header self.old.which self.old.base tracks.records (begun_of self.old) (held_of W.Outside outside.new) }
-        ensures done { result ≡ Appended.Done → Tracks W.Outside self.old outside.old → IsAppended W.Outside self.old self.new outside.old outside.new }
+        ensures crash { TracksBank W.Outside self.old outside.old → Leaves W.Outside (IsEither (begun_of self.old) (held_of W.Outside outside.old)) outside.old outside.new }
+        ensures unwritten { result ≡ Appended.Unwritten → TracksBank W.Outside self.old outside.old → Leaves W.Outside (λ image seen. stands image ≡ stands (held_of W.Outside outside.old)) outside.old outside.new }
+        ensures doubt { result ≡ Appended.Doubt → TracksBank W.Outside self.old outside.old → Leaves W.Outside (λ image seen. stands (slice_set image self.old.gate 0xA5) ≡ one_more (begun_of self.old) (stands (held_of W.Outside outside.old))) outside.new outside.new }
+        ensures records { (tracks : TracksBank W.Outside self.old outside.old) → HoldsOneOf tracks.header self.old.which self.old.base tracks.records (begun_of self.old) (held_of W.Outside outside.new) }
+        ensures done { result ≡ Appended.Done → TracksBank W.Outside self.old outside.old → IsAppended W.Outside self.old self.new outside.old outside.new }
     {
         self.bank.append(outside)
     }
@@ -253,14 +253,14 @@ impl Banks {
         requires room { HoldsAtLeast W.Outside (store_bytes self.old) outside.old }
         ensures only { OnlyWrites W.Outside outside.old outside.new }
         ensures shape { SameShape self.old self.new }
-        ensures kept { self.new ≡ kept_after result self.old }
+        ensures kept { self.new ≡ bank_checkpointed result self.old }
         ensures fits { OnOk result (needed_end self.new ≤ area_end self.new) }
-        ensures cause { HasCause (W.disk_faults outside.old) (W.disk_faults outside.new) result }
+        ensures cause { FailsOnlyCounted (W.disk_faults outside.old) (W.disk_faults outside.new) result }
 
         // Of banks that are tracked: whenever a crash comes, it leaves what stood, by the one bank or the other.
-        ensures crash { (tracks : Tracks W.Outside self.old outside.old) → Leaves W.Outside (λ image seen. IsSame tracks.header self.old tracks.records (held_of W.Outside outside.old) image) outside.old outside.new }
-        ensures held { (tracks : Tracks W.Outside self.old outside.old) → IsSame tracks.header self.old tracks.records (held_of W.Outside outside.old) (held_of W.Outside outside.new) }
-        ensures done { OnOk result (Tracks W.Outside self.old outside.old → IsCheckpointed W.Outside self.old self.new outside.old outside.new) }
+        ensures crash { (tracks : TracksBank W.Outside self.old outside.old) → Leaves W.Outside (λ image seen. IsSame tracks.header self.old tracks.records (held_of W.Outside outside.old) image) outside.old outside.new }
+        ensures held { (tracks : TracksBank W.Outside self.old outside.old) → IsSame tracks.header self.old tracks.records (held_of W.Outside outside.old) (held_of W.Outside outside.new) }
+        ensures done { OnOk result (TracksBank W.Outside self.old outside.old → IsCheckpointed W.Outside self.old self.new outside.old outside.new) }
     {
         let which = other_of(self.bank.which());
         match move_to(&self.bank, self.line.as_mut_slice(), which, outside) {
@@ -299,9 +299,9 @@ fn move_to<W: Outside>(
     requires other { which ≡ other bank.now.which }
     requires room { HoldsAtLeast W.Outside (store_bytes bank.now) outside.old }
     ensures only { OnlyWrites W.Outside outside.old outside.new }
-    ensures crash { (tracks : Tracks W.Outside bank.now outside.old) → Leaves W.Outside (λ image seen. IsSame tracks.header bank.now tracks.records (held_of W.Outside outside.old) image) outside.old outside.new }
-    ensures done { OnOk result ((tracks : Tracks W.Outside bank.now outside.old) → IsMoved W.Outside tracks.header bank.now outside.old outside.new) }
-    ensures cause { HasCause (W.disk_faults outside.old) (W.disk_faults outside.new) result }
+    ensures crash { (tracks : TracksBank W.Outside bank.now outside.old) → Leaves W.Outside (λ image seen. IsSame tracks.header bank.now tracks.records (held_of W.Outside outside.old) image) outside.old outside.new }
+    ensures done { OnOk result ((tracks : TracksBank W.Outside bank.now outside.old) → IsMoved W.Outside tracks.header bank.now outside.old outside.new) }
+    ensures cause { FailsOnlyCounted (W.disk_faults outside.old) (W.disk_faults outside.new) result }
 {
     write_home(bank, buffer, outside)?;
     bank.write_head(which, outside)?;

@@ -5,7 +5,7 @@ ghost use Rattle.outside.specs.Causes.{Rose};
 ghost use Rattle.outside.specs.Runs.{Leaves, held_of};
 ghost use Rattle.redo_journal.specs.Kept.{area_end, begun_of, needed_end, SameShape};
 ghost use Rattle.redo_journal.specs.Held.{HoldsAtLeast, IsMoreBy, OnlyWrites};
-ghost use Rattle.redo_journal.specs.Tracks.{Tracks, IsEither, IsAppended};
+ghost use Rattle.redo_journal.specs.Tracks.{TracksBank, IsEither, IsAppended};
 ghost use Rattle.checkpoint.specs.Home.{store_bytes};
 ghost use Rattle.checkpoint.specs.Committed.{emptied, roomy, kept_by, IsKeptAfter, HoldsCommitted};
 
@@ -26,11 +26,11 @@ impl Banks {
         ensures done_cause { result ≡ Kept.Done → W.disk_faults outside.new ≡ W.disk_faults outside.old }
         ensures unwritten_cause { result ≡ Kept.Unwritten → Rose (W.disk_faults outside.old) (W.disk_faults outside.new) }
         ensures doubt_cause { result ≡ Kept.Doubt → Rose (W.disk_faults outside.old) (W.disk_faults outside.new) }
-        ensures crash { Tracks W.Outside self.old outside.old → Leaves W.Outside (IsEither (begun_of self.old) (held_of W.Outside outside.old)) outside.old outside.new }
-        ensures unwritten { result ≡ Kept.Unwritten → Tracks W.Outside self.old outside.old → Leaves W.Outside (λ image seen. stands image ≡ stands (held_of W.Outside outside.old)) outside.old outside.new }
-        ensures doubt { result ≡ Kept.Doubt → Tracks W.Outside self.old outside.old → Leaves W.Outside (λ image seen. stands (slice_set image (roomy self.old).gate 0xA5) ≡ one_more (begun_of self.old) (stands (held_of W.Outside outside.old))) outside.new outside.new }
-        ensures records { (tracks : Tracks W.Outside self.old outside.old) → HoldsCommitted tracks.header self.old tracks.records (held_of W.Outside outside.new) }
-        ensures done { result ≡ Kept.Done → Tracks W.Outside self.old outside.old → IsAppended W.Outside self.old self.new outside.old outside.new }
+        ensures crash { TracksBank W.Outside self.old outside.old → Leaves W.Outside (IsEither (begun_of self.old) (held_of W.Outside outside.old)) outside.old outside.new }
+        ensures unwritten { result ≡ Kept.Unwritten → TracksBank W.Outside self.old outside.old → Leaves W.Outside (λ image seen. stands image ≡ stands (held_of W.Outside outside.old)) outside.old outside.new }
+        ensures doubt { result ≡ Kept.Doubt → TracksBank W.Outside self.old outside.old → Leaves W.Outside (λ image seen. stands (slice_set image (roomy self.old).gate 0xA5) ≡ one_more (begun_of self.old) (stands (held_of W.Outside outside.old))) outside.new outside.new }
+        ensures records { (tracks : TracksBank W.Outside self.old outside.old) → HoldsCommitted tracks.header self.old tracks.records (held_of W.Outside outside.new) }
+        ensures done { result ≡ Kept.Done → TracksBank W.Outside self.old outside.old → IsAppended W.Outside self.old self.new outside.old outside.new }
     {
         match self.append(outside) {
             Appended::Full => self.commit_behind_checkpoint(outside),
@@ -52,11 +52,11 @@ impl Banks {
         ensures done_cause { result ≡ Kept.Done → W.disk_faults outside.new ≡ W.disk_faults outside.old }
         ensures unwritten_cause { result ≡ Kept.Unwritten → Rose (W.disk_faults outside.old) (W.disk_faults outside.new) }
         ensures doubt_cause { result ≡ Kept.Doubt → Rose (W.disk_faults outside.old) (W.disk_faults outside.new) }
-        ensures crash { Tracks W.Outside self.old outside.old → Leaves W.Outside (IsEither (begun_of self.old) (held_of W.Outside outside.old)) outside.old outside.new }
-        ensures unwritten { result ≡ Kept.Unwritten → Tracks W.Outside self.old outside.old → Leaves W.Outside (λ image seen. stands image ≡ stands (held_of W.Outside outside.old)) outside.old outside.new }
-        ensures doubt { result ≡ Kept.Doubt → Tracks W.Outside self.old outside.old → Leaves W.Outside (λ image seen. stands (slice_set image (emptied self.old).gate 0xA5) ≡ one_more (begun_of self.old) (stands (held_of W.Outside outside.old))) outside.new outside.new }
-        ensures records { (tracks : Tracks W.Outside self.old outside.old) → HoldsCommitted tracks.header self.old tracks.records (held_of W.Outside outside.new) }
-        ensures done { result ≡ Kept.Done → Tracks W.Outside self.old outside.old → IsAppended W.Outside self.old self.new outside.old outside.new }
+        ensures crash { TracksBank W.Outside self.old outside.old → Leaves W.Outside (IsEither (begun_of self.old) (held_of W.Outside outside.old)) outside.old outside.new }
+        ensures unwritten { result ≡ Kept.Unwritten → TracksBank W.Outside self.old outside.old → Leaves W.Outside (λ image seen. stands image ≡ stands (held_of W.Outside outside.old)) outside.old outside.new }
+        ensures doubt { result ≡ Kept.Doubt → TracksBank W.Outside self.old outside.old → Leaves W.Outside (λ image seen. stands (slice_set image (emptied self.old).gate 0xA5) ≡ one_more (begun_of self.old) (stands (held_of W.Outside outside.old))) outside.new outside.new }
+        ensures records { (tracks : TracksBank W.Outside self.old outside.old) → HoldsCommitted tracks.header self.old tracks.records (held_of W.Outside outside.new) }
+        ensures done { result ≡ Kept.Done → TracksBank W.Outside self.old outside.old → IsAppended W.Outside self.old self.new outside.old outside.new }
     {
         match self.checkpoint(outside) {
             Err(Failed) => Kept::Unwritten,

@@ -2,12 +2,12 @@
 ghost use Rattle.std.specs.Prelude.{◌≡◌, ◌+◌, ◌<◌, ◌≤◌, length, slice_index_or, Some, None, IsTrue, IsSome, OnOk};
 ghost use Rattle.store_format.specs.declared.header.Which.TheVariants as which;
 ghost use Rattle.outside.specs.Bytes.{Torn, written, bytes_at};
-ghost use Rattle.outside.specs.Causes.{HasCause};
-ghost use Rattle.outside.specs.Moments.{Follows};
+ghost use Rattle.outside.specs.Causes.{FailsOnlyCounted};
+ghost use Rattle.outside.specs.Moments.{LeavesStep};
 ghost use Rattle.outside.specs.Runs.{Leaves, held_of};
 ghost use Rattle.redo_journal.specs.Held.{HoldsAtLeast, OnlyWrites};
 ghost use Rattle.redo_journal.specs.Kept.{line_bytes_of};
-ghost use Rattle.redo_journal.specs.Tracks.{Tracks};
+ghost use Rattle.redo_journal.specs.Tracks.{TracksBank};
 ghost use Rattle.checkpoint.specs.Home.{home_place, store_bytes, copied, TornLine, IsCovered, IsHomed};
 
 use outside::{Failed, Outside};
@@ -20,9 +20,9 @@ pub fn write_home<W: Outside>(bank: &Bank, buffer: &mut [u8], outside: &mut W) -
     requires whole { length buffer.old ≡ line_bytes_of bank.now }
     requires room { HoldsAtLeast W.Outside (store_bytes bank.now) outside.old }
     ensures only { OnlyWrites W.Outside outside.old outside.new }
-    ensures crash { (tracks : Tracks W.Outside bank.now outside.old) → Leaves W.Outside (λ image seen. IsCovered tracks.header tracks.records (held_of W.Outside outside.old) image) outside.old outside.new }
-    ensures done { OnOk result ((tracks : Tracks W.Outside bank.now outside.old) → IsHomed tracks.header tracks.records (held_of W.Outside outside.old) (length bank.now.newest) (held_of W.Outside outside.new)) }
-    ensures cause { HasCause (W.disk_faults outside.old) (W.disk_faults outside.new) result }
+    ensures crash { (tracks : TracksBank W.Outside bank.now outside.old) → Leaves W.Outside (λ image seen. IsCovered tracks.header tracks.records (held_of W.Outside outside.old) image) outside.old outside.new }
+    ensures done { OnOk result ((tracks : TracksBank W.Outside bank.now outside.old) → IsHomed tracks.header tracks.records (held_of W.Outside outside.old) (length bank.now.newest) (held_of W.Outside outside.new)) }
+    ensures cause { FailsOnlyCounted (W.disk_faults outside.old) (W.disk_faults outside.new) result }
 {
     for line in 0..bank.lines() {
         copy_newest(bank, buffer, outside, line)?;
@@ -41,9 +41,9 @@ fn copy_newest<W: Outside>(
     requires below { line < length bank.now.newest }
     requires room { HoldsAtLeast W.Outside (store_bytes bank.now) outside.old }
     ensures only { OnlyWrites W.Outside outside.old outside.new }
-    ensures crash { IsTrue (W.is_honest outside.old) → IsSome (W.held outside.old) → Follows (TornLine (line_bytes_of bank.now) (slice_index_or bank.now.newest line None) (home_place bank.now line)) W.moment W.left_since outside.old outside.new }
+    ensures crash { IsTrue (W.is_honest outside.old) → IsSome (W.held outside.old) → LeavesStep (TornLine (line_bytes_of bank.now) (slice_index_or bank.now.newest line None) (home_place bank.now line)) W.moment W.left_since outside.old outside.new }
     ensures done { OnOk result (IsSome (W.held outside.old) → held_of W.Outside outside.new ≡ copied (line_bytes_of bank.now) (held_of W.Outside outside.old) (slice_index_or bank.now.newest line None) (home_place bank.now line)) }
-    ensures cause { HasCause (W.disk_faults outside.old) (W.disk_faults outside.new) result }
+    ensures cause { FailsOnlyCounted (W.disk_faults outside.old) (W.disk_faults outside.new) result }
 {
     match bank.newest(line) {
         None => Ok(()),
@@ -68,9 +68,9 @@ fn copy_line<W: Outside>(
     requires from { HoldsAtLeast W.Outside (from + length buffer.old) outside.old }
     requires to { HoldsAtLeast W.Outside (to + length buffer.old) outside.old }
     ensures only { OnlyWrites W.Outside outside.old outside.new }
-    ensures crash { IsTrue (W.is_honest outside.old) → IsSome (W.held outside.old) → Follows (Torn to (length buffer.old)) W.moment W.left_since outside.old outside.new }
+    ensures crash { IsTrue (W.is_honest outside.old) → IsSome (W.held outside.old) → LeavesStep (Torn to (length buffer.old)) W.moment W.left_since outside.old outside.new }
     ensures done { OnOk result (IsSome (W.held outside.old) → held_of W.Outside outside.new ≡ written (held_of W.Outside outside.old) to (bytes_at (held_of W.Outside outside.old) from (length buffer.old))) }
-    ensures cause { HasCause (W.disk_faults outside.old) (W.disk_faults outside.new) result }
+    ensures cause { FailsOnlyCounted (W.disk_faults outside.old) (W.disk_faults outside.new) result }
 {
     outside.read_at(from, buffer)?;
     write_once(outside, to, buffer)

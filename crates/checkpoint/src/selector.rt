@@ -2,7 +2,7 @@
 ghost use Rattle.std.specs.Prelude.{◌≡◌, ◌∷◌, [], IsSome, IfOk, OnOk};
 ghost use Rattle.store_format.specs.Stands.{chosen};
 ghost use Rattle.outside.specs.Bytes.{Torn};
-ghost use Rattle.outside.specs.Causes.{HasCause};
+ghost use Rattle.outside.specs.Causes.{FailsOnlyCounted};
 ghost use Rattle.outside.specs.Durable.{IsSure, IsWritten};
 ghost use Rattle.outside.specs.Runs.{OnlyAsks, Leaves, held_of};
 ghost use Rattle.redo_journal.specs.Held.{HoldsAtLeast, OnlyWrites};
@@ -30,7 +30,7 @@ pub fn read_selector<W: Outside>(outside: &mut W) -> Result<Which, Failed>
     requires room { HoldsAtLeast W.Outside 129 outside.old }
     ensures asks { OnlyAsks W.Outside outside.old outside.new }
     ensures selected { IfOk result (λ which. IsSome (W.held outside.old) → chosen (held_of W.Outside outside.old) ≡ which) }
-    ensures cause { HasCause (W.disk_faults outside.old) (W.disk_faults outside.new) result }
+    ensures cause { FailsOnlyCounted (W.disk_faults outside.old) (W.disk_faults outside.new) result }
 {
     let mut selector = [0; 1];
     outside.read_at(SELECTOR_AT, &mut selector)?;
@@ -47,7 +47,7 @@ pub fn write_selector<W: Outside>(outside: &mut W, which: Which) -> Result<(), F
     ensures only { OnlyWrites W.Outside outside.old outside.new }
     ensures crash { IsSure W.Outside outside.old → Leaves W.Outside (λ image seen. Torn 128 1 (held_of W.Outside outside.old) image) outside.old outside.new }
     ensures done { OnOk result (IsSure W.Outside outside.old → IsWritten W.Outside 128 (selector_of which ∷ []) outside.old outside.new) }
-    ensures cause { HasCause (W.disk_faults outside.old) (W.disk_faults outside.new) result }
+    ensures cause { FailsOnlyCounted (W.disk_faults outside.old) (W.disk_faults outside.new) result }
 {
     write_sure(outside, SELECTOR_AT, &[selector_of(which)])
 }

@@ -8,7 +8,7 @@ ghost use Rattle.store_calls.specs.New.{Made};
 ghost use Rattle.store_calls.specs.Renewed.{Renewed};
 ghost use Rattle.standby_calls.specs.Followed.{FollowedFrom};
 ghost use Rattle.standby_calls.specs.Shipped.{ShippedFrom};
-ghost use Rattle.store_calls.specs.Show.{Shown};
+ghost use Rattle.store_calls.specs.Show.{RangeShown};
 ghost use Rattle.job_calls.specs.Big.{Loaded};
 ghost use Rattle.job_calls.specs.Causes.{OpensBy};
 ghost use Rattle.job_calls.specs.Handed.{HandedFits, HandsOn};
@@ -67,7 +67,7 @@ pub fn console<S: Source, W: Outside>(
     ensures no_session { (OpensSession words.now → ⊥) → result.session ≡ None }
     ensures listed { IsForm Command.List words.now → Listed W.Outside (given S.Source job.old job.new) (call outside.old outside.new (order_told result.order.items) result.status) }
     ensures drilled { IsForm Command.Drill words.now → Drilled W.Outside (given S.Source job.old job.new) (call outside.old outside.new (order_told result.order.items) result.status) }
-    ensures shown { (range : Range) → IsForm (Command.Show range) words.now → Shown W.Outside range (call outside.old outside.new (order_told result.order.items) result.status) }
+    ensures shown { (range : Range) → IsForm (Command.Show range) words.now → RangeShown W.Outside range (call outside.old outside.new (order_told result.order.items) result.status) }
     ensures made { (header : Header) → IsForm (Command.New header) words.now → Made W.Outside header (call outside.old outside.new (order_told result.order.items) result.status) }
     ensures renewed { (bank : ℕ) → IsForm (Command.Renew bank) words.now → Renewed W.Outside bank (given S.Source job.old job.new) (call outside.old outside.new (order_told result.order.items) result.status) }
     ensures shipped { (from : ℕ) → IsForm (Command.Ship from) words.now → ShippedFrom W.Outside from (call outside.old outside.new (order_told result.order.items) result.status) }

@@ -44,11 +44,11 @@ pub use Rattle.lock_rules.specs.Resident.{brought, first_out, taken_out}
 pub use Rattle.lock_rules.specs.Sets.{has, meets, size}
 pub use Rattle.lock_rules.specs.Waits.{leads, next_shown, shown_after, shown_cycle, victim_of}
 pub use Rattle.desk_law.specs.Beside.{AreAlike, AreKept, AreMarked, AreSeats, AreStates, AreStatesBut, AreThere, IsLaid, IsState, IsTableBut, IsTold, Reads, StandsFor, by_number, kept_conflict, kept_waits, over_all, owner_told, owners_told, requested}
-pub use Rattle.desk_law.specs.Causes.{EndsHaveCauses, HasCause, IsAccounted, IsOverFor, RowIs, TurnsEndForCause, desk_of, ends_own, lines_by, turn_counts, waiting_after}
+pub use Rattle.desk_law.specs.Causes.{EndsHaveCauses, EndsForCause, IsAccounted, IsOverFor, RowIs, TurnsEndForCause, turn_desk, ends_own, lines_by, turn_counts, waiting_after}
 pub use Rattle.desk_law.specs.Changes.{committed_at, gone_on, left_by, row_done}
 pub use Rattle.desk_law.specs.Consistent.{AreApart, AreConsistent, AreDistinct, AreResident, Ascend, HasNoCycle, IsAmong, IsConsistent, IsCovered, IsHeld, IsLive, IsOwned, due_to, permitted}
 pub use Rattle.desk_law.specs.Current.{IsCurrent, bytes_of, current, current_bytes, current_of, writer}
-pub use Rattle.desk_law.specs.Laws.{ArePermitted, BrokenCyclesWere, ContestedCyclesClose, EachWaits, EndsWith, FineRowsAskForTheirLines, IdleWhereInactive, IsActive, IsNotIdle, PermittedIsFree, RunsStayConsistent, SomebodyCanGoOn, StaysConsistent, WriteBitsHoldPages, counts_of}
+pub use Rattle.desk_law.specs.Laws.{ArePermitted, BrokenCyclesWere, ContestedCyclesClose, EachWaits, EndsWith, FineRowsAskForTheirLines, IdleWhereInactive, IsActive, IsNotIdle, PermittedIsFree, RunsStayConsistent, SomebodyCanGoOn, StaysConsistent, WriteBitsHoldPages, contest_counts}
 pub use Rattle.desk_law.specs.Memory.{CommitsTellTheMachine, FindTheirOwn, IsAlone, IsMemory, Machine, Memory, RunsAreIsolated, SideBySideIsSerial, after_event, after_instruction, after_turns, commit_of, does_row, first_machine, given_back, laid, memory_after, memory_of, row_of, went_on, with_machine, wrote_by}
 pub use Rattle.desk_law.specs.Orderly.{IsOrderly}
 pub use Rattle.desk_law.specs.UnderWay.{IsContending, IsReady, IsUnderWay, KeepsPages, contest, except, marked, served_attempt, touched_of}

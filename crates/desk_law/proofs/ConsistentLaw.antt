@@ -1,5 +1,5 @@
 -- A consistent desk stays so.
-use Rattle.desk_law.proofs.Common.{◌≡◌, refl, ℕ, ◌+◌, ◌<◌, ◌==◌, nat_lt, if◌then◌else◌, Bool, true, false, List, [], ◌∷◌, length, find, Option, Some, None, slice_get, arith, ap, subst, eqb-true, eq-eqb, both_ways, ltb-true, page_count, Program, Event, Begin, Turn, Checkpoint, Crash, Desk, Entry, opened, Word, Fine, ReadFailed, Unwritten, Doubt, Failed, Counts, Turning, Going, Over, Idle, instruction, turns, turn, turn_of, no_counts, turned, begin_if, begins, absent_segment, restarted, event_of, step, run, Busy, Nothing, IsAmong, Ascend, IsConsistent, desk_of, StaysConsistent, IsActive, IsNotIdle, IdleWhereInactive, RunsStayConsistent, IsOrderly}
+use Rattle.desk_law.proofs.Common.{◌≡◌, refl, ℕ, ◌+◌, ◌<◌, ◌==◌, nat_lt, if◌then◌else◌, Bool, true, false, List, [], ◌∷◌, length, find, Option, Some, None, slice_get, arith, ap, subst, eqb-true, eq-eqb, both_ways, ltb-true, page_count, Program, Event, Begin, Turn, Checkpoint, Crash, Desk, Entry, opened, Word, Fine, ReadFailed, Unwritten, Doubt, Failed, Counts, Turning, Going, Over, Idle, instruction, turns, turn, turn_of, no_counts, turned, begin_if, begins, absent_segment, restarted, event_of, step, run, Busy, Nothing, IsAmong, Ascend, IsConsistent, turn_desk, StaysConsistent, IsActive, IsNotIdle, IdleWhereInactive, RunsStayConsistent, IsOrderly}
 use Rattle.desk_law.proofs.Orderly.{orderly}
 use Rattle.desk_law.proofs.Entries.{among-found, none-found, found-among}
 use Rattle.desk_law.proofs.Endings.{begins-consistent, refused-consistent, quiet-consistent, opened-consistent}
@@ -67,14 +67,14 @@ stays-turn word activation limit desk is = by_entry (find (λ (entry : Entry). e
         (fits-turns word activation limit (Going desk no_counts) (fits desk is))
 
 -- an instruction of an active entry leaves a consistent desk, whatever it comes to
-pub instruction-consistent : (word : Word) (desk : Desk) (counts : Counts) (entry : Entry) → IsConsistent desk → IsAmong desk.active entry → IsConsistent (desk_of (instruction word (Some entry) desk counts))
+pub instruction-consistent : (word : Word) (desk : Desk) (counts : Counts) (entry : Entry) → IsConsistent desk → IsAmong desk.active entry → IsConsistent (turn_desk (instruction word (Some entry) desk counts))
 instruction-consistent word desk counts entry is here =
     by_turning (instruction word (Some entry) desk counts)
     (subst (λ (one : Option Entry). Stays entry.number (length counts.cycles + length desk.active) (instruction word one desk counts)) (found-among desk.next desk.active entry is.active.ascend here)
     (stays-instruction word entry.number (length counts.cycles + length desk.active) desk counts (orderly desk is) (entry, here, refl) (omega arith)))
     (fits-instruction word (Some entry) desk counts (fits desk is))
   where
-    by_turning : (turning : Turning) → Stays entry.number (length counts.cycles + length desk.active) turning → TurnFits turning → IsConsistent (desk_of turning)
+    by_turning : (turning : Turning) → Stays entry.number (length counts.cycles + length desk.active) turning → TurnFits turning → IsConsistent (turn_desk turning)
     by_turning (Going next more) stays fit = consistent next stays.0 fit
     by_turning (Over next more ending) stays fit = consistent next stays.0 fit
 

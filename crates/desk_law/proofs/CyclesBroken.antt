@@ -1,5 +1,5 @@
 -- The members of a shown cycle wait for each other.
-use Rattle.desk_law.proofs.Common.{◌≡◌, refl, ℕ, zero, suc, ◌==◌, ◌&&◌, if◌then◌else◌, Bool, true, false, List, [], ◌∷◌, ◌++◌, length, find, Option, Some, None, option_map_or, ap, sym, subst, and_parts, leads, next_shown, shown_after, shown_cycle, victim_of, found-passes, Desk, Entry, numbers, waits_for, Counts, EachWaits, counts_of, BrokenCyclesWere}
+use Rattle.desk_law.proofs.Common.{◌≡◌, refl, ℕ, zero, suc, ◌==◌, ◌&&◌, if◌then◌else◌, Bool, true, false, List, [], ◌∷◌, ◌++◌, length, find, Option, Some, None, option_map_or, ap, sym, subst, and_parts, leads, next_shown, shown_after, shown_cycle, victim_of, found-passes, Desk, Entry, numbers, waits_for, Counts, EachWaits, contest_counts, BrokenCyclesWere}
 use Rattle.desk_law.proofs.Contest.{left_over}
 
 after-waits : (waits : ℕ → ℕ → Bool) (all : List ℕ) (steps first last : ℕ) → EachWaits waits (last ∷ shown_after waits all steps first last)
@@ -31,7 +31,7 @@ shown-waits waits all first cycle is = by_test (leads waits all (length all) fir
         ((shown_after waits all (length all) first first, sym it), subst (EachWaits waits) it (after-waits waits all (length all) first first))
     by_test false is = absurd (cc)
 
-left-counts : (desk : Desk) (counts : Counts) (victim : Option Entry) (lost : Bool) → counts_of (left_over desk counts victim lost) ≡ counts
+left-counts : (desk : Desk) (counts : Counts) (victim : Option Entry) (lost : Bool) → contest_counts (left_over desk counts victim lost) ≡ counts
 left-counts desk counts victim true = refl
 left-counts desk counts victim false = refl
 

@@ -1,5 +1,5 @@
 -- Who ends in a turn: victims, and the turn's own activation.
-use Rattle.desk_law.proofs.Common.{◌≡◌, refl, ℕ, zero, suc, ◌+◌, ◌==◌, ◌⊎◌, not, Bool, true, false, List, [], ◌∷◌, ◌++◌, length, map, filter, find, Option, Some, None, ap, sym, ◌∙◌, subst, inl, inr, eqb-true, eq-eqb, or_cases, or_left, or_right, not_from_false, cases_Bool, has, shown_cycle, victim_of, Plain, Outcome, On, Commit, Check, row, after, Desk, Entry, with_entry, wanted, conflicts_of, numbers, waits_for, Word, Fine, ReadFailed, Unwritten, Doubt, Failed, Counts, Turning, Going, Over, Limit, Attempt, Fetching, Fetched, Broken, Contest, Contested, Settled, Lost, attempts, attempts_at, instruction, turns, turn_of, no_counts, limited, is_over_limit, fetched_first, fetches_touched, asks, gets, goes_on, takes_effect, commits, contest_ends, waits_or_gets, with_grants, refused_pages, breaks_cycle, breaks_cycles, gone_on, desk_of, turn_counts, ends_own, IsAccounted, EndsHaveCauses}
+use Rattle.desk_law.proofs.Common.{◌≡◌, refl, ℕ, zero, suc, ◌+◌, ◌==◌, ◌⊎◌, not, Bool, true, false, List, [], ◌∷◌, ◌++◌, length, map, filter, find, Option, Some, None, ap, sym, ◌∙◌, subst, inl, inr, eqb-true, eq-eqb, or_cases, or_left, or_right, not_from_false, cases_Bool, has, shown_cycle, victim_of, Plain, Outcome, On, Commit, Check, row, after, Desk, Entry, with_entry, wanted, conflicts_of, numbers, waits_for, Word, Fine, ReadFailed, Unwritten, Doubt, Failed, Counts, Turning, Going, Over, Limit, Attempt, Fetching, Fetched, Broken, Contest, Contested, Settled, Lost, attempts, attempts_at, instruction, turns, turn_of, no_counts, limited, is_over_limit, fetched_first, fetches_touched, asks, gets, goes_on, takes_effect, commits, contest_ends, waits_or_gets, with_grants, refused_pages, breaks_cycle, breaks_cycles, gone_on, turn_desk, turn_counts, ends_own, IsAccounted, EndsHaveCauses}
 use Rattle.desk_law.proofs.Entries.{among-found, filter-among, numbers-replaced}
 use Rattle.desk_law.proofs.Waiting.{number-of, has-number}
 use Rattle.desk_law.proofs.Contest.{breaks-keep, left_over, without}
@@ -36,7 +36,7 @@ left-active desk gone other inside =
 
 -- one that ended itself
 own-ended : (before : List ℕ) (gone : ℕ) (desk : Desk) (counts : Counts) (turning : Turning) → AreKept before desk counts
-    → (desk_of turning).active ≡ filter (λ (entry : Entry). not (entry.number == gone)) desk.active → (turn_counts turning).cycles ≡ counts.cycles → ends_own turning ≡ true
+    → (turn_desk turning).active ≡ filter (λ (entry : Entry). not (entry.number == gone)) desk.active → (turn_counts turning).cycles ≡ counts.cycles → ends_own turning ≡ true
     → AreAccounted before gone turning
 own-ended before gone desk counts turning kept active cycles ends other inside = elim (kept other inside) [
   | inl there ↦ elim (left-active desk gone other there) [

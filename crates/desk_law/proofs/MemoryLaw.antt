@@ -1,5 +1,5 @@
 -- The law of isolation.
-use Rattle.desk_law.proofs.Common.{◌≤◌, ◌≡◌, refl, ℕ, zero, suc, ◌+◌, ◌<◌, ◌==◌, ◌||◌, nat_lt, not, if◌then◌else◌, Bool, true, false, List, [], ◌∷◌, ◌++◌, length, map, find, Option, Some, None, slice_get, flat_map, range_with_len, arith, ap, sym, ◌∙◌, subst, inl, inr, eqb-true, eq-eqb, ne_eqb, ltb-true, or_cases, or_left, or_right, not_from_false, cond-false, FlatStore, IsWhole, line_count, has, Plain, Program, start, after, Event, Begin, Turn, Checkpoint, Crash, Desk, Entry, opened, numbers, Word, Fine, ReadFailed, Unwritten, Doubt, Failed, Counts, Turning, Going, Over, Idle, Committed, Attempt, instruction, turns, turn_of, no_counts, Turned, Busy, Nothing, turned, begin_if, begins, absent_segment, restarted, event_of, step, run, gone_on, row_done, IsAmong, IsConsistent, current_of, current_bytes, desk_of, Machine, Memory, first_machine, with_machine, given_back, row_of, after_instruction, after_turns, after_event, memory_after, memory_of, IsAlone, IsMemory, FindTheirOwn, RunsAreIsolated, CommitsTellTheMachine, SideBySideIsSerial, IsOrderly}
+use Rattle.desk_law.proofs.Common.{◌≤◌, ◌≡◌, refl, ℕ, zero, suc, ◌+◌, ◌<◌, ◌==◌, ◌||◌, nat_lt, not, if◌then◌else◌, Bool, true, false, List, [], ◌∷◌, ◌++◌, length, map, find, Option, Some, None, slice_get, flat_map, range_with_len, arith, ap, sym, ◌∙◌, subst, inl, inr, eqb-true, eq-eqb, ne_eqb, ltb-true, or_cases, or_left, or_right, not_from_false, cond-false, FlatStore, IsWhole, line_count, has, Plain, Program, start, after, Event, Begin, Turn, Checkpoint, Crash, Desk, Entry, opened, numbers, Word, Fine, ReadFailed, Unwritten, Doubt, Failed, Counts, Turning, Going, Over, Idle, Committed, Attempt, instruction, turns, turn_of, no_counts, Turned, Busy, Nothing, turned, begin_if, begins, absent_segment, restarted, event_of, step, run, gone_on, row_done, IsAmong, IsConsistent, current_of, current_bytes, turn_desk, Machine, Memory, first_machine, with_machine, given_back, row_of, after_instruction, after_turns, after_event, memory_after, memory_of, IsAlone, IsMemory, FindTheirOwn, RunsAreIsolated, CommitsTellTheMachine, SideBySideIsSerial, IsOrderly}
 use Rattle.flat_machine.proofs.Whole.{serial-whole}
 use Rattle.desk.specs.Commits.{begun, IsSerial}
 use Rattle.desk.specs.Report.{event_lines}
@@ -124,7 +124,7 @@ module _ (old : Desk) (attempt : Attempt) (is : IsOrderly old) (here : IsAmong o
 abbrev pub TurnMemory : ℕ → Turning → Memory → Type 0
 TurnMemory number (Over desk counts (Committed steps printed)) memory =
     IsMemory desk memory × ((machine : Machine) × (memory.machines number ≡ Some machine) × (machine.state.out ≡ printed))
-TurnMemory number turning memory = IsMemory (desk_of turning) memory
+TurnMemory number turning memory = IsMemory (turn_desk turning) memory
 
 an-instruction : (old : Desk) (attempt : Attempt) (most : ℕ) (memory : Memory) (turning : Turning) → IsOrderly old → IsAmong old.active attempt.entry
     → after attempt.entry.runs.program attempt.entry.runs.args old.committed attempt.entry.rows ≡ Some attempt.now
@@ -135,7 +135,7 @@ an-instruction old attempt most memory (Over desk counts (Committed steps printe
     (the-commit old attempt is here at desk memory steps printed did of, told old attempt is here at memory printed of did.printed_is)
 an-instruction old attempt most memory (Over desk counts _) is here at stays did of = no-row old attempt is here at desk memory stays.0 did of
 
-memory-of-turn : (number : ℕ) (turning : Turning) (memory : Memory) → TurnMemory number turning memory → IsMemory (desk_of turning) memory
+memory-of-turn : (number : ℕ) (turning : Turning) (memory : Memory) → TurnMemory number turning memory → IsMemory (turn_desk turning) memory
 memory-of-turn number (Over desk counts (Committed steps printed)) memory of = of.0
 memory-of-turn number _ memory of = of
 
@@ -242,7 +242,7 @@ own-turn word number limit desk memory entry is found of =
     let (here, passes) = among-found (λ (entry : Entry). entry.number == number) desk.active entry found in
     memory-turns word number (length desk.active) limit (Going desk no_counts) memory (orderly desk is, (entry, here, eqb-true entry.number number passes), omega arith) of
 
-turned-desk : (activation : ℕ) (turning : Turning) → (turned activation turning).desk ≡ desk_of turning
+turned-desk : (activation : ℕ) (turning : Turning) → (turned activation turning).desk ≡ turn_desk turning
 turned-desk activation (Over desk counts ending) = refl
 turned-desk activation (Going desk counts) = refl
 

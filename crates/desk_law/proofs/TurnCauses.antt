@@ -1,5 +1,5 @@
 -- Each end of a turn has its cause.
-use Rattle.desk_law.proofs.Common.{◌≡◌, refl, ℕ, zero, suc, ◌+◌, ◌<◌, ◌==◌, if◌then◌else◌, Bool, true, false, List, [], ◌∷◌, ◌++◌, length, find, Option, Some, None, arith, ap, sym, ◌∙◌, subst, eqb-true, ltb-true, has, size, brought, shown_cycle, victim_of, Plain, Outcome, On, Commit, Check, row, after, touched_within, touched_next, Desk, Entry, with_entry, conflicts_of, numbers, waits_for, Word, ReadFailed, Unwritten, Doubt, Counts, Turning, Going, Over, Idle, Limit, Checked, Journal, Disk, Victim, Waits, Committed, CommitUnwritten, CommitDoubted, Attempt, Fetching, Fetched, Broken, Contest, Contested, Settled, Lost, attempts, attempts_at, instruction, turns, turn_of, no_counts, can't_be_read, fetches, limited, is_over_limit, lines_written, fetched_first, fetches_touched, asks, gets, goes_on, takes_effect, commits, contest_ends, waits_or_gets, with_grants, refused_pages, breaks_cycle, breaks_cycles, RowIs, lines_by, waiting_after, HasCause, IsOverFor, TurnsEndForCause, desk_of, gone_on, IsAmong, IsConsistent}
+use Rattle.desk_law.proofs.Common.{◌≡◌, refl, ℕ, zero, suc, ◌+◌, ◌<◌, ◌==◌, if◌then◌else◌, Bool, true, false, List, [], ◌∷◌, ◌++◌, length, find, Option, Some, None, arith, ap, sym, ◌∙◌, subst, eqb-true, ltb-true, has, size, brought, shown_cycle, victim_of, Plain, Outcome, On, Commit, Check, row, after, touched_within, touched_next, Desk, Entry, with_entry, conflicts_of, numbers, waits_for, Word, ReadFailed, Unwritten, Doubt, Counts, Turning, Going, Over, Idle, Limit, Checked, Journal, Disk, Victim, Waits, Committed, CommitUnwritten, CommitDoubted, Attempt, Fetching, Fetched, Broken, Contest, Contested, Settled, Lost, attempts, attempts_at, instruction, turns, turn_of, no_counts, can't_be_read, fetches, limited, is_over_limit, lines_written, fetched_first, fetches_touched, asks, gets, goes_on, takes_effect, commits, contest_ends, waits_or_gets, with_grants, refused_pages, breaks_cycle, breaks_cycles, RowIs, lines_by, waiting_after, EndsForCause, IsOverFor, TurnsEndForCause, turn_desk, gone_on, IsAmong, IsConsistent}
 use Rattle.desk_law.proofs.Entries.{found-among, new-among}
 use Rattle.desk_law.proofs.Contest.{breaks-keep, left_over}
 use Rattle.desk_law.proofs.ContestRounds.{asker-left}
@@ -187,7 +187,7 @@ record Under (limit left : ℕ) (start : Desk) (first : Entry) (desk : Desk) (co
 
 abbrev IsUnder : Word → (limit left : ℕ) → Desk → Entry → Turning → Type 0
 IsUnder word limit left start first (Going desk counts) = Under limit left start first desk counts
-IsUnder word limit left start first (Over desk counts ending) = HasCause word limit start first desk counts ending
+IsUnder word limit left start first (Over desk counts ending) = EndsForCause word limit start first desk counts ending
 
 -- from one instruction to the turn
 module _ (word : Word) (limit left : ℕ) (start : Desk) (first : Entry) (desk : Desk) (counts : Counts) (under : Under limit (suc left) start first desk counts) (now : Plain)
@@ -208,7 +208,7 @@ module _ (word : Word) (limit left : ℕ) (start : Desk) (first : Entry) (desk :
   its-waiting : (ran : ℕ) → ran ≡ counts.ran → record under.entry { waiting = true } ≡ waiting_after first ran
   its-waiting ran same = λ i. record { number = under.number i; runs = under.runs i; rows = (under.rows ∙ ap (λ (n : ℕ). first.rows + n) (sym same)) i; waiting = true }
 
-  cause-instruction : (turning : Turning) → IsConsistent (desk_of turning) → Comes word (attempt_of desk under.entry now) desk counts turning → IsUnder word limit left start first turning
+  cause-instruction : (turning : Turning) → IsConsistent (turn_desk turning) → Comes word (attempt_of desk under.entry now) desk counts turning → IsUnder word limit left start first turning
   cause-instruction (Going later more) is comes = record {
     is = is;
     committed = comes.1 ∙ under.committed;

@@ -29,30 +29,30 @@ abbrev pub waiting_after : Entry → (ran : ℕ) → Entry
 waiting_after entry ran = record entry { rows = entry.rows + ran; waiting = true }
 
 -- the cause of an end, by the desk and the entry at the turn's begin and the desk at its end
-abbrev pub HasCause : Word → (limit : ℕ) → Desk → Entry → (later : Desk) → Counts → Ending → Type 0
-HasCause word limit desk entry later counts Idle = ⊥
-HasCause word limit desk entry later counts Limit = counts.ran ≡ limit
-HasCause word limit desk entry later counts (Checked code address) =
+abbrev pub EndsForCause : Word → (limit : ℕ) → Desk → Entry → (later : Desk) → Counts → Ending → Type 0
+EndsForCause word limit desk entry later counts Idle = ⊥
+EndsForCause word limit desk entry later counts Limit = counts.ran ≡ limit
+EndsForCause word limit desk entry later counts (Checked code address) =
     (now : Plain) × RowIs desk.committed entry counts.ran now (Check code) × (address ≡ now.iar)
-HasCause word limit desk entry later counts (Journal lines most) =
+EndsForCause word limit desk entry later counts (Journal lines most) =
     (lines ≡ lines_by desk.committed entry counts.ran) × (most ≡ desk.most_lines) × (most < lines)
-HasCause word limit desk entry later counts Disk = word ≡ ReadFailed counts.pages
-HasCause word limit desk entry later counts Victim =
+EndsForCause word limit desk entry later counts Disk = word ≡ ReadFailed counts.pages
+EndsForCause word limit desk entry later counts Victim =
     (front : List (List ℕ)) × (cycle : List ℕ) × (counts.cycles ≡ front ++ cycle ∷ []) × (victim_of cycle ≡ entry.number)
-HasCause word limit desk entry later counts (Waits holders) =
+EndsForCause word limit desk entry later counts (Waits holders) =
     IsAmong later.active (waiting_after entry counts.ran)
     × (conflicts_of later (waiting_after entry counts.ran) ≡ holders)
     × (holders ≡ [] → ⊥)
-HasCause word limit desk entry later counts (Committed steps printed) =
+EndsForCause word limit desk entry later counts (Committed steps printed) =
     (ran : ℕ) × (counts.ran ≡ ran + 1) × (steps ≡ entry.rows + ran + 1)
     × ((now : Plain) × RowIs desk.committed entry ran now Commit × (printed ≡ now.out))
-HasCause word limit desk entry later counts CommitUnwritten = (word ≡ Unwritten) × ((now : Plain) × RowIs desk.committed entry counts.ran now Commit)
-HasCause word limit desk entry later counts CommitDoubted = (word ≡ Doubt) × ((now : Plain) × RowIs desk.committed entry counts.ran now Commit)
+EndsForCause word limit desk entry later counts CommitUnwritten = (word ≡ Unwritten) × ((now : Plain) × RowIs desk.committed entry counts.ran now Commit)
+EndsForCause word limit desk entry later counts CommitDoubted = (word ≡ Doubt) × ((now : Plain) × RowIs desk.committed entry counts.ran now Commit)
 
 -- a turn is over, for its cause
 abbrev pub IsOverFor : Word → (limit : ℕ) → Desk → Entry → Turning → Type 0
 IsOverFor word limit desk entry (Going later counts) = ⊥
-IsOverFor word limit desk entry (Over later counts ending) = HasCause word limit desk entry later counts ending
+IsOverFor word limit desk entry (Over later counts ending) = EndsForCause word limit desk entry later counts ending
 
 -- The law: each end of a turn of an active entry has its cause. At a limit so many rows were done; at a check and at a commit the row is
 -- that one; a journal's lines are more than a record may have; a page that can't be read is the last one counted; a victim is that of the last
@@ -63,9 +63,9 @@ TurnsEndForCause =
     → IsOverFor word limit desk entry (turn word entry.number limit desk)
 
 -- the desk and the counts of a turn, and whether it is over by an end of its own activation
-abbrev pub desk_of : Turning → Desk
-desk_of (Going desk counts) = desk
-desk_of (Over desk counts ending) = desk
+abbrev pub turn_desk : Turning → Desk
+turn_desk (Going desk counts) = desk
+turn_desk (Over desk counts ending) = desk
 
 abbrev pub turn_counts : Turning → Counts
 turn_counts (Going desk counts) = counts
@@ -81,7 +81,7 @@ ends_own _ = false
 -- a number is that of an active entry still, or of the victim of a cycle that the turn recorded, or it is the turn's own, which ended itself
 abbrev pub IsAccounted : (number : ℕ) → Turning → ℕ → Type 0
 IsAccounted number turning other =
-    IsTrue (has (numbers (desk_of turning)) other)
+    IsTrue (has (numbers (turn_desk turning)) other)
     ⊎ (IsTrue (has (map victim_of (turn_counts turning).cycles) other)
     ⊎ (IsTrue (other == number) × IsTrue (ends_own turning)))
 

@@ -80,10 +80,10 @@ EachWaits waits (one ∷ []) = Unit {0}
 EachWaits waits (one ∷ other ∷ rest) = IsTrue (waits one other) × EachWaits waits (other ∷ rest)
 
 -- what a contest has counted
-abbrev pub counts_of : Contest → Counts
-counts_of (Contested desk counts) = counts
-counts_of (Settled desk counts) = counts
-counts_of (Lost desk counts) = counts
+abbrev pub contest_counts : Contest → Counts
+contest_counts (Contested desk counts) = counts
+contest_counts (Settled desk counts) = counts
+contest_counts (Lost desk counts) = counts
 
 -- The law: where the cycle of a number is broken, it is recorded behind those before it, it begins with the number, and each of its members
 -- waits for the next at the desk at which it was found. Where there is none, nothing is recorded.
@@ -91,9 +91,9 @@ abbrev pub BrokenCyclesWere : Type 0
 BrokenCyclesWere =
     (number : ℕ) (desk : Desk) (counts : Counts)
     → ((cycle : List ℕ) → shown_cycle (waits_for desk) (numbers desk) number ≡ Some cycle
-    → ((counts_of (breaks_cycle number (Some cycle) desk counts)).cycles ≡ counts.cycles ++ cycle ∷ [])
+    → ((contest_counts (breaks_cycle number (Some cycle) desk counts)).cycles ≡ counts.cycles ++ cycle ∷ [])
     × ((rest : List ℕ) × (cycle ≡ number ∷ rest)) × EachWaits (waits_for desk) cycle)
-    × (counts_of (breaks_cycle number None desk counts) ≡ counts)
+    × (contest_counts (breaks_cycle number None desk counts) ≡ counts)
 
 -- the last of a list is this number
 abbrev pub EndsWith : ℕ → List ℕ → Type 0

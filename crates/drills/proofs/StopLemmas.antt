@@ -1,5 +1,5 @@
 -- What a run leaves on a disk that stops.
-use Rattle.drills.proofs.Common.{◌≡◌, ℕ, ◌+◌, ◌*◌, ◌%◌, ◌≤◌, ◌<◌, ◌⊎◌, inl, inr, Bool, true, false, List, [], ◌∷◌, ◌++◌, length, map, take, rules, cond, refl, sym, ◌∙◌, ap, subst, arith, append-nil, Option, Some, None, ◌↔◌, ◌^◌, IfOk, OnOk, Result, Ok, Err, IsSome, unwrap_or, count_by, not, nat_lt, if◌then◌else◌, length-map, take_all, length-filter, sum_by-append, Ghosts, Rose, FewerLater, held_of, disk_calls, disk_first, disk_images, disk_moment, images_at, FlatStore, Program, Header, header_of, total, fields, first_fault, most_lines, Standing, Stands, NotAStore, stands, standing_by, standing_if, chosen, Event, Committed, order_told, commits_seen, Job, Status, Stop, IsLeft, IsStop, all_fine, fine_order, ByOpening, HasRun, HasRunFrom, HappenedTo, Refused, StoodForNone, Untouched, job_desk, call, StandsAt}
+use Rattle.drills.proofs.Common.{◌≡◌, ℕ, ◌+◌, ◌*◌, ◌%◌, ◌≤◌, ◌<◌, ◌⊎◌, inl, inr, Bool, true, false, List, [], ◌∷◌, ◌++◌, length, map, take, rules, cond, refl, sym, ◌∙◌, ap, subst, arith, append-nil, Option, Some, None, ◌↔◌, ◌^◌, IfOk, OnOk, Result, Ok, Err, IsSome, unwrap_or, count_by, not, nat_lt, if◌then◌else◌, length-map, take_all, length-filter, sum_by-append, Ghosts, Rose, FewerLater, held_of, disk_calls, disk_first, disk_images, disk_moment, images_at, FlatStore, Program, Header, header_of, total, fields, first_fault, most_lines, Standing, Stands, NotAStore, stands, standing_by, standing_if, chosen, Event, Committed, order_told, commits_seen, Job, Status, Stop, IsLeft, IsStop, all_fine, fine_order, ByOpening, JobHasRun, HasRunFrom, HappenedTo, Refused, StoodForNone, Untouched, job_desk, call, StandsAt}
 use Rattle.std.specs.Option.{option_and_then}
 use Rattle.outside.specs.Bytes.{AreTold}
 use Rattle.outside.specs.declared.memory_disk.MemoryDisk.{MemoryDisk}
@@ -90,7 +90,7 @@ module _ {W : Type 0} (G : Ghosts W) (job : Job) (number : ℕ) (store : FlatSto
   commits = begun job.programs.items job.events.items
 
   -- a run leaves the first commits
-  first-left : (status : Status) → FewerLater G → PrintedNow G → HeldNow G → HasRun G job number store (call before after order status) session
+  first-left : (status : Status) → FewerLater G → PrintedNow G → HeldNow G → JobHasRun G job number store (call before after order status) session
       → (image seen : List ℕ) → G.held after ≡ Some image → G.printed before ≡ Some [] → G.printed after ≡ Some seen → IsPrefix commits number store order [] image seen
   first-left status fewer_later printed_now held_now ran image printed holds nothing prints =
       let (seen, left) = held_now after image holds in
@@ -101,7 +101,7 @@ module _ {W : Type 0} (G : Ghosts W) (job : Job) (number : ℕ) (store : FlatSto
       (ran.seen told image seen (fewer_later after (G.moment before) (G.moment after) image seen ran.time.later left)))
 
   -- where nothing failed all events were fine
-  order-fine : (status : Status) → HasRun G job number store (call before after order status) session → status ≡ Status.Done → (Rose (G.disk_faults before) (G.disk_faults after) → ⊥) → order ≡ fine_order job (held_of G before) store
+  order-fine : (status : Status) → JobHasRun G job number store (call before after order status) session → status ≡ Status.Done → (Rose (G.disk_faults before) (G.disk_faults after) → ⊥) → order ≡ fine_order job (held_of G before) store
   order-fine status ran done calm =
       let taken = ran.ran.taken in
       let none : faulted taken ≡ 0 = ran.ran.all_fine calm in
@@ -111,13 +111,13 @@ module _ {W : Type 0} (G : Ghosts W) (job : Job) (number : ℕ) (store : FlatSto
       ran.ran.order_is ∙ ap (λ (desk : Desk). desk.order) ran.ran.end_is ∙ ap (λ (events : List (Event × Word)). (run job.programs.items events (job_desk job (held_of G before) store)).order) are
 
   -- and two writes were made for each commit
-  writes-made : (status : Status) → HasRun G job number store (call before after order status) session → status ≡ Status.Done → WritesMore (G.writes before) (G.writes after) (2 * length order)
+  writes-made : (status : Status) → JobHasRun G job number store (call before after order status) session → status ≡ Status.Done → WritesMore (G.writes before) (G.writes after) (2 * length order)
   writes-made status ran done =
       let each : length order ≡ count_by is_commit ran.ran.lines = lines-of-commits commits number store order ran.ran.lines _ _ (ran.still_open done) ran.ran.serial_run in
       subst (λ (n : ℕ). WritesMore (G.writes before) (G.writes after) (2 * n)) (sym each) ran.ran.to.writes
 
   -- what ran
-  left-by : (status : Status) → FewerLater G → PrintedNow G → HeldNow G → HasRun G job number store (call before after order status) session → IsLeft G job number store (call before after order status)
+  left-by : (status : Status) → FewerLater G → PrintedNow G → HeldNow G → JobHasRun G job number store (call before after order status) session → IsLeft G job number store (call before after order status)
   left-by status fewer_later printed_now held_now ran = record {
     first = first-left status fewer_later printed_now held_now ran;
     all = λ done. ran.ran.leaves (ran.still_open done);

@@ -19,7 +19,7 @@ pub use Rattle.owned_list.proofs.Overlay.{length-overlaid}
 pub use Rattle.owned_list.specs.Overlay.{overlaid}
 pub use Rattle.frame_pool.specs.Places.{CameIn, Places, frame_of_index, index_out, left, place_of}
 pub use Rattle.frame_pool.specs.PlacesView.{places_of}
-pub use Rattle.frame_pool.specs.Pool.{Brought, emptied, frame_at, frame_bytes, gone, kept_after, laid, line_kept, line_laid, marked_in, marks_at, page_at, page_out, with_bytes, with_marks, with_room}
+pub use Rattle.frame_pool.specs.Pool.{Brought, emptied, frame_at, frame_bytes, gone, paging_after, laid, line_kept, line_laid, marked_in, marks_at, page_at, page_out, with_bytes, with_marks, with_room}
 pub use Rattle.frame_pool.specs.Seen.{IsSeen}
 pub use Rattle.frame_pool.specs.Sizes.{frame_count, line_place, line_size, private_frames}
 pub use Rattle.frame_pool.specs.Sound.{IsOfStore, IsPlaced, IsSized, IsSound, is_apart}

@@ -1,5 +1,5 @@
 -- What a step of the pool needs and leaves.
-use Rattle.frame_pool.proofs.Common.{◌≡◌, ℕ, zero, suc, ◌+◌, ◌*◌, ◌<◌, ◌≤◌, Bool, true, false, List, [], ◌∷◌, ◌++◌, length, refl, sym, ◌∙◌, ap, arith, Some, None, All, vec_len, ◌==◌, ◌||◌, not, cond, nat_lt, position, find, fold, remove, IfSome, slice_index, slice_set, if◌then◌else◌, Option, is_some, unwrap_or, option_to_list, prefix_len, list_any, option_map_or, overlaid, ltb-false, nat_tests, All-from_get_or, position-Some, page_bytes, IsOfPage, has, first_out, taken_out, FramePool, Pool, private_frames, frame_count, Places, left, index_out, CameIn, places_of, is_apart, frame_at, page_at, marks_at, frame_bytes, kept_after, gone, page_out, with_room, Brought, emptied, pool_of}
+use Rattle.frame_pool.proofs.Common.{◌≡◌, ℕ, zero, suc, ◌+◌, ◌*◌, ◌<◌, ◌≤◌, Bool, true, false, List, [], ◌∷◌, ◌++◌, length, refl, sym, ◌∙◌, ap, arith, Some, None, All, vec_len, ◌==◌, ◌||◌, not, cond, nat_lt, position, find, fold, remove, IfSome, slice_index, slice_set, if◌then◌else◌, Option, is_some, unwrap_or, option_to_list, prefix_len, list_any, option_map_or, overlaid, ltb-false, nat_tests, All-from_get_or, position-Some, page_bytes, IsOfPage, has, first_out, taken_out, FramePool, Pool, private_frames, frame_count, Places, left, index_out, CameIn, places_of, is_apart, frame_at, page_at, marks_at, frame_bytes, paging_after, gone, page_out, with_room, Brought, emptied, pool_of}
 use Rattle.line_geometry.proofs.LineSetLemmas.{of_page-below}
 use Rattle.frame_pool.proofs.ApartLemmas.{first-apart, turned, differs, has-at, has-push_last, or_none}
 use Rattle.frame_pool.proofs.SoundLemmas.{resident-in_frame, page-within, frame-of_store, page_part}
@@ -50,7 +50,7 @@ pub gone-from :
       resident = taken_out (page ∷ []) pool.resident;
       frame_of = slice_set pool.frame_of page None;
       page_in = slice_set pool.page_in frame None;
-      kept = kept_after pool page frame;
+      kept = paging_after pool page frame;
     }
 gone-from pool page frame there =
     ap
@@ -59,7 +59,7 @@ gone-from pool page frame there =
       resident = taken_out (page ∷ []) pool.resident;
       frame_of = slice_set pool.frame_of page None;
       page_in = slice_set pool.page_in f None;
-      kept = kept_after pool page f;
+      kept = paging_after pool page f;
     }) o pool)
     there
 
@@ -88,16 +88,16 @@ frame-part p frame below = omega (arith, page_part frame (frame_count p.places.p
 pub left-gone :
     (p : FramePool) (index page frame : ℕ) (after : Places) (kept : List ℕ) → index < length p.places.resident.items
     → page ≡ slice_index p.places.resident.items index → frame_at (pool_of p) page ≡ Some frame
-    → after ≡ left (places_of p.places) index page frame → kept ≡ kept_after (pool_of p) page frame
+    → after ≡ left (places_of p.places) index page frame → kept ≡ paging_after (pool_of p) page frame
     → shown after p.bytes.items.items p.marked.items kept ≡ gone (pool_of p) page
 left-gone p index page frame after kept below is there places keeps =
     ap (λ (list : List ℕ). shown after p.bytes.items.items p.marked.items list) keeps
-    ∙ ap (λ (now : Places). shown now p.bytes.items.items p.marked.items (kept_after (pool_of p) page frame)) places
+    ∙ ap (λ (now : Places). shown now p.bytes.items.items p.marked.items (paging_after (pool_of p) page frame)) places
     ∙ ap (λ (list : List ℕ). record (pool_of p) {
       resident = list;
       frame_of = slice_set p.places.frame_of.items page None;
       page_in = slice_set p.places.page_in.items frame None;
-      kept = kept_after (pool_of p) page frame;
+      kept = paging_after (pool_of p) page frame;
     }) (removed-taken p.places.resident.items index p.places.sound.placed.pages_apart below
     ∙ ap (λ (n : ℕ). taken_out (n ∷ []) p.places.resident.items) (sym is))
     ∙ sym (gone-from (pool_of p) page frame there)
@@ -132,7 +132,7 @@ gone-none p page absent = by_frame (frame_at (pool_of p) page) (sym (p.places.so
           resident = taken_out (page ∷ []) p.places.resident.items;
           frame_of = slice_set p.places.frame_of.items page None;
           page_in = slice_set p.places.page_in.items frame None;
-          kept = kept_after (pool_of p) page frame;
+          kept = paging_after (pool_of p) page frame;
         }) o (pool_of p) ≡ pool_of p
     by_frame None none = refl
     by_frame (Some frame) none = absurd (cc)
@@ -201,7 +201,7 @@ lines-below set is = All-from_get_or (λ line. line < 16) set 0 (λ i below. of_
 -- paging space after a page left, as it was computed
 pub kept-after_by :
     (p : FramePool) (page frame at : ℕ) (marks part kept : List ℕ) → marks ≡ marks_at (pool_of p) page → at ≡ page * page_bytes p.places.page
-    → part ≡ frame_bytes (pool_of p) frame → kept ≡ (if length marks == 0 then p.kept else overlaid p.kept at part) → kept ≡ kept_after (pool_of p) page frame
+    → part ≡ frame_bytes (pool_of p) frame → kept ≡ (if length marks == 0 then p.kept else overlaid p.kept at part) → kept ≡ paging_after (pool_of p) page frame
 kept-after_by p page frame at marks part kept marked place bytes is =
     is ∙ ap (λ (list : List ℕ). if length list == 0 then p.kept else overlaid p.kept at part) marked
     ∙ ap (λ (n : ℕ). if length (marks_at (pool_of p) page) == 0 then p.kept else overlaid p.kept n part) place
@@ -217,13 +217,13 @@ gone-sizes pool page = by_frame (frame_at pool page)
           resident = taken_out (page ∷ []) pool.resident;
           frame_of = slice_set pool.frame_of page None;
           page_in = slice_set pool.page_in frame None;
-          kept = kept_after pool page frame;
+          kept = paging_after pool page frame;
         }) o pool).page ≡ pool.page)
         × ((option_map_or (λ frame. record pool {
           resident = taken_out (page ∷ []) pool.resident;
           frame_of = slice_set pool.frame_of page None;
           page_in = slice_set pool.page_in frame None;
-          kept = kept_after pool page frame;
+          kept = paging_after pool page frame;
         }) o pool).frames ≡ pool.frames)
     by_frame None = (refl, refl)
     by_frame (Some frame) = (refl, refl)

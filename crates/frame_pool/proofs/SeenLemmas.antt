@@ -1,5 +1,5 @@
 -- What holds of every pool, and stays where a page leaves.
-use Rattle.frame_pool.proofs.Common.{◌==◌, ◌&&◌, ◌||◌, not, if◌then◌else◌, slice_index_or, slice_set, is_some, option_map_or, cases_lt, cases_eq, eq-eqb, ne_eqb, length-set, get_or-set_same, get_or-set_other, get_or_past, length-take, length-drop, overlaid, length-overlaid, page_bytes, has, taken_out, has-filter, IsSeen, frame_count, pool_of, frame_at, page_at, marks_at, frame_bytes, kept_after, gone, Pool, FramePool}
+use Rattle.frame_pool.proofs.Common.{◌==◌, ◌&&◌, ◌||◌, not, if◌then◌else◌, slice_index_or, slice_set, is_some, option_map_or, cases_lt, cases_eq, eq-eqb, ne_eqb, length-set, get_or-set_same, get_or-set_other, get_or_past, length-take, length-drop, overlaid, length-overlaid, page_bytes, has, taken_out, has-filter, IsSeen, frame_count, pool_of, frame_at, page_at, marks_at, frame_bytes, paging_after, gone, Pool, FramePool}
 use Rattle.std.proofs.Common.{◌≡◌, ◌≢◌, ℕ, ◌*◌, ◌<◌, ◌≤◌, Bool, true, false, List, [], ◌∷◌, length, refl, sym, ◌∙◌, ap, subst, arith, Option, Some, None, ◌⊎◌, inl, inr}
 use Rattle.frame_pool.proofs.SoundLemmas.{page_part}
 use Rattle.frame_pool.proofs.PoolLemmas.{gone-from}
@@ -52,7 +52,7 @@ gone-frame pool page other = by_frame (frame_at pool page) refl
           resident = taken_out (page ∷ []) pool.resident;
           frame_of = slice_set pool.frame_of page None;
           page_in = slice_set pool.page_in frame None;
-          kept = kept_after pool page frame;
+          kept = paging_after pool page frame;
         }) o pool) other) is
         ∙ by_test (cases_eq page other)
       where
@@ -77,7 +77,7 @@ gone-stays pool page = by_frame (frame_at pool page)
           resident = taken_out (page ∷ []) pool.resident;
           frame_of = slice_set pool.frame_of page None;
           page_in = slice_set pool.page_in frame None;
-          kept = kept_after pool page frame;
+          kept = paging_after pool page frame;
         }) o pool)
     by_frame None = record { page = refl; frames = refl; bytes = refl; marked = refl; frame_of = refl }
     by_frame (Some frame) = record { page = refl; frames = refl; bytes = refl; marked = refl; frame_of = length-set pool.frame_of page None }
@@ -88,7 +88,7 @@ module _ (pool : Pool) (seen : IsSeen pool) (page frame : ℕ) (there : frame_at
     resident = taken_out (page ∷ []) pool.resident;
     frame_of = slice_set pool.frame_of page None;
     page_in = slice_set pool.page_in frame None;
-    kept = kept_after pool page frame;
+    kept = paging_after pool page frame;
   }
 
   inside : page < length pool.frame_of
@@ -102,7 +102,7 @@ module _ (pool : Pool) (seen : IsSeen pool) (page frame : ℕ) (there : frame_at
       let part = page_part frame (frame_count pool.page pool.frames) (page_bytes pool.page) within in
       simp (length-take, length-drop) (omega (arith, part, seen.bytes))
 
-  kept-long : length (kept_after pool page frame) ≡ length pool.kept
+  kept-long : length (paging_after pool page frame) ≡ length pool.kept
   kept-long = by_marks (length (marks_at pool page) == 0)
     where
       by_marks : (b : Bool) → length (if b then pool.kept else overlaid pool.kept (page * page_bytes pool.page) (frame_bytes pool frame)) ≡ length pool.kept
@@ -170,7 +170,7 @@ seen-gone pool page seen = by_frame (frame_at pool page) refl
           resident = taken_out (page ∷ []) pool.resident;
           frame_of = slice_set pool.frame_of page None;
           page_in = slice_set pool.page_in frame None;
-          kept = kept_after pool page frame;
+          kept = paging_after pool page frame;
         }) o pool) is))
         seen
 
@@ -181,5 +181,5 @@ gone-absent pool page none =
       resident = taken_out (page ∷ []) pool.resident;
       frame_of = slice_set pool.frame_of page None;
       page_in = slice_set pool.page_in frame None;
-      kept = kept_after pool page frame;
+      kept = paging_after pool page frame;
     }) o pool) none

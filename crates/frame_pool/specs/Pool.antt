@@ -57,8 +57,8 @@ abbrev pub line_shown : Pool → (page line : ℕ) → List ℕ
 line_shown pool page line = option_map_or (λ frame. line_in_frame pool frame line) (frame_at pool page) (line_kept pool page line)
 
 -- paging space after a page left its frame: as it was where no line of the page is marked, else with the frame's bytes
-abbrev pub kept_after : Pool → (page frame : ℕ) → List ℕ
-kept_after pool page frame =
+abbrev pub paging_after : Pool → (page frame : ℕ) → List ℕ
+paging_after pool page frame =
     if length (marks_at pool page) == 0 then pool.kept else overlaid pool.kept (page * page_bytes pool.page) (frame_bytes pool frame)
 
 -- a page left its frame, if it was in one
@@ -69,7 +69,7 @@ gone pool page =
       resident = taken_out (page ∷ []) pool.resident;
       frame_of = slice_set pool.frame_of page None;
       page_in = slice_set pool.page_in frame None;
-      kept = kept_after pool page frame;
+      kept = paging_after pool page frame;
     })
     (frame_at pool page)
     pool

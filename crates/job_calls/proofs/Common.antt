@@ -39,10 +39,10 @@ pub use Rattle.schedule_replay.specs.declared.events.Replayed.{Replayed}
 pub use Rattle.store_format.specs.Header.{Header, header_of, most_lines, total}
 pub use Rattle.store_format.specs.Stands.{Standing, Stands, chosen}
 unfoldable pub use Rattle.store_format.specs.Stands.{stands}
-pub use Rattle.supervisor.specs.Opened.{HasStood, IsOpened}
-pub use Rattle.supervisor.specs.Session.{activity, desk_of, order_of}
+pub use Rattle.supervisor.specs.Opened.{HasStood, IsSessionOpened}
+pub use Rattle.supervisor.specs.Session.{activity, session_desk, order_of}
 pub use Rattle.supervisor.specs.contracts.supervisor.SessionSupervisor.TheImpl.{ghosts}
 pub use Rattle.supervisor.specs.declared.session.Session.{Session}
 pub use Rattle.job_calls.specs.Big.{HasBigRun, IsToldBy, Loaded, LoadedBy, RanBig, big_line, last_out, line_for}
 pub use Rattle.job_calls.specs.Causes.{OpensBy, status_of_replay}
-pub use Rattle.job_calls.specs.Headline.{DidBy, DoubtStands, Happened, HappenedTo, HasRun, HasRunFrom, RanJob, RunsFrom, job_desk, names_of, put_by}
+pub use Rattle.job_calls.specs.Headline.{DidBy, DoubtStands, Happened, HappenedTo, JobHasRun, HasRunFrom, RanJob, RunsFrom, job_desk, names_of, put_by}

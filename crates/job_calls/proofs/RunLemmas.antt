@@ -1,5 +1,5 @@
 -- What runs on the store that a disk stands for.
-use Rattle.job_calls.proofs.Common.{Result, Ok, Err, IsErr, IsSome, IsTrue, unwrap_or, Ghosts, Failed, AreTold, Prints, Rose, Elapses, OnlyAsks, FewerLater, Leaves, held_of, elapses-trans, leaves_on, FlatStore, Program, Activation, serial, header_of, most_lines, Standing, Stands, stands, Event, Desk, opened, Word, Doubt, run, faulted, IsRunOf, Line, line_text, Open, report, report_lines, event_lines, number_after, begun, IsSerial, IsOpened, activity, desk_of, order_of, Session, ghosts, Replayed, PrintsEarlier, HasOpened, InDoubt, text_of, Reports, Replays, PrintedNow, to_since, Job, Status, status_of_replay, Call, Given, call, StandsAt, DidBy, HasRun, HasRunFrom, DoubtStands, Happened, HappenedTo, RanJob, RunsFrom, put_by, names_of, job_desk}
+use Rattle.job_calls.proofs.Common.{Result, Ok, Err, IsErr, IsSome, IsTrue, unwrap_or, Ghosts, Failed, AreTold, Prints, Rose, Elapses, OnlyAsks, FewerLater, Leaves, held_of, elapses-trans, leaves_on, FlatStore, Program, Activation, serial, header_of, most_lines, Standing, Stands, stands, Event, Desk, opened, Word, Doubt, run, faulted, IsRunOf, Line, line_text, Open, report, report_lines, event_lines, number_after, begun, IsSerial, IsSessionOpened, activity, session_desk, order_of, Session, ghosts, Replayed, PrintsEarlier, HasOpened, InDoubt, text_of, Reports, Replays, PrintedNow, to_since, Job, Status, status_of_replay, Call, Given, call, StandsAt, DidBy, JobHasRun, HasRunFrom, DoubtStands, Happened, HappenedTo, RanJob, RunsFrom, put_by, names_of, job_desk}
 use Rattle.std.proofs.Common.{◌≡◌, ℕ, ◌+◌, ◌%◌, ◌^◌, inl, inr, Bool, true, false, List, [], ◌∷◌, ◌++◌, length, take, refl, sym, ◌∙◌, ap, subst, arith, append-nil, Option, Some, None}
 use Rattle.std.proofs.lemmas.Bool.{cases_lt}
 use Rattle.outside.proofs.Prints.{prints_well, prints_broken}
@@ -32,7 +32,7 @@ told-is None bytes some is = absurd (cc)
 told-is (Some those) bytes some is = is
 
 -- a desk opened on the bytes of a disk
-module _ {W : Type 0} (G : Ghosts W) (frames : ℕ) (before start : W) (desk : Session) (opens : IsOpened G frames before start desk) (asks : OnlyAsks G before start) where
+module _ {W : Type 0} (G : Ghosts W) (frames : ℕ) (before start : W) (desk : Session) (opens : IsSessionOpened G frames before start desk) (asks : OnlyAsks G before start) where
   abbrev pub first_desk : Desk
   first_desk = opened frames 16 (most_lines desk.store.header) opens.store
 
@@ -41,7 +41,7 @@ module _ {W : Type 0} (G : Ghosts W) (frames : ℕ) (before start : W) (desk : S
       let over = opens.shows.over in
       let same : held_of G start ≡ held_of G before = ap (λ (held : Option (List ℕ)). unwrap_or held []) asks.held in
       let number : number_of desk.store ≡ desk.opened = same-number (number_of desk.store) desk.opened (record { directory = desk.store.header.directory; bytes = over.committed }) opens.store (sym over.stood ∙ ap (λ (held : List ℕ). stands held) same ∙ opens.stood) in
-      let after : number_of desk.store ≡ number_after desk.opened (desk_of desk over.committed) = over.number in
+      let after : number_of desk.store ≡ number_after desk.opened (session_desk desk over.committed) = over.number in
       ap (λ (d : Desk). number_after desk.opened d) opens.shows.is ∙ sym after ∙ number
 
   pub has-opened : HasOpened ghosts G desk start first_desk
@@ -63,7 +63,7 @@ pub record Facts : Type 0 where
   pub number : ℕ
 
 module _ {W : Type 0} (G : Ghosts W) (fewer_later : FewerLater G) (printed_now : PrintedNow G) (job : Job) (before start after : W) (desk new : Session) (number : ℕ) (store : FlatStore)
-    (standing : StandsAt G before number store) (opens : IsOpened G job.frames before start desk) (asks : OnlyAsks G before start) (programs_are : (activity desk).programs ≡ job.programs.items) (same_opened : new.opened ≡ desk.opened)
+    (standing : StandsAt G before number store) (opens : IsSessionOpened G job.frames before start desk) (asks : OnlyAsks G before start) (programs_are : (activity desk).programs ≡ job.programs.items) (same_opened : new.opened ≡ desk.opened)
     (same_honest : G.is_honest after ≡ G.is_honest start) (time : Elapses G.moment G.left_since start after) (asks-calm : G.disk_faults start ≡ G.disk_faults before) where
   abbrev pub begins_with : Desk
   begins_with = job_desk job (held_of G before) store
@@ -238,7 +238,7 @@ module _ {W : Type 0} (G : Ghosts W) (fewer_later : FewerLater G) (printed_now :
 
     pub has_run : put_by now put → ((one two : Option (List ℕ)) (bytes : List ℕ) → Prints one two bytes result → Prints one two bytes put) → (IsErr result → IsErr put)
         → (now ≡ Status.Done → (new.closed ≡ false) × (reports.rest ≡ [])) → (now ≡ Status.DiskFault → new.closed ≡ true)
-        → HasRun G job number store (call before after (order_of new) now) (Some new)
+        → JobHasRun G job number store (call before after (order_of new) now) (Some new)
     has_run put_is turns fails ended shut = record {
       ran = runs-from names half now;
       named = refl;
@@ -261,7 +261,7 @@ module _ {W : Type 0} (G : Ghosts W) (fewer_later : FewerLater G) (printed_now :
 
 -- what was replayed on a desk that was opened, by how that ended
 module _ {W : Type 0} (G : Ghosts W) (fewer_later : FewerLater G) (printed_now : PrintedNow G) (job : Job) (before start after : W) (desk new : Session)
-    (opens : IsTrue (G.is_honest before) → IsSome (G.held before) → IsOpened G job.frames before start desk) (asks : OnlyAsks G before start) (programs_are : (activity desk).programs ≡ job.programs.items) (same_opened : new.opened ≡ desk.opened)
+    (opens : IsTrue (G.is_honest before) → IsSome (G.held before) → IsSessionOpened G job.frames before start desk) (asks : OnlyAsks G before start) (programs_are : (activity desk).programs ≡ job.programs.items) (same_opened : new.opened ≡ desk.opened)
     (same_honest : G.is_honest after ≡ G.is_honest start) (time : Elapses G.moment G.left_since start after) (asks-calm : G.disk_faults start ≡ G.disk_faults before)
     (result : Replayed) (replays : (first : Desk) → HasOpened ghosts G desk start first → Replays ghosts G (names_of job) (activity desk).programs desk.opened job.events.items first new start after result) where
   abbrev replayed-from : (number : ℕ) (store : FlatStore) (standing : StandsAt G before number store) → Replays ghosts G (names_of job) (activity desk).programs desk.opened job.events.items (first_desk G job.frames before start desk (opens standing.honest standing.told) asks) new start after result

@@ -10,16 +10,16 @@ use Rattle.call_status.specs.declared.status.Status.TheVariants as status
 use Rattle.call_status.specs.Statuses.{IsPastOpening}
 
 -- whether a session whose events ended with this status is closed; other statuses come with none
-abbrev pub ClosesBy : Status → Bool → Type 0
-ClosesBy status.Done closed = closed ≡ false
-ClosesBy status.PutFault closed = Unit {0}
-ClosesBy status.DiskFault closed = closed ≡ true
-ClosesBy (status.Store offset) closed = closed ≡ true
-ClosesBy _ closed = ⊥
+abbrev pub IsClosedAt : Status → Bool → Type 0
+IsClosedAt status.Done closed = closed ≡ false
+IsClosedAt status.PutFault closed = Unit {0}
+IsClosedAt status.DiskFault closed = closed ≡ true
+IsClosedAt (status.Store offset) closed = closed ≡ true
+IsClosedAt _ closed = ⊥
 
 -- a session is handed on with its order, closed as the status says; without one the events were not run to their end
 abbrev pub HandsOn : List (ℕ × ℕ) → Option Session → Status → Type 0
-HandsOn order (Some session) status = (order_of session ≡ order) × ClosesBy status (is_closed session)
+HandsOn order (Some session) status = (order_of session ≡ order) × IsClosedAt status (is_closed session)
 HandsOn order None status = IsPastOpening status → ⊥
 
 -- A session fits an outside: it is sound, the bytes that are told are enough for its store, and at most 10,000 turns were asked of it. So each of

@@ -79,7 +79,7 @@ pub record RunsFrom {W : Type 0} (G : Ghosts W) (job : Job) (number : ℕ) (stor
 
 -- The job was run from the store that the disk stood for, and the report of the run is printed: to the byte, or after a failed put a prefix of it with
 -- the first line and those of all events but the last.
-pub record HasRun {W : Type 0} (G : Ghosts W) (job : Job) (number : ℕ) (store : FlatStore) (call : Call W) (session : Option Session) : Type 0 where
+pub record JobHasRun {W : Type 0} (G : Ghosts W) (job : Job) (number : ℕ) (store : FlatStore) (call : Call W) (session : Option Session) : Type 0 where
   pub ran : RunsFrom G job number store call
   pub named : ran.names ≡ names_of job
   pub answered : session ≡ Some ran.session
@@ -100,7 +100,7 @@ pub record HasRun {W : Type 0} (G : Ghosts W) (job : Job) (number : ℕ) (store 
 
 -- the job was run, from whatever number and store the disk stood for
 abbrev pub HasRunFrom : {W : Type 0} → Ghosts W → Job → Call W → Option Session → Type 0
-HasRunFrom G job call session = (number : ℕ) (store : FlatStore) → StandsAt G call.before number store → HasRun G job number store call session
+HasRunFrom G job call session = (number : ℕ) (store : FlatStore) → StandsAt G call.before number store → JobHasRun G job number store call session
 
 -- a disk that stood for a store isn't found damaged
 abbrev pub StoodForNone : {W : Type 0} → Ghosts W → W → Type 0

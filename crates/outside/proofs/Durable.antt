@@ -1,5 +1,5 @@
 -- What a crash leaves of bytes that were sure.
-use Rattle.outside.proofs.Common.{Option, None, Some, unwrap_or, Ghosts, AreTold, Torn, Follows, Leaves, held_of}
+use Rattle.outside.proofs.Common.{Option, None, Some, unwrap_or, Ghosts, AreTold, Torn, LeavesStep, Leaves, held_of}
 use Rattle.std.proofs.Common.{◌≡◌, ℕ, List, [], refl, subst, IsSome}
 use Rattle.outside.specs.Durable.{IsSure}
 
@@ -16,7 +16,7 @@ pub leaves_held : {W : Type 0} (G : Ghosts W) (now : W) → IsSure G now → Lea
 leaves_held G now sure image seen left = told_is (G.held now) image sure.told (sure.durable image seen left)
 
 -- a crash in the first write leaves them, but for any bytes in its range
-pub torn_first : {W : Type 0} (G : Ghosts W) (old mid : W) (at count : ℕ) → IsSure G old → Follows (Torn at count) G.moment G.left_since old mid → Leaves G (λ image seen. Torn at count (held_of G old) image) old mid
+pub torn_first : {W : Type 0} (G : Ghosts W) (old mid : W) (at count : ℕ) → IsSure G old → LeavesStep (Torn at count) G.moment G.left_since old mid → Leaves G (λ image seen. Torn at count (held_of G old) image) old mid
 torn_first G old mid at count sure follows image seen left =
     let from = follows image seen left in
     subst (λ (these : List ℕ). Torn at count these image) (leaves_held G old sure from.0 seen from.1) from.2

@@ -1,5 +1,5 @@
 -- What the images of an append stand for.
-use Rattle.redo_journal.proofs.Common.{◌≡◌, inl, inr, ℕ, zero, suc, ◌+◌, ◌*◌, ◌-◌, ◌%◌, ◌^◌, ◌<◌, ◌≤◌, Bool, true, false, List, [], ◌∷◌, ◌++◌, length, take, drop, refl, sym, ◌∙◌, ap, subst, arith, slice_index, slice_set, option_map, drop-drop, take_all, take-set-le, drop-set-lt, length-set, get_or-set_same, length-take-le, line_count, PageSize, Which, Header, number_at, home_at, bank_at, entry_bytes, RecordLine, lines_from, wrong_line, record_bytes, area_of, IsStore, stands, one_more, same_number_at, same_lines, same_byte, later_front, shorter_front, Around, area_within, store_same, stands_same, stands_more, store_more, Ghosts, held_of, Inside, is_open, HasBody, IsSafe, KeptBank, place_of, end_of, area_end, begun_of, needed_end, with_record, noted, AreNewest, buffered, begun_count, begun_lines, kept_of, IsWhole, Tracks, IsEither, HoldsOneOf}
+use Rattle.redo_journal.proofs.Common.{◌≡◌, inl, inr, ℕ, zero, suc, ◌+◌, ◌*◌, ◌-◌, ◌%◌, ◌^◌, ◌<◌, ◌≤◌, Bool, true, false, List, [], ◌∷◌, ◌++◌, length, take, drop, refl, sym, ◌∙◌, ap, subst, arith, slice_index, slice_set, option_map, drop-drop, take_all, take-set-le, drop-set-lt, length-set, get_or-set_same, length-take-le, line_count, PageSize, Which, Header, number_at, home_at, bank_at, entry_bytes, RecordLine, lines_from, wrong_line, record_bytes, area_of, IsStore, stands, one_more, same_number_at, same_lines, same_byte, later_front, shorter_front, Around, area_within, store_same, stands_same, stands_more, store_more, Ghosts, held_of, Inside, is_open, HasBody, IsSafe, KeptBank, place_of, end_of, area_end, begun_of, needed_end, with_record, noted, AreNewest, buffered, begun_count, begun_lines, kept_of, IsWhole, TracksBank, IsEither, HoldsOneOf}
 use Rattle.std.specs.Prelude.{Option, None, Some, unwrap_or, IsSome, ◌==◌}
 use Rattle.store_format.specs.declared.header.Which.TheVariants.{A, B}
 use Rattle.store_format.specs.Body.{IsBody}
@@ -39,7 +39,7 @@ body_of page bound due gate count old new room long counted numbered lines close
       closed = same_byte (10 + entry_bytes page * count) (11 + entry_bytes page * count) (take (11 + entry_bytes page * count) new) new front (omega arith) ∙ closed;
     }
 
-pub make_ready : {W : Type 0} (G : Ghosts W) (bank : Inside) (outside : W) (tracks : Tracks G (kept_of bank) outside) → IsWhole bank
+pub make_ready : {W : Type 0} (G : Ghosts W) (bank : Inside) (outside : W) (tracks : TracksBank G (kept_of bank) outside) → IsWhole bank
     → (filled body : List ℕ) (due : ℕ) → body ≡ take (record_bytes bank.page (begun_count bank)) filled → length filled ≡ length bank.body → number_at filled 0 2 ≡ (begun_count bank) → number_at filled 2 8 ≡ due
     → take (entry_bytes bank.page * begun_count bank) (drop 10 filled) ≡ take (entry_bytes bank.page * begun_count bank) (drop 10 bank.body) → slice_index filled (10 + entry_bytes bank.page * begun_count bank) ≡ 0
     → due ≡ ((bank.base + bank.count) % 2 ^ 64 + 1) % 2 ^ 64 → bank.gate + record_bytes bank.page (begun_count bank) + 1 ≤ end_of bank.which bank.bank_bytes
@@ -163,7 +163,7 @@ says_room bank kept is = record {
 }
 
 -- the fields are tracked as the bank is
-abbrev pub fields_tracked : {W : Type 0} (G : Ghosts W) (bank : Inside) (kept : KeptBank) (outside : W) → kept_of bank ≡ kept → Tracks G kept outside → Tracks G (kept_of bank) outside
+abbrev pub fields_tracked : {W : Type 0} (G : Ghosts W) (bank : Inside) (kept : KeptBank) (outside : W) → kept_of bank ≡ kept → TracksBank G kept outside → TracksBank G (kept_of bank) outside
 fields_tracked G bank kept outside is tracks = record {
   sure = tracks.sure;
   header = tracks.header;
@@ -188,5 +188,5 @@ with_record_is bank kept gate newest is gate_is newest_is =
 
 -- a bank that is tracked, and a body that adds its begun record
 pub record IsReadied {W : Type 0} (G : Ghosts W) (bank : Inside) (outside : W) (body : List ℕ) : Type 0 where
-  pub tracks : Tracks G (kept_of bank) outside
+  pub tracks : TracksBank G (kept_of bank) outside
   pub ready : Ready (held_of G outside) tracks.header bank.which bank.base bank.gate tracks.records (begun_count bank) (begun_lines bank) body

@@ -37,7 +37,7 @@ pub use Rattle.redo_journal.specs.Kept.{KeptBank, area_end, begun_of, end_of, li
 pub use Rattle.redo_journal.specs.Noted.{AreNewest, AreWithin, IsNowhere, newest_place, noted, place_in}
 pub use Rattle.redo_journal.specs.Read.{AreRead, IsBank}
 pub use Rattle.redo_journal.specs.Records.{IsCounted, IsLine, IsLineOf, IsRecordAt, area_bytes}
-pub use Rattle.redo_journal.specs.Tracks.{HoldsOneOf, IsEither, Tracks}
+pub use Rattle.redo_journal.specs.Tracks.{HoldsOneOf, IsEither, TracksBank}
 pub use Rattle.redo_journal.specs.Turned.{head_bytes, placed, turned}
 pub use Rattle.redo_journal.specs.declared.bank.Bank.TheInside.{Inside}
 pub use Rattle.redo_journal.specs.declared.find.Record.{Record}

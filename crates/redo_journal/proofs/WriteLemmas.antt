@@ -1,8 +1,8 @@
 -- Calls that write, one after another.
 use Rattle.redo_journal.proofs.Common.{◌≡◌, ℕ, ◌+◌, ◌≤◌, List, ◌++◌, length, take, drop, refl, sym, ◌∙◌, ap, subst, arith, length-append, ForSome, option_map, length-take, length-drop, Ghosts, Failed, Torn, Writes, CountsWrite, written, OnlyAsks, FewerLater, held_of, told_some, calls_none, calls_on, still_told}
 use Rattle.std.specs.Prelude.{Option, None, Some, IsSome, IsTrue, Result, Ok, Err}
-use Rattle.outside.specs.Causes.{HasCause}
-use Rattle.outside.specs.Moments.{IsOneCall, Elapses, PrintsNothing, Follows}
+use Rattle.outside.specs.Causes.{FailsOnlyCounted}
+use Rattle.outside.specs.Moments.{IsOneCall, Elapses, PrintsNothing, LeavesStep}
 use Rattle.redo_journal.specs.Held.{IsMoreBy, OnlyWrites, WritesOnce}
 
 pub more_on : (a b : ℕ) (old mid new : Option ℕ) → IsMoreBy a old mid → IsMoreBy b mid new → IsMoreBy (a + b) old new
@@ -49,8 +49,8 @@ asks_only G old new asks = record {
 
 -- a call that writes
 pub once : {W : Type 0} (G : Ghosts W) {T : Type 0} (at : ℕ) (bytes : List ℕ) (old new : W) (result : Result T Failed) → Writes (G.held old) (G.held new) at bytes result → CountsWrite (G.writes old) (G.writes new) result → G.is_honest new ≡ G.is_honest old
-    → Elapses G.moment G.left_since old new → IsOneCall (G.moment old) (G.moment new) → PrintsNothing G.moment G.left_since G.printed old new → (IsTrue (G.is_honest old) → IsSome (G.held old) → Follows (Torn at (length bytes)) G.moment G.left_since old new)
-    → HasCause (G.disk_faults old) (G.disk_faults new) result → G.put_faults new ≡ G.put_faults old → WritesOnce G at bytes old new result
+    → Elapses G.moment G.left_since old new → IsOneCall (G.moment old) (G.moment new) → PrintsNothing G.moment G.left_since G.printed old new → (IsTrue (G.is_honest old) → IsSome (G.held old) → LeavesStep (Torn at (length bytes)) G.moment G.left_since old new)
+    → FailsOnlyCounted (G.disk_faults old) (G.disk_faults new) result → G.put_faults new ≡ G.put_faults old → WritesOnce G at bytes old new result
 once G at bytes old new result written counted honest time one quiet crash cause put = record {
   only = record {
     calls = record { quiet = quiet; honest = honest; time = time; disk = cause.later; put = put; puts = one.puts };

@@ -4,8 +4,8 @@ use Rattle.redo_journal.specs.declared.bank.Appended.TheVariants.{Done, Full, Un
 use Rattle.redo_journal.specs.Kept.{KeptBank, unbegun, with_record}
 
 -- the record is the bank's, or stays begun, or is begun no more
-abbrev pub kept_after : Appended → KeptBank → KeptBank
-kept_after Done bank = with_record bank
-kept_after Full bank = bank
-kept_after Unwritten bank = unbegun bank
-kept_after Doubt bank = unbegun bank
+abbrev pub bank_appended : Appended → KeptBank → KeptBank
+bank_appended Done bank = with_record bank
+bank_appended Full bank = bank
+bank_appended Unwritten bank = unbegun bank
+bank_appended Doubt bank = unbegun bank

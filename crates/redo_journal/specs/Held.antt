@@ -4,8 +4,8 @@ use Rattle.std.specs.Option.{ForSome}
 use Rattle.outside.specs.declared.world.Outside.{Ghosts}
 use Rattle.outside.specs.declared.failed.Failed.{Failed}
 use Rattle.outside.specs.Bytes.{Torn, Writes, CountsWrite}
-use Rattle.outside.specs.Causes.{HasCause}
-use Rattle.outside.specs.Moments.{Follows}
+use Rattle.outside.specs.Causes.{FailsOnlyCounted}
+use Rattle.outside.specs.Moments.{LeavesStep}
 use Rattle.outside.specs.Runs.{CallsDisk}
 
 -- where the bytes are told, at least so many are held
@@ -28,5 +28,5 @@ pub record WritesOnce {W : Type 0} (G : Ghosts W) {T : Type 0} (at : ℕ) (bytes
   pub only : OnlyWrites G old new
   pub written : Writes (G.held old) (G.held new) at bytes result
   pub counted : CountsWrite (G.writes old) (G.writes new) result
-  pub crash : IsTrue (G.is_honest old) → IsSome (G.held old) → Follows (Torn at (length bytes)) G.moment G.left_since old new
-  pub cause : HasCause (G.disk_faults old) (G.disk_faults new) result
+  pub crash : IsTrue (G.is_honest old) → IsSome (G.held old) → LeavesStep (Torn at (length bytes)) G.moment G.left_since old new
+  pub cause : FailsOnlyCounted (G.disk_faults old) (G.disk_faults new) result

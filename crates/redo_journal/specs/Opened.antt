@@ -40,13 +40,13 @@ pub record IsBankOf (header : Header) (which : Which) (bank : KeptBank) : Type 0
   pub begun : bank.begun ≡ None
 
 -- a disk's fault is counted; damage is a fault of the bank in the bytes that are told
-abbrev pub IsReopenFault : {W : Type 0} → Ghosts W → W → W → Which → KeptBank → ReopenFault → Type 0
-IsReopenFault G old new which bank (reopening.Damaged offset) = IsSome (G.held old) → bank_in (held_of G old) bank.page which bank.bank_bytes (length bank.newest) ≡ Faulty offset
-IsReopenFault G old new which bank reopening.DiskFault = Rose (G.disk_faults old) (G.disk_faults new)
+abbrev pub IsBankReopenFault : {W : Type 0} → Ghosts W → W → W → Which → KeptBank → ReopenFault → Type 0
+IsBankReopenFault G old new which bank (reopening.Damaged offset) = IsSome (G.held old) → bank_in (held_of G old) bank.page which bank.bank_bytes (length bank.newest) ≡ Faulty offset
+IsBankReopenFault G old new which bank reopening.DiskFault = Rose (G.disk_faults old) (G.disk_faults new)
 
 -- the same for a bank that is opened: it is no other store, and memory is free
-abbrev pub IsOpenFault : {W : Type 0} → Ghosts W → W → W → Header → Which → OpenFault → Type 0
-IsOpenFault G old new header which (opening.NotAStore offset) = ⊥
-IsOpenFault G old new header which (opening.Damaged offset) = IsSome (G.held old) → bank_of (held_of G old) header which ≡ Faulty offset
-IsOpenFault G old new header which opening.DiskFault = Rose (G.disk_faults old) (G.disk_faults new)
-IsOpenFault G old new header which opening.Memory = Unit {0}
+abbrev pub IsBankOpenFault : {W : Type 0} → Ghosts W → W → W → Header → Which → OpenFault → Type 0
+IsBankOpenFault G old new header which (opening.NotAStore offset) = ⊥
+IsBankOpenFault G old new header which (opening.Damaged offset) = IsSome (G.held old) → bank_of (held_of G old) header which ≡ Faulty offset
+IsBankOpenFault G old new header which opening.DiskFault = Rose (G.disk_faults old) (G.disk_faults new)
+IsBankOpenFault G old new header which opening.Memory = Unit {0}

@@ -12,7 +12,7 @@ use Rattle.redo_journal.specs.Kept.{KeptBank, begun_of}
 use Rattle.redo_journal.specs.Noted.{AreNewest}
 
 -- The bytes held are sure and stand, and what is kept is what they say of their chosen bank.
-pub record Tracks {W : Type 0} (G : Ghosts W) (bank : KeptBank) (outside : W) : Type 0 where
+pub record TracksBank {W : Type 0} (G : Ghosts W) (bank : KeptBank) (outside : W) : Type 0 where
   pub sure : IsSure G outside
   pub header : Header
   pub records : List (List RecordLine)
@@ -38,6 +38,6 @@ HoldsOneOf header which base records lines held = HoldsRecords header which base
 
 -- the begun record was added, the header is the same, and the bank is tracked
 pub record IsAppended {W : Type 0} (G : Ghosts W) (old_bank bank : KeptBank) (old new : W) : Type 0 where
-  pub tracks : Tracks G bank new
+  pub tracks : TracksBank G bank new
   pub stood : stands (held_of G new) ≡ one_more (begun_of old_bank) (stands (held_of G old))
   pub header : header_of (take 128 (held_of G new)) ≡ header_of (take 128 (held_of G old))

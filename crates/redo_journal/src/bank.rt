@@ -4,15 +4,15 @@ ghost use Rattle.std.specs.Option.{option_map};
 ghost use Rattle.store_format.specs.Header.{total, HasRanges};
 ghost use Rattle.store_format.specs.Bank.{record_bytes};
 ghost use Rattle.store_format.specs.Stands.{stands, one_more};
-ghost use Rattle.outside.specs.Causes.{Rose, HasCause};
+ghost use Rattle.outside.specs.Causes.{Rose, FailsOnlyCounted};
 ghost use Rattle.outside.specs.Runs.{OnlyAsks, Leaves, held_of};
 ghost use Rattle.redo_journal.specs.Kept.{KeptBank, place_of, end_of, area_end, number_of, begun_of, needed_end, with_line, unbegun, line_bytes_of, record_bytes_of, SameShape};
-ghost use Rattle.redo_journal.specs.Appended.{kept_after};
+ghost use Rattle.redo_journal.specs.Appended.{bank_appended};
 ghost use Rattle.redo_journal.specs.Turned.{turned, head_bytes};
 ghost use Rattle.redo_journal.specs.Held.{HoldsAtLeast, OnlyWrites, WritesOnce};
-ghost use Rattle.redo_journal.specs.Opened.{IsRead, IsBankOf, IsReopenFault, IsOpenFault};
+ghost use Rattle.redo_journal.specs.Opened.{IsRead, IsBankOf, IsBankReopenFault, IsBankOpenFault};
 ghost use Rattle.redo_journal.specs.Records.{IsRecordAt, IsFound, IsCounted, IsLineOf};
-ghost use Rattle.redo_journal.specs.Tracks.{Tracks, IsEither, HoldsOneOf, IsAppended};
+ghost use Rattle.redo_journal.specs.Tracks.{TracksBank, IsEither, HoldsOneOf, IsAppended};
 
 use crate::fault::{OpenFault, ReopenFault};
 use crate::find::{Record, read_line, read_record};
@@ -86,7 +86,7 @@ impl Bank {
         ensures opened { IfOk result (IsBankOf header.now which) }
         ensures read { IfOk result (λ bank. IsSome (W.held outside.old) → IsRead (held_of W.Outside outside.old) bank) }
         ensures no_fault { IfOk result (λ bank. W.disk_faults outside.new ≡ W.disk_faults outside.old) }
-        ensures fault { IfErr result (IsOpenFault W.Outside outside.old outside.new header.now which) }
+        ensures fault { IfErr result (IsBankOpenFault W.Outside outside.old outside.new header.now which) }
         ensures calm { IfErr result (λ fault. fault ≢ OpenFault.DiskFault → W.disk_faults outside.new ≡ W.disk_faults outside.old) }
     {
         let mut bank = match Bank::of_store(alloc, header) {
@@ -135,7 +135,7 @@ impl Bank {
         ensures begun { self.new.begun ≡ None }
         ensures read { OnOk result (IsSome (W.held outside.old) → IsRead (held_of W.Outside outside.old) self.new) }
         ensures no_fault { OnOk result (W.disk_faults outside.new ≡ W.disk_faults outside.old) }
-        ensures fault { IfErr result (IsReopenFault W.Outside outside.old outside.new which self.old) }
+        ensures fault { IfErr result (IsBankReopenFault W.Outside outside.old outside.new which self.old) }
         ensures calm { IfErr result (λ fault. fault ≢ ReopenFault.DiskFault → W.disk_faults outside.new ≡ W.disk_faults outside.old) }
     {
         forget(&mut self.newest);
@@ -253,7 +253,7 @@ impl Bank {
         ensures asks { OnlyAsks W.Outside outside.old outside.new }
         ensures found { IfOk result (IsFound self.now.page self.now.bank_bytes place) }
         ensures read { IfOk result (λ found. IsSome (W.held outside.old) → (at : IsRecordAt (held_of W.Outside outside.old) self.now place) → IsCounted self.now.page place at.lines found) }
-        ensures cause { HasCause (W.disk_faults outside.old) (W.disk_faults outside.new) result }
+        ensures cause { FailsOnlyCounted (W.disk_faults outside.old) (W.disk_faults outside.new) result }
     {
         let area = place_of(self.which, self.bank_bytes) + 8;
         read_record(outside, self.page, area, self.bank_bytes, place)
@@ -277,7 +277,7 @@ impl Bank {
         requires room { HoldsAtLeast W.Outside (area_end self.now) outside.old }
         ensures asks { OnlyAsks W.Outside outside.old outside.new }
         ensures read { IfOk result (λ line. IsSome (W.held outside.old) → (at : IsRecordAt (held_of W.Outside outside.old) self.now of.now.place) → length at.lines ≡ of.now.count → IsLineOf at.lines index line into.new) }
-        ensures cause { HasCause (W.disk_faults outside.old) (W.disk_faults outside.new) result }
+        ensures cause { FailsOnlyCounted (W.disk_faults outside.old) (W.disk_faults outside.new) result }
     {
         let gate = place_of(self.which, self.bank_bytes) + 8 + u64::from(of.place);
         let at = gate + 11 + u64::from(entries_bytes(self.page, index));
@@ -351,7 +351,7 @@ impl Bank {
         requires room { HoldsAtLeast W.Outside (area_end self.old) outside.old }
         ensures only { OnlyWrites W.Outside outside.old outside.new }
         ensures shape { SameShape self.old self.new }
-        ensures kept { self.new ≡ kept_after result self.old }
+        ensures kept { self.new ≡ bank_appended result self.old }
         ensures full { result ≡ Appended.Full ↔ (area_end self.old < needed_end self.old) }
         ensures nothing { result ≡ Appended.Full → outside.new ≡ outside.old }
         ensures writes { result ≡ Appended.Done → W.writes outside.new ≡ option_map (λ count. count + 2) (W.writes outside.old) }
@@ -360,11 +360,11 @@ impl Bank {
         ensures doubt_cause { result ≡ Appended.Doubt → Rose (W.disk_faults outside.old) (W.disk_faults outside.new) }
 
         // Of a bank that is tracked: whenever a crash comes, it leaves what stood, or that with the record.
-        ensures crash { Tracks W.Outside self.old outside.old → Leaves W.Outside (IsEither (begun_of self.old) (held_of W.Outside outside.old)) outside.old outside.new }
-        ensures unwritten { result ≡ Appended.Unwritten → Tracks W.Outside self.old outside.old → Leaves W.Outside (λ image seen. stands image ≡ stands (held_of W.Outside outside.old)) outside.old outside.new }
-        ensures doubt { result ≡ Appended.Doubt → Tracks W.Outside self.old outside.old → Leaves W.Outside (λ image seen. stands (slice_set image self.old.gate 0xA5) ≡ one_more (begun_of self.old) (stands (held_of W.Outside outside.old))) outside.new outside.new }
-        ensures records { (tracks : Tracks W.Outside self.old outside.old) → HoldsOneOf tracks.header self.old.which self.old.base tracks.records (begun_of self.old) (held_of W.Outside outside.new) }
-        ensures done { result ≡ Appended.Done → Tracks W.Outside self.old outside.old → IsAppended W.Outside self.old self.new outside.old outside.new }
+        ensures crash { TracksBank W.Outside self.old outside.old → Leaves W.Outside (IsEither (begun_of self.old) (held_of W.Outside outside.old)) outside.old outside.new }
+        ensures unwritten { result ≡ Appended.Unwritten → TracksBank W.Outside self.old outside.old → Leaves W.Outside (λ image seen. stands image ≡ stands (held_of W.Outside outside.old)) outside.old outside.new }
+        ensures doubt { result ≡ Appended.Doubt → TracksBank W.Outside self.old outside.old → Leaves W.Outside (λ image seen. stands (slice_set image self.old.gate 0xA5) ≡ one_more (begun_of self.old) (stands (held_of W.Outside outside.old))) outside.new outside.new }
+        ensures records { (tracks : TracksBank W.Outside self.old outside.old) → HoldsOneOf tracks.header self.old.which self.old.base tracks.records (begun_of self.old) (held_of W.Outside outside.new) }
+        ensures done { result ≡ Appended.Done → TracksBank W.Outside self.old outside.old → IsAppended W.Outside self.old self.new outside.old outside.new }
     {
         let begun = self.begun.unwrap();
         let bytes = 11 + u64::from(entries_bytes(self.page, begun));

@@ -2,7 +2,7 @@
 ghost use Rattle.std.specs.Prelude.{◌≡◌, ◌+◌, ◌*◌, ◌≤◌, ◌<◌, ◌^◌, ◌∷◌, [], length, drop, slice_get, Some, IsSome, IfOk};
 ghost use Rattle.store_format.specs.Header.{number_at, entry_bytes};
 ghost use Rattle.line_geometry.specs.Segments.{line_bytes};
-ghost use Rattle.outside.specs.Causes.{HasCause};
+ghost use Rattle.outside.specs.Causes.{FailsOnlyCounted};
 ghost use Rattle.outside.specs.Runs.{OnlyAsks, held_of};
 ghost use Rattle.redo_journal.specs.Held.{HoldsAtLeast};
 ghost use Rattle.redo_journal.specs.Records.{IsFound, IsLine};
@@ -36,7 +36,7 @@ pub fn read_record<W: Outside>(
     ensures found { IfOk result (IsFound page bank_bytes place) }
     ensures read { IfOk result (λ found. IsSome (W.held outside.old) → place + 11 + entry_bytes page * number_at (held_of W.Outside outside.old) (area + place + 1) 2 < bank_bytes → found.count ≡ number_at (held_of W.Outside outside.old) (area + place + 1) 2) }
     ensures fits { IfOk result (λ found. IsSome (W.held outside.old) → place + 11 + entry_bytes page * number_at (held_of W.Outside outside.old) (area + place + 1) 2 < bank_bytes → found.next ≡ place + 11 + entry_bytes page * found.count) }
-    ensures cause { HasCause (W.disk_faults outside.old) (W.disk_faults outside.new) result }
+    ensures cause { FailsOnlyCounted (W.disk_faults outside.old) (W.disk_faults outside.new) result }
 {
     let none = Record {
         place,
@@ -69,7 +69,7 @@ pub fn read_line<W: Outside>(
     requires room { HoldsAtLeast W.Outside (at + entry_bytes page) outside.old }
     ensures asks { OnlyAsks W.Outside outside.old outside.new }
     ensures read { IfOk result (λ line. IsSome (W.held outside.old) → IsLine page (drop at (held_of W.Outside outside.old)) line into.new) }
-    ensures cause { HasCause (W.disk_faults outside.old) (W.disk_faults outside.new) result }
+    ensures cause { FailsOnlyCounted (W.disk_faults outside.old) (W.disk_faults outside.new) result }
 {
     let mut number = [0; 4];
     outside.read_at(at, &mut number)?;

@@ -1,7 +1,7 @@
 // A body that is kept behind a gate.
 ghost use Rattle.std.specs.Prelude.{◌≡◌, ◌+◌, ◌≤◌, ◌<◌, ◌^◌, length, false, OnOk};
 ghost use Rattle.std.specs.Option.{option_map};
-ghost use Rattle.outside.specs.Causes.{Rose, HasCause};
+ghost use Rattle.outside.specs.Causes.{Rose, FailsOnlyCounted};
 ghost use Rattle.outside.specs.Runs.{Leaves, held_of};
 ghost use Rattle.outside.specs.Bytes.{Torn};
 ghost use Rattle.outside.specs.Durable.{IsSure, IsWritten};
@@ -59,7 +59,7 @@ pub fn write_sure<W: Outside>(outside: &mut W, at: u64, bytes: &[u8]) -> Result<
     ensures crash { IsSure W.Outside outside.old → Leaves W.Outside (λ image seen. Torn at (length bytes.now) (held_of W.Outside outside.old) image) outside.old outside.new }
     ensures done { OnOk result (IsSure W.Outside outside.old → IsWritten W.Outside at bytes.now outside.old outside.new) }
     ensures writes { OnOk result (W.writes outside.new ≡ option_map (λ count. count + 1) (W.writes outside.old)) }
-    ensures cause { HasCause (W.disk_faults outside.old) (W.disk_faults outside.new) result }
+    ensures cause { FailsOnlyCounted (W.disk_faults outside.old) (W.disk_faults outside.new) result }
 {
     write_once(outside, at, bytes)?;
     outside.sync()

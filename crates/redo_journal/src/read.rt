@@ -2,7 +2,7 @@
 ghost use Rattle.std.specs.Prelude.{◌≡◌, ℕ, ◌+◌, ◌*◌, ◌==◌, ◌≤◌, ◌<◌, ◌^◌, length, drop, slice_index, None, IsSome, IfOk};
 ghost use Rattle.store_format.specs.Header.{number_at, entry_bytes};
 ghost use Rattle.store_format.specs.Bank.{lines_from, wrong_line, gate_if, bank_held};
-ghost use Rattle.outside.specs.Causes.{HasCause};
+ghost use Rattle.outside.specs.Causes.{FailsOnlyCounted};
 ghost use Rattle.outside.specs.Runs.{OnlyAsks, held_of};
 ghost use Rattle.redo_journal.specs.Noted.{noted, AreWithin};
 ghost use Rattle.redo_journal.specs.Held.{HoldsAtLeast};
@@ -46,7 +46,7 @@ pub fn read_bank<W: Outside>(
     ensures within { IfOk result (IsClosedIn (at + 8) (at + 8 + bank_bytes)) }
     ensures placed { AreWithin page (at + 8 + bank_bytes) newest.old → AreWithin page (at + 8 + bank_bytes) newest.new }
     ensures found { IfOk result (λ found. IsSome (W.held outside.old) → IsBank found newest.old newest.new (number_at (held_of W.Outside outside.old) at 8) (bank_held (held_of W.Outside outside.old) page (length newest.old) at bank_bytes)) }
-    ensures cause { HasCause (W.disk_faults outside.old) (W.disk_faults outside.new) result }
+    ensures cause { FailsOnlyCounted (W.disk_faults outside.old) (W.disk_faults outside.new) result }
 {
     let mut head = [0; 8];
     outside.read_at(at, &mut head)?;
@@ -81,7 +81,7 @@ fn read_gate<W: Outside>(
     ensures next { IfOk result (IsNext gate end) }
     ensures placed { AreWithin page end newest.old → AreWithin page end newest.new }
     ensures found { IfOk result (λ found. IsSome (W.held outside.old) → IsGate found gate newest.old newest.new (gate_if page (slice_index (held_of W.Outside outside.old) gate == 0xA5) (length newest.old) end due gate (drop gate (held_of W.Outside outside.old)))) }
-    ensures cause { HasCause (W.disk_faults outside.old) (W.disk_faults outside.new) result }
+    ensures cause { FailsOnlyCounted (W.disk_faults outside.old) (W.disk_faults outside.new) result }
 {
     let mut first = [0; 1];
     outside.read_at(gate, &mut first)?;
@@ -122,7 +122,7 @@ fn read_lines<W: Outside>(
     ensures placed { (end : ℕ) → at + entry_bytes page * count ≤ end → AreWithin page end newest.old → AreWithin page end newest.new }
     ensures fault { IfOk result (λ fault. IsSome (W.held outside.old) → fault ≡ wrong_line (length newest.old) 0 (lines_from page count at (drop at (held_of W.Outside outside.old)))) }
     ensures noted { IfOk result (λ fault. IsSome (W.held outside.old) → fault ≡ None → newest.new ≡ noted newest.old (lines_from page count at (drop at (held_of W.Outside outside.old)))) }
-    ensures cause { HasCause (W.disk_faults outside.old) (W.disk_faults outside.new) result }
+    ensures cause { FailsOnlyCounted (W.disk_faults outside.old) (W.disk_faults outside.new) result }
 {
     let mut least = 0;
     for i in 0..count {

@@ -2,7 +2,7 @@ ghost use Rattle.std.specs.Prelude.{[], ◌≡◌, ◌+◌, ◌*◌, ◌≤◌, 
 ghost use Rattle.std.specs.List.{flat_map};
 ghost use Rattle.desk.specs.Lines.{line_text, Commit};
 ghost use Rattle.outside.specs.Bytes.{Prints};
-ghost use Rattle.outside.specs.Causes.{HasCause};
+ghost use Rattle.outside.specs.Causes.{FailsOnlyCounted};
 ghost use Rattle.outside.specs.Moments.{Elapses, IsOnePut, Shows};
 ghost use Rattle.report_text.specs.Line.{line_told, IsShort};
 
@@ -38,7 +38,7 @@ impl Reporter {
         ensures honest { W.is_honest outside.new ≡ W.is_honest outside.old }
         ensures time { Elapses W.moment W.left_since outside.old outside.new }
         ensures crash { Shows (line_text (line_told line.now)) W.moment W.left_since outside.old outside.new }
-        ensures cause { HasCause (W.put_faults outside.old) (W.put_faults outside.new) result }
+        ensures cause { FailsOnlyCounted (W.put_faults outside.old) (W.put_faults outside.new) result }
         ensures calls { (W.moment outside.new).calls ≡ (W.moment outside.old).calls }
         ensures once { IsOnePut (W.printed outside.old) (W.moment outside.old) (W.moment outside.new) result }
         ensures disk { W.disk_faults outside.new ≡ W.disk_faults outside.old }

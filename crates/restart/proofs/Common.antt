@@ -23,7 +23,7 @@ pub use Rattle.store_format.proofs.Stores.{not_less, stands_is}
 pub use Rattle.store_format.specs.Header.{Header, bank_at, header_of, home_at, number_at, total}
 pub use Rattle.store_format.specs.Stands.{Damaged, HasHeader, IsStore, Standing, Stands, chosen, home_of, laid, standing_by, standing_if}
 unfoldable pub use Rattle.store_format.specs.Stands.{stands}
-pub use Rattle.restart.specs.Faults.{IsOpenFault, IsReopenFault}
+pub use Rattle.restart.specs.Faults.{IsStoreOpenFault, IsStoreReopenFault}
 pub use Rattle.restart.specs.Kept.{Fits, KeptStore, number_of, with_begun}
 pub use Rattle.restart.specs.Page.{newest_over}
-pub use Rattle.restart.specs.Shows.{IsIntact, IsReopened, ShownStands, Shows, Tracks, page_in}
+pub use Rattle.restart.specs.Shows.{IsStoreWith, IsReopened, ShownStands, Shows, TracksStore, page_in}

@@ -1,5 +1,5 @@
 -- What a store shows of bytes, and what these stand for.
-use Rattle.restart.proofs.Common.{◌≡◌, ⊎_elim, ℕ, ◌+◌, ◌*◌, ◌%◌, ◌^◌, ◌≤◌, List, [], ◌∷◌, ◌++◌, length, take, refl, sym, ◌∙◌, ap, subst, arith, IsSome, IsTrue, Option, None, fold, unwrap_or, Result, Ok, Err, IfErr, line_count, line_bytes, Header, bank_at, number_at, header_of, total, PageSize, Stands, Damaged, stands, standing_if, standing_by, HasHeader, IsStore, chosen, laid, home_of, stands_is, not_less, OnlyAsks, FewerLater, held_of, AreTold, IsChosen, other, emptied, HoldsCommitted, ReopenFault, IsOpenFault, IsReopenFault, KeptStore, Fits, number_of, with_begun, Shows, IsIntact, IsReopened, Tracks, ShownStands}
+use Rattle.restart.proofs.Common.{◌≡◌, ⊎_elim, ℕ, ◌+◌, ◌*◌, ◌%◌, ◌^◌, ◌≤◌, List, [], ◌∷◌, ◌++◌, length, take, refl, sym, ◌∙◌, ap, subst, arith, IsSome, IsTrue, Option, None, fold, unwrap_or, Result, Ok, Err, IfErr, line_count, line_bytes, Header, bank_at, number_at, header_of, total, PageSize, Stands, Damaged, stands, standing_if, standing_by, HasHeader, IsStore, chosen, laid, home_of, stands_is, not_less, OnlyAsks, FewerLater, held_of, AreTold, IsChosen, other, emptied, HoldsCommitted, ReopenFault, IsStoreOpenFault, IsStoreReopenFault, KeptStore, Fits, number_of, with_begun, Shows, IsStoreWith, IsReopened, TracksStore, ShownStands}
 use Rattle.store_format.specs.declared.header.Which.{Which}
 use Rattle.store_format.specs.declared.header.Which.TheVariants.{A, B}
 use Rattle.store_format.specs.Bank.{RecordLine, Holds, Faulty, base_of, bank_of, bank_held}
@@ -43,7 +43,7 @@ shown_stands held store shows = (
 )
 
 -- a store that is tracked has a bank that is
-abbrev pub bank_tracked : {W : Type 0} (G : Ghosts W) (store : KeptStore) (outside : W) → Tracks G store outside → journal.Tracks G store.bank outside
+abbrev pub bank_tracked : {W : Type 0} (G : Ghosts W) (store : KeptStore) (outside : W) → TracksStore G store outside → journal.TracksBank G store.bank outside
 bank_tracked G store outside tracks = record {
   sure = tracks.sure;
   header = store.header;
@@ -64,8 +64,8 @@ total_is header bank fits =
     ∙ ap (λ (n : ℕ). 272 + 2 * bank.bank_bytes + line_bytes bank.page * n) fits.lines
 
 -- a bank that is tracked under a header is the store's
-pub store_tracked : {W : Type 0} (G : Ghosts W) (header : Header) (bank : KeptBank) (outside : W) → Fits header bank → header_of (take 128 (held_of G outside)) ≡ header → journal.Tracks G bank outside
-    → Tracks G (record { header = header; bank = bank }) outside
+pub store_tracked : {W : Type 0} (G : Ghosts W) (header : Header) (bank : KeptBank) (outside : W) → Fits header bank → header_of (take 128 (held_of G outside)) ≡ header → journal.TracksBank G bank outside
+    → TracksStore G (record { header = header; bank = bank }) outside
 store_tracked G header bank outside fits said tracks =
     let same : tracks.header ≡ header = sym tracks.store.said ∙ said in
     let held = held_of G outside in
@@ -112,7 +112,7 @@ sure_on G fewer_later old new sure asks = record {
 }
 
 -- what is wrong with the chosen bank is wrong with the store
-pub opening_fault : {W : Type 0} (G : Ghosts W) (old mid new : W) (header : Header) (fault : OpenFault) → OnlyAsks G old mid → (IsSome (G.held old) → HasHeader (held_of G old) header) → opened.IsOpenFault G mid new header fault → IsOpenFault G old new fault
+pub opening_fault : {W : Type 0} (G : Ghosts W) (old mid new : W) (header : Header) (fault : OpenFault) → OnlyAsks G old mid → (IsSome (G.held old) → HasHeader (held_of G old) header) → opened.IsChosenOpenFault G mid new header fault → IsStoreOpenFault G old new fault
 opening_fault G old mid new header (opening.NotAStore offset) asks has is = absurd is
 opening_fault G old mid new header (opening.Damaged offset) asks has is =
     λ told.
@@ -123,7 +123,7 @@ opening_fault G old mid new header opening.DiskFault asks has is = omega (arith,
 opening_fault G old mid new header opening.Memory asks has is = tt
 
 -- the same of a store that is reopened
-pub reopening_fault : {W : Type 0} (G : Ghosts W) (old mid new : W) (header : Header) (bank : KeptBank) (fault : ReopenFault) → Fits header bank → OnlyAsks G old mid → opened.IsReopenFault G mid new bank fault → IsReopenFault G old new header fault
+pub reopening_fault : {W : Type 0} (G : Ghosts W) (old mid new : W) (header : Header) (bank : KeptBank) (fault : ReopenFault) → Fits header bank → OnlyAsks G old mid → opened.IsChosenReopenFault G mid new bank fault → IsStoreReopenFault G old new header fault
 reopening_fault G old mid new header bank (reopening.Damaged offset) fits asks is =
     λ told.
     let still : IsSome (G.held mid) = subst (λ (those : Option (List ℕ)). IsSome those) (sym asks.held) told in
@@ -134,7 +134,7 @@ reopening_fault G old mid new header bank (reopening.Damaged offset) fits asks i
 reopening_fault G old mid new header bank reopening.DiskFault fits asks is = omega (arith, is, asks.calls.disk)
 
 -- a store that is intact under a header has no fault in its bank
-pub intact_fault : {W : Type 0} (G : Ghosts W) (old new : W) (header : Header) (fault : ReopenFault) → IsSome (G.held old) → IsIntact header (held_of G old) → IsReopenFault G old new header fault → fault ≡ reopening.DiskFault
+pub intact_fault : {W : Type 0} (G : Ghosts W) (old new : W) (header : Header) (fault : ReopenFault) → IsSome (G.held old) → IsStoreWith header (held_of G old) → IsStoreReopenFault G old new header fault → fault ≡ reopening.DiskFault
 intact_fault G old new header (reopening.Damaged offset) told intact is =
     let held = held_of G old in
     let holds : bank_of held header (chosen held) ≡ Holds intact.gate intact.records = ap (bank_of held header) intact.store.chooses ∙ intact.store.holds in
@@ -152,7 +152,7 @@ pub shows_read : (held : List ℕ) (header : Header) (bank : KeptBank) → HasHe
 shows_read held header bank has fits read = record { header = has; chosen_is = read.chosen_is; read = read.read; fits = fits }
 
 -- bytes that hold records under a header are intact
-pub records_intact : (header : Header) (which : Which) (base : ℕ) (records : List (List RecordLine)) (held : List ℕ) → HoldsRecords header which base records held → IsIntact header held
+pub records_intact : (header : Header) (which : Which) (base : ℕ) (records : List (List RecordLine)) (held : List ℕ) → HoldsRecords header which base records held → IsStoreWith header held
 records_intact header which base records held is = record { which = which; base = base; gate = is.gate; records = records; store = is.store }
 
 -- a bank lies in front of the home lines
@@ -176,10 +176,10 @@ reopened_holds held header store same is =
     )
 
 -- bytes that a commit leaves are intact
-one_intact : (header : Header) (which : Which) (base : ℕ) (records : List (List RecordLine)) (lines : List RecordLine) (held : List ℕ) → HoldsOneOf header which base records lines held → IsIntact header held
+one_intact : (header : Header) (which : Which) (base : ℕ) (records : List (List RecordLine)) (lines : List RecordLine) (held : List ℕ) → HoldsOneOf header which base records lines held → IsStoreWith header held
 one_intact header which base records lines held one = ⊎_elim (λ before. records_intact header which base records held before) (λ after. records_intact header which base (records ++ lines ∷ []) held after) one
 
-pub committed_intact : (header : Header) (bank : KeptBank) (records : List (List RecordLine)) (held : List ℕ) → HoldsCommitted header bank records held → IsIntact header held
+pub committed_intact : (header : Header) (bank : KeptBank) (records : List (List RecordLine)) (held : List ℕ) → HoldsCommitted header bank records held → IsStoreWith header held
 committed_intact header bank records held one =
     ⊎_elim (λ here. one_intact header bank.which bank.base records (begun_of bank) held here) (λ there. one_intact header (other bank.which) (number_in bank) [] (begun_of (emptied bank)) held there) one
 

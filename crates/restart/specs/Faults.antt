@@ -12,11 +12,11 @@ use Rattle.redo_journal.specs.declared.fault.ReopenFault.{ReopenFault}
 use Rattle.redo_journal.specs.declared.fault.ReopenFault.TheVariants as reopening
 
 -- bytes that are told have this fault, or the disk's count rose; memory is free
-abbrev pub IsOpenFault : {W : Type 0} → Ghosts W → W → W → OpenFault → Type 0
-IsOpenFault G old new (opening.NotAStore offset) = IsSome (G.held old) → stands (held_of G old) ≡ NotAStore offset
-IsOpenFault G old new (opening.Damaged offset) = IsSome (G.held old) → stands (held_of G old) ≡ Damaged offset
-IsOpenFault G old new opening.DiskFault = Rose (G.disk_faults old) (G.disk_faults new)
-IsOpenFault G old new opening.Memory = Unit {0}
+abbrev pub IsStoreOpenFault : {W : Type 0} → Ghosts W → W → W → OpenFault → Type 0
+IsStoreOpenFault G old new (opening.NotAStore offset) = IsSome (G.held old) → stands (held_of G old) ≡ NotAStore offset
+IsStoreOpenFault G old new (opening.Damaged offset) = IsSome (G.held old) → stands (held_of G old) ≡ Damaged offset
+IsStoreOpenFault G old new opening.DiskFault = Rose (G.disk_faults old) (G.disk_faults new)
+IsStoreOpenFault G old new opening.Memory = Unit {0}
 
 -- the same in front of the bank: no damage and no want of memory
 abbrev pub IsStartFault : {W : Type 0} → Ghosts W → W → W → OpenFault → Type 0
@@ -26,6 +26,6 @@ IsStartFault G old new opening.DiskFault = Rose (G.disk_faults old) (G.disk_faul
 IsStartFault G old new opening.Memory = ⊥
 
 -- the chosen bank of a store with this header has this fault, or the disk's count rose
-abbrev pub IsReopenFault : {W : Type 0} → Ghosts W → W → W → Header → ReopenFault → Type 0
-IsReopenFault G old new header (reopening.Damaged offset) = IsSome (G.held old) → bank_of (held_of G old) header (chosen (held_of G old)) ≡ Faulty offset
-IsReopenFault G old new header reopening.DiskFault = Rose (G.disk_faults old) (G.disk_faults new)
+abbrev pub IsStoreReopenFault : {W : Type 0} → Ghosts W → W → W → Header → ReopenFault → Type 0
+IsStoreReopenFault G old new header (reopening.Damaged offset) = IsSome (G.held old) → bank_of (held_of G old) header (chosen (held_of G old)) ≡ Faulty offset
+IsStoreReopenFault G old new header reopening.DiskFault = Rose (G.disk_faults old) (G.disk_faults new)

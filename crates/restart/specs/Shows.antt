@@ -29,7 +29,7 @@ pub record IsReopened (held : List ℕ) (store : KeptStore) : Type 0 where
   pub fits : Fits store.header store.bank
 
 -- These bytes are a store with this header.
-pub record IsIntact (header : Header) (held : List ℕ) : Type 0 where
+pub record IsStoreWith (header : Header) (held : List ℕ) : Type 0 where
   pub which : Which
   pub base : ℕ
   pub gate : ℕ
@@ -42,7 +42,7 @@ pub record IsShown {W : Type 0} (G : Ghosts W) (store : KeptStore) (outside : W)
   pub shows : Shows (held_of G outside) store
 
 -- The outside is honest and tells its bytes, a crash leaves them, and the store is what they show.
-pub record Tracks {W : Type 0} (G : Ghosts W) (store : KeptStore) (outside : W) : Type 0 where
+pub record TracksStore {W : Type 0} (G : Ghosts W) (store : KeptStore) (outside : W) : Type 0 where
   pub sure : IsSure G outside
   pub shows : Shows (held_of G outside) store
 
@@ -58,11 +58,11 @@ page_in (Damaged offset) page = []
 
 -- the begun record was added, and the store is tracked
 pub record IsCommitted {W : Type 0} (G : Ghosts W) (old_store store : KeptStore) (old new : W) : Type 0 where
-  pub tracks : Tracks G store new
+  pub tracks : TracksStore G store new
   pub stood : stands (held_of G new) ≡ one_more (begun_of old_store.bank) (stands (held_of G old))
 
 -- the bank turned to is empty, and the store is tracked and stands for what stood
 pub record IsEmptied {W : Type 0} (G : Ghosts W) (old_store store : KeptStore) (old new : W) : Type 0 where
-  pub tracks : Tracks G store new
+  pub tracks : TracksStore G store new
   pub stood : stands (held_of G new) ≡ stands (held_of G old)
   pub emptied : Leaves G (λ image seen. HoldsRecords store.header (other old_store.bank.which) (number_of old_store) [] image) new new

@@ -4,7 +4,7 @@ ghost use Rattle.line_geometry.specs.Segments.{page_bytes, line_bytes};
 ghost use Rattle.line_geometry.specs.Lines.{line_count};
 ghost use Rattle.store_format.specs.Header.{total};
 ghost use Rattle.store_format.specs.Stands.{stands, one_more, HasHeader};
-ghost use Rattle.outside.specs.Causes.{Rose, HasCause};
+ghost use Rattle.outside.specs.Causes.{Rose, FailsOnlyCounted};
 ghost use Rattle.outside.specs.Runs.{OnlyAsks, Leaves, held_of};
 ghost use Rattle.redo_journal.specs.Held.{HoldsAtLeast, IsMoreBy, OnlyWrites};
 ghost use Rattle.redo_journal.specs.Kept.{KeptBank, area_end, begun_of, needed_end, with_line};
@@ -12,10 +12,10 @@ ghost use Rattle.store_format.specs.Bank.{record_bytes};
 ghost use Rattle.redo_journal.specs.Records.{IsRecordAt, IsFound, IsCounted, IsLineOf};
 ghost use Rattle.redo_journal.specs.Tracks.{IsEither};
 ghost use Rattle.restart.specs.Kept.{KeptStore, number_of};
-ghost use Rattle.checkpoint.specs.Moved.{IsSame, kept_after};
-ghost use Rattle.restart.specs.Shows.{Shows, IsShown, IsIntact, IsReopened, Tracks, IsCommitted, IsEmptied, page_in};
+ghost use Rattle.checkpoint.specs.Moved.{IsSame, bank_checkpointed};
+ghost use Rattle.restart.specs.Shows.{Shows, IsShown, IsStoreWith, IsReopened, TracksStore, IsCommitted, IsEmptied, page_in};
 ghost use Rattle.checkpoint.specs.Committed.{roomy, number_after, IsKeptAfter, HoldsCommitted};
-ghost use Rattle.restart.specs.Faults.{IsOpenFault, IsReopenFault};
+ghost use Rattle.restart.specs.Faults.{IsStoreOpenFault, IsStoreReopenFault};
 
 use crate::page::read_newest;
 use crate::start::{start, synced};
@@ -57,10 +57,10 @@ impl Durable {
         ensures asks { OnlyAsks W.Outside outside.old outside.new }
         ensures room { IfOk result (λ store. HoldsAtLeast W.Outside (total store.header) outside.new) }
         ensures shows { IfOk result (λ store. IsSome (W.held outside.old) → Shows (held_of W.Outside outside.old) store) }
-        ensures tracks { IfOk result (λ store. IsTrue (W.is_honest outside.old) → IsSome (W.held outside.old) → Tracks W.Outside store outside.new) }
+        ensures tracks { IfOk result (λ store. IsTrue (W.is_honest outside.old) → IsSome (W.held outside.old) → TracksStore W.Outside store outside.new) }
         ensures begun { IfOk result (λ store. store.bank.begun ≡ None) }
         ensures no_fault { IfOk result (λ store. W.disk_faults outside.new ≡ W.disk_faults outside.old) }
-        ensures fault { IfErr result (IsOpenFault W.Outside outside.old outside.new) }
+        ensures fault { IfErr result (IsStoreOpenFault W.Outside outside.old outside.new) }
         ensures calm { IfErr result (λ fault. fault ≢ OpenFault.DiskFault → W.disk_faults outside.new ≡ W.disk_faults outside.old) }
     {
         let header = start(outside)?;
@@ -113,11 +113,11 @@ impl Durable {
         ensures begun { self.new.bank.begun ≡ None }
         ensures read { OnOk result (IsSome (W.held outside.old) → IsReopened (held_of W.Outside outside.old) self.new) }
         ensures shows { OnOk result (HasHeader (held_of W.Outside outside.old) self.old.header → IsSome (W.held outside.old) → Shows (held_of W.Outside outside.old) self.new) }
-        ensures tracks { OnOk result (HasHeader (held_of W.Outside outside.old) self.old.header → IsTrue (W.is_honest outside.old) → IsSome (W.held outside.old) → Tracks W.Outside self.new outside.new) }
+        ensures tracks { OnOk result (HasHeader (held_of W.Outside outside.old) self.old.header → IsTrue (W.is_honest outside.old) → IsSome (W.held outside.old) → TracksStore W.Outside self.new outside.new) }
         ensures no_fault { OnOk result (W.disk_faults outside.new ≡ W.disk_faults outside.old) }
-        ensures fault { IfErr result (IsReopenFault W.Outside outside.old outside.new self.old.header) }
+        ensures fault { IfErr result (IsStoreReopenFault W.Outside outside.old outside.new self.old.header) }
         ensures calm { IfErr result (λ fault. fault ≢ ReopenFault.DiskFault → W.disk_faults outside.new ≡ W.disk_faults outside.old) }
-        ensures intact { IfErr result (λ fault. IsSome (W.held outside.old) → IsIntact self.old.header (held_of W.Outside outside.old) → fault ≡ ReopenFault.DiskFault) }
+        ensures intact { IfErr result (λ fault. IsSome (W.held outside.old) → IsStoreWith self.old.header (held_of W.Outside outside.old) → fault ≡ ReopenFault.DiskFault) }
     {
         match synced(outside) {
             Err(Failed) => {
@@ -164,12 +164,12 @@ impl Durable {
         ensures doubt_cause { result ≡ Kept.Doubt → Rose (W.disk_faults outside.old) (W.disk_faults outside.new) }
 
         // Of a store that is tracked: whenever a crash comes, it leaves what stood, or that with the record.
-        ensures crash { Tracks W.Outside self.old outside.old → Leaves W.Outside (IsEither (begun_of self.old.bank) (held_of W.Outside outside.old)) outside.old outside.new }
-        ensures unwritten { result ≡ Kept.Unwritten → Tracks W.Outside self.old outside.old → Leaves W.Outside (λ image seen. stands image ≡ stands (held_of W.Outside outside.old)) outside.old outside.new }
-        ensures doubt { result ≡ Kept.Doubt → Tracks W.Outside self.old outside.old → Leaves W.Outside (λ image seen. stands (slice_set image (roomy self.old.bank).gate 0xA5) ≡ one_more (begun_of self.old.bank) (stands (held_of W.Outside outside.old))) outside.new outside.new }
-        ensures records { (tracks : Tracks W.Outside self.old outside.old) → HoldsCommitted self.old.header self.old.bank tracks.shows.read.records (held_of W.Outside outside.new) }
-        ensures intact { Tracks W.Outside self.old outside.old → IsIntact self.old.header (held_of W.Outside outside.new) }
-        ensures done { result ≡ Kept.Done → Tracks W.Outside self.old outside.old → IsCommitted W.Outside self.old self.new outside.old outside.new }
+        ensures crash { TracksStore W.Outside self.old outside.old → Leaves W.Outside (IsEither (begun_of self.old.bank) (held_of W.Outside outside.old)) outside.old outside.new }
+        ensures unwritten { result ≡ Kept.Unwritten → TracksStore W.Outside self.old outside.old → Leaves W.Outside (λ image seen. stands image ≡ stands (held_of W.Outside outside.old)) outside.old outside.new }
+        ensures doubt { result ≡ Kept.Doubt → TracksStore W.Outside self.old outside.old → Leaves W.Outside (λ image seen. stands (slice_set image (roomy self.old.bank).gate 0xA5) ≡ one_more (begun_of self.old.bank) (stands (held_of W.Outside outside.old))) outside.new outside.new }
+        ensures records { (tracks : TracksStore W.Outside self.old outside.old) → HoldsCommitted self.old.header self.old.bank tracks.shows.read.records (held_of W.Outside outside.new) }
+        ensures intact { TracksStore W.Outside self.old outside.old → IsStoreWith self.old.header (held_of W.Outside outside.new) }
+        ensures done { result ≡ Kept.Done → TracksStore W.Outside self.old outside.old → IsCommitted W.Outside self.old self.new outside.old outside.new }
     {
         self.banks.commit(outside)
     }
@@ -184,15 +184,15 @@ impl Durable {
         requires room { HoldsAtLeast W.Outside (total self.old.header) outside.old }
         ensures only { OnlyWrites W.Outside outside.old outside.new }
         ensures header { self.new.header ≡ self.old.header }
-        ensures kept { self.new.bank ≡ kept_after result self.old.bank }
+        ensures kept { self.new.bank ≡ bank_checkpointed result self.old.bank }
         ensures number { number_of self.new ≡ number_of self.old }
         ensures count { OnOk result (self.new.bank.count ≡ 0) }
-        ensures cause { HasCause (W.disk_faults outside.old) (W.disk_faults outside.new) result }
+        ensures cause { FailsOnlyCounted (W.disk_faults outside.old) (W.disk_faults outside.new) result }
 
         // Of a store that is tracked: whenever a crash comes, it leaves what stood.
-        ensures crash { (tracks : Tracks W.Outside self.old outside.old) → Leaves W.Outside (λ image seen. IsSame self.old.header self.old.bank tracks.shows.read.records (held_of W.Outside outside.old) image) outside.old outside.new }
-        ensures intact { Tracks W.Outside self.old outside.old → IsIntact self.old.header (held_of W.Outside outside.new) }
-        ensures done { OnOk result (Tracks W.Outside self.old outside.old → IsEmptied W.Outside self.old self.new outside.old outside.new) }
+        ensures crash { (tracks : TracksStore W.Outside self.old outside.old) → Leaves W.Outside (λ image seen. IsSame self.old.header self.old.bank tracks.shows.read.records (held_of W.Outside outside.old) image) outside.old outside.new }
+        ensures intact { TracksStore W.Outside self.old outside.old → IsStoreWith self.old.header (held_of W.Outside outside.new) }
+        ensures done { OnOk result (TracksStore W.Outside self.old outside.old → IsEmptied W.Outside self.old self.new outside.old outside.new) }
     {
         self.banks.checkpoint(outside)
     }
@@ -210,7 +210,7 @@ impl Durable {
         ensures asks { OnlyAsks W.Outside outside.old outside.new }
         ensures found { IfOk result (IsFound self.now.header.directory.page self.now.header.bank_bytes place) }
         ensures read { IfOk result (λ found. IsSome (W.held outside.old) → (at : IsRecordAt (held_of W.Outside outside.old) self.now.bank place) → IsCounted self.now.header.directory.page place at.lines found) }
-        ensures cause { HasCause (W.disk_faults outside.old) (W.disk_faults outside.new) result }
+        ensures cause { FailsOnlyCounted (W.disk_faults outside.old) (W.disk_faults outside.new) result }
     {
         self.banks.record_at(outside, place)
     }
@@ -233,7 +233,7 @@ impl Durable {
         requires room { HoldsAtLeast W.Outside (total self.now.header) outside.old }
         ensures asks { OnlyAsks W.Outside outside.old outside.new }
         ensures read { IfOk result (λ line. IsSome (W.held outside.old) → (at : IsRecordAt (held_of W.Outside outside.old) self.now.bank of.now.place) → length at.lines ≡ of.now.count → IsLineOf at.lines index line into.new) }
-        ensures cause { HasCause (W.disk_faults outside.old) (W.disk_faults outside.new) result }
+        ensures cause { FailsOnlyCounted (W.disk_faults outside.old) (W.disk_faults outside.new) result }
     {
         self.banks.line_at(outside, of, index, into)
     }
@@ -255,7 +255,7 @@ impl Durable {
         requires whole { length into.old ≡ page_bytes self.now.header.directory.page }
         ensures asks { OnlyAsks W.Outside outside.old outside.new }
         ensures read { OnOk result (IsShown W.Outside self.now outside.old → into.new ≡ page_in (stands (held_of W.Outside outside.old)) page) }
-        ensures cause { HasCause (W.disk_faults outside.old) (W.disk_faults outside.new) result }
+        ensures cause { FailsOnlyCounted (W.disk_faults outside.old) (W.disk_faults outside.new) result }
     {
         let first = u32::from(page) * 16;
         outside.read_at(self.header.home_at(first), into)?;

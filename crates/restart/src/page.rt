@@ -2,7 +2,7 @@
 ghost use Rattle.std.specs.Prelude.{◌≡◌, ◌+◌, ◌≤◌, ◌<◌, length, slice_index_or, None, IsSome, IfSome, OnOk};
 ghost use Rattle.owned_list.specs.Overlay.{overlaid};
 ghost use Rattle.outside.specs.Bytes.{bytes_at};
-ghost use Rattle.outside.specs.Causes.{HasCause};
+ghost use Rattle.outside.specs.Causes.{FailsOnlyCounted};
 ghost use Rattle.outside.specs.Runs.{OnlyAsks, held_of};
 ghost use Rattle.redo_journal.specs.Held.{HoldsAtLeast};
 ghost use Rattle.redo_journal.specs.Kept.{area_end, line_bytes_of};
@@ -25,7 +25,7 @@ pub fn read_newest<W: Outside>(
     ensures asks { OnlyAsks W.Outside outside.old outside.new }
     ensures placed { IfSome (slice_index_or banks.now.newest line None) (λ place. place + line_bytes_of banks.now ≤ area_end banks.now) }
     ensures read { OnOk result (IsSome (W.held outside.old) → page.new ≡ newest_over (line_bytes_of banks.now) (held_of W.Outside outside.old) (slice_index_or banks.now.newest line None) page.old at) }
-    ensures cause { HasCause (W.disk_faults outside.old) (W.disk_faults outside.new) result }
+    ensures cause { FailsOnlyCounted (W.disk_faults outside.old) (W.disk_faults outside.new) result }
 {
     match banks.newest(line) {
         None => Ok(()),
@@ -45,7 +45,7 @@ fn read_line<W: Outside>(
     requires within { at + count ≤ length page.old }
     ensures asks { OnlyAsks W.Outside outside.old outside.new }
     ensures read { OnOk result (IsSome (W.held outside.old) → page.new ≡ overlaid page.old at (bytes_at (held_of W.Outside outside.old) place count)) }
-    ensures cause { HasCause (W.disk_faults outside.old) (W.disk_faults outside.new) result }
+    ensures cause { FailsOnlyCounted (W.disk_faults outside.old) (W.disk_faults outside.new) result }
 {
     let (_, rest) = page.split_at_mut(at);
     let (line, _) = rest.split_at_mut(count);

@@ -2,7 +2,7 @@
 ghost use Rattle.std.specs.Prelude.{◌≡◌, ◌≢◌, IsTrue, IsSome, IfOk, IfErr, OnOk};
 ghost use Rattle.store_format.specs.Header.{total};
 ghost use Rattle.store_format.specs.Stands.{HasHeader};
-ghost use Rattle.outside.specs.Causes.{HasCause};
+ghost use Rattle.outside.specs.Causes.{FailsOnlyCounted};
 ghost use Rattle.outside.specs.Durable.{IsSure};
 ghost use Rattle.outside.specs.Runs.{OnlyAsks, held_of};
 ghost use Rattle.redo_journal.specs.Held.{HoldsAtLeast};
@@ -37,7 +37,7 @@ pub fn start<W: Outside>(outside: &mut W) -> Result<Header, OpenFault>
 pub fn synced<W: Outside>(outside: &mut W) -> Result<(), Failed>
     ensures asks { OnlyAsks W.Outside outside.old outside.new }
     ensures sure { OnOk result (IsTrue (W.is_honest outside.old) → IsSome (W.held outside.old) → IsSure W.Outside outside.new) }
-    ensures cause { HasCause (W.disk_faults outside.old) (W.disk_faults outside.new) result }
+    ensures cause { FailsOnlyCounted (W.disk_faults outside.old) (W.disk_faults outside.new) result }
 {
     outside.sync()
 }

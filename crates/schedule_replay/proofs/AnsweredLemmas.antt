@@ -1,5 +1,5 @@
 -- Events, one after another.
-use Rattle.schedule_replay.proofs.Common.{◌≡◌, ℕ, zero, suc, ◌+◌, ◌<◌, ◌≤◌, List, [], ◌∷◌, ◌++◌, length, get_or, take, drop, cond, refl, sym, ◌∙◌, ap, subst, arith, rules, IsSome, false, Option, Result, Ok, Err, IsErr, All, unwrap_or, ForSome, take_all, take_more, take-append-drop, sum_by-append, Failed, Ghosts, HasCause, cause_since, FewerLater, elapses-trans, Program, Fixed, Header, total, bank_of, chosen, Event, HoldsStore, Line, Going, IsAsked, is_begin, is_turn, begins_in, turns_in, IsReady, Answered, GoesBy, GoesShut, Puts}
+use Rattle.schedule_replay.proofs.Common.{◌≡◌, ℕ, zero, suc, ◌+◌, ◌<◌, ◌≤◌, List, [], ◌∷◌, ◌++◌, length, get_or, take, drop, cond, refl, sym, ◌∙◌, ap, subst, arith, rules, IsSome, false, Option, Result, Ok, Err, IsErr, All, unwrap_or, ForSome, take_all, take_more, take-append-drop, sum_by-append, Failed, Ghosts, FailsOnlyCounted, cause_since, FewerLater, elapses-trans, Program, Fixed, Header, total, bank_of, chosen, Event, HoldsStore, Line, Going, IsAsked, is_begin, is_turn, begins_in, turns_in, IsReady, Answered, GoesBy, GoesShut, Puts}
 use Rattle.desk.specs.declared.supervisor.Supervisor as desk
 use Rattle.schedule_replay.specs.declared.events.Going.TheVariants as going
 use Rattle.schedule_replay.proofs.PutsLemmas.{done, no_time}
@@ -99,7 +99,7 @@ module _ {D W : Type 0} (S : desk.Ghosts D) (G : Ghosts W) (fewer_later : FewerL
     cause = record { later = is.cause.later; failed = tt; done = is.cause.done };
   }
 
-  broken_cause : {T U : Type 0} (before after : ℕ) (result : Result T Failed) (other : Result U Failed) → IsErr result → IsErr other → HasCause before after result → HasCause before after other
+  broken_cause : {T U : Type 0} (before after : ℕ) (result : Result T Failed) (other : Result U Failed) → IsErr result → IsErr other → FailsOnlyCounted before after result → FailsOnlyCounted before after other
   broken_cause before after (Ok value) other one two cause = absurd (search (rules, one))
   broken_cause before after (Err failed) (Ok other) one two cause = absurd (search (rules, two))
   broken_cause before after (Err failed) (Err other) one two cause = record { later = cause.later; failed = cause.failed; done = tt }

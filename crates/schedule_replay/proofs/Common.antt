@@ -32,7 +32,7 @@ pub use Rattle.outside.proofs.Durable.{leaves_held, told_is}
 pub use Rattle.outside.proofs.Prints.{only_on, prints_broken, prints_on, prints_same, prints_stop, prints_well}
 pub use Rattle.outside.proofs.Runs.{asks_none, calls_none, calls_on, elapses-trans, leaves_on}
 pub use Rattle.outside.specs.Bytes.{AreTold, Prints}
-pub use Rattle.outside.specs.Causes.{HasCause, Rose, RoseBy}
+pub use Rattle.outside.specs.Causes.{FailsOnlyCounted, Rose, RoseBy}
 pub use Rattle.outside.specs.Durable.{IsSure}
 pub use Rattle.outside.specs.Moments.{Elapses, Shows}
 pub use Rattle.outside.specs.Runs.{CallsDisk, FewerLater, Leaves, OnlyAsks, OnlyPuts, held_of}

@@ -2,7 +2,7 @@
 use Rattle.std.specs.Prelude.{◌≡◌, ◌+◌, ◌^◌, ◌<◌, ◌≤◌, true, false, List, [], length, All, Result, IsSome}
 use Rattle.outside.specs.declared.world.Outside.{Ghosts}
 use Rattle.outside.specs.declared.failed.Failed.{Failed}
-use Rattle.outside.specs.Causes.{Rose, HasCause}
+use Rattle.outside.specs.Causes.{Rose, FailsOnlyCounted}
 use Rattle.outside.specs.Moments.{Elapses}
 use Rattle.outside.specs.Runs.{held_of}
 use Rattle.store_format.specs.Bank.{Faulty, bank_of}
@@ -33,7 +33,7 @@ pub record Answered {D W : Type 0} (S : desk.Ghosts D) (G : Ghosts W) (events : 
   pub told : StillTold G before after
   pub time : Elapses G.moment G.left_since before after
   pub disk : G.disk_faults before ≤ G.disk_faults after
-  pub cause : HasCause (G.put_faults before) (G.put_faults after) result
+  pub cause : FailsOnlyCounted (G.put_faults before) (G.put_faults after) result
 
 -- Whether the supervisor is closed, and why: one that was open closed where the disk's faults rose, or where the chosen bank of the bytes
 -- that are told has a fault.

@@ -32,7 +32,7 @@ pub use Rattle.redo_journal.specs.Records.{IsCounted, IsRecordAt, area_bytes}
 pub use Rattle.redo_journal.specs.Tracks.{IsEither}
 pub use Rattle.redo_journal.specs.declared.find.Record.{Record}
 pub use Rattle.restart.specs.Kept.{KeptStore, number_of, with_begun}
-pub use Rattle.restart.specs.Shows.{IsShown, Shows, Tracks}
+pub use Rattle.restart.specs.Shows.{IsShown, Shows, TracksStore}
 pub use Rattle.store_format.specs.Bank.{RecordLine, record_bytes, wrong_line}
 pub use Rattle.store_format.specs.Header.{Header, entry_bytes, most_lines, number_at}
 pub use Rattle.store_format.specs.Stands.{HasHeader, Standing, Stands, chosen, home_of, one_more}

@@ -1,12 +1,12 @@
 -- Records that are kept and told, one after another.
-use Rattle.standby.proofs.Common.{◌≡◌, ℕ, suc, ◌+◌, ◌-◌, ◌<◌, List, [], ◌++◌, length, take, get_or, refl, sym, ◌∙◌, ap, subst, arith, append-nil, IfSome_then, Option, Result, Ok, Err, OnErr, take_all, FlatStore, Stands, stands, Failed, Ghosts, Prints, FewerLater, Leaves, held_of, told_is, prints_none, prints_on, prints_same, prints_stop, leaves_on, KeptStore, Shows, Tracks, FollowsBy, IsAtNumber, IsStopped, Follows, Keeps, SoFar, broken, kept_text, well, Puts, laid_by, Steps, followed_of, over, put_of, ShipLine, end_line, kept_line, later, next, Followed, Done, DiskFault, PutFault}
+use Rattle.standby.proofs.Common.{◌≡◌, ℕ, suc, ◌+◌, ◌-◌, ◌<◌, List, [], ◌++◌, length, take, get_or, refl, sym, ◌∙◌, ap, subst, arith, append-nil, IfSome_then, Option, Result, Ok, Err, OnErr, take_all, FlatStore, Stands, stands, Failed, Ghosts, Prints, FewerLater, Leaves, held_of, told_is, prints_none, prints_on, prints_same, prints_stop, leaves_on, KeptStore, Shows, TracksStore, FollowsBy, IsAtNumber, IsStopped, Follows, Keeps, SoFar, broken, kept_text, well, Puts, laid_by, Steps, followed_of, over, put_of, ShipLine, end_line, kept_line, later, next, Followed, Done, DiskFault, PutFault}
 use Rattle.outside.specs.Moments.{Elapses}
 use Rattle.standby.proofs.PutLemmas.{PrintedNow, image_is, sure_puts}
 use Rattle.standby.proofs.TellLemmas.{at_end, at_some, at_step, kept_front, later_more, laid_more}
 
 module _ {W : Type 0} (G : Ghosts W) (fewer_later : FewerLater G) (printed_now : PrintedNow G) (bytes number : ℕ) (store : FlatStore) (records : List (List ShipLine)) where
   -- none yet
-  pub so_far_none : (durable : KeptStore) (now : W) → later number 0 ≡ number → Tracks G durable now → stands (held_of G now) ≡ Stands number store → SoFar G bytes number store records 0 durable now now
+  pub so_far_none : (durable : KeptStore) (now : W) → later number 0 ≡ number → TracksStore G durable now → stands (held_of G now) ≡ Stands number store → SoFar G bytes number store records 0 durable now now
   so_far_none durable now number_is tracks stood =
       let here : stands (held_of G now) ≡ Stands (later number 0) (laid_by bytes store (take 0 records)) = stood ∙ ap (λ (n : ℕ). Stands n store) (sym number_is) in
       record {
@@ -134,6 +134,6 @@ not_done _ stopped is = cc
 
 -- nothing is called
 pub follows_none : {W : Type 0} (G : Ghosts W) (fewer_later : FewerLater G) (printed_now : PrintedNow G) (bytes number : ℕ) (store : FlatStore) (records : List (List ShipLine)) (durable : KeptStore) (now : W) (how : Followed)
-    → later number 0 ≡ number → Tracks G durable now → stands (held_of G now) ≡ Stands number store → FollowsBy G bytes number store records durable now now how → Follows G bytes number store records durable now now how
+    → later number 0 ≡ number → TracksStore G durable now → stands (held_of G now) ≡ Stands number store → FollowsBy G bytes number store records durable now now how → Follows G bytes number store records durable now now how
 follows_none G fewer_later printed_now bytes number store records durable now how number_is tracks stood ends =
     record { crash = (so_far_none G fewer_later printed_now bytes number store records durable now number_is tracks stood).crash; ends = ends }

@@ -1,5 +1,5 @@
 -- One record that is kept and told.
-use Rattle.standby.proofs.Common.{◌≡◌, inl, inr, ⊎_elim, ℕ, ◌+◌, ◌*◌, List, [], ◌∷◌, refl, sym, ◌∙◌, ap, subst, append-nil, IfSome_then, FlatStore, line_bytes, PageSize, RecordLine, Standing, Stands, home_of, stands, one_more, Failed, Ghosts, AreTold, Prints, IsSure, CallsDisk, FewerLater, Leaves, held_of, leaves_on, begun_of, IsEither, KeptStore, with_begun, Shows, Tracks, Puts, SeesPart, laid, well, broken, IsStep, Steps, over, put_of, Followed, DiskFault, PutFault, ShipLine, next, kept_line, told}
+use Rattle.standby.proofs.Common.{◌≡◌, inl, inr, ⊎_elim, ℕ, ◌+◌, ◌*◌, List, [], ◌∷◌, refl, sym, ◌∙◌, ap, subst, append-nil, IfSome_then, FlatStore, line_bytes, PageSize, RecordLine, Standing, Stands, home_of, stands, one_more, Failed, Ghosts, AreTold, Prints, IsSure, CallsDisk, FewerLater, Leaves, held_of, leaves_on, begun_of, IsEither, KeptStore, with_begun, Shows, TracksStore, Puts, SeesPart, laid, well, broken, IsStep, Steps, over, put_of, Followed, DiskFault, PutFault, ShipLine, next, kept_line, told}
 use Rattle.std.specs.Prelude.{◌%◌, ◌^◌, length, Option, Result, Ok, Err, OnErr, fold}
 use Rattle.owned_list.specs.Overlay.{overlaid}
 use Rattle.store_format.proofs.Stores.{stands_is}
@@ -28,9 +28,9 @@ sized held kept number store shows stood =
     let flat : store ≡ record { directory = kept.header.directory; bytes = fold (format.laid kept.header.directory.page) (home_of held kept.header) shows.read.records } = cc in
     ap (λ (that : FlatStore). line_bytes that.directory.page) (sym flat)
 
-pub tracks_begun : {W : Type 0} (G : Ghosts W) (store now : KeptStore) (lines : List RecordLine) (outside : W) → now ≡ with_begun store lines → Tracks G store outside → Tracks G now outside
+pub tracks_begun : {W : Type 0} (G : Ghosts W) (store now : KeptStore) (lines : List RecordLine) (outside : W) → now ≡ with_begun store lines → TracksStore G store outside → TracksStore G now outside
 tracks_begun G store now lines outside is tracks =
-    subst (λ (that : KeptStore). Tracks G that outside) (sym is) (record { sure = tracks.sure; shows = shows_begun store lines (held_of G outside) tracks.shows })
+    subst (λ (that : KeptStore). TracksStore G that outside) (sym is) (record { sure = tracks.sure; shows = shows_begun store lines (held_of G outside) tracks.shows })
 
 module _ {W : Type 0} (G : Ghosts W) (fewer_later : FewerLater G) (printed_now : PrintedNow G) (number bytes : ℕ) (store : FlatStore) (lines : List ShipLine) (begun : List RecordLine) (before mid : W)
     (sized : bytes ≡ line_bytes store.directory.page) (same : told begun ≡ lines) (stood : stands (held_of G before) ≡ Stands number store) (calls : CallsDisk G before mid) (either : Leaves G (IsEither begun (held_of G before)) before mid) where
@@ -60,7 +60,7 @@ module _ {W : Type 0} (G : Ghosts W) (fewer_later : FewerLater G) (printed_now :
   step_unkept durable = record { crash = in_disk; ends = calls.quiet.same }
 
   -- the record is kept, and its line is put or not
-  pub step_kept : (durable : KeptStore) (after : W) (line : List ℕ) (result : Result (Unit {0}) Followed) → Tracks G durable mid → stands (held_of G mid) ≡ one_more begun (stands (held_of G before)) → line ≡ kept_line (next number)
+  pub step_kept : (durable : KeptStore) (after : W) (line : List ℕ) (result : Result (Unit {0}) Followed) → TracksStore G durable mid → stands (held_of G mid) ≡ one_more begun (stands (held_of G before)) → line ≡ kept_line (next number)
       → OnErr result (result ≡ Err PutFault) → Puts G line mid after (put_of result) → Steps G bytes number store lines durable before after result
   step_kept durable after line (Ok done) tracks more is only puts =
       let kept = subst (λ (these : List ℕ). Puts {T = Unit {0}} G these mid after well) is puts in

@@ -13,7 +13,7 @@ use Rattle.outside.specs.Moments.{Elapses}
 use Rattle.outside.specs.Runs.{Leaves, held_of}
 use Rattle.redo_journal.specs.Held.{HoldsAtLeast, IsMoreBy}
 use Rattle.restart.specs.Kept.{KeptStore}
-use Rattle.restart.specs.Shows.{Tracks}
+use Rattle.restart.specs.Shows.{TracksStore}
 use Rattle.standby.specs.State.{laid_by}
 use Rattle.standby.specs.Text.{Content, ShipLine, later, end_line, kept_line}
 use Rattle.standby.specs.declared.following.Followed.{Followed}
@@ -72,7 +72,7 @@ IsStopped _ = ⊥
 
 -- the store is tracked, and stands for what stood with these records laid over it
 pub record IsLater {W : Type 0} (G : Ghosts W) (bytes number : ℕ) (store : FlatStore) (records : List (List ShipLine)) (durable : KeptStore) (now : W) : Type 0 where
-  pub tracks : Tracks G durable now
+  pub tracks : TracksStore G durable now
   pub stood : stands (held_of G now) ≡ Stands (later number (length records)) (laid_by bytes store records)
 
 -- how bytes were put that went well, and that didn't
@@ -104,7 +104,7 @@ FollowsBy G bytes number store records durable before after _ = after ≡ before
 -- so many of the records are kept and told
 pub record SoFar {W : Type 0} (G : Ghosts W) (bytes number : ℕ) (store : FlatStore) (records : List (List ShipLine)) (count : ℕ) (durable : KeptStore) (before now : W) : Type 0 where
   pub crash : Leaves G (IsAtNumber bytes number store records (G.printed before)) before now
-  pub tracks : Tracks G durable now
+  pub tracks : TracksStore G durable now
   pub stood : stands (held_of G now) ≡ Stands (later number count) (laid_by bytes store (take count records))
   pub printed : Prints (G.printed before) (G.printed now) (kept_text number count) well
 

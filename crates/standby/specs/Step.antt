@@ -11,7 +11,7 @@ use Rattle.outside.specs.declared.failed.Failed.{Failed}
 use Rattle.outside.specs.Bytes.{AreTold, Prints}
 use Rattle.outside.specs.Runs.{Leaves, held_of}
 use Rattle.restart.specs.Kept.{KeptStore, with_begun}
-use Rattle.restart.specs.Shows.{Tracks}
+use Rattle.restart.specs.Shows.{TracksStore}
 use Rattle.standby.specs.Followed.{well, broken}
 use Rattle.standby.specs.Puts.{SeesPart}
 use Rattle.standby.specs.State.{laid}
@@ -46,7 +46,7 @@ IsStep bytes number store lines printed image seen =
 -- was printed
 abbrev pub StepsBy : {W : Type 0} → Ghosts W → (bytes number : ℕ) → FlatStore → List ShipLine → KeptStore → W → W → Result (Unit {0}) Followed → Type 0
 StepsBy G bytes number store lines durable before after (Ok done) =
-    Tracks G durable after × (stands (held_of G after) ≡ Stands (next number) (over bytes store lines)) × Prints (G.printed before) (G.printed after) (kept_line (next number)) well
+    TracksStore G durable after × (stands (held_of G after) ≡ Stands (next number) (over bytes store lines)) × Prints (G.printed before) (G.printed after) (kept_line (next number)) well
 StepsBy G bytes number store lines durable before after (Err PutFault) = Prints (G.printed before) (G.printed after) (kept_line (next number)) broken
 StepsBy G bytes number store lines durable before after (Err DiskFault) = G.printed after ≡ G.printed before
 StepsBy G bytes number store lines durable before after (Err _) = ⊥

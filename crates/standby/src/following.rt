@@ -7,7 +7,7 @@ ghost use Rattle.store_format.specs.Stands.{Stands, stands};
 ghost use Rattle.outside.specs.Runs.{held_of};
 ghost use Rattle.redo_journal.specs.Held.{HoldsAtLeast};
 ghost use Rattle.restart.specs.Kept.{number_of};
-ghost use Rattle.restart.specs.Shows.{Tracks};
+ghost use Rattle.restart.specs.Shows.{TracksStore};
 ghost use Rattle.standby.specs.Followed.{IsAlike, OnlyGoesOn, EndsBy, IsStopped, Keeps, Follows};
 ghost use Rattle.standby.specs.Puts.{Puts};
 ghost use Rattle.standby.specs.State.{IsAmong, IsFirstLong, IsLongAt, due};
@@ -56,7 +56,7 @@ pub fn follow<W: Outside>(durable: &mut Durable, ship: &Ship, outside: &mut W) -
 
     // Of a store that is tracked: whenever a crash comes, it leaves the store at a number of the text from there on, and not
     // one before a number that was told; and how it ended, with what was printed.
-    ensures follows { (store : FlatStore) → Tracks W.Outside durable.old outside.old → stands (held_of W.Outside outside.old) ≡ Stands (number_of durable.old) store → Follows W.Outside (content_of ship.now).line_bytes (number_of durable.old) store (due (content_of ship.now) (number_of durable.old)) durable.new outside.old outside.new result }
+    ensures follows { (store : FlatStore) → TracksStore W.Outside durable.old outside.old → stands (held_of W.Outside outside.old) ≡ Stands (number_of durable.old) store → Follows W.Outside (content_of ship.now).line_bytes (number_of durable.old) store (due (content_of ship.now) (number_of durable.old)) durable.new outside.old outside.new result }
 {
     if !is_alike(durable, ship) {
         return Followed::Geometry;
@@ -110,7 +110,7 @@ fn keep_all<W: Outside>(
     ensures ends { EndsBy W.Outside outside.old outside.new (followed_of result) }
     ensures stopped { IfErr result IsStopped }
     ensures header { durable.new.header ≡ durable.old.header }
-    ensures follows { (store : FlatStore) → Tracks W.Outside durable.old outside.old → stands (held_of W.Outside outside.old) ≡ Stands (number_of durable.old) store → Follows W.Outside (line_bytes durable.old.header.directory.page) (number_of durable.old) store (map (record_of (line_bytes durable.old.header.directory.page)) records.now) durable.new outside.old outside.new (followed_of result) }
+    ensures follows { (store : FlatStore) → TracksStore W.Outside durable.old outside.old → stands (held_of W.Outside outside.old) ≡ Stands (number_of durable.old) store → Follows W.Outside (line_bytes durable.old.header.directory.page) (number_of durable.old) store (map (record_of (line_bytes durable.old.header.directory.page)) records.now) durable.new outside.old outside.new (followed_of result) }
 {
     let mut text = TextLine::new();
     match keep_each(durable, records, &mut text, outside) {
@@ -135,7 +135,7 @@ fn keep_each<W: Outside>(
     ensures stopped { IfErr result IsStopped }
     ensures header { durable.new.header ≡ durable.old.header }
     ensures number { OnOk result (number_of durable.new ≡ later (number_of durable.old) (length records.now)) }
-    ensures keeps { (store : FlatStore) → Tracks W.Outside durable.old outside.old → stands (held_of W.Outside outside.old) ≡ Stands (number_of durable.old) store → Keeps W.Outside (line_bytes durable.old.header.directory.page) (number_of durable.old) store (map (record_of (line_bytes durable.old.header.directory.page)) records.now) durable.new outside.old outside.new (followed_of result) }
+    ensures keeps { (store : FlatStore) → TracksStore W.Outside durable.old outside.old → stands (held_of W.Outside outside.old) ≡ Stands (number_of durable.old) store → Keeps W.Outside (line_bytes durable.old.header.directory.page) (number_of durable.old) store (map (record_of (line_bytes durable.old.header.directory.page)) records.now) durable.new outside.old outside.new (followed_of result) }
 {
     for record in records {
         match keep(durable, record, text, outside) {
@@ -160,7 +160,7 @@ fn keep<W: Outside>(
     ensures stopped { IfErr result IsStopped }
     ensures header { durable.new.header ≡ durable.old.header }
     ensures number { OnOk result (number_of durable.new ≡ next (number_of durable.old)) }
-    ensures steps { (store : FlatStore) → Tracks W.Outside durable.old outside.old → stands (held_of W.Outside outside.old) ≡ Stands (number_of durable.old) store → Steps W.Outside (line_bytes durable.old.header.directory.page) (number_of durable.old) store (record_of (line_bytes durable.old.header.directory.page) sent.now) durable.new outside.old outside.new result }
+    ensures steps { (store : FlatStore) → TracksStore W.Outside durable.old outside.old → stands (held_of W.Outside outside.old) ≡ Stands (number_of durable.old) store → Steps W.Outside (line_bytes durable.old.header.directory.page) (number_of durable.old) store (record_of (line_bytes durable.old.header.directory.page) sent.now) durable.new outside.old outside.new result }
 {
     begin(durable, sent);
     match durable.commit(outside) {

@@ -4,7 +4,7 @@ ghost use Rattle.line_geometry.specs.Lines.{line_count};
 ghost use Rattle.line_geometry.specs.Segments.{line_bytes};
 ghost use Rattle.store_format.specs.Header.{total};
 ghost use Rattle.store_format.specs.Bank.{RecordLine, record_bytes};
-ghost use Rattle.outside.specs.Causes.{HasCause};
+ghost use Rattle.outside.specs.Causes.{FailsOnlyCounted};
 ghost use Rattle.outside.specs.Runs.{AsksAndPuts, OnlyAsks, held_of};
 ghost use Rattle.redo_journal.specs.Held.{HoldsAtLeast};
 ghost use Rattle.redo_journal.specs.Records.{IsRecordAt, area_bytes};
@@ -108,7 +108,7 @@ fn place_behind<W: Outside>(durable: &Durable, passed: u32, outside: &mut W) -> 
     requires passed { passed ≤ durable.now.bank.count }
     ensures asks { OnlyAsks W.Outside outside.old outside.new }
     ensures only { OnErr result (result ≡ Err Shipped.DiskFault) }
-    ensures cause { HasCause (W.disk_faults outside.old) (W.disk_faults outside.new) (put_of result) }
+    ensures cause { FailsOnlyCounted (W.disk_faults outside.old) (W.disk_faults outside.new) (put_of result) }
     ensures inside { IfOk result (λ place. place < durable.now.header.bank_bytes) }
     ensures place { IfOk result (λ place. (shown : IsShown W.Outside durable.now outside.old) → place ≡ area_bytes durable.now.bank.page (take passed shown.shows.read.records)) }
 {

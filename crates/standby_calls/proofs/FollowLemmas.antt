@@ -13,9 +13,9 @@ use Rattle.outside.specs.Runs.{FewerLater, Leaves, OnlyAsks, held_of}
 use Rattle.outside.proofs.Prints.{prints_on, prints_same, prints_unput}
 use Rattle.outside.proofs.Runs.{leaves_on}
 use Rattle.redo_journal.specs.declared.fault.OpenFault.{OpenFault}
-use Rattle.restart.specs.Faults.{IsOpenFault}
+use Rattle.restart.specs.Faults.{IsStoreOpenFault}
 use Rattle.restart.specs.Kept.{KeptStore, number_of}
-use Rattle.restart.specs.Shows.{Shows, Tracks}
+use Rattle.restart.specs.Shows.{Shows, TracksStore}
 use Rattle.restart.proofs.ShowLemmas.{shown_stands}
 use Rattle.standby.specs.Followed.{Follows, IsAtNumber, broken, followed_text, kept_text, well}
 use Rattle.standby.specs.State.{IsAmong, behind, due, laid_by}
@@ -73,20 +73,20 @@ module _ {W : Type 0} (G : Ghosts W) (fewer_later : FewerLater G) (printed_now :
   }
 
   -- the store isn't opened
-  pub not_opened : (fault : OpenFault) (now : Status) → now ≡ status_of_open fault → IsOpenFault G before mid fault → OnStore G content before mid now
+  pub not_opened : (fault : OpenFault) (now : Status) → now ≡ status_of_open fault → IsStoreOpenFault G before mid fault → OnStore G content before mid now
   not_opened fault now is why = subst (OnStore G content before mid) (sym is) (by fault why)
     where
-      by : (fault : OpenFault) → IsOpenFault G before mid fault → OnStore G content before mid (status_of_open fault)
+      by : (fault : OpenFault) → IsStoreOpenFault G before mid fault → OnStore G content before mid (status_of_open fault)
       by (open_fault.NotAStore offset) why = (asks, λ told. inl (why told))
       by (open_fault.Damaged offset) why = (asks, λ told. inr (why told))
       by open_fault.DiskFault why = (inl asks, unopened)
       by open_fault.Memory why = asks
 
-  module _ (durable kept : KeptStore) (shows : IsSome (G.held before) → Shows (held_of G before) durable) (tracks : IsTrue (G.is_honest before) → IsSome (G.held before) → Tracks G durable mid)
+  module _ (durable kept : KeptStore) (shows : IsSome (G.held before) → Shows (held_of G before) durable) (tracks : IsTrue (G.is_honest before) → IsSome (G.held before) → TracksStore G durable mid)
       (after : W) (time : Elapses G.moment G.left_since mid after) where
     -- what was followed from the opened store
     abbrev Goes : Followed → Type 0
-    Goes how = (store : FlatStore) → Tracks G durable mid → stands (held_of G mid) ≡ Stands (number_of durable) store → Follows G content.line_bytes (number_of durable) store (due content (number_of durable)) kept mid after how
+    Goes how = (store : FlatStore) → TracksStore G durable mid → stands (held_of G mid) ≡ Stands (number_of durable) store → Follows G content.line_bytes (number_of durable) store (due content (number_of durable)) kept mid after how
 
     number_is : (number : ℕ) (store : FlatStore) → StandsAt G before number store → number ≡ number_of durable
     number_is number store at =

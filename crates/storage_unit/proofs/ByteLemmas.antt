@@ -1,5 +1,5 @@
 -- The bytes of a store that a pool shows, place by place.
-use Rattle.storage_unit.proofs.Common.{◌≡◌, ◌≢◌, ℕ, ◌+◌, ◌-◌, ◌*◌, ◌%◌, ◌<◌, ◌≤◌, Bool, true, false, List, [], ◌∷◌, length, drop, refl, sym, ◌∙◌, ap, subst, arith, Option, Some, None, inl, inr, ◌==◌, ◌&&◌, not, if◌then◌else◌, slice_index, slice_index_or, slice_range, option_map_or, cases_lt, ne_eqb, eqb-true, eqb-false, get_or-take, get_or-drop, get_or-map-range_with_len, length-map-range_with_len, same_number_lists, overlaid, overlaid_before, overlaid_within, overlaid_behind, page_bytes, Layout, byte_count, line_of, page_of, has, page_of_line, Pool, IsSeen, frame_at, marks_at, frame_bytes, kept_after, gone, page_part, gone-from, some-within, gone-frame, gone-stays, gone-absent, frame-long, is_marked, byte_in_frame, byte_over, bytes_over}
+use Rattle.storage_unit.proofs.Common.{◌≡◌, ◌≢◌, ℕ, ◌+◌, ◌-◌, ◌*◌, ◌%◌, ◌<◌, ◌≤◌, Bool, true, false, List, [], ◌∷◌, length, drop, refl, sym, ◌∙◌, ap, subst, arith, Option, Some, None, inl, inr, ◌==◌, ◌&&◌, not, if◌then◌else◌, slice_index, slice_index_or, slice_range, option_map_or, cases_lt, ne_eqb, eqb-true, eqb-false, get_or-take, get_or-drop, get_or-map-range_with_len, length-map-range_with_len, same_number_lists, overlaid, overlaid_before, overlaid_within, overlaid_behind, page_bytes, Layout, byte_count, line_of, page_of, has, page_of_line, Pool, IsSeen, frame_at, marks_at, frame_bytes, paging_after, gone, page_part, gone-from, some-within, gone-frame, gone-stays, gone-absent, frame-long, is_marked, byte_in_frame, byte_over, bytes_over}
 use Rattle.storage_unit.proofs.SizeLemmas.{rest-below, place-is, spot-same, page-of-line}
 
 -- a byte of a part of a list
@@ -71,7 +71,7 @@ module _ (d : Layout) (pool : Pool) (committed : List ℕ) (page place : ℕ) (s
     bytes f = ap (λ (list : List ℕ). slice_index list (f * page_bytes d.page + place % page_bytes d.page)) (gone-stays pool page).bytes
 
     -- paging space after it
-    kept-is : (gone pool page).kept ≡ kept_after pool page frame
+    kept-is : (gone pool page).kept ≡ paging_after pool page frame
     kept-is = ap (λ (p : Pool). p.kept) (gone-from pool page frame there)
 
     start : page * page_bytes pool.page ≡ page * page_bytes d.page

@@ -20,7 +20,7 @@ pub use Rattle.frame_pool.proofs.LendLemmas.{lent-part, marked-seen}
 pub use Rattle.frame_pool.proofs.PoolLemmas.{gone-from, lines-below}
 pub use Rattle.frame_pool.proofs.SeenLemmas.{Stays, frame-long, gone-absent, gone-frame, gone-stays, pool-seen, seen-gone, some-within}
 pub use Rattle.frame_pool.proofs.SoundLemmas.{page_part}
-pub use Rattle.frame_pool.specs.Pool.{Brought, emptied, frame_at, frame_bytes, gone, kept_after, laid, line_kept, line_laid, lines_of_part, marked_in, marks_at, page_at, page_out, part_of, settled, with_bytes, with_marks, with_room}
+pub use Rattle.frame_pool.specs.Pool.{Brought, emptied, frame_at, frame_bytes, gone, paging_after, laid, line_kept, line_laid, lines_of_part, marked_in, marks_at, page_at, page_out, part_of, settled, with_bytes, with_marks, with_room}
 pub use Rattle.frame_pool.specs.PoolLending.{with_frame_part, with_marked}
 pub use Rattle.frame_pool.specs.Seen.{IsSeen}
 pub use Rattle.frame_pool.specs.Sizes.{frame_count, line_place, line_size, private_frames}

@@ -1,5 +1,5 @@
 -- What printing a range of a store did.
-use Rattle.store_calls.proofs.Common.{◌≡◌, inr, ◌+◌, ℕ, List, [], refl, sym, ◌∙◌, ap, subst, Option, IsSome, Result, Ok, Err, div_ceil, Ghosts, Prints, bytes_at, AsksAndPuts, OnlyAsks, FewerLater, held_of, Layout, start_of, FlatStore, Stands, stands, stands_is, Shows, IsShown, shown_store, row_lines, call, Status, Range, HasRange, IsInside, PutsBytes, PutsDone, Shown, ShownBy, StopsBy, bytes_in, rows_of, held_same, shows_asks, shows_on}
+use Rattle.store_calls.proofs.Common.{◌≡◌, inr, ◌+◌, ℕ, List, [], refl, sym, ◌∙◌, ap, subst, Option, IsSome, Result, Ok, Err, div_ceil, Ghosts, Prints, bytes_at, AsksAndPuts, OnlyAsks, FewerLater, held_of, Layout, start_of, FlatStore, Stands, stands, stands_is, Shows, IsShown, shown_store, row_lines, call, Status, Range, HasRange, IsInside, PutsBytes, PutsDone, RangeShown, ShownBy, StopsBy, bytes_in, rows_of, held_same, shows_asks, shows_on}
 use Rattle.restart.specs.Kept.{KeptStore}
 use Rattle.call_status.specs.declared.status.Status.TheVariants as status
 
@@ -16,7 +16,7 @@ same_directory held store shows number flat is =
 module _ {W : Type 0} (G : Ghosts W) (fewer_later : FewerLater G) (range : Range) (before start : W) (asks : OnlyAsks G before start) where
   module _ (store : KeptStore) (shows : IsSome (G.held before) → Shows (held_of G before) store) where
     -- the range isn't there
-    pub no_range : (IsInside store.header.directory range → ⊥) → Shown G range (call before start [] status.NoRange)
+    pub no_range : (IsInside store.header.directory range → ⊥) → RangeShown G range (call before start [] status.NoRange)
     no_range outside = record {
       no_order = refl;
       only = shows_asks G before start asks;
@@ -55,14 +55,14 @@ module _ {W : Type 0} (G : Ghosts W) (fewer_later : FewerLater G) (range : Range
       only-shows : (result : Result (Unit {0}) Status) → PutsBytes G store at range.from range.count start after result → AsksAndPuts G before after
       only-shows result puts = shows_on G fewer_later before start after (shows_asks G before start asks) puts.only
 
-      pub shown_whole : PutsBytes G store at range.from range.count start after (Ok tt) → Shown G range (call before after [] status.Done)
+      pub shown_whole : PutsBytes G store at range.from range.count start after (Ok tt) → RangeShown G range (call before after [] status.Done)
       shown_whole puts = record {
         no_order = refl;
         only = only-shows (Ok tt) puts;
         by_status = (has-range, rows-put (Ok tt) puts, λ told. puts.times (subst (λ (these : Option (List ℕ)). IsSome these) (sym asks.calls.quiet.same) told) ∙ ap (λ (n : ℕ). n + div_ceil range.count 16) asks.calls.puts);
       }
 
-      pub shown_part : (why : Status) → PutsBytes G store at range.from range.count start after (Err why) → Shown G range (call before after [] why)
+      pub shown_part : (why : Status) → PutsBytes G store at range.from range.count start after (Err why) → RangeShown G range (call before after [] why)
       shown_part why puts = record { no_order = refl; only = only-shows (Err why) puts; by_status = by why puts puts.stops }
         where
           by : (why : Status) → PutsBytes G store at range.from range.count start after (Err why) → StopsBy G start after why → ShownBy G range before after why

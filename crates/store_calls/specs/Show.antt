@@ -90,7 +90,7 @@ ShownBy G range before after status.NoMemory = OnlyAsks G before after
 ShownBy G range before after _ = ⊥
 
 -- what it did; it writes nothing
-pub record Shown {W : Type 0} (G : Ghosts W) (range : Range) (call : Call W) : Type 0 where
+pub record RangeShown {W : Type 0} (G : Ghosts W) (range : Range) (call : Call W) : Type 0 where
   pub no_order : call.order ≡ []
   pub only : AsksAndPuts G call.before call.after
   pub by_status : ShownBy G range call.before call.after call.status

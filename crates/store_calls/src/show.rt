@@ -4,12 +4,12 @@ ghost use Rattle.line_geometry.specs.Directory.{length_of, start_of, byte_count}
 ghost use Rattle.line_geometry.specs.Segments.{is_named, page_bytes};
 ghost use Rattle.store_format.specs.Header.{total};
 ghost use Rattle.store_format.specs.Stands.{stands};
-ghost use Rattle.outside.specs.Causes.{Rose, HasCause};
+ghost use Rattle.outside.specs.Causes.{Rose, FailsOnlyCounted};
 ghost use Rattle.outside.specs.Runs.{OnlyAsks, held_of};
 ghost use Rattle.redo_journal.specs.Held.{HoldsAtLeast};
 ghost use Rattle.restart.specs.Shows.{IsShown};
 ghost use Rattle.call_status.specs.Call.{call};
-ghost use Rattle.store_calls.specs.Show.{HasRead, IsInside, IsOfShow, PutsBytes, Shown, bytes_in};
+ghost use Rattle.store_calls.specs.Show.{HasRead, IsInside, IsOfShow, PutsBytes, RangeShown, bytes_in};
 
 use call_status::Status;
 use line_geometry::Directory;
@@ -35,7 +35,7 @@ pub struct Range {
 
 /// Prints bytes of the store that the disk holds, in rows of sixteen, each by one put.
 pub fn show_range<W: Outside>(alloc: Global, range: Range, outside: &mut W) -> Status
-    ensures shown { Shown W.Outside range (call outside.old outside.new [] result) }
+    ensures shown { RangeShown W.Outside range (call outside.old outside.new [] result) }
     ensures unfailed { result ≡ Status.Done → W.put_faults outside.new ≡ W.put_faults outside.old }
     ensures put { result ≡ Status.PutFault → Rose (W.put_faults outside.old) (W.put_faults outside.new) }
     ensures disk { result ≡ Status.DiskFault → Rose (W.disk_faults outside.old) (W.disk_faults outside.new) }
@@ -160,7 +160,7 @@ fn read_bytes<W: Outside>(
     requires few { length into.old ≤ 2048 }
     ensures asks { OnlyAsks W.Outside outside.old outside.new }
     ensures read { OnOk result (IsShown W.Outside store.now outside.old → into.new ≡ bytes_in (stands (held_of W.Outside outside.old)) at (length into.old)) }
-    ensures cause { HasCause (W.disk_faults outside.old) (W.disk_faults outside.new) result }
+    ensures cause { FailsOnlyCounted (W.disk_faults outside.old) (W.disk_faults outside.new) result }
 {
     let size = u32::from(store.header().directory().page().bytes());
     let here = into.len().min((size - at % size) as usize);
@@ -188,7 +188,7 @@ fn read_in_page<W: Outside>(
     requires inside { at % page_bytes store.now.header.directory.page + length into.old ≤ page_bytes store.now.header.directory.page }
     ensures asks { OnlyAsks W.Outside outside.old outside.new }
     ensures read { OnOk result (IsShown W.Outside store.now outside.old → into.new ≡ bytes_in (stands (held_of W.Outside outside.old)) at (length into.old)) }
-    ensures cause { HasCause (W.disk_faults outside.old) (W.disk_faults outside.new) result }
+    ensures cause { FailsOnlyCounted (W.disk_faults outside.old) (W.disk_faults outside.new) result }
 {
     let directory = store.header().directory();
     let size = directory.page().bytes();

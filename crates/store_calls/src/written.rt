@@ -1,6 +1,6 @@
 // An image that is written on an empty disk, and a line that tells it.
 ghost use Rattle.std.specs.Prelude.{◌≡◌, ◌⊎◌, [], length, IsSome, IfOk, IfErr, OnOk};
-ghost use Rattle.outside.specs.Causes.{Rose, HasCause};
+ghost use Rattle.outside.specs.Causes.{Rose, FailsOnlyCounted};
 ghost use Rattle.outside.specs.Runs.{CallsDisk, OnlyAsks, held_of};
 ghost use Rattle.listing.specs.Puts.{Puts, PutsTimes};
 ghost use Rattle.call_status.specs.Call.{call};
@@ -31,7 +31,7 @@ pub(super) fn ask_empty<W: Outside>(outside: &mut W) -> Result<(), Status>
 /// How many bytes the disk holds.
 fn length<W: Outside>(outside: &mut W) -> Result<u64, Failed>
     ensures asks { OnlyAsks W.Outside outside.old outside.new }
-    ensures cause { HasCause (W.disk_faults outside.old) (W.disk_faults outside.new) result }
+    ensures cause { FailsOnlyCounted (W.disk_faults outside.old) (W.disk_faults outside.new) result }
     ensures number { IfOk result (λ number. IsSome (W.held outside.old) → number ≡ length (held_of W.Outside outside.old)) }
 {
     outside.length()
@@ -55,7 +55,7 @@ pub(super) fn write_store<W: Outside>(image: &[u8], line: &[u8], outside: &mut W
 /// Writes the bytes over the front of the disk and makes them sure.
 fn write<W: Outside>(bytes: &[u8], outside: &mut W) -> Result<(), Failed>
     ensures calls { CallsDisk W.Outside outside.old outside.new }
-    ensures cause { HasCause (W.disk_faults outside.old) (W.disk_faults outside.new) result }
+    ensures cause { FailsOnlyCounted (W.disk_faults outside.old) (W.disk_faults outside.new) result }
     ensures done { OnOk result (IsWrittenWhole W.Outside bytes.now outside.old outside.new) }
     ensures torn { IsTornBy W.Outside (length bytes.now) outside.old outside.new }
     ensures crash { LeavesTorn W.Outside (length bytes.now) outside.old outside.new }

@@ -1,6 +1,6 @@
 // Reading the header of a store.
 ghost use Rattle.std.specs.Prelude.{◌≡◌, ◌≢◌, ℕ, ◌+◌, ◌-◌, ◌*◌, ◌^◌, ◌≤◌, List, [], ◌∷◌, ◌++◌, length, take, replicate, None, IfOk, IfErr, IsSome};
-ghost use Rattle.outside.specs.Causes.{HasCause};
+ghost use Rattle.outside.specs.Causes.{FailsOnlyCounted};
 ghost use Rattle.outside.specs.Runs.{OnlyAsks, held_of};
 ghost use Rattle.store_format.specs.Read.{IsHeaderFault};
 ghost use Rattle.store_format.specs.Stands.{HasHeader};
@@ -62,7 +62,7 @@ fn read_head<W: Outside>(outside: &mut W) -> Result<(u64, [u8; HEADER_BYTES]), F
     ensures asks { OnlyAsks W.Outside outside.old outside.new }
     ensures number { IfOk result (λ read. IsSome (W.held outside.old) → read.0 ≡ length (held_of W.Outside outside.old)) }
     ensures head { IfOk result (λ read. IsSome (W.held outside.old) → read.1 ≡ take 128 (held_of W.Outside outside.old) ++ replicate (128 - length (held_of W.Outside outside.old)) 0) }
-    ensures cause { HasCause (W.disk_faults outside.old) (W.disk_faults outside.new) result }
+    ensures cause { FailsOnlyCounted (W.disk_faults outside.old) (W.disk_faults outside.new) result }
 {
     let mut head = [0; HEADER_BYTES];
     let length = outside.length()?;

@@ -1,5 +1,5 @@
 -- What a begin leaves of a session.
-use Rattle.supervisor.proofs.Common.{◌≡◌, ℕ, ◌+◌, ◌-◌, ◌*◌, ◌<◌, ◌≤◌, List, [], ◌∷◌, length, refl, sym, ◌∙◌, ap, subst, arith, Option, Some, None, length-append, Bool, true, false, ◌==◌, eqb-true, sitter, newcomer, next_seat, Begun, begun_told, Desk, Fine, Step, absent_segment, step, Activations, Activity, program_at, desk_over, IsBegin, begins, begins_by, Follows, AreRowsWithin, activity_of, Session, IsSound, activity, desk_of, order_of, Shown}
+use Rattle.supervisor.proofs.Common.{◌≡◌, ℕ, ◌+◌, ◌-◌, ◌*◌, ◌<◌, ◌≤◌, List, [], ◌∷◌, length, refl, sym, ◌∙◌, ap, subst, arith, Option, Some, None, length-append, Bool, true, false, ◌==◌, eqb-true, sitter, newcomer, next_seat, Begun, begun_told, Desk, Fine, Step, absent_segment, step, Activations, Activity, program_at, desk_over, IsBegin, begins, begins_by, KeepsDesk, AreRowsWithin, activity_of, Session, IsSound, activity, session_desk, order_of, ShowsDesk}
 use Rattle.seats.specs.declared.seat.Seat.{Seat}
 use Rattle.activations.proofs.SittingLemmas.{sitter-there, sitter-other}
 use Rattle.desk.specs.declared.event.Event.TheVariants as event
@@ -74,15 +74,15 @@ module _ (s : Session) (new : Activations) (program : ℕ) (args : List ℕ) (so
     };
   }
 
-  pub shown-begun : (answer : Begun) → ((committed : List ℕ) → Follows (activity s) committed → IsBegin (activity s) (activity_of new) program args answer committed)
-      → (held : List ℕ) (desk : Desk) → Shown s held desk
-      → (next : Desk) × (step (activity s).programs (event.Begin program args) Fine desk ≡ record { desk = next; happening = begun_told program answer }) × Shown (with_activations s new) held next
+  pub shown-begun : (answer : Begun) → ((committed : List ℕ) → KeepsDesk (activity s) committed → IsBegin (activity s) (activity_of new) program args answer committed)
+      → (held : List ℕ) (desk : Desk) → ShowsDesk s held desk
+      → (next : Desk) × (step (activity s).programs (event.Begin program args) Fine desk ≡ record { desk = next; happening = begun_told program answer }) × ShowsDesk (with_activations s new) held next
   shown-begun answer begin held desk shown =
       let over = shown.over in
       let goes = begin over.committed over.follows in
-      let open_desk : desk_of s over.committed ≡ desk_over (activity s) over.committed (order_of s) = λ i. record (desk_over (activity s) over.committed (order_of s)) { closed = over.still_open i } in
-      let next_desk : desk_over (activity_of new) over.committed (order_of s) ≡ desk_of (with_activations s new) over.committed = λ i. record (desk_over (activity_of new) over.committed (order_of s)) { closed = sym over.still_open i } in (
-        desk_of (with_activations s new) over.committed,
+      let open_desk : session_desk s over.committed ≡ desk_over (activity s) over.committed (order_of s) = λ i. record (desk_over (activity s) over.committed (order_of s)) { closed = over.still_open i } in
+      let next_desk : desk_over (activity_of new) over.committed (order_of s) ≡ session_desk (with_activations s new) over.committed = λ i. record (desk_over (activity_of new) over.committed (order_of s)) { closed = sym over.still_open i } in (
+        session_desk (with_activations s new) over.committed,
         ap (step (activity s).programs (event.Begin program args) Fine) (shown.is ∙ open_desk)
             ∙ goes.is_step (order_of s)
             ∙ ap (λ (that : Desk). let comes : Step = record { desk = that; happening = begun_told program answer } in comes) next_desk,

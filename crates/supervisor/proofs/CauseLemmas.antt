@@ -1,5 +1,5 @@
 -- Why a begin is answered so, and where a turn closes.
-use Rattle.supervisor.proofs.Common.{◌≡◌, ◌≤◌, ℕ, length, arith, sym, ap, ◌∙◌, subst, List, Option, Some, None, refl, true, has, Ghosts, FewerLater, OnlyAsks, asks_none, asks_on, Kept, begun_of, KeptStore, with_begun, next_seat, number_in, few-taken, Header, total, OnlyWrites, HoldsStore, Begun, TurnEnd, CallsStore, FailsCounted, turn_fails, Activity, begins, begins_by, Tally, IsEndOfRows, IfJournal, Session, activity, IsFull, HasPlace, lacking, TellsNumber, IsTurnEnd, answer_of, IsFailedCommit, ClosesInCommit, ClosesBy, IsCommitEnd}
+use Rattle.supervisor.proofs.Common.{◌≡◌, ◌≤◌, ℕ, length, arith, sym, ap, ◌∙◌, subst, List, Option, Some, None, refl, true, has, Ghosts, FewerLater, OnlyAsks, asks_none, asks_on, Kept, begun_of, KeptStore, with_begun, next_seat, number_in, few-taken, Header, total, OnlyWrites, HoldsStore, Begun, TurnEnd, CallsStore, FailsCounted, turn_fails, Activity, begins, begins_by, Tally, IsEndOfRows, IfJournal, Session, activity, IsFull, HasPlace, lacking, TellsNumber, IsTurnEnd, answer_of, IsFailedCommit, ClosesInCommit, ClosesAsCommit, IsCommitEnd}
 use Rattle.seats.proofs.Ascending.{none-free}
 use Rattle.activations.specs.Recorded.{IsRecordOf}
 use Rattle.activations.proofs.BeginLemmas.{some-next}
@@ -115,7 +115,7 @@ module _ {W : Type 0} (G : Ghosts W) (fewer_later : FewerLater G) (activation : 
     failed = closes.failed;
   }
 
-  pub closes-since : (ends : TurnEnd) → ClosesBy G activation ends store new between after → ClosesBy G activation ends store new before after
+  pub closes-since : (ends : TurnEnd) → ClosesAsCommit G activation ends store new between after → ClosesAsCommit G activation ends store new before after
   closes-since end.Idle closes = tt
   closes-since end.Limit closes = tt
   closes-since (end.Committed number steps) closes = tt

@@ -1,5 +1,5 @@
 -- The commit of a session is one of the desk, and what the disk holds in it.
-use Rattle.supervisor.proofs.Common.{◌≡◌, ◌⊎◌, inl, inr, ⊎_elim, ℕ, ◌+◌, ◌*◌, ◌%◌, ◌^◌, ◌<◌, ◌≤◌, List, [], ◌∷◌, ◌++◌, length, refl, sym, ◌∙◌, ap, subst, arith, Option, Some, length-append, map-append, Layout, FlatStore, eq-eqb, has, Plain, after, Ghosts, Rose, IsSure, Leaves, held_of, Header, HasRanges, most_lines, RecordLine, Standing, Stands, stands, one_more, laid, IsMoreBy, KeptStore, number_of, with_begun, Tracks, Committed, order_told, standing_of, Desk, Fine, Doubt, Unwritten, Over, ordered, WritesMore, number_after, IsState, over_all, committed_at, sitter, number_in, Activity, live_in, program_in, entry_in, store_over, desk_over, state_in, Live, Follows, AreRowsWithin, rolled, counts_of, commit_call, Tally, Session, IsSound, activity, order_of, desk_of, IsOver, HasCommitted, IsEitherSide, fine_desk, shows_begun}
+use Rattle.supervisor.proofs.Common.{◌≡◌, ◌⊎◌, inl, inr, ⊎_elim, ℕ, ◌+◌, ◌*◌, ◌%◌, ◌^◌, ◌<◌, ◌≤◌, List, [], ◌∷◌, ◌++◌, length, refl, sym, ◌∙◌, ap, subst, arith, Option, Some, length-append, map-append, Layout, FlatStore, eq-eqb, has, Plain, after, Ghosts, Rose, IsSure, Leaves, held_of, Header, HasRanges, most_lines, RecordLine, Standing, Stands, stands, one_more, laid, IsMoreBy, KeptStore, number_of, with_begun, TracksStore, Committed, order_told, standing_of, Desk, Fine, Doubt, Unwritten, Over, ordered, WritesMore, number_after, IsState, over_all, committed_at, sitter, number_in, Activity, live_in, program_in, entry_in, store_over, desk_over, state_in, Live, KeepsDesk, AreRowsWithin, rolled, tally_counts, commit_call, Tally, Session, IsSound, activity, order_of, session_desk, IsOpenOver, HasCommitted, IsEitherSide, fine_desk, shows_begun}
 use Rattle.std.specs.Prelude.{◌==◌, ◌&&◌, not, filter, Bool, None, true, false, vec_len, vec_capacity, slice_set}
 use Rattle.lock_rules.proofs.Sets.{has-filter}
 use Rattle.frame_pool.specs.declared.model.Pool.{Pool}
@@ -110,7 +110,7 @@ module _ (s : Session) (seat : ℕ) (sound : IsSound s) (taken : has (activity s
   }
 
 -- what was printed in a taken seat is what the state of who sits there says
-pub out-is : (a : Activity) (seat : ℕ) (committed : List ℕ) (now : Plain) → has a.seating.taken seat ≡ true → Follows a committed
+pub out-is : (a : Activity) (seat : ℕ) (committed : List ℕ) (now : Plain) → has a.seating.taken seat ≡ true → KeepsDesk a committed
     → after (program_in a seat) (entry_in a seat).runs.args (store_over a committed) (entry_in a seat).rows ≡ Some now → (live_in a seat).out ≡ now.out
 out-is a seat committed now taken follows at =
     let stand : IsState (store_over a committed) (entry_in a seat) (state_in a seat) = follows.kept.stand seat taken in
@@ -119,7 +119,7 @@ out-is a seat committed now taken follows at =
     ap (λ (p : Plain). p.out) same
 
 -- a commit over committed bytes, at a state, whose record gives what it commits
-module _ {W : Type 0} (G : Ghosts W) (s : Session) (seat : ℕ) (sound : IsSound s) (before after : W) (over : IsOver s (held_of G before)) (now : Plain)
+module _ {W : Type 0} (G : Ghosts W) (s : Session) (seat : ℕ) (sound : IsSound s) (before after : W) (over : IsOpenOver s (held_of G before)) (now : Plain)
     (lines : List RecordLine) (gives : laid (activity s).reach.directory.page over.committed lines ≡ now.store) where
   abbrev fine : Desk
   fine = fine_desk s over.committed seat now
@@ -132,7 +132,7 @@ module _ {W : Type 0} (G : Ghosts W) (s : Session) (seat : ℕ) (sound : IsSound
   keeps-is bytes = λ i. record { directory = sound.directory i; bytes = bytes }
 
   -- what stands before it
-  stood-before : stands (held_of G before) ≡ standing_of s.opened (desk_of s over.committed)
+  stood-before : stands (held_of G before) ≡ standing_of s.opened (session_desk s over.committed)
   stood-before = over.stood ∙ (λ i. Stands (over.number i) (keeps-is over.committed i))
 
   -- what stands with the record
@@ -145,7 +145,7 @@ module _ {W : Type 0} (G : Ghosts W) (s : Session) (seat : ℕ) (sound : IsSound
   number-now : (number : ℕ) (next : Desk) → number ≡ number_of s.store → next.order ≡ order_of s ++ (number_in (activity s).seating seat, (sitter (activity s).seating seat).rows + 1) ∷ []
       → (number + 1) % 2 ^ 64 ≡ number_after s.opened next
   number-now number next is order =
-      number-more s.opened number (desk_of s over.committed) next (number_in (activity s).seating seat, (sitter (activity s).seating seat).rows + 1) (is ∙ over.number) order
+      number-more s.opened number (session_desk s over.committed) next (number_in (activity s).seating seat, (sitter (activity s).seating seat).rows + 1) (is ∙ over.number) order
 
   -- and that is what the desk has once it went well
   fine-stands : one_more lines (stands (held_of G before)) ≡ standing_of s.opened fine
@@ -157,18 +157,18 @@ module _ {W : Type 0} (G : Ghosts W) (s : Session) (seat : ℕ) (sound : IsSound
   either-side next image same sides = ⊎_elim (λ was. inl (was ∙ stood-before)) (λ is. inr (same, is ∙ fine-stands)) sides
 
   -- the store with the record begun is tracked
-  pub tracked : IsSure G before → (store : KeptStore) → store ≡ with_begun s.store lines → Tracks G store before
+  pub tracked : IsSure G before → (store : KeptStore) → store ≡ with_begun s.store lines → TracksStore G store before
   tracked sure store is =
-      subst (λ (that : KeptStore). Tracks G that before) (sym is) (record { sure = sure; shows = shows_begun s.store lines (held_of G before) over.shows })
+      subst (λ (that : KeptStore). TracksStore G that before) (sym is) (record { sure = sure; shows = shows_begun s.store lines (held_of G before) over.shows })
 
   module _ (number : ℕ) (number_is : number ≡ number_of s.store) (n : Session) (told : Committed) (activation : told.activation ≡ number_in (activity s).seating seat)
       (steps : told.steps ≡ (sitter (activity s).seating seat).rows + 1) where
     pub went-done : n.store.header ≡ s.store.header → n.opened ≡ s.opened → n.closed ≡ s.closed → n.order.items ≡ s.order.items ++ told ∷ []
         → ((order : List (ℕ × ℕ)) → desk_over (activity n) now.store order ≡ committed_at (desk_over (activity s) over.committed order) (entry_in (activity s) seat) now)
-        → Follows (activity n) now.store → n.printed ≡ now.out
-        → number_of n.store ≡ (number_of s.store + 1) % 2 ^ 64 → Tracks G n.store after → stands (held_of G after) ≡ one_more lines (stands (held_of G before))
+        → KeepsDesk (activity n) now.store → n.printed ≡ now.out
+        → number_of n.store ≡ (number_of s.store + 1) % 2 ^ 64 → TracksStore G n.store after → stands (held_of G after) ≡ one_more lines (stands (held_of G before))
         → Leaves G (IsEither lines (held_of G before)) before after
-        → (tally counted : Tally) → counts_of counted ≡ record (counts_of tally) { ran = tally.ran + 1 }
+        → (tally counted : Tally) → tally_counts counted ≡ record (tally_counts tally) { ran = tally.ran + 1 }
         → HasCommitted G seat now (end.Committed ((number + 1) % 2 ^ 64) told.steps) s n tally counted before after over.committed
     went-done header opened closed more desk follows printed next_number tracks stood crash tally counted one_more_ran = record {
       word = Fine;
@@ -187,19 +187,19 @@ module _ {W : Type 0} (G : Ghosts W) (s : Session) (seat : ℕ) (sound : IsSound
         order : order_of n ≡ order_of s ++ (number_in (activity s).seating seat, (sitter (activity s).seating seat).rows + 1) ∷ []
         order = order-more s.order.items n.order.items told (number_in (activity s).seating seat) ((sitter (activity s).seating seat).rows + 1) more activation steps
 
-        is_new : fine ≡ desk_of n now.store
+        is_new : fine ≡ session_desk n now.store
         is_new =
             (λ i. record (committed_at (desk_over (activity s) over.committed (sym order i)) (entry_in (activity s) seat) now) { closed = sym closed i })
             ∙ ap (λ (d : Desk). record d { closed = n.closed }) (sym (desk (order_of n)))
 
-        over_new : IsOver n (held_of G after)
+        over_new : IsOpenOver n (held_of G after)
         over_new = record {
           still_open = closed ∙ over.still_open;
           committed = now.store;
           shows = tracks.shows;
           stood = stood ∙ stands-more ∙ (λ i. Stands (sym next_number i) (record { directory = (sym header i).directory; bytes = now.store }));
           follows = follows;
-          number = next_number ∙ number-now (number_of s.store) (desk_of n now.store) refl order ∙ ap (λ (opened : ℕ). number_after opened (desk_of n now.store)) (sym opened);
+          number = next_number ∙ number-now (number_of s.store) (session_desk n now.store) refl order ∙ ap (λ (opened : ℕ). number_after opened (session_desk n now.store)) (sym opened);
         }
 
     pub went-doubt : n.closed ≡ true → n.order.items ≡ s.order.items ++ told ∷ [] → (tally : Tally) (gate : ℕ)
@@ -221,7 +221,7 @@ module _ {W : Type 0} (G : Ghosts W) (s : Session) (seat : ℕ) (sound : IsSound
     }
       where
         next : Desk
-        next = record (ordered (desk_of s over.committed) (commit_call (activity s) seat over.committed (order_of s) now)) { closed = true }
+        next = record (ordered (session_desk s over.committed) (commit_call (activity s) seat over.committed (order_of s) now)) { closed = true }
 
   pub went-unwritten : (number : ℕ) → number ≡ number_of s.store → (n : Session) → n.closed ≡ true → order_of n ≡ order_of s → (tally : Tally)
       → Rose (G.disk_faults before) (G.disk_faults after) → Leaves G (λ image seen. stands image ≡ stands (held_of G before)) before after
@@ -229,7 +229,7 @@ module _ {W : Type 0} (G : Ghosts W) (s : Session) (seat : ℕ) (sound : IsSound
   went-unwritten number is n closed order tally rose crash = record {
     word = Unwritten;
     reads = λ counted page below. refl;
-    next = record (desk_of s over.committed) { closed = true };
+    next = record (session_desk s over.committed) { closed = true };
     step = refl;
     closes = sym closed;
     ordered = sym order;

@@ -7,11 +7,11 @@ pub use Rattle.activations.specs.Activity.{Activity, desk_over, entries, entry_i
 pub use Rattle.activations.specs.Begins.{Begins, IsBegin, begins, begins_by, idle}
 pub use Rattle.activations.specs.Causes.{IfJournal, IfVictim}
 pub use Rattle.activations.specs.Ends.{IsRestarted, reprinted}
-pub use Rattle.activations.specs.Follows.{Follows}
+pub use Rattle.activations.specs.Follows.{KeepsDesk}
 pub use Rattle.activations.specs.Instructed.{IfWaits, IsEndOfRows}
 pub use Rattle.activations.specs.Kept.{AreRowsWithin}
 pub use Rattle.activations.specs.Steps.{rolled}
-pub use Rattle.activations.specs.Turning.{HasEnded, counts_of}
+pub use Rattle.activations.specs.Turning.{HasEnded, tally_counts}
 pub use Rattle.activations.specs.Turns.{IsAtCommit, commit_call, turn_in}
 pub use Rattle.activations.specs.View.{activity_of}
 pub use Rattle.activations.specs.declared.activations.Activations.{Activations}
@@ -50,7 +50,7 @@ pub use Rattle.redo_journal.specs.Kept.{begun_of}
 pub use Rattle.redo_journal.specs.declared.keep.Kept.{Kept}
 pub use Rattle.restart.proofs.ShowLemmas.{reopened_holds, shown_stands, shown_store, shows_begun, sure_on}
 pub use Rattle.restart.specs.Kept.{KeptStore, number_of, with_begun}
-pub use Rattle.restart.specs.Shows.{Shows, Tracks}
+pub use Rattle.restart.specs.Shows.{Shows, TracksStore}
 pub use Rattle.run_law.proofs.StepLemmas.{stepped}
 pub use Rattle.seats.proofs.Kept.{few-taken, taken-below}
 pub use Rattle.seats.proofs.Numbers.{seat-found}
@@ -60,9 +60,9 @@ pub use Rattle.store_format.specs.Bank.{Faulty, Holds, RecordLine, bank_of}
 pub use Rattle.store_format.specs.Header.{HasRanges, Header, header_of, most_lines, total}
 pub use Rattle.store_format.specs.Stands.{Standing, Stands, chosen, laid, one_more}
 unfoldable pub use Rattle.store_format.specs.Stands.{stands}
-pub use Rattle.supervisor.specs.Causes.{ClosesBy, ClosesInCommit, EntersOrder, HasPlace, IsFailedCommit, IsFull, IsTurnEnd, TellsNumber, answer_of, lacking}
+pub use Rattle.supervisor.specs.Causes.{ClosesAsCommit, ClosesInCommit, EntersOrder, HasPlace, IsFailedCommit, IsFull, IsTurnEnd, TellsNumber, answer_of, lacking}
 pub use Rattle.supervisor.specs.Laws.{CyclesWereMet, ShownIsConsistent, ShownIsIsolated, WasMet, WereMet}
-pub use Rattle.supervisor.specs.Session.{IsSound, activity, desk_of, order_of, records_told}
-pub use Rattle.supervisor.specs.Shown.{IsOver, Shown}
-pub use Rattle.supervisor.specs.Went.{HasCommitted, HasRun, IsCommitEnd, IsEitherSide, IsTurned, fine_desk, most_kept}
+pub use Rattle.supervisor.specs.Session.{IsSound, activity, session_desk, order_of, records_told}
+pub use Rattle.supervisor.specs.Shown.{IsOpenOver, ShowsDesk}
+pub use Rattle.supervisor.specs.Went.{HasCommitted, TurnHasRun, IsCommitEnd, IsEitherSide, IsTurned, fine_desk, most_kept}
 pub use Rattle.supervisor.specs.declared.session.Session.{Session}

@@ -1,25 +1,25 @@
 -- What a crash of a session did.
-use Rattle.supervisor.proofs.Common.{◌≡◌, inl, inr, ℕ, List, [], refl, sym, ◌∙◌, ap, arith, Option, true, unwrap_or, Ghosts, Rose, IsSure, OnlyAsks, held_of, Header, Holds, Faulty, bank_of, Stands, stands, chosen, KeptStore, number_of, Tracks, shown_stands, shown_store, records_in, Did, standing_of, Desk, numbers, Fine, Failed, number_after, Step, Crashed, CrashFailed, shut, restarted, stepped, Activations, IsRestarted, activity_of, Session, IsSound, activity, desk_of, order_of, IsOver, Shown}
+use Rattle.supervisor.proofs.Common.{◌≡◌, inl, inr, ℕ, List, [], refl, sym, ◌∙◌, ap, arith, Option, true, unwrap_or, Ghosts, Rose, IsSure, OnlyAsks, held_of, Header, Holds, Faulty, bank_of, Stands, stands, chosen, KeptStore, number_of, TracksStore, shown_stands, shown_store, records_in, Did, standing_of, Desk, numbers, Fine, Failed, number_after, Step, Crashed, CrashFailed, shut, restarted, stepped, Activations, IsRestarted, activity_of, Session, IsSound, activity, session_desk, order_of, IsOpenOver, ShowsDesk}
 use Rattle.outside.proofs.Durable.{leaves_held}
 use Rattle.desk.specs.declared.event.Event.TheVariants as event
 use Rattle.supervisor.proofs.DidLemmas.{stood-over, fine-sure, failed-sure, open-shut}
 
 -- a crash
-module _ {W : Type 0} (G : Ghosts W) (s : Session) (store : KeptStore) (header : store.header ≡ s.store.header) (left : Activations) (sound : IsSound s) (before after : W) (sure : IsSure G before) (over : IsOver s (held_of G before)) (gone : IsRestarted (activity s) (activity_of left) over.committed) (asks : OnlyAsks G before after) where
+module _ {W : Type 0} (G : Ghosts W) (s : Session) (store : KeptStore) (header : store.header ≡ s.store.header) (left : Activations) (sound : IsSound s) (before after : W) (sure : IsSure G before) (over : IsOpenOver s (held_of G before)) (gone : IsRestarted (activity s) (activity_of left) over.committed) (asks : OnlyAsks G before after) where
   abbrev forgotten : Session
   forgotten = record s { store = store; activations = left }
 
-  pub restarted-is : desk_of forgotten over.committed ≡ restarted (desk_of s over.committed)
+  pub restarted-is : session_desk forgotten over.committed ≡ restarted (session_desk s over.committed)
   restarted-is = λ i. record (gone.desk (order_of s) i) { closed = s.closed }
 
   pub same_bytes : held_of G after ≡ held_of G before
   same_bytes = ap (λ (those : Option (List ℕ)). unwrap_or those []) asks.held
 
-  pub crash-leaves : (image seen : List ℕ) → G.left_since after (G.moment before) image seen → stands image ≡ standing_of s.opened (desk_of s over.committed)
+  pub crash-leaves : (image seen : List ℕ) → G.left_since after (G.moment before) image seen → stands image ≡ standing_of s.opened (session_desk s over.committed)
   crash-leaves image seen there =
       ap stands (leaves_held G before sure image seen (asks.crash sure.told image seen there)) ∙ stood-over s (held_of G before) sound over
 
-  module _ (tracks : Tracks G store after) where
+  module _ (tracks : TracksStore G store after) where
     pub number-same : number_of store ≡ number_of s.store
     number-same =
         let shown = shown_stands (held_of G after) store tracks.shows in
@@ -27,7 +27,7 @@ module _ {W : Type 0} (G : Ghosts W) (s : Session) (store : KeptStore) (header :
         sym shown.1 ∙ ap stands same_bytes ∙ over.stood in
         cc
 
-    abbrev pub over-forgotten : IsOver forgotten (held_of G after)
+    abbrev pub over-forgotten : IsOpenOver forgotten (held_of G after)
     over-forgotten = record {
       still_open = over.still_open;
       committed = over.committed;
@@ -43,16 +43,16 @@ module _ {W : Type 0} (G : Ghosts W) (s : Session) (store : KeptStore) (header :
     pub directory-forgotten : store.header.directory ≡ (activity_of left).reach.directory
     directory-forgotten = ap (λ (said : Header). said.directory) header ∙ sound.directory ∙ sym (ap (λ (desk : Desk). desk.committed.directory) (gone.desk []))
 
-    pub number-restarted : number_of store ≡ number_after s.opened (desk_of forgotten over.committed)
+    pub number-restarted : number_of store ≡ number_after s.opened (session_desk forgotten over.committed)
     number-restarted = number-same ∙ over.number
 
-    abbrev pub did-crash : Did G (activity s).programs s.opened event.Crash (Crashed (numbers (desk_of s over.committed))) s.closed (order_of s) (λ held desk. Shown forgotten held desk) (desk_of s over.committed) before after
+    abbrev pub did-crash : Did G (activity s).programs s.opened event.Crash (Crashed (numbers (session_desk s over.committed))) s.closed (order_of s) (λ held desk. ShowsDesk forgotten held desk) (session_desk s over.committed) before after
     did-crash = record {
       word = Fine;
-      next = desk_of forgotten over.committed;
+      next = session_desk forgotten over.committed;
       stepped =
-          stepped (activity s).programs event.Crash Fine (desk_of s over.committed) over.still_open
-          ∙ ap (λ (desk : Desk). let left_so : Step = record { desk = desk; happening = Crashed (numbers (desk_of s over.committed)) } in left_so) (sym restarted-is);
+          stepped (activity s).programs event.Crash Fine (session_desk s over.committed) over.still_open
+          ∙ ap (λ (desk : Desk). let left_so : Step = record { desk = desk; happening = Crashed (numbers (session_desk s over.committed)) } in left_so) (sym restarted-is);
       why = inl refl;
       closes = refl;
       ordered = refl;
@@ -63,11 +63,11 @@ module _ {W : Type 0} (G : Ghosts W) (s : Session) (store : KeptStore) (header :
     }
 
   abbrev pub did-fail-crash : Rose (G.disk_faults before) (G.disk_faults after)
-      → Did G (activity s).programs s.opened event.Crash (CrashFailed (numbers (desk_of s over.committed))) true (order_of s) (λ held desk. Shown (record forgotten { closed = true }) held desk) (desk_of s over.committed) before after
+      → Did G (activity s).programs s.opened event.Crash (CrashFailed (numbers (session_desk s over.committed))) true (order_of s) (λ held desk. ShowsDesk (record forgotten { closed = true }) held desk) (session_desk s over.committed) before after
   did-fail-crash rose = record {
     word = Failed;
-    next = shut (restarted (desk_of s over.committed));
-    stepped = stepped (activity s).programs event.Crash Failed (desk_of s over.committed) over.still_open;
+    next = shut (restarted (session_desk s over.committed));
+    stepped = stepped (activity s).programs event.Crash Failed (session_desk s over.committed) over.still_open;
     why = inr rose;
     closes = refl;
     ordered = refl;
@@ -78,7 +78,7 @@ module _ {W : Type 0} (G : Ghosts W) (s : Session) (store : KeptStore) (header :
   }
 
 -- bytes that were its store's have no fault
-pub undamaged : (s : Session) (held : List ℕ) → IsOver s held → (offset : ℕ) → bank_of held s.store.header (chosen held) ≡ Faulty offset → ⊥
+pub undamaged : (s : Session) (held : List ℕ) → IsOpenOver s held → (offset : ℕ) → bank_of held s.store.header (chosen held) ≡ Faulty offset → ⊥
 undamaged s held over offset faulty =
     let holds : bank_of held s.store.header (chosen held) ≡ Holds s.store.bank.gate over.shows.read.records =
     ap (bank_of held s.store.header) over.shows.chosen_is ∙ (shown_store held s.store over.shows).holds in

@@ -3,7 +3,7 @@ use Rattle.supervisor.proofs.Common.{Bool, true, false, Plain, Outcome, On, Comm
 use Rattle.std.proofs.Common.{◌≡◌, ℕ, zero, suc, ◌+◌, ◌<◌, ◌==◌, List, [], ◌∷◌, ◌++◌, length, find, refl, sym, ◌∙◌, ap, subst, arith, Option, Some, None}
 use Rattle.lock_rules.specs.Waits.{shown_cycle}
 use Rattle.desk_law.specs.Causes.{turn_counts}
-use Rattle.desk_law.specs.Laws.{counts_of}
+use Rattle.desk_law.specs.Laws.{contest_counts}
 use Rattle.desk_law.proofs.CyclesBroken.{broken-cycles-were}
 
 -- a turn after so many instructions of it, while it goes on
@@ -78,7 +78,7 @@ module _ (word : Word) (number limit : ℕ) (start : Desk) where
     waits-met attempt refused [] desk counts met = gets-met attempt refused desk counts met
     waits-met attempt refused (holder ∷ holders) desk counts met = met
 
-    contest-met : (attempt : Attempt) (refused : List ℕ) (contest : Contest) → Met (counts_of contest) → IsMet (contest_ends word attempt refused contest)
+    contest-met : (attempt : Attempt) (refused : List ℕ) (contest : Contest) → Met (contest_counts contest) → IsMet (contest_ends word attempt refused contest)
     contest-met attempt refused (Lost desk counts) met = met
     contest-met attempt refused (Settled desk counts) met = waits-met attempt refused (conflicts_of desk attempt.entry) desk counts met
     contest-met attempt refused (Contested desk counts) met = waits-met attempt refused (conflicts_of desk attempt.entry) desk counts met
@@ -89,7 +89,7 @@ module _ (word : Word) (number limit : ℕ) (start : Desk) where
       first = Contested (with_entry (record at { resident = resident }) (record entry { waiting = true })) before
 
       broken-met : (rounds : ℕ) (met_at : Desk) (counts : Counts) → breaks_cycles rounds entry.number first ≡ Contested met_at counts → Met counts
-          → (cycle : Option (List ℕ)) → shown_cycle (waits_for met_at) (numbers met_at) entry.number ≡ cycle → Met (counts_of (breaks_cycle entry.number cycle met_at counts))
+          → (cycle : Option (List ℕ)) → shown_cycle (waits_for met_at) (numbers met_at) entry.number ≡ cycle → Met (contest_counts (breaks_cycle entry.number cycle met_at counts))
       broken-met rounds met_at counts is met None none = subst (λ (these : Counts). Met these) (sym (broken-cycles-were entry.number met_at counts).1) met
       broken-met rounds met_at counts is met (Some cycle) shows =
           let broken = (broken-cycles-were entry.number met_at counts).0 cycle shows in
@@ -112,7 +112,7 @@ module _ (word : Word) (number limit : ℕ) (start : Desk) where
             waits = broken.2;
           }))
 
-      rounds-met : (left rounds : ℕ) (contest : Contest) → breaks_cycles rounds entry.number first ≡ contest → Met (counts_of contest) → Met (counts_of (breaks_cycles left entry.number contest))
+      rounds-met : (left rounds : ℕ) (contest : Contest) → breaks_cycles rounds entry.number first ≡ contest → Met (contest_counts contest) → Met (contest_counts (breaks_cycles left entry.number contest))
       rounds-met zero rounds contest is met = met
       rounds-met (suc left) rounds (Settled desk counts) is met = met
       rounds-met (suc left) rounds (Lost desk counts) is met = met
@@ -126,7 +126,7 @@ module _ (word : Word) (number limit : ℕ) (start : Desk) where
       asks-met refused [] resident counts met = gets-met attempt refused (record at { resident = resident }) counts met
       asks-met refused (holder ∷ holders) resident counts met =
           contest-met attempt refused (breaks_cycles (length at.active) attempt.entry.number (Contested (with_entry (record at { resident = resident }) (record attempt.entry { waiting = true })) counts))
-          (subst (λ (one : Entry). Met (counts_of (breaks_cycles (length at.active) one.number (Contested (with_entry (record at { resident = resident }) (record one { waiting = true })) counts)))) (sym its)
+          (subst (λ (one : Entry). Met (contest_counts (breaks_cycles (length at.active) one.number (Contested (with_entry (record at { resident = resident }) (record one { waiting = true })) counts)))) (sym its)
           (rounds-met resident counts (length at.active) 0 (first resident counts) refl met))
 
       first-met : (counts : Counts) (fetching : Fetching) → Met counts → IsMet (fetched_first word attempt at counts fetching)

@@ -1,9 +1,9 @@
 -- A session that has just opened.
-use Rattle.supervisor.proofs.Common.{◌≡◌, ℕ, ◌+◌, ◌%◌, ◌^◌, List, [], length, take, sym, ◌∙◌, ap, arith, Option, false, unwrap_or, Layout, byte_count, Ghosts, OnlyAsks, held_of, header_of, most_lines, Stands, stands, KeptStore, number_of, Shows, Tracks, Committed, order_told, opened, Live, Activity, desk_over, Begins, idle, Session, activity, desk_of}
+use Rattle.supervisor.proofs.Common.{◌≡◌, ℕ, ◌+◌, ◌%◌, ◌^◌, List, [], length, take, sym, ◌∙◌, ap, arith, Option, false, unwrap_or, Layout, byte_count, Ghosts, OnlyAsks, held_of, header_of, most_lines, Stands, stands, KeptStore, number_of, Shows, TracksStore, Committed, order_told, opened, Live, Activity, desk_over, Begins, idle, Session, activity, session_desk}
 use Rattle.std.proofs.Math.Nat.{mod-mod}
 use Rattle.flat_machine.specs.declared.machine.Program.{Program}
 use Rattle.restart.proofs.StoodLemmas.{committed_in, committed-long, stood-store}
-use Rattle.supervisor.specs.Opened.{HasStood, IsOpened}
+use Rattle.supervisor.specs.Opened.{HasStood, IsSessionOpened}
 
 pub has-stood : (held : List ℕ) (store : KeptStore) → Shows held store → HasStood store.header held
 has-stood held store shows = (
@@ -25,13 +25,13 @@ pub record IsMade (frames : ℕ) (s : Session) : Type 0 where
 
 module _ (frames : ℕ) (s : Session) (made : IsMade frames s) where
   pub made-desk : (committed : List ℕ) → length committed ≡ byte_count s.store.header.directory
-      → opened frames 16 (most_lines s.store.header) (record { directory = s.store.header.directory; bytes = committed }) ≡ desk_of s committed
+      → opened frames 16 (most_lines s.store.header) (record { directory = s.store.header.directory; bytes = committed }) ≡ session_desk s committed
   made-desk committed long =
       sym (made.first committed long).is_desk
       ∙ (λ i. record (desk_over (activity s) committed (order_told (sym made.no_order i))) { closed = sym made.still_open i })
 
   -- over a store that is tracked
-  pub made-opened : {W : Type 0} (G : Ghosts W) (old new : W) → OnlyAsks G old new → Tracks G s.store new → IsOpened G frames old new s
+  pub made-opened : {W : Type 0} (G : Ghosts W) (old new : W) → OnlyAsks G old new → TracksStore G s.store new → IsSessionOpened G frames old new s
   made-opened G old new asks tracks =
       let same : held_of G new ≡ held_of G old = ap (λ (those : Option (List ℕ)). unwrap_or those []) asks.held in
       let committed : List ℕ = committed_in (held_of G new) s.store tracks.shows in

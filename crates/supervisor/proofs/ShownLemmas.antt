@@ -1,5 +1,5 @@
 -- What holds of the desk that a session shows.
-use Rattle.supervisor.proofs.Common.{not, IsFalse, is_some, and_parts, cases_lt, get_or_past, page_count, FlatStore, has, Plain, after, Desk, Entry, opened, run, over_all, seat-told, Session, activity, desk_of, ShownIsConsistent, ShownIsIsolated}
+use Rattle.supervisor.proofs.Common.{not, IsFalse, is_some, and_parts, cases_lt, get_or_past, page_count, FlatStore, has, Plain, after, Desk, Entry, opened, run, over_all, seat-told, Session, activity, session_desk, ShownIsConsistent, ShownIsIsolated}
 use Rattle.std.proofs.Common.{◌≡◌, ℕ, ◌+◌, ◌<◌, ◌≤◌, inl, inr, Bool, true, false, List, [], ◌∷◌, length, refl, sym, ◌∙◌, ap, subst, arith, Option, Some, None, get_or}
 use Rattle.frame_pool.specs.Sound.{is_apart}
 use Rattle.desk_law.specs.Consistent.{IsAmong, AreDistinct, AreResident, IsConsistent}
@@ -29,7 +29,7 @@ within-places places page is =
     ]
 
 -- the pages of a session's frames
-pages-fit : (s : Session) (committed : List ℕ) → AreResident (desk_of s committed).frames (page_count (desk_of s committed).committed.directory) (desk_of s committed).resident
+pages-fit : (s : Session) (committed : List ℕ) → AreResident (session_desk s committed).frames (page_count (session_desk s committed).committed.directory) (session_desk s committed).resident
 pages-fit s committed =
     let unit = s.activations.unit in
     let places = unit.pool.places in
@@ -49,7 +49,7 @@ pages-fit s committed =
 pub consistent : ShownIsConsistent
 consistent s held desk shown =
     let is = shown.over.follows.orderly in
-    let over : IsConsistent (desk_of s shown.over.committed) = record {
+    let over : IsConsistent (session_desk s shown.over.committed) = record {
       whole = is.whole;
       frames = s.activations.unit.pool.places.sound.sized.some;
       resident = pages-fit s shown.over.committed;

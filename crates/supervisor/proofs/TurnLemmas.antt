@@ -1,12 +1,12 @@
 -- How a turn of a session ends: over what ran, and then its commit.
-use Rattle.supervisor.proofs.Common.{arith, ap, sym, ◌∙◌, subst, inl, inr, ⊎_elim, has, Ghosts, Rose, IsSure, FewerLater, Leaves, OnlyAsks, held_of, leaves_on, Stands, stands, sure_on, Shows, Cycle, TurnEnd, ending_told, HasNumbers, OnlyWrites, IsEitherOf, fine_step, standing_of, Desk, Entry, Word, Fine, ReadFailed, Doubt, Counts, Going, Over, no_counts, commits, turn, turn_of, turns, number_after, Step, turned, Reads, seat-told, told-found, stepped, number_in, seat_of, seat-found, Activations, Tally, entries, entry_in, desk_over, Follows, IsEndOfRows, IfWaits, HasEnded, counts_of, IsAtCommit, commit_call, turn_in, activity_of, Session, IsSound, activity, order_of, desk_of, IsOver, HasCommitted, HasRun, IsCommitEnd, fine_desk}
+use Rattle.supervisor.proofs.Common.{arith, ap, sym, ◌∙◌, subst, inl, inr, ⊎_elim, has, Ghosts, Rose, IsSure, FewerLater, Leaves, OnlyAsks, held_of, leaves_on, Stands, stands, sure_on, Shows, Cycle, TurnEnd, ending_told, HasNumbers, OnlyWrites, IsEitherOf, fine_step, standing_of, Desk, Entry, Word, Fine, ReadFailed, Doubt, Counts, Going, Over, no_counts, commits, turn, turn_of, turns, number_after, Step, turned, Reads, seat-told, told-found, stepped, number_in, seat_of, seat-found, Activations, Tally, entries, entry_in, desk_over, KeepsDesk, IsEndOfRows, IfWaits, HasEnded, tally_counts, IsAtCommit, commit_call, turn_in, activity_of, Session, IsSound, activity, order_of, session_desk, IsOpenOver, HasCommitted, TurnHasRun, IsCommitEnd, fine_desk}
 use Rattle.std.specs.Prelude.{◌≡◌, refl, ℕ, ◌+◌, ◌-◌, ◌*◌, ◌<◌, ◌≤◌, ◌⊎◌, true, false, List, [], map, Option, Some, None, IsSome, unwrap_or}
 use Rattle.std.specs.Option.{option_map}
 use Rattle.outside.specs.Bytes.{AreTold}
 use Rattle.desk_law.proofs.Entries.{found-among}
 use Rattle.desk_law.proofs.InstructionStages.{reads-all}
 use Rattle.activations.specs.Fetching.{IsStoreOf}
-use Rattle.activations.specs.Serving.{IsOver as IsOverTurn}
+use Rattle.activations.specs.Serving.{ComesToEnd as IsOverTurn}
 use Rattle.desk.specs.declared.answers.TurnEnd.TheVariants as end
 use Rattle.desk.specs.declared.event.Event.TheVariants as event
 use Rattle.activations.specs.Follows as running
@@ -32,7 +32,7 @@ sound-ran s ran limit sound few turned rows is parts = record {
 }
 
 -- the desk of an open session is that over what runs
-pub open-desk : (s : Session) (committed : List ℕ) → s.closed ≡ false → desk_of s committed ≡ desk_over (activity s) committed (order_of s)
+pub open-desk : (s : Session) (committed : List ℕ) → s.closed ≡ false → session_desk s committed ≡ desk_over (activity s) committed (order_of s)
 open-desk s committed still i = record (desk_over (activity s) committed (order_of s)) { closed = still i }
 
 -- bytes that are told are those that are held
@@ -40,9 +40,9 @@ pub told-held : (told : Option (List ℕ)) (image : List ℕ) → IsSome told �
 told-held None image some is = absurd (cc (some))
 told-held (Some those) image some is = is
 
-module _ {W : Type 0} (G : Ghosts W) (s : Session) (sound : IsSound s) (before : W) (over : IsOver s (held_of G before)) where
+module _ {W : Type 0} (G : Ghosts W) (s : Session) (sound : IsSound s) (before : W) (over : IsOpenOver s (held_of G before)) where
   -- what the session is over stands
-  pub stood-before : stands (held_of G before) ≡ standing_of s.opened (desk_of s over.committed)
+  pub stood-before : stands (held_of G before) ≡ standing_of s.opened (session_desk s over.committed)
   stood-before =
       over.stood
       ∙ (λ i. Stands (over.number i) (record { directory = sound.directory i; bytes = over.committed }))
@@ -52,15 +52,15 @@ module _ {W : Type 0} (G : Ghosts W) (s : Session) (sound : IsSound s) (before :
   store-over sure = record { tracks = record { sure = sure; shows = over.shows }; number = _; stood = over.stood }
 
 module _ {W : Type 0} (G : Ghosts W) (fewer_later : FewerLater G) (s : Session) (sound : IsSound s) (activation limit : ℕ) (before mid : W) (sure : IsSure G before)
-    (over : IsOver s (held_of G before)) (asks : OnlyAsks G before mid) where
+    (over : IsOpenOver s (held_of G before)) (asks : OnlyAsks G before mid) where
   -- while the disk was only asked, a crash left what stood
-  asked : Leaves G (λ image seen. stands image ≡ standing_of s.opened (desk_of s over.committed)) before mid
+  asked : Leaves G (λ image seen. stands image ≡ standing_of s.opened (session_desk s over.committed)) before mid
   asked image seen left =
       ap stands (told-held (G.held before) image sure.told (sure.durable image seen (asks.crash sure.told image seen left)))
       ∙ stood-before G s sound before over
 
   -- other activities over the same bytes
-  abbrev pub over-ran : (ran : Activations) → Follows (activity_of ran) over.committed → IsOver (record s { activations = ran }) (held_of G mid)
+  abbrev pub over-ran : (ran : Activations) → KeepsDesk (activity_of ran) over.committed → IsOpenOver (record s { activations = ran }) (held_of G mid)
   over-ran ran follows = record {
     still_open = over.still_open;
     committed = over.committed;
@@ -70,14 +70,14 @@ module _ {W : Type 0} (G : Ghosts W) (fewer_later : FewerLater G) (s : Session) 
     number = over.number;
   }
 
-  pub idle : (tally : Tally) → counts_of tally ≡ no_counts → seat_of (activity s).seating activation ≡ None → HasRun G activation limit end.Idle s s tally before mid over.committed
+  pub idle : (tally : Tally) → tally_counts tally ≡ no_counts → seat_of (activity s).seating activation ≡ None → TurnHasRun G activation limit end.Idle s s tally before mid over.committed
   idle tally nothing nobody = record {
     word = Fine;
-    next = desk_of s over.committed;
+    next = session_desk s over.committed;
     step =
-        ap (λ (one : Option Entry). turn_of one Fine activation limit (desk_of s over.committed))
+        ap (λ (one : Option Entry). turn_of one Fine activation limit (session_desk s over.committed))
         (told-found (activity s).seating.taken (entry_in (activity s)) activation ∙ ap (option_map (entry_in (activity s))) nobody)
-        ∙ ap (λ (counts : Counts). Over (desk_of s over.committed) counts (ending_told end.Idle s.printed)) (sym nothing);
+        ∙ ap (λ (counts : Counts). Over (session_desk s over.committed) counts (ending_told end.Idle s.printed)) (sym nothing);
     closes = refl;
     ordered = refl;
     why = inl refl;
@@ -88,7 +88,7 @@ module _ {W : Type 0} (G : Ghosts W) (fewer_later : FewerLater G) (s : Session) 
     doubt = λ doubted. absurd (let no : ⊥ = cc in no);
   }
 
-  module _ (seat : ℕ) (sits : seat_of (activity s).seating activation ≡ Some seat) (ran : Activations) (tally told : Tally) (nothing : counts_of tally ≡ no_counts) where
+  module _ (seat : ℕ) (sits : seat_of (activity s).seating activation ≡ Some seat) (ran : Activations) (tally told : Tally) (nothing : tally_counts tally ≡ no_counts) where
     abbrev now : Session
     now = record s { activations = ran }
 
@@ -96,17 +96,17 @@ module _ {W : Type 0} (G : Ghosts W) (fewer_later : FewerLater G) (s : Session) 
     found = seat-found (activity s).seating sound.running.seating activation seat sits
 
     -- the turn is that of who sits there
-    turn-is : (word : Word) → turn word activation limit (desk_of s over.committed) ≡ turn_in (activity s) seat limit over.committed (order_of s) (counts_of tally) word
+    turn-is : (word : Word) → turn word activation limit (session_desk s over.committed) ≡ turn_in (activity s) seat limit over.committed (order_of s) (tally_counts tally) word
     turn-is word =
-        ap (λ (n : ℕ). turn word n limit (desk_of s over.committed)) (sym found.1)
-        ∙ ap (λ (one : Option Entry). turn_of one word (number_in (activity s).seating seat) limit (desk_of s over.committed))
+        ap (λ (n : ℕ). turn word n limit (session_desk s over.committed)) (sym found.1)
+        ∙ ap (λ (one : Option Entry). turn_of one word (number_in (activity s).seating seat) limit (session_desk s over.committed))
         (found-among (activity s).next (entries (activity s)) (entry_in (activity s) seat) over.follows.orderly.active.ascend (seat-told (activity s).seating.taken (entry_in (activity s)) seat found.0))
         ∙ (λ i. turns word (number_in (activity s).seating seat) limit (Going (open-desk s over.committed over.still_open i) (sym nothing i)))
 
     run-by : (word : Word) (how : TurnEnd) → (word ≡ Doubt → ⊥) → (word ≡ Fine) ⊎ Rose (G.disk_faults before) (G.disk_faults mid)
-        → turn_in (activity s) seat limit over.committed (order_of s) (counts_of tally) word ≡ Over (desk_over (activity_of ran) over.committed (order_of s)) (counts_of told) (ending_told how s.printed)
-        → Follows (activity_of ran) over.committed → HasNumbers how activation (number_after s.opened (desk_over (activity_of ran) over.committed (order_of s)))
-        → HasRun G activation limit how s now told before mid over.committed
+        → turn_in (activity s) seat limit over.committed (order_of s) (tally_counts tally) word ≡ Over (desk_over (activity_of ran) over.committed (order_of s)) (tally_counts told) (ending_told how s.printed)
+        → KeepsDesk (activity_of ran) over.committed → HasNumbers how activation (number_after s.opened (desk_over (activity_of ran) over.committed (order_of s)))
+        → TurnHasRun G activation limit how s now told before mid over.committed
     run-by word how sober why comes follows numbers = record {
       word = word;
       next = desk_over (activity_of ran) over.committed (order_of s);
@@ -121,14 +121,14 @@ module _ {W : Type 0} (G : Ghosts W) (fewer_later : FewerLater G) (s : Session) 
       doubt = λ doubted. absurd (sober doubted);
     }
 
-    fine : (how : TurnEnd) → IsOverTurn (turn_in (activity s) seat limit over.committed (order_of s) (counts_of tally)) (activity_of ran) over.committed (order_of s) (counts_of told) (ending_told how s.printed)
-        → HasNumbers how activation (number_after s.opened (desk_over (activity_of ran) over.committed (order_of s))) → HasRun G activation limit how s now told before mid over.committed
+    fine : (how : TurnEnd) → IsOverTurn (turn_in (activity s) seat limit over.committed (order_of s) (tally_counts tally)) (activity_of ran) over.committed (order_of s) (tally_counts told) (ending_told how s.printed)
+        → HasNumbers how activation (number_after s.opened (desk_over (activity_of ran) over.committed (order_of s))) → TurnHasRun G activation limit how s now told before mid over.committed
     fine how ended numbers = run-by Fine how (λ doubted. let no : ⊥ = cc in no) (inl refl) (ended.comes Fine (reads-all told.pages)) ended.follows numbers
 
     -- it ended before its commit call
     pub ended : (how : TurnEnd) → IsEndOfRows G before mid tally told how → IfWaits (number_in (activity s).seating seat) how
-        → HasEnded how (turn_in (activity s) seat limit over.committed (order_of s) (counts_of tally)) (activity_of ran) over.committed (order_of s) (counts_of told)
-        → HasRun G activation limit how s now told before mid over.committed
+        → HasEnded how (turn_in (activity s) seat limit over.committed (order_of s) (tally_counts tally)) (activity_of ran) over.committed (order_of s) (tally_counts told)
+        → TurnHasRun G activation limit how s now told before mid over.committed
     ended end.Disk rows waits has = run-by (ReadFailed told.pages) end.Disk (λ doubted. let no : ⊥ = cc in no) (inr rows.0) has.comes has.follows tt
     ended end.Idle rows waits has = absurd rows
     ended (end.Committed number steps) rows waits has = absurd rows
@@ -142,31 +142,31 @@ module _ {W : Type 0} (G : Ghosts W) (fewer_later : FewerLater G) (s : Session) 
 
     -- it came to its commit call
     module _ (parts : kept.KeepsParts (activity s) (activity_of ran) limit) (after : W) (new : Session) (how : TurnEnd) (counted : Tally)
-        (at : IsAtCommit (turn_in (activity s) seat limit over.committed (order_of s) (counts_of tally)) (activity_of ran) seat over.committed (order_of s) (counts_of told))
+        (at : IsAtCommit (turn_in (activity s) seat limit over.committed (order_of s) (tally_counts tally)) (activity_of ran) seat over.committed (order_of s) (tally_counts told))
         (number : number_in (activity_of ran).seating seat ≡ number_in (activity s).seating seat) (calm : G.disk_faults mid ≡ G.disk_faults before) (writes : OnlyWrites G mid after) (is_end : IsCommitEnd how)
         (went : HasCommitted G seat at.now how now new told counted mid after over.committed) where
       goes : (word : Word) → ((counted : ℕ) → Reads word counted)
-          → turn word activation limit (desk_of s over.committed) ≡ commits word (commit_call (activity_of ran) seat over.committed (order_of s) at.now) (desk_of now over.committed) (counts_of told)
+          → turn word activation limit (session_desk s over.committed) ≡ commits word (commit_call (activity_of ran) seat over.committed (order_of s) at.now) (session_desk now over.committed) (tally_counts told)
       goes word reads =
           turn-is word ∙ at.comes word (reads told.pages)
-          ∙ ap (λ (desk : Desk). commits word (commit_call (activity_of ran) seat over.committed (order_of s) at.now) desk (counts_of told)) (sym (open-desk now over.committed over.still_open))
+          ∙ ap (λ (desk : Desk). commits word (commit_call (activity_of ran) seat over.committed (order_of s) at.now) desk (tally_counts told)) (sym (open-desk now over.committed over.still_open))
 
-      fine-is : fine_step (activity s).programs (event.Turn activation limit) (desk_of s over.committed) ≡ fine_desk now over.committed seat at.now
+      fine-is : fine_step (activity s).programs (event.Turn activation limit) (session_desk s over.committed) ≡ fine_desk now over.committed seat at.now
       fine-is =
           ap (λ (left : Step). left.desk)
-          (stepped (activity s).programs (event.Turn activation limit) Fine (desk_of s over.committed) over.still_open
+          (stepped (activity s).programs (event.Turn activation limit) Fine (session_desk s over.committed) over.still_open
           ∙ ap (turned activation) (goes Fine reads-all))
 
-      order-fine : (fine_desk now over.committed seat at.now).order ≡ went.next.order → (fine_step (activity s).programs (event.Turn activation limit) (desk_of s over.committed)).order ≡ went.next.order
+      order-fine : (fine_desk now over.committed seat at.now).order ≡ went.next.order → (fine_step (activity s).programs (event.Turn activation limit) (session_desk s over.committed)).order ≡ went.next.order
       order-fine same = ap (λ (left : Desk). left.order) fine-is ∙ same
 
-      stands-fine : standing_of s.opened (fine_desk now over.committed seat at.now) ≡ standing_of s.opened (fine_step (activity s).programs (event.Turn activation limit) (desk_of s over.committed))
+      stands-fine : standing_of s.opened (fine_desk now over.committed seat at.now) ≡ standing_of s.opened (fine_step (activity s).programs (event.Turn activation limit) (session_desk s over.committed))
       stands-fine = ap (standing_of s.opened) (sym fine-is)
 
-      standing-ran : standing_of s.opened (desk_of now over.committed) ≡ standing_of s.opened (desk_of s over.committed)
-      standing-ran i = Stands (number_after s.opened (desk_of s over.committed)) (record { directory = parts.directory i; bytes = over.committed })
+      standing-ran : standing_of s.opened (session_desk now over.committed) ≡ standing_of s.opened (session_desk s over.committed)
+      standing-ran i = Stands (number_after s.opened (session_desk s over.committed)) (record { directory = parts.directory i; bytes = over.committed })
 
-      pub committed : HasRun G activation limit how s new counted before after over.committed
+      pub committed : TurnHasRun G activation limit how s new counted before after over.committed
       committed = record {
         word = went.word;
         next = went.next;
@@ -179,7 +179,7 @@ module _ {W : Type 0} (G : Ghosts W) (fewer_later : FewerLater G) (s : Session) 
         still = went.still;
         crash =
             leaves_on G fewer_later before mid after asks.calls.time writes.calls.time
-            (λ image seen. IsEitherOf (activity s).programs s.opened (event.Turn activation limit) (desk_of s over.committed) went.next image)
+            (λ image seen. IsEitherOf (activity s).programs s.opened (event.Turn activation limit) (session_desk s over.committed) went.next image)
             (λ image seen left. inl (asked image seen left))
             (λ image seen left.
             ⊎_elim (λ stood. inl (stood ∙ standing-ran)) (λ done. inr (order-fine done.0, done.1 ∙ stands-fine)) (went.crash image seen left));
@@ -189,7 +189,7 @@ module _ {W : Type 0} (G : Ghosts W) (fewer_later : FewerLater G) (s : Session) 
       }
 
 -- nothing was counted
-pub nothing-counted : (tally : Tally) → tally.ran + tally.pages + tally.locks ≡ 0 → tally.cycles.items ≡ [] → counts_of tally ≡ no_counts
+pub nothing-counted : (tally : Tally) → tally.ran + tally.pages + tally.locks ≡ 0 → tally.cycles.items ≡ [] → tally_counts tally ≡ no_counts
 nothing-counted tally none empty =
     let ran : tally.ran ≡ 0 = omega (arith, none) in
     let pages : tally.pages ≡ 0 = omega (arith, none) in

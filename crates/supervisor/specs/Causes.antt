@@ -13,7 +13,7 @@ use Rattle.redo_journal.specs.Kept.{begun_of}
 use Rattle.redo_journal.specs.Tracks.{IsEither}
 use Rattle.checkpoint.specs.Committed.{roomy, IsKeptAfter}
 use Rattle.restart.specs.Kept.{KeptStore, with_begun}
-use Rattle.restart.specs.Shows.{Tracks}
+use Rattle.restart.specs.Shows.{TracksStore}
 use Rattle.desk.specs.declared.answers.Reopened.{Reopened}
 use Rattle.desk.specs.declared.answers.Reopened.TheVariants as reopened
 use Rattle.desk.specs.declared.answers.Turn.{Turn}
@@ -89,8 +89,8 @@ pub record IsFailedCommit {W : Type 0} (G : Ghosts W) (answer : Kept) (old new :
   pub only : OnlyWrites G before after
   pub rose : Rose (G.disk_faults before) (G.disk_faults after)
   pub kept : IsKeptAfter answer (roomy old.bank) old.bank new.bank
-  pub crash : Tracks G old before → Leaves G (IsEither (begun_of old.bank) (held_of G before)) before after
-  pub left : Tracks G old before → FailedLeaves G answer old before after
+  pub crash : TracksStore G old before → Leaves G (IsEither (begun_of old.bank) (held_of G before)) before after
+  pub left : TracksStore G old before → FailedLeaves G answer old before after
 
 -- Up to a moment the disk was only asked, and its count stayed. From then on all is as `Durable::commit` promises where it answers so, of a record of the
 -- lines that an activation holds to write: the count rose in it. The activation sits there still.
@@ -106,7 +106,7 @@ pub record ClosesInCommit {W : Type 0} (G : Ghosts W) (activation : ℕ) (answer
   pub failed : IsFailedCommit G answer (with_begun store lines) (store_told new) begun after
 
 -- a turn that closes ends as its commit does at Doubt, where the close is in doubt, and else at Unwritten
-abbrev pub ClosesBy : {W : Type 0} → Ghosts W → (activation : ℕ) → TurnEnd → KeptStore → Session → W → W → Type 0
-ClosesBy G activation (end.Closed (Some doubted) told) store new before after = ClosesInCommit G activation kept.Doubt store new before after
-ClosesBy G activation (end.Closed None told) store new before after = ClosesInCommit G activation kept.Unwritten store new before after
-ClosesBy G activation _ store new before after = Unit {0}
+abbrev pub ClosesAsCommit : {W : Type 0} → Ghosts W → (activation : ℕ) → TurnEnd → KeptStore → Session → W → W → Type 0
+ClosesAsCommit G activation (end.Closed (Some doubted) told) store new before after = ClosesInCommit G activation kept.Doubt store new before after
+ClosesAsCommit G activation (end.Closed None told) store new before after = ClosesInCommit G activation kept.Unwritten store new before after
+ClosesAsCommit G activation _ store new before after = Unit {0}

@@ -18,23 +18,23 @@ use Rattle.seats.specs.Seating.{number_in}
 use Rattle.activations.specs.Activity.{state_in, shown}
 use Rattle.supervisor.specs.declared.session.Session.{Session}
 use Rattle.supervisor.specs.Session.{activity}
-use Rattle.supervisor.specs.Shown.{Shown}
+use Rattle.supervisor.specs.Shown.{ShowsDesk}
 
 -- The law: a desk that a session shows is consistent.
 abbrev pub ShownIsConsistent : Type 0
-ShownIsConsistent = (s : Session) (held : List ℕ) (desk : Desk) → Shown s held desk → IsConsistent desk
+ShownIsConsistent = (s : Session) (held : List ℕ) (desk : Desk) → ShowsDesk s held desk → IsConsistent desk
 
 -- The law: where somebody is active at such a desk, somebody who is active waits for nobody.
 abbrev pub SomebodyGoesOn : Type 0
 SomebodyGoesOn =
-    (s : Session) (held : List ℕ) (desk : Desk) (entry : Entry) → Shown s held desk → IsAmong desk.active entry
+    (s : Session) (held : List ℕ) (desk : Desk) (entry : Entry) → ShowsDesk s held desk → IsAmong desk.active entry
     → (other : Entry) × IsAmong desk.active other × ((number : ℕ) → IsFalse (waits_for desk other.number number))
 
 -- The law: from such a desk each turn of who is active ends for its cause, however it goes on the disk, and one of who isn't active is idle:
 -- the desk stays, and nothing is counted.
 abbrev pub ShownTurnsEnd : Type 0
 ShownTurnsEnd =
-    (s : Session) (held : List ℕ) (desk : Desk) (word : Word) (number limit : ℕ) → Shown s held desk
+    (s : Session) (held : List ℕ) (desk : Desk) (word : Word) (number limit : ℕ) → ShowsDesk s held desk
     → ((entry : Entry) → IsAmong desk.active entry → IsOverFor word limit desk entry (turn word entry.number limit desk))
     × ((IsActive desk number → ⊥) → turn word number limit desk ≡ Over desk no_counts Idle)
 
@@ -72,7 +72,7 @@ CyclesWereMet = (word : Word) (number limit : ℕ) (desk : Desk) → WereMet wor
 abbrev pub ShownIsIsolated : Type 0
 ShownIsIsolated =
     (s : Session) (held : List ℕ) (programs : List Program) (frames most_active most_lines : ℕ) (store : FlatStore) (events : List (Event × Word))
-    → IsWhole store → 2 ≤ frames → Shown s held (run programs events (opened frames most_active most_lines store))
+    → IsWhole store → 2 ≤ frames → ShowsDesk s held (run programs events (opened frames most_active most_lines store))
     → ((seat : ℕ) → has (activity s).seating.taken seat ≡ true
     → (machine : Machine)
     × ((memory_after programs events (opened frames most_active most_lines store) (memory_of store)).machines (number_in (activity s).seating seat) ≡ Some machine)

@@ -10,7 +10,7 @@ use Rattle.store_format.specs.Stands.{Stands, stands}
 use Rattle.desk.specs.Desk.{opened}
 use Rattle.supervisor.specs.declared.session.Session.{Session}
 use Rattle.supervisor.specs.Session.{IsSound, activity, header_of_session}
-use Rattle.supervisor.specs.Shown.{Shown}
+use Rattle.supervisor.specs.Shown.{ShowsDesk}
 
 -- it is sound and open, for so many begins of these programs, and no number was given
 pub record IsNew (programs : List Program) (begins : ℕ) (s : Session) : Type 0 where
@@ -28,9 +28,9 @@ HasStood header held = (header_of (take 128 held) ≡ header) × ((number : ℕ)
 
 -- The bytes told are sure, and stand for the number that it opened with and a store; over them it is the desk that opens on that
 -- store.
-pub record IsOpened {W : Type 0} (G : Ghosts W) (frames : ℕ) (old new : W) (s : Session) : Type 0 where
+pub record IsSessionOpened {W : Type 0} (G : Ghosts W) (frames : ℕ) (old new : W) (s : Session) : Type 0 where
   pub sure : IsSure G new
   pub store : FlatStore
   pub stood : stands (held_of G old) ≡ Stands s.opened store
   pub header : header_of (take 128 (held_of G old)) ≡ header_of_session s
-  pub shows : Shown s (held_of G new) (opened frames 16 (most_lines (header_of_session s)) store)
+  pub shows : ShowsDesk s (held_of G new) (opened frames 16 (most_lines (header_of_session s)) store)

@@ -48,8 +48,8 @@ abbrev pub printed_of : Session → List ℕ
 printed_of s = s.printed
 
 -- the desk that it is over committed bytes
-abbrev pub desk_of : Session → (committed : List ℕ) → Desk
-desk_of s committed = record (desk_over (activity s) committed (order_of s)) { closed = s.closed }
+abbrev pub session_desk : Session → (committed : List ℕ) → Desk
+session_desk s committed = record (desk_over (activity s) committed (order_of s)) { closed = s.closed }
 
 -- the numbers of begins, turns and commits fit
 pub record HaveRoom (s : Session) : Type 0 where

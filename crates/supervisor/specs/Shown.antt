@@ -5,22 +5,22 @@ use Rattle.restart.specs.Kept.{number_of}
 use Rattle.restart.specs.Shows.{Shows}
 use Rattle.desk.specs.Desk.{Desk}
 use Rattle.desk.specs.Report.{number_after}
-use Rattle.activations.specs.Follows.{Follows}
+use Rattle.activations.specs.Follows.{KeepsDesk}
 use Rattle.supervisor.specs.declared.session.Session.{Session}
-use Rattle.supervisor.specs.Session.{activity, desk_of}
+use Rattle.supervisor.specs.Session.{activity, session_desk}
 
 -- It is open, and the bytes are its store's: they stand for its number and some bytes, and what runs in it follows the desk
 -- over these.
-pub record IsOver (s : Session) (held : List ℕ) : Type 0 where
+pub record IsOpenOver (s : Session) (held : List ℕ) : Type 0 where
   pub still_open : s.closed ≡ false
   pub committed : List ℕ
   pub shows : Shows held s.store
   pub stood : stands held ≡ Stands (number_of s.store) (record { directory = s.store.header.directory; bytes = committed })
-  pub follows : Follows (activity s) committed
-  pub number : number_of s.store ≡ number_after s.opened (desk_of s committed)
+  pub follows : KeepsDesk (activity s) committed
+  pub number : number_of s.store ≡ number_after s.opened (session_desk s committed)
 
 -- and this is the desk, under the directory of the store
-pub record Shown (s : Session) (held : List ℕ) (desk : Desk) : Type 0 where
-  pub over : IsOver s held
+pub record ShowsDesk (s : Session) (held : List ℕ) (desk : Desk) : Type 0 where
+  pub over : IsOpenOver s held
   pub directory : s.store.header.directory ≡ (activity s).reach.directory
-  pub is : desk ≡ desk_of s over.committed
+  pub is : desk ≡ session_desk s over.committed

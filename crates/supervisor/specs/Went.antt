@@ -18,11 +18,11 @@ use Rattle.desk.specs.Report.{number_after}
 use Rattle.desk_law.specs.Beside.{Reads}
 use Rattle.seats.specs.Seating.{number_in}
 use Rattle.activations.specs.declared.tally.Tally.{Tally}
-use Rattle.activations.specs.Turning.{counts_of}
+use Rattle.activations.specs.Turning.{tally_counts}
 use Rattle.activations.specs.Turns.{commit_call}
 use Rattle.supervisor.specs.declared.session.Session.{Session}
-use Rattle.supervisor.specs.Session.{activity, order_of, desk_of, records_told}
-use Rattle.supervisor.specs.Shown.{IsOver}
+use Rattle.supervisor.specs.Session.{activity, order_of, session_desk, records_told}
+use Rattle.supervisor.specs.Shown.{IsOpenOver}
 
 -- how a commit call ends: it is done, too long for a record, or the desk closes
 abbrev pub IsCommitEnd : TurnEnd → Type 0
@@ -44,14 +44,14 @@ most_kept _ records = records
 -- the desk at the commit call of who sits in a seat, at this state, after that went well
 abbrev pub fine_desk : Session → (committed : List ℕ) → (seat : ℕ) → Plain → Desk
 fine_desk s committed seat now =
-    record (ended (ordered (desk_of s committed) (commit_call (activity s) seat committed (order_of s) now)) (number_in (activity s).seating seat)) {
-      committed = record (desk_of s committed).committed { bytes = now.store };
+    record (ended (ordered (session_desk s committed) (commit_call (activity s) seat committed (order_of s) now)) (number_in (activity s).seating seat)) {
+      committed = record (session_desk s committed).committed { bytes = now.store };
     }
 
 -- an image stands for what stood before a commit, or, where the order is that of the commit gone well, for what stands then
 abbrev pub IsEitherSide : Session → (committed : List ℕ) → (fine new : Desk) → List ℕ → Type 0
 IsEitherSide old committed fine new image =
-    (stands image ≡ standing_of old.opened (desk_of old committed)) ⊎ (fine.order ≡ new.order) × (stands image ≡ standing_of old.opened fine)
+    (stands image ≡ standing_of old.opened (session_desk old committed)) ⊎ (fine.order ≡ new.order) × (stands image ≡ standing_of old.opened fine)
 
 -- A commit was what becomes of the commit call with a word, which isn't fine only where the disk's faults rose. While the session is
 -- open its bytes are sure. A crash in it leaves what stood before or after it; after a doubt there is one place with whose byte
@@ -60,25 +60,25 @@ pub record HasCommitted {W : Type 0} (G : Ghosts W) (seat : ℕ) (now : Plain) (
   pub word : Word
   pub reads : (counted : ℕ) → Reads word counted
   pub next : Desk
-  pub step : commits word (commit_call (activity old) seat committed (order_of old) now) (desk_of old committed) (counts_of tallied) ≡ Over next (counts_of told) (ending_told end new.printed)
+  pub step : commits word (commit_call (activity old) seat committed (order_of old) now) (session_desk old committed) (tally_counts tallied) ≡ Over next (tally_counts told) (ending_told end new.printed)
   pub closes : next.closed ≡ new.closed
   pub ordered : next.order ≡ order_of new
   pub why : (word ≡ Fine) ⊎ Rose (G.disk_faults before) (G.disk_faults after)
   pub numbers : HasNumbers end (number_in (activity old).seating seat) (number_after old.opened next)
-  pub still : new.closed ≡ false → IsSure G after × ((over : IsOver new (held_of G after)) × (next ≡ desk_of new over.committed))
+  pub still : new.closed ≡ false → IsSure G after × ((over : IsOpenOver new (held_of G after)) × (next ≡ session_desk new over.committed))
   pub crash : Leaves G (λ image seen. IsEitherSide old committed (fine_desk old committed seat now) next image) before after
   pub doubt : word ≡ Doubt → ((fine_desk old committed seat now).order ≡ next.order) × ((gate : ℕ) × Leaves G (λ image seen. stands (slice_set image gate 165) ≡ standing_of old.opened (fine_desk old committed seat now)) after after)
 
 -- A turn was one of the desk, in the same way. One that broke off where a page couldn't be read has added no record.
-pub record HasRun {W : Type 0} (G : Ghosts W) (activation limit : ℕ) (end : TurnEnd) (old new : Session) (told : Tally) (before after : W) (committed : List ℕ) : Type 0 where
+pub record TurnHasRun {W : Type 0} (G : Ghosts W) (activation limit : ℕ) (end : TurnEnd) (old new : Session) (told : Tally) (before after : W) (committed : List ℕ) : Type 0 where
   pub word : Word
   pub next : Desk
-  pub step : turn word activation limit (desk_of old committed) ≡ Over next (counts_of told) (ending_told end new.printed)
+  pub step : turn word activation limit (session_desk old committed) ≡ Over next (tally_counts told) (ending_told end new.printed)
   pub closes : next.closed ≡ new.closed
   pub ordered : next.order ≡ order_of new
   pub why : (word ≡ Fine) ⊎ Rose (G.disk_faults before) (G.disk_faults after)
   pub numbers : HasNumbers end activation (number_after old.opened next)
   pub unread : end ≡ Disk → records_told new ≡ records_told old
-  pub still : new.closed ≡ false → IsSure G after × ((over : IsOver new (held_of G after)) × (next ≡ desk_of new over.committed))
-  pub crash : Leaves G (λ image seen. IsEitherOf (activity old).programs old.opened (event.Turn activation limit) (desk_of old committed) next image) before after
-  pub doubt : word ≡ Doubt → new.closed ≡ true → ((fine_step (activity old).programs (event.Turn activation limit) (desk_of old committed)).order ≡ next.order) × ((gate : ℕ) × Leaves G (λ image seen. stands (slice_set image gate 165) ≡ standing_of old.opened (fine_step (activity old).programs (event.Turn activation limit) (desk_of old committed))) after after)
+  pub still : new.closed ≡ false → IsSure G after × ((over : IsOpenOver new (held_of G after)) × (next ≡ session_desk new over.committed))
+  pub crash : Leaves G (λ image seen. IsEitherOf (activity old).programs old.opened (event.Turn activation limit) (session_desk old committed) next image) before after
+  pub doubt : word ≡ Doubt → new.closed ≡ true → ((fine_step (activity old).programs (event.Turn activation limit) (session_desk old committed)).order ≡ next.order) × ((gate : ℕ) × Leaves G (λ image seen. stands (slice_set image gate 165) ≡ standing_of old.opened (fine_step (activity old).programs (event.Turn activation limit) (session_desk old committed))) after after)

@@ -36,8 +36,8 @@ fn told(tally: Tally, end: TurnEnd) -> Turn
 
 impl Session {
     ghost use Rattle.supervisor.specs.Session.{IsSound, activity, order_of, records_told, is_closed, fixed_of, turns_of, printed_of, number_told, store_told};
-    ghost use Rattle.supervisor.specs.Shown.{Shown};
-    ghost use Rattle.supervisor.specs.Causes.{IsFull, HasPlace, lacking, IsTurnEnd, EntersOrder, KeepsPrinted, ReopenedNumber, ClosesBy};
+    ghost use Rattle.supervisor.specs.Shown.{ShowsDesk};
+    ghost use Rattle.supervisor.specs.Causes.{IsFull, HasPlace, lacking, IsTurnEnd, EntersOrder, KeepsPrinted, ReopenedNumber, ClosesAsCommit};
     ghost use Rattle.store_format.specs.Header.{most_lines};
     ghost use Rattle.seats.specs.Seating.{seat_of, numbers as numbers_seated};
 
@@ -46,7 +46,7 @@ impl Session {
         requires sound { IsSound self.old }
         requires program { program < length (fixed_of self.old).programs }
         requires room { (activity self.old).next - 1 < (fixed_of self.old).begins }
-        ensures did { (held : List ℕ) (desk : Desk) → Shown self.old held desk → (next : Desk) × (step (fixed_of self.old).programs (event.Begin program args) Fine desk ≡ record { desk = next; happening = begun_told program result }) × Shown self.new held next }
+        ensures did { (held : List ℕ) (desk : Desk) → ShowsDesk self.old held desk → (next : Desk) × (step (fixed_of self.old).programs (event.Begin program args) Fine desk ≡ record { desk = next; happening = begun_told program result }) × ShowsDesk self.new held next }
         ensures shut { StaysShut (is_closed self.old) (result ≡ Begun.Shut) (self.new ≡ self.old) }
         ensures busy { (number : ℕ) → (result ≡ Begun.Busy number) ↔ ((is_closed self.old ≡ false) × IsFull (activity self.old) × (number ≡ (activity self.old).next)) }
         ensures no_segment { (number segment : ℕ) → (result ≡ Begun.NoSegment number segment) ↔ ((is_closed self.old ≡ false) × HasPlace (activity self.old) × (lacking (activity self.old) program ≡ Some segment) × (number ≡ (activity self.old).next)) }
@@ -71,7 +71,7 @@ impl Session {
         requires limit { limit ≤ 1000000 }
         requires turns { turns_of self.old < 2 ^ 32 }
         requires bytes { HoldsStore W.Outside (fixed_of self.old).header outside.old }
-        ensures did { (desk : Desk) → IsSure W.Outside outside.old → Shown self.old (held_of W.Outside outside.old) desk → (did : Did W.Outside (fixed_of self.old).programs (fixed_of self.old).opened (event.Turn activation limit) (turn_told activation result (printed_of self.new)) (is_closed self.new) (order_of self.new) (Shown self.new) desk outside.old outside.new) × HasNumbers result.end activation (number_after (fixed_of self.old).opened did.next) }
+        ensures did { (desk : Desk) → IsSure W.Outside outside.old → ShowsDesk self.old (held_of W.Outside outside.old) desk → (did : Did W.Outside (fixed_of self.old).programs (fixed_of self.old).opened (event.Turn activation limit) (turn_told activation result (printed_of self.new)) (is_closed self.new) (order_of self.new) (ShowsDesk self.new) desk outside.old outside.new) × HasNumbers result.end activation (number_after (fixed_of self.old).opened did.next) }
         ensures writes { WritesMore (W.writes outside.old) (W.writes outside.new) (writes_due result.end) }
         ensures shut { StaysShut (is_closed self.old) (result.end ≡ TurnEnd.Shut) ((self.new ≡ self.old) × (outside.new ≡ outside.old)) }
         ensures uncounted { is_closed self.old ≡ true → counts_told result ≡ no_counts }
@@ -80,7 +80,7 @@ impl Session {
         ensures ordered { EntersOrder activation result.end (order_of self.old) (order_of self.new) }
         ensures printed { KeepsPrinted result.end (printed_of self.old) (printed_of self.new) }
         ensures closed { is_closed self.new ≡ turn_closes result.end }
-        ensures committing { ClosesBy W.Outside activation result.end (store_told self.old) self.new outside.old outside.new }
+        ensures committing { ClosesAsCommit W.Outside activation result.end (store_told self.old) self.new outside.old outside.new }
         ensures failed { FailsCounted (turn_fails result.end) (W.disk_faults outside.old) (W.disk_faults outside.new) }
         ensures calls { CallsStore W.Outside (fixed_of self.new).header outside.old outside.new }
         ensures sound { IsSound self.new }
@@ -101,7 +101,7 @@ impl Session {
     pub fn checkpoint<W: Outside>(&mut self, outside: &mut W) -> Stored
         requires sound { IsSound self.old }
         requires bytes { HoldsStore W.Outside (fixed_of self.old).header outside.old }
-        ensures did { (desk : Desk) → IsSure W.Outside outside.old → Shown self.old (held_of W.Outside outside.old) desk → (did : Did W.Outside (fixed_of self.old).programs (fixed_of self.old).opened event.Checkpoint (stored_told result) (is_closed self.new) (order_of self.new) (Shown self.new) desk outside.old outside.new) × StoredNumber result (number_after (fixed_of self.old).opened did.next) }
+        ensures did { (desk : Desk) → IsSure W.Outside outside.old → ShowsDesk self.old (held_of W.Outside outside.old) desk → (did : Did W.Outside (fixed_of self.old).programs (fixed_of self.old).opened event.Checkpoint (stored_told result) (is_closed self.new) (order_of self.new) (ShowsDesk self.new) desk outside.old outside.new) × StoredNumber result (number_after (fixed_of self.old).opened did.next) }
         ensures writes { WritesMore (W.writes outside.old) (W.writes outside.new) 0 }
         ensures shut { StaysShut (is_closed self.old) (result ≡ Stored.Shut) ((self.new ≡ self.old) × (outside.new ≡ outside.old)) }
         ensures number { StoredNumber result (number_told self.old) }
@@ -132,13 +132,13 @@ impl Session {
     pub fn forget<W: Outside>(&mut self, outside: &mut W) -> Reopened
         requires sound { IsSound self.old }
         requires bytes { HoldsStore W.Outside (fixed_of self.old).header outside.old }
-        ensures did { (desk : Desk) → IsSure W.Outside outside.old → Shown self.old (held_of W.Outside outside.old) desk → (did : Did W.Outside (fixed_of self.old).programs (fixed_of self.old).opened event.Crash (reopened_told (numbers desk) result) (is_closed self.new) (order_of self.new) (Shown self.new) desk outside.old outside.new) × IsReopened result (number_after (fixed_of self.old).opened did.next) }
+        ensures did { (desk : Desk) → IsSure W.Outside outside.old → ShowsDesk self.old (held_of W.Outside outside.old) desk → (did : Did W.Outside (fixed_of self.old).programs (fixed_of self.old).opened event.Crash (reopened_told (numbers desk) result) (is_closed self.new) (order_of self.new) (ShowsDesk self.new) desk outside.old outside.new) × IsReopened result (number_after (fixed_of self.old).opened did.next) }
         ensures shut { StaysShut (is_closed self.old) (result ≡ Reopened.Shut) ((self.new ≡ self.old) × (outside.new ≡ outside.old)) }
         ensures number { ReopenedNumber result (number_told self.new) }
         ensures closed { is_closed self.new ≡ reopened_closes result }
         ensures failed { FailsCounted (reopened_fails result) (W.disk_faults outside.old) (W.disk_faults outside.new) }
         ensures damage { IsDamage W.Outside (fixed_of self.old).header outside.old result }
-        ensures undamaged { (desk : Desk) (offset : ℕ) → IsSome (W.held outside.old) → Shown self.old (held_of W.Outside outside.old) desk → result ≢ Reopened.Damaged offset }
+        ensures undamaged { (desk : Desk) (offset : ℕ) → IsSome (W.held outside.old) → ShowsDesk self.old (held_of W.Outside outside.old) desk → result ≢ Reopened.Damaged offset }
         ensures asks { OnlyAsks W.Outside outside.old outside.new }
         ensures order { order_of self.new ≡ order_of self.old }
         ensures printed { printed_of self.new ≡ printed_of self.old }
@@ -168,7 +168,7 @@ impl Session {
     pub fn number(&self) -> u64
         requires { IsSound self.now }
         ensures number { result ≡ number_told self.now }
-        ensures shown { (held : List ℕ) (desk : Desk) → Shown self.now held desk → result ≡ number_after (fixed_of self.now).opened desk }
+        ensures shown { (held : List ℕ) (desk : Desk) → ShowsDesk self.now held desk → result ≡ number_after (fixed_of self.now).opened desk }
     {
         self.store.number()
     }
@@ -177,7 +177,7 @@ impl Session {
     pub fn active(&self) -> ArrayVec<u32, 16>
         requires { IsSound self.now }
         ensures active { result.items ≡ numbers_seated (activity self.now).seating }
-        ensures shown { (held : List ℕ) (desk : Desk) → Shown self.now held desk → result.items ≡ numbers desk }
+        ensures shown { (held : List ℕ) (desk : Desk) → ShowsDesk self.now held desk → result.items ≡ numbers desk }
     {
         self.activations.active()
     }

@@ -9,7 +9,7 @@ ghost use Rattle.desk.specs.Calls.{FailsCounted};
 ghost use Rattle.desk.specs.Kept.{HoldsStore, WritesMore, writes_due, turn_fails};
 ghost use Rattle.desk.specs.Answers.{turn_closes};
 ghost use Rattle.desk.specs.Instruction.{Word, Turning};
-ghost use Rattle.activations.specs.Turning.{counts_of};
+ghost use Rattle.activations.specs.Turning.{tally_counts};
 
 use super::session::Session;
 use activations::Tally;
@@ -22,8 +22,8 @@ impl Session {
     ghost use Rattle.activations.specs.Causes.{IfJournal};
     ghost use Rattle.store_format.specs.Header.{most_lines};
     ghost use Rattle.supervisor.specs.Session.{IsSound, KeepsParts, activity, order_of, records_told};
-    ghost use Rattle.supervisor.specs.Shown.{IsOver};
-    ghost use Rattle.supervisor.specs.Causes.{TellsNumber, EntersOrder, KeepsPrinted, ClosesBy};
+    ghost use Rattle.supervisor.specs.Shown.{IsOpenOver};
+    ghost use Rattle.supervisor.specs.Causes.{TellsNumber, EntersOrder, KeepsPrinted, ClosesAsCommit};
     ghost use Rattle.restart.specs.Kept.{number_of};
     ghost use Rattle.supervisor.specs.Went.{HasCommitted, IsCommitEnd, most_kept};
 
@@ -49,10 +49,10 @@ impl Session {
         ensures ordered { EntersOrder (number_in (activity self.old).seating seat) result (order_of self.old) (order_of self.new) }
         ensures printed { KeepsPrinted result self.old.printed self.new.printed }
         ensures closed { self.new.closed ≡ turn_closes result }
-        ensures committing { ClosesBy W.Outside (number_in (activity self.old).seating seat) result self.old.store self.new outside.old outside.new }
+        ensures committing { ClosesAsCommit W.Outside (number_in (activity self.old).seating seat) result self.old.store self.new outside.old outside.new }
         ensures failed { FailsCounted (turn_fails result) (W.disk_faults outside.old) (W.disk_faults outside.new) }
         ensures records { turn_fails result ≡ false → records_told self.new ≤ most_kept result (records_told self.old) }
-        ensures went { (begins : Word → Turning) → IsSure W.Outside outside.old → (over : IsOver self.old (held_of W.Outside outside.old)) → (at : IsAtCommit begins (activity self.old) seat over.committed (order_of self.old) (counts_of tally.old)) → HasCommitted W.Outside seat at.now result self.old self.new tally.old tally.new outside.old outside.new over.committed }
+        ensures went { (begins : Word → Turning) → IsSure W.Outside outside.old → (over : IsOpenOver self.old (held_of W.Outside outside.old)) → (at : IsAtCommit begins (activity self.old) seat over.committed (order_of self.old) (tally_counts tally.old)) → HasCommitted W.Outside seat at.now result self.old self.new tally.old tally.new outside.old outside.new over.committed }
     {
         if let Err(end) = self.activations.record(seat, &mut self.store) {
             return end;

@@ -1,7 +1,7 @@
 // A session over a store that is open.
 ghost use Rattle.std.specs.Prelude.{◌≡◌, ◌≢◌, ◌≤◌, ◌<◌, ◌^◌, ◌-◌, ◌+◌, IfOk, IfErr, OnOk, IsSome, IsTrue};
 ghost use Rattle.outside.specs.Runs.{OnlyAsks, held_of};
-ghost use Rattle.restart.specs.Faults.{IsOpenFault};
+ghost use Rattle.restart.specs.Faults.{IsStoreOpenFault};
 ghost use Rattle.desk.specs.Kept.{HoldsStore};
 
 use activations::Activations;
@@ -28,7 +28,7 @@ pub struct Session {
 
 impl Session {
     ghost use Rattle.supervisor.specs.Session.{header_of_session};
-    ghost use Rattle.supervisor.specs.Opened.{IsNew, IsOpened, HasStood};
+    ghost use Rattle.supervisor.specs.Opened.{IsNew, IsSessionOpened, HasStood};
 
     /// A session over the store that the disk holds, with so many frames for its pages, for so many begins of these programs.
     /// It only asks the disk, and reads no home line.
@@ -48,11 +48,11 @@ impl Session {
         requires begins { begins < 2 ^ 32 - 1 }
         ensures asks { OnlyAsks W.Outside outside.old outside.new }
         ensures unfailed { OnOk result (W.disk_faults outside.new ≡ W.disk_faults outside.old) }
-        ensures fault { IfErr result (IsOpenFault W.Outside outside.old outside.new) }
+        ensures fault { IfErr result (IsStoreOpenFault W.Outside outside.old outside.new) }
         ensures calm { IfErr result (λ fault. fault ≢ OpenFault.DiskFault → W.disk_faults outside.new ≡ W.disk_faults outside.old) }
         ensures new { IfOk result (IsNew programs.items begins) }
         ensures room { IfOk result (λ session. HoldsStore W.Outside (header_of_session session) outside.new) }
-        ensures opened { IfOk result (λ session. IsTrue (W.is_honest outside.old) → IsSome (W.held outside.old) → IsOpened W.Outside frames outside.old outside.new session) }
+        ensures opened { IfOk result (λ session. IsTrue (W.is_honest outside.old) → IsSome (W.held outside.old) → IsSessionOpened W.Outside frames outside.old outside.new session) }
         ensures told { IfOk result (λ session. IsSome (W.held outside.old) → HasStood (header_of_session session) (held_of W.Outside outside.old)) }
     {
         let store = Durable::open(alloc, outside)?;

@@ -8,10 +8,10 @@ use outside::Outside;
 
 impl Supervisor for Session {
     ghost use Rattle.supervisor.specs.Session.{IsSound, activity, order_of, is_closed, fixed_of, turns_of, printed_of};
-    ghost use Rattle.supervisor.specs.Shown.{Shown};
+    ghost use Rattle.supervisor.specs.Shown.{ShowsDesk};
     ghost use Rattle.supervisor.specs.ShownLaws.{shown-open, shown-order, shown-closed, shown-stands};
 
-    ghost shows = { Shown };
+    ghost shows = { ShowsDesk };
 
     ghost sound = { IsSound };
 

@@ -16,12 +16,12 @@ use outside::Outside;
 impl Session {
     ghost use Rattle.activations.specs.Kept.{AreRowsWithin};
     ghost use Rattle.supervisor.specs.Session.{IsSound, KeepsParts, activity, order_of, records_told};
-    ghost use Rattle.supervisor.specs.Shown.{IsOver};
-    ghost use Rattle.supervisor.specs.Causes.{IsTurnEnd, answer_of, EntersOrder, KeepsPrinted, ClosesBy};
+    ghost use Rattle.supervisor.specs.Shown.{IsOpenOver};
+    ghost use Rattle.supervisor.specs.Causes.{IsTurnEnd, answer_of, EntersOrder, KeepsPrinted, ClosesAsCommit};
     ghost use Rattle.store_format.specs.Header.{most_lines};
     ghost use Rattle.restart.specs.Kept.{number_of};
     ghost use Rattle.seats.specs.Seating.{seat_of};
-    ghost use Rattle.supervisor.specs.Went.{HasRun, IsTurned, most_kept};
+    ghost use Rattle.supervisor.specs.Went.{TurnHasRun, IsTurned, most_kept};
 
     /// A turn of an activation, in which nothing is counted yet: how it ended.
     pub(super) fn end_of_turn<W: Outside>(
@@ -49,10 +49,10 @@ impl Session {
         ensures ordered { EntersOrder activation result (order_of self.old) (order_of self.new) }
         ensures printed { KeepsPrinted result self.old.printed self.new.printed }
         ensures closed { self.new.closed ≡ turn_closes result }
-        ensures committing { ClosesBy W.Outside activation result self.old.store self.new outside.old outside.new }
+        ensures committing { ClosesAsCommit W.Outside activation result self.old.store self.new outside.old outside.new }
         ensures failed { FailsCounted (turn_fails result) (W.disk_faults outside.old) (W.disk_faults outside.new) }
         ensures records { turn_fails result ≡ false → records_told self.new ≤ most_kept result (records_told self.old) }
-        ensures went { IsSure W.Outside outside.old → (over : IsOver self.old (held_of W.Outside outside.old)) → HasRun W.Outside activation limit result self.old self.new tally.new outside.old outside.new over.committed }
+        ensures went { IsSure W.Outside outside.old → (over : IsOpenOver self.old (held_of W.Outside outside.old)) → TurnHasRun W.Outside activation limit result self.old self.new tally.new outside.old outside.new over.committed }
     {
         let Some(seat) = self.activations.seat_of(activation) else {
             return TurnEnd::Idle;

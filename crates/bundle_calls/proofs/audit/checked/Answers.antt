@@ -1,4 +1,4 @@
-use Rattle.bundle_calls.proofs.Common.{◌≡◌, ◌⊎◌, ℕ, List, inl, inr, refl, sym, ap, subst, ◌∙◌, count_by, is_commit, owned_told, OwnedLine, IsVerdict, report_told, Bundle, Status, IsUnchecked, IsOpened, part_of, IsFaultAt}
+use Rattle.bundle_calls.proofs.Common.{◌≡◌, ◌⊎◌, ℕ, List, inl, inr, refl, sym, ap, subst, ◌∙◌, count_by, is_commit, owned_told, OwnedLine, IsVerdict, report_told, Bundle, Status, IsUnchecked, AreBundleParts, part_of, IsFaultAt}
 use Rattle.job_text.specs.declared.job.Job.{Job}
 use Rattle.serial_audit.specs.declared.auditing.KeptStore.{KeptStore}
 use Rattle.store_calls.specs.Kept.{Keeps}
@@ -6,7 +6,7 @@ use Rattle.bundle_calls.proofs.BundleLemmas.{counted, handed_on}
 use Rattle.bundle_calls.proofs.audit.checked.Goals as goal
 
 -- a closing store that stands for nothing
-by_closing : (bytes : List ℕ) (bundle : Bundle) (job : Job) (report : List OwnedLine) (opening : KeptStore) → IsOpened bytes bundle job report opening → (status : Status)
+by_closing : (bytes : List ℕ) (bundle : Bundle) (job : Job) (report : List OwnedLine) (opening : KeptStore) → AreBundleParts bytes bundle job report opening → (status : Status)
     → ((offset : ℕ) × (status ≡ Status.Bundle 4 offset) × IsFaultAt (part_of bytes bundle.closing) offset) ⊎ (status ≡ Status.NoMemory) → IsUnchecked bytes status
 by_closing bytes bundle job report opening opened status (inl (offset, is, fault)) =
     subst (IsUnchecked bytes) (sym is) (inr (refl, record { bundle = bundle; job = job; report = report; opening = opening; opened = opened; fault = fault }))

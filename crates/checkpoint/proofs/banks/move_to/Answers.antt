@@ -1,4 +1,4 @@
-use Rattle.checkpoint.proofs.Common.{◌≡◌, ℕ, ◌∷◌, [], List, length, sym, subst, ◌∙◌, ap, arith, IsTrue, Bool, line_count, Which, bank_at, Torn, written, IsSure, Leaves, OnlyAsks, held_of, leaves_on, leaves_same, asks_one, OnlyWrites, place_of, end_of, number_of, Tracks, head_bytes, place_is, held_is, writes_on, asks_only, other, selector_of, IsCovered, IsHomed, IsSame}
+use Rattle.checkpoint.proofs.Common.{◌≡◌, ℕ, ◌∷◌, [], List, length, sym, subst, ◌∙◌, ap, arith, IsTrue, Bool, line_count, Which, bank_at, Torn, written, IsSure, Leaves, OnlyAsks, held_of, leaves_on, leaves_same, asks_one, OnlyWrites, place_of, end_of, number_of, TracksBank, head_bytes, place_is, held_is, writes_on, asks_only, other, selector_of, IsCovered, IsHomed, IsSame}
 use Rattle.checkpoint.proofs.StepLemmas.{leaves_step, same_held, written_held, synced_sure, map_ok}
 use Rattle.checkpoint.proofs.MoveLemmas.{IsHeaded, covered_same, headed_same, headed, selected_same, IsThere, moved}
 use Rattle.checkpoint.proofs.HomeLemmas.{end_within}
@@ -7,17 +7,17 @@ use Rattle.checkpoint.proofs.banks.move_to.Goals as goal
 use Rattle.checkpoint.proofs.banks.move_to.Goals.{After-write_home, After-write_head, After-sync, After-write_selector}
 
 -- the images after the home lines
-first : (g : Over) (c : goal.After-write_home g) (tracks : Tracks g.W.Outside c.args.bank.now c.args.outside.now)
+first : (g : Over) (c : goal.After-write_home g) (tracks : TracksBank g.W.Outside c.args.bank.now c.args.outside.now)
     → Leaves g.W.Outside (λ image seen. IsSame tracks.header c.args.bank.now tracks.records (held_of g.W.Outside c.args.outside.now) image) c.args.outside.now c.write_home.new.outside
 first g c tracks image seen left =
     covered_same tracks.header c.args.bank.now tracks.records (held_of g.W.Outside c.args.outside.now) tracks.store tracks.count image (c.write_home.ensures.crash tracks image seen left)
 
 -- where the other bank lies
-place : (g : Over) (c : goal.After-write_head g) (tracks : Tracks g.W.Outside c.args.bank.now c.args.outside.now) → place_of c.args.which c.args.bank.now.bank_bytes ≡ bank_at tracks.header (other c.args.bank.now.which)
+place : (g : Over) (c : goal.After-write_head g) (tracks : TracksBank g.W.Outside c.args.bank.now c.args.outside.now) → place_of c.args.which c.args.bank.now.bank_bytes ≡ bank_at tracks.header (other c.args.bank.now.which)
 place g c tracks = sym (place_is tracks.header c.args.which c.args.bank.now.bank_bytes tracks.bank_bytes) ∙ ap (bank_at tracks.header) c.requires.other
 
 -- and after the head
-second : (g : Over) (c : goal.After-write_head g) (tracks : Tracks g.W.Outside c.args.bank.now c.args.outside.now)
+second : (g : Over) (c : goal.After-write_head g) (tracks : TracksBank g.W.Outside c.args.bank.now c.args.outside.now)
     → Leaves g.W.Outside (λ image seen. IsSame tracks.header c.args.bank.now tracks.records (held_of g.W.Outside c.args.outside.now) image) c.args.outside.now c.write_head.new.outside
 second g c tracks =
     let G = g.W.Outside in
@@ -42,7 +42,7 @@ three : (g : Over) (c : goal.After-sync g) → OnlyWrites g.W.Outside c.args.out
 three g c before = writes_on g.W.Outside g.met.W.Outside.fewer_later c.args.outside.now c.write_head.new.outside c.sync.new.self before (asks_only g.W.Outside c.write_head.new.outside c.sync.new.self (synced g c))
 
 -- and after the sync
-third : (g : Over) (c : goal.After-sync g) (tracks : Tracks g.W.Outside c.args.bank.now c.args.outside.now) → OnlyWrites g.W.Outside c.args.outside.now c.write_head.new.outside
+third : (g : Over) (c : goal.After-sync g) (tracks : TracksBank g.W.Outside c.args.bank.now c.args.outside.now) → OnlyWrites g.W.Outside c.args.outside.now c.write_head.new.outside
     → Leaves g.W.Outside (λ image seen. IsSame tracks.header c.args.bank.now tracks.records (held_of g.W.Outside c.args.outside.now) image) c.args.outside.now c.write_head.new.outside
     → Leaves g.W.Outside (λ image seen. IsSame tracks.header c.args.bank.now tracks.records (held_of g.W.Outside c.args.outside.now) image) c.args.outside.now c.sync.new.self
 third g c tracks before so_far =
@@ -76,13 +76,13 @@ returns-clause-only g c =
     writes_on g.W.Outside g.met.W.Outside.fewer_later c.args.outside.now c.sync.new.self c.write_selector.new.outside (three g at.After-sync (wrote g at.After-write_head)) c.write_selector.ensures.only
 
 -- the bytes before the selector are sure, and the other bank begins with its head
-sure : (g : Over) (c : goal.After-write_selector g) (tracks : Tracks g.W.Outside c.args.bank.now c.args.outside.now) → OnlyAsks g.W.Outside c.write_head.new.outside c.sync.new.self → OnlyWrites g.W.Outside c.args.outside.now c.write_head.new.outside → IsSure g.W.Outside c.sync.new.self
+sure : (g : Over) (c : goal.After-write_selector g) (tracks : TracksBank g.W.Outside c.args.bank.now c.args.outside.now) → OnlyAsks g.W.Outside c.write_head.new.outside c.sync.new.self → OnlyWrites g.W.Outside c.args.outside.now c.write_head.new.outside → IsSure g.W.Outside c.sync.new.self
 sure g c tracks asks before =
     let G = g.W.Outside in
     let honest = subst (λ (b : Bool). IsTrue b) (sym before.calls.honest) tracks.sure.honest in
     synced_sure G c.write_head.new.outside c.sync.new.self asks honest (before.told tracks.sure.told) (c.in_ok-sync.ensures.durable honest)
 
-ready : (g : Over) (c : goal.After-write_selector g) (tracks : Tracks g.W.Outside c.args.bank.now c.args.outside.now) → OnlyAsks g.W.Outside c.write_head.new.outside c.sync.new.self → place_of c.args.which c.args.bank.now.bank_bytes ≡ bank_at tracks.header (other c.args.bank.now.which)
+ready : (g : Over) (c : goal.After-write_selector g) (tracks : TracksBank g.W.Outside c.args.bank.now c.args.outside.now) → OnlyAsks g.W.Outside c.write_head.new.outside c.sync.new.self → place_of c.args.which c.args.bank.now.bank_bytes ≡ bank_at tracks.header (other c.args.bank.now.which)
     → IsHeaded tracks.header c.args.bank.now tracks.records (held_of g.W.Outside c.args.outside.now) tracks.store tracks.count (held_of g.W.Outside c.sync.new.self)
 ready g c tracks asks at =
     let G = g.W.Outside in

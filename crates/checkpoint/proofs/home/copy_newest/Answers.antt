@@ -1,4 +1,4 @@
-use Rattle.checkpoint.proofs.Common.{◌≡◌, ℕ, get_or, sym, subst, ◌∙◌, Option, None, Some, OnOk, IsSome, line_bytes_of, Torn, written, bytes_at, Follows, held_of, home_place, copied, TornLine}
+use Rattle.checkpoint.proofs.Common.{◌≡◌, ℕ, get_or, sym, subst, ◌∙◌, Option, None, Some, OnOk, IsSome, line_bytes_of, Torn, written, bytes_at, LeavesStep, held_of, home_place, copied, TornLine}
 use Rattle.std.proofs.lemmas.Option.{get_or_from_slice_get}
 use Rattle.checkpoint.proofs.home.copy_newest.Given.{Over}
 use Rattle.checkpoint.proofs.home.copy_newest.Goals as goal
@@ -10,9 +10,9 @@ place g c = get_or_from_slice_get c.args.bank.now.newest c.args.line c.newest.re
 pub returns-in-Some-clause-crash : goal.returns-in-Some-clause-crash
 returns-in-Some-clause-crash g c honest told =
     let G = g.W.Outside in
-    subst (λ (place : Option ℕ). Follows (TornLine (line_bytes_of c.args.bank.now) place (home_place c.args.bank.now c.args.line)) G.moment G.left_since c.args.outside.now c.copy_line.new.outside) (sym (place g (goal.at.returns-in-Some-clause-crash g c).In-Some))
-    (subst (λ (at : ℕ). Follows (Torn at (line_bytes_of c.args.bank.now)) G.moment G.left_since c.args.outside.now c.copy_line.new.outside) c.home_place.ensures
-    (subst (λ (n : ℕ). Follows (Torn c.home_place.result n) G.moment G.left_since c.args.outside.now c.copy_line.new.outside) c.requires.whole (c.copy_line.ensures.crash honest told)))
+    subst (λ (place : Option ℕ). LeavesStep (TornLine (line_bytes_of c.args.bank.now) place (home_place c.args.bank.now c.args.line)) G.moment G.left_since c.args.outside.now c.copy_line.new.outside) (sym (place g (goal.at.returns-in-Some-clause-crash g c).In-Some))
+    (subst (λ (at : ℕ). LeavesStep (Torn at (line_bytes_of c.args.bank.now)) G.moment G.left_since c.args.outside.now c.copy_line.new.outside) c.home_place.ensures
+    (subst (λ (n : ℕ). LeavesStep (Torn c.home_place.result n) G.moment G.left_since c.args.outside.now c.copy_line.new.outside) c.requires.whole (c.copy_line.ensures.crash honest told)))
 
 pub returns-in-Some-clause-done : goal.returns-in-Some-clause-done
 returns-in-Some-clause-done g c =

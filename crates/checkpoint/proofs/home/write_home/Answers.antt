@@ -1,4 +1,4 @@
-use Rattle.checkpoint.proofs.Common.{◌≡◌, ℕ, ◌<◌, List, length, refl, sym, subst, ◌∙◌, arith, IsTrue, Bool, line_count, store_big, Leaves, held_of, leaves_held, Tracks, writes_on, wrote_nothing, store_bytes, IsCovered, IsHomed}
+use Rattle.checkpoint.proofs.Common.{◌≡◌, ℕ, ◌<◌, List, length, refl, sym, subst, ◌∙◌, arith, IsTrue, Bool, line_count, store_big, Leaves, held_of, leaves_held, TracksBank, writes_on, wrote_nothing, store_bytes, IsCovered, IsHomed}
 use Rattle.checkpoint.proofs.StepLemmas.{leaves_step}
 use Rattle.checkpoint.proofs.HomeLemmas.{covered_self, homed_start, step_covered, step_homed}
 use Rattle.checkpoint.proofs.home.write_home.Given.{Over}
@@ -24,7 +24,7 @@ pub copy_newest-requires-clause-room : goal.copy_newest-requires-clause-room
 copy_newest-requires-clause-room g c = c.loop-line.invariant.only.longer (store_bytes c.args.bank.now) c.requires.room
 
 -- the images after one line more
-covered : (g : Over) (c : goal.After-copy_newest g) (tracks : Tracks g.W.Outside c.args.bank.now c.args.outside.now) → Leaves g.W.Outside (λ image seen. IsCovered tracks.header tracks.records (held_of g.W.Outside c.args.outside.now) image) c.args.outside.now c.copy_newest.new.outside
+covered : (g : Over) (c : goal.After-copy_newest g) (tracks : TracksBank g.W.Outside c.args.bank.now c.args.outside.now) → Leaves g.W.Outside (λ image seen. IsCovered tracks.header tracks.records (held_of g.W.Outside c.args.outside.now) image) c.args.outside.now c.copy_newest.new.outside
 covered g c tracks =
     let G = g.W.Outside in
     let bank = c.args.bank.now in

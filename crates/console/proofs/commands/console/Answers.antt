@@ -2,7 +2,7 @@ use Rattle.console.proofs.Common.{◌≡◌, ◌⊎◌, ℕ, List, [], inl, inr,
 use Rattle.desk.specs.Answers.{order_told}
 use Rattle.desk.specs.declared.answers.Committed.{Committed}
 use Rattle.store_calls.specs.New.{Made}
-use Rattle.store_calls.specs.Show.{Shown}
+use Rattle.store_calls.specs.Show.{RangeShown}
 use Rattle.job_calls.specs.declared.ended.Ended.{Ended}
 use Rattle.job_calls.specs.Big.{Loaded}
 use Rattle.console.proofs.PromiseLemmas.{audits, follow_promise, renewal_promise, ship_promise, traces}
@@ -103,8 +103,8 @@ returns-in-Trace-clause-traced g c = λ activation traces.
 pub returns-in-Show-clause-shown : goal.returns-in-Show-clause-shown
 returns-in-Show-clause-shown g c = λ range shows.
     let asked : IsForm (Command.Show c.in-Show.range) c.args.words.now = subst (λ (form : Command). IsForm form c.args.words.now) c.in-Show.is c.in-Some.ensures in
-    ended_so (Shown g.W.Outside range) c.args.outside.now c.show_range.new.outside c.show_range.result c.without_events-in-Show.result c.without_events-in-Show.ensures.order c.without_events-in-Show.ensures.status
-    (subst (λ (these : Range). Shown g.W.Outside these (call c.args.outside.now c.show_range.new.outside [] c.show_range.result)) (one_range c.args.words.now c.in-Show.range range asked shows) c.show_range.ensures.shown)
+    ended_so (RangeShown g.W.Outside range) c.args.outside.now c.show_range.new.outside c.show_range.result c.without_events-in-Show.result c.without_events-in-Show.ensures.order c.without_events-in-Show.ensures.status
+    (subst (λ (these : Range). RangeShown g.W.Outside these (call c.args.outside.now c.show_range.new.outside [] c.show_range.result)) (one_range c.args.words.now c.in-Show.range range asked shows) c.show_range.ensures.shown)
 
 pub returns-in-New-clause-made : goal.returns-in-New-clause-made
 returns-in-New-clause-made g c = λ header makes.

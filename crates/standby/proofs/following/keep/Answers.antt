@@ -1,4 +1,4 @@
-use Rattle.standby.proofs.Common.{◌≡◌, ⊎_elim, ◌∙◌, ap, Err, line_bytes, FlatStore, Stands, stands, Leaves, held_of, IsEither, KeptStore, number_of, Tracks, Steps, put_of, kept_line, next, record_of, DiskFault}
+use Rattle.standby.proofs.Common.{◌≡◌, ⊎_elim, ◌∙◌, ap, Err, line_bytes, FlatStore, Stands, stands, Leaves, held_of, IsEither, KeptStore, number_of, TracksStore, Steps, put_of, kept_line, next, record_of, DiskFault}
 use Rattle.redo_journal.specs.declared.keep.Kept.{Kept}
 use Rattle.checkpoint.specs.Committed.{number_after}
 use Rattle.standby.proofs.GoLemmas.{goes_on, goes_puts, goes_writes}
@@ -8,15 +8,15 @@ use Rattle.standby.proofs.following.keep.Goals as goal
 use Rattle.standby.proofs.following.keep.Goals.{After-commit}
 
 -- the record that is begun is tracked
-tracked : (g : Over) (c : goal.After-commit g) → Tracks g.W.Outside c.args.durable.now c.args.outside.now → Tracks g.W.Outside c.begin.new.durable c.args.outside.now
+tracked : (g : Over) (c : goal.After-commit g) → TracksStore g.W.Outside c.args.durable.now c.args.outside.now → TracksStore g.W.Outside c.begin.new.durable c.args.outside.now
 tracked g c tracks = tracks_begun g.W.Outside c.args.durable.now c.begin.new.durable c.begin.ensures.begun c.args.outside.now c.begin.ensures.now_is tracks
 
 -- and a crash in its commit leaves the store before it or behind it
-either : (g : Over) (c : goal.After-commit g) → Tracks g.W.Outside c.args.durable.now c.args.outside.now → Leaves g.W.Outside (IsEither c.begin.ensures.begun (held_of g.W.Outside c.args.outside.now)) c.args.outside.now c.commit.new.outside
+either : (g : Over) (c : goal.After-commit g) → TracksStore g.W.Outside c.args.durable.now c.args.outside.now → Leaves g.W.Outside (IsEither c.begin.ensures.begun (held_of g.W.Outside c.args.outside.now)) c.args.outside.now c.commit.new.outside
 either g c tracks =
     either_begun g.W.Outside c.args.durable.now c.begin.new.durable c.begin.ensures.begun (held_of g.W.Outside c.args.outside.now) c.args.outside.now c.commit.new.outside c.begin.ensures.now_is (c.commit.ensures.crash (tracked g c tracks))
 
-unkept : (g : Over) (c : goal.After-commit g) (store : FlatStore) → Tracks g.W.Outside c.args.durable.now c.args.outside.now → stands (held_of g.W.Outside c.args.outside.now) ≡ Stands (number_of c.args.durable.now) store
+unkept : (g : Over) (c : goal.After-commit g) (store : FlatStore) → TracksStore g.W.Outside c.args.durable.now c.args.outside.now → stands (held_of g.W.Outside c.args.outside.now) ≡ Stands (number_of c.args.durable.now) store
     → Steps g.W.Outside (line_bytes c.args.durable.now.header.directory.page) (number_of c.args.durable.now) store (record_of (line_bytes c.args.durable.now.header.directory.page) c.args.sent.now) c.commit.new.self c.args.outside.now c.commit.new.outside (Err DiskFault)
 unkept g c store tracks stood =
     step_unkept g.W.Outside g.met.W.Outside.fewer_later g.met.W.Outside.printed_now (number_of c.args.durable.now) (line_bytes c.args.durable.now.header.directory.page) store (record_of (line_bytes c.args.durable.now.header.directory.page) c.args.sent.now) c.begin.ensures.begun c.args.outside.now c.commit.new.outside

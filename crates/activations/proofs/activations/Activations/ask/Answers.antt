@@ -1,4 +1,4 @@
-use Rattle.activations.proofs.Common.{Seating, sitter, number_in, holders, desk_over, IsSound, KeepsParts, StaysSeated, IsContested, IsContestEnd, counts_of, activity_of, wants_of, taken-below, ◌≡◌, ℕ, IsSome, ap, arith, sym, ◌∙◌, subst}
+use Rattle.activations.proofs.Common.{Seating, sitter, number_in, holders, desk_over, IsSound, KeepsParts, StaysSeated, IsContested, IsContestEnd, tally_counts, activity_of, wants_of, taken-below, ◌≡◌, ℕ, IsSome, ap, arith, sym, ◌∙◌, subst}
 use Rattle.std.specs.Result.{IfErr}
 use Rattle.activations.specs.Causes.{IfVictim}
 use Rattle.activations.proofs.AskLemmas.{asked-within, some-holders, sound-asking, asks-now, keeps-asking, stays-asking, asked-whole}
@@ -56,7 +56,7 @@ returns-clause-settled c begins attempt refused committed order asked =
     let others = some-holders c.holders.result.items (sym c.is_empty.ensures ∙ c.if-is_empty.false) in
     c.contend.ensures.settled begins attempt refused (desk_over a committed order) committed order
     (asked.number ∙ sym (subst (λ (s : Seating). number_in s c.args.seat ≡ number_in c.args.self.now.seats c.args.seat) (sym c.wait.ensures) here.number))
-    (subst (λ (s : Seating). IsContested begins attempt refused (desk_over a committed order) (record a { seating = s }) committed order (counts_of c.args.tally.now)) (sym c.wait.ensures)
+    (subst (λ (s : Seating). IsContested begins attempt refused (desk_over a committed order) (record a { seating = s }) committed order (tally_counts c.args.tally.now)) (sym c.wait.ensures)
     (asked.contested c.request-request.result others.0 others.1 c.request-request.ensures
     (sym (c.holders.ensures ∙ ap (holders c.args.self.now.seats c.args.seat) c.request-request.ensures) ∙ others.2)))
 

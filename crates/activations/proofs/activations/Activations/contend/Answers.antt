@@ -1,4 +1,4 @@
-use Rattle.activations.proofs.Common.{eq-eqb, ne_eqb, option_map, victim_of, number_in, seat_of, sitter, Seat, cycle_of, seat-found, Victim, Activity, activity_of, Cycle, has, rolled, IsOver, Contests, counts_of, KeepsParts, StaysSeated, ◌≡◌, ◌<◌, ◌==◌, true, false, ℕ, List, length, map, IsSome, refl, Some, sym, ◌∙◌, ap, arith, subst}
+use Rattle.activations.proofs.Common.{eq-eqb, ne_eqb, option_map, victim_of, number_in, seat_of, sitter, Seat, cycle_of, seat-found, Victim, Activity, activity_of, Cycle, has, rolled, ComesToEnd, Contests, tally_counts, KeepsParts, StaysSeated, ◌≡◌, ◌<◌, ◌==◌, true, false, ℕ, List, length, map, IsSome, refl, Some, sym, ◌∙◌, ap, arith, subst}
 use Rattle.activations.proofs.KeptLemmas.{keeps-itself, keeps-rolled, stays-itself, stays-rolled, tally-on}
 use Rattle.activations.proofs.ContendLemmas.{fewer, contests-on, contests-lost, stays-taken, recorded, victim-sits, told-settles, told-stays}
 use Rattle.activations.proofs.activations.Activations.contend.Goals.{in-Some+in_default-seat_of, in_default}
@@ -23,11 +23,11 @@ returns-then-victim-number-clause-settled c begins attempt refused first committ
     let sits = ap (seat_of (activity_of c.loop-members.self).seating) (sym c.greatest-victim.ensures) ∙ sym c.seat_of.ensures ∙ c.in-Some-seat_of.is in
     let its : (victim_of c.in-Some.members.items == number_in (activity_of c.loop-members.self).seating c.args.seat) ≡ true =
     eq-eqb (victim_of c.in-Some.members.items) (number_in (activity_of c.loop-members.self).seating c.args.seat) (sym c.greatest-victim.ensures ∙ c.if-victim-number.true ∙ sym c.loop-members.invariant.2) in
-    let lost = contests-lost c.args.seat (activity_of c.args.self.now) (activity_of c.loop-members.self) (counts_of c.args.tally.now) (counts_of c.loop-members.tally) c.in-Some.members.items c.in-Some-seat_of.loser (activity_of c.roll_back.new.self).reach.pool
+    let lost = contests-lost c.args.seat (activity_of c.args.self.now) (activity_of c.loop-members.self) (tally_counts c.args.tally.now) (tally_counts c.loop-members.tally) c.in-Some.members.items c.in-Some-seat_of.loser (activity_of c.roll_back.new.self).reach.pool
     c.loop-members.invariant.0 c.loop-members.invariant.1 (c.loop-members.invariant.2 ∙ ap (λ (who : _). who.number) c.sitter.ensures) c.loop-members.invariant.5 found sits c.roll_back.ensures.rolls its begins attempt refused first committed order number contested in
     let cycles = recorded c.loop-members.tally.cycles.items c.in-Some.members.items c.push.new.self.items _ refl c.push.ensures.items in
-    subst (λ (a : Activity). IsOver begins a committed order (record (counts_of c.loop-members.tally) { cycles = map (λ (cycle : Cycle). cycle.members.items) c.push.new.self.items }) Victim) (sym c.roll_back.ensures.shape)
-    (subst (λ (these : List (List ℕ)). IsOver begins (rolled (activity_of c.loop-members.self) c.in-Some-seat_of.loser (activity_of c.roll_back.new.self).reach.pool) committed order (record (counts_of c.loop-members.tally) { cycles = these }) Victim) (sym cycles) lost)
+    subst (λ (a : Activity). ComesToEnd begins a committed order (record (tally_counts c.loop-members.tally) { cycles = map (λ (cycle : Cycle). cycle.members.items) c.push.new.self.items }) Victim) (sym c.roll_back.ensures.shape)
+    (subst (λ (these : List (List ℕ)). ComesToEnd begins (rolled (activity_of c.loop-members.self) c.in-Some-seat_of.loser (activity_of c.roll_back.new.self).reach.pool) committed order (record (tally_counts c.loop-members.tally) { cycles = these }) Victim) (sym cycles) lost)
 
 pub returns-then-victim-number-clause-parts : goal.returns-then-victim-number-clause-parts
 returns-then-victim-number-clause-parts c =
@@ -51,9 +51,9 @@ loop-members-preserved c =
     let few = fewer (activity_of c.loop-members.self).seating.taken c.in-Some-seat_of.loser loser in
     let less : length (activity_of c.roll_back.new.self).seating.taken < length (activity_of c.loop-members.self).seating.taken = subst (λ (a : Activity). length a.seating.taken < length (activity_of c.loop-members.self).seating.taken) (sym c.roll_back.ensures.shape) few in
     let numbered = c.loop-members.invariant.2 ∙ ap (λ (who : _). who.number) c.sitter.ensures in
-    let on = contests-on c.args.seat (activity_of c.args.self.now) (activity_of c.loop-members.self) (counts_of c.args.tally.now) (counts_of c.loop-members.tally) c.in-Some.members.items c.in-Some-seat_of.loser (activity_of c.roll_back.new.self).reach.pool
+    let on = contests-on c.args.seat (activity_of c.args.self.now) (activity_of c.loop-members.self) (tally_counts c.args.tally.now) (tally_counts c.loop-members.tally) c.in-Some.members.items c.in-Some-seat_of.loser (activity_of c.roll_back.new.self).reach.pool
     c.loop-members.invariant.0 c.loop-members.invariant.1 numbered c.loop-members.invariant.5 found sits c.roll_back.ensures.rolls other in
-    let stays = stays-taken c.args.seat (activity_of c.args.self.now) (activity_of c.loop-members.self) (counts_of c.args.tally.now) (counts_of c.loop-members.tally) c.in-Some.members.items c.in-Some-seat_of.loser (activity_of c.roll_back.new.self).reach.pool
+    let stays = stays-taken c.args.seat (activity_of c.args.self.now) (activity_of c.loop-members.self) (tally_counts c.args.tally.now) (tally_counts c.loop-members.tally) c.in-Some.members.items c.in-Some-seat_of.loser (activity_of c.roll_back.new.self).reach.pool
     c.loop-members.invariant.0 c.loop-members.invariant.1 numbered c.loop-members.invariant.5 found sits c.roll_back.ensures.rolls other in
     let cycles = recorded c.loop-members.tally.cycles.items c.in-Some.members.items c.push.new.self.items _ refl c.push.ensures.items in (
       c.roll_back.ensures.sound,
@@ -61,8 +61,8 @@ loop-members-preserved c =
       subst (λ (a : Activity). number_in a.seating c.args.seat ≡ c.sitter.result.now.number) (sym c.roll_back.ensures.shape) c.loop-members.invariant.2,
       subst (λ (a : Activity). IsSome (sitter a.seating c.args.seat).waits) (sym c.roll_back.ensures.shape) c.loop-members.invariant.3,
       omega (arith, less, c.loop-members.invariant.4, c.push.ensures.len),
-      subst (λ (a : Activity). Contests c.args.seat (activity_of c.args.self.now) (counts_of c.args.tally.now) a (record (counts_of c.loop-members.tally) { cycles = map (λ (cycle : Cycle). cycle.members.items) c.push.new.self.items })) (sym c.roll_back.ensures.shape)
-          (subst (λ (these : List (List ℕ)). Contests c.args.seat (activity_of c.args.self.now) (counts_of c.args.tally.now) (rolled (activity_of c.loop-members.self) c.in-Some-seat_of.loser (activity_of c.roll_back.new.self).reach.pool) (record (counts_of c.loop-members.tally) { cycles = these })) (sym cycles) on),
+      subst (λ (a : Activity). Contests c.args.seat (activity_of c.args.self.now) (tally_counts c.args.tally.now) a (record (tally_counts c.loop-members.tally) { cycles = map (λ (cycle : Cycle). cycle.members.items) c.push.new.self.items })) (sym c.roll_back.ensures.shape)
+          (subst (λ (these : List (List ℕ)). Contests c.args.seat (activity_of c.args.self.now) (tally_counts c.args.tally.now) (rolled (activity_of c.loop-members.self) c.in-Some-seat_of.loser (activity_of c.roll_back.new.self).reach.pool) (record (tally_counts c.loop-members.tally) { cycles = these })) (sym cycles) on),
       subst (λ (a : Activity). KeepsParts (activity_of c.args.self.now) a 0) (sym c.roll_back.ensures.shape)
           (keeps-rolled (activity_of c.args.self.now) (activity_of c.loop-members.self) c.in-Some-seat_of.loser 0 (activity_of c.roll_back.new.self).reach.pool c.loop-members.invariant.6),
       subst (λ (a : Activity). StaysSeated (activity_of c.args.self.now) a c.args.seat) (sym c.roll_back.ensures.shape)
@@ -88,11 +88,11 @@ returns-then-is_empty-clause-settled c begins attempt refused first committed or
   | in-Some+in_default-seat_of w ↦
       let found : cycle_of (activity_of c.loop-members.self).seating c.args.seat ≡ Some w.in-Some.members.items = sym c.cycle_from.ensures ∙ ap (option_map (λ cycle. cycle.items)) w.in-Some.is in
       let none = ap (seat_of (activity_of c.loop-members.self).seating) (sym w.greatest-victim.ensures) ∙ sym w.seat_of.ensures ∙ w.in_default-seat_of.is in
-      absurd (victim-sits c.args.seat (activity_of c.args.self.now) (activity_of c.loop-members.self) (counts_of c.args.tally.now) (counts_of c.loop-members.tally)
+      absurd (victim-sits c.args.seat (activity_of c.args.self.now) (activity_of c.loop-members.self) (tally_counts c.args.tally.now) (tally_counts c.loop-members.tally)
       c.loop-members.invariant.0 c.loop-members.invariant.1 (c.loop-members.invariant.2 ∙ ap (λ (who : _). who.number) c.sitter.ensures) c.loop-members.invariant.5
       w.in-Some.members.items found none begins attempt refused first committed order number contested)
   | in_default w ↦
-      told-settles c.args.seat (activity_of c.args.self.now) (activity_of c.loop-members.self) (counts_of c.args.tally.now) (counts_of c.loop-members.tally)
+      told-settles c.args.seat (activity_of c.args.self.now) (activity_of c.loop-members.self) (tally_counts c.args.tally.now) (tally_counts c.loop-members.tally)
       c.loop-members.invariant.0 c.loop-members.invariant.1 (c.loop-members.invariant.2 ∙ ap (λ (who : _). who.number) c.sitter.ensures) c.loop-members.invariant.5
       c.loop-members.invariant.3 (sym c.cycle_from.ensures ∙ ap (option_map (λ cycle. cycle.items)) w.in_default.is) c.awaited-holders.result.items c.awaited-holders.ensures
       (sym c.is_empty.ensures ∙ c.if-is_empty.true) begins attempt refused first committed order number contested
@@ -103,11 +103,11 @@ returns-else-is_empty-clause-settled c begins attempt refused first committed or
   | in-Some+in_default-seat_of w ↦
       let found : cycle_of (activity_of c.loop-members.self).seating c.args.seat ≡ Some w.in-Some.members.items = sym c.cycle_from.ensures ∙ ap (option_map (λ cycle. cycle.items)) w.in-Some.is in
       let none = ap (seat_of (activity_of c.loop-members.self).seating) (sym w.greatest-victim.ensures) ∙ sym w.seat_of.ensures ∙ w.in_default-seat_of.is in
-      absurd (victim-sits c.args.seat (activity_of c.args.self.now) (activity_of c.loop-members.self) (counts_of c.args.tally.now) (counts_of c.loop-members.tally)
+      absurd (victim-sits c.args.seat (activity_of c.args.self.now) (activity_of c.loop-members.self) (tally_counts c.args.tally.now) (tally_counts c.loop-members.tally)
       c.loop-members.invariant.0 c.loop-members.invariant.1 (c.loop-members.invariant.2 ∙ ap (λ (who : _). who.number) c.sitter.ensures) c.loop-members.invariant.5
       w.in-Some.members.items found none begins attempt refused first committed order number contested)
   | in_default w ↦
-      told-stays c.args.seat (activity_of c.args.self.now) (activity_of c.loop-members.self) (counts_of c.args.tally.now) (counts_of c.loop-members.tally)
+      told-stays c.args.seat (activity_of c.args.self.now) (activity_of c.loop-members.self) (tally_counts c.args.tally.now) (tally_counts c.loop-members.tally)
       c.loop-members.invariant.0 c.loop-members.invariant.1 (c.loop-members.invariant.2 ∙ ap (λ (who : _). who.number) c.sitter.ensures) c.loop-members.invariant.5
       c.loop-members.invariant.3 (sym c.cycle_from.ensures ∙ ap (option_map (λ cycle. cycle.items)) w.in_default.is) c.awaited-holders.result.items c.awaited-holders.ensures
       (sym c.is_empty.ensures ∙ c.if-is_empty.false) begins attempt refused first committed order number contested

@@ -1,4 +1,4 @@
-use Rattle.activations.proofs.Common.{TurnEnd, IsClean, Tally, Activity, HasBrokenOff, IsPrepared, Prepares, IsFetched, instruction_in, with_pool, wants_of, pages_wanted, HasEnded, HasBroken, counts_of, activity_of, ◌+◌, Result, sym, ◌∙◌, ap, subst}
+use Rattle.activations.proofs.Common.{TurnEnd, IsClean, Tally, Activity, HasBrokenOff, IsPrepared, Prepares, IsFetched, instruction_in, with_pool, wants_of, pages_wanted, HasEnded, HasBroken, tally_counts, activity_of, ◌+◌, Result, sym, ◌∙◌, ap, subst}
 use Rattle.activations.proofs.KeptLemmas.{keeps-left, keeps-broke}
 use Rattle.activations.proofs.PrepareLemmas.{is-to-serve, prepare-broke, prepared-so}
 use Rattle.activations.proofs.ServeLemmas.{handed}
@@ -10,7 +10,7 @@ returns-in_err-keep_limit-clause-parts g c =
 
 pub returns-in_err-keep_limit-clause-prepared : goal.returns-in_err-keep_limit-clause-prepared
 returns-in_err-keep_limit-clause-prepared g c committed order is follows =
-    let counts = counts_of c.args.tally.now in
+    let counts = tally_counts c.args.tally.now in
     let to = is-to-serve (activity_of c.args.self.now) c.args.seat c.args.access (wants_of c.touch_of-touch.result) c.requires.sound c.requires.taken c.requires.selected c.requires.shut
     c.touch_of-touch.ensures.lines committed follows in
     handed (λ (r : Result _ TurnEnd). Prepares r (instruction_in (activity_of c.args.self.now) c.args.seat committed order counts) (activity_of c.keep_limit.new.self) c.args.seat committed order counts)
@@ -29,7 +29,7 @@ returns-in_err-bring-clause-parts g c =
 pub returns-in_err-bring-clause-prepared : goal.returns-in_err-bring-clause-prepared
 returns-in_err-bring-clause-prepared g c committed order is follows =
     let a = activity_of c.args.self.now in
-    let counts = counts_of c.args.tally.now in
+    let counts = tally_counts c.args.tally.now in
     let begins = instruction_in a c.args.seat committed order counts in
     let to = is-to-serve a c.args.seat c.args.access (wants_of c.touch_of-touch.result) c.requires.sound c.requires.taken c.requires.selected c.requires.shut
     c.touch_of-touch.ensures.lines committed follows in
@@ -40,16 +40,16 @@ returns-in_err-bring-clause-prepared g c committed order is follows =
     (λ (a : Activity). HasBrokenOff g.W.Outside c.args.store.now c.args.outside.now a c.args.seat (pages_wanted (wants_of c.touch_of-touch.result)) c.args.tally.now.pages
     (activity_of c.bring.new.self) c.bring.new.tally.pages)
     c.in_ok-keep_limit.ensures.kept.0 c.in_err-bring.ensures.broke) in
-    handed (λ (r : Result _ TurnEnd). Prepares r begins (activity_of c.bring.new.self) c.args.seat committed order (counts_of c.bring.new.tally))
+    handed (λ (r : Result _ TurnEnd). Prepares r begins (activity_of c.bring.new.self) c.args.seat committed order (tally_counts c.bring.new.tally))
     c.from_residual-in_err-bring.result c.in_err-bring.field-0.0 c.from_residual-in_err-bring.ensures.1
-    (subst (λ (how : TurnEnd). HasEnded how begins (activity_of c.bring.new.self) committed order (counts_of c.bring.new.tally)) (sym c.in_err-bring.ensures.ends.0)
-    (subst (λ (t : Tally). HasBroken begins (activity_of c.bring.new.self) committed order (counts_of t)) (sym c.bring.ensures.tally) broke))
+    (subst (λ (how : TurnEnd). HasEnded how begins (activity_of c.bring.new.self) committed order (tally_counts c.bring.new.tally)) (sym c.in_err-bring.ensures.ends.0)
+    (subst (λ (t : Tally). HasBroken begins (activity_of c.bring.new.self) committed order (tally_counts t)) (sym c.bring.ensures.tally) broke))
 
 pub returns-clause-prepared : goal.returns-clause-prepared
 returns-clause-prepared g c committed order is follows =
     let a = activity_of c.args.self.now in
     let new = activity_of c.bring.new.self in
-    let counts = counts_of c.args.tally.now in
+    let counts = tally_counts c.args.tally.now in
     let begins = instruction_in a c.args.seat committed order counts in
     let to = is-to-serve a c.args.seat c.args.access (wants_of c.touch_of-touch.result) c.requires.sound c.requires.taken c.requires.selected c.requires.shut
     c.touch_of-touch.ensures.lines committed follows in
@@ -59,7 +59,7 @@ returns-clause-prepared g c committed order is follows =
     (λ (x : Activity). IsClean x.reach.directory x.reach.pool committed → IsFetched x committed order (pages_wanted (wants_of c.touch_of-touch.result)) c.args.tally.now.pages new.reach.pool c.bring.new.tally.pages)
     same (c.in_ok-bring.ensures.fetched committed order is) follows.kept.clean in
     subst
-    (λ (t : Tally). IsPrepared begins new c.args.seat c.touch_of-touch.result c.refused-refused.result committed order (record (counts_of t) { locks = t.locks + (c.from.result + c.from-2.result) }))
+    (λ (t : Tally). IsPrepared begins new c.args.seat c.touch_of-touch.result c.refused-refused.result committed order (record (tally_counts t) { locks = t.locks + (c.from.result + c.from-2.result) }))
     (sym c.bring.ensures.tally)
     (prepared-so a c.args.seat committed order counts c.touch_of-touch.result to.0 to.1 c.touch_of-touch.ensures.wanted c.in_ok-keep_limit.ensures.kept.1 new.reach.pool c.bring.new.tally.pages
     fetched new c.refused-refused.result c.from.result c.from-2.result (c.in_ok-bring.ensures.shape ∙ ap (λ (x : Activity). with_pool x new.reach.pool) same) c.refused-refused.ensures

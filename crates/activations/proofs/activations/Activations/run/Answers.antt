@@ -1,4 +1,4 @@
-use Rattle.activations.proofs.Common.{err_from_is_err_and, Rose, Err, has, asks_none, asks_on, Counts, Limit, TurnEnd, array_vec_len, Tally, Activity, Follows, KeepsParts, counted, IsOver, instruction_in, counts_of, IsStep, IsTurning, IsAtCommit, AreTurns, turn_in, activity_of, ◌≡◌, ◌+◌, ◌-◌, ◌^◌, ℕ, List, true, length, Result, Ok, refl, ap, arith, sym, ◌∙◌, subst}
+use Rattle.activations.proofs.Common.{err_from_is_err_and, Rose, Err, has, asks_none, asks_on, Counts, Limit, TurnEnd, array_vec_len, Tally, Activity, KeepsDesk, KeepsParts, counted, ComesToEnd, instruction_in, tally_counts, IsStep, IsTurning, IsAtCommit, AreTurns, turn_in, activity_of, ◌≡◌, ◌+◌, ◌-◌, ◌^◌, ℕ, List, true, length, Result, Ok, refl, ap, arith, sym, ◌∙◌, subst}
 use Rattle.activations.specs.declared.instructions.Went.{Went}
 use Rattle.activations.proofs.BringLemmas.{store-on}
 use Rattle.activations.proofs.KeptLemmas.{keeps-itself, keeps-two, stays-itself, stays-on}
@@ -22,7 +22,7 @@ loop-left-init g c =
       omega (arith, c.requires.tally),
       omega (arith, c.requires.tally),
       omega (arith, c.requires.tally),
-      λ committed order store follows. turn-begins a c.args.seat c.args.limit committed order (counts_of c.args.tally.now) follows,
+      λ committed order store follows. turn-begins a c.args.seat c.args.limit committed order (tally_counts c.args.tally.now) follows,
     )
 
 pub loop-left-preserved : goal.loop-left-preserved
@@ -61,15 +61,15 @@ loop-left-preserved g c =
       (let before = inv.9 in omega (arith, before, more.1, pages, pages_now, some, few, left)),
       (let before = inv.10 in omega (arith, before, ap (λ (tally : Tally). tally.locks) c.come_back.ensures.tally, locks, locks_now, some, few, left)),
       λ committed order store follows.
-          let begins = turn_in first seat c.args.limit committed order (counts_of c.args.tally.now) in
+          let begins = turn_in first seat c.args.limit committed order (tally_counts c.args.tally.now) in
           let here = store-on g.W.Outside g.met.W.Outside.fewer_later c.args.store.now c.args.outside.now c.loop-left.outside committed inv.4 store in
           let turning = c.in_ok-shut_still.ensures.turns begins c.loop-left.left committed order left here (inv.11 committed order store follows) in
           let here_still = store-on g.W.Outside g.met.W.Outside.fewer_later c.args.store.now c.loop-left.outside c.come_back.new.outside committed c.come_back.ensures.asks here in
-          let goes = subst (λ (went : Went). IsStep (Ok went) (instruction_in back seat committed order (counts_of c.come_back.new.tally)) mid seat committed order (counts_of c.instruct.new.tally)) c.in-On.is (c.in_ok-instruct.ensures.step committed order here_still turning.follows) in
-          let on = turn-goes begins back seat c.loop-left.left committed order (counts_of c.come_back.new.tally) c.come_back.ensures.sound came.taken left turning mid (counts_of c.instruct.new.tally) c.instruct.ensures.sound stays c.instruct.ensures.tally.pages_before goes in
-          subst (λ (counts : Counts). IsTurning begins new seat (c.loop-left.left - c.go_far-ran.result.0) committed order counts) (sym (ap counts_of told))
-          (c.go_far-ran.ensures.gone begins committed order (counts_of c.instruct.new.tally) (c.go_far-ran.result.0 - 1) (c.loop-left.left - c.go_far-ran.result.0) (omega (arith, some))
-          (subst (λ (rows : ℕ). IsTurning begins (counted mid seat 1) seat rows committed order (record (counts_of c.instruct.new.tally) { ran = c.instruct.new.tally.ran + 1 })) (omega (arith, some, few, left)) on)),
+          let goes = subst (λ (went : Went). IsStep (Ok went) (instruction_in back seat committed order (tally_counts c.come_back.new.tally)) mid seat committed order (tally_counts c.instruct.new.tally)) c.in-On.is (c.in_ok-instruct.ensures.step committed order here_still turning.follows) in
+          let on = turn-goes begins back seat c.loop-left.left committed order (tally_counts c.come_back.new.tally) c.come_back.ensures.sound came.taken left turning mid (tally_counts c.instruct.new.tally) c.instruct.ensures.sound stays c.instruct.ensures.tally.pages_before goes in
+          subst (λ (counts : Counts). IsTurning begins new seat (c.loop-left.left - c.go_far-ran.result.0) committed order counts) (sym (ap tally_counts told))
+          (c.go_far-ran.ensures.gone begins committed order (tally_counts c.instruct.new.tally) (c.go_far-ran.result.0 - 1) (c.loop-left.left - c.go_far-ran.result.0) (omega (arith, some))
+          (subst (λ (rows : ℕ). IsTurning begins (counted mid seat 1) seat rows committed order (record (tally_counts c.instruct.new.tally) { ran = c.instruct.new.tally.ran + 1 })) (omega (arith, some, few, left)) on)),
     )
 
 pub returns-in_err-shut_still-clause-asks : goal.returns-in_err-shut_still-clause-asks
@@ -89,11 +89,11 @@ returns-in_err-shut_still-clause-ends g c =
 pub returns-in_err-shut_still-clause-turned : goal.returns-in_err-shut_still-clause-turned
 returns-in_err-shut_still-clause-turned g c committed order store follows =
     let inv = c.loop-left.invariant in
-    let begins = turn_in (activity_of c.select.new.self) c.args.seat c.args.limit committed order (counts_of c.args.tally.now) in
-    let turning = inv.11 committed order store (subst (λ (x : Activity). Follows x committed) (sym c.select.ensures.shape) (follows-selected (activity_of c.args.self.now) c.args.seat committed follows)) in
+    let begins = turn_in (activity_of c.select.new.self) c.args.seat c.args.limit committed order (tally_counts c.args.tally.now) in
+    let turning = inv.11 committed order store (subst (λ (x : Activity). KeepsDesk x committed) (sym c.select.ensures.shape) (follows-selected (activity_of c.args.self.now) c.args.seat committed follows)) in
     let here = store-on g.W.Outside g.met.W.Outside.fewer_later c.args.store.now c.args.outside.now c.loop-left.outside committed inv.4 store in
-    subst (λ (x : Activity). AreTurns c.from_residual.result (turn_in x c.args.seat c.args.limit committed order (counts_of c.args.tally.now)) (activity_of c.come_back.new.self) c.args.seat committed order (counts_of c.come_back.new.tally)) c.select.ensures.shape
-    (handed (λ (r : Result _ TurnEnd). AreTurns r begins (activity_of c.come_back.new.self) c.args.seat committed order (counts_of c.come_back.new.tally)) c.from_residual.result c.in_err-shut_still.field-0.0 c.from_residual.ensures.1
+    subst (λ (x : Activity). AreTurns c.from_residual.result (turn_in x c.args.seat c.args.limit committed order (tally_counts c.args.tally.now)) (activity_of c.come_back.new.self) c.args.seat committed order (tally_counts c.come_back.new.tally)) c.select.ensures.shape
+    (handed (λ (r : Result _ TurnEnd). AreTurns r begins (activity_of c.come_back.new.self) c.args.seat committed order (tally_counts c.come_back.new.tally)) c.from_residual.result c.in_err-shut_still.field-0.0 c.from_residual.ensures.1
     (c.in_err-shut_still.ensures.turns begins c.loop-left.left committed order c.loop-left-test.true here turning))
 
 pub returns-in_err-instruct-clause-asks : goal.returns-in_err-instruct-clause-asks
@@ -110,14 +110,14 @@ returns-in_err-instruct-clause-turned g c committed order store follows =
     let new = activity_of c.instruct.new.self in
     let seat = c.args.seat in
     let inv = c.loop-left.invariant in
-    let begins = turn_in (activity_of c.select.new.self) seat c.args.limit committed order (counts_of c.args.tally.now) in
+    let begins = turn_in (activity_of c.select.new.self) seat c.args.limit committed order (tally_counts c.args.tally.now) in
     let here = store-on g.W.Outside g.met.W.Outside.fewer_later c.args.store.now c.args.outside.now c.loop-left.outside committed inv.4 store in
     let turning = c.in_ok-shut_still.ensures.turns begins c.loop-left.left committed order c.loop-left-test.true here
-    (inv.11 committed order store (subst (λ (x : Activity). Follows x committed) (sym c.select.ensures.shape) (follows-selected (activity_of c.args.self.now) seat committed follows))) in
+    (inv.11 committed order store (subst (λ (x : Activity). KeepsDesk x committed) (sym c.select.ensures.shape) (follows-selected (activity_of c.args.self.now) seat committed follows))) in
     let here_still = store-on g.W.Outside g.met.W.Outside.fewer_later c.args.store.now c.loop-left.outside c.come_back.new.outside committed c.come_back.ensures.asks here in
-    subst (λ (x : Activity). AreTurns c.from_residual-in_err-instruct.result (turn_in x seat c.args.limit committed order (counts_of c.args.tally.now)) new seat committed order (counts_of c.instruct.new.tally)) c.select.ensures.shape
-    (handed (λ (r : Result _ TurnEnd). AreTurns r begins new seat committed order (counts_of c.instruct.new.tally)) c.from_residual-in_err-instruct.result c.in_err-instruct.field-0.0 c.from_residual-in_err-instruct.ensures.1
-    (turn-ends begins back seat c.loop-left.left committed order (counts_of c.come_back.new.tally) c.come_back.ensures.sound c.in_ok-shut_still.ensures.stays.taken c.loop-left-test.true turning g.W.Outside c.come_back.new.outside c.instruct.new.outside c.come_back.new.tally c.instruct.new.tally
+    subst (λ (x : Activity). AreTurns c.from_residual-in_err-instruct.result (turn_in x seat c.args.limit committed order (tally_counts c.args.tally.now)) new seat committed order (tally_counts c.instruct.new.tally)) c.select.ensures.shape
+    (handed (λ (r : Result _ TurnEnd). AreTurns r begins new seat committed order (tally_counts c.instruct.new.tally)) c.from_residual-in_err-instruct.result c.in_err-instruct.field-0.0 c.from_residual-in_err-instruct.ensures.1
+    (turn-ends begins back seat c.loop-left.left committed order (tally_counts c.come_back.new.tally) c.come_back.ensures.sound c.in_ok-shut_still.ensures.stays.taken c.loop-left-test.true turning g.W.Outside c.come_back.new.outside c.instruct.new.outside c.come_back.new.tally c.instruct.new.tally
     c.in_err-instruct.field-0.0 new refl c.instruct.ensures.tally.pages_before c.in_err-instruct.ensures.ends (c.in_err-instruct.ensures.step committed order here_still turning.follows)))
 
 pub returns-in-AtCommit-clause-asks : goal.returns-in-AtCommit-clause-asks
@@ -134,14 +134,14 @@ returns-in-AtCommit-clause-turned g c committed order store follows =
     let new = activity_of c.instruct.new.self in
     let seat = c.args.seat in
     let inv = c.loop-left.invariant in
-    let begins = turn_in (activity_of c.select.new.self) seat c.args.limit committed order (counts_of c.args.tally.now) in
+    let begins = turn_in (activity_of c.select.new.self) seat c.args.limit committed order (tally_counts c.args.tally.now) in
     let here = store-on g.W.Outside g.met.W.Outside.fewer_later c.args.store.now c.args.outside.now c.loop-left.outside committed inv.4 store in
     let turning = c.in_ok-shut_still.ensures.turns begins c.loop-left.left committed order c.loop-left-test.true here
-    (inv.11 committed order store (subst (λ (x : Activity). Follows x committed) (sym c.select.ensures.shape) (follows-selected (activity_of c.args.self.now) seat committed follows))) in
+    (inv.11 committed order store (subst (λ (x : Activity). KeepsDesk x committed) (sym c.select.ensures.shape) (follows-selected (activity_of c.args.self.now) seat committed follows))) in
     let here_still = store-on g.W.Outside g.met.W.Outside.fewer_later c.args.store.now c.loop-left.outside c.come_back.new.outside committed c.come_back.ensures.asks here in
-    let at = subst (λ (went : Went). IsStep (Ok went) (instruction_in back seat committed order (counts_of c.come_back.new.tally)) new seat committed order (counts_of c.instruct.new.tally)) c.in-AtCommit.is (c.in_ok-instruct.ensures.step committed order here_still turning.follows) in
-    subst (λ (x : Activity). IsAtCommit (turn_in x seat c.args.limit committed order (counts_of c.args.tally.now)) new seat committed order (counts_of c.instruct.new.tally)) c.select.ensures.shape
-    (turn-commits begins back seat c.loop-left.left committed order (counts_of c.come_back.new.tally) c.come_back.ensures.sound c.in_ok-shut_still.ensures.stays.taken c.loop-left-test.true turning new (counts_of c.instruct.new.tally) c.instruct.ensures.tally.pages_before at)
+    let at = subst (λ (went : Went). IsStep (Ok went) (instruction_in back seat committed order (tally_counts c.come_back.new.tally)) new seat committed order (tally_counts c.instruct.new.tally)) c.in-AtCommit.is (c.in_ok-instruct.ensures.step committed order here_still turning.follows) in
+    subst (λ (x : Activity). IsAtCommit (turn_in x seat c.args.limit committed order (tally_counts c.args.tally.now)) new seat committed order (tally_counts c.instruct.new.tally)) c.select.ensures.shape
+    (turn-commits begins back seat c.loop-left.left committed order (tally_counts c.come_back.new.tally) c.come_back.ensures.sound c.in_ok-shut_still.ensures.stays.taken c.loop-left-test.true turning new (tally_counts c.instruct.new.tally) c.instruct.ensures.tally.pages_before at)
 
 pub go_far-ran-requires-clause-rows : goal.go_far-ran-requires-clause-rows
 go_far-ran-requires-clause-rows g c seat below =
@@ -157,8 +157,8 @@ returns-clause-turned g c committed order store follows printed =
     let old = activity_of c.loop-left.self in
     let seat = c.args.seat in
     let inv = c.loop-left.invariant in
-    let begins = turn_in (activity_of c.select.new.self) seat c.args.limit committed order (counts_of c.args.tally.now) in
-    let turning = inv.11 committed order store (subst (λ (x : Activity). Follows x committed) (sym c.select.ensures.shape) (follows-selected (activity_of c.args.self.now) seat committed follows)) in
+    let begins = turn_in (activity_of c.select.new.self) seat c.args.limit committed order (tally_counts c.args.tally.now) in
+    let turning = inv.11 committed order store (subst (λ (x : Activity). KeepsDesk x committed) (sym c.select.ensures.shape) (follows-selected (activity_of c.args.self.now) seat committed follows)) in
     let none : c.loop-left.left ≡ 0 = omega (arith, c.loop-left-test.false) in
-    subst (λ (x : Activity). IsOver (turn_in x seat c.args.limit committed order (counts_of c.args.tally.now)) old committed order (counts_of c.loop-left.tally) Limit) c.select.ensures.shape
-    (turn-limit begins old seat committed order (counts_of c.loop-left.tally) (subst (λ (n : ℕ). IsTurning begins old seat n committed order (counts_of c.loop-left.tally)) none turning))
+    subst (λ (x : Activity). ComesToEnd (turn_in x seat c.args.limit committed order (tally_counts c.args.tally.now)) old committed order (tally_counts c.loop-left.tally) Limit) c.select.ensures.shape
+    (turn-limit begins old seat committed order (tally_counts c.loop-left.tally) (subst (λ (n : ℕ). IsTurning begins old seat n committed order (tally_counts c.loop-left.tally)) none turning))

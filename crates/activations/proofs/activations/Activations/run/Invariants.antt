@@ -1,5 +1,5 @@
 -- The instructions of a turn.
-use Rattle.activations.proofs.Common.{array_vec_len, OnlyAsks, IsSelected, IsStoreOf, IsSound, Follows, KeepsParts, StaysSeated, counts_of, IsTurning, MayBeShut, turn_in, activity_of, ◌≡◌, ◌≤◌, ◌+◌, ◌*◌, ◌-◌, ℕ, List, length}
+use Rattle.activations.proofs.Common.{array_vec_len, OnlyAsks, IsSelected, IsStoreOf, IsSound, KeepsDesk, KeepsParts, StaysSeated, tally_counts, IsTurning, MayBeShut, turn_in, activity_of, ◌≡◌, ◌≤◌, ◌+◌, ◌*◌, ◌-◌, ℕ, List, length}
 use Rattle.activations.proofs.activations.Activations.run.Given as goal
 
 abbrev pub invariant-loop-left : goal.invariant-loop-left
@@ -15,8 +15,8 @@ invariant-loop-left g l =
     × (l.tally.ran + l.left ≡ l.limit)
     × (l.tally.pages + 6 * l.left ≤ 6 * l.limit)
     × (l.tally.locks + 2 * l.left ≤ 2 * l.limit)
-    × ((committed : List ℕ) (order : List (ℕ × ℕ)) → IsStoreOf g.W.Outside l.store l.initial.outside committed → Follows (activity_of l.initial.self) committed
-    → IsTurning (turn_in (activity_of l.initial.self) l.seat l.limit committed order (counts_of l.initial.tally)) (activity_of l.self) l.seat l.left committed order (counts_of l.tally))
+    × ((committed : List ℕ) (order : List (ℕ × ℕ)) → IsStoreOf g.W.Outside l.store l.initial.outside committed → KeepsDesk (activity_of l.initial.self) committed
+    → IsTurning (turn_in (activity_of l.initial.self) l.seat l.limit committed order (tally_counts l.initial.tally)) (activity_of l.self) l.seat l.left committed order (tally_counts l.tally))
 
 abbrev pub decreases-loop-left : goal.decreases-loop-left
 decreases-loop-left g l = l.left

@@ -1,4 +1,4 @@
-use Rattle.activations.proofs.Common.{err_from_is_err_and, asks_on, TurnEnd, Rose, Tally, IsInstruction, instruction_in, counts_of, activity_of, ◌<◌, ℕ, Result, Err, ap, arith, sym, ◌∙◌, subst}
+use Rattle.activations.proofs.Common.{err_from_is_err_and, asks_on, TurnEnd, Rose, Tally, IsInstruction, instruction_in, tally_counts, activity_of, ◌<◌, ℕ, Result, Err, ap, arith, sym, ◌∙◌, subst}
 use Rattle.activations.proofs.BringLemmas.{store-on}
 use Rattle.activations.proofs.KeptLemmas.{keeps-two}
 use Rattle.activations.proofs.ServeLemmas.{handed, ended-by-disk}
@@ -9,7 +9,7 @@ returns-in_err-touch-clause-parts g c = c.prepare.ensures.parts
 
 pub returns-in_err-touch-clause-served : goal.returns-in_err-touch-clause-served
 returns-in_err-touch-clause-served g c committed order store follows =
-    handed (λ (r : Result _ TurnEnd). IsInstruction r (instruction_in (activity_of c.args.self.now) c.args.seat committed order (counts_of c.args.tally.now)) (activity_of c.prepare.new.self) c.args.seat committed order (counts_of c.prepare.new.tally))
+    handed (λ (r : Result _ TurnEnd). IsInstruction r (instruction_in (activity_of c.args.self.now) c.args.seat committed order (tally_counts c.args.tally.now)) (activity_of c.prepare.new.self) c.args.seat committed order (tally_counts c.prepare.new.tally))
     c.from_residual.result c.in_err-touch.field-0.0 c.from_residual.ensures.1 (c.in_err-touch.ensures.prepared committed order store follows)
 
 pub returns-in_err-ask-clause-parts : goal.returns-in_err-ask-clause-parts
@@ -18,9 +18,9 @@ returns-in_err-ask-clause-parts g c =
 
 pub returns-in_err-ask-clause-served : goal.returns-in_err-ask-clause-served
 returns-in_err-ask-clause-served g c committed order store follows =
-    let begins = instruction_in (activity_of c.args.self.now) c.args.seat committed order (counts_of c.args.tally.now) in
+    let begins = instruction_in (activity_of c.args.self.now) c.args.seat committed order (tally_counts c.args.tally.now) in
     let prepared = c.in_ok-touch.ensures.prepared committed order store follows in
-    handed (λ (r : Result _ TurnEnd). IsInstruction r begins (activity_of c.ask.new.self) c.args.seat committed order (counts_of c.ask.new.tally))
+    handed (λ (r : Result _ TurnEnd). IsInstruction r begins (activity_of c.ask.new.self) c.args.seat committed order (tally_counts c.ask.new.tally))
     c.from_residual-in_err-ask.result c.in_err-ask.field-0.0 c.from_residual-in_err-ask.ensures.1 (c.in_err-ask.ensures.settled begins prepared.attempt _ committed order prepared.asked)
 
 pub returns-in_err-get-clause-asks : goal.returns-in_err-get-clause-asks
@@ -44,9 +44,9 @@ returns-in_err-get-clause-ends g c =
 
 pub returns-in_err-get-clause-served : goal.returns-in_err-get-clause-served
 returns-in_err-get-clause-served g c committed order store follows =
-    let begins = instruction_in (activity_of c.args.self.now) c.args.seat committed order (counts_of c.args.tally.now) in
+    let begins = instruction_in (activity_of c.args.self.now) c.args.seat committed order (tally_counts c.args.tally.now) in
     let prepared = c.in_ok-touch.ensures.prepared committed order store follows in
-    handed (λ (r : Result _ TurnEnd). IsInstruction r begins (activity_of c.get.new.self) c.args.seat committed order (counts_of c.get.new.tally))
+    handed (λ (r : Result _ TurnEnd). IsInstruction r begins (activity_of c.get.new.self) c.args.seat committed order (tally_counts c.get.new.tally))
     c.from_residual-in_err-get.result c.in_err-get.field-0.0 c.from_residual-in_err-get.ensures.1
     (c.in_err-get.ensures.served begins prepared.attempt prepared.next committed order (store-on g.W.Outside g.met.W.Outside.fewer_later c.args.store.now c.args.outside.now c.prepare.new.outside committed c.prepare.ensures.asks store)
     (prepared.asked.number ∙ sym c.in_ok-ask.ensures.stays.number) prepared.goes prepared.lines (c.in_ok-ask.ensures.settled begins prepared.attempt _ committed order prepared.asked))
@@ -64,6 +64,6 @@ returns-clause-parts g c =
 pub returns-clause-served : goal.returns-clause-served
 returns-clause-served g c committed order store follows =
     let prepared = c.in_ok-touch.ensures.prepared committed order store follows in
-    c.go_on.ensures.went _ committed order (counts_of c.get.new.tally)
+    c.go_on.ensures.went _ committed order (tally_counts c.get.new.tally)
     (c.in_ok-get.ensures.served _ prepared.attempt prepared.next committed order (store-on g.W.Outside g.met.W.Outside.fewer_later c.args.store.now c.args.outside.now c.prepare.new.outside committed c.prepare.ensures.asks store)
     (prepared.asked.number ∙ sym c.in_ok-ask.ensures.stays.number) prepared.goes prepared.lines (c.in_ok-ask.ensures.settled _ prepared.attempt _ committed order prepared.asked))

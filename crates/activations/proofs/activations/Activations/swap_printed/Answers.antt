@@ -1,4 +1,4 @@
-use Rattle.activations.proofs.Common.{get_or_read, Activity, live_in, nothing_runs, IsSound, Follows, activity_of, ◌≡◌, ℕ, sym, ap, ◌∙◌, arith, subst, slice_index_or, slice_set}
+use Rattle.activations.proofs.Common.{get_or_read, Activity, live_in, nothing_runs, IsSound, KeepsDesk, activity_of, ◌≡◌, ℕ, sym, ap, ◌∙◌, arith, subst, slice_index_or, slice_set}
 use Rattle.activations.proofs.PrintedLemmas.{sound-reprinted, follows-reprinted}
 use Rattle.activations.proofs.activations.Activations.swap_printed.Goals as goal
 
@@ -16,4 +16,4 @@ returns-clause-sound c = subst IsSound (sym (returns-clause-left c)) (sound-repr
 pub returns-clause-follows : goal.returns-clause-follows
 returns-clause-follows c =
     λ committed follows.
-    subst (λ (a : Activity). Follows a committed) (sym (returns-clause-left c)) (follows-reprinted (activity_of c.args.self.now) c.args.seat c.args.out.now c.requires.free committed follows)
+    subst (λ (a : Activity). KeepsDesk a committed) (sym (returns-clause-left c)) (follows-reprinted (activity_of c.args.self.now) c.args.seat c.args.out.now c.requires.free committed follows)

@@ -1,17 +1,17 @@
-use Rattle.checkpoint.proofs.Common.{◌≡◌, ℕ, ◌+◌, List, [], length, refl, sym, subst, ◌∙◌, ap, arith, replicate, length-replicate, get_or-replicate, Which, Header, header_of, area_at, IsStore, Leaves, held_of, leaves_held, KeptBank, number_of, Tracks, HoldsRecords, turned, place_is, held_left, other, IsSame, IsMoved}
+use Rattle.checkpoint.proofs.Common.{◌≡◌, ℕ, ◌+◌, List, [], length, refl, sym, subst, ◌∙◌, ap, arith, replicate, length-replicate, get_or-replicate, Which, Header, header_of, area_at, IsStore, Leaves, held_of, leaves_held, KeptBank, number_of, TracksBank, HoldsRecords, turned, place_is, held_left, other, IsSame, IsMoved}
 use Rattle.std.specs.Prelude.{Option, None, take}
 use Rattle.checkpoint.proofs.banks.Banks.checkpoint.Given.{Over}
 use Rattle.checkpoint.proofs.banks.Banks.checkpoint.Goals as goal
 use Rattle.checkpoint.proofs.banks.Banks.checkpoint.Goals.{After-move_to}
 
 -- the images since the start
-crash : (g : Over) (c : goal.After-move_to g) (tracks : Tracks g.W.Outside c.args.self.now c.args.outside.now)
+crash : (g : Over) (c : goal.After-move_to g) (tracks : TracksBank g.W.Outside c.args.self.now c.args.outside.now)
     → Leaves g.W.Outside (λ image seen. IsSame tracks.header c.args.self.now tracks.records (held_of g.W.Outside c.args.outside.now) image) c.args.outside.now c.move_to.new.outside
 crash g c =
-    subst (λ (bank : KeptBank). (tracks : Tracks g.W.Outside bank c.args.outside.now) → Leaves g.W.Outside (λ image seen. IsSame tracks.header bank tracks.records (held_of g.W.Outside c.args.outside.now) image) c.args.outside.now c.move_to.new.outside) c.self.view_is c.move_to.ensures.crash
+    subst (λ (bank : KeptBank). (tracks : TracksBank g.W.Outside bank c.args.outside.now) → Leaves g.W.Outside (λ image seen. IsSame tracks.header bank tracks.records (held_of g.W.Outside c.args.outside.now) image) c.args.outside.now c.move_to.new.outside) c.self.view_is c.move_to.ensures.crash
 
 -- the bytes held are one of them
-held : (g : Over) (c : goal.After-move_to g) (tracks : Tracks g.W.Outside c.args.self.now c.args.outside.now) → IsSame tracks.header c.args.self.now tracks.records (held_of g.W.Outside c.args.outside.now) (held_of g.W.Outside c.move_to.new.outside)
+held : (g : Over) (c : goal.After-move_to g) (tracks : TracksBank g.W.Outside c.args.self.now c.args.outside.now) → IsSame tracks.header c.args.self.now tracks.records (held_of g.W.Outside c.args.outside.now) (held_of g.W.Outside c.move_to.new.outside)
 held g c tracks =
     let G = g.W.Outside in
     let now = held_left G g.met.W.Outside.held_now c.move_to.new.outside (c.move_to.ensures.only.told tracks.sure.told) in
@@ -35,13 +35,13 @@ returns-in-Ok-clause-done g c tracks =
     let bank = c.args.self.now in
     let away = other bank.which in
     let new = held_of G c.move_to.new.outside in
-    let moved = subst (λ (those : KeptBank). (tracks : Tracks G those c.args.outside.now) → IsMoved G tracks.header those c.args.outside.now c.move_to.new.outside) c.self.view_is c.in-Ok.ensures.done tracks in
+    let moved = subst (λ (those : KeptBank). (tracks : TracksBank G those c.args.outside.now) → IsMoved G tracks.header those c.args.outside.now c.move_to.new.outside) c.self.view_is c.in-Ok.ensures.done tracks in
     let chose : c.other_of-which.result ≡ other c.self.inside.bank.which = c.other_of-which.ensures ∙ ap other c.which.ensures in
     let kept : c.turn_to.new.self ≡ turned away bank = c.turn_to.ensures.turned ∙ ap (λ (which : Which). turned which c.self.inside.bank) chose ∙ ap (λ (those : KeptBank). turned (other those.which) those) c.self.view_is in
     let lines : length (replicate {A = Option ℕ} (length bank.newest) None) ≡ length bank.newest = length-replicate {A = Option ℕ} (length bank.newest) None in
     let gate : area_at tracks.header away ≡ (turned away bank).gate = ap (λ (n : ℕ). n + 8) (place_is tracks.header away bank.bank_bytes tracks.bank_bytes) in
     let said : header_of (take 128 (held_of G c.args.outside.now)) ≡ tracks.header = tracks.store.said in
-    let now : Tracks G (turned away bank) c.move_to.new.outside = record {
+    let now : TracksBank G (turned away bank) c.move_to.new.outside = record {
       sure = moved.sure;
       header = tracks.header;
       records = [];
@@ -53,7 +53,7 @@ returns-in-Ok-clause-done g c tracks =
       newest = λ line below. get_or-replicate (length bank.newest) line None None (omega (arith, below, lines));
     } in
     record {
-      tracks = subst (λ (those : KeptBank). Tracks G those c.move_to.new.outside) (sym kept) now;
+      tracks = subst (λ (those : KeptBank). TracksBank G those c.move_to.new.outside) (sym kept) now;
       stood = moved.stood;
       header = moved.store.said ∙ sym said;
       emptied = λ image seen left.

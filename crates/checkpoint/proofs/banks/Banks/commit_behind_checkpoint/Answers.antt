@@ -1,11 +1,11 @@
-use Rattle.checkpoint.proofs.Common.{◌≡◌, inl, inr, ⊎_elim, ℕ, List, [], sym, subst, ◌∙◌, ap, arith, slice_set, Header, RecordLine, stands, one_more, Leaves, held_of, leaves_on, KeptBank, begun_of, Tracks, IsEither, HoldsOneOf, writes_on, other, IsCheckpointed, emptied}
+use Rattle.checkpoint.proofs.Common.{◌≡◌, inl, inr, ⊎_elim, ℕ, List, [], sym, subst, ◌∙◌, ap, arith, slice_set, Header, RecordLine, stands, one_more, Leaves, held_of, leaves_on, KeptBank, begun_of, TracksBank, IsEither, HoldsOneOf, writes_on, other, IsCheckpointed, emptied}
 use Rattle.checkpoint.proofs.CommitLemmas.{adds_same, either_same, by_unwritten, by_doubt, by_done, no_records}
 use Rattle.checkpoint.proofs.banks.Banks.commit_behind_checkpoint.Given.{Over}
 use Rattle.checkpoint.proofs.banks.Banks.commit_behind_checkpoint.Goals as goal
 use Rattle.checkpoint.proofs.banks.Banks.commit_behind_checkpoint.Goals.{After-checkpoint, After-append}
 
 -- what stood stands while the checkpoint is made
-stood : (g : Over) (c : goal.After-checkpoint g) → Tracks g.W.Outside c.args.self.now c.args.outside.now → Leaves g.W.Outside (λ image seen. stands image ≡ stands (held_of g.W.Outside c.args.outside.now)) c.args.outside.now c.checkpoint.new.outside
+stood : (g : Over) (c : goal.After-checkpoint g) → TracksBank g.W.Outside c.args.self.now c.args.outside.now → Leaves g.W.Outside (λ image seen. stands image ≡ stands (held_of g.W.Outside c.args.outside.now)) c.args.outside.now c.checkpoint.new.outside
 stood g c tracks image seen left = (c.checkpoint.ensures.crash tracks image seen left).stood
 
 pub returns-in-Err-clause-crash : goal.returns-in-Err-clause-crash
@@ -21,7 +21,7 @@ pub returns-in-Ok-clause-only : goal.returns-in-Ok-clause-only
 returns-in-Ok-clause-only g c = writes_on g.W.Outside g.met.W.Outside.fewer_later c.args.outside.now c.checkpoint.new.outside c.append.new.outside c.checkpoint.ensures.only c.append.ensures.only
 
 -- what the append leaves, of the bank turned to
-behind : (g : Over) (c : goal.After-append g) (tracks : Tracks g.W.Outside c.args.self.now c.args.outside.now) (made : IsCheckpointed g.W.Outside c.args.self.now c.checkpoint.new.self c.args.outside.now c.checkpoint.new.outside) → c.checkpoint.new.self ≡ emptied c.args.self.now
+behind : (g : Over) (c : goal.After-append g) (tracks : TracksBank g.W.Outside c.args.self.now c.args.outside.now) (made : IsCheckpointed g.W.Outside c.args.self.now c.checkpoint.new.self c.args.outside.now c.checkpoint.new.outside) → c.checkpoint.new.self ≡ emptied c.args.self.now
     → Leaves g.W.Outside (IsEither (begun_of c.args.self.now) (held_of g.W.Outside c.args.outside.now)) c.checkpoint.new.outside c.append.new.outside
 behind g c tracks made kept image seen left =
     let G = g.W.Outside in

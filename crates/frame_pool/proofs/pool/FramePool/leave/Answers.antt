@@ -1,4 +1,4 @@
-use Rattle.frame_pool.proofs.Common.{◌≡◌, ℕ, ◌+◌, ◌*◌, sym, ◌∙◌, ap, arith, vec_len, slice_range, slice_index, unwrap_or, Option, get_or_read_under, page_bytes, left, frame_of_index, places_of, frame_at, gone, kept_after, pool_of}
+use Rattle.frame_pool.proofs.Common.{◌≡◌, ℕ, ◌+◌, ◌*◌, sym, ◌∙◌, ap, arith, vec_len, slice_range, slice_index, unwrap_or, Option, get_or_read_under, page_bytes, left, frame_of_index, places_of, frame_at, gone, paging_after, pool_of}
 use Rattle.frame_pool.proofs.PoolLemmas.{frame-at_index, frame-within, frame-part, kept-after_by, left-gone}
 use Rattle.frame_pool.proofs.pool.FramePool.leave.Goals.{After-unwrap_or-frame}
 use Rattle.frame_pool.proofs.pool.FramePool.leave.Goals as goal
@@ -39,6 +39,6 @@ returns-clause-value c =
     c.part.ensures
     ∙ ap (λ (n : ℕ). slice_range p.bytes.items.items n (n + c.page_bytes.result)) c.page_place-2.ensures.value
     ∙ ap (λ (n : ℕ). slice_range p.bytes.items.items (frame * page_bytes p.places.page) (frame * page_bytes p.places.page + n)) c.page_bytes.ensures.value in
-    let kept : c.keep_over.new.kept ≡ kept_after (pool_of p) page frame =
+    let kept : c.keep_over.new.kept ≡ paging_after (pool_of p) page frame =
     kept-after_by p page frame c.page_place.result c.written-marks.result c.part.result.now c.keep_over.new.kept c.written-marks.ensures c.page_place.ensures.value part c.keep_over.ensures.value in
     left-gone p c.args.index page frame (places_of c.leave.new.self) c.keep_over.new.kept c.requires is there after kept ∙ ap (gone (pool_of p)) is

@@ -1,4 +1,4 @@
-use Rattle.redo_journal.proofs.Common.{◌≡◌, ℕ, ◌+◌, ◌*◌, ◌<◌, List, [], ◌∷◌, ◌++◌, length, drop, slice_set, refl, sym, subst, ◌∙◌, ap, arith, length-append, Option, entry_bytes, RecordLine, lines_from, wrong_line, record_bytes, length-take-le, IsStore, stands, one_more, held_of, noted, AreNewest, KeptBank, end_of, area_end, begun_of, needed_end, begun_count, begun_lines, kept_of, Tracks, IsEither, HoldsOneOf, IsSafe, IsShut}
+use Rattle.redo_journal.proofs.Common.{◌≡◌, ℕ, ◌+◌, ◌*◌, ◌<◌, List, [], ◌∷◌, ◌++◌, length, drop, slice_set, refl, sym, subst, ◌∙◌, ap, arith, length-append, Option, entry_bytes, RecordLine, lines_from, wrong_line, record_bytes, length-take-le, IsStore, stands, one_more, held_of, noted, AreNewest, KeptBank, end_of, area_end, begun_of, needed_end, begun_count, begun_lines, kept_of, TracksBank, IsEither, HoldsOneOf, IsSafe, IsShut}
 use Rattle.redo_journal.proofs.AppendLemmas.{IsReadied, make_ready, shut, either, one_of, same, more, after, doubted, filled_lines, says_room, begun_is, fields_tracked, with_record_is, is_begun, unwrapped}
 use Rattle.redo_journal.proofs.Places.{below_in_order, newest_more}
 use Rattle.redo_journal.proofs.WriteLemmas.{held_left}
@@ -23,10 +23,10 @@ sized : (g : Over) (c : goal.After-record_of g) → c.from-bytes.result ≡ entr
 sized g c = c.from-bytes.ensures ∙ c.entries_bytes.ensures.value ∙ ap (λ (n : ℕ). entry_bytes c.self.inside.page * n) (sym (count g c))
 
 -- the bank's fields are tracked, and the body adds the begun record
-abbrev ready : (g : Over) (c : goal.After-record_of g) → Tracks g.W.Outside c.args.self.now c.args.outside.now → IsReadied g.W.Outside c.self.inside c.args.outside.now c.record_of.result.now
+abbrev ready : (g : Over) (c : goal.After-record_of g) → TracksBank g.W.Outside c.args.self.now c.args.outside.now → IsReadied g.W.Outside c.self.inside c.args.outside.now c.record_of.result.now
 ready g c given =
     let n = count g c in
-    let tracks : Tracks g.W.Outside (kept_of c.self.inside) c.args.outside.now = fields_tracked g.W.Outside c.self.inside c.args.self.now c.args.outside.now c.self.view_is given in
+    let tracks : TracksBank g.W.Outside (kept_of c.self.inside) c.args.outside.now = fields_tracked g.W.Outside c.self.inside c.args.self.now c.args.outside.now c.self.view_is given in
     record {
       tracks = tracks;
       ready =
@@ -56,11 +56,11 @@ note-requires-clause-ordered g c =
     rw (← n) (ap (wrong_line (length c.self.inside.newest) 0) (filled_lines c.self.inside c.fill.new.body c.as_slice.result.now (rw n c.fill.ensures.lines) c.as_slice.ensures) ∙ c.self.invariant.ordered)
 
 -- the gate is shut
-shut_gate : (g : Over) (c : goal.After-record_of g) → Tracks g.W.Outside c.args.self.now c.args.outside.now → IsShut g.W.Outside c.self.inside.gate c.args.outside.now
+shut_gate : (g : Over) (c : goal.After-record_of g) → TracksBank g.W.Outside c.args.self.now c.args.outside.now → IsShut g.W.Outside c.self.inside.gate c.args.outside.now
 shut_gate g c tracks = record { sure = tracks.sure; shut = shut _ _ _ _ _ _ _ _ _ (ready g c tracks).ready }
 
 -- what a safe image stands for, and which records it has
-left : (g : Over) (r : goal.After-record_of g) (tracks : Tracks g.W.Outside r.args.self.now r.args.outside.now) (image seen : List ℕ) → IsSafe r.self.inside.gate r.record_of.result.now (held_of g.W.Outside r.args.outside.now) image → IsEither (begun_of r.args.self.now) (held_of g.W.Outside r.args.outside.now) image seen
+left : (g : Over) (r : goal.After-record_of g) (tracks : TracksBank g.W.Outside r.args.self.now r.args.outside.now) (image seen : List ℕ) → IsSafe r.self.inside.gate r.record_of.result.now (held_of g.W.Outside r.args.outside.now) image → IsEither (begun_of r.args.self.now) (held_of g.W.Outside r.args.outside.now) image seen
 left g r tracks image seen safe =
     subst (λ (lines : List RecordLine). IsEither lines (held_of g.W.Outside r.args.outside.now) image seen) (begun g r) (either _ _ _ _ _ _ _ _ _ (ready g r tracks).ready image safe seen)
 
@@ -76,7 +76,7 @@ held_safe g c shut =
     since g c shut (held_of g.W.Outside c.keep_body.new.outside) now.0 now.1
 
 -- the records of bytes that are safe
-records : (g : Over) (c : goal.After-record_of g) (tracks : Tracks g.W.Outside c.args.self.now c.args.outside.now) (held : List ℕ) → IsSafe c.self.inside.gate c.record_of.result.now (held_of g.W.Outside c.args.outside.now) held
+records : (g : Over) (c : goal.After-record_of g) (tracks : TracksBank g.W.Outside c.args.self.now c.args.outside.now) (held : List ℕ) → IsSafe c.self.inside.gate c.record_of.result.now (held_of g.W.Outside c.args.outside.now) held
     → HoldsOneOf tracks.header c.args.self.now.which c.args.self.now.base tracks.records (begun_of c.args.self.now) held
 records g c tracks held safe =
     let bank = c.self.inside in

@@ -21,7 +21,7 @@ pub returns-clause-crash : goal.returns-clause-crash
 returns-clause-crash g c tracks =
     let G = g.W.Outside in
     let at = (goal.at.returns-clause-crash g c).After-checkpoint in
-    subst (λ (kept : KeptBank). (tracks : journal.Tracks G kept c.args.outside.now) → Leaves G (λ image seen. IsSame tracks.header kept tracks.records (held_of G c.args.outside.now) image) c.args.outside.now c.checkpoint.new.outside) (bank g at) c.checkpoint.ensures.crash
+    subst (λ (kept : KeptBank). (tracks : journal.TracksBank G kept c.args.outside.now) → Leaves G (λ image seen. IsSame tracks.header kept tracks.records (held_of G c.args.outside.now) image) c.args.outside.now c.checkpoint.new.outside) (bank g at) c.checkpoint.ensures.crash
     (bank_tracked G c.args.self.now c.args.outside.now tracks)
 
 pub returns-clause-intact : goal.returns-clause-intact
@@ -32,7 +32,7 @@ returns-clause-intact g c tracks =
     let kept = c.args.self.now.bank in
     let now = held_of G c.checkpoint.new.outside in
     let same =
-    subst (λ (kept : KeptBank). (tracks : journal.Tracks G kept c.args.outside.now) → IsSame tracks.header kept tracks.records (held_of G c.args.outside.now) now) (bank g at) c.checkpoint.ensures.held (bank_tracked G c.args.self.now c.args.outside.now tracks) in
+    subst (λ (kept : KeptBank). (tracks : journal.TracksBank G kept c.args.outside.now) → IsSame tracks.header kept tracks.records (held_of G c.args.outside.now) now) (bank g at) c.checkpoint.ensures.held (bank_tracked G c.args.self.now c.args.outside.now tracks) in
     ⊎_elim (λ here. records_intact header kept.which kept.base tracks.shows.read.records now here) (λ there. records_intact header (other kept.which) (number_of kept) [] now there) same.one_of
 
 pub returns-clause-done : goal.returns-clause-done
@@ -42,7 +42,7 @@ returns-clause-done g c =
     let old = c.args.self.now in
     let header : old.header ≡ c.self.inside.header = ap (λ (store : KeptStore). store.header) (sym c.self.view_is) in
     let made =
-    subst (λ (kept : KeptBank). OnOk c.checkpoint.result (journal.Tracks G kept c.args.outside.now → IsCheckpointed G kept c.checkpoint.new.self c.args.outside.now c.checkpoint.new.outside)) (bank g at) c.checkpoint.ensures.done in
+    subst (λ (kept : KeptBank). OnOk c.checkpoint.result (journal.TracksBank G kept c.args.outside.now → IsCheckpointed G kept c.checkpoint.new.self c.args.outside.now c.checkpoint.new.outside)) (bank g at) c.checkpoint.ensures.done in
     map_ok c.checkpoint.result made (λ makes tracks.
     let is = makes (bank_tracked G old c.args.outside.now tracks) in
     let said : header_of (take 128 (held_of G c.args.outside.now)) ≡ c.self.inside.header = tracks.shows.header.said ∙ header in

@@ -1,4 +1,4 @@
-use Rattle.restart.proofs.Common.{◌≡◌, ap, subst, sym, ◌∙◌, arith, total, Leaves, held_of, KeptBank, begun_of, KeptStore, Tracks, roomy, IsKeptAfter, HoldsCommitted}
+use Rattle.restart.proofs.Common.{◌≡◌, ap, subst, sym, ◌∙◌, arith, total, Leaves, held_of, KeptBank, begun_of, KeptStore, TracksStore, roomy, IsKeptAfter, HoldsCommitted}
 use Rattle.checkpoint.proofs.CommitLemmas.{number_kept, count_kept}
 use Rattle.redo_journal.specs.Tracks as journal
 use Rattle.restart.proofs.ShowLemmas.{bank_tracked, store_tracked, total_is, committed_intact}
@@ -17,13 +17,13 @@ pub returns-clause-crash : goal.returns-clause-crash
 returns-clause-crash g c tracks =
     let G = g.W.Outside in
     let at = (goal.at.returns-clause-crash g c).After-commit in
-    subst (λ (kept : KeptBank). journal.Tracks G kept c.args.outside.now → Leaves G (journal.IsEither (begun_of kept) (held_of G c.args.outside.now)) c.args.outside.now c.commit.new.outside) (bank g at) c.commit.ensures.crash (bank_tracked G c.args.self.now c.args.outside.now tracks)
+    subst (λ (kept : KeptBank). journal.TracksBank G kept c.args.outside.now → Leaves G (journal.IsEither (begun_of kept) (held_of G c.args.outside.now)) c.args.outside.now c.commit.new.outside) (bank g at) c.commit.ensures.crash (bank_tracked G c.args.self.now c.args.outside.now tracks)
 
 -- the records of the bytes held
-records : (g : Over) (c : goal.After-commit g) (tracks : Tracks g.W.Outside c.args.self.now c.args.outside.now) → HoldsCommitted c.args.self.now.header c.args.self.now.bank tracks.shows.read.records (held_of g.W.Outside c.commit.new.outside)
+records : (g : Over) (c : goal.After-commit g) (tracks : TracksStore g.W.Outside c.args.self.now c.args.outside.now) → HoldsCommitted c.args.self.now.header c.args.self.now.bank tracks.shows.read.records (held_of g.W.Outside c.commit.new.outside)
 records g c tracks =
     let G = g.W.Outside in
-    subst (λ (kept : KeptBank). (tracks : journal.Tracks G kept c.args.outside.now) → HoldsCommitted tracks.header kept tracks.records (held_of G c.commit.new.outside)) (bank g c) c.commit.ensures.records (bank_tracked G c.args.self.now c.args.outside.now tracks)
+    subst (λ (kept : KeptBank). (tracks : journal.TracksBank G kept c.args.outside.now) → HoldsCommitted tracks.header kept tracks.records (held_of G c.commit.new.outside)) (bank g c) c.commit.ensures.records (bank_tracked G c.args.self.now c.args.outside.now tracks)
 
 pub returns-clause-records : goal.returns-clause-records
 returns-clause-records g c tracks = records g (goal.at.returns-clause-records g c).After-commit tracks
@@ -36,7 +36,7 @@ pub returns-clause-done : goal.returns-clause-done
 returns-clause-done g c is tracks =
     let G = g.W.Outside in
     let at = (goal.at.returns-clause-done g c).After-commit in
-    let added = subst (λ (kept : KeptBank). journal.Tracks G kept c.args.outside.now → journal.IsAppended G kept c.commit.new.self c.args.outside.now c.commit.new.outside) (bank g at) (c.commit.ensures.done is) (bank_tracked G c.args.self.now c.args.outside.now tracks) in
+    let added = subst (λ (kept : KeptBank). journal.TracksBank G kept c.args.outside.now → journal.IsAppended G kept c.commit.new.self c.args.outside.now c.commit.new.outside) (bank g at) (c.commit.ensures.done is) (bank_tracked G c.args.self.now c.args.outside.now tracks) in
     let header : c.args.self.now.header ≡ c.self.inside.header = ap (λ (store : KeptStore). store.header) (sym c.self.view_is) in
     let shape = c.commit.ensures.shape in
     record {

@@ -1,4 +1,4 @@
-use Rattle.restart.proofs.Common.{◌≡◌, ℕ, List, [], ap, subst, sym, IsSome, ◌∙◌, arith, Option, unwrap_or, total, HasHeader, held_of, IsChosen, map_ok, ReopenFault, IsReopenFault, KeptStore, Fits, Shows, IsIntact}
+use Rattle.restart.proofs.Common.{◌≡◌, ℕ, List, [], ap, subst, sym, IsSome, ◌∙◌, arith, Option, unwrap_or, total, HasHeader, held_of, IsChosen, map_ok, ReopenFault, IsStoreReopenFault, KeptStore, Fits, Shows, IsStoreWith}
 use Rattle.checkpoint.specs.Chosen as opened
 use Rattle.redo_journal.specs.declared.fault.ReopenFault.TheVariants as reopening
 use Rattle.restart.proofs.ShowLemmas.{sure_on, shows_read, reopening_fault, intact_fault, if_err, total_is}
@@ -17,9 +17,9 @@ fits : (g : Over) (c : goal.After-reopen g) → Fits c.self.inside.header c.reop
 fits g c = record { page = c.self.invariant.page ∙ sym c.reopen.ensures.shape.page; bank_bytes = c.self.invariant.bank_bytes ∙ sym c.reopen.ensures.shape.bank_bytes; lines = c.self.invariant.lines ∙ sym c.reopen.ensures.shape.lines }
 
 -- a fault of the banks is one of the store
-fault_is : (g : Over) (c : goal.After-reopen g) (fault : ReopenFault) → opened.IsReopenFault g.W.Outside c.synced.new.outside c.reopen.new.outside c.self.inside.banks fault → IsReopenFault g.W.Outside c.args.outside.now c.reopen.new.outside c.args.self.now.header fault
+fault_is : (g : Over) (c : goal.After-reopen g) (fault : ReopenFault) → opened.IsChosenReopenFault g.W.Outside c.synced.new.outside c.reopen.new.outside c.self.inside.banks fault → IsStoreReopenFault g.W.Outside c.args.outside.now c.reopen.new.outside c.args.self.now.header fault
 fault_is g c fault is =
-    subst (λ (store : KeptStore). IsReopenFault g.W.Outside c.args.outside.now c.reopen.new.outside store.header fault) c.self.view_is
+    subst (λ (store : KeptStore). IsStoreReopenFault g.W.Outside c.args.outside.now c.reopen.new.outside store.header fault) c.self.view_is
     (reopening_fault g.W.Outside c.args.outside.now c.synced.new.outside c.reopen.new.outside c.self.inside.header c.self.inside.banks fault c.self.invariant c.synced.ensures.asks is)
 
 pub reopen-requires : goal.reopen-requires
@@ -59,11 +59,11 @@ returns-in-Ok-clause-tracks g c =
 pub returns-in-Ok-clause-fault : goal.returns-in-Ok-clause-fault
 returns-in-Ok-clause-fault g c =
     let at = (goal.at.returns-in-Ok-clause-fault g c).After-reopen in
-    if_err (opened.IsReopenFault g.W.Outside c.synced.new.outside c.reopen.new.outside c.self.inside.banks) (IsReopenFault g.W.Outside c.args.outside.now c.reopen.new.outside c.args.self.now.header) c.reopen.result c.reopen.ensures.fault (fault_is g at)
+    if_err (opened.IsChosenReopenFault g.W.Outside c.synced.new.outside c.reopen.new.outside c.self.inside.banks) (IsStoreReopenFault g.W.Outside c.args.outside.now c.reopen.new.outside c.args.self.now.header) c.reopen.result c.reopen.ensures.fault (fault_is g at)
 
 pub returns-in-Ok-clause-intact : goal.returns-in-Ok-clause-intact
 returns-in-Ok-clause-intact g c =
     let at = (goal.at.returns-in-Ok-clause-intact g c).After-reopen in
-    if_err (opened.IsReopenFault g.W.Outside c.synced.new.outside c.reopen.new.outside c.self.inside.banks)
-    (λ fault. IsSome (g.W.Outside.held c.args.outside.now) → IsIntact c.args.self.now.header (held_of g.W.Outside c.args.outside.now) → fault ≡ reopening.DiskFault) c.reopen.result c.reopen.ensures.fault
+    if_err (opened.IsChosenReopenFault g.W.Outside c.synced.new.outside c.reopen.new.outside c.self.inside.banks)
+    (λ fault. IsSome (g.W.Outside.held c.args.outside.now) → IsStoreWith c.args.self.now.header (held_of g.W.Outside c.args.outside.now) → fault ≡ reopening.DiskFault) c.reopen.result c.reopen.ensures.fault
     (λ fault is told intact. intact_fault g.W.Outside c.args.outside.now c.reopen.new.outside c.args.self.now.header fault told intact (fault_is g at fault is))

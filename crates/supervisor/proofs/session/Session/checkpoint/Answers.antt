@@ -1,4 +1,4 @@
-use Rattle.supervisor.proofs.Common.{◌≡◌, sym, ◌∙◌, subst, true, Leaves, held_of, Tracks, stands, Did, Desk, number_after, CheckpointMade, CheckpointFailed, activity, desk_of, order_of, Shown}
+use Rattle.supervisor.proofs.Common.{◌≡◌, sym, ◌∙◌, subst, true, Leaves, held_of, TracksStore, stands, Did, Desk, number_after, CheckpointMade, CheckpointFailed, activity, session_desk, order_of, ShowsDesk}
 use Rattle.desk.specs.declared.event.Event.TheVariants as event
 use Rattle.supervisor.proofs.CauseLemmas.{calls-store}
 use Rattle.supervisor.proofs.DidLemmas.{did-checkpoint, did-fail-checkpoint}
@@ -12,13 +12,13 @@ returns-in-Ok-clause-did g c = λ desk sure shown.
     let before = c.args.outside.now in
     let after = c.checkpoint.new.outside in
     let over = shown.over in
-    let tracks : Tracks G s.store before = record { sure = sure; shows = over.shows } in
+    let tracks : TracksStore G s.store before = record { sure = sure; shows = over.shows } in
     let done = c.in-Ok.ensures.done tracks in
     let crash : Leaves G (λ image seen. stands image ≡ stands (held_of G before)) before after = λ image seen left. (c.in-Ok.ensures.crash tracks image seen left).stood in
     let did = did-checkpoint G s store c.requires.sound before after over crash c.in-Ok.ensures.header c.in-Ok.ensures.number done.tracks.sure done.tracks.shows done.stood c.in-Ok.ensures.count in
-    let number : c.number.result ≡ number_after s.opened (desk_of s over.committed) = c.number.ensures ∙ c.in-Ok.ensures.number ∙ over.number in
+    let number : c.number.result ≡ number_after s.opened (session_desk s over.committed) = c.number.ensures ∙ c.in-Ok.ensures.number ∙ over.number in
     subst
-    (λ (that : Desk). (x : Did G (activity s).programs s.opened event.Checkpoint CheckpointMade s.closed (order_of s) (λ held shown. Shown (record s { store = store }) held shown) that before after) × (c.number.result ≡ number_after s.opened x.next))
+    (λ (that : Desk). (x : Did G (activity s).programs s.opened event.Checkpoint CheckpointMade s.closed (order_of s) (λ held shown. ShowsDesk (record s { store = store }) held shown) that before after) × (c.number.result ≡ number_after s.opened x.next))
     (sym shown.is)
     (did, number)
 
@@ -33,11 +33,11 @@ returns-in-Err-clause-did g c = λ desk sure shown.
     let before = c.args.outside.now in
     let after = c.checkpoint.new.outside in
     let over = shown.over in
-    let tracks : Tracks G s.store before = record { sure = sure; shows = over.shows } in
+    let tracks : TracksStore G s.store before = record { sure = sure; shows = over.shows } in
     let crash : Leaves G (λ image seen. stands image ≡ stands (held_of G before)) before after = λ image seen left. (c.in-Err.ensures.crash tracks image seen left).stood in
     let did = did-fail-checkpoint G s store c.requires.sound before after over crash c.in-Err.ensures.cause.failed in
     subst
-    (λ (that : Desk). (x : Did G (activity s).programs s.opened event.Checkpoint CheckpointFailed true (order_of s) (λ held shown. Shown (record s { store = store; closed = true }) held shown) that before after) × Unit {0})
+    (λ (that : Desk). (x : Did G (activity s).programs s.opened event.Checkpoint CheckpointFailed true (order_of s) (λ held shown. ShowsDesk (record s { store = store; closed = true }) held shown) that before after) × Unit {0})
     (sym shown.is)
     (did, tt)
 

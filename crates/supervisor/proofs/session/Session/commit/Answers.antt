@@ -1,4 +1,4 @@
-use Rattle.supervisor.proofs.Common.{◌≡◌, ◌+◌, ◌%◌, ◌^◌, ◌∙◌, ◌∷◌, [], length, refl, sym, ap, subst, arith, Some, length-append, true, false, has, Commit, row, begun_of, Kept, KeptStore, number_of, Tracks, over_all, committed_at, sitter, number_in, taken-below, Activity, live_in, program_in, entry_in, store_over, desk_over, shown, Follows, rolled, reprinted, activity_of, Session, activity}
+use Rattle.supervisor.proofs.Common.{◌≡◌, ◌+◌, ◌%◌, ◌^◌, ◌∙◌, ◌∷◌, [], length, refl, sym, ap, subst, arith, Some, length-append, true, false, has, Commit, row, begun_of, Kept, KeptStore, number_of, TracksStore, over_all, committed_at, sitter, number_in, taken-below, Activity, live_in, program_in, entry_in, store_over, desk_over, shown, KeepsDesk, rolled, reprinted, activity_of, Session, activity}
 use Rattle.flat_machine.specs.After.{after as after_rows}
 use Rattle.redo_journal.specs.declared.keep.Kept.TheVariants.{Unwritten, Doubt}
 use Rattle.checkpoint.specs.Committed.{roomy, number_after, IsKeptAfter}
@@ -84,7 +84,7 @@ returns-in-Done-clause-went g c = λ begins sure over at.
     let done = c.commit.ensures.done c.in-Done.is tracks in
     let pool = (activity_of c.commit-in-Done.new.self).reach.pool in
     let shape = c.commit-in-Done.ensures.shape in
-    let follows : Follows (activity entered) over.committed = subst (λ (a : Activity). Follows a over.committed) (sym there) at.follows in
+    let follows : KeepsDesk (activity entered) over.committed = subst (λ (a : Activity). KeepsDesk a over.committed) (sym there) at.follows in
     let commits = c.commit-in-Done.ensures.commits over.committed at.now follows
     (subst (λ (a : Activity). after_rows (program_in a seat) (entry_in a seat).runs.args (store_over a over.committed) (entry_in a seat).rows ≡ Some at.now) (sym there) at.at)
     (subst (λ (a : Activity). row (program_in a seat) a.reach.directory (over_all at.now (shown a over.committed)) ≡ Commit) (sym there) at.goes) in
@@ -96,10 +96,10 @@ returns-in-Done-clause-went g c = λ begins sure over at.
     (ap (λ (n : Session). n.closed) others)
     c.enter_order.ensures.order
     (λ order. ap (λ (a : Activity). desk_over a at.now.store order) (c.swap_printed.ensures.left ∙ ap (λ (a : Activity). reprinted a seat entered.printed) shape) ∙ commits.desk order ∙ ap (λ (a : Activity). committed_at (desk_over a over.committed order) (entry_in a seat) at.now) there)
-    (c.swap_printed.ensures.follows at.now.store (subst (λ (a : Activity). Follows a at.now.store) (sym shape) commits.follows))
+    (c.swap_printed.ensures.follows at.now.store (subst (λ (a : Activity). KeepsDesk a at.now.store) (sym shape) commits.follows))
     (c.swap_printed.ensures.out ∙ ap (λ (a : Activity). (live_in a seat).out) shape ∙ ap (λ (a : Activity). (live_in a seat).out) there ∙ out-is (activity s) seat over.committed at.now c.requires.taken at.follows at.at)
     (ap (λ (n : Session). number_of n.store) others ∙ c.commit.ensures.number ∙ ap (λ (kept : Kept). number_after kept (number_of c.record.new.store)) c.in-Done.is ∙ ap (λ (store : KeptStore). (number_of store + 1) % 2 ^ 64) begun)
-    (subst (λ (store : KeptStore). Tracks G store after) (sym (ap (λ (n : Session). n.store) others)) done.tracks)
+    (subst (λ (store : KeptStore). TracksStore G store after) (sym (ap (λ (n : Session). n.store) others)) done.tracks)
     done.stood (c.commit.ensures.crash tracks) c.args.tally.now _ refl
 
 pub returns-in-Doubt-clause-sound : goal.returns-in-Doubt-clause-sound

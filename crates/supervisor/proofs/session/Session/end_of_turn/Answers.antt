@@ -1,4 +1,4 @@
-use Rattle.supervisor.proofs.Common.{ℕ, List, length, ap, arith, sym, ◌∙◌, subst, sure_on, Cycle, few-taken, seat-found, TurnEnd, FailsCounted, turn_fails, activity, order_of, IfWaits, IfJournal, IfVictim, IsEndOfRows, number_of, TellsNumber, EntersOrder, ClosesBy, asks_none}
+use Rattle.supervisor.proofs.Common.{ℕ, List, length, ap, arith, sym, ◌∙◌, subst, sure_on, Cycle, few-taken, seat-found, TurnEnd, FailsCounted, turn_fails, activity, order_of, IfWaits, IfJournal, IfVictim, IsEndOfRows, number_of, TellsNumber, EntersOrder, ClosesAsCommit, asks_none}
 use Rattle.redo_journal.proofs.WriteLemmas.{asks_only, writes_on}
 use Rattle.supervisor.proofs.TurnLemmas.{idle, ended, committed, nothing-counted, sound-ran, over-ran, store-over}
 use Rattle.supervisor.proofs.CauseLemmas.{closes-since, commit-told, rows-counted, rows-number}
@@ -57,7 +57,7 @@ returns-in-Ok-clause-committing g c =
     let s = c.args.self.now in
     let found = (seat-found (activity s).seating c.requires.sound.running.seating c.args.activation c.in-Some.seat (sym c.seat_of.ensures ∙ c.in-Some.is)).1 in
     closes-since G g.met.W.Outside.fewer_later c.args.activation s.store c.commit.new.self c.args.outside.now c.run.new.outside c.commit.new.outside c.run.ensures.asks c.in-Ok.ensures.calm c.commit.result
-    (subst (λ (n : ℕ). ClosesBy G n c.commit.result s.store c.commit.new.self c.run.new.outside c.commit.new.outside) (c.in-Ok.ensures.stays.number ∙ found) c.commit.ensures.committing)
+    (subst (λ (n : ℕ). ClosesAsCommit G n c.commit.result s.store c.commit.new.self c.run.new.outside c.commit.new.outside) (c.in-Ok.ensures.stays.number ∙ found) c.commit.ensures.committing)
 
 pub returns-in-Err-clause-end : goal.returns-in-Err-clause-end
 returns-in-Err-clause-end g c =

@@ -1,6 +1,6 @@
-use Rattle.supervisor.proofs.Common.{◌≡◌, sym, ◌∙◌, subst, true, held_of, reopened_holds, Did, Desk, numbers, number_after, Crashed, CrashFailed, activity, order_of, Shown}
+use Rattle.supervisor.proofs.Common.{◌≡◌, sym, ◌∙◌, subst, true, held_of, reopened_holds, Did, Desk, numbers, number_after, Crashed, CrashFailed, activity, order_of, ShowsDesk}
 use Rattle.redo_journal.specs.declared.fault.ReopenFault.{ReopenFault}
-use Rattle.restart.specs.Faults.{IsReopenFault}
+use Rattle.restart.specs.Faults.{IsStoreReopenFault}
 use Rattle.desk.specs.declared.event.Event.TheVariants as event
 use Rattle.supervisor.proofs.CrashLemmas.{did-crash, did-fail-crash, number-restarted, undamaged}
 use Rattle.supervisor.proofs.session.Session.forget.Goals as goal
@@ -20,7 +20,7 @@ returns-in-Ok-clause-did g c = λ desk sure shown.
     let number : c.number.result ≡ number_after s.opened did.next =
     c.number.ensures ∙ number-restarted G s store c.in-Ok.ensures.header left c.requires.sound before after sure over gone c.in-Ok.ensures.asks tracks in
     subst
-    (λ (that : Desk). (x : Did G (activity s).programs s.opened event.Crash (Crashed (numbers that)) s.closed (order_of s) (λ held shown. Shown (record s { store = store; activations = left }) held shown) that before after) × (c.number.result ≡ number_after s.opened x.next))
+    (λ (that : Desk). (x : Did G (activity s).programs s.opened event.Crash (Crashed (numbers that)) s.closed (order_of s) (λ held shown. ShowsDesk (record s { store = store; activations = left }) held shown) that before after) × (c.number.result ≡ number_after s.opened x.next))
     (sym shown.is)
     (did, number)
 
@@ -33,7 +33,7 @@ pub returns-in-Err-Damaged-clause-did : goal.returns-in-Err-Damaged-clause-did
 returns-in-Err-Damaged-clause-did g c = λ desk sure shown.
     let G = g.W.Outside in
     let s = c.args.self.now in
-    let fault = subst (λ (fault : ReopenFault). IsReopenFault G c.args.outside.now c.reopen.new.outside s.store.header fault) c.in-Err-Damaged.field-0-is c.in-Err-Damaged.ensures.fault in
+    let fault = subst (λ (fault : ReopenFault). IsStoreReopenFault G c.args.outside.now c.reopen.new.outside s.store.header fault) c.in-Err-Damaged.field-0-is c.in-Err-Damaged.ensures.fault in
     absurd (undamaged s (held_of G c.args.outside.now) shown.over c.in-Err-Damaged.offset (fault sure.told))
 
 pub returns-in-Err-DiskFault-clause-did : goal.returns-in-Err-DiskFault-clause-did
@@ -46,10 +46,10 @@ returns-in-Err-DiskFault-clause-did g c = λ desk sure shown.
     let after = c.reopen.new.outside in
     let over = shown.over in
     let gone = c.forget.ensures.restarts over.committed over.follows in
-    let fault = subst (λ (fault : ReopenFault). IsReopenFault G before after s.store.header fault) c.in-Err-DiskFault.field-0-is c.in-Err-DiskFault.ensures.fault in
+    let fault = subst (λ (fault : ReopenFault). IsStoreReopenFault G before after s.store.header fault) c.in-Err-DiskFault.field-0-is c.in-Err-DiskFault.ensures.fault in
     let did = did-fail-crash G s store c.in-Err-DiskFault.ensures.header left c.requires.sound before after sure over gone c.in-Err-DiskFault.ensures.asks fault in
     subst
-    (λ (that : Desk). (x : Did G (activity s).programs s.opened event.Crash (CrashFailed (numbers that)) true (order_of s) (λ held shown. Shown (record s { store = store; activations = left; closed = true }) held shown) that before after) × Unit {0})
+    (λ (that : Desk). (x : Did G (activity s).programs s.opened event.Crash (CrashFailed (numbers that)) true (order_of s) (λ held shown. ShowsDesk (record s { store = store; activations = left; closed = true }) held shown) that before after) × Unit {0})
     (sym shown.is)
     (did, tt)
 
@@ -57,5 +57,5 @@ pub returns-in-Err-Damaged-clause-undamaged : goal.returns-in-Err-Damaged-clause
 returns-in-Err-Damaged-clause-undamaged g c = λ desk offset told shown same.
     let G = g.W.Outside in
     let s = c.args.self.now in
-    let fault = subst (λ (fault : ReopenFault). IsReopenFault G c.args.outside.now c.reopen.new.outside s.store.header fault) c.in-Err-Damaged.field-0-is c.in-Err-Damaged.ensures.fault in
+    let fault = subst (λ (fault : ReopenFault). IsStoreReopenFault G c.args.outside.now c.reopen.new.outside s.store.header fault) c.in-Err-Damaged.field-0-is c.in-Err-Damaged.ensures.fault in
     undamaged s (held_of G c.args.outside.now) shown.over c.in-Err-Damaged.offset (fault told)

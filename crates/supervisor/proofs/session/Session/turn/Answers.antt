@@ -1,4 +1,4 @@
-use Rattle.supervisor.proofs.Common.{◌≡◌, ◌+◌, ap, sym, ◌∙◌, subst, held_of, most_lines, number_of, IsTurnEnd, FailsCounted, Fixed, turn_fails, TurnEnd, counts_told, turn_told, HasNumbers, Did, Desk, number_after, activity, order_of, records_told, IsOver, Shown}
+use Rattle.supervisor.proofs.Common.{◌≡◌, ◌+◌, ap, sym, ◌∙◌, subst, held_of, most_lines, number_of, IsTurnEnd, FailsCounted, Fixed, turn_fails, TurnEnd, counts_told, turn_told, HasNumbers, Did, Desk, number_after, activity, order_of, records_told, IsOpenOver, ShowsDesk}
 use Rattle.desk.specs.declared.answers.Turn.{Turn}
 use Rattle.desk.specs.declared.event.Event.TheVariants as event
 use Rattle.supervisor.proofs.CauseLemmas.{calls-store}
@@ -15,7 +15,7 @@ returns-clause-did g c = λ desk sure shown.
     let answer = c.told-2.result in
     let over = shown.over in
     let ends : answer.end ≡ end = ap (λ (told : Turn). told.end) c.told-2.ensures in
-    let begun : IsOver (record s { turns = s.turns + 1 }) (held_of G c.args.outside.now) = record {
+    let begun : IsOpenOver (record s { turns = s.turns + 1 }) (held_of G c.args.outside.now) = record {
       still_open = over.still_open;
       committed = over.committed;
       shows = over.shows;
@@ -28,7 +28,7 @@ returns-clause-did g c = λ desk sure shown.
     let numbers : HasNumbers answer.end c.args.activation (number_after s.opened ran.next) =
     subst (λ (e : TurnEnd). HasNumbers e c.args.activation (number_after s.opened ran.next)) (sym ends) ran.numbers in
     subst
-    (λ (that : Desk). (x : Did G (activity s).programs s.opened (event.Turn c.args.activation c.args.limit) (turn_told c.args.activation answer new.printed) new.closed (order_of new) (λ held shown. Shown new held shown) that c.args.outside.now c.end_of_turn-end.new.outside) × HasNumbers answer.end c.args.activation (number_after s.opened x.next))
+    (λ (that : Desk). (x : Did G (activity s).programs s.opened (event.Turn c.args.activation c.args.limit) (turn_told c.args.activation answer new.printed) new.closed (order_of new) (λ held shown. ShowsDesk new held shown) that c.args.outside.now c.end_of_turn-end.new.outside) × HasNumbers answer.end c.args.activation (number_after s.opened x.next))
     (sym shown.is)
     (did, numbers)
 
