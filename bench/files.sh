@@ -10,7 +10,7 @@ if [ $# -lt 2 ]; then made=$(mktemp -d) && trap 'rm -rf -- "$made"' EXIT; fi
 scratch=${2:-$made}
 mkdir -p "$scratch"
 rounds=7
-count=500
+count=2000
 
 gcc -O2 -Wall -Wextra -o "$scratch/commits" "$here/commits.c"
 gcc -O2 -static -Wall -Wextra -o "$scratch/once" "$here/once.c"
