@@ -1,3 +1,4 @@
 pub mod Common
 pub mod PromiseLemmas
 pub mod WordLemmas
+pub mod DidLemmas

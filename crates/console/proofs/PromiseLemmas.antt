@@ -41,10 +41,10 @@ one_word one two words first second =
     cc
 
 -- the first three bytes of a word, as a number
-abbrev mark : List ℕ → ℕ
+abbrev pub mark : List ℕ → ℕ
 mark word = (slice_index word 0 * 256 + slice_index word 1) * 256 + slice_index word 2
 
-abbrev mark_of : Command → ℕ
+abbrev pub mark_of : Command → ℕ
 mark_of (command.New header) = mark (codes "new")
 mark_of form = mark (word_of form)
 
@@ -56,12 +56,12 @@ mark_is (command.New header) = by header.directory.page
     by Four = refl
 mark_is _ = refl
 
-abbrev Holds : Bool → Type 0
+abbrev pub Holds : Bool → Type 0
 Holds true = Unit {0}
 Holds false = ⊥
 
 -- commands that the same words say have one mark
-same_mark : (one two : Command) (words : List (List ℕ)) → Says one words → Says two words → Holds (nat_eq (mark_of two) (mark_of two)) → Holds (nat_eq (mark_of one) (mark_of two))
+pub same_mark : (one two : Command) (words : List (List ℕ)) → Says one words → Says two words → Holds (nat_eq (mark_of two) (mark_of two)) → Holds (nat_eq (mark_of one) (mark_of two))
 same_mark one two words first second itself =
     let same = sym (mark_is one) ∙ ap mark (one_word one two words first second) ∙ mark_is two in
     subst (λ (n : ℕ). Holds (nat_eq n (mark_of two))) (sym same) itself

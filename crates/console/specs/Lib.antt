@@ -1,3 +1,4 @@
 pub mod Words
 pub mod Causes
 pub mod Listed
+pub mod Did

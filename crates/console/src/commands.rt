@@ -1,23 +1,12 @@
-ghost use Rattle.std.specs.Prelude.{◌≡◌, ◌⊎◌, ◌↔◌, ℕ, [], None};
+ghost use Rattle.std.specs.Prelude.{◌≡◌, ◌⊎◌, ◌↔◌, [], None};
 ghost use Rattle.outside.specs.Causes.{Rose};
 ghost use Rattle.desk.specs.Answers.{order_told};
-ghost use Rattle.store_format.specs.Header.{Header};
-ghost use Rattle.call_status.specs.Call.{call, given};
+ghost use Rattle.call_status.specs.Call.{given};
 ghost use Rattle.call_status.specs.Reading.{ReadsBy};
-ghost use Rattle.store_calls.specs.New.{Made};
-ghost use Rattle.store_calls.specs.Renewed.{Renewed};
-ghost use Rattle.standby_calls.specs.Followed.{FollowedFrom};
-ghost use Rattle.standby_calls.specs.Shipped.{ShippedFrom};
-ghost use Rattle.store_calls.specs.Show.{RangeShown};
-ghost use Rattle.job_calls.specs.Big.{Loaded};
 ghost use Rattle.job_calls.specs.Causes.{OpensBy};
 ghost use Rattle.job_calls.specs.Handed.{HandedFits, HandsOn};
-ghost use Rattle.job_calls.specs.Headline.{Happened};
-ghost use Rattle.drills.specs.Drilled.{Drilled};
-ghost use Rattle.bundle_calls.specs.Audited.{Audited};
-ghost use Rattle.bundle_calls.specs.Traced.{TracedFrom};
 ghost use Rattle.console.specs.Causes.{IsComplete, IsOf};
-ghost use Rattle.console.specs.Listed.{Listed};
+ghost use Rattle.console.specs.Did.{Does};
 ghost use Rattle.console.specs.Words.{IsForm, IsNoForm, OpensSession, ReadsBundle, ReadsJob, ReadsStore, ReadsText, RunsJob};
 
 use super::list::list_source;
@@ -61,20 +50,10 @@ pub fn console<S: Source, W: Outside>(
     ensures opened { RunsJob words.now → OpensBy W.Outside outside.old outside.new result.status }
     ensures put { result.status ≡ Status.PutFault → Rose (W.put_faults outside.old) (W.put_faults outside.new) }
     ensures disk { result.status ≡ Status.DiskFault → Rose (W.disk_faults outside.old) (W.disk_faults outside.new) }
-    ensures happened { RunsJob words.now → Happened W.Outside (given S.Source job.old job.new) (call outside.old outside.new (order_told result.order.items) result.status) result.session }
+    ensures did { (form : Command) → IsForm form words.now → Does W.Outside form (given S.Source job.old job.new) outside.old outside.new result }
     ensures handed { OpensSession words.now → HandsOn (order_told result.order.items) result.session result.status }
     ensures fits { HandedFits W.Outside outside.new result.session }
     ensures no_session { (OpensSession words.now → ⊥) → result.session ≡ None }
-    ensures listed { IsForm Command.List words.now → Listed W.Outside (given S.Source job.old job.new) (call outside.old outside.new (order_told result.order.items) result.status) }
-    ensures drilled { IsForm Command.Drill words.now → Drilled W.Outside (given S.Source job.old job.new) (call outside.old outside.new (order_told result.order.items) result.status) }
-    ensures shown { (range : Range) → IsForm (Command.Show range) words.now → RangeShown W.Outside range (call outside.old outside.new (order_told result.order.items) result.status) }
-    ensures made { (header : Header) → IsForm (Command.New header) words.now → Made W.Outside header (call outside.old outside.new (order_told result.order.items) result.status) }
-    ensures renewed { (bank : ℕ) → IsForm (Command.Renew bank) words.now → Renewed W.Outside bank (given S.Source job.old job.new) (call outside.old outside.new (order_told result.order.items) result.status) }
-    ensures shipped { (from : ℕ) → IsForm (Command.Ship from) words.now → ShippedFrom W.Outside from (call outside.old outside.new (order_told result.order.items) result.status) }
-    ensures followed { IsForm Command.Follow words.now → FollowedFrom W.Outside (given S.Source job.old job.new) (call outside.old outside.new (order_told result.order.items) result.status) }
-    ensures loaded { (transfers : ℕ) → IsForm (Command.Big transfers) words.now → Loaded W.Outside transfers (call outside.old outside.new (order_told result.order.items) result.status) result.session }
-    ensures audited { IsForm Command.Audit words.now → Audited W.Outside (given S.Source job.old job.new) (call outside.old outside.new (order_told result.order.items) result.status) }
-    ensures traced { (activation : ℕ) → IsForm (Command.Trace activation) words.now → TracedFrom W.Outside activation (given S.Source job.old job.new) (call outside.old outside.new (order_told result.order.items) result.status) }
     ensures complete { IsComplete W.Outside words.now (S.left job.old) outside.old → (Rose (S.faults job.old) (S.faults job.new) → ⊥) → (Rose (W.disk_faults outside.old) (W.disk_faults outside.new) → ⊥) → (Rose (W.put_faults outside.old) (W.put_faults outside.new) → ⊥) → (result.status ≡ Status.Done) ⊎ (result.status ≡ Status.NoMemory) }
 {
     let Some(command) = command_of(words) else {
