@@ -1,5 +1,5 @@
 -- The words of a command line.
-use Rattle.console.proofs.Common.{Global, ParsesUnsigned, IsNumeral, digits_value, without_leading_plus, nat_tests, take_all, length-map, map-append, pow_pos, PageSize, Two, Four, AreFlags, Header, Range, Command, AreNumbers, AreWithin, IsAlone, IsForm, IsLong, IsNoForm, IsNumbered, IsOnStore, NamesStore, SaysNumber, ends_marked, marked_of, new_word, number_of, number_said, numbers_of, plain, spread, word_of}
+use Rattle.console.proofs.Common.{Global, ParsesUnsigned, IsNumeral, digits_value, without_leading_plus, nat_tests, take_all, length-map, map-append, pow_pos, PageSize, Two, Four, AreFlags, Header, Command, AreNumbers, AreWithin, IsAlone, IsForm, IsLong, IsNoForm, IsNumbered, IsOnStore, NamesStore, SaysNumber, ends_marked, marked_of, new_word, number_of, number_said, numbers_of, plain, spread, word_of}
 use Rattle.std.proofs.Common.{◌≡◌, ◌≢◌, ℕ, zero, suc, ◌+◌, ◌-◌, ◌*◌, ◌/◌, ◌%◌, ◌^◌, ◌<◌, ◌≤◌, Bool, true, false, List, [], ◌∷◌, length, get_or, map, take, take-suc, drop, refl, sym, ◌∙◌, ap, subst, arith, Option, Some, None}
 use Rattle.std.specs.Prelude.{Result, Ok, Err, MatchResult, MatchOption, String, string_bytes, slice_index, ◌==◌, ◌++◌, option_map, codes}
 use Rattle.std.specs.Result.{OkIff}
@@ -257,24 +257,9 @@ same_number one two words first second =
     same_some : (one two : ℕ) → Some one ≡ Some two → one ≡ two
     same_some one two is = cc
 
--- words name one load, or one activation to trace
-pub one_load : (words : List (String Global)) (one two : ℕ) → IsForm (command.Big one) words → IsForm (command.Big two) words → one ≡ two
-one_load words one two first second = same_number (command.Big one) (command.Big two) (map string_bytes words) first.says second.says
-
+-- words name one activation to trace
 pub one_trace : (words : List (String Global)) (one two : ℕ) → IsForm (command.Trace one) words → IsForm (command.Trace two) words → one ≡ two
 one_trace words one two first second = same_number (command.Trace one) (command.Trace two) (map string_bytes words) first.says second.says
-
--- and so one range, or one header
-pub one_range : (words : List (String Global)) (one two : Range) → IsForm (command.Show one) words → IsForm (command.Show two) words → one ≡ two
-one_range words one two first second =
-    let same : plain (one.segment ∷ one.from ∷ one.count ∷ []) ≡ plain (two.segment ∷ two.from ∷ two.count ∷ []) = same_words (command.Show one) (command.Show two) (map string_bytes words) first.says second.says in
-    let segment : one.segment ≡ two.segment = number 0 same in
-    let from : one.from ≡ two.from = number 1 same in
-    let count : one.count ≡ two.count = number 2 same in
-    λ i. record { segment = segment i; from = from i; count = count i }
-  where
-    number : {first second : List (ℕ × Bool)} (at : ℕ) → first ≡ second → (get_or first at (0, false)).0 ≡ (get_or second at (0, false)).0
-    number at same = ap (λ (those : List (ℕ × Bool)). (get_or those at (0, false)).0) same
 
 -- a word, a store and a long number
 pub with_long : (words : List (String Global)) (word store number : String Global) (result : Option ℕ) → length words ≡ 3 → word ≡ get_or words 0 word → store ≡ get_or words 1 store → number ≡ get_or words 2 number
@@ -324,6 +309,7 @@ pub flags_few : (page : PageSize) (segments : List (ℕ × ℕ)) (fine : ℕ) �
 flags_few Two segments fine flags = omega (arith, flags, pow_pos (length segments))
 flags_few Four segments fine flags = flags
 
+-- and one header
 pub one_header : (words : List (String Global)) (one two : Header) → IsForm (command.New one) words → IsForm (command.New two) words → one ≡ two
 one_header words one two first second =
     let same : (one.bank_bytes, false) ∷ spread one.directory.segments one.directory.fine ≡ (two.bank_bytes, false) ∷ spread two.directory.segments two.directory.fine =
