@@ -24,12 +24,20 @@ pub fn following(next: &[Option<u16>], frame: u16) -> Option<u16>
     next.get(usize::from(frame)).copied().flatten()
 }
 
+/// What a frame holds.
+#[inline(always)]
+pub fn held_in(keys: &[Option<Key>], frame: u16) -> Option<Key>
+    ensures { result ≡ key_in keys.now frame }
+{
+    keys.get(usize::from(frame)).copied().flatten()
+}
+
 /// Whether a frame holds a page.
 #[inline]
 pub fn holds(keys: &[Option<Key>], frame: u16, key: Key) -> bool
     ensures { result ≡ holds key (key_in keys.now frame) }
 {
-    match keys.get(usize::from(frame)).copied().flatten() {
+    match held_in(keys, frame) {
         Some(held) => held.segment == key.segment && held.page == key.page,
         None => false,
     }

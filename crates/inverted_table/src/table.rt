@@ -1,11 +1,11 @@
-ghost use Rattle.std.specs.Prelude.{◌≡◌, ◌<◌, length, map, IfOk, None, Some, replicate};
+ghost use Rattle.std.specs.Prelude.{◌≡◌, ◌<◌, length, map, IfOk, IfSome, None, Some, replicate};
 ghost use Rattle.inverted_table.specs.Placed.{bare, key_in, look_up, entered, without_frame, entry_at, with_entry, cleared, cleared_entry};
 ghost use Rattle.inverted_table.specs.Keys.{key_of, key_to};
 
 #[cfg(test)]
 mod tests;
 
-use super::chain::{before, find_along, hash};
+use super::chain::{before, find_along, hash, held_in};
 use super::key::Key;
 use lockbit_rules::Authority;
 use segment_regs::Virtual;
@@ -73,6 +73,15 @@ impl Table {
         };
         let first = self.anchors[hash(key, self.anchors.len())];
         find_along(&self.next, &self.keys, first, key)
+    }
+
+    /// What a frame holds. No other frame holds it.
+    #[inline(always)]
+    pub fn held(&self, frame: u16) -> Option<Key>
+        ensures value { result ≡ key_in self.now.keys frame }
+        ensures alone { IfSome result (λ key. look_up self.now.keys key ≡ Some frame) }
+    {
+        held_in(&self.keys, frame)
     }
 
     /// A free frame holds from now on a page that no frame holds.

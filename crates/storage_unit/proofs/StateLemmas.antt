@@ -1,8 +1,8 @@
 -- What the calls of a unit leave of its pool and its table.
-use Rattle.storage_unit.proofs.Common.{◌≡◌, ◌≢◌, ℕ, ◌+◌, ◌<◌, Bool, true, false, List, [], ◌∷◌, length, replicate, All, refl, sym, ◌∙◌, ap, subst, arith, get_or, Option, Some, None, inl, inr, ◌==◌, ◌||◌, nat_lt, if◌then◌else◌, slice_index_or, slice_set, fold, is_some, option_map, option_and_then, option_map_or, cases_lt, cases_eq, eq-eqb, ne_eqb, length-set, set_past, get_or-set_same, get_or-set_other, get_or-replicate, length-replicate, get_or_past, same_lists, All-nil, Pair, get_or-map-range_with_len, Layout, page_count, IsLegal, IsOfPage, difference, passing, of_page-where, has, Key, Placed, without_frame, look_up, Pool, IsSeen, private_frames, frame_at, page_at, marks_at, gone, page_out, with_room, emptied, laid, line_laid, gone-from, gone-absent, gone-frame, gone-stays, seen-gone, Stays, key_of_page, AreOfPages, held_private, held_in, keys_with, keys_without}
+use Rattle.storage_unit.proofs.Common.{◌≡◌, ◌≢◌, ℕ, ◌+◌, ◌<◌, ◌≤◌, Bool, true, false, List, [], ◌∷◌, length, replicate, All, refl, sym, ◌∙◌, ap, subst, arith, get_or, Option, Some, None, inl, inr, ◌==◌, ◌||◌, nat_lt, if◌then◌else◌, slice_index_or, slice_set, fold, is_some, option_map, option_and_then, option_map_or, cases_lt, cases_eq, eq-eqb, ne_eqb, length-set, set_past, get_or-set_same, get_or-set_other, get_or-replicate, length-replicate, get_or_past, same_lists, All-nil, Pair, get_or-map-range_with_len, Layout, page_count, IsLegal, IsOfPage, difference, passing, of_page-where, has, Key, Placed, without_frame, look_up, Pool, IsSeen, private_frames, frame_count, frame_at, page_at, marks_at, gone, page_out, with_room, emptied, laid, line_laid, gone-from, gone-absent, gone-frame, gone-stays, seen-gone, Stays, key_of_page, AreOfPages, held_private, held_in, keys_with, keys_without, pages_begun, pool_of, Unit}
 use Rattle.tlb_model.specs.Buffer.{IsOfTable, page_of}
 use Rattle.storage_unit.proofs.LeaveLemmas.{emptied-frame}
-use Rattle.storage_unit.proofs.HeldLemmas.{above, below, finds-page, page-there, keys-long, held-store, keys-store}
+use Rattle.storage_unit.proofs.HeldLemmas.{above, below, keys-long, held-store, keys-store}
 
 -- kept lines that are laid change bytes of frames alone
 fold-bytes : (page frame : ℕ) (lines : List ℕ) (pool : Pool) → fold (line_laid page frame) pool lines ≡ record pool { bytes = (fold (line_laid page frame) pool lines).bytes }
@@ -126,11 +126,6 @@ module _ (d : Layout) (legal : IsLegal d.segments) (pool : Pool) (seen : IsSeen 
           (omega (arith, long, below d legal pool seen size pages t page frame at))
           ∙ ap (λ (p : Pool). keys_with d t p.frames p.page_in) (sym (gone-from pool page frame is))
 
-  -- the table finds a page in the frame that it leaves
-  pub out-there : (page frame : ℕ) → frame_at pool page ≡ Some frame → look_up (keys_with d t pool.frames pool.page_in) (key_of_page d page) ≡ Some frame
-  out-there page frame is =
-      finds-page d legal pool seen size pages t page (page-there d legal pool seen size pages t page frame (seen.there page frame is)) ∙ is
-
   -- it leaves
   pub keys-room : (keep : Option ℕ)
       → option_map_or (λ frame. slice_set (keys_with d t pool.frames pool.page_in) frame None) (option_and_then (frame_at pool) (page_out pool keep)) (keys_with d t pool.frames pool.page_in)
@@ -218,6 +213,11 @@ module _ (d : Layout) (legal : IsLegal d.segments) (pool : Pool) (seen : IsSeen 
               ∙ ap (λ (o : Option ℕ). if nat_lt k (private_frames d.page) then held_private d.page t k else option_map (key_of_page d) o) (get_or-set_same pool.page_in k None None (omega (arith, less, long)))
 
 -- a buffer without pairs is of every table
+-- the table has a place for each frame
+pub frames-held : (unit : Unit) → frame_count (pool_of unit.pool).page (pool_of unit.pool).frames ≤ length unit.table.keys
+frames-held unit =
+    omega (arith, ap (λ s. frame_count s (pool_of unit.pool).frames) unit.pool_size, ap length unit.held, keys-long unit.directory (pages_begun unit.directory.page unit.begun) (pool_of unit.pool).frames (pool_of unit.pool).page_in)
+
 pub none-of_table : (keys : List (Option Key)) → IsOfTable (replicate 16 []) keys
 none-of_table keys = λ k d below.
     subst (λ (pairs : List Pair). All (λ pair. look_up keys (page_of pair) ≡ Some pair.frame) pairs)

@@ -7,6 +7,7 @@ ghost use Rattle.tlb_model.specs.declared.tlb.Pair.{Pair};
 ghost use Rattle.tlb_model.specs.Buffer.{IsOfTable};
 ghost use Rattle.storage_unit.specs.Held.{AreReached, first_keys};
 
+use super::serving::clear_frame;
 use super::sizes::{first_frame, seat_pages};
 use super::unit::Unit;
 use inverted_table::Table;
@@ -90,12 +91,12 @@ fn leave_pages(table: &mut Table, buffer: &mut Tlb, first: u16, count: u16)
     requires few { first ≤ 120 }
     requires pages { count ≤ 8 }
     requires room { first + count ≤ length table.old.keys }
+    requires of_table { IsOfTable buffer.old table.old.keys }
     ensures table { table.new ≡ record table.old { keys = overlaid table.old.keys first (replicate count None) } }
-    ensures of_table { IsOfTable buffer.old table.old.keys → IsOfTable buffer.new table.new.keys }
+    ensures of_table { IsOfTable buffer.new table.new.keys }
 {
     for index in 0..count {
-        table.leave(first + index);
-        buffer.forget(first + index);
+        clear_frame(table, buffer, first + index);
     }
 }
 

@@ -35,11 +35,10 @@ impl Unit {
         ensures brought { Brought (reach_of self.old).pool (reach_of self.new).pool page keep result.frame }
         ensures rest { reach_of self.new ≡ record (reach_of self.old) { pool = (reach_of self.new).pool } }
     {
-        let segments = self.directory.segments();
         let out = self.pool.page_out(keep);
-        leave_frame(&self.pool, segments, &mut self.table, &mut self.buffer, out);
+        leave_frame(&self.pool, &mut self.table, &mut self.buffer, out);
         let slot = self.pool.bring(page, keep);
-        let key = key_among(segments, page);
+        let key = key_among(self.directory.segments(), page);
         self.table.enter(slot.frame, key.segment, key.page);
         slot
     }
@@ -76,8 +75,7 @@ impl Unit {
         requires { page < page_count (reach_of self.old).directory }
         ensures { reach_of self.new ≡ record (reach_of self.old) { pool = undone (reach_of self.old).pool page lines } }
     {
-        let (segments, out) = (self.directory.segments(), Some(page));
-        leave_frame(&self.pool, segments, &mut self.table, &mut self.buffer, out);
+        leave_frame(&self.pool, &mut self.table, &mut self.buffer, Some(page));
         self.pool.undo(page, lines);
     }
 
@@ -109,14 +107,8 @@ impl Unit {
 
 /// The frame of a page holds nothing, and the buffer forgets it, if a page is named that is in one.
 #[inline(always)]
-fn leave_frame(
-    pool: &FramePool,
-    segments: &[(u16, u16)],
-    table: &mut Table,
-    buffer: &mut Tlb,
-    page: Option<u16>,
-)
-    requires held { (out frame : ℕ) → page ≡ Some out → frame_at (pool_of pool.now) out ≡ Some frame → look_up table.old.keys (key_among segments.now out) ≡ Some frame }
+fn leave_frame(pool: &FramePool, table: &mut Table, buffer: &mut Tlb, page: Option<u16>)
+    requires room { frame_count (pool_of pool.now).page (pool_of pool.now).frames ≤ length table.old.keys }
     requires of_table { IsOfTable buffer.old table.old.keys }
     ensures table { table.new ≡ option_map_or (without_frame table.old) (option_and_then (frame_at (pool_of pool.now)) page) table.old }
     ensures of_table { IsOfTable buffer.new table.new.keys }
@@ -125,8 +117,21 @@ fn leave_frame(
         return;
     };
     if let Some(frame) = pool.frame_of(out) {
+        clear_frame(table, buffer, frame);
+    }
+}
+
+/// A frame holds nothing, and the buffer forgets what it held.
+#[inline(always)]
+pub(super) fn clear_frame(table: &mut Table, buffer: &mut Tlb, frame: u16)
+    requires room { frame < length table.old.keys }
+    requires of_table { IsOfTable buffer.old table.old.keys }
+    ensures table { table.new ≡ without_frame table.old frame }
+    ensures of_table { IsOfTable buffer.new table.new.keys }
+{
+    if let Some(key) = table.held(frame) {
         table.leave(frame);
-        buffer.forget_page(frame, key_among(segments, out).page);
+        buffer.forget_page(frame, key.page);
     }
 }
 

@@ -170,13 +170,12 @@ impl Tlb {
         };
         let frame = table.find(at)?;
         let class = (at.page % 16) as usize;
-        let mut ways = self.classes[class];
+        let ways = &mut self.classes[class];
         ways.add(Pair {
             segment: at.segment,
             page: at.page,
             frame,
         });
-        self.classes[class] = ways;
         Some(frame)
     }
 
@@ -194,9 +193,8 @@ impl Tlb {
         ensures { self.new ≡ forgotten self.old frame }
     {
         let place = (page % 16) as usize;
-        let mut left = self.classes[place];
-        left.forget(frame);
-        self.classes[place] = left;
+        let ways = &mut self.classes[place];
+        ways.forget(frame);
     }
 }
 

@@ -1,6 +1,6 @@
 use Rattle.storage_unit.proofs.Common.{◌≡◌, ℕ, ◌<◌, ◌≤◌, false, List, length, sym, ◌∙◌, ap, subst, arith, Option, Some, None, slice_set, option_and_then, option_map, option_map_or, Key, Placed, key_in, look_up, without_frame, IsOfTable, of_table-entered, Pool, private_frames, frame_count, frame_at, page_out, with_room, Brought, IsSeen, has, page_count, length-set, pool_of, pool-seen, Stays, Unit, key_among, key_of_page, keys_of, pages_begun, AreOfPages}
 use Rattle.storage_unit.proofs.HeldLemmas.{key-at, keys-long, held-store, finds-page, keys-store}
-use Rattle.storage_unit.proofs.StateLemmas.{room-stays, room-none, absent-frame, out-there, keys-room, without-keys, without-entries}
+use Rattle.storage_unit.proofs.StateLemmas.{frames-held, room-stays, room-none, absent-frame, keys-room, without-keys, without-entries}
 use Rattle.storage_unit.proofs.unit.Unit.bring.Goals as goal
 
 module _ (unit : Unit) (page : ℕ) (keep : Option ℕ) where
@@ -52,12 +52,8 @@ module _ (unit : Unit) (page : ℕ) (keep : Option ℕ) where
         (omega (arith, below, subst (λ s. length room.page_in ≡ frame_count s room.frames) size seen.page_in))
         ∙ ap (λ (p : Pool). keys_of unit.directory unit.begun p.frames p.page_in) (sym came.rest)
 
-pub leave_frame-requires-clause-held : goal.leave_frame-requires-clause-held
-leave_frame-requires-clause-held c out frame named is =
-    let unit = c.args.self.now in
-    ap (λ (list : List (ℕ × ℕ)). look_up unit.table.keys (key_among list out)) c.segments-segments.ensures.value
-    ∙ ap (λ (keys : List (Option Key)). look_up keys (key_of_page unit.directory out)) unit.held
-    ∙ out-there unit.directory unit.legal (pool_of unit.pool) (pool-seen unit.pool) unit.pool_size unit.pages (pages_begun unit.directory.page unit.begun) out frame is
+pub leave_frame-requires-clause-room : goal.leave_frame-requires-clause-room
+leave_frame-requires-clause-room c = frames-held c.args.self.now
 
 pub enter-requires-clause-frame : goal.enter-requires-clause-frame
 enter-requires-clause-frame c =
@@ -87,7 +83,7 @@ enter-requires-clause-absent c =
     let keys = keys-between unit c.args.page c.args.keep c.leave_frame.new.table (c.leave_frame.ensures.table ∙ ap (λ (o : Option ℕ). option_map_or (without_frame unit.table) (option_and_then (frame_at (pool_of unit.pool)) o) unit.table) c.page_out-out.ensures) in
     ap (λ (list : List (Option Key)). look_up list c.key_among-key.result) keys
     ∙ ap (λ (key : Key). look_up (keys_of unit.directory unit.begun (with_room (pool_of unit.pool) c.args.keep).frames (with_room (pool_of unit.pool) c.args.keep).page_in) key)
-    (key-is unit c.args.page c.key_among-key.result c.segments-segments.result.now c.key_among-key.ensures c.segments-segments.ensures.value)
+    (key-is unit c.args.page c.key_among-key.result c.segments.result.now c.key_among-key.ensures c.segments.ensures.value)
     ∙ unfound unit c.args.page c.args.keep (pool_of c.bring-slot.new.self) c.bring-slot.result.frame c.bring-slot.ensures.brought c.requires.page c.requires.absent
 
 pub invariant_of-self : goal.invariant_of-self
@@ -97,7 +93,7 @@ invariant_of-self c =
     let frame = c.bring-slot.result.frame in
     let came = c.bring-slot.ensures.brought in
     let keys = keys-between unit c.args.page c.args.keep c.leave_frame.new.table (c.leave_frame.ensures.table ∙ ap (λ (o : Option ℕ). option_map_or (without_frame unit.table) (option_and_then (frame_at (pool_of unit.pool)) o) unit.table) c.page_out-out.ensures) in
-    let key = key-is unit c.args.page c.key_among-key.result c.segments-segments.result.now c.key_among-key.ensures c.segments-segments.ensures.value in
+    let key = key-is unit c.args.page c.key_among-key.result c.segments.result.now c.key_among-key.ensures c.segments.ensures.value in
     let room = with_room (pool_of unit.pool) c.args.keep in
     let left_keys : List (Option Key) = keys_of unit.directory unit.begun room.frames room.page_in in
     let now : c.enter.new.self.keys ≡ slice_set left_keys frame (Some (key_of_page unit.directory c.args.page)) =

@@ -1,14 +1,9 @@
-use Rattle.storage_unit.proofs.Common.{◌≡◌, sym, ◌∙◌, ap, subst, List, ℕ, length, Option, arith, fold, Key, Placed, Pair, IsOfTable, Pool, frame_count, pool_of, pool-seen, AreOfPages, keys_of, keys_without, pages_begun}
-use Rattle.storage_unit.proofs.HeldLemmas.{keys-long}
-use Rattle.storage_unit.proofs.StateLemmas.{emptied-stays, keys-emptied, none-of_table}
+use Rattle.storage_unit.proofs.Common.{sym, ◌∙◌, ap, subst, List, ℕ, length, Option, fold, Key, Placed, Pair, IsOfTable, Pool, pool_of, pool-seen, AreOfPages, keys_of, keys_without, pages_begun}
+use Rattle.storage_unit.proofs.StateLemmas.{frames-held, emptied-stays, keys-emptied, none-of_table}
 use Rattle.storage_unit.proofs.unit.Unit.empty.Goals as goal
 
 pub leave_all-requires : goal.leave_all-requires
-leave_all-requires c =
-    let unit = c.args.self.now in
-    let pool = pool_of unit.pool in
-    let count : frame_count pool.page pool.frames ≡ frame_count unit.directory.page pool.frames = ap (λ s. frame_count s pool.frames) unit.pool_size in
-    omega (arith, count, ap length unit.held, keys-long unit.directory (pages_begun unit.directory.page unit.begun) pool.frames pool.page_in)
+leave_all-requires c = frames-held c.args.self.now
 
 pub invariant_of-self : goal.invariant_of-self
 invariant_of-self c =

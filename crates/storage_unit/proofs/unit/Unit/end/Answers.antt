@@ -35,7 +35,7 @@ invariant_of-self c =
       marks = unit.marks;
       held = held unit c.args.seat c.first_frame.result c.seat_pages.result c.from.result c.leave_pages.new.table.keys c.requires
           (c.first_frame.ensures.value ∙ ap (λ s. c.args.seat * seat_pages s) c.page-page.ensures) (c.seat_pages.ensures.value ∙ ap seat_pages c.page-page.ensures) c.from.ensures (ap (λ (t : Placed). t.keys) c.leave_pages.ensures.table);
-      remembered = c.leave_pages.ensures.of_table unit.remembered;
+      remembered = c.leave_pages.ensures.of_table;
       selected = record { none = λ is. c.none-self.ensures ∙ ap (λ page. (let none : Registers = record { page = page; list = replicate 16 None } in none)) c.page-page.ensures; few = omega arith; seat = λ other is. absurd (omega (arith, is)) };
     }
 
@@ -51,7 +51,7 @@ invariant_of-self-else-self-seat c =
       marks = unit.marks;
       held = held unit c.args.seat c.first_frame.result c.seat_pages.result c.from.result c.leave_pages.new.table.keys c.requires
           (c.first_frame.ensures.value ∙ ap (λ s. c.args.seat * seat_pages s) c.page-page.ensures) (c.seat_pages.ensures.value ∙ ap seat_pages c.page-page.ensures) c.from.ensures (ap (λ (t : Placed). t.keys) c.leave_pages.ensures.table);
-      remembered = c.leave_pages.ensures.of_table unit.remembered;
+      remembered = c.leave_pages.ensures.of_table;
       selected = record {
         none = unit.selected.none;
         few = unit.selected.few;

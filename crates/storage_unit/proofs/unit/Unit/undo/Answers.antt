@@ -1,15 +1,10 @@
-use Rattle.storage_unit.proofs.Common.{look_up, key_among, key_of_page, sym, ◌∙◌, ap, subst, List, ℕ, length, Option, None, arith, slice_set, option_map_or, Key, Placed, Pool, IsSeen, frame_at, marks_at, settled, pool_of, pool-seen, gone-stays, AreOfPages, keys_of, pages_begun}
+use Rattle.storage_unit.proofs.Common.{sym, ◌∙◌, ap, subst, List, ℕ, length, Option, None, arith, slice_set, option_map_or, Key, Placed, Pool, IsSeen, frame_at, marks_at, settled, pool_of, pool-seen, gone-stays, AreOfPages, keys_of, pages_begun}
 use Rattle.storage_unit.proofs.LeaveLemmas.{seen-settled}
-use Rattle.storage_unit.proofs.StateLemmas.{marks-settled, keys-gone, out-there, without-keys, without-entries}
+use Rattle.storage_unit.proofs.StateLemmas.{frames-held, marks-settled, keys-gone, without-keys, without-entries}
 use Rattle.storage_unit.proofs.unit.Unit.undo.Goals as goal
 
-pub leave_frame-requires-clause-held : goal.leave_frame-requires-clause-held
-leave_frame-requires-clause-held c out frame named is =
-    let unit = c.args.self.now in
-    let pool = pool_of unit.pool in
-    ap (λ (list : List (ℕ × ℕ)). look_up unit.table.keys (key_among list out)) c.segments-segments.ensures.value
-    ∙ ap (λ (keys : List (Option Key)). look_up keys (key_of_page unit.directory out)) unit.held
-    ∙ out-there unit.directory unit.legal pool (pool-seen unit.pool) unit.pool_size unit.pages (pages_begun unit.directory.page unit.begun) out frame is
+pub leave_frame-requires-clause-room : goal.leave_frame-requires-clause-room
+leave_frame-requires-clause-room c = frames-held c.args.self.now
 
 pub undo-requires : goal.undo-requires
 undo-requires c = omega (arith, c.requires, c.args.self.now.pages)
