@@ -7,4 +7,5 @@ pub mod View
 pub mod UnitLending
 pub mod Served
 pub mod Rows
+pub mod Accesses
 pub mod Laws

@@ -18,6 +18,7 @@ ghost use Rattle.storage_unit.specs.Reach.{is_there, is_kept_from, is_in_frame, 
 ghost use Rattle.storage_unit.specs.Rows.{tried_over, GivesRows, ChangesBytes, StaysClean, LeavesSeats};
 ghost use Rattle.storage_unit.specs.Reached.{Lies, AreThere, bytes_shown, is_absent};
 ghost use Rattle.storage_unit.specs.Held.{table_of};
+ghost use Rattle.storage_unit.specs.Accesses.{IsRead, IsWritten};
 ghost use Rattle.inverted_table.specs.Keys.{key_of};
 ghost use Rattle.inverted_table.specs.Placed.{look_up};
 
@@ -473,7 +474,7 @@ impl Storage for Unit {
                 return Probe::Permitted;
             }
         }
-        self.read_any(wants, to, sign, regs)
+        self.read_far(*wants, to, sign, regs)
     }
 
     #[inline(always)]
@@ -485,7 +486,7 @@ impl Storage for Unit {
                 return Probe::Permitted;
             }
         }
-        self.write_any(wants, from, regs)
+        self.write_far(*wants, from, regs)
     }
 
     #[inline(always)]
@@ -513,14 +514,34 @@ impl Unit {
     ghost use Rattle.storage_unit.specs.Reach.{byte_at, stored};
     ghost use Rattle.storage_unit.specs.View.{reach_of};
 
+    /// Fills registers with bytes, as they are probed and loaded, by a call.
+    #[inline(always)]
+    fn read_far(&mut self, wants: Access, to: u8, sign: bool, regs: &mut [u32; 16]) -> Probe
+        requires loads { wants.store ≡ false }
+        requires fits { FitsFrom wants.bytes to }
+        ensures { IsRead (reach_of self.old) (reach_of self.new) wants to sign regs.old regs.new result }
+    {
+        let probe = self.read_any(&wants, to, sign, regs);
+        probe
+    }
+
+    /// Writes the bytes of registers, as they are probed and stored, by a call.
+    #[inline(always)]
+    fn write_far(&mut self, wants: Access, from: u8, regs: &[u32; 16]) -> Probe
+        requires stores { wants.store ≡ true }
+        requires fits { FitsFrom wants.bytes from }
+        ensures { IsWritten (reach_of self.old) (reach_of self.new) wants from regs.now result }
+    {
+        let probe = self.write_any(&wants, from, regs);
+        probe
+    }
+
     /// Fills registers with bytes, as they are probed and loaded.
     #[inline(never)]
     fn read_any(&mut self, wants: &Access, to: u8, sign: bool, regs: &mut [u32; 16]) -> Probe
         requires loads { wants.now.store ≡ false }
         requires fits { FitsFrom wants.now.bytes to }
-        ensures answer { result ≡ answer_in (λ state. state.registers) is_in_frame refuses (reach_of self.old) wants.now }
-        ensures state { reach_of self.new ≡ reach_of self.old }
-        ensures registers { regs.new ≡ if_permitted result (filled to sign (bytes_from (byte_at (reach_of self.old)) wants.now.address wants.now.bytes) regs.old) regs.old }
+        ensures { IsRead (reach_of self.old) (reach_of self.new) wants.now to sign regs.old regs.new result }
     {
         let bytes = u32::from(wants.bytes);
         match self.registers.locate(wants.address, bytes, wants.store) {
@@ -539,8 +560,7 @@ impl Unit {
     fn write_any(&mut self, wants: &Access, from: u8, regs: &[u32; 16]) -> Probe
         requires stores { wants.now.store ≡ true }
         requires fits { FitsFrom wants.now.bytes from }
-        ensures answer { result ≡ answer_in (λ state. state.registers) is_in_frame refuses (reach_of self.old) wants.now }
-        ensures state { reach_of self.new ≡ if_permitted result (stored (reach_of self.old) wants.now.address (stored_bytes regs.now wants.now.bytes from)) (reach_of self.old) }
+        ensures { IsWritten (reach_of self.old) (reach_of self.new) wants.now from regs.now result }
     {
         let bytes = u32::from(wants.bytes);
         match self.registers.locate(wants.address, bytes, wants.store) {
@@ -559,9 +579,7 @@ impl Unit {
     fn read_apart(&mut self, wants: &Access, to: u8, sign: bool, regs: &mut [u32; 16]) -> Probe
         requires loads { wants.now.store ≡ false }
         requires fits { FitsFrom wants.now.bytes to }
-        ensures answer { result ≡ answer_in (λ state. state.registers) is_in_frame refuses (reach_of self.old) wants.now }
-        ensures state { reach_of self.new ≡ reach_of self.old }
-        ensures registers { regs.new ≡ if_permitted result (filled to sign (bytes_from (byte_at (reach_of self.old)) wants.now.address wants.now.bytes) regs.old) regs.old }
+        ensures { IsRead (reach_of self.old) (reach_of self.new) wants.now to sign regs.old regs.new result }
     {
         let probe = self.probe(wants);
         if let Probe::Permitted = probe {
@@ -578,8 +596,7 @@ impl Unit {
     fn write_apart(&mut self, wants: &Access, from: u8, regs: &[u32; 16]) -> Probe
         requires stores { wants.now.store ≡ true }
         requires fits { FitsFrom wants.now.bytes from }
-        ensures answer { result ≡ answer_in (λ state. state.registers) is_in_frame refuses (reach_of self.old) wants.now }
-        ensures state { reach_of self.new ≡ if_permitted result (stored (reach_of self.old) wants.now.address (stored_bytes regs.now wants.now.bytes from)) (reach_of self.old) }
+        ensures { IsWritten (reach_of self.old) (reach_of self.new) wants.now from regs.now result }
     {
         let probe = self.probe(wants);
         if let Probe::Permitted = probe {

@@ -9,11 +9,12 @@ is_in_page-requires c = (found-lies c.args.self.now c.args.wants.now c.from-byte
 pub fill_at-requires-clause-lies : goal.fill_at-requires-clause-lies
 fill_at-requires-clause-lies c = found-lies c.args.self.now c.args.wants.now c.from-bytes.result c.locate.result c.in-Ok.first c.from-bytes.ensures c.locate.ensures c.in-Ok.is
 
-pub returns-else-not-is_in_page-clause-answer : goal.returns-else-not-is_in_page-clause-answer
-returns-else-not-is_in_page-clause-answer c = found-answer c.args.self.now c.args.wants.now c.from-bytes.result c.locate.result c.in-Ok.first c.from-bytes.ensures c.locate.ensures c.in-Ok.is _ (c.fill_at.ensures.answer c.args.wants.now refl c.requires.loads)
-
-pub returns-else-not-is_in_page-clause-registers : goal.returns-else-not-is_in_page-clause-registers
-returns-else-not-is_in_page-clause-registers c =
-    c.fill_at.ensures.registers
-    ∙ ap (λ (list : List ℕ). if_permitted c.fill_at.result (filled c.args.to c.args.sign list c.args.regs.now) c.args.regs.now)
-    (found-bytes c.args.self.now c.args.wants.now c.from-bytes.result c.locate.result c.in-Ok.first c.from-bytes.ensures c.locate.ensures c.in-Ok.is)
+pub returns-else-not-is_in_page : goal.returns-else-not-is_in_page
+returns-else-not-is_in_page c = record {
+  answer = found-answer c.args.self.now c.args.wants.now c.from-bytes.result c.locate.result c.in-Ok.first c.from-bytes.ensures c.locate.ensures c.in-Ok.is _ (c.fill_at.ensures.answer c.args.wants.now refl c.requires.loads);
+  state = c.fill_at.ensures.state;
+  filled =
+      c.fill_at.ensures.registers
+      ∙ ap (λ (list : List ℕ). if_permitted c.fill_at.result (filled c.args.to c.args.sign list c.args.regs.now) c.args.regs.now)
+      (found-bytes c.args.self.now c.args.wants.now c.from-bytes.result c.locate.result c.in-Ok.first c.from-bytes.ensures c.locate.ensures c.in-Ok.is);
+}

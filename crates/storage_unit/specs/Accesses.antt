@@ -1,0 +1,21 @@
+-- What an access does that is probed and made in one go.
+use Rattle.std.specs.Prelude.{◌≡◌, ℕ, Bool, List}
+use Rattle.flat_machine.specs.Effect.{filled}
+use Rattle.flat_machine.specs.Row.{stored_bytes}
+use Rattle.romp_cpu.specs.Answers.{answer_in, if_permitted}
+use Rattle.romp_cpu.specs.Shown.{bytes_from}
+use Rattle.romp_cpu.specs.declared.storage.Access.{Access}
+use Rattle.romp_cpu.specs.declared.storage.Probe.{Probe}
+use Rattle.storage_unit.specs.declared.model.Reach.{Reach}
+use Rattle.storage_unit.specs.Reach.{byte_at, is_in_frame, refuses, stored}
+
+-- registers are filled with bytes, as they are probed and loaded
+pub record IsRead (old new : Reach) (wants : Access) (to : ℕ) (sign : Bool) (registers after : List ℕ) (told : Probe) : Type 0 where
+  pub answer : told ≡ answer_in (λ state. state.registers) is_in_frame refuses old wants
+  pub state : new ≡ old
+  pub filled : after ≡ if_permitted told (filled to sign (bytes_from (byte_at old) wants.address wants.bytes) registers) registers
+
+-- the bytes of registers are stored, as they are probed
+pub record IsWritten (old new : Reach) (wants : Access) (from : ℕ) (registers : List ℕ) (told : Probe) : Type 0 where
+  pub answer : told ≡ answer_in (λ state. state.registers) is_in_frame refuses old wants
+  pub state : new ≡ if_permitted told (stored old wants.address (stored_bytes registers wants.bytes from)) old
