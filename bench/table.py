@@ -28,10 +28,10 @@ def run(words, source):
     return spent / 1000, peak, wall / 1000
 
 
-def rounds(commands):
+def rounds(commands, count=ROUNDS):
     """Lowest and median processor time, the highest peak and the lowest wall time, of commands that take turns."""
     seen = [[] for _ in commands]
-    for _ in range(ROUNDS):
+    for _ in range(count):
         for command, times in zip(commands, seen):
             times.append(run(*command))
     return [(min(s)[0], statistics.median(t[0] for t in s), max(t[1] for t in s), min(t[2] for t in s)) for s in seen]
@@ -114,16 +114,21 @@ def moves():
 
 
 def transactions():
-    print("\n| Transactions, each begun and ended by one turn | number | romp801, ms: best, median | µs each |"
-          " interp -O2, ms | ratio |")
+    """A transaction is the difference of many and few, as a row is, so the start of a process isn't in it."""
+    print("\n| Transactions, each begun and ended by one turn | number | ms: romp801, interp -O2 | ratio |"
+          " µs each beyond the first few: romp801, interp -O2 | ratio |")
     print("|---|---|---|---|---|---|")
-    for name, count, what in (("commit-lines", 458, "add and commit, one line"), ("commit-none", 4990, "commit alone"),
-                              ("give-up", 4990, "add and give up")):
-        source = listing(name)
-        ours, other = rounds([([program, "try"], path("jobs", name + ".job")),
-                              (interp("O2", 64, count, 1, 100, 1), source)])
-        print(f"| {what} | {count} | {ours[0]:.1f}, {ours[1]:.1f} | {ours[0] * 1000 / count:.1f} |"
-              f" {other[0]:.1f}, {other[1]:.1f} | {ours[0] / other[0]:.1f} |", flush=True)
+    for name, (count, few), what in (("commit-lines", (458, 58), "add and commit, one line"),
+                                     ("commit-none", (4990, 990), "commit alone"),
+                                     ("give-up", (4990, 990), "add and give up")):
+        commands = []
+        for number, job in ((count, name), (few, name + "-few")):
+            commands.append(([program, "try"], path("jobs", job + ".job")))
+            commands.append((interp("O2", 64, number, 1, 100, 1), listing(job)))
+        ours, other, our_few, other_few = (times[0] for times in rounds(commands, 3 * ROUNDS))
+        each = [1000 * (many - few_ms) / (count - few) for many, few_ms in ((ours, our_few), (other, other_few))]
+        print(f"| {what} | {count} | {ours:.1f}, {other:.1f} | {ours / other:.1f} |"
+              f" {each[0]:.2f}, {each[1]:.2f} | {each[0] / each[1]:.2f} |", flush=True)
 
 
 def texts():

@@ -1,7 +1,7 @@
 -- Lines of a page laid one after another, and the page laid at once.
 use Rattle.frame_pool.proofs.Common.{fold, slice_range, range_with_len, option_map_or, length-append, length-take-le, length-drop, append-nil, take-append-drop, drop-drop, take_at, overlaid, length-overlaid, PageSize, page_bytes, passing, lines_of_bits, Pool, frame_count, line_size, line_place, frame_at, marks_at, line_laid, line_kept, with_bytes, laid, IsSeen, pool_of, FramePool}
 use Rattle.std.proofs.Common.{◌≡◌, ℕ, zero, suc, ◌+◌, ◌-◌, ◌*◌, ◌<◌, ◌≤◌, Option, Some, List, [], ◌++◌, length, take, drop, refl, sym, ◌∙◌, ap, arith, append_assoc}
-use Rattle.std.proofs.Math.Seq.{take-add, drop-append-add}
+use Rattle.std.proofs.Math.Seq.{take-add, drop-append-add, drop-append_seam}
 use Rattle.line_geometry.specs.declared.directory.PageSize.TheVariants.{Two, Four}
 use Rattle.frame_pool.proofs.SoundLemmas.{page_part}
 use Rattle.frame_pool.proofs.PoolLemmas.{frame-within}
@@ -30,6 +30,20 @@ overlaid-joined {X = X} xs at part next fits =
     ap (λ (list : List X). list ++ next ++ drop (end + length next) (front ++ drop end xs)) (take_at front (drop end xs) end long)
     ∙ ap (λ (rest : List X). front ++ next ++ rest) behind
     ∙ ap (λ (list : List X). list ++ drop (at + length (part ++ next)) xs) (append_assoc (take at xs) part next)
+
+-- a part over another as long leaves nothing of that
+overlaid-again :
+    {X : Type 0} (xs : List X) (at : ℕ) (part next : List X)
+    → at ≤ length xs → length part ≡ length next → overlaid (overlaid xs at part) at next ≡ overlaid xs at next
+overlaid-again {X = X} xs at part next fits same =
+    let front : List X = take at xs ++ part in
+    let end : ℕ = at + length part in
+    let long : length front ≡ end = length-append (take at xs) part ∙ ap (λ n. n + length part) (length-take-le at xs fits) in
+    ap (λ (list : List X). list ++ next ++ drop (at + length next) (front ++ drop end xs))
+    (ap (take at) (append_assoc (take at xs) part (drop end xs)) ∙ take_at (take at xs) (part ++ drop end xs) at (length-take-le at xs fits))
+    ∙ ap (λ n. take at xs ++ next ++ drop n (front ++ drop end xs)) (let ends : at + length next ≡ length front = omega (arith, long, same) in ends)
+    ∙ ap (λ (rest : List X). take at xs ++ next ++ rest) (drop-append_seam front (drop end xs))
+    ∙ ap (λ n. take at xs ++ next ++ drop n xs) (let ends : end ≡ at + length next = omega (arith, same) in ends)
 
 -- so many items of a list from a place on
 from-place : {X : Type 0} (xs : List X) (at count : ℕ) → slice_range xs at (at + count) ≡ take count (drop at xs)
@@ -114,6 +128,30 @@ page-laid page frame pool fits kept =
     ∙ ap (λ n. with_bytes pool (frame * size) (slice_range pool.kept n (n + 16 * line_size pool.page))) (first (page * size))
     ∙ ap (λ n. with_bytes pool (frame * size) (slice_range pool.kept (page * size) (page * size + n))) whole
 
+-- all lines of a page that is in a frame are laid, where all are marked
+laid-all : (page frame : ℕ) (pool : Pool) → frame_at pool page ≡ Some frame → range_with_len 0 16 ≡ marks_at pool page → fold (line_laid page frame) pool (range_with_len 0 16) ≡ laid pool page
+laid-all page frame pool there all =
+    ap (fold (line_laid page frame) pool) all
+    ∙ sym (ap (λ (o : Option ℕ). option_map_or (λ f. fold (line_laid page f) pool (marks_at pool page)) o pool) there)
+
+-- where all lines of a page are marked, nothing is left of what its frame was filled with
+pub laid-anyway :
+    (page frame : ℕ) (pool : Pool) (bytes : List ℕ) → frame_at pool page ≡ Some frame → range_with_len 0 16 ≡ marks_at pool page
+    → length bytes ≡ page_bytes pool.page → frame * page_bytes pool.page + page_bytes pool.page ≤ length pool.bytes
+    → page * page_bytes pool.page + page_bytes pool.page ≤ length pool.kept
+    → laid pool page ≡ laid (with_bytes pool (frame * page_bytes pool.page) bytes) page
+laid-anyway page frame pool bytes there all long fits kept =
+    let size : ℕ = page_bytes pool.page in
+    let part : List ℕ = slice_range pool.kept (page * size) (page * size + size) in
+    let other : Pool = with_bytes pool (frame * size) bytes in
+    let stays : length other.bytes ≡ length pool.bytes = length-overlaid pool.bytes (frame * size) bytes (omega (arith, long, fits)) in
+    let same : length bytes ≡ length part = long ∙ sym (range-long pool.kept (page * size) size kept) in
+    sym (laid-all page frame pool there all)
+    ∙ page-laid page frame pool fits kept
+    ∙ ap (λ (list : List ℕ). record pool { bytes = list }) (sym (overlaid-again pool.bytes (frame * size) bytes part (omega (arith, fits)) same))
+    ∙ sym (page-laid page frame other (omega (arith, stays, fits)) kept)
+    ∙ laid-all page frame other there all
+
 -- a page whose lines are all marked is laid at once
 pub whole-laid :
     (p : FramePool) (page frame : ℕ) → page < length p.places.frame_of.items → frame_at (pool_of p) page ≡ Some frame → range_with_len 0 16 ≡ marks_at (pool_of p) page
@@ -123,6 +161,4 @@ whole-laid p page frame inside there all =
     let size : ℕ = page_bytes p.places.page in
     let fits : frame * size + size ≤ length p.bytes.items.items = omega (arith, page_part frame (frame_count p.places.page p.places.frames) size (frame-within p page frame there), seen.bytes) in
     let kept : page * size + size ≤ length p.kept = omega (arith, page_part page (length p.places.frame_of.items) size inside, seen.kept) in
-    sym (page-laid page frame (pool_of p) fits kept)
-    ∙ ap (fold (line_laid page frame) (pool_of p)) all
-    ∙ sym (ap (λ (o : Option ℕ). option_map_or (λ f. fold (line_laid page f) (pool_of p) (marks_at (pool_of p) page)) o (pool_of p)) there)
+    sym (page-laid page frame (pool_of p) fits kept) ∙ laid-all page frame (pool_of p) there all
