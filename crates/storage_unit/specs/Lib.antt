@@ -8,3 +8,4 @@ pub mod UnitLending
 pub mod Served
 pub mod Rows
 pub mod Laws
+pub mod Incoming
