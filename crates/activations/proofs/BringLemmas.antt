@@ -1,6 +1,6 @@
 -- A page that comes in from the store on the disk: what is read, and what frames have then.
-use Rattle.activations.proofs.Common.{not-true, or_parts, option_map_or, arith, ap, sym, ◌∙◌, subst, both_ways, eq-eqb, or_left, ltb-false, PageSize, Layout, byte_count, page_count, page_bytes, byte_count-lines, brought, has, has_left, overlaid, Ghosts, OnlyAsks, FewerLater, held_of, Standing, Stands, NotAStore, Damaged, stands, KeptStore, Pool, pool_of, IsSeen, private_frames, frame_count, line_place, Reach, reach_of, IsClean, private_bytes, Fits, Keeps, filled, page_in, frame-high, unit-sound, sound-fits, emptied-frame, laid-bytes, room-stays, emptied-stays, IsStoreOf, IsIn, IsMoved, ◌≡◌, refl, ℕ, ◌+◌, ◌-◌, ◌*◌, ◌<◌, ◌≤◌, ◌==◌, ◌++◌, not, nat_lt, if◌then◌else◌, Bool, true, false, List, [], ◌∷◌, length, take, drop, fold, remove, position, unwrap_or, slice_index, Option, Some, None, option_to_list, is_some, Result, Ok, Err, OnOk}
-use Rattle.std.proofs.lemmas.List.{take-append-le, take-take, length-append, length-take, length-drop}
+use Rattle.activations.proofs.Common.{not-true, or_parts, option_map_or, arith, ap, sym, ◌∙◌, subst, ltb-false, PageSize, Layout, byte_count, page_count, page_bytes, byte_count-lines, brought, has, has_left, overlaid, Ghosts, OnlyAsks, FewerLater, held_of, Standing, Stands, NotAStore, Damaged, stands, KeptStore, Pool, pool_of, private_frames, line_place, reach_of, IsClean, private_bytes, Fits, Keeps, filled, page_in, frame-high, unit-sound, sound-fits, laid-bytes, room-stays, emptied-stays, IsStoreOf, IsIn, IsMoved, ◌≡◌, refl, ℕ, ◌+◌, ◌-◌, ◌*◌, ◌<◌, ◌≤◌, ◌==◌, ◌++◌, not, nat_lt, if◌then◌else◌, Bool, true, false, List, [], ◌∷◌, length, take, drop, fold, remove, position, unwrap_or, slice_index, Option, Some, None, option_to_list, Result, Ok, Err, OnOk, OnErr}
+use Rattle.std.proofs.lemmas.List.{take-append-le, take-take, length-append, length-take}
 use Rattle.std.proofs.lemmas.List.Quantifiers.{position-Some}
 use Rattle.store_format.proofs.Fronts.{shorter_front, later_front}
 use Rattle.store_format.proofs.Stores.{stands_is}
@@ -10,16 +10,15 @@ use Rattle.restart.proofs.ShowLemmas.{sure_on, shown_store}
 use Rattle.frame_pool.specs.declared.pages.StorePages.{StorePages}
 use Rattle.frame_pool.specs.Places.{index_out}
 use Rattle.frame_pool.specs.PlacesView.{places_of}
-use Rattle.frame_pool.specs.Pool.{Brought, frame_at, frame_bytes, marks_at, with_bytes, emptied, laid, line_laid, line_kept}
-use Rattle.frame_pool.specs.PoolLending.{with_frame_part}
+use Rattle.frame_pool.specs.Pool.{Brought, frame_at, marks_at, with_bytes, emptied, laid, line_laid, line_kept}
 use Rattle.frame_pool.proofs.ApartLemmas.{has-remove_other, turned}
-use Rattle.frame_pool.proofs.LendLemmas.{lent-part}
 use Rattle.frame_pool.proofs.PlaceLemmas.{none-room}
-use Rattle.frame_pool.proofs.SoundLemmas.{page_part}
 use Rattle.storage_unit.specs.declared.unit.Unit.{Unit}
+use Rattle.storage_unit.specs.Incoming.{IsFilled, HasGoneOut}
 use Rattle.storage_unit.proofs.BringKeeps.{bring-keeps}
 use Rattle.storage_unit.proofs.FailedBringKeeps.{failed-bring-keeps}
 use Rattle.restart.specs.Shows as restart
+use Rattle.activations.specs.Fetching.{KeepsStore}
 use Rattle.activations.proofs.SizeLemmas.{private-all}
 
 -- a store stays open, with the same bytes, while the disk is only asked
@@ -83,9 +82,6 @@ module _ (directory : Layout) (old new : Pool) (page : ℕ) (keep : Option ℕ) 
   abbrev read : Pool
   read = with_bytes new (frame * page_bytes new.page) bytes
 
-  pub filled-resident : (filled new page frame bytes).resident ≡ brought old.frames (option_to_list keep) old.resident page
-  filled-resident = ap (λ (pool : Pool). pool.resident) (laid-bytes read page) ∙ ap (λ (pool : Pool). pool.resident) came.rest
-
   -- the first bytes are private
   all-private : 262144 ≤ length new.bytes
   all-private = private-all new.page new.frames (length new.bytes) also.seen.bytes
@@ -142,13 +138,6 @@ moved-then old mid new first second = record {
 pub keeps-then : (directory : Layout) (old mid new : Pool) (committed : List ℕ) → Keeps directory old mid committed → Keeps directory mid new committed → Keeps directory old new committed
 keeps-then directory old mid new committed first second = record { same = second.same ∙ first.same; clean = second.clean }
 
-pub none-has : (xs : List ℕ) → ((x : ℕ) → has xs x ≡ true → ⊥) → xs ≡ []
-none-has [] none = refl
-none-has (x ∷ xs) none = absurd (none x (or_left (x == x) (has xs x) (eq-eqb x x refl)))
-
-pub emptied-resident : (pool : Pool) → IsSeen pool → IsSeen (emptied pool) → (emptied pool).resident ≡ []
-emptied-resident pool seen after = none-has (emptied pool).resident (λ page inside. both_ways (has (emptied pool).resident page) (after.resident page ∙ ap is_some (emptied-frame pool page seen)) inside)
-
 -- a page that is to stay, stays: of at least two frames another can be had
 pub keeps-other : (p : StorePages) (other page : ℕ) → has p.resident.items other ≡ true → has (brought p.frames (other ∷ []) p.resident.items page) other ≡ true
 keeps-other p other page inside = by_room (nat_lt (length p.resident.items) p.frames) refl
@@ -188,72 +177,39 @@ pub on-ok : {T E : Type 0} (P Q : Type 0) (result : Result T E) → OnOk result 
 on-ok P Q (Ok value) is leads = leads is
 on-ok P Q (Err fault) is leads = is
 
--- A unit into which a page comes: its frame is lent and filled, and its kept lines are laid over it.
-module _ (unit brought_in now : Unit) (page : ℕ) (keep : Option ℕ) (frame : ℕ) (lent part : List ℕ)
-    (came : Brought (reach_of unit).pool (reach_of brought_in).pool page keep frame) (rest : reach_of brought_in ≡ record (reach_of unit) { pool = (reach_of brought_in).pool })
-    (lends : lent ≡ frame_bytes (reach_of brought_in).pool frame) (keeps_length : length part ≡ length lent)
-    (lays : reach_of now ≡ record (reach_of brought_in) { pool = laid (pool_of (with_frame_part brought_in.pool (frame * page_bytes brought_in.pool.places.page) part)) page }) where
+-- what follows either way
+pub either-way : {T E : Type 0} (P Q R : Type 0) (result : Result T E) → OnOk result P → OnErr result Q → (P → R) → (Q → R) → R
+either-way P Q R (Ok value) is not leads others = leads is
+either-way P Q R (Err fault) is not leads others = others not
+
+-- A unit into which a page comes.
+module _ (unit : Unit) (page : ℕ) (keep : Option ℕ) where
   before : Fits unit.directory (reach_of unit).pool
   before = sound-fits (reach_of unit) (unit-sound unit)
 
-  there : Fits unit.directory (reach_of brought_in).pool
-  there = subst (λ (directory : Layout). Fits directory (reach_of brought_in).pool) (ap (λ (r : Reach). r.directory) rest) (sound-fits (reach_of brought_in) (unit-sound brought_in))
-
-  inside : frame * page_bytes brought_in.pool.places.page + page_bytes brought_in.pool.places.page ≤ length brought_in.pool.bytes.items.items
-  inside =
-      let stays = (room-stays (reach_of unit).pool keep before.seen).1 in
-      let size : brought_in.pool.places.page ≡ unit.pool.places.page = ap (λ (pool : Pool). pool.page) came.rest ∙ stays.page in
-      let frames : brought_in.pool.places.frames ≡ unit.pool.places.frames = ap (λ (pool : Pool). pool.frames) came.rest ∙ stays.frames in
-      let below : frame < frame_count brought_in.pool.places.page brought_in.pool.places.frames =
-      subst (λ (s : PageSize). frame < frame_count s brought_in.pool.places.frames) (sym size) (subst (λ (n : ℕ). frame < frame_count unit.pool.places.page n) (sym frames) came.below) in
-      omega (arith, page_part frame (frame_count brought_in.pool.places.page brought_in.pool.places.frames) (page_bytes brought_in.pool.places.page) below, there.seen.bytes)
-
-  whole : length part ≡ page_bytes brought_in.pool.places.page
-  whole = keeps_length ∙ ap length lends ∙ simp (length-take, length-drop) (omega (arith, inside))
-
-  pub part-long : length part ≡ page_bytes unit.directory.page
-  part-long = whole ∙ ap page_bytes there.size
-
-  -- the pool then
-  pub pool-filled : (reach_of now).pool ≡ filled (reach_of brought_in).pool page frame part
-  pool-filled =
-      ap (λ (r : Reach). r.pool) lays
-      ∙ ap (λ (pool : Pool). laid pool page) (lent-part brought_in.pool (frame * page_bytes brought_in.pool.places.page) part (omega (arith, inside, whole)))
-
-  pub now-moved : IsMoved (reach_of unit).pool (reach_of now).pool
-  now-moved = subst (IsMoved (reach_of unit).pool) (sym pool-filled) (moved-filled unit.directory (reach_of unit).pool (reach_of brought_in).pool page keep frame part before there came)
-
-  pub now-came : (reach_of now).pool.resident ≡ brought unit.pool.places.frames (option_to_list keep) unit.pool.places.resident.items page
-  now-came = ap (λ (pool : Pool). pool.resident) pool-filled ∙ filled-resident unit.directory (reach_of unit).pool (reach_of brought_in).pool page keep frame part before there came
+  pub came-moved : (bytes : List ℕ) (new : Pool) → IsFilled (reach_of unit) page keep bytes new → IsMoved (reach_of unit).pool new
+  came-moved bytes new filling = subst (IsMoved (reach_of unit).pool) (sym filling.is) (moved-filled unit.directory (reach_of unit).pool filling.room page keep filling.frame bytes before filling.fits filling.came)
 
   -- it was read
-  pub now-keeps : {W : Type 0} (G : Ghosts W) (store : KeptStore) (outside : W) → store.header.directory ≡ unit.directory → page < page_count unit.directory → has unit.pool.places.resident.items page ≡ false
-      → (restart.IsShown G store outside → part ≡ restart.page_in (stands (held_of G outside)) page)
-      → (committed : List ℕ) → IsStoreOf G store outside committed → IsClean unit.directory (reach_of unit).pool committed → Keeps unit.directory (reach_of unit).pool (reach_of now).pool committed
-  now-keeps G store outside same below absent reads committed is clean =
-      let was : part ≡ page_in unit.directory committed page =
+  pub came-keeps : {W : Type 0} (G : Ghosts W) (store : KeptStore) (outside : W) (bytes : List ℕ) (new : Pool) → store.header.directory ≡ unit.directory → page < page_count unit.directory
+      → has unit.pool.places.resident.items page ≡ false → (restart.IsShown G store outside → bytes ≡ restart.page_in (stands (held_of G outside)) page)
+      → IsFilled (reach_of unit) page keep bytes new → KeepsStore G store outside unit.directory (reach_of unit).pool new
+  came-keeps G store outside bytes new same below absent reads filling committed is clean =
+      let was : bytes ≡ page_in unit.directory committed page =
       reads (record { told = is.tracks.sure.told; shows = is.tracks.shows }) ∙ page-read (stands (held_of G outside)) is.number store.header.directory committed page is.stood ∙ ap (λ (d : Layout). page_in d committed page) same in
       subst (λ (pool : Pool). Keeps unit.directory (reach_of unit).pool pool committed)
-      (sym (pool-filled ∙ ap (filled (reach_of brought_in).pool page frame) was))
-      (bring-keeps unit.directory (reach_of unit).pool (reach_of brought_in).pool committed page keep frame before there
-      (committed-long G store outside committed is ∙ ap byte_count same) clean below absent came)
+      (sym (filling.is ∙ ap (filled filling.room page filling.frame) was))
+      (bring-keeps unit.directory (reach_of unit).pool filling.room committed page keep filling.frame before filling.fits
+      (committed-long G store outside committed is ∙ ap byte_count same) clean below absent filling.came)
 
   -- it couldn't be read, and all pages went out
-  module _ (after : Unit) (empties : reach_of after ≡ record (reach_of now) { pool = emptied (reach_of now).pool }) where
-    pool-after : (reach_of after).pool ≡ emptied (reach_of now).pool
-    pool-after = ap (λ (r : Reach). r.pool) empties
-
-    pub out-moved : IsMoved (reach_of unit).pool (reach_of after).pool
-    out-moved = subst (IsMoved (reach_of unit).pool) (sym pool-after) (moved-emptied (reach_of unit).pool (reach_of now).pool now-moved)
-
-    pub out-none : (reach_of after).pool.resident ≡ []
-    out-none =
-        ap (λ (pool : Pool). pool.resident) pool-after
-        ∙ emptied-resident (reach_of now).pool (unit-sound now).seen (subst IsSeen pool-after (unit-sound after).seen)
+  module _ (new : Pool) (gone : HasGoneOut (reach_of unit) page keep new) where
+    pub out-moved : IsMoved (reach_of unit).pool new
+    out-moved = subst (IsMoved (reach_of unit).pool) (sym gone.out) (moved-emptied (reach_of unit).pool gone.between (came-moved gone.bytes gone.between gone.was))
 
     pub out-keeps : page < page_count unit.directory → has unit.pool.places.resident.items page ≡ false → (committed : List ℕ) → IsClean unit.directory (reach_of unit).pool committed
-        → Keeps unit.directory (reach_of unit).pool (reach_of after).pool committed
+        → Keeps unit.directory (reach_of unit).pool new committed
     out-keeps below absent committed clean =
         subst (λ (pool : Pool). Keeps unit.directory (reach_of unit).pool pool committed)
-        (sym (pool-after ∙ ap emptied pool-filled))
-        (failed-bring-keeps unit.directory (reach_of unit).pool (reach_of brought_in).pool committed part page keep frame before there clean below absent came part-long)
+        (sym (gone.out ∙ ap emptied gone.was.is))
+        (failed-bring-keeps unit.directory (reach_of unit).pool gone.was.room committed gone.bytes page keep gone.was.frame before gone.was.fits clean below absent gone.was.came gone.was.long)

@@ -95,7 +95,7 @@ module _ (a : Activity) (seat : ℕ) (pool : Pool) (pages : List ℕ) (committed
       sym (place-laid store (due_to store entry).writes (shown a committed) committed now.store (line-bytes-pos a.reach.directory) first.record_lines place
       (sym (wrote-due a seat committed sound (kept.held seat taken) (line_of a.reach.directory place)) ∙ wrote_it))
 
-  module _ (written : AreWritten a seat pages) (were : WereSettled (wrote a seat) pages a.reach.pool pool)
+  module _ (written : AreWritten a.seating.holding seat pages) (were : WereSettled (wrote a seat) pages a.reach.pool pool)
       (keeps : Keeps a.reach.directory a.reach.pool pool now.store) (unseen : bytes_over a.reach.directory a.reach.pool now.store ≡ shown a committed) where
     abbrev left : Activity
     left = rolled a seat pool

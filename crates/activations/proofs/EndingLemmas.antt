@@ -1,8 +1,8 @@
 -- What a seat that is left leaves, once its written lines are forgotten or committed.
-use Rattle.activations.proofs.Common.{false_from_ne_true, and-false, ◌≡◌, refl, ℕ, ◌+◌, ◌<◌, ◌==◌, ◌&&◌, not, Bool, true, false, List, [], slice_index, is_some, Some, arith, ap, sym, ◌∙◌, subst, both_ways, eqb-true, eqb-false, byte_count, line_of, line-bytes-pos, has, has-filter, Plain, after, Commit, row, Pool, emptied, IsSeen, Stays, Entry, no_counts, over_all, AreConsistent, due_to, place-kept, seat-told, among-any, taken-below, Reach, IsClean, is_line_marked, is_marked, bytes_over, private_bytes, Fits, Keeps, emptied-frame, emptied-stays, Activity, program_in, entry_in, entries, store_over, shown, HasUndone, HasSettled, WereRolled, IsRestarted, IsDeserted, IsSound, IsKept, KeepsDesk, rolled, vacated, with_pool, RollsBack, Commits}
+use Rattle.activations.proofs.Common.{false_from_ne_true, and-false, ◌≡◌, refl, ℕ, ◌+◌, ◌<◌, ◌==◌, ◌&&◌, not, Bool, true, false, List, [], slice_index, Some, arith, ap, sym, ◌∙◌, subst, both_ways, eqb-true, eqb-false, byte_count, line_of, line-bytes-pos, has, has-filter, Plain, after, Commit, row, Pool, emptied, IsSeen, Stays, Entry, no_counts, over_all, AreConsistent, due_to, place-kept, seat-told, among-any, taken-below, Reach, IsClean, is_line_marked, is_marked, bytes_over, private_bytes, Fits, Keeps, emptied-stays, Activity, program_in, entry_in, entries, store_over, shown, HasUndone, HasSettled, WereRolled, IsRestarted, IsDeserted, IsSound, IsKept, KeepsDesk, rolled, vacated, with_pool, RollsBack, Commits}
 use Rattle.storage_unit.proofs.CommitIsUnseen.{commit-is-unseen}
 use Rattle.storage_unit.proofs.EmptyKeeps.{empty-keeps}
-use Rattle.activations.proofs.BringLemmas.{none-has}
+use Rattle.storage_unit.proofs.IncomingLemmas.{none-has, emptied-resident}
 use Rattle.activations.proofs.CommitLemmas.{ends, wrote-seen, commits-here}
 use Rattle.activations.proofs.EndLemmas.{sound-pool, sound-rolled, rolled-more}
 use Rattle.activations.proofs.IdleLemmas.{restarts}
@@ -19,20 +19,21 @@ module _ (a : Activity) (seat : ℕ) (mid : Reach) (new : Activity) (is : new �
   pub sound-after : mid ≡ record a.reach { pool = mid.pool } → IsSound a → has a.seating.taken seat ≡ true → IsSound new
   sound-after rest sound taken = subst IsSound (sym (shape-left rest)) (sound-rolled a seat new.reach.pool sound taken)
 
-  -- the lines that it wrote were forgotten
-  pub rolls-left : HasUndone a.seating.holding seat a.reach mid → IsSound a → has a.seating.taken seat ≡ true → (committed : List ℕ)
-      → AreConsistent (store_over a committed) a.most_lines a.next (entries a) → IsKept a committed → RollsBack a seat new.reach.pool committed
-  rolls-left undone sound taken committed consistent kept =
-      subst (λ (pool : Pool). RollsBack a seat pool committed) (sym pool-is)
-      (rolls-back a seat mid.pool undone.pages committed sound taken consistent kept (record { all = undone.all; only = undone.only }) undone.were (undone.are committed kept.long kept.clean))
+-- The lines that were written in a seat were forgotten or committed, and its pool is another.
+module _ (a : Activity) (seat : ℕ) (pool : Pool) where
+  abbrev mid : Reach
+  mid = record a.reach { pool = pool }
 
-  -- they were committed
+  pub rolls-left : HasUndone a.seating.holding seat a.reach mid → IsSound a → has a.seating.taken seat ≡ true → (committed : List ℕ)
+      → AreConsistent (store_over a committed) a.most_lines a.next (entries a) → IsKept a committed → RollsBack a seat pool committed
+  rolls-left undone sound taken committed consistent kept =
+      rolls-back a seat pool undone.pages committed sound taken consistent kept undone.written undone.were (undone.are committed kept.long kept.clean)
+
   pub commits-left : HasSettled a.seating.holding seat a.reach mid → IsSound a → has a.seating.taken seat ≡ true → (committed : List ℕ) (now : Plain) → KeepsDesk a committed
       → after (program_in a seat) (entry_in a seat).runs.args (store_over a committed) (entry_in a seat).rows ≡ Some now
-      → row (program_in a seat) a.reach.directory (over_all now (shown a committed)) ≡ Commit → Commits a seat new.reach.pool committed now
+      → row (program_in a seat) a.reach.directory (over_all now (shown a committed)) ≡ Commit → Commits a seat pool committed now
   commits-left settled sound taken committed now follows at call =
-      subst (λ (pool : Pool). Commits a seat pool committed now) (sym pool-is)
-      (commits-here a seat mid.pool settled.pages committed now sound taken follows at call (record { all = settled.all; only = settled.only }) settled.were keeps unseen.0)
+      commits-here a seat pool settled.pages committed now sound taken follows at call settled.written settled.were keeps unseen.0
     where
       unwritten : (line : ℕ) → is_line_marked a.reach.pool line ≡ false → has (due_to (store_over a committed) (entry_in a seat)).writes line ≡ false
       unwritten line clear =
@@ -44,14 +45,14 @@ module _ (a : Activity) (seat : ℕ) (mid : Reach) (new : Activity) (is : new �
       same : (place : ℕ) → place < byte_count a.reach.directory → is_marked a.reach.directory a.reach.pool place ≡ false → slice_index now.store place ≡ slice_index committed place
       same place within clear =
           place-kept (store_over a committed) (due_to (store_over a committed) (entry_in a seat)).writes (shown a committed) committed now.store (line-bytes-pos a.reach.directory)
-          (ends a seat mid.pool settled.pages committed now sound taken follows at call [] no_counts).record_lines place (unwritten (line_of a.reach.directory place) clear)
+          (ends a seat pool settled.pages committed now sound taken follows at call [] no_counts).record_lines place (unwritten (line_of a.reach.directory place) clear)
 
       unseen : (bytes_over a.reach.directory a.reach.pool now.store ≡ shown a committed) × IsClean a.reach.directory a.reach.pool now.store
       unseen = commit-is-unseen a.reach.directory a.reach.pool committed now.store follows.kept.clean same
 
-      keeps : Keeps a.reach.directory a.reach.pool mid.pool now.store
+      keeps : Keeps a.reach.directory a.reach.pool pool now.store
       keeps = settled.keeps now.store unseen.1
-          (λ place within wrote_it. ap (λ (bytes : List ℕ). slice_index bytes place) unseen.0 ∙ wrote-seen a seat mid.pool settled.pages committed now sound taken follows at call place within wrote_it)
+          (λ place within wrote_it. ap (λ (bytes : List ℕ). slice_index bytes place) unseen.0 ∙ wrote-seen a seat pool settled.pages committed now sound taken follows at call place within wrote_it)
 
 -- One after another is rolled back, of the seats below a bound.
 pub record RolledSo (below : ℕ) (old now : Activity) : Type 0 where
@@ -152,7 +153,5 @@ module _ (old now new : Activity) (so : RolledSo 16 old now) (fits : Fits now.re
         size = stays.page;
         frames = stays.frames;
       })
-      (none-has (emptied now.reach.pool).resident (λ page inside.
-      both_ways (has (emptied now.reach.pool).resident page)
-      ((subst IsSeen (ap (λ (n : Activity). n.reach.pool) is) seen).resident page ∙ ap is_some (emptied-frame now.reach.pool page fits.seen)) inside))
+      (emptied-resident now.reach.pool fits.seen (subst IsSeen (ap (λ (n : Activity). n.reach.pool) is) seen))
       (empty-keeps now.reach.directory now.reach.pool committed fits past.follows.kept.clean) old past)

@@ -1,6 +1,8 @@
 -- Pages of a touch that came in, one after the other, or that broke off.
-use Rattle.activations.proofs.Common.{◌≡◌, refl, ℕ, ◌+◌, ◌<◌, ◌≤◌, ◌==◌, ◌||◌, if◌then◌else◌, Bool, true, false, List, [], ◌∷◌, Option, Some, None, option_to_list, Result, Ok, Err, OnErr, arith, ap, sym, ◌∙◌, inl, inr, eqb-true, eq-eqb, ne_eqb, or_cases, or_left, brought, has, has_right, Pool, Layout, Ghosts, OnlyAsks, FewerLater, KeptStore, IsClean, Keeps, Word, Fine, ReadFailed, Fetching, Fetched, Broken, can't_be_read, fetches, Activity, IsStoreOf, IsIn, IsUnread, IsBrokenOff, IsFetched, IsMoved}
-use Rattle.activations.proofs.BringLemmas.{store-on, keeps-then}
+use Rattle.activations.proofs.Common.{◌≡◌, refl, ℕ, ◌+◌, ◌<◌, ◌≤◌, ◌==◌, ◌||◌, if◌then◌else◌, Bool, true, false, List, [], ◌∷◌, Option, Some, None, option_to_list, Result, Ok, Err, IsErrAnd, OnErr, OnOk, arith, ap, sym, ◌∙◌, inl, inr, eqb-true, eq-eqb, ne_eqb, or_cases, or_left, brought, has, has_right, Pool, Layout, Ghosts, OnlyAsks, FewerLater, KeptStore, IsClean, Word, Fine, ReadFailed, Fetching, Fetched, Broken, can't_be_read, fetches, Activity, IsStoreOf, IsIn, IsUnread, IsBrokenOff, IsFetched, IsMoved, Touch, Want, pages_wanted, wants_of, subst}
+use Rattle.activations.proofs.BringLemmas.{store-on, keeps-then, moved-then}
+use Rattle.activations.specs.Fetching.{KeepsStore}
+use Rattle.activations.specs.Stages.{Fetches, HasFetched}
 use Rattle.activations.proofs.PoolLemmas.{brought-one, brought-first, brought-second}
 
 -- what a page of several comes to, by whether it is resident and can be read
@@ -95,7 +97,7 @@ module _ (old mid : Pool) (first second before between : ℕ) (came : IsIn old m
 
 -- A touch over what runs, whose frames came to another pool.
 module _ {W : Type 0} (G : Ghosts W) (store : KeptStore) (outside : W) (a : Activity) (pages : List ℕ) (before after : ℕ) (new : Pool) (moved : IsMoved a.reach.pool new)
-    (keeps : (committed : List ℕ) → IsStoreOf G store outside committed → IsClean a.reach.directory a.reach.pool committed → Keeps a.reach.directory a.reach.pool new committed) where
+    (keeps : KeepsStore G store outside a.reach.directory a.reach.pool new) where
   -- what came in
   pub is-fetched : fetches Fine a.reach.pool.frames pages pages a.reach.pool.resident before ≡ Fetched new.resident after
       → (committed : List ℕ) (order : List (ℕ × ℕ)) → IsStoreOf G store outside committed → IsClean a.reach.directory a.reach.pool committed → IsFetched a committed order pages before new after
@@ -117,17 +119,85 @@ none-fetched a pages before is committed order clean = record {
 
 -- pages of two steps keep what all see
 pub keeps-both : {W : Type 0} (G : Ghosts W) (fewer_later : FewerLater G) (store : KeptStore) (outside between : W) (directory : Layout) (old mid new : Pool) → OnlyAsks G outside between
-    → ((committed : List ℕ) → IsStoreOf G store outside committed → IsClean directory old committed → Keeps directory old mid committed)
-    → ((committed : List ℕ) → IsStoreOf G store between committed → IsClean directory mid committed → Keeps directory mid new committed)
-    → (committed : List ℕ) → IsStoreOf G store outside committed → IsClean directory old committed → Keeps directory old new committed
+    → KeepsStore G store outside directory old mid → KeepsStore G store between directory mid new → KeepsStore G store outside directory old new
 keeps-both G fewer_later store outside between directory old mid new asks first second committed is clean =
     let one = first committed is clean in
     keeps-then directory old mid new committed one (second committed (store-on G fewer_later store outside between committed asks is) one.clean)
 
-pub on-err : {T E : Type 0} (P : Type 0) (result : Result T E) → P → OnErr result P
-on-err P (Ok value) is = tt
-on-err P (Err fault) is = is
+pub fetch-fails : {T E W : Type 0} (result : Result T E) (failed : E) → IsErrAnd result (λ told. told ≡ failed) → (G : Ghosts W) (store : KeptStore) (outside : W) (a : Activity) (pages : List ℕ) (before : ℕ) (new : Pool) (after : ℕ)
+    → Fetches {T = T} (Err failed) G store outside a pages before new after → Fetches result G store outside a pages before new after
+fetch-fails (Ok it) failed told G store outside a pages before new after off = absurd told
+fetch-fails (Err is) failed told G store outside a pages before new after off = off
 
 pub if-err : {T E : Type 0} (P Q : Type 0) (result : Result T E) → OnErr result P → (P → Q) → OnErr result Q
 if-err P Q (Ok value) is leads = is
 if-err P Q (Err fault) is leads = leads is
+
+-- A touch of one page.
+module _ {W : Type 0} (G : Ghosts W) (store : KeptStore) (outside : W) (a : Activity) (new : Pool) (touch : Touch) (only : Want) (is : touch ≡ Touch.One only) (before after : ℕ)
+    (moved : IsMoved a.reach.pool new) (keeps : KeepsStore G store outside a.reach.directory a.reach.pool new) where
+  pages-one : pages_wanted (wants_of touch) ≡ only.page ∷ []
+  pages-one = ap (λ (t : Touch). pages_wanted (wants_of t)) is
+
+  one-fetched : IsIn a.reach.pool new only.page None before after → HasFetched G store outside a (pages_wanted (wants_of touch)) before new after
+  one-fetched came = record {
+    resident = λ page inside. one-there a.reach.pool new only.page None before after came page (ap (λ (these : List ℕ). has these page) (sym pages-one) ∙ inside);
+    fetched =
+        is-fetched G store outside a (pages_wanted (wants_of touch)) before after new moved keeps
+        (subst (λ (these : List ℕ). fetches Fine a.reach.pool.frames these these a.reach.pool.resident before ≡ Fetched new.resident after) (sym pages-one) (one-in a.reach.pool new only.page before after came));
+  }
+
+  one-broken : IsUnread a.reach.pool new only.page before after
+      → (committed : List ℕ) (order : List (ℕ × ℕ)) → IsStoreOf G store outside committed → IsClean a.reach.directory a.reach.pool committed → IsBrokenOff a committed order (pages_wanted (wants_of touch)) before new after
+  one-broken unread =
+      is-broken G store outside a (pages_wanted (wants_of touch)) before after new moved keeps unread.none (unread-later a.reach.pool new only.page before after unread)
+      (subst (λ (these : List ℕ). fetches (ReadFailed after) a.reach.pool.frames these these a.reach.pool.resident before ≡ Broken after) (sym pages-one) (one-unread a.reach.pool new only.page before after unread))
+
+  pub one-fetches : {T E : Type 0} (result : Result T E) → OnOk result (IsIn a.reach.pool new only.page None before after) → OnErr result (IsUnread a.reach.pool new only.page before after)
+      → Fetches result G store outside a (pages_wanted (wants_of touch)) before new after
+  one-fetches (Ok it) came not = one-fetched came
+  one-fetches (Err failed) came not = one-broken not
+
+-- And of two, the first of which came to a pool.
+module _ {W : Type 0} (G : Ghosts W) (store : KeptStore) (outside : W) (a : Activity) (mid : Pool) (touch : Touch) (first second : Want) (is : touch ≡ Touch.Two first second) (before between : ℕ)
+    (moved : IsMoved a.reach.pool mid) (keeps : KeepsStore G store outside a.reach.directory a.reach.pool mid) where
+  pages-two : pages_wanted (wants_of touch) ≡ first.page ∷ second.page ∷ []
+  pages-two = ap (λ (t : Touch). pages_wanted (wants_of t)) is
+
+  pub first-broken : IsUnread a.reach.pool mid first.page before between
+      → (committed : List ℕ) (order : List (ℕ × ℕ)) → IsStoreOf G store outside committed → IsClean a.reach.directory a.reach.pool committed → IsBrokenOff a committed order (pages_wanted (wants_of touch)) before mid between
+  first-broken unread =
+      is-broken G store outside a (pages_wanted (wants_of touch)) before between mid moved keeps unread.none (unread-later a.reach.pool mid first.page before between unread)
+      (subst (λ (these : List ℕ). fetches (ReadFailed between) a.reach.pool.frames these these a.reach.pool.resident before ≡ Broken between) (sym pages-two)
+      (unread-broken a.reach.pool mid first.page before between (first.page ∷ second.page ∷ []) (second.page ∷ []) unread))
+
+  -- then the second
+  module _ (fewer_later : FewerLater G) (later : W) (asks : OnlyAsks G outside later) (came : IsIn a.reach.pool mid first.page (Some second.page) before between) (directory : Layout) (same : directory ≡ a.reach.directory)
+      (new : Pool) (after : ℕ) (also : IsMoved mid new) (still : KeepsStore G store later directory mid new) where
+    both-moved : IsMoved a.reach.pool new
+    both-moved = moved-then a.reach.pool mid new moved also
+
+    both-keep : KeepsStore G store outside a.reach.directory a.reach.pool new
+    both-keep = keeps-both G fewer_later store outside later a.reach.directory a.reach.pool mid new asks keeps (subst (λ (d : Layout). KeepsStore G store later d mid new) same still)
+
+    two-fetched : IsIn mid new second.page (Some first.page) between after → HasFetched G store outside a (pages_wanted (wants_of touch)) before new after
+    two-fetched came_then = record {
+      resident = λ page inside. both-there a.reach.pool mid first.page second.page before between came moved.frames new after came_then page (ap (λ (these : List ℕ). has these page) (sym pages-two) ∙ inside);
+      fetched =
+          is-fetched G store outside a (pages_wanted (wants_of touch)) before after new both-moved both-keep
+          (subst (λ (these : List ℕ). fetches Fine a.reach.pool.frames these these a.reach.pool.resident before ≡ Fetched new.resident after) (sym pages-two)
+          (two-in a.reach.pool mid first.page second.page before between came moved.frames new after came_then));
+    }
+
+    two-broken : IsUnread mid new second.page between after
+        → (committed : List ℕ) (order : List (ℕ × ℕ)) → IsStoreOf G store outside committed → IsClean a.reach.directory a.reach.pool committed → IsBrokenOff a committed order (pages_wanted (wants_of touch)) before new after
+    two-broken unread =
+        is-broken G store outside a (pages_wanted (wants_of touch)) before after new both-moved both-keep
+        unread.none (both-later a.reach.pool mid first.page (Some second.page) before between came new second.page after unread)
+        (subst (λ (these : List ℕ). fetches (ReadFailed after) a.reach.pool.frames these these a.reach.pool.resident before ≡ Broken after) (sym pages-two)
+        (two-unread a.reach.pool mid first.page second.page before between came moved.frames new after unread))
+
+    pub two-fetch : {T E : Type 0} (result : Result T E) → OnOk result (IsIn mid new second.page (Some first.page) between after) → OnErr result (IsUnread mid new second.page between after)
+        → Fetches result G store outside a (pages_wanted (wants_of touch)) before new after
+    two-fetch (Ok it) came_then not = two-fetched came_then
+    two-fetch (Err failed) came_then not = two-broken not

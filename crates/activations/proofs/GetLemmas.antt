@@ -3,6 +3,7 @@ use Rattle.activations.proofs.Common.{false_from_ne_true, ◌≡◌, refl, ℕ, 
 use Rattle.flat_machine.specs.Agreement.{all_of}
 use Rattle.desk.specs.declared.answers.TurnEnd.TheVariants as end
 use Rattle.desk.specs.Desk as desk
+use Rattle.activations.specs.Stages.{HasFetched}
 use Rattle.activations.proofs.ContestLemmas.{orderly-other}
 use Rattle.activations.proofs.EndLemmas.{sound-pool}
 use Rattle.activations.proofs.KeptLemmas.{keeps-locked, keeps-rolled}
@@ -169,7 +170,7 @@ module _ (begins : Word → Turning) (attempt : Attempt) (refused : List ℕ) (a
     forgotten =
         forgotten-fewer a.reach.directory more written off pool committed broken.keeps.clean written-more by-nobody
         (were-forgotten a.reach.directory (wrote (locked a seat wants owned) seat) undone.pages more off pool committed
-        (of-held (locked a seat wants owned) seat undone.pages (due_to store (gone_on attempt.entry)) later holds (record { all = undone.all; only = undone.only }))
+        (of-held (locked a seat wants owned) seat undone.pages (due_to store (gone_on attempt.entry)) later holds undone.written)
         undone.were (undone.are committed free.follows.kept.long broken.keeps.clean))
 
     kept-after : IsKept after committed
@@ -221,15 +222,12 @@ module _ (begins : Word → Turning) (attempt : Attempt) (refused : List ℕ) (a
     clean-mid : IsClean mid.reach.directory mid.reach.pool committed
     clean-mid = subst (λ (x : Activity). IsClean x.reach.directory x.reach.pool committed) (sym is) free.follows.kept.clean
 
-    pub served-so : a.reach.runner ≡ seat + 1 → new ≡ with_pool mid new.reach.pool
-        → ((page : ℕ) → has (pages_wanted wants) page ≡ true → has new.reach.pool.resident page ≡ true)
-        → ((committed : List ℕ) (order : List (ℕ × ℕ)) → IsStoreOf G kept_store outside committed → IsClean mid.reach.directory mid.reach.pool committed
-        → IsFetched mid committed order (pages_wanted wants) counts.pages new.reach.pool counted)
+    pub served-so : a.reach.runner ≡ seat + 1 → new ≡ with_pool mid new.reach.pool → HasFetched G kept_store outside mid (pages_wanted wants) counts.pages new.reach.pool counted
         → IsServed begins new seat wants committed order (record counts { pages = counted })
-    served-so runner shape resident came =
+    served-so runner shape came =
         subst (λ (x : Activity). IsServed begins x seat wants committed order (record counts { pages = counted })) (sym (shape ∙ ap (λ (x : Activity). with_pool x new.reach.pool) is))
-        (got-served new.reach.pool counted runner resident
-        (subst (λ (x : Activity). IsFetched x committed order (pages_wanted wants) counts.pages new.reach.pool counted) is (came committed order is_store clean-mid)))
+        (got-served new.reach.pool counted runner came.resident
+        (subst (λ (x : Activity). IsFetched x committed order (pages_wanted wants) counts.pages new.reach.pool counted) is (came.fetched committed order is_store clean-mid)))
 
     pub broken-so : HasBrokenOff G kept_store outside mid seat (pages_wanted wants) counts.pages new counted → HasBroken begins new committed order (record counts { pages = counted })
     broken-so off =
@@ -239,13 +237,13 @@ module _ (begins : Word → Turning) (attempt : Attempt) (refused : List ℕ) (a
         (got-broken here.pool new.reach.pool counted (here.off committed order is_store free.follows.kept.clean) here.undone)
 
 -- by what the answer is
-pub serves-by : {U : Type 0} (P Q R S T V : Type 0) (result : Result U TurnEnd) (begins : Word → Turning) (a : Activity) (seat : ℕ) (wants : List Want) (committed : List ℕ) (order : List (ℕ × ℕ)) (counts : Counts)
-    → OnOk result P → OnOk result Q → OnOk result R → (P → Q → R → IsServed begins a seat wants committed order counts)
-    → IfErr result (λ over. (over ≡ end.Disk) × S × V) → IfErr result (λ over. T) → (T → HasBroken begins a committed order counts)
+pub serves-by : {U : Type 0} (P Q T : Type 0) (E : TurnEnd → Type 0) (result : Result U TurnEnd) (begins : Word → Turning) (a : Activity) (seat : ℕ) (wants : List Want) (committed : List ℕ) (order : List (ℕ × ℕ)) (counts : Counts)
+    → OnOk result P → OnOk result Q → (P → Q → IsServed begins a seat wants committed order counts)
+    → IfErr result E → ((how : TurnEnd) → E how → how ≡ end.Disk) → IfErr result (λ over. T) → (T → HasBroken begins a committed order counts)
     → Serves result begins a seat wants committed order counts
-serves-by P Q R S T V (Ok nothing) begins a seat wants committed order counts shape resident came leads ends off breaks = leads shape resident came
-serves-by P Q R S T V (Err over) begins a seat wants committed order counts shape resident came leads ends off breaks =
-    subst (λ (how : TurnEnd). HasEnded how begins a committed order counts) (sym ends.0) (breaks off)
+serves-by P Q T E (Ok nothing) begins a seat wants committed order counts shape came leads ends is off breaks = leads shape came
+serves-by P Q T E (Err over) begins a seat wants committed order counts shape came leads ends is off breaks =
+    subst (λ (how : TurnEnd). HasEnded how begins a committed order counts) (sym (is over ends)) (breaks off)
 
 -- and all parts are as they were
 pub parts-by : {U W : Type 0} (result : Result U TurnEnd) (G : Ghosts W) (kept_store : KeptStore) (outside : W) (a mid new : Activity) (seat : ℕ) (wants : List Want) (pages : List ℕ) (before counted : ℕ)

@@ -1,5 +1,6 @@
 -- What stays while those that run are served: of a rollback of another, and one after another.
-use Rattle.activations.proofs.Common.{ne_eqb, and-false, ◌≡◌, refl, ℕ, ◌+◌, ◌≤◌, ◌==◌, ◌&&◌, not, if◌then◌else◌, Bool, true, false, List, [], ◌∷◌, filter, length, None, replicate, Result, Ok, Err, OnOk, arith, ap, sym, ◌∙◌, subst, eq-eqb, both_ways, has, has-filter, ArrayVec, Cycle, Pool, Tally, Activity, sitter, IsSelected, TookEffect, KeepsParts, StaysSeated, Want, Authority, locked, rolled, with_pool}
+use Rattle.activations.proofs.Common.{ne_eqb, and-false, ◌≡◌, refl, ℕ, ◌+◌, ◌≤◌, ◌==◌, ◌&&◌, not, if◌then◌else◌, Bool, true, false, List, [], ◌∷◌, filter, length, None, replicate, Result, Ok, Err, OnOk, arith, ap, sym, ◌∙◌, subst, eq-eqb, both_ways, has, has-filter, ArrayVec, Cycle, Pool, Tally, Activity, sitter, IsSelected, TookEffect, KeepsParts, StaysSeated, Want, Authority, locked, rolled, with_pool, Ghosts, FewerLater, asks_on}
+use Rattle.activations.specs.Stages.{KeepsAll, KeepsSound}
 
 -- none more are left of those but one
 pub no-more : (taken : List ℕ) (seat : ℕ) → length (filter (λ other. not (other == seat)) taken) ≤ length taken
@@ -110,3 +111,11 @@ keeps-less a b few more less keeps = record {
   fewer = keeps.fewer;
   rows = λ rows within seat below. let here = keeps.rows rows within seat below in omega (arith, here, less);
 }
+
+-- one stage after another, which may call the disk or not
+pub keeps-all-on : {W : Type 0} (G : Ghosts W) (fewer_later : FewerLater G) (a b c : Activity) (u v w : W) → KeepsAll G a b 0 u v → KeepsAll G b c 0 v w → KeepsAll G a c 0 u w
+keeps-all-on G fewer_later a b c u v w first second =
+    record { sound = second.sound; asks = asks_on G fewer_later u v w first.asks second.asks; parts = keeps-two a b c first.parts second.parts }
+
+pub keeps-all-then : {W : Type 0} (G : Ghosts W) (a b c : Activity) (u v : W) → KeepsAll G a b 0 u v → KeepsSound b c 0 → KeepsAll G a c 0 u v
+keeps-all-then G a b c u v first second = record { sound = second.sound; asks = first.asks; parts = keeps-two a b c first.parts second.parts }

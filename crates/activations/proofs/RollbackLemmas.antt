@@ -19,7 +19,7 @@ wrote-due a seat committed = wrote-held a seat (due_to (store_over a committed) 
 
 -- the lines of the pages into which he wrote are those that he holds to write
 pub of-held : (a : Activity) (seat : ℕ) (pages : List ℕ) (lines : Lines) → IsSound a → AreAlike (locks_in a seat) lines
-    → AreWritten a seat pages → (line : ℕ) → is_of pages (wrote a seat) line ≡ has lines.writes line
+    → AreWritten a.seating.holding seat pages → (line : ℕ) → is_of pages (wrote a seat) line ≡ has lines.writes line
 of-held a seat pages lines sound alike written line = by_test (has (wrote a seat (page_of_line line)) (line % 16)) refl ∙ wrote-held a seat lines sound alike line
   where
     by_test : (wrote_it : Bool) → has (wrote a seat (page_of_line line)) (line % 16) ≡ wrote_it → (has pages (page_of_line line) && has (wrote a seat (page_of_line line)) (line % 16)) ≡ has (wrote a seat (page_of_line line)) (line % 16)
@@ -27,7 +27,7 @@ of-held a seat pages lines sound alike written line = by_test (has (wrote a seat
     by_test false e = ap (λ (b : Bool). has pages (page_of_line line) && b) e ∙ and-false (has pages (page_of_line line)) ∙ sym e
 
 pub of-written : (a : Activity) (seat : ℕ) (pages : List ℕ) (committed : List ℕ) → IsSound a → AreAlike (locks_in a seat) (due_to (store_over a committed) (entry_in a seat))
-    → AreWritten a seat pages → (line : ℕ) → is_of pages (wrote a seat) line ≡ has (due_to (store_over a committed) (entry_in a seat)).writes line
+    → AreWritten a.seating.holding seat pages → (line : ℕ) → is_of pages (wrote a seat) line ≡ has (due_to (store_over a committed) (entry_in a seat)).writes line
 of-written a seat pages committed = of-held a seat pages (due_to (store_over a committed) (entry_in a seat))
 
 -- Once these lines were forgotten a pool marks them no more and shows them as committed; the others it marks and shows as before.
@@ -130,7 +130,7 @@ module _ (a : Activity) (seat : ℕ) (pool : Pool) (committed : List ℕ) (sound
 module _ (a : Activity) (seat : ℕ) (pool : Pool) (pages : List ℕ) (committed : List ℕ)
     (sound : IsSound a) (taken : has a.seating.taken seat ≡ true)
     (consistent : AreConsistent (store_over a committed) a.most_lines a.next (entries a)) (kept : IsKept a committed)
-    (written : AreWritten a seat pages) (were : WereUndone (wrote a seat) pages a.reach.pool pool)
+    (written : AreWritten a.seating.holding seat pages) (were : WereUndone (wrote a seat) pages a.reach.pool pool)
     (are : AreAsCommitted a.reach.directory (wrote a seat) pages a.reach.pool pool committed) where
   abbrev due : List ℕ
   due = (due_to (store_over a committed) (entry_in a seat)).writes

@@ -1,8 +1,8 @@
 -- A row that was served takes effect: its pages are there, its lines are locked and granted, and its second attempt went.
-use Rattle.activations.proofs.Common.{◌≡◌, refl, ℕ, ◌+◌, ◌-◌, ◌%◌, ◌<◌, ◌==◌, ◌||◌, if◌then◌else◌, Bool, true, false, List, [], map, slice_index_or, Some, arith, ap, sym, ◌∙◌, subst, eq-eqb, both_ways, is_fine_page, FlatStore, has, Lines, no_lines, page_of_line, both, with_whole_pages, wanted, Want, with_wants, of_seat, Authority, Plain, On, row, after, touched, Pool, Desk, Entry, Word, Counts, Attempt, Turning, Going, Fetched, Fine, fetches, touched_pages, with_grants, lowered, locks_with, AreAlike, AreMarked, IsState, over_all, requested, by_number, owners_told, gone_on, row_done, IsAmong, due_to, IsCurrent, IsOrderly, wanted-is, replaced, one-entry, due-more, marked-row, seat-told, told-replaced, at-number, got, WentOn, gets-goes, sitter, taken-below, other-with, is_line_marked, private_bytes, Keeps, plain_over, Live, Activity, live_in, program_in, entry_in, entries, store_over, desk_over, authority_under, number_under, lines_held, locks_in, request_for, request_in, state_in, shown, IsSound, IsFree, Goes, locked, with_entries, counted, executed, with_pool, IsMoved, HasExecuted, with_whole_page}
+use Rattle.activations.proofs.Common.{◌≡◌, refl, ℕ, ◌+◌, ◌-◌, ◌%◌, ◌<◌, ◌==◌, ◌||◌, if◌then◌else◌, Bool, true, false, List, [], map, slice_index_or, Some, arith, ap, sym, ◌∙◌, subst, eq-eqb, both_ways, is_fine_page, FlatStore, has, Lines, no_lines, page_of_line, both, with_whole_pages, wanted, Want, with_wants, of_seat, Authority, Plain, On, row, after, touched, Pool, Desk, Entry, Word, Counts, Attempt, Turning, Going, Fetched, Fine, fetches, touched_pages, with_grants, lowered, locks_with, AreAlike, AreMarked, IsState, over_all, requested, owners_told, gone_on, row_done, IsAmong, due_to, IsCurrent, IsOrderly, wanted-is, replaced, one-entry, due-more, marked-row, seat-told, told-replaced, at-number, got, WentOn, gets-goes, sitter, taken-below, other-with, is_line_marked, private_bytes, Keeps, plain_over, Live, Activity, live_in, program_in, entry_in, entries, store_over, desk_over, authority_under, number_under, lines_held, locks_in, request_for, request_in, state_in, shown, IsSound, IsFree, Goes, locked, with_entries, counted, executed, with_pool, IsMoved, HasExecuted, with_whole_page}
 use Rattle.flat_machine.specs.Due.{touched_within}
 use Rattle.activations.proofs.CommitLemmas.{told-kept}
-use Rattle.activations.proofs.ContestLemmas.{orderly-other}
+use Rattle.activations.proofs.ContestLemmas.{locks_told, orderly-other, requests_told, states_told}
 use Rattle.activations.proofs.SittingLemmas.{by_seat, sitter-other, entry-counted, entry-other, under-counted, live-other, live-there}
 
 module _ (begins : Word → Turning) (attempt : Attempt) (refused : List ℕ) (a : Activity) (seat : ℕ) (committed : List ℕ) (order : List (ℕ × ℕ)) (counts : Counts)
@@ -72,20 +72,11 @@ module _ (begins : Word → Turning) (attempt : Attempt) (refused : List ℕ) (a
           out = (live_in a seat).out;
         }
 
-    abbrev locks : ℕ → Lines
-    locks = by_number a.seating.taken (entry_in a) (locks_in a) no_lines
-
-    abbrev requests : ℕ → Lines
-    requests = by_number a.seating.taken (entry_in a) (request_in a) no_lines
-
-    abbrev states : ℕ → Plain
-    states = by_number a.seating.taken (entry_in a) (state_in a) (state_in a 16)
-
     abbrev more : ℕ → Lines
-    more at = if at == attempt.entry.number then locks_in (locked a seat wants owned) seat else locks at
+    more at = if at == attempt.entry.number then locks_in (locked a seat wants owned) seat else locks_told a at
 
     abbrev new : ℕ → Plain
-    new at = if at == attempt.entry.number then left else states at
+    new at = if at == attempt.entry.number then left else states_told a at
 
     due : due_to store (gone_on attempt.entry) ≡ locks_with attempt old
     due = due-more store attempt.entry ∙ ap (λ (l : Lines). with_whole_pages (is_fine_page a.reach.directory) (both (touched_within attempt.entry.runs.program attempt.entry.runs.args store attempt.entry.rows) l)) (sym free.ready.lines)
@@ -95,18 +86,18 @@ module _ (begins : Word → Turning) (attempt : Attempt) (refused : List ℕ) (a
 
     more-mine : AreAlike (more attempt.entry.number) (due_to store (gone_on attempt.entry))
     more-mine =
-        subst (λ (l : Lines). AreAlike l (due_to store (gone_on attempt.entry))) (sym (ap (λ (b : Bool). if b then locks_in (locked a seat wants owned) seat else locks attempt.entry.number) mine))
+        subst (λ (l : Lines). AreAlike l (due_to store (gone_on attempt.entry))) (sym (ap (λ (b : Bool). if b then locks_in (locked a seat wants owned) seat else locks_told a attempt.entry.number) mine))
         (subst (AreAlike (locks_in (locked a seat wants owned) seat)) (sym due) alike)
 
-    went-on : WentOn begins (row_done attempt (got attempt refused pool.resident old)) (record counts { pages = counted_pages; ran = counts.ran + 1 }) more requests new left.store
+    went-on : WentOn begins (row_done attempt (got attempt refused pool.resident old)) (record counts { pages = counted_pages; ran = counts.ran + 1 }) more (requests_told a) new left.store
     went-on =
-        gets-goes begins attempt refused pool.resident old counts counted_pages locks more requests states new next left (shown a committed)
+        gets-goes begins attempt refused pool.resident old counts counted_pages (locks_told a) more (requests_told a) (states_told a) new next left (shown a committed)
         free.comes free.ready free.free goes (told-kept a committed sound free.follows.kept) fetched
         (ap (row attempt.entry.runs.program a.reach.directory) shows ∙ ap (λ (e : Entry). row e.runs.program a.reach.directory (plain_over committed (live_in before seat).cpu before.reach (live_in before seat).out)) (sym same) ∙ went.goes.goes)
         more-mine
-        (record { kept = λ at differs. ap (λ (b : Bool). if b then locks_in (locked a seat wants owned) seat else locks at) differs })
-        (ap (λ (b : Bool). if b then left else states attempt.entry.number) mine)
-        (λ at differs. ap (λ (b : Bool). if b then left else states at) differs)
+        (record { kept = λ at differs. ap (λ (b : Bool). if b then locks_in (locked a seat wants owned) seat else locks_told a at) differs })
+        (ap (λ (b : Bool). if b then left else states_told a attempt.entry.number) mine)
+        (λ at differs. ap (λ (b : Bool). if b then left else states_told a at) differs)
 
     -- the entries and the desk after it
     entry-done : entry_in done seat ≡ gone_on attempt.entry
@@ -140,18 +131,18 @@ module _ (begins : Word → Turning) (attempt : Attempt) (refused : List ℕ) (a
 
     locks-done : (at : ℕ) → has a.seating.taken at ≡ true → more (entry_in done at).number ≡ locks_in done at
     locks-done = by_seat {P = λ at. more (entry_in done at).number ≡ locks_in done at} a.seating.taken seat
-        (ap more number-done ∙ ap (λ (b : Bool). if b then locks_in (locked a seat wants owned) seat else locks attempt.entry.number) mine)
+        (ap more number-done ∙ ap (λ (b : Bool). if b then locks_in (locked a seat wants owned) seat else locks_told a attempt.entry.number) mine)
         (λ at inside differs.
-        ap (λ (b : Bool). if b then locks_in (locked a seat wants owned) seat else locks (entry_in done at).number) (other-number at inside differs)
-        ∙ ap (λ (e : Entry). locks e.number) (entry-others at differs)
+        ap (λ (b : Bool). if b then locks_in (locked a seat wants owned) seat else locks_told a (entry_in done at).number) (other-number at inside differs)
+        ∙ ap (λ (e : Entry). locks_told a e.number) (entry-others at differs)
         ∙ at-number a.seating.taken (entry_in a) (locks_in a) no_lines at sound.seats inside
         ∙ ap lines_held (sym (other-with a.seating.holding seat (with_wants (of_seat a.seating.holding seat) (map (with_whole_page a.reach.directory) wants)) sound.seating.whole at differs)))
 
-    requests-done : (at : ℕ) → has a.seating.taken at ≡ true → (entry_in done at).waiting ≡ true → requests (entry_in done at).number ≡ request_in done at
-    requests-done = by_seat {P = λ at. (entry_in done at).waiting ≡ true → requests (entry_in done at).number ≡ request_in done at} a.seating.taken seat
+    requests-done : (at : ℕ) → has a.seating.taken at ≡ true → (entry_in done at).waiting ≡ true → requests_told a (entry_in done at).number ≡ request_in done at
+    requests-done = by_seat {P = λ at. (entry_in done at).waiting ≡ true → requests_told a (entry_in done at).number ≡ request_in done at} a.seating.taken seat
         (λ waits. absurd (both_ways (entry_in done seat).waiting (ap (λ (e : Entry). e.waiting) entry-done) waits))
         (λ at inside differs waits.
-        ap (λ (e : Entry). requests e.number) (entry-others at differs)
+        ap (λ (e : Entry). requests_told a e.number) (entry-others at differs)
         ∙ at-number a.seating.taken (entry_in a) (request_in a) no_lines at sound.seats inside
         ∙ ap request_for (sym (sitter-other a.seating seat _ at differs)))
 
@@ -174,11 +165,11 @@ module _ (begins : Word → Turning) (attempt : Attempt) (refused : List ℕ) (a
     states-done : (at : ℕ) → has a.seating.taken at ≡ true → IsState store (entry_in done at) (state_in done at)
     states-done = by_seat {P = λ at. IsState store (entry_in done at) (state_in done at)} a.seating.taken seat
         (shown-as left (state_in done seat) store (entry_in done seat) left-is
-        (subst (IsState store (entry_in done seat)) (ap new number-done ∙ ap (λ (b : Bool). if b then left else states attempt.entry.number) mine) (went-on.told.stand (entry_in done seat) (among-done seat taken))))
+        (subst (IsState store (entry_in done seat)) (ap new number-done ∙ ap (λ (b : Bool). if b then left else states_told a attempt.entry.number) mine) (went-on.told.stand (entry_in done seat) (among-done seat taken))))
         (λ at inside differs.
         subst (IsState store (entry_in done at))
-        (ap (λ (b : Bool). if b then left else states (entry_in done at).number) (other-number at inside differs)
-        ∙ ap (λ (e : Entry). states e.number) (entry-others at differs)
+        (ap (λ (b : Bool). if b then left else states_told a (entry_in done at).number) (other-number at inside differs)
+        ∙ ap (λ (e : Entry). states_told a e.number) (entry-others at differs)
         ∙ at-number a.seating.taken (entry_in a) (state_in a) (state_in a 16) at sound.seats inside
         ∙ state-other at inside differs)
         (went-on.told.stand (entry_in done at) (among-done at inside)))

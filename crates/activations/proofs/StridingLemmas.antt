@@ -77,6 +77,11 @@ module _ (a : Activity) (seat rows : ℕ) (live next : Live) (reach new : Reach)
     parts = subst (λ (x : Activity). KeepsParts a x 0) (sym same) so.parts;
   }
 
+  -- which is what an attempt came to
+  pub strode-halted : (attempt : Attempt) → WasAttempted attempt (with_live a seat live reach) seat (with_live (with_live a seat live reach) seat next new)
+      → (WasAttempted attempt (with_live a seat live reach) seat (with_live a seat next new) → with_live a seat next new ≡ with_live a seat live reach) → StrodeTo a seat rows next new
+  strode-halted attempt went leads = strode-same (leads (attempted-again attempt went))
+
 -- a commit call and a check change nothing
 pub came-either : (attempt : Attempt) (a after : Activity) (seat : ℕ) → (attempt ≡ Attempt.Commit) ⊎ ((code : ℕ) × (attempt ≡ Attempt.Check code)) → WasAttempted attempt a seat after → after ≡ a
 came-either attempt a after seat (inl is) went = (subst (λ (one : Attempt). WasAttempted one a seat after) is went).0

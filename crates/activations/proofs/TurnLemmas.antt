@@ -1,8 +1,10 @@
 -- The rows of a turn, instruction by instruction.
-use Rattle.activations.proofs.Common.{◌≡◌, refl, ℕ, suc, ◌+◌, ◌-◌, ◌<◌, ◌≤◌, true, List, length, arith, ap, sym, ◌∙◌, subst, nat_tests, has, Ghosts, ending_told, Desk, Word, ReadFailed, Counts, Turning, Going, Ending, Limit, Disk, turns, TurnEnd, Reads, IsAmong, IsOrderly, seat-told, Seating, number_in, taken-below, Tally, Activity, entry_in, entries, desk_over, Strode, IsSound, KeepsDesk, GoesUncounted, IsEndOfRows, KeepsParts, StaysSeated, ComesToEnd, instruction_in, counted, HasBroken, HasEnded, tally_counts, IsAtCommit, IsTurning, selected_in, turn_in, commit_call}
+use Rattle.activations.proofs.Common.{◌≡◌, refl, ℕ, suc, ◌+◌, ◌-◌, ◌<◌, ◌≤◌, true, List, length, arith, ap, sym, ◌∙◌, subst, nat_tests, has, Ghosts, ending_told, Desk, Word, ReadFailed, Counts, Turning, Going, Ending, Limit, Disk, turns, TurnEnd, Reads, IsAmong, IsOrderly, seat-told, Seating, number_in, taken-below, Tally, Activity, entry_in, entries, desk_over, Strode, IsSound, KeepsDesk, GoesUncounted, IsEndOfRows, KeepsParts, StaysSeated, ComesToEnd, instruction_in, counted, HasBroken, HasEnded, tally_counts, IsAtCommit, IsTurning, selected_in, turn_in, commit_call, FewerLater, OnlyAsks, asks_on, KeptStore, IsStoreOf}
 use Rattle.desk_law.proofs.TurnLoop.{turning-goes, turning-ends, turning-commits, turning-limit}
 use Rattle.desk.specs.declared.answers.TurnEnd.TheVariants as end
 use Rattle.desk_law.proofs.TurnLoop as law
+use Rattle.activations.specs.Stages.{KeepsAll}
+use Rattle.activations.proofs.BringLemmas.{store-on}
 use Rattle.activations.proofs.KeptLemmas.{keeps-less, keeps-on, keeps-two}
 use Rattle.activations.proofs.RowLemmas.{orderly-order}
 use Rattle.activations.proofs.SittingLemmas.{number-counted}
@@ -133,3 +135,19 @@ pub keeps-within : (a first old back new : Activity) (seat limit left : ℕ) →
 keeps-within a first old back new seat limit left shape so_far step more =
     keeps-selected a new seat limit
     (subst (λ (x : Activity). KeepsParts x new limit) shape (keeps-less first new (limit - left + 0) limit (omega arith) (keeps-on first old new (limit - left) 0 so_far (keeps-two old back new step more))))
+
+-- and of all that a turn keeps
+pub keeps-ran : {W : Type 0} (G : Ghosts W) (fewer_later : FewerLater G) (a first old back new : Activity) (seat limit left : ℕ) (u v w x : W) → first ≡ selected_in a seat → OnlyAsks G u v → KeepsParts first old (limit - left)
+    → KeepsAll G old back 0 v w → KeepsAll G back new 0 w x → KeepsAll G a new limit u x
+keeps-ran G fewer_later a first old back new seat limit left u v w x shape asks so_far step more = record {
+  sound = more.sound;
+  asks = asks_on G fewer_later u w x (asks_on G fewer_later u v w asks step.asks) more.asks;
+  parts = keeps-within a first old back new seat limit left shape so_far step.parts more.parts;
+}
+
+-- what a turn comes to so far, over a disk that was only asked
+pub so-far : {W : Type 0} (G : Ghosts W) (fewer_later : FewerLater G) (store : KeptStore) (u v w : W) (committed : List ℕ) (P Q : Type 0) → OnlyAsks G u v → OnlyAsks G v w → IsStoreOf G store u committed
+    → (IsStoreOf G store v committed → P → Q) → P → IsStoreOf G store w committed × Q
+so-far G fewer_later store u v w committed P Q asks step is leads so =
+    let here = store-on G fewer_later store u v committed asks is in
+    (store-on G fewer_later store v w committed step here, leads here so)

@@ -1,5 +1,5 @@
 -- The pages into which a seat wrote, one after another.
-use Rattle.activations.proofs.Common.{inr, inl, cases_lt, and-true, arith, ap, sym, ◌∙◌, subst, eq-eqb, both_ways, and_parts, and_from, or_left, or_right, nat_tests, append-nil, take_more, get_or_past, All-get_or, filter-append, Layout, byte_count, page_count, line_of, has, page_of_line, has-filter, holds_some, nothing, Holding, IsWhole, held_at, of_seat, has-at, Pool, undone, settled, Reach, IsClean, is_line_marked, bytes_over, Fits, Keeps, HasUndone, HasSettled, WereUndone, AreAsCommitted, WereSettled, ◌≡◌, refl, ℕ, suc, ◌+◌, ◌%◌, ◌<◌, ◌==◌, not, if◌then◌else◌, Bool, true, false, List, [], ◌∷◌, ◌++◌, filter, length, slice_index, take, slice_index_or}
+use Rattle.activations.proofs.Common.{inr, inl, cases_lt, and-true, arith, ap, sym, ◌∙◌, subst, eq-eqb, both_ways, and_parts, and_from, or_left, or_right, nat_tests, append-nil, take_more, get_or_past, All-get_or, filter-append, Layout, byte_count, page_count, line_of, has, page_of_line, has-filter, holds_some, nothing, Holding, IsWhole, held_at, of_seat, has-at, Pool, undone, settled, Reach, IsClean, is_line_marked, bytes_over, Fits, Keeps, AreWritten, HasUndone, HasSettled, WereUndone, AreAsCommitted, WereSettled, ◌≡◌, refl, ℕ, suc, ◌+◌, ◌%◌, ◌<◌, ◌==◌, not, if◌then◌else◌, Bool, true, false, List, [], ◌∷◌, ◌++◌, filter, length, slice_index, take, slice_index_or}
 use Rattle.storage_unit.proofs.UndoForgets.{undo-forgets}
 use Rattle.storage_unit.proofs.SettleKeeps.{settle-keeps}
 use Rattle.activations.proofs.CommitLemmas.{were-settled, settled-unseen}
@@ -15,63 +15,67 @@ written_in lines pages = filter (λ page. not (length (lines page) == 0)) pages
 
 -- the pages so far have gone out
 pub record UndoneSo (lines : ℕ → List ℕ) (pages : List ℕ) (old new : Reach) : Type 0 where
-  pub rest : new ≡ record old { pool = new.pool }
   pub were : WereUndone lines pages old.pool new.pool
   pub are : (committed : List ℕ) → length committed ≡ byte_count old.directory → IsClean old.directory old.pool committed → AreAsCommitted old.directory lines pages old.pool new.pool committed
 
 -- their lines are marked no more
 pub record SettledSo (lines : ℕ → List ℕ) (pages : List ℕ) (old new : Reach) : Type 0 where
-  pub rest : new ≡ record old { pool = new.pool }
   pub were : WereSettled lines pages old.pool new.pool
   pub keeps : (committed : List ℕ) → IsClean old.directory old.pool committed
       → ((place : ℕ) → place < byte_count old.directory → has (lines (page_of_line (line_of old.directory place))) (line_of old.directory place % 16) ≡ true
       → slice_index (bytes_over old.directory old.pool committed) place ≡ slice_index committed place)
       → Keeps old.directory old.pool new.pool committed
 
--- one more
+-- the one where what was written isn't committed, the other where it is
+pub record WrittenSo (committed : Bool) (lines : ℕ → List ℕ) (pages : List ℕ) (old new : Reach) : Type 0 where
+  pub rest : new ≡ record old { pool = new.pool }
+  pub undone : committed ≡ false → UndoneSo lines pages old new
+  pub settled : committed ≡ true → SettledSo lines pages old new
+
 module _ (lines : ℕ → List ℕ) (old : Reach) where
-  pub undone-none : UndoneSo lines [] old old
-  undone-none = record {
+  pub written-none : (committed : Bool) → WrittenSo committed lines [] old old
+  written-none committed = record {
     rest = refl;
-    were = record { marks = λ line. sym (and-true (is_line_marked old.pool line)); resident = sym (filter-all old.pool.resident); bytes = refl; size = refl; frames = refl };
-    are = λ committed long clean. record { bytes = λ place within. refl; clean = clean };
+    undone = λ not. record {
+      were = record { marks = λ line. sym (and-true (is_line_marked old.pool line)); resident = sym (filter-all old.pool.resident); bytes = refl; size = refl; frames = refl };
+      are = λ committed long clean. record { bytes = λ place within. refl; clean = clean };
+    };
+    settled = λ is. record {
+      were = record { marks = λ line. sym (and-true (is_line_marked old.pool line)); rest = refl };
+      keeps = λ committed clean as_committed. record { same = refl; clean = clean };
+    };
   }
 
-  pub settled-none : SettledSo lines [] old old
-  settled-none = record {
-    rest = refl;
-    were = record { marks = λ line. sym (and-true (is_line_marked old.pool line)); rest = refl };
-    keeps = λ committed clean as_committed. record { same = refl; clean = clean };
-  }
+  -- one more
+  module _ (pages : List ℕ) (now next : Reach) (page : ℕ) (fits : Fits now.directory now.pool) (below : page < page_count old.directory) (rest : now ≡ record old { pool = now.pool }) where
+    here : Fits old.directory now.pool
+    here = subst (λ (d : Layout). Fits d now.pool) (ap (λ (r : Reach). r.directory) rest) fits
 
-  module _ (pages : List ℕ) (now next : Reach) (page : ℕ) (fits : Fits now.directory now.pool) (below : page < page_count now.directory) where
-    here : now ≡ record old { pool = now.pool } → Fits old.directory now.pool
-    here rest = subst (λ (d : Layout). Fits d now.pool) (ap (λ (r : Reach). r.directory) rest) fits
+    shape : (pool : Pool) → next ≡ record now { pool = pool } → next ≡ record old { pool = pool }
+    shape pool is = is ∙ ap (λ (r : Reach). (let new : Reach = record r { pool = pool } in new)) rest
 
-    within : now ≡ record old { pool = now.pool } → page < page_count old.directory
-    within rest = subst (λ (d : Layout). page < page_count d) (ap (λ (r : Reach). r.directory) rest) below
+    undone-more : UndoneSo lines pages old now → UndoneSo lines (pages ++ page ∷ []) old (record old { pool = undone now.pool page (lines page) })
+    undone-more so = record {
+      were = were-undone old.directory lines pages old.pool now.pool here page below so.were;
+      are = λ committed long clean. are-as-committed old.directory lines pages old.pool now.pool here page below undo-forgets committed long (so.are committed long clean);
+    }
 
-    shape : (pool : Pool) → now ≡ record old { pool = now.pool } → next ≡ record now { pool = pool } → next ≡ record old { pool = pool }
-    shape pool rest is = is ∙ ap (λ (r : Reach). (let new : Reach = record r { pool = pool } in new)) rest
+    settled-more : SettledSo lines pages old now → SettledSo lines (pages ++ page ∷ []) old (record old { pool = settled now.pool page (lines page) })
+    settled-more so = record {
+      were = were-settled old.directory lines pages old.pool now.pool here page below so.were;
+      keeps = λ committed clean as_committed.
+          settled-unseen settle-keeps old.directory lines old.pool now.pool committed here page below as_committed (so.keeps committed clean as_committed);
+    }
 
-    pub undone-more : UndoneSo lines pages old now → next ≡ record now { pool = undone now.pool page (lines page) } → UndoneSo lines (pages ++ page ∷ []) old next
-    undone-more so is =
-        subst (UndoneSo lines (pages ++ page ∷ []) old) (sym (shape (undone now.pool page (lines page)) so.rest is))
-        (record {
-          rest = refl;
-          were = were-undone old.directory lines pages old.pool now.pool (here so.rest) page (within so.rest) so.were;
-          are = λ committed long clean. are-as-committed old.directory lines pages old.pool now.pool (here so.rest) page (within so.rest) undo-forgets committed long (so.are committed long clean);
-        })
+    pub written-undone : {committed : Bool} → committed ≡ false → next ≡ record now { pool = undone now.pool page (lines page) } → WrittenSo committed lines pages old now → WrittenSo committed lines (pages ++ page ∷ []) old next
+    written-undone {committed} not is so =
+        subst (WrittenSo committed lines (pages ++ page ∷ []) old) (sym (shape (undone now.pool page (lines page)) is))
+        (record { rest = refl; undone = λ same. undone-more (so.undone same); settled = λ same. absurd (cc (not, same)) })
 
-    pub settled-more : SettledSo lines pages old now → next ≡ record now { pool = settled now.pool page (lines page) } → SettledSo lines (pages ++ page ∷ []) old next
-    settled-more so is =
-        subst (SettledSo lines (pages ++ page ∷ []) old) (sym (shape (settled now.pool page (lines page)) so.rest is))
-        (record {
-          rest = refl;
-          were = were-settled old.directory lines pages old.pool now.pool (here so.rest) page (within so.rest) so.were;
-          keeps = λ committed clean as_committed.
-              settled-unseen settle-keeps old.directory lines old.pool now.pool committed (here so.rest) page (within so.rest) as_committed (so.keeps committed clean as_committed);
-        })
+    pub written-settled : {committed : Bool} → committed ≡ true → next ≡ record now { pool = settled now.pool page (lines page) } → WrittenSo committed lines pages old now → WrittenSo committed lines (pages ++ page ∷ []) old next
+    written-settled {committed} is was so =
+        subst (WrittenSo committed lines (pages ++ page ∷ []) old) (sym (shape (settled now.pool page (lines page)) was))
+        (record { rest = refl; undone = λ same. absurd (cc (is, same)); settled = λ same. settled-more (so.settled same) })
 
 -- one page more that is gone over
 pub written-more : (lines : ℕ → List ℕ) (pages : List ℕ) (at : ℕ) → at < length pages → (some : Bool) → (not (length (lines (slice_index_or pages at 0)) == 0)) ≡ some
@@ -97,6 +101,17 @@ page-held holding locks seat pages at is whole below before each =
     held-below holding seat (slice_index_or pages at 0) whole below
     (ap (λ (h : Holding). holds_some (held_at h seat (slice_index_or pages at 0))) (sym is) ∙ sym (each (slice_index_or pages at 0)) ∙ has-at pages at 0 before)
 
+-- and is one of the unit's, of whose pages some have gone already
+pub page-there : (holding locks : Holding) (seat : ℕ) (pages : List ℕ) (at : ℕ) → locks ≡ holding → IsWhole holding → seat < 16 → at < length pages
+    → ((page : ℕ) → has pages page ≡ holds_some (held_at locks seat page)) → (old now : Reach) → holding.pages ≡ page_count old.directory → now ≡ record old { pool = now.pool }
+    → slice_index_or pages at 0 < page_count now.directory
+page-there holding locks seat pages at is whole below before each old now same rest =
+    subst (λ (n : ℕ). slice_index_or pages at 0 < n) (same ∙ sym (ap (λ (r : Reach). page_count r.directory) rest)) (page-held holding locks seat pages at is whole below before each)
+
+-- the lines that are held of it
+pub writes-are : (holding locks : Holding) (seat page : ℕ) (held : List ℕ × List ℕ) → held ≡ held_at locks seat page → locks ≡ holding → held.1 ≡ lines_of holding seat page
+writes-are holding locks seat page held is same = ap (λ (both : List ℕ × List ℕ). both.1) (is ∙ ap (λ (h : Holding). held_at h seat page) same)
+
 -- who holds a line of a page holds some
 pub some-line : (set : List ℕ) (line : ℕ) → has set line ≡ true → not (length set == 0) ≡ true
 some-line [] line inside = absurd (both_ways false refl inside)
@@ -120,11 +135,15 @@ module _ (holding : Holding) (seat : ℕ) (pages : List ℕ) (each : (page : ℕ
       first-line (lines_of holding seat page)
       (and_parts (has pages page) (not (length (lines_of holding seat page) == 0)) (sym (has-filter (λ page. not (length (lines_of holding seat page) == 0)) pages page) ∙ inside)).1
 
-  pub has-undone : (old new : Reach) → UndoneSo (lines_of holding seat) (written_in (lines_of holding seat) pages) old new → HasUndone holding seat old new
-  has-undone old new so = record { pages = written_in (lines_of holding seat) pages; all = all; only = only; rest = so.rest; were = so.were; are = so.are }
+  are-written : AreWritten holding seat (written_in (lines_of holding seat) pages)
+  are-written = record { all = all; only = only }
 
-  pub has-settled : (old new : Reach) → SettledSo (lines_of holding seat) (written_in (lines_of holding seat) pages) old new → HasSettled holding seat old new
-  has-settled old new so = record { pages = written_in (lines_of holding seat) pages; all = all; only = only; rest = so.rest; were = so.were; keeps = so.keeps }
+  module _ (committed : Bool) (old new : Reach) (so : WrittenSo committed (lines_of holding seat) (written_in (lines_of holding seat) pages) old new) where
+    pub has-undone : committed ≡ false → HasUndone holding seat old new
+    has-undone not = let undone = so.undone not in record { pages = written_in (lines_of holding seat) pages; written = are-written; rest = so.rest; were = undone.were; are = undone.are }
+
+    pub has-settled : committed ≡ true → HasSettled holding seat old new
+    has-settled is = let settled = so.settled is in record { pages = written_in (lines_of holding seat) pages; written = are-written; rest = so.rest; were = settled.were; keeps = settled.keeps }
 
 -- A step of a loop over pages of which a seat holds something.
 module _ (lines : ℕ → List ℕ) (pages : List ℕ) (at : ℕ) (before : at < length pages) (writes : List ℕ) (is : writes ≡ lines (slice_index_or pages at 0)) where
@@ -140,25 +159,18 @@ module _ (lines : ℕ → List ℕ) (pages : List ℕ) (at : ℕ) (before : at <
   no-more : (length writes == 0) ≡ true → written_in lines (take at pages) ≡ written_in lines (take (at + 1) pages)
   no-more none = sym (written-more lines pages at before false (wrote-is true none) ∙ append-nil (written_in lines (take at pages)))
 
-  module _ (old now next : Reach) where
-    pub undone-same : (length writes == 0) ≡ true → next ≡ now → UndoneSo lines (written_in lines (take at pages)) old now → UndoneSo lines (written_in lines (take (at + 1) pages)) old next
-    undone-same none same so = subst (UndoneSo lines (written_in lines (take (at + 1) pages)) old) (sym same) (subst (λ (these : List ℕ). UndoneSo lines these old now) (no-more none) so)
-
-    pub settled-same : (length writes == 0) ≡ true → next ≡ now → SettledSo lines (written_in lines (take at pages)) old now → SettledSo lines (written_in lines (take (at + 1) pages)) old next
-    settled-same none same so = subst (SettledSo lines (written_in lines (take (at + 1) pages)) old) (sym same) (subst (λ (these : List ℕ). SettledSo lines these old now) (no-more none) so)
+  module _ (committed : Bool) (old now next : Reach) (so : WrittenSo committed lines (written_in lines (take at pages)) old now) where
+    pub written-same : (length writes == 0) ≡ true → next ≡ now → WrittenSo committed lines (written_in lines (take (at + 1) pages)) old next
+    written-same none same =
+        subst (WrittenSo committed lines (written_in lines (take (at + 1) pages)) old) (sym same) (subst (λ (these : List ℕ). WrittenSo committed lines these old now) (no-more none) so)
 
     module _ (some : (length writes == 0) ≡ false) (fits : Fits now.directory now.pool) (below : page < page_count old.directory) where
-      below-now : now ≡ record old { pool = now.pool } → page < page_count now.directory
-      below-now rest = subst (λ (d : Layout). page < page_count d) (sym (ap (λ (r : Reach). r.directory) rest)) below
+      pub undone-step : committed ≡ false → next ≡ record now { pool = undone now.pool page writes } → WrittenSo committed lines (written_in lines (take (at + 1) pages)) old next
+      undone-step not went =
+          subst (λ (these : List ℕ). WrittenSo committed lines these old next) (one-more some)
+          (written-undone lines old (written_in lines (take at pages)) now next page fits below so.rest not (went ∙ (λ i. record now { pool = undone now.pool page (is i) })) so)
 
-      pub undone-step : next ≡ record now { pool = undone now.pool page writes } → UndoneSo lines (written_in lines (take at pages)) old now → UndoneSo lines (written_in lines (take (at + 1) pages)) old next
-      undone-step went so =
-          subst (λ (these : List ℕ). UndoneSo lines these old next) (one-more some)
-          (undone-more lines old (written_in lines (take at pages)) now next page fits (below-now so.rest) so
-          (went ∙ (λ i. record now { pool = undone now.pool page (is i) })))
-
-      pub settled-step : next ≡ record now { pool = settled now.pool page writes } → SettledSo lines (written_in lines (take at pages)) old now → SettledSo lines (written_in lines (take (at + 1) pages)) old next
-      settled-step went so =
-          subst (λ (these : List ℕ). SettledSo lines these old next) (one-more some)
-          (settled-more lines old (written_in lines (take at pages)) now next page fits (below-now so.rest) so
-          (went ∙ (λ i. record now { pool = settled now.pool page (is i) })))
+      pub settled-step : committed ≡ true → next ≡ record now { pool = settled now.pool page writes } → WrittenSo committed lines (written_in lines (take (at + 1) pages)) old next
+      settled-step here went =
+          subst (λ (these : List ℕ). WrittenSo committed lines these old next) (one-more some)
+          (written-settled lines old (written_in lines (take at pages)) now next page fits below so.rest here (went ∙ (λ i. record now { pool = settled now.pool page (is i) })) so)

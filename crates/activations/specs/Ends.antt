@@ -11,7 +11,7 @@ use Rattle.storage_unit.specs.Laws.{Keeps}
 use Rattle.desk.specs.Run.{restarted}
 use Rattle.activations.specs.Activity.{Activity, live_in, desk_over}
 use Rattle.activations.specs.Follows.{KeepsDesk}
-use Rattle.activations.specs.Steps.{WereUndone, AreAsCommitted, WereSettled}
+use Rattle.activations.specs.Steps.{AreWritten, WereUndone, AreAsCommitted, WereSettled}
 
 -- some were rolled back: what is left follows the desk, of which a crash leaves what it left before
 pub record WereRolled (old new : Activity) (committed : List ℕ) : Type 0 where
@@ -37,8 +37,7 @@ pub record IsDeserted (old new : Activity) : Type 0 where
 -- committed.
 pub record HasUndone (holding : Holding) (seat : ℕ) (old new : Reach) : Type 0 where
   pub pages : List ℕ
-  pub all : (page line : ℕ) → has (held_at holding seat page).1 line ≡ true → has pages page ≡ true
-  pub only : (page : ℕ) → has pages page ≡ true → (line : ℕ) × (has (held_at holding seat page).1 line ≡ true)
+  pub written : AreWritten holding seat pages
   pub rest : new ≡ record old { pool = new.pool }
   pub were : WereUndone (λ page. (held_at holding seat page).1) pages old.pool new.pool
   pub are : (committed : List ℕ) → length committed ≡ byte_count old.directory → IsClean old.directory old.pool committed
@@ -47,8 +46,7 @@ pub record HasUndone (holding : Holding) (seat : ℕ) (old new : Reach) : Type 0
 -- the lines that a seat holds to write are marked no more; where they are as committed then, nothing is seen of it
 pub record HasSettled (holding : Holding) (seat : ℕ) (old new : Reach) : Type 0 where
   pub pages : List ℕ
-  pub all : (page line : ℕ) → has (held_at holding seat page).1 line ≡ true → has pages page ≡ true
-  pub only : (page : ℕ) → has pages page ≡ true → (line : ℕ) × (has (held_at holding seat page).1 line ≡ true)
+  pub written : AreWritten holding seat pages
   pub rest : new ≡ record old { pool = new.pool }
   pub were : WereSettled (λ page. (held_at holding seat page).1) pages old.pool new.pool
   pub keeps : (committed : List ℕ) → IsClean old.directory old.pool committed

@@ -1,5 +1,6 @@
 -- Pages of a touch that come in from the store on the disk.
 use Rattle.std.specs.Prelude.{◌≡◌, ℕ, ◌+◌, ◌<◌, if◌then◌else◌, true, false, List, [], Option, Some, option_to_list}
+use Rattle.line_geometry.specs.Directory.{Layout}
 use Rattle.lock_rules.specs.Resident.{brought}
 use Rattle.lock_rules.specs.Sets.{has}
 use Rattle.frame_pool.specs.declared.model.Pool.{Pool}
@@ -22,6 +23,10 @@ pub record IsStoreOf {W : Type 0} (G : Ghosts W) (store : KeptStore) (outside : 
   pub tracks : TracksStore G store outside
   pub number : ℕ
   pub stood : stands (held_of G outside) ≡ Stands number (record { directory = store.header.directory; bytes = committed })
+
+-- over whatever is committed in the store, of what all see nothing changed
+abbrev pub KeepsStore : {W : Type 0} → Ghosts W → KeptStore → W → Layout → (old new : Pool) → Type 0
+KeepsStore G store outside directory old new = (committed : List ℕ) → IsStoreOf G store outside committed → IsClean directory old committed → Keeps directory old new committed
 
 -- A page that was resident stays, and one that wasn't is counted and has come in. Another that is to stay has stayed.
 pub record IsIn (old new : Pool) (page : ℕ) (keep : Option ℕ) (before after : ℕ) : Type 0 where

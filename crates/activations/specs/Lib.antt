@@ -16,3 +16,4 @@ pub mod Turns
 pub mod Recorded
 pub mod Causes
 pub mod Striding
+pub mod Stages

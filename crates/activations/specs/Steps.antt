@@ -5,7 +5,7 @@ use Rattle.line_geometry.specs.Lines.{line_of}
 use Rattle.lock_rules.specs.Sets.{has}
 use Rattle.lock_rules.specs.Lines.{page_of_line}
 use Rattle.lock_rules.specs.Resident.{taken_out}
-use Rattle.line_locks.specs.Holding.{held_at}
+use Rattle.line_locks.specs.Holding.{Holding, held_at}
 use Rattle.frame_pool.specs.declared.model.Pool.{Pool}
 use Rattle.flat_machine.specs.declared.machine.Plain.{Plain}
 use Rattle.desk_law.specs.Beside.{IsLaid}
@@ -69,10 +69,10 @@ pub record AreAsCommitted (directory : Layout) (lines : ℕ → List ℕ) (pages
       ≡ (if is_of pages lines (line_of directory place) then slice_index committed place else slice_index (bytes_over directory old committed) place)
   pub clean : IsClean directory new committed
 
--- these are the pages into which who sits in a seat wrote
-pub record AreWritten (a : Activity) (seat : ℕ) (pages : List ℕ) : Type 0 where
-  pub all : (page line : ℕ) → has (wrote a seat page) line ≡ true → has pages page ≡ true
-  pub only : (page : ℕ) → has pages page ≡ true → (line : ℕ) × (has (wrote a seat page) line ≡ true)
+-- these are the pages into which who sits in a seat wrote: those of which he holds a line to write
+pub record AreWritten (holding : Holding) (seat : ℕ) (pages : List ℕ) : Type 0 where
+  pub all : (page line : ℕ) → has (held_at holding seat page).1 line ≡ true → has pages page ≡ true
+  pub only : (page : ℕ) → has pages page ≡ true → (line : ℕ) × (has (held_at holding seat page).1 line ≡ true)
 
 -- what is left of a rollback is kept beside the desk after it
 pub record RollsBack (a : Activity) (seat : ℕ) (pool : Pool) (committed : List ℕ) : Type 0 where

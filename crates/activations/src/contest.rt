@@ -13,11 +13,11 @@ use desk::{Cycle, TurnEnd};
 
 impl Activations {
     ghost use Rattle.activations.specs.Activity.{Activity};
-    ghost use Rattle.activations.specs.Causes.{IfVictim};
     ghost use Rattle.activations.specs.Follows.{IsSound};
-    ghost use Rattle.activations.specs.Kept.{KeepsParts, StaysSeated};
+    ghost use Rattle.activations.specs.Kept.{StaysSeated};
     ghost use Rattle.activations.specs.Serving.{IsContested};
-    ghost use Rattle.activations.specs.Turning.{tally_counts, IsSettled, IsContestEnd};
+    ghost use Rattle.activations.specs.Stages.{CountsCycles, EndsContest, KeepsSound};
+    ghost use Rattle.activations.specs.Turning.{tally_counts, IsSettled};
     ghost use Rattle.activations.specs.View.{activity_of};
     ghost use Rattle.line_locks.specs.declared.request.Request.{Request};
     ghost use Rattle.seats.specs.Seating.{number_in, sitter};
@@ -30,13 +30,10 @@ impl Activations {
         requires taken { has (activity_of self.old).seating.taken seat ≡ true }
         requires waits { IsSome (sitter (activity_of self.old).seating seat).waits }
         requires room { array_vec_len tally.old.cycles + length (activity_of self.old).seating.taken ≤ 16 }
-        ensures sound { IsSound (activity_of self.new) }
-        ensures room { array_vec_len tally.new.cycles + length (activity_of self.new).seating.taken ≤ 16 }
-        ensures parts { KeepsParts (activity_of self.old) (activity_of self.new) 0 }
-        ensures tally { tally.new ≡ record tally.old { cycles = tally.new.cycles } }
+        ensures keeps { KeepsSound (activity_of self.old) (activity_of self.new) 0 }
+        ensures counts { CountsCycles (activity_of self.new) tally.old tally.new }
         ensures stays { OnOk result (StaysSeated (activity_of self.old) (activity_of self.new) seat) }
-        ensures ends { IfErr result (IsContestEnd (number_in (activity_of self.old).seating seat)) }
-        ensures victim { IfErr result (IfVictim (number_in (activity_of self.old).seating seat) tally.new.cycles.items) }
+        ensures ends { IfErr result (EndsContest (number_in (activity_of self.old).seating seat) tally.new) }
         ensures settled { (begins : Word → Turning) (attempt : Attempt) (refused : List ℕ) (first : Desk) (committed : List ℕ) (order : List (ℕ × ℕ)) → attempt.entry.number ≡ number_in (activity_of self.old).seating seat → IsContested begins attempt refused first (activity_of self.old) committed order (tally_counts tally.old) → IsSettled result begins attempt refused (activity_of self.new) committed order (tally_counts tally.new) }
     {
         let number = self.seats.sitter(seat).number;

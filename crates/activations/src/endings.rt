@@ -35,8 +35,7 @@ impl Activations {
         ensures undone { HasUndone (activity_of self.old).seating.holding seat (activity_of self.old).reach (record (activity_of self.old).reach { pool = (activity_of self.new).reach.pool }) }
         ensures rolls { (committed : List ℕ) → AreConsistent (store_over (activity_of self.old) committed) (activity_of self.old).most_lines (activity_of self.old).next (entries (activity_of self.old)) → IsKept (activity_of self.old) committed → RollsBack (activity_of self.old) seat (activity_of self.new).reach.pool committed }
     {
-        undo_written(&self.seats, &mut self.unit, seat);
-        self.leave(seat);
+        self.end(seat, false);
     }
 
     /// What was written in a seat is committed now, and who sat in it has ended.
@@ -47,8 +46,7 @@ impl Activations {
         ensures sound { IsSound (activity_of self.new) }
         ensures commits { (committed : List ℕ) (now : Plain) → KeepsDesk (activity_of self.old) committed → after (program_in (activity_of self.old) seat) (entry_in (activity_of self.old) seat).runs.args (store_over (activity_of self.old) committed) (entry_in (activity_of self.old) seat).rows ≡ Some now → row.row (program_in (activity_of self.old) seat) (activity_of self.old).reach.directory (over_all now (shown (activity_of self.old) committed)) ≡ row.Commit → Commits (activity_of self.old) seat (activity_of self.new).reach.pool committed now }
     {
-        settle_written(&self.seats, &mut self.unit, seat);
-        self.leave(seat);
+        self.end(seat, true);
     }
 
     /// All are rolled back, and no page is resident.
@@ -101,6 +99,20 @@ impl Activations {
         swap(&mut self.live[usize::from(seat)].out, out);
     }
 
+    /// Who sits in a seat has ended, with what he wrote committed or forgotten.
+    #[inline(always)]
+    fn end(&mut self, seat: u8, committed: bool)
+        requires sound { IsSound (activity_of self.old) }
+        requires taken { has (activity_of self.old).seating.taken seat ≡ true }
+        ensures shape { activity_of self.new ≡ rolled (activity_of self.old) seat (activity_of self.new).reach.pool }
+        ensures sound { IsSound (activity_of self.new) }
+        ensures undone { committed ≡ false → HasUndone (activity_of self.old).seating.holding seat (activity_of self.old).reach (record (activity_of self.old).reach { pool = (activity_of self.new).reach.pool }) }
+        ensures settled { committed ≡ true → HasSettled (activity_of self.old).seating.holding seat (activity_of self.old).reach (record (activity_of self.old).reach { pool = (activity_of self.new).reach.pool }) }
+    {
+        end_written(&self.seats, &mut self.unit, seat, committed);
+        self.leave(seat);
+    }
+
     /// A seat is free: its pages are nobody's, and its locks are released.
     fn leave(&mut self, seat: u8)
         requires { seat < 16 }
@@ -112,34 +124,27 @@ impl Activations {
     }
 }
 
-/// The pages of which a seat holds lines to write go out of their frames, and those lines are forgotten.
-fn undo_written(seats: &Seats, unit: &mut Unit, seat: u8)
+/// The lines that a seat holds to write are marked no more where they are committed; else they are forgotten, and their
+/// pages go out of their frames.
+#[inline(always)]
+fn end_written(seats: &Seats, unit: &mut Unit, seat: u8, committed: bool)
     requires seat { seat < 16 }
     requires whole { IsWhole seats.now.holding }
     requires pages { seats.now.holding.pages ≡ page_count (reach_of unit.old).directory }
-    ensures { HasUndone seats.now.holding seat (reach_of unit.old) (reach_of unit.new) }
+    ensures rest { reach_of unit.new ≡ record (reach_of unit.old) { pool = (reach_of unit.new).pool } }
+    ensures undone { committed ≡ false → HasUndone seats.now.holding seat (reach_of unit.old) (reach_of unit.new) }
+    ensures settled { committed ≡ true → HasSettled seats.now.holding seat (reach_of unit.old) (reach_of unit.new) }
 {
     let locks = seats.locks();
     for page in locks.held_pages(seat) {
         let (_, writes) = locks.held(seat, *page);
-        if !writes.is_empty() {
-            unit.undo(*page, writes);
+        if writes.is_empty() {
+            continue;
         }
-    }
-}
-
-/// The lines that a seat holds to write are marked no more.
-fn settle_written(seats: &Seats, unit: &mut Unit, seat: u8)
-    requires seat { seat < 16 }
-    requires whole { IsWhole seats.now.holding }
-    requires pages { seats.now.holding.pages ≡ page_count (reach_of unit.old).directory }
-    ensures { HasSettled seats.now.holding seat (reach_of unit.old) (reach_of unit.new) }
-{
-    let locks = seats.locks();
-    for page in locks.held_pages(seat) {
-        let (_, writes) = locks.held(seat, *page);
-        if !writes.is_empty() {
+        if committed {
             unit.settle(*page, writes);
+        } else {
+            unit.undo(*page, writes);
         }
     }
 }

@@ -1,5 +1,5 @@
 // Pages come in from the store on the disk.
-ghost use Rattle.std.specs.Prelude.{◌≡◌, ◌+◌, ◌<◌, ◌≤◌, ◌^◌, ℕ, true, false, List, [], OnOk, OnErr, option_to_list};
+ghost use Rattle.std.specs.Prelude.{◌≡◌, ◌+◌, ◌<◌, ◌^◌, false, [], OnOk, OnErr, option_to_list};
 ghost use Rattle.line_geometry.specs.Directory.{page_count};
 ghost use Rattle.lock_rules.specs.Resident.{brought};
 ghost use Rattle.lock_rules.specs.Sets.{has};
@@ -7,15 +7,13 @@ ghost use Rattle.outside.specs.Causes.{FailsOnlyCounted};
 ghost use Rattle.outside.specs.Runs.{OnlyAsks};
 ghost use Rattle.redo_journal.specs.Held.{HoldsAtLeast};
 ghost use Rattle.store_format.specs.Header.{total};
-ghost use Rattle.storage_unit.specs.Bytes.{IsClean};
-ghost use Rattle.storage_unit.specs.Laws.{Keeps};
 ghost use Rattle.storage_unit.specs.View.{reach_of};
-ghost use Rattle.activations.specs.Fetching.{IsStoreOf, IsIn, IsUnread, IsBrokenOff};
-ghost use Rattle.activations.specs.Serves.{IsFetched};
+ghost use Rattle.activations.specs.Fetching.{IsIn, IsUnread, KeepsStore};
 ghost use Rattle.activations.specs.Steps.{IsMoved};
 ghost use Rattle.activations.specs.Touched.{AreWanted, wants_of, pages_wanted};
 
 use super::activations::Activations;
+use super::pages::StorePages;
 use super::tally::Tally;
 use super::touch::Touch;
 use outside::{Failed, Outside};
@@ -24,6 +22,7 @@ use storage_unit::Unit;
 
 impl Activations {
     ghost use Rattle.activations.specs.Follows.{IsSound};
+    ghost use Rattle.activations.specs.Stages.{CanFetch, CountsPages, Fetches};
     ghost use Rattle.activations.specs.Steps.{with_pool};
     ghost use Rattle.activations.specs.View.{activity_of};
 
@@ -41,22 +40,17 @@ impl Activations {
         touch: &Touch,
         tally: &mut Tally,
     ) -> Result<(), Failed>
-        requires sound { IsSound (activity_of self.old) }
+        requires can { CanFetch W.Outside (activity_of self.old) store.now outside.old }
         requires wanted { AreWanted (activity_of self.old).reach.directory (wants_of touch.now) }
-        requires store { store.now.header.directory ≡ (activity_of self.old).reach.directory }
-        requires room { HoldsAtLeast W.Outside (total store.now.header) outside.old }
         requires few { tally.old.pages + 2 < 2 ^ 32 }
         ensures sound { IsSound (activity_of self.new) }
         ensures asks { OnlyAsks W.Outside outside.old outside.new }
         ensures shape { activity_of self.new ≡ with_pool (activity_of self.old) (activity_of self.new).reach.pool }
-        ensures tally { tally.new ≡ record tally.old { pages = tally.new.pages } }
-        ensures few { (tally.old.pages ≤ tally.new.pages) × (tally.new.pages ≤ tally.old.pages + 2) }
+        ensures counts { CountsPages tally.old tally.new }
         ensures cause { FailsOnlyCounted (W.disk_faults outside.old) (W.disk_faults outside.new) result }
         ensures counted { OnErr result (tally.old.pages < tally.new.pages) }
         ensures none { OnErr result ((activity_of self.new).reach.pool.resident ≡ []) }
-        ensures resident { OnOk result ((page : ℕ) → has (pages_wanted (wants_of touch.now)) page ≡ true → has (activity_of self.new).reach.pool.resident page ≡ true) }
-        ensures fetched { OnOk result ((committed : List ℕ) (order : List (ℕ × ℕ)) → IsStoreOf W.Outside store.now outside.old committed → IsClean (activity_of self.old).reach.directory (activity_of self.old).reach.pool committed → IsFetched (activity_of self.old) committed order (pages_wanted (wants_of touch.now)) tally.old.pages (activity_of self.new).reach.pool tally.new.pages) }
-        ensures broken { OnErr result ((committed : List ℕ) (order : List (ℕ × ℕ)) → IsStoreOf W.Outside store.now outside.old committed → IsClean (activity_of self.old).reach.directory (activity_of self.old).reach.pool committed → IsBrokenOff (activity_of self.old) committed order (pages_wanted (wants_of touch.now)) tally.old.pages (activity_of self.new).reach.pool tally.new.pages) }
+        ensures fetched { Fetches result W.Outside store.now outside.old (activity_of self.old) (pages_wanted (wants_of touch.now)) tally.old.pages (activity_of self.new).reach.pool tally.new.pages }
     {
         match touch {
             Touch::Nothing => Ok(()),
@@ -90,7 +84,7 @@ impl Activations {
         ensures moved { IsMoved (activity_of self.old).reach.pool (activity_of self.new).reach.pool }
         ensures page_in { OnOk result (IsIn (activity_of self.old).reach.pool (activity_of self.new).reach.pool page keep tally.old.pages tally.new.pages) }
         ensures unread { OnErr result (IsUnread (activity_of self.old).reach.pool (activity_of self.new).reach.pool page tally.old.pages tally.new.pages) }
-        ensures keeps { (committed : List ℕ) → IsStoreOf W.Outside store.now outside.old committed → IsClean (activity_of self.old).reach.directory (activity_of self.old).reach.pool committed → Keeps (activity_of self.old).reach.directory (activity_of self.old).reach.pool (activity_of self.new).reach.pool committed }
+        ensures keeps { KeepsStore W.Outside store.now outside.old (activity_of self.old).reach.directory (activity_of self.old).reach.pool (activity_of self.new).reach.pool }
     {
         if self.unit.pool().frame_of(page).is_some() {
             return Ok(());
@@ -118,14 +112,7 @@ fn bring_page<W: Outside>(
     ensures moved { IsMoved (reach_of unit.old).pool (reach_of unit.new).pool }
     ensures came { OnOk result ((reach_of unit.new).pool.resident ≡ brought (reach_of unit.old).pool.frames (option_to_list keep) (reach_of unit.old).pool.resident page) }
     ensures none { OnErr result ((reach_of unit.new).pool.resident ≡ []) }
-    ensures keeps { (committed : List ℕ) → IsStoreOf W.Outside store.now outside.old committed → IsClean (reach_of unit.old).directory (reach_of unit.old).pool committed → Keeps (reach_of unit.old).directory (reach_of unit.old).pool (reach_of unit.new).pool committed }
+    ensures keeps { KeepsStore W.Outside store.now outside.old (reach_of unit.old).directory (reach_of unit.old).pool (reach_of unit.new).pool }
 {
-    let slot = unit.bring(page, keep);
-    let read = store.read_page(outside, page, unit.page_mut(slot.frame));
-    unit.lay_kept(page);
-    if let Err(failed) = read {
-        unit.empty();
-        return Err(failed);
-    }
-    Ok(())
+    unit.bring_in(&StorePages { store }, outside, page, keep)
 }

@@ -2,14 +2,10 @@
 ghost use Rattle.std.specs.Prelude.{◌≡◌, ◌+◌, ◌<◌, ◌≤◌, ◌^◌, ℕ, List, true, length, map, IfErr, IfOk, OnOk};
 ghost use Rattle.arrayvec.specs.ArrayVec.{array_vec_len};
 ghost use Rattle.lock_rules.specs.Sets.{has};
-ghost use Rattle.outside.specs.Causes.{Rose};
 ghost use Rattle.outside.specs.Runs.{OnlyAsks};
-ghost use Rattle.redo_journal.specs.Held.{HoldsAtLeast};
-ghost use Rattle.store_format.specs.Header.{total};
 ghost use Rattle.desk.specs.Instruction.{Word, Turning, Counts};
 ghost use Rattle.desk.specs.Instruction as desk;
 ghost use Rattle.desk.specs.declared.answers.TurnEnd.TheVariants as end;
-ghost use Rattle.storage_unit.specs.Bytes.{IsClean};
 ghost use Rattle.flat_machine.specs.Row as row;
 ghost use Rattle.flat_machine.specs.declared.machine.Plain.{Plain};
 ghost use Rattle.line_locks.specs.Flat.{lines_wanted};
@@ -34,16 +30,16 @@ pub enum Went {
 
 impl Activations {
     ghost use Rattle.activations.specs.Activity.{live_in, program_in};
-    ghost use Rattle.activations.specs.Causes.{IfJournal, IsNoLimit, IfVictim};
+    ghost use Rattle.activations.specs.Causes.{IsNoLimit};
     ghost use Rattle.activations.specs.Attempted.{IsSelected, IsShut, plain_in};
     ghost use Rattle.activations.specs.Fetching.{IsStoreOf, HasBrokenOff};
     ghost use Rattle.activations.specs.Follows.{IsSound, KeepsDesk};
-    ghost use Rattle.activations.specs.Instructed.{TalliesMore, IsEndOfRows, IsCheck, IfWaits, IsInstruction, IsAsked, IsServed, Prepares, Serves};
+    ghost use Rattle.activations.specs.Instructed.{IsCheck, IsInstruction, IsAsked, IsServed, Prepares, Serves};
     ghost use Rattle.activations.specs.Kept.{KeepsParts, StaysSeated};
-    ghost use Rattle.activations.specs.Serves.{IsFetched};
+    ghost use Rattle.activations.specs.Stages.{CanFetch, CanServe, CountsCycles, CountsOne, CountsPages, EndsByDisk, EndsContest, EndsRows, HasFetched, HasRoom, KeepsAll, KeepsSound, StaysCalm};
     ghost use Rattle.activations.specs.Serving.{IsFree, instruction_in};
     ghost use Rattle.activations.specs.Steps.{rolled, with_pool};
-    ghost use Rattle.activations.specs.Turning.{tally_counts, HasEnded, IsSettled, IsContestEnd};
+    ghost use Rattle.activations.specs.Turning.{tally_counts, HasEnded, IsSettled};
     ghost use Rattle.activations.specs.Turns.{IsStep, MayBeShut};
     ghost use Rattle.activations.specs.View.{activity_of};
     ghost use Rattle.seats.specs.Seating.{number_in};
@@ -62,26 +58,14 @@ impl Activations {
         shut: Option<Access>,
         tally: &mut Tally,
     ) -> Result<Went, TurnEnd>
-        requires sound { IsSound (activity_of self.old) }
-        requires taken { has (activity_of self.old).seating.taken seat ≡ true }
-        requires selected { IsSelected (activity_of self.old) seat }
+        requires can { CanServe W.Outside (activity_of self.old) seat store.now outside.old }
+        requires room { HasRoom (activity_of self.old) tally.old }
         requires shut { MayBeShut (activity_of self.old) seat shut }
-        requires store { store.now.header.directory ≡ (activity_of self.old).reach.directory }
-        requires room { HoldsAtLeast W.Outside (total store.now.header) outside.old }
-        requires cycles { array_vec_len tally.old.cycles + length (activity_of self.old).seating.taken ≤ 16 }
-        requires tally { (tally.old.pages < 6000000) × (tally.old.locks < 2000000) }
-        ensures sound { IsSound (activity_of self.new) }
-        ensures asks { OnlyAsks W.Outside outside.old outside.new }
-        ensures parts { KeepsParts (activity_of self.old) (activity_of self.new) 0 }
-        ensures cycles { array_vec_len tally.new.cycles + length (activity_of self.new).seating.taken ≤ 16 }
-        ensures tally { TalliesMore tally.old tally.new }
-        ensures stays { OnOk result (StaysSeated (activity_of self.old) (activity_of self.new) seat) }
-        ensures calm { OnOk result (W.disk_faults outside.new ≡ W.disk_faults outside.old) }
-        ensures ends { IfErr result (IsEndOfRows W.Outside outside.old outside.new tally.old tally.new) }
-        ensures waits { IfErr result (IfWaits (number_in (activity_of self.old).seating seat)) }
-        ensures journal { IfErr result (IfJournal (activity_of self.new).most_lines) }
+        ensures keeps { KeepsAll W.Outside (activity_of self.old) (activity_of self.new) 0 outside.old outside.new }
+        ensures counts { CountsOne (activity_of self.new) tally.old tally.new }
+        ensures on { OnOk result (StaysCalm W.Outside (activity_of self.old) (activity_of self.new) seat outside.old outside.new) }
+        ensures over { IfErr result (EndsRows W.Outside (number_in (activity_of self.old).seating seat) (activity_of self.new) outside.old outside.new tally.old tally.new) }
         ensures no_limit { IfErr result IsNoLimit }
-        ensures victim { IfErr result (IfVictim (number_in (activity_of self.old).seating seat) tally.new.cycles.items) }
         ensures step { (committed : List ℕ) (order : List (ℕ × ℕ)) → IsStoreOf W.Outside store.now outside.old committed → KeepsDesk (activity_of self.old) committed → IsStep result (instruction_in (activity_of self.old) seat committed order (tally_counts tally.old)) (activity_of self.new) seat committed order (tally_counts tally.new) }
     {
         if let Some(access) = shut {
@@ -113,26 +97,14 @@ impl Activations {
         access: Access,
         tally: &mut Tally,
     ) -> Result<(), TurnEnd>
-        requires sound { IsSound (activity_of self.old) }
-        requires taken { has (activity_of self.old).seating.taken seat ≡ true }
-        requires selected { IsSelected (activity_of self.old) seat }
+        requires can { CanServe W.Outside (activity_of self.old) seat store.now outside.old }
+        requires room { HasRoom (activity_of self.old) tally.old }
         requires shut { IsShut (activity_of self.old) seat access }
-        requires store { store.now.header.directory ≡ (activity_of self.old).reach.directory }
-        requires room { HoldsAtLeast W.Outside (total store.now.header) outside.old }
-        requires cycles { array_vec_len tally.old.cycles + length (activity_of self.old).seating.taken ≤ 16 }
-        requires tally { (tally.old.pages < 6000000) × (tally.old.locks < 2000000) }
-        ensures sound { IsSound (activity_of self.new) }
-        ensures asks { OnlyAsks W.Outside outside.old outside.new }
-        ensures parts { KeepsParts (activity_of self.old) (activity_of self.new) 0 }
-        ensures cycles { array_vec_len tally.new.cycles + length (activity_of self.new).seating.taken ≤ 16 }
-        ensures tally { TalliesMore tally.old tally.new }
-        ensures stays { OnOk result (StaysSeated (activity_of self.old) (activity_of self.new) seat) }
-        ensures calm { OnOk result (W.disk_faults outside.new ≡ W.disk_faults outside.old) }
-        ensures ends { IfErr result (IsEndOfRows W.Outside outside.old outside.new tally.old tally.new) }
-        ensures waits { IfErr result (IfWaits (number_in (activity_of self.old).seating seat)) }
-        ensures journal { IfErr result (IfJournal (activity_of self.new).most_lines) }
+        ensures keeps { KeepsAll W.Outside (activity_of self.old) (activity_of self.new) 0 outside.old outside.new }
+        ensures counts { CountsOne (activity_of self.new) tally.old tally.new }
+        ensures on { OnOk result (StaysCalm W.Outside (activity_of self.old) (activity_of self.new) seat outside.old outside.new) }
+        ensures over { IfErr result (EndsRows W.Outside (number_in (activity_of self.old).seating seat) (activity_of self.new) outside.old outside.new tally.old tally.new) }
         ensures no_limit { IfErr result IsNoLimit }
-        ensures victim { IfErr result (IfVictim (number_in (activity_of self.old).seating seat) tally.new.cycles.items) }
         ensures served { (committed : List ℕ) (order : List (ℕ × ℕ)) → IsStoreOf W.Outside store.now outside.old committed → KeepsDesk (activity_of self.old) committed → IsInstruction result (instruction_in (activity_of self.old) seat committed order (tally_counts tally.old)) (activity_of self.new) seat committed order (tally_counts tally.new) }
     {
         let (touch, refused) = self.prepare(store, outside, seat, access, tally)?;
@@ -155,26 +127,16 @@ impl Activations {
         access: Access,
         tally: &mut Tally,
     ) -> Result<(Touch, (bool, bool)), TurnEnd>
-        requires sound { IsSound (activity_of self.old) }
-        requires taken { has (activity_of self.old).seating.taken seat ≡ true }
-        requires selected { IsSelected (activity_of self.old) seat }
+        requires can { CanServe W.Outside (activity_of self.old) seat store.now outside.old }
         requires shut { IsShut (activity_of self.old) seat access }
-        requires store { store.now.header.directory ≡ (activity_of self.old).reach.directory }
-        requires room { HoldsAtLeast W.Outside (total store.now.header) outside.old }
         requires tally { (tally.old.pages < 6000000) × (tally.old.locks < 2000000) }
-        ensures sound { IsSound (activity_of self.new) }
         ensures wanted { IfOk result (λ got. AreWanted (activity_of self.new).reach.directory (wants_of got.0)) }
-        ensures asks { OnlyAsks W.Outside outside.old outside.new }
-        ensures parts { KeepsParts (activity_of self.old) (activity_of self.new) 0 }
+        ensures keeps { KeepsAll W.Outside (activity_of self.old) (activity_of self.new) 0 outside.old outside.new }
         ensures tally { tally.new ≡ record tally.old { pages = tally.new.pages; locks = tally.new.locks } }
         ensures few { (tally.old.pages ≤ tally.new.pages) × (tally.new.pages ≤ tally.old.pages + 2) × (tally.new.locks ≤ tally.old.locks + 2) }
-        ensures stays { OnOk result (StaysSeated (activity_of self.old) (activity_of self.new) seat) }
-        ensures calm { OnOk result (W.disk_faults outside.new ≡ W.disk_faults outside.old) }
-        ensures ends { IfErr result (IsEndOfRows W.Outside outside.old outside.new tally.old tally.new) }
-        ensures waits { IfErr result (IfWaits (number_in (activity_of self.old).seating seat)) }
-        ensures journal { IfErr result (IfJournal (activity_of self.new).most_lines) }
+        ensures on { OnOk result (StaysCalm W.Outside (activity_of self.old) (activity_of self.new) seat outside.old outside.new) }
+        ensures over { IfErr result (EndsRows W.Outside (number_in (activity_of self.old).seating seat) (activity_of self.new) outside.old outside.new tally.old tally.new) }
         ensures no_limit { IfErr result IsNoLimit }
-        ensures victim { IfErr result (IfVictim (number_in (activity_of self.old).seating seat) tally.new.cycles.items) }
         ensures prepared { (committed : List ℕ) (order : List (ℕ × ℕ)) → IsStoreOf W.Outside store.now outside.old committed → KeepsDesk (activity_of self.old) committed → Prepares result (instruction_in (activity_of self.old) seat committed order (tally_counts tally.old)) (activity_of self.new) seat committed order (tally_counts tally.new) }
     {
         let touch = self.touch_of(seat, access);
@@ -199,21 +161,17 @@ impl Activations {
         touch: &Touch,
         tally: &mut Tally,
     ) -> Result<(), TurnEnd>
-        requires sound { IsSound (activity_of self.old) }
+        requires can { CanFetch W.Outside (activity_of self.old) store.now outside.old }
         requires taken { has (activity_of self.old).seating.taken seat ≡ true }
         requires wanted { AreWanted (activity_of self.old).reach.directory (wants_of touch.now) }
-        requires store { store.now.header.directory ≡ (activity_of self.old).reach.directory }
-        requires room { HoldsAtLeast W.Outside (total store.now.header) outside.old }
         requires few { tally.old.pages + 2 < 2 ^ 32 }
         ensures sound { IsSound (activity_of self.new) }
         ensures asks { OnlyAsks W.Outside outside.old outside.new }
-        ensures tally { tally.new ≡ record tally.old { pages = tally.new.pages } }
-        ensures few { (tally.old.pages ≤ tally.new.pages) × (tally.new.pages ≤ tally.old.pages + 2) }
+        ensures counts { CountsPages tally.old tally.new }
         ensures calm { OnOk result (W.disk_faults outside.new ≡ W.disk_faults outside.old) }
         ensures shape { OnOk result (activity_of self.new ≡ with_pool (activity_of self.old) (activity_of self.new).reach.pool) }
-        ensures fetched { OnOk result ((committed : List ℕ) (order : List (ℕ × ℕ)) → IsStoreOf W.Outside store.now outside.old committed → IsClean (activity_of self.old).reach.directory (activity_of self.old).reach.pool committed → IsFetched (activity_of self.old) committed order (pages_wanted (wants_of touch.now)) tally.old.pages (activity_of self.new).reach.pool tally.new.pages) }
-        ensures resident { OnOk result ((page : ℕ) → has (pages_wanted (wants_of touch.now)) page ≡ true → has (activity_of self.new).reach.pool.resident page ≡ true) }
-        ensures ends { IfErr result (λ over. (over ≡ end.Disk) × Rose (W.disk_faults outside.old) (W.disk_faults outside.new) × (tally.old.pages < tally.new.pages)) }
+        ensures fetched { OnOk result (HasFetched W.Outside store.now outside.old (activity_of self.old) (pages_wanted (wants_of touch.now)) tally.old.pages (activity_of self.new).reach.pool tally.new.pages) }
+        ensures ends { IfErr result (EndsByDisk W.Outside outside.old outside.new tally.old tally.new) }
         ensures broke { IfErr result (λ over. HasBrokenOff W.Outside store.now outside.old (activity_of self.old) seat (pages_wanted (wants_of touch.now)) tally.old.pages (activity_of self.new) tally.new.pages) }
     {
         match self.fetch(store, outside, touch, tally) {
@@ -236,13 +194,10 @@ impl Activations {
         requires taken { has (activity_of self.old).seating.taken seat ≡ true }
         requires wanted { AreWanted (activity_of self.old).reach.directory (wants_of touch.now) }
         requires cycles { array_vec_len tally.old.cycles + length (activity_of self.old).seating.taken ≤ 16 }
-        ensures sound { IsSound (activity_of self.new) }
-        ensures cycles { array_vec_len tally.new.cycles + length (activity_of self.new).seating.taken ≤ 16 }
-        ensures parts { KeepsParts (activity_of self.old) (activity_of self.new) 0 }
-        ensures tally { tally.new ≡ record tally.old { cycles = tally.new.cycles } }
+        ensures keeps { KeepsSound (activity_of self.old) (activity_of self.new) 0 }
+        ensures counts { CountsCycles (activity_of self.new) tally.old tally.new }
         ensures stays { OnOk result (StaysSeated (activity_of self.old) (activity_of self.new) seat) }
-        ensures ends { IfErr result (IsContestEnd (number_in (activity_of self.old).seating seat)) }
-        ensures victim { IfErr result (IfVictim (number_in (activity_of self.old).seating seat) tally.new.cycles.items) }
+        ensures ends { IfErr result (EndsContest (number_in (activity_of self.old).seating seat) tally.new) }
         ensures settled { (begins : Word → Turning) (attempt : desk.Attempt) (refused : List ℕ) (committed : List ℕ) (order : List (ℕ × ℕ)) → IsAsked begins attempt refused (activity_of self.old) seat (wants_of touch.now) committed order (tally_counts tally.old) → IsSettled result begins attempt refused (activity_of self.new) committed order (tally_counts tally.new) }
     {
         let request = self.request(touch);
@@ -269,21 +224,13 @@ impl Activations {
         refused: (bool, bool),
         tally: &mut Tally,
     ) -> Result<(), TurnEnd>
-        requires sound { IsSound (activity_of self.old) }
-        requires taken { has (activity_of self.old).seating.taken seat ≡ true }
-        requires selected { IsSelected (activity_of self.old) seat }
+        requires can { CanServe W.Outside (activity_of self.old) seat store.now outside.old }
         requires wanted { AreWanted (activity_of self.old).reach.directory (wants_of touch.now) }
-        requires store { store.now.header.directory ≡ (activity_of self.old).reach.directory }
-        requires room { HoldsAtLeast W.Outside (total store.now.header) outside.old }
         requires few { tally.old.pages + 2 < 2 ^ 32 }
-        ensures sound { IsSound (activity_of self.new) }
-        ensures asks { OnlyAsks W.Outside outside.old outside.new }
-        ensures parts { KeepsParts (activity_of self.old) (activity_of self.new) 0 }
-        ensures tally { tally.new ≡ record tally.old { pages = tally.new.pages } }
-        ensures few { (tally.old.pages ≤ tally.new.pages) × (tally.new.pages ≤ tally.old.pages + 2) }
-        ensures stays { OnOk result (StaysSeated (activity_of self.old) (activity_of self.new) seat) }
-        ensures calm { OnOk result (W.disk_faults outside.new ≡ W.disk_faults outside.old) }
-        ensures ends { IfErr result (λ over. (over ≡ end.Disk) × Rose (W.disk_faults outside.old) (W.disk_faults outside.new) × (tally.old.pages < tally.new.pages)) }
+        ensures keeps { KeepsAll W.Outside (activity_of self.old) (activity_of self.new) 0 outside.old outside.new }
+        ensures counts { CountsPages tally.old tally.new }
+        ensures on { OnOk result (StaysCalm W.Outside (activity_of self.old) (activity_of self.new) seat outside.old outside.new) }
+        ensures ends { IfErr result (EndsByDisk W.Outside outside.old outside.new tally.old tally.new) }
         ensures served { (begins : Word → Turning) (attempt : desk.Attempt) (next : Plain) (committed : List ℕ) (order : List (ℕ × ℕ)) → IsStoreOf W.Outside store.now outside.old committed → attempt.entry.number ≡ number_in (activity_of self.old).seating seat → attempt.outcome ≡ row.On next → attempt.lines ≡ lines_wanted (wants_of touch.now) → IsFree begins attempt (pages_picked touch.now refused) (activity_of self.old) committed order (tally_counts tally.old) → Serves result begins (activity_of self.new) seat (wants_of touch.now) committed order (tally_counts tally.new) }
     {
         self.take(seat, touch, refused);

@@ -10,6 +10,7 @@ mod granting;
 mod instructions;
 pub mod laws;
 mod live;
+mod pages;
 mod record;
 mod rows;
 mod serving;

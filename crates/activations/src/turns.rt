@@ -2,12 +2,7 @@
 ghost use Rattle.std.specs.Prelude.{◌≡◌, ◌+◌, ◌<◌, ◌≤◌, ◌^◌, ℕ, List, true, length, IfErr, IfOk, OnOk};
 ghost use Rattle.arrayvec.specs.ArrayVec.{array_vec_len};
 ghost use Rattle.lock_rules.specs.Sets.{has};
-ghost use Rattle.outside.specs.Causes.{Rose};
-ghost use Rattle.outside.specs.Runs.{OnlyAsks};
-ghost use Rattle.redo_journal.specs.Held.{HoldsAtLeast};
-ghost use Rattle.store_format.specs.Header.{total};
 ghost use Rattle.desk.specs.Instruction.{Word, Counts, Turning};
-ghost use Rattle.desk.specs.declared.answers.TurnEnd.TheVariants as end;
 
 use super::activations::Activations;
 use super::instructions::Went;
@@ -19,11 +14,11 @@ use romp_cpu::Access;
 
 impl Activations {
     ghost use Rattle.activations.specs.Attempted.{IsSelected};
-    ghost use Rattle.activations.specs.Causes.{IfJournal, IfLimit, IfVictim};
+    ghost use Rattle.activations.specs.Causes.{IfLimit};
     ghost use Rattle.activations.specs.Fetching.{IsStoreOf};
     ghost use Rattle.activations.specs.Follows.{IsSound, KeepsDesk};
-    ghost use Rattle.activations.specs.Instructed.{IsEndOfRows, IfWaits};
     ghost use Rattle.activations.specs.Kept.{KeepsParts, AreRowsWithin, StaysSeated};
+    ghost use Rattle.activations.specs.Stages.{CanFetch, CanServe, CountsPages, EndsByDisk, EndsRows, KeepsAll, StaysCalm};
     ghost use Rattle.activations.specs.Steps.{counted};
     ghost use Rattle.activations.specs.Turning.{tally_counts};
     ghost use Rattle.activations.specs.Turns.{AreTurns, ComesBack, IsTurning, MayBeShut, turn_in, selected_in};
@@ -43,25 +38,17 @@ impl Activations {
         limit: u32,
         tally: &mut Tally,
     ) -> Result<(), TurnEnd>
-        requires sound { IsSound (activity_of self.old) }
+        requires can { CanFetch W.Outside (activity_of self.old) store.now outside.old }
         requires taken { has (activity_of self.old).seating.taken seat ≡ true }
         requires limit { limit ≤ 1000000 }
         requires rows { AreRowsWithin (activity_of self.old) (2 ^ 63) }
-        requires store { store.now.header.directory ≡ (activity_of self.old).reach.directory }
-        requires room { HoldsAtLeast W.Outside (total store.now.header) outside.old }
         requires cycles { array_vec_len tally.old.cycles + length (activity_of self.old).seating.taken ≤ 16 }
         requires tally { tally.old.ran + tally.old.pages + tally.old.locks ≡ 0 }
-        ensures sound { IsSound (activity_of self.new) }
-        ensures asks { OnlyAsks W.Outside outside.old outside.new }
-        ensures parts { KeepsParts (activity_of self.old) (activity_of self.new) limit }
+        ensures keeps { KeepsAll W.Outside (activity_of self.old) (activity_of self.new) limit outside.old outside.new }
         ensures ran { tally.new.ran ≤ limit }
-        ensures stays { OnOk result (StaysSeated (activity_of self.old) (activity_of self.new) seat) }
-        ensures calm { OnOk result (W.disk_faults outside.new ≡ W.disk_faults outside.old) }
-        ensures ends { IfErr result (IsEndOfRows W.Outside outside.old outside.new tally.old tally.new) }
-        ensures waits { IfErr result (IfWaits (number_in (activity_of self.old).seating seat)) }
-        ensures journal { IfErr result (IfJournal (activity_of self.new).most_lines) }
+        ensures on { OnOk result (StaysCalm W.Outside (activity_of self.old) (activity_of self.new) seat outside.old outside.new) }
+        ensures over { IfErr result (EndsRows W.Outside (number_in (activity_of self.old).seating seat) (activity_of self.new) outside.old outside.new tally.old tally.new) }
         ensures limit { IfErr result (IfLimit limit tally.new.ran) }
-        ensures victim { IfErr result (IfVictim (number_in (activity_of self.old).seating seat) tally.new.cycles.items) }
         ensures turned { (committed : List ℕ) (order : List (ℕ × ℕ)) → IsStoreOf W.Outside store.now outside.old committed → KeepsDesk (activity_of self.old) committed → AreTurns result (turn_in (activity_of self.old) seat limit committed order (tally_counts tally.old)) (activity_of self.new) seat committed order (tally_counts tally.new) }
     {
         self.select(seat);
@@ -81,7 +68,8 @@ impl Activations {
         Err(TurnEnd::Limit)
     }
 
-    /// The page of an access that isn't permitted comes in, where its entry refuses no line of it. Else that access is answered.
+    /// The page of an access that isn't permitted comes in, where the access is of one page, whose entry refuses none of its
+    /// lines. Nothing is answered then, nor where no access was told; else nothing is done, and the access is answered.
     ///
     /// # Errors
     ///
@@ -95,22 +83,14 @@ impl Activations {
         shut: Option<Access>,
         tally: &mut Tally,
     ) -> Result<Option<Access>, TurnEnd>
-        requires sound { IsSound (activity_of self.old) }
-        requires taken { has (activity_of self.old).seating.taken seat ≡ true }
-        requires selected { IsSelected (activity_of self.old) seat }
+        requires can { CanServe W.Outside (activity_of self.old) seat store.now outside.old }
         requires shut { MayBeShut (activity_of self.old) seat shut }
-        requires store { store.now.header.directory ≡ (activity_of self.old).reach.directory }
-        requires room { HoldsAtLeast W.Outside (total store.now.header) outside.old }
         requires few { tally.old.pages + 2 < 2 ^ 32 }
-        ensures sound { IsSound (activity_of self.new) }
-        ensures asks { OnlyAsks W.Outside outside.old outside.new }
-        ensures parts { KeepsParts (activity_of self.old) (activity_of self.new) 0 }
-        ensures tally { tally.new ≡ record tally.old { pages = tally.new.pages } }
-        ensures few { (tally.old.pages ≤ tally.new.pages) × (tally.new.pages ≤ tally.old.pages + 2) }
-        ensures stays { OnOk result (StaysSeated (activity_of self.old) (activity_of self.new) seat) }
+        ensures keeps { KeepsAll W.Outside (activity_of self.old) (activity_of self.new) 0 outside.old outside.new }
+        ensures counts { CountsPages tally.old tally.new }
+        ensures on { OnOk result (StaysCalm W.Outside (activity_of self.old) (activity_of self.new) seat outside.old outside.new) }
+        ensures ends { IfErr result (EndsByDisk W.Outside outside.old outside.new tally.old tally.new) }
         ensures shut { IfOk result (λ still. MayBeShut (activity_of self.new) seat still) }
-        ensures calm { OnOk result (W.disk_faults outside.new ≡ W.disk_faults outside.old) }
-        ensures ends { IfErr result (λ over. (over ≡ end.Disk) × Rose (W.disk_faults outside.old) (W.disk_faults outside.new) × (tally.old.pages < tally.new.pages)) }
         ensures turns { (begins : Word → Turning) (left : ℕ) (committed : List ℕ) (order : List (ℕ × ℕ)) → 0 < left → IsStoreOf W.Outside store.now outside.old committed → IsTurning begins (activity_of self.old) seat left committed order (tally_counts tally.old) → ComesBack result begins (activity_of self.new) seat left committed order (tally_counts tally.new) }
     {
         let Some(access) = shut else {

@@ -32,3 +32,4 @@ pub mod EmptyKeeps
 pub mod UndoForgets
 pub mod CommitIsUnseen
 pub mod SettleKeeps
+pub mod IncomingLemmas

@@ -9,3 +9,4 @@ pub mod Served
 pub mod Rows
 pub mod Accesses
 pub mod Laws
+pub mod Incoming

@@ -28,7 +28,7 @@ impl Unit {
     /// Brings in a page that isn't resident, as the pool does. What its frame held is still there: it is to be filled, and
     /// then its kept lines laid over it.
     #[inline]
-    pub fn bring(&mut self, page: u16, keep: Option<u16>) -> Slot
+    pub(crate) fn bring(&mut self, page: u16, keep: Option<u16>) -> Slot
         requires page { page < page_count (reach_of self.old).directory }
         requires absent { has (reach_of self.old).pool.resident page ≡ false }
         ensures out { result.out ≡ page_out (reach_of self.old).pool keep }
@@ -45,7 +45,7 @@ impl Unit {
 
     /// Lends a frame, to be filled. Nothing else can be written through a part of the unit that is lent.
     #[inline(always)]
-    pub fn page_mut(&mut self, frame: u16) -> &mut [u8]
+    pub(crate) fn page_mut(&mut self, frame: u16) -> &mut [u8]
         requires { frame < frame_count (reach_of self.old).pool.page (reach_of self.old).pool.frames }
         ensures* writes_back { sem 𝓛 (LendsPage self.entry (frame * page_bytes (reach_of self.entry.now).pool.page) result) }
         ensures value { result.now ≡ frame_bytes (reach_of self.old).pool frame }
@@ -55,7 +55,7 @@ impl Unit {
 
     /// The kept lines of a page lie over those of its frame.
     #[inline(always)]
-    pub fn lay_kept(&mut self, page: u16)
+    pub(crate) fn lay_kept(&mut self, page: u16)
         requires { page < page_count (reach_of self.old).directory }
         ensures { reach_of self.new ≡ record (reach_of self.old) { pool = laid (reach_of self.old).pool page } }
     {

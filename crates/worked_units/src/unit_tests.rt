@@ -7,9 +7,10 @@ use owned_list::OwnedList;
 use romp_cpu::{Access, Attempt, Cpu, Fault, Probe, Storage, registers_of};
 use segment_regs::Virtual;
 use std::alloc::{AllocError, Global};
+use std::convert::Infallible;
 use std::process::Abort;
 use std::test::Fail;
-use storage_unit::Unit;
+use storage_unit::{Pages, Unit};
 use store_format::Header;
 
 /// An instruction, what is in registers 2 and 3 before it, and the size of the store's pages.
@@ -134,15 +135,33 @@ fn ready(
     Ok(unit)
 }
 
+/// A store full of zeros.
+struct Zeros;
+
+impl Pages<()> for Zeros {
+    ghost use Rattle.std.specs.Prelude.{⊤};
+
+    type Failed = Infallible;
+
+    ghost can_read = { λ _ _ _ _. ⊤ };
+
+    ghost read = { λ _ _ _ _ _. ⊤ };
+
+    ghost unread = { λ _ _. ⊤ };
+
+    fn read_page(&self, _: &mut (), _: u16, into: &mut [u8]) -> Result<(), Infallible> {
+        into.fill(0);
+        Ok(())
+    }
+}
+
 /// Brings in a page of a store of six, full of zeros, and lets the first seat at some of its lines.
 fn bring(rt: &impl Abort, unit: &mut Unit, page: u16, reads: LineSet, writes: LineSet) -> u16 {
     assert!(rt; unit.directory().pages() == 6 && page < 6);
     assert!(rt; !unit.pool().resident().contains(&page));
-    let slot = unit.bring(page, None);
-    unit.page_mut(slot.frame).fill(0);
-    unit.lay_kept(page);
+    let Ok(()) = unit.bring_in(&Zeros, &mut (), page, None);
     unit.set_authority(page, Authority::grant(1, reads, writes));
-    slot.frame
+    unit.pool().frame_of(page).expect(rt, "it has come in")
 }
 
 const fn at(page: u32, byte: u16) -> Virtual {

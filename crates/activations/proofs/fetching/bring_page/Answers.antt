@@ -1,36 +1,29 @@
-use Rattle.activations.proofs.BringLemmas.{now-moved, now-came, now-keeps, out-moved, out-none, out-keeps}
+use Rattle.activations.proofs.BringLemmas.{on-ok, either-way, came-moved, came-keeps, out-moved, out-keeps}
+use Rattle.activations.proofs.FetchLemmas.{if-err}
 use Rattle.activations.proofs.fetching.bring_page.Goals as goal
+
+pub returns-clause-asks : goal.returns-clause-asks
+returns-clause-asks g c = either-way _ _ _ c.bring_in.result c.bring_in.ensures.came c.bring_in.ensures.unread (λ came. came.1.0) (λ off. off.0)
+
+pub returns-clause-cause : goal.returns-clause-cause
+returns-clause-cause g c = record {
+  later = either-way _ _ _ c.bring_in.result c.bring_in.ensures.came c.bring_in.ensures.unread (λ came. came.1.0.calls.disk) (λ off. off.0.calls.disk);
+  failed = if-err _ _ c.bring_in.result c.bring_in.ensures.unread (λ off. off.1);
+  done = on-ok _ _ c.bring_in.result c.bring_in.ensures.came (λ came. came.1.1);
+}
 
 pub returns-clause-moved : goal.returns-clause-moved
 returns-clause-moved g c =
-    now-moved c.args.unit.now c.bring-slot.new.self c.lay_kept.new.self c.args.page c.args.keep c.bring-slot.result.frame c.page_mut.result.now c.read_page-read.new.into
-    c.bring-slot.ensures.brought c.bring-slot.ensures.rest c.page_mut.ensures.value c.read_page-read.auto.into c.lay_kept.ensures
+    either-way _ _ _ c.bring_in.result c.bring_in.ensures.came c.bring_in.ensures.out (λ came. came-moved c.args.unit.now c.args.page c.args.keep _ _ came.2) (λ gone. out-moved c.args.unit.now c.args.page c.args.keep _ gone)
 
 pub returns-clause-came : goal.returns-clause-came
-returns-clause-came g c =
-    now-came c.args.unit.now c.bring-slot.new.self c.lay_kept.new.self c.args.page c.args.keep c.bring-slot.result.frame c.page_mut.result.now c.read_page-read.new.into
-    c.bring-slot.ensures.brought c.bring-slot.ensures.rest c.page_mut.ensures.value c.read_page-read.auto.into c.lay_kept.ensures
+returns-clause-came g c = on-ok _ _ c.bring_in.result c.bring_in.ensures.came (λ came. came.2.resident)
+
+pub returns-clause-none : goal.returns-clause-none
+returns-clause-none g c = if-err _ _ c.bring_in.result c.bring_in.ensures.out (λ gone. gone.none)
 
 pub returns-clause-keeps : goal.returns-clause-keeps
-returns-clause-keeps g c =
-    now-keeps c.args.unit.now c.bring-slot.new.self c.lay_kept.new.self c.args.page c.args.keep c.bring-slot.result.frame c.page_mut.result.now c.read_page-read.new.into
-    c.bring-slot.ensures.brought c.bring-slot.ensures.rest c.page_mut.ensures.value c.read_page-read.auto.into c.lay_kept.ensures
-    g.W.Outside c.args.store.now c.args.outside.now c.requires.store c.requires.page c.requires.absent c.in_default.ensures.read
-
-pub returns-in-Err-clause-moved : goal.returns-in-Err-clause-moved
-returns-in-Err-clause-moved g c =
-    out-moved c.args.unit.now c.bring-slot.new.self c.lay_kept.new.self c.args.page c.args.keep c.bring-slot.result.frame c.page_mut.result.now c.read_page-read.new.into
-    c.bring-slot.ensures.brought c.bring-slot.ensures.rest c.page_mut.ensures.value c.read_page-read.auto.into c.lay_kept.ensures
-    c.empty.new.self c.empty.ensures
-
-pub returns-in-Err-clause-none : goal.returns-in-Err-clause-none
-returns-in-Err-clause-none g c =
-    out-none c.args.unit.now c.bring-slot.new.self c.lay_kept.new.self c.args.page c.args.keep c.bring-slot.result.frame c.page_mut.result.now c.read_page-read.new.into
-    c.bring-slot.ensures.brought c.bring-slot.ensures.rest c.page_mut.ensures.value c.read_page-read.auto.into c.lay_kept.ensures
-    c.empty.new.self c.empty.ensures
-
-pub returns-in-Err-clause-keeps : goal.returns-in-Err-clause-keeps
-returns-in-Err-clause-keeps g c committed is clean =
-    out-keeps c.args.unit.now c.bring-slot.new.self c.lay_kept.new.self c.args.page c.args.keep c.bring-slot.result.frame c.page_mut.result.now c.read_page-read.new.into
-    c.bring-slot.ensures.brought c.bring-slot.ensures.rest c.page_mut.ensures.value c.read_page-read.auto.into c.lay_kept.ensures
-    c.empty.new.self c.empty.ensures c.requires.page c.requires.absent committed clean
+returns-clause-keeps g c committed is clean =
+    either-way _ _ _ c.bring_in.result c.bring_in.ensures.came c.bring_in.ensures.out
+    (λ came. came-keeps c.args.unit.now c.args.page c.args.keep g.W.Outside c.args.store.now c.args.outside.now _ _ c.requires.store c.requires.page c.requires.absent came.1.2 came.2 committed is clean)
+    (λ gone. out-keeps c.args.unit.now c.args.page c.args.keep _ gone c.requires.page c.requires.absent committed clean)

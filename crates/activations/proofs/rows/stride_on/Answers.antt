@@ -2,7 +2,7 @@ use Rattle.activations.proofs.Common.{Commit, Check, Access, reach_of, Activity,
 use Rattle.romp_cpu.specs.declared.cpu.Attempt.{Attempt}
 use Rattle.activations.proofs.GoOnLemmas.{took-either}
 use Rattle.activations.proofs.StrideLemmas.{came-still}
-use Rattle.activations.proofs.StridingLemmas.{none-yet, attempted-again, strode-one, strode-same, came-either}
+use Rattle.activations.proofs.StridingLemmas.{none-yet, attempted-again, strode-one, strode-halted, came-either}
 use Rattle.activations.proofs.rows.stride_on.Goals as goal
 
 pub loop-ran-init : goal.loop-ran-init
@@ -32,10 +32,9 @@ loop-ran-preserved c =
 pub returns-in-Fault-clause-strode : goal.returns-in-Fault-clause-strode
 returns-in-Fault-clause-strode c a seat here =
     let so = c.loop-ran.invariant.1 a seat here in
-    let now = with_live a seat c.loop-ran.live (reach_of c.loop-ran.unit) in
-    let went = attempted-again a seat _ _ c.attempt_on.new.live _ (reach_of c.attempt_on.new.unit) so c.attempt_on.result (c.attempt_on.ensures.went now seat so.runs) in
-    strode-same a seat _ _ _ _ _ so
-    (subst (λ (attempt : Attempt). WasAttempted attempt now seat (with_live a seat c.attempt_on.new.live (reach_of c.attempt_on.new.unit))) c.in-Fault.is went).0
+    strode-halted a seat _ _ c.attempt_on.new.live _ (reach_of c.attempt_on.new.unit) so c.attempt_on.result (c.attempt_on.ensures.went _ seat so.runs)
+    (λ went.
+    (subst (λ (attempt : Attempt). WasAttempted attempt (with_live a seat c.loop-ran.live (reach_of c.loop-ran.unit)) seat (with_live a seat c.attempt_on.new.live (reach_of c.attempt_on.new.unit))) c.in-Fault.is went).0)
 
 pub returns-in-Fault-clause-shut : goal.returns-in-Fault-clause-shut
 returns-in-Fault-clause-shut c access is a seat here =
@@ -50,10 +49,8 @@ returns-in-Fault-clause-shut c access is a seat here =
 pub returns-in-Commit-clause-strode : goal.returns-in-Commit-clause-strode
 returns-in-Commit-clause-strode c a seat here =
     let so = c.loop-ran.invariant.1 a seat here in
-    let now = with_live a seat c.loop-ran.live (reach_of c.loop-ran.unit) in
-    let went = attempted-again a seat _ _ c.attempt_on.new.live _ (reach_of c.attempt_on.new.unit) so c.attempt_on.result (c.attempt_on.ensures.went now seat so.runs) in
-    strode-same a seat _ _ _ _ _ so
-    (came-either c.attempt_on.result now (with_live a seat c.attempt_on.new.live (reach_of c.attempt_on.new.unit)) seat c.in-Commit.is went)
+    strode-halted a seat _ _ c.attempt_on.new.live _ (reach_of c.attempt_on.new.unit) so c.attempt_on.result (c.attempt_on.ensures.went _ seat so.runs)
+    (came-either c.attempt_on.result (with_live a seat c.loop-ran.live (reach_of c.loop-ran.unit)) (with_live a seat c.attempt_on.new.live (reach_of c.attempt_on.new.unit)) seat c.in-Commit.is)
 
 pub returns-in-Commit-clause-stopped : goal.returns-in-Commit-clause-stopped
 returns-in-Commit-clause-stopped c none short a seat here committed long =

@@ -1,8 +1,8 @@
-use Rattle.activations.proofs.Common.{Seating, sitter, number_in, holders, desk_over, IsSound, KeepsParts, StaysSeated, IsContested, IsContestEnd, tally_counts, activity_of, wants_of, taken-below, ◌≡◌, ℕ, IsSome, ap, arith, sym, ◌∙◌, subst}
+use Rattle.activations.proofs.Common.{Seating, sitter, number_in, holders, desk_over, IsSound, KeepsParts, StaysSeated, IsContested, tally_counts, activity_of, wants_of, taken-below, ◌≡◌, ℕ, IsSome, ap, sym, ◌∙◌, subst}
 use Rattle.std.specs.Result.{IfErr}
-use Rattle.activations.specs.Causes.{IfVictim}
+use Rattle.activations.specs.Stages.{EndsContest}
 use Rattle.activations.proofs.AskLemmas.{asked-within, some-holders, sound-asking, asks-now, keeps-asking, stays-asking, asked-whole}
-use Rattle.activations.proofs.KeptLemmas.{keeps-on, stays-on, ok-then}
+use Rattle.activations.proofs.KeptLemmas.{keeps-two, stays-on, ok-then}
 use Rattle.activations.proofs.activations.Activations.ask.Goals as goal
 
 pub holders-requires : goal.holders-requires
@@ -27,13 +27,16 @@ contend-requires-clause-waits c =
     subst (λ (s : Seating). IsSome (sitter s c.args.seat).waits) (sym c.wait.ensures)
     (asks-now (activity_of c.args.self.now) c.args.seat c.request-request.result c.requires.sound c.requires.taken)
 
-pub returns-clause-parts : goal.returns-clause-parts
-returns-clause-parts c =
+pub returns-clause-keeps : goal.returns-clause-keeps
+returns-clause-keeps c =
     let a = activity_of c.args.self.now in
-    subst (λ (n : ℕ). KeepsParts a (activity_of c.contend.new.self) n) (omega arith)
-    (keeps-on a (record a { seating = c.wait.new.self }) (activity_of c.contend.new.self) 0 0
-    (subst (λ (s : Seating). KeepsParts a (record a { seating = s }) 0) (sym c.wait.ensures) (keeps-asking a c.args.seat c.request-request.result c.requires.sound c.requires.taken))
-    c.contend.ensures.parts)
+    record {
+      sound = c.contend.ensures.keeps.sound;
+      parts =
+          keeps-two a (record a { seating = c.wait.new.self }) (activity_of c.contend.new.self)
+          (subst (λ (s : Seating). KeepsParts a (record a { seating = s }) 0) (sym c.wait.ensures) (keeps-asking a c.args.seat c.request-request.result c.requires.sound c.requires.taken))
+          c.contend.ensures.keeps.parts;
+    }
 
 pub returns-clause-stays : goal.returns-clause-stays
 returns-clause-stays c =
@@ -45,7 +48,7 @@ returns-clause-stays c =
 
 pub returns-clause-ends : goal.returns-clause-ends
 returns-clause-ends c =
-    subst (λ (n : ℕ). IfErr c.contend.result (IsContestEnd n))
+    subst (λ (n : ℕ). IfErr c.contend.result (EndsContest n c.contend.new.tally))
     (subst (λ (s : Seating). number_in s c.args.seat ≡ number_in c.args.self.now.seats c.args.seat) (sym c.wait.ensures) (stays-asking (activity_of c.args.self.now) c.args.seat c.request-request.result c.requires.sound c.requires.taken).number)
     c.contend.ensures.ends
 
@@ -59,9 +62,3 @@ returns-clause-settled c begins attempt refused committed order asked =
     (subst (λ (s : Seating). IsContested begins attempt refused (desk_over a committed order) (record a { seating = s }) committed order (tally_counts c.args.tally.now)) (sym c.wait.ensures)
     (asked.contested c.request-request.result others.0 others.1 c.request-request.ensures
     (sym (c.holders.ensures ∙ ap (holders c.args.self.now.seats c.args.seat) c.request-request.ensures) ∙ others.2)))
-
-pub returns-clause-victim : goal.returns-clause-victim
-returns-clause-victim c =
-    subst (λ (n : ℕ). IfErr c.contend.result (IfVictim n c.contend.new.tally.cycles.items))
-    (subst (λ (s : Seating). number_in s c.args.seat ≡ number_in c.args.self.now.seats c.args.seat) (sym c.wait.ensures) (stays-asking (activity_of c.args.self.now) c.args.seat c.request-request.result c.requires.sound c.requires.taken).number)
-    c.contend.ensures.victim

@@ -1,12 +1,6 @@
-use Rattle.activations.proofs.Common.{reach_of, activity_of}
-use Rattle.activations.proofs.EndingLemmas.{shape-left, sound-after, commits-left}
+use Rattle.activations.proofs.Common.{activity_of, refl}
+use Rattle.activations.proofs.EndingLemmas.{commits-left}
 use Rattle.activations.proofs.activations.Activations.commit.Goals as goal
 
-pub returns-clause-shape : goal.returns-clause-shape
-returns-clause-shape c = shape-left (activity_of c.args.self.now) c.args.seat (reach_of c.settle_written.new.unit) _ c.leave.ensures c.settle_written.ensures.rest
-
-pub returns-clause-sound : goal.returns-clause-sound
-returns-clause-sound c = sound-after (activity_of c.args.self.now) c.args.seat (reach_of c.settle_written.new.unit) _ c.leave.ensures c.settle_written.ensures.rest c.requires.sound c.requires.taken
-
 pub returns-clause-commits : goal.returns-clause-commits
-returns-clause-commits c = commits-left (activity_of c.args.self.now) c.args.seat (reach_of c.settle_written.new.unit) _ c.leave.ensures c.settle_written.ensures c.requires.sound c.requires.taken
+returns-clause-commits c = commits-left (activity_of c.args.self.now) c.args.seat (activity_of c.end.new.self).reach.pool (c.end.ensures.settled refl) c.requires.sound c.requires.taken

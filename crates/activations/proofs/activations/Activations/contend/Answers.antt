@@ -9,13 +9,13 @@ roll_back-requires-clause-taken c =
     let sits = ap (seat_of (activity_of c.loop-members.self).seating) (sym c.greatest-victim.ensures) ∙ sym c.seat_of.ensures ∙ c.in-Some-seat_of.is in
     (seat-found (activity_of c.loop-members.self).seating c.loop-members.invariant.0.seating (victim_of c.in-Some.members.items) c.in-Some-seat_of.loser sits).0
 
-pub returns-then-victim-number-clause-room : goal.returns-then-victim-number-clause-room
-returns-then-victim-number-clause-room c =
+pub returns-then-victim-number-clause-counts : goal.returns-then-victim-number-clause-counts
+returns-then-victim-number-clause-counts c =
     let sits = ap (seat_of (activity_of c.loop-members.self).seating) (sym c.greatest-victim.ensures) ∙ sym c.seat_of.ensures ∙ c.in-Some-seat_of.is in
     let few = fewer (activity_of c.loop-members.self).seating.taken c.in-Some-seat_of.loser
     (seat-found (activity_of c.loop-members.self).seating c.loop-members.invariant.0.seating (victim_of c.in-Some.members.items) c.in-Some-seat_of.loser sits).0 in
     let less : length (activity_of c.roll_back.new.self).seating.taken < length (activity_of c.loop-members.self).seating.taken = subst (λ (a : Activity). length a.seating.taken < length (activity_of c.loop-members.self).seating.taken) (sym c.roll_back.ensures.shape) few in
-    omega (arith, less, c.loop-members.invariant.4, c.push.ensures.len)
+    record { cycles = omega (arith, less, c.loop-members.invariant.4, c.push.ensures.len); rest = tally-on c.args.tally.now c.loop-members.tally _ c.loop-members.invariant.8 }
 
 pub returns-then-victim-number-clause-settled : goal.returns-then-victim-number-clause-settled
 returns-then-victim-number-clause-settled c begins attempt refused first committed order number contested printed =
@@ -29,10 +29,13 @@ returns-then-victim-number-clause-settled c begins attempt refused first committ
     subst (λ (a : Activity). ComesToEnd begins a committed order (record (tally_counts c.loop-members.tally) { cycles = map (λ (cycle : Cycle). cycle.members.items) c.push.new.self.items }) Victim) (sym c.roll_back.ensures.shape)
     (subst (λ (these : List (List ℕ)). ComesToEnd begins (rolled (activity_of c.loop-members.self) c.in-Some-seat_of.loser (activity_of c.roll_back.new.self).reach.pool) committed order (record (tally_counts c.loop-members.tally) { cycles = these }) Victim) (sym cycles) lost)
 
-pub returns-then-victim-number-clause-parts : goal.returns-then-victim-number-clause-parts
-returns-then-victim-number-clause-parts c =
-    subst (λ (a : Activity). KeepsParts (activity_of c.args.self.now) a 0) (sym c.roll_back.ensures.shape)
-    (keeps-rolled (activity_of c.args.self.now) (activity_of c.loop-members.self) c.in-Some-seat_of.loser 0 (activity_of c.roll_back.new.self).reach.pool c.loop-members.invariant.6)
+pub returns-then-victim-number-clause-keeps : goal.returns-then-victim-number-clause-keeps
+returns-then-victim-number-clause-keeps c = record {
+  sound = c.roll_back.ensures.sound;
+  parts =
+      subst (λ (a : Activity). KeepsParts (activity_of c.args.self.now) a 0) (sym c.roll_back.ensures.shape)
+      (keeps-rolled (activity_of c.args.self.now) (activity_of c.loop-members.self) c.in-Some-seat_of.loser 0 (activity_of c.roll_back.new.self).reach.pool c.loop-members.invariant.6);
+}
 
 pub loop-members-smaller : goal.loop-members-smaller
 loop-members-smaller c =
@@ -113,10 +116,8 @@ returns-else-is_empty-clause-settled c begins attempt refused first committed or
       (sym c.is_empty.ensures ∙ c.if-is_empty.false) begins attempt refused first committed order number contested
 ]
 
-pub returns-then-victim-number-clause-victim : goal.returns-then-victim-number-clause-victim
-returns-then-victim-number-clause-victim c = (
-  c.loop-members.tally.cycles.items,
-  _,
-  c.push.ensures.items,
-  sym c.greatest-victim.ensures ∙ c.if-victim-number.true ∙ ap (λ (who : Seat). who.number) c.sitter.ensures,
-)
+pub returns-then-victim-number-clause-ends : goal.returns-then-victim-number-clause-ends
+returns-then-victim-number-clause-ends c = record {
+  ends = tt;
+  victim = (c.loop-members.tally.cycles.items, _, c.push.ensures.items, sym c.greatest-victim.ensures ∙ c.if-victim-number.true ∙ ap (λ (who : Seat). who.number) c.sitter.ensures);
+}

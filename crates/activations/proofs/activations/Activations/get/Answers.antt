@@ -1,12 +1,17 @@
 use Rattle.activations.proofs.Common.{has, page_count, Counts, Activity, IsSound, Serves, locked, pages_picked, pages_wanted, wants_of, tally_counts, activity_of, ◌≡◌, ◌<◌, ℕ, true, length, sym, ap, subst}
 use Rattle.activations.proofs.GetLemmas.{picked-below, served-so, broken-so, serves-by, parts-by}
 use Rattle.activations.proofs.GrantingLemmas.{granted-same}
+use Rattle.activations.specs.Stages.{EndsByDisk}
 use Rattle.activations.proofs.activations.Activations.get.Goals as goal
 
-pub returns-clause-parts : goal.returns-clause-parts
-returns-clause-parts g c =
-    parts-by c.bring.result g.W.Outside c.args.store.now c.args.outside.now (activity_of c.args.self.now) (activity_of c.take.new.self) (activity_of c.bring.new.self) c.args.seat
-    (wants_of c.args.touch.now) (pages_wanted (wants_of c.args.touch.now)) c.args.tally.now.pages c.bring.new.tally.pages c.take.ensures.shape c.bring.ensures.shape c.bring.ensures.broke
+pub returns-clause-keeps : goal.returns-clause-keeps
+returns-clause-keeps g c = record {
+  sound = c.bring.ensures.sound;
+  asks = c.bring.ensures.asks;
+  parts =
+      parts-by c.bring.result g.W.Outside c.args.store.now c.args.outside.now (activity_of c.args.self.now) (activity_of c.take.new.self) (activity_of c.bring.new.self) c.args.seat
+      (wants_of c.args.touch.now) (pages_wanted (wants_of c.args.touch.now)) c.args.tally.now.pages c.bring.new.tally.pages c.take.ensures.shape c.bring.ensures.shape c.bring.ensures.broke;
+}
 
 pub returns-clause-served : goal.returns-clause-served
 returns-clause-served g c begins attempt next committed order is_store number goes lines free =
@@ -19,15 +24,15 @@ returns-clause-served g c begins attempt next committed order is_store number go
     let owned = mid.reach.entries in
     let before = tally_counts c.args.tally.now in
     let counted = c.bring.new.tally.pages in
-    let sound = c.requires.sound in
+    let sound = c.requires.can.fetch.sound in
     let later = subst IsSound c.take.ensures.shape c.take.ensures.sound in
     let below : (page : ℕ) → has refused page ≡ true → page < length a.reach.entries =
     λ page inside. subst (λ (n : ℕ). page < n) (sym sound.entries) (picked-below (page_count a.reach.directory) c.args.touch.now c.args.refused c.requires.wanted.within page inside) in
     let grants = granted-same mid (locked a seat wants owned) seat wants refused a.reach.entries owned (ap (λ (x : Activity). x.seating) c.take.ensures.shape) (ap (λ (x : Activity). x.reach.directory) c.take.ensures.shape) c.take.ensures.granted in
-    subst (λ (counts : Counts). Serves c.bring.result begins new seat wants committed order counts) (sym (ap tally_counts c.bring.ensures.tally))
-    (serves-by _ _ _ _ _ _ c.bring.result begins new seat wants committed order (record before { pages = counted }) c.bring.ensures.shape c.bring.ensures.resident c.bring.ensures.fetched
-    (served-so begins attempt refused a seat committed order before wants owned sound c.requires.taken later c.requires.wanted number free lines below grants next goes
-    g.W.Outside c.args.store.now c.args.outside.now mid new counted c.take.ensures.shape is_store c.requires.selected.runner)
-    c.bring.ensures.ends c.bring.ensures.broke
-    (broken-so begins attempt refused a seat committed order before wants owned sound c.requires.taken later c.requires.wanted number free lines below grants next goes
+    subst (λ (counts : Counts). Serves c.bring.result begins new seat wants committed order counts) (sym (ap tally_counts c.bring.ensures.counts.rest))
+    (serves-by _ _ _ (EndsByDisk g.W.Outside c.args.outside.now c.bring.new.outside c.args.tally.now c.bring.new.tally) c.bring.result begins new seat wants committed order (record before { pages = counted }) c.bring.ensures.shape c.bring.ensures.fetched
+    (served-so begins attempt refused a seat committed order before wants owned sound c.requires.can.taken later c.requires.wanted number free lines below grants next goes
+    g.W.Outside c.args.store.now c.args.outside.now mid new counted c.take.ensures.shape is_store c.requires.can.selected.runner)
+    c.bring.ensures.ends (λ how off. off.is) c.bring.ensures.broke
+    (broken-so begins attempt refused a seat committed order before wants owned sound c.requires.can.taken later c.requires.wanted number free lines below grants next goes
     g.W.Outside c.args.store.now c.args.outside.now mid new counted c.take.ensures.shape is_store))

@@ -1,37 +1,40 @@
-use Rattle.activations.proofs.Common.{TurnEnd, IsClean, Tally, Activity, HasBrokenOff, IsPrepared, Prepares, IsFetched, instruction_in, with_pool, wants_of, pages_wanted, HasEnded, HasBroken, tally_counts, activity_of, ◌+◌, Result, sym, ◌∙◌, ap, subst}
+use Rattle.activations.proofs.Common.{TurnEnd, IsClean, Tally, Activity, HasBrokenOff, IsPrepared, Prepares, IsFetched, instruction_in, with_pool, wants_of, pages_wanted, HasEnded, HasBroken, tally_counts, activity_of, asks_none, ◌+◌, Result, sym, ◌∙◌, ap, subst}
 use Rattle.activations.proofs.KeptLemmas.{keeps-left, keeps-broke}
 use Rattle.activations.proofs.PrepareLemmas.{is-to-serve, prepare-broke, prepared-so}
 use Rattle.activations.proofs.ServeLemmas.{handed}
 use Rattle.activations.proofs.activations.Activations.prepare.Goals as goal
 
-pub returns-in_err-keep_limit-clause-parts : goal.returns-in_err-keep_limit-clause-parts
-returns-in_err-keep_limit-clause-parts g c =
-    keeps-left (activity_of c.args.self.now) (activity_of c.keep_limit.new.self) c.args.seat _ c.in_err-keep_limit.ensures.rolled
+pub returns-in_err-keep_limit-clause-keeps : goal.returns-in_err-keep_limit-clause-keeps
+returns-in_err-keep_limit-clause-keeps g c = record {
+  sound = c.keep_limit.ensures.sound;
+  asks = asks_none g.W.Outside c.args.outside.now;
+  parts = keeps-left (activity_of c.args.self.now) (activity_of c.keep_limit.new.self) c.args.seat _ c.in_err-keep_limit.ensures.rolled;
+}
 
 pub returns-in_err-keep_limit-clause-prepared : goal.returns-in_err-keep_limit-clause-prepared
 returns-in_err-keep_limit-clause-prepared g c committed order is follows =
     let counts = tally_counts c.args.tally.now in
-    let to = is-to-serve (activity_of c.args.self.now) c.args.seat c.args.access (wants_of c.touch_of-touch.result) c.requires.sound c.requires.taken c.requires.selected c.requires.shut
+    let to = is-to-serve (activity_of c.args.self.now) c.args.seat c.args.access (wants_of c.touch_of-touch.result) c.requires.can.fetch.sound c.requires.can.taken c.requires.can.selected c.requires.shut
     c.touch_of-touch.ensures.lines committed follows in
     handed (λ (r : Result _ TurnEnd). Prepares r (instruction_in (activity_of c.args.self.now) c.args.seat committed order counts) (activity_of c.keep_limit.new.self) c.args.seat committed order counts)
     c.from_residual.result c.in_err-keep_limit.field-0.0 c.from_residual.ensures.1 (c.in_err-keep_limit.ensures.over committed order counts to.0 to.1)
 
-pub returns-in_err-bring-clause-parts : goal.returns-in_err-bring-clause-parts
-returns-in_err-bring-clause-parts g c =
+pub returns-in_err-bring-clause-keeps : goal.returns-in_err-bring-clause-keeps
+returns-in_err-bring-clause-keeps g c =
     let broke : HasBrokenOff g.W.Outside c.args.store.now c.args.outside.now (activity_of c.args.self.now) c.args.seat (pages_wanted (wants_of c.touch_of-touch.result)) c.args.tally.now.pages
     (activity_of c.bring.new.self) c.bring.new.tally.pages =
     subst
     (λ (a : Activity). HasBrokenOff g.W.Outside c.args.store.now c.args.outside.now a c.args.seat (pages_wanted (wants_of c.touch_of-touch.result)) c.args.tally.now.pages
     (activity_of c.bring.new.self) c.bring.new.tally.pages)
     c.in_ok-keep_limit.ensures.kept.0 c.in_err-bring.ensures.broke in
-    keeps-broke (activity_of c.args.self.now) (activity_of c.bring.new.self) c.args.seat broke.pool _ broke.shape
+    record { sound = c.bring.ensures.sound; asks = c.bring.ensures.asks; parts = keeps-broke (activity_of c.args.self.now) (activity_of c.bring.new.self) c.args.seat broke.pool _ broke.shape }
 
 pub returns-in_err-bring-clause-prepared : goal.returns-in_err-bring-clause-prepared
 returns-in_err-bring-clause-prepared g c committed order is follows =
     let a = activity_of c.args.self.now in
     let counts = tally_counts c.args.tally.now in
     let begins = instruction_in a c.args.seat committed order counts in
-    let to = is-to-serve a c.args.seat c.args.access (wants_of c.touch_of-touch.result) c.requires.sound c.requires.taken c.requires.selected c.requires.shut
+    let to = is-to-serve a c.args.seat c.args.access (wants_of c.touch_of-touch.result) c.requires.can.fetch.sound c.requires.can.taken c.requires.can.selected c.requires.shut
     c.touch_of-touch.ensures.lines committed follows in
     let broke =
     prepare-broke a c.args.seat committed order counts c.touch_of-touch.result to.0 to.1 c.touch_of-touch.ensures.wanted c.in_ok-keep_limit.ensures.kept.1
@@ -42,8 +45,8 @@ returns-in_err-bring-clause-prepared g c committed order is follows =
     c.in_ok-keep_limit.ensures.kept.0 c.in_err-bring.ensures.broke) in
     handed (λ (r : Result _ TurnEnd). Prepares r begins (activity_of c.bring.new.self) c.args.seat committed order (tally_counts c.bring.new.tally))
     c.from_residual-in_err-bring.result c.in_err-bring.field-0.0 c.from_residual-in_err-bring.ensures.1
-    (subst (λ (how : TurnEnd). HasEnded how begins (activity_of c.bring.new.self) committed order (tally_counts c.bring.new.tally)) (sym c.in_err-bring.ensures.ends.0)
-    (subst (λ (t : Tally). HasBroken begins (activity_of c.bring.new.self) committed order (tally_counts t)) (sym c.bring.ensures.tally) broke))
+    (subst (λ (how : TurnEnd). HasEnded how begins (activity_of c.bring.new.self) committed order (tally_counts c.bring.new.tally)) (sym c.in_err-bring.ensures.ends.is)
+    (subst (λ (t : Tally). HasBroken begins (activity_of c.bring.new.self) committed order (tally_counts t)) (sym c.bring.ensures.counts.rest) broke))
 
 pub returns-clause-prepared : goal.returns-clause-prepared
 returns-clause-prepared g c committed order is follows =
@@ -51,16 +54,16 @@ returns-clause-prepared g c committed order is follows =
     let new = activity_of c.bring.new.self in
     let counts = tally_counts c.args.tally.now in
     let begins = instruction_in a c.args.seat committed order counts in
-    let to = is-to-serve a c.args.seat c.args.access (wants_of c.touch_of-touch.result) c.requires.sound c.requires.taken c.requires.selected c.requires.shut
+    let to = is-to-serve a c.args.seat c.args.access (wants_of c.touch_of-touch.result) c.requires.can.fetch.sound c.requires.can.taken c.requires.can.selected c.requires.shut
     c.touch_of-touch.ensures.lines committed follows in
     let same = c.in_ok-keep_limit.ensures.kept.0 in
     let fetched : IsFetched a committed order (pages_wanted (wants_of c.touch_of-touch.result)) c.args.tally.now.pages new.reach.pool c.bring.new.tally.pages =
     subst
     (λ (x : Activity). IsClean x.reach.directory x.reach.pool committed → IsFetched x committed order (pages_wanted (wants_of c.touch_of-touch.result)) c.args.tally.now.pages new.reach.pool c.bring.new.tally.pages)
-    same (c.in_ok-bring.ensures.fetched committed order is) follows.kept.clean in
+    same (c.in_ok-bring.ensures.fetched.fetched committed order is) follows.kept.clean in
     subst
     (λ (t : Tally). IsPrepared begins new c.args.seat c.touch_of-touch.result c.refused-refused.result committed order (record (tally_counts t) { locks = t.locks + (c.from.result + c.from-2.result) }))
-    (sym c.bring.ensures.tally)
+    (sym c.bring.ensures.counts.rest)
     (prepared-so a c.args.seat committed order counts c.touch_of-touch.result to.0 to.1 c.touch_of-touch.ensures.wanted c.in_ok-keep_limit.ensures.kept.1 new.reach.pool c.bring.new.tally.pages
     fetched new c.refused-refused.result c.from.result c.from-2.result (c.in_ok-bring.ensures.shape ∙ ap (λ (x : Activity). with_pool x new.reach.pool) same) c.refused-refused.ensures
     c.from.ensures c.from-2.ensures)

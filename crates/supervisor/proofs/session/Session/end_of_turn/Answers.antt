@@ -9,6 +9,9 @@ returns-in_default-clause-went g c sure over =
     idle g.W.Outside g.met.W.Outside.fewer_later c.args.self.now c.requires.sound c.args.activation c.args.limit c.args.outside.now c.args.outside.now sure over (asks_none g.W.Outside c.args.outside.now)
     c.args.tally.now (nothing-counted c.args.tally.now c.requires.tally c.requires.cycles) (sym c.seat_of.ensures ∙ c.in_default.is)
 
+pub run-requires-clause-can : goal.run-requires-clause-can
+run-requires-clause-can g c = record { sound = c.requires.sound.running; directory = c.requires.sound.directory; room = c.requires.bytes }
+
 pub run-requires-clause-taken : goal.run-requires-clause-taken
 run-requires-clause-taken g c = (seat-found (activity c.args.self.now).seating c.requires.sound.running.seating c.args.activation c.in-Some.seat (sym c.seat_of.ensures ∙ c.in-Some.is)).0
 
@@ -19,19 +22,19 @@ run-requires-clause-cycles g c =
     omega (arith, none, few)
 
 pub commit-requires-clause-sound : goal.commit-requires-clause-sound
-commit-requires-clause-sound g c = sound-ran c.args.self.now c.run.new.self c.args.limit c.requires.sound c.requires.limit c.requires.turns c.requires.rows c.run.ensures.sound c.run.ensures.parts
+commit-requires-clause-sound g c = sound-ran c.args.self.now c.run.new.self c.args.limit c.requires.sound c.requires.limit c.requires.turns c.requires.rows c.run.ensures.keeps.sound c.run.ensures.keeps.parts
 
 pub returns-in-Err-clause-sound : goal.returns-in-Err-clause-sound
-returns-in-Err-clause-sound g c = sound-ran c.args.self.now c.run.new.self c.args.limit c.requires.sound c.requires.limit c.requires.turns c.requires.rows c.run.ensures.sound c.run.ensures.parts
+returns-in-Err-clause-sound g c = sound-ran c.args.self.now c.run.new.self c.args.limit c.requires.sound c.requires.limit c.requires.turns c.requires.rows c.run.ensures.keeps.sound c.run.ensures.keeps.parts
 
 pub returns-in-Err-clause-went : goal.returns-in-Err-clause-went
 returns-in-Err-clause-went g c sure over =
-    ended g.W.Outside g.met.W.Outside.fewer_later c.args.self.now c.requires.sound c.args.activation c.args.limit c.args.outside.now c.run.new.outside sure over c.run.ensures.asks
+    ended g.W.Outside g.met.W.Outside.fewer_later c.args.self.now c.requires.sound c.args.activation c.args.limit c.args.outside.now c.run.new.outside sure over c.run.ensures.keeps.asks
     c.in-Some.seat (sym c.seat_of.ensures ∙ c.in-Some.is) c.run.new.self c.args.tally.now c.run.new.tally (nothing-counted c.args.tally.now c.requires.tally c.requires.cycles)
-    c.in-Err.end c.in-Err.ensures.ends c.in-Err.ensures.waits (c.in-Err.ensures.turned over.committed (order_of c.args.self.now) (store-over g.W.Outside c.args.self.now c.requires.sound c.args.outside.now over sure) over.follows)
+    c.in-Err.end c.in-Err.ensures.over.disk c.in-Err.ensures.over.waits (c.in-Err.ensures.turned over.committed (order_of c.args.self.now) (store-over g.W.Outside c.args.self.now c.requires.sound c.args.outside.now over sure) over.follows)
 
 pub returns-in-Ok-clause-only : goal.returns-in-Ok-clause-only
-returns-in-Ok-clause-only g c = writes_on g.W.Outside g.met.W.Outside.fewer_later c.args.outside.now c.run.new.outside c.commit.new.outside (asks_only g.W.Outside c.args.outside.now c.run.new.outside c.run.ensures.asks) c.commit.ensures.only
+returns-in-Ok-clause-only g c = writes_on g.W.Outside g.met.W.Outside.fewer_later c.args.outside.now c.run.new.outside c.commit.new.outside (asks_only g.W.Outside c.args.outside.now c.run.new.outside c.run.ensures.keeps.asks) c.commit.ensures.only
 
 pub returns-in-Ok-clause-went : goal.returns-in-Ok-clause-went
 returns-in-Ok-clause-went g c sure over =
@@ -39,49 +42,49 @@ returns-in-Ok-clause-went g c sure over =
     let s = c.args.self.now in
     let before = c.args.outside.now in
     let at = c.in-Ok.ensures.turned over.committed (order_of s) (store-over G s c.requires.sound before over sure) over.follows in
-    let asks = c.run.ensures.asks in
+    let asks = c.run.ensures.keeps.asks in
     committed G g.met.W.Outside.fewer_later s c.requires.sound c.args.activation c.args.limit before c.run.new.outside sure over asks
     c.in-Some.seat (sym c.seat_of.ensures ∙ c.in-Some.is) c.run.new.self c.args.tally.now c.run.new.tally (nothing-counted c.args.tally.now c.requires.tally c.requires.cycles)
-    c.run.ensures.parts c.commit.new.outside c.commit.new.self c.commit.result c.commit.new.tally at c.in-Ok.ensures.stays.number c.in-Ok.ensures.calm c.commit.ensures.only c.commit.ensures.end
+    c.run.ensures.keeps.parts c.commit.new.outside c.commit.new.self c.commit.result c.commit.new.tally at c.in-Ok.ensures.on.stays.number c.in-Ok.ensures.on.calm c.commit.ensures.only c.commit.ensures.end
     (c.commit.ensures.went _ (sure_on G g.met.W.Outside.fewer_later before c.run.new.outside sure asks)
     (over-ran G g.met.W.Outside.fewer_later s c.requires.sound c.args.activation c.args.limit before c.run.new.outside sure over asks c.run.new.self at.follows) at)
 
 pub returns-in-Ok-clause-ordered : goal.returns-in-Ok-clause-ordered
 returns-in-Ok-clause-ordered g c =
     let found = (seat-found (activity c.args.self.now).seating c.requires.sound.running.seating c.args.activation c.in-Some.seat (sym c.seat_of.ensures ∙ c.in-Some.is)).1 in
-    subst (λ (n : ℕ). EntersOrder n c.commit.result (order_of c.args.self.now) (order_of c.commit.new.self)) (c.in-Ok.ensures.stays.number ∙ found) c.commit.ensures.ordered
+    subst (λ (n : ℕ). EntersOrder n c.commit.result (order_of c.args.self.now) (order_of c.commit.new.self)) (c.in-Ok.ensures.on.stays.number ∙ found) c.commit.ensures.ordered
 
 pub returns-in-Ok-clause-committing : goal.returns-in-Ok-clause-committing
 returns-in-Ok-clause-committing g c =
     let G = g.W.Outside in
     let s = c.args.self.now in
     let found = (seat-found (activity s).seating c.requires.sound.running.seating c.args.activation c.in-Some.seat (sym c.seat_of.ensures ∙ c.in-Some.is)).1 in
-    closes-since G g.met.W.Outside.fewer_later c.args.activation s.store c.commit.new.self c.args.outside.now c.run.new.outside c.commit.new.outside c.run.ensures.asks c.in-Ok.ensures.calm c.commit.result
-    (subst (λ (n : ℕ). ClosesAsCommit G n c.commit.result s.store c.commit.new.self c.run.new.outside c.commit.new.outside) (c.in-Ok.ensures.stays.number ∙ found) c.commit.ensures.committing)
+    closes-since G g.met.W.Outside.fewer_later c.args.activation s.store c.commit.new.self c.args.outside.now c.run.new.outside c.commit.new.outside c.run.ensures.keeps.asks c.in-Ok.ensures.on.calm c.commit.result
+    (subst (λ (n : ℕ). ClosesAsCommit G n c.commit.result s.store c.commit.new.self c.run.new.outside c.commit.new.outside) (c.in-Ok.ensures.on.stays.number ∙ found) c.commit.ensures.committing)
 
 pub returns-in-Err-clause-end : goal.returns-in-Err-clause-end
 returns-in-Err-clause-end g c =
     let s = c.args.self.now in
     let found = (seat-found (activity s).seating c.requires.sound.running.seating c.args.activation c.in-Some.seat (sym c.seat_of.ensures ∙ c.in-Some.is)).1 in
-    let ends = c.in-Err.ensures.ends in
+    let ends = c.in-Err.ensures.over.disk in
     record {
-      waits = subst (λ (n : ℕ). IfWaits n c.in-Err.end) found c.in-Err.ensures.waits;
-      journal = subst (λ (n : ℕ). IfJournal n c.in-Err.end) (c.run.ensures.parts.most_lines ∙ sym c.requires.sound.most) c.in-Err.ensures.journal;
+      waits = subst (λ (n : ℕ). IfWaits n c.in-Err.end) found c.in-Err.ensures.over.waits;
+      journal = subst (λ (n : ℕ). IfJournal n c.in-Err.end) (c.run.ensures.keeps.parts.most_lines ∙ sym c.requires.sound.most) c.in-Err.ensures.over.journal;
       limited = c.in-Err.ensures.limit;
-      victim = subst (λ (n : ℕ). IfVictim n c.run.new.tally.cycles.items c.in-Err.end) found c.in-Err.ensures.victim;
+      victim = subst (λ (n : ℕ). IfVictim n c.run.new.tally.cycles.items c.in-Err.end) found c.in-Err.ensures.over.victim;
       pages = λ is. let unread = subst (λ (how : TurnEnd). IsEndOfRows g.W.Outside c.args.outside.now c.run.new.outside c.args.tally.now c.run.new.tally how) is ends in omega (arith, unread.1);
       numbered = rows-number g.W.Outside c.args.outside.now c.run.new.outside c.args.tally.now c.run.new.tally c.in-Err.end ends _ _;
     }
 
 pub returns-in-Err-clause-failed : goal.returns-in-Err-clause-failed
-returns-in-Err-clause-failed g c = rows-counted g.W.Outside c.args.outside.now c.run.new.outside c.args.tally.now c.run.new.tally c.in-Err.end c.in-Err.ensures.ends
+returns-in-Err-clause-failed g c = rows-counted g.W.Outside c.args.outside.now c.run.new.outside c.args.tally.now c.run.new.tally c.in-Err.end c.in-Err.ensures.over.disk
 
 pub returns-in-Ok-clause-end : goal.returns-in-Ok-clause-end
 returns-in-Ok-clause-end g c =
     let s = c.args.self.now in
     let found = (seat-found (activity s).seating c.requires.sound.running.seating c.args.activation c.in-Some.seat (sym c.seat_of.ensures ∙ c.in-Some.is)).1 in
     commit-told c.args.activation c.args.limit _ (number_of s.store) c.commit.new.tally c.commit.result c.commit.ensures.end c.commit.ensures.journal
-    (subst (λ (n : ℕ). TellsNumber n (number_of s.store) c.commit.result) (c.in-Ok.ensures.stays.number ∙ found) c.commit.ensures.numbered)
+    (subst (λ (n : ℕ). TellsNumber n (number_of s.store) c.commit.result) (c.in-Ok.ensures.on.stays.number ∙ found) c.commit.ensures.numbered)
 
 pub returns-in-Ok-clause-failed : goal.returns-in-Ok-clause-failed
-returns-in-Ok-clause-failed g c = subst (λ (n : ℕ). FailsCounted (turn_fails c.commit.result) n (g.W.Outside.disk_faults c.commit.new.outside)) c.in-Ok.ensures.calm c.commit.ensures.failed
+returns-in-Ok-clause-failed g c = subst (λ (n : ℕ). FailsCounted (turn_fails c.commit.result) n (g.W.Outside.disk_faults c.commit.new.outside)) c.in-Ok.ensures.on.calm c.commit.ensures.failed

@@ -1,7 +1,0 @@
-use Rattle.activations.proofs.Common.{take, reach_of}
-use Rattle.activations.proofs.WrittenLemmas.{SettledSo, lines_of, written_in}
-use Rattle.activations.proofs.endings.settle_written.Given as goal
-
--- the pages so far that were written into
-abbrev pub invariant-loop-page : goal.invariant-loop-page
-invariant-loop-page l = SettledSo (lines_of l.seats.holding l.seat) (written_in (lines_of l.seats.holding l.seat) (take l.page-index l.page-items)) (reach_of l.fn.unit) (reach_of l.unit)

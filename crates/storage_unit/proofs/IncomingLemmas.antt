@@ -1,0 +1,65 @@
+-- A page that comes in: the frame that is lent is filled, and its kept lines are laid over it.
+use Rattle.storage_unit.proofs.Common.{◌≡◌, refl, ℕ, ◌+◌, ◌*◌, ◌<◌, ◌≤◌, ◌==◌, true, List, [], ◌∷◌, length, Option, is_some, ap, arith, sym, subst, ◌∙◌, eq-eqb, length-take, length-drop, page_bytes, PageSize, Layout, has, Pool, pool_of, IsSeen, frame_count, frame_bytes, Brought, emptied, laid, with_bytes, with_frame_part, lent-part, page_part, Fits, filled, Reach, reach_of, Unit}
+use Rattle.std.proofs.lemmas.Bool.{both_ways, or_left}
+use Rattle.storage_unit.specs.Incoming.{IsFilled, HasGoneOut}
+use Rattle.storage_unit.proofs.LeaveLemmas.{emptied-frame}
+use Rattle.storage_unit.proofs.StateLemmas.{laid-bytes, room-stays}
+use Rattle.storage_unit.proofs.UnitLemmas.{sound-fits, unit-sound}
+
+pub none-has : (xs : List ℕ) → ((x : ℕ) → has xs x ≡ true → ⊥) → xs ≡ []
+none-has [] none = refl
+none-has (x ∷ xs) none = absurd (none x (or_left (x == x) (has xs x) (eq-eqb x x refl)))
+
+-- once all pages went out, none is resident
+pub emptied-resident : (pool : Pool) → IsSeen pool → IsSeen (emptied pool) → (emptied pool).resident ≡ []
+emptied-resident pool seen after = none-has (emptied pool).resident (λ page inside. both_ways (has (emptied pool).resident page) (after.resident page ∙ ap is_some (emptied-frame pool page seen)) inside)
+
+module _ (unit brought_in : Unit) (page : ℕ) (keep : Option ℕ) (frame : ℕ) (lent : List ℕ)
+    (came : Brought (reach_of unit).pool (reach_of brought_in).pool page keep frame) (rest : reach_of brought_in ≡ record (reach_of unit) { pool = (reach_of brought_in).pool })
+    (lends : lent ≡ frame_bytes (reach_of brought_in).pool frame) where
+  there : Fits unit.directory (reach_of brought_in).pool
+  there = subst (λ (directory : Layout). Fits directory (reach_of brought_in).pool) (ap (λ (r : Reach). r.directory) rest) (sound-fits (reach_of brought_in) (unit-sound brought_in))
+
+  inside : frame * page_bytes brought_in.pool.places.page + page_bytes brought_in.pool.places.page ≤ length brought_in.pool.bytes.items.items
+  inside =
+      let stays = (room-stays (reach_of unit).pool keep (unit-sound unit).seen).1 in
+      let size : brought_in.pool.places.page ≡ unit.pool.places.page = ap (λ (pool : Pool). pool.page) came.rest ∙ stays.page in
+      let frames : brought_in.pool.places.frames ≡ unit.pool.places.frames = ap (λ (pool : Pool). pool.frames) came.rest ∙ stays.frames in
+      let below : frame < frame_count brought_in.pool.places.page brought_in.pool.places.frames =
+      subst (λ (s : PageSize). frame < frame_count s brought_in.pool.places.frames) (sym size) (subst (λ (n : ℕ). frame < frame_count unit.pool.places.page n) (sym frames) came.below) in
+      omega (arith, page_part frame (frame_count brought_in.pool.places.page brought_in.pool.places.frames) (page_bytes brought_in.pool.places.page) below, there.seen.bytes)
+
+  whole : length lent ≡ page_bytes brought_in.pool.places.page
+  whole = ap length lends ∙ simp (length-take, length-drop) (omega (arith, inside))
+
+  module _ (part : List ℕ) (now : Unit) (keeps_length : length part ≡ length lent)
+      (lays : reach_of now ≡ record (reach_of brought_in) { pool = laid (pool_of (with_frame_part brought_in.pool (frame * page_bytes brought_in.pool.places.page) part)) page }) where
+    pool-filled : (reach_of now).pool ≡ filled (reach_of brought_in).pool page frame part
+    pool-filled =
+        ap (λ (r : Reach). r.pool) lays
+        ∙ ap (λ (pool : Pool). laid pool page) (lent-part brought_in.pool (frame * page_bytes brought_in.pool.places.page) part (omega (arith, inside, whole, keeps_length)))
+
+    pub is-filled : IsFilled (reach_of unit) page keep part (reach_of now).pool
+    is-filled = record {
+      frame = frame;
+      room = (reach_of brought_in).pool;
+      came = came;
+      fits = there;
+      long = keeps_length ∙ whole ∙ ap page_bytes there.size;
+      is = pool-filled;
+      resident =
+          ap (λ (pool : Pool). pool.resident) pool-filled
+          ∙ ap (λ (pool : Pool). pool.resident) (laid-bytes (with_bytes (reach_of brought_in).pool (frame * page_bytes (reach_of brought_in).pool.page) part) page)
+          ∙ ap (λ (pool : Pool). pool.resident) came.rest;
+    }
+
+    pub has-gone-out : (after : Unit) → reach_of after ≡ record (reach_of now) { pool = emptied (reach_of now).pool } → HasGoneOut (reach_of unit) page keep (reach_of after).pool
+    has-gone-out after empties =
+        let out = ap (λ (r : Reach). r.pool) empties in
+        record {
+          bytes = part;
+          between = (reach_of now).pool;
+          was = is-filled;
+          out = out;
+          none = ap (λ (pool : Pool). pool.resident) out ∙ emptied-resident (reach_of now).pool (unit-sound now).seen (subst IsSeen out (unit-sound after).seen);
+        }
