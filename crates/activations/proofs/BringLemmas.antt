@@ -1,5 +1,5 @@
 -- A page that comes in from the store on the disk: what is read, and what frames have then.
-use Rattle.activations.proofs.Common.{not-true, or_parts, option_map_or, arith, ap, sym, ◌∙◌, subst, ltb-false, PageSize, Layout, byte_count, page_count, page_bytes, byte_count-lines, brought, has, has_left, overlaid, Ghosts, OnlyAsks, FewerLater, held_of, Standing, Stands, NotAStore, Damaged, stands, KeptStore, Pool, pool_of, private_frames, line_place, reach_of, IsClean, private_bytes, Fits, Keeps, filled, page_in, frame-high, unit-sound, sound-fits, laid-bytes, room-stays, emptied-stays, IsStoreOf, IsIn, IsMoved, ◌≡◌, refl, ℕ, ◌+◌, ◌-◌, ◌*◌, ◌<◌, ◌≤◌, ◌==◌, ◌++◌, not, nat_lt, if◌then◌else◌, Bool, true, false, List, [], ◌∷◌, length, take, drop, fold, remove, position, unwrap_or, slice_index, Option, Some, None, option_to_list, Result, Ok, Err, OnOk, OnErr}
+use Rattle.activations.proofs.Common.{asks_none, length-replicate, replicate, ◌⊎◌, inr, inl, not-true, or_parts, option_map_or, arith, ap, sym, ◌∙◌, subst, ltb-false, PageSize, Layout, byte_count, page_count, page_bytes, byte_count-lines, brought, has, has_left, overlaid, Ghosts, OnlyAsks, FewerLater, held_of, Standing, Stands, NotAStore, Damaged, stands, KeptStore, Pool, pool_of, private_frames, line_place, reach_of, IsClean, private_bytes, Fits, Keeps, filled, page_in, frame-high, unit-sound, sound-fits, laid-bytes, room-stays, emptied-stays, IsStoreOf, IsIn, IsMoved, ◌≡◌, refl, ℕ, ◌+◌, ◌-◌, ◌*◌, ◌<◌, ◌≤◌, ◌==◌, ◌++◌, not, nat_lt, if◌then◌else◌, Bool, true, false, List, [], ◌∷◌, length, take, drop, fold, remove, position, unwrap_or, slice_index, Option, Some, None, option_to_list, Result, Ok, Err, OnOk, OnErr}
 use Rattle.std.proofs.lemmas.List.{take-append-le, take-take, length-append, length-take}
 use Rattle.std.proofs.lemmas.List.Quantifiers.{position-Some}
 use Rattle.store_format.proofs.Fronts.{shorter_front, later_front}
@@ -10,12 +10,12 @@ use Rattle.restart.proofs.ShowLemmas.{sure_on, shown_store}
 use Rattle.frame_pool.specs.declared.pages.StorePages.{StorePages}
 use Rattle.frame_pool.specs.Places.{index_out}
 use Rattle.frame_pool.specs.PlacesView.{places_of}
-use Rattle.frame_pool.specs.Pool.{Brought, frame_at, marks_at, with_bytes, emptied, laid, line_laid, line_kept}
+use Rattle.frame_pool.specs.Pool.{Brought, frame_at, marks_at, with_bytes, emptied, line_laid, line_kept}
 use Rattle.frame_pool.proofs.ApartLemmas.{has-remove_other, turned}
 use Rattle.frame_pool.proofs.PlaceLemmas.{none-room}
 use Rattle.storage_unit.specs.declared.unit.Unit.{Unit}
-use Rattle.storage_unit.specs.Incoming.{IsFilled, HasGoneOut}
-use Rattle.storage_unit.proofs.BringKeeps.{bring-keeps}
+use Rattle.storage_unit.specs.Incoming.{IsFilled, IsKept, HasGoneOut}
+use Rattle.storage_unit.proofs.BringKeeps.{bring-keeps, page_in-long}
 use Rattle.storage_unit.proofs.FailedBringKeeps.{failed-bring-keeps}
 use Rattle.restart.specs.Shows as restart
 use Rattle.activations.specs.Fetching.{KeepsStore}
@@ -187,25 +187,57 @@ module _ (unit : Unit) (page : ℕ) (keep : Option ℕ) where
   before : Fits unit.directory (reach_of unit).pool
   before = sound-fits (reach_of unit) (unit-sound unit)
 
-  pub came-moved : (bytes : List ℕ) (new : Pool) → IsFilled (reach_of unit) page keep bytes new → IsMoved (reach_of unit).pool new
-  came-moved bytes new filling = subst (IsMoved (reach_of unit).pool) (sym filling.is) (moved-filled unit.directory (reach_of unit).pool filling.room page keep filling.frame bytes before filling.fits filling.came)
+  filled-moved : (bytes : List ℕ) (new : Pool) → IsFilled (reach_of unit) page keep bytes new → IsMoved (reach_of unit).pool new
+  filled-moved bytes new filling = subst (IsMoved (reach_of unit).pool) (sym filling.is) (moved-filled unit.directory (reach_of unit).pool filling.room page keep filling.frame bytes before filling.fits filling.came)
 
-  -- it was read
-  pub came-keeps : {W : Type 0} (G : Ghosts W) (store : KeptStore) (outside : W) (bytes : List ℕ) (new : Pool) → store.header.directory ≡ unit.directory → page < page_count unit.directory
-      → has unit.pool.places.resident.items page ≡ false → (restart.IsShown G store outside → bytes ≡ restart.page_in (stands (held_of G outside)) page)
-      → IsFilled (reach_of unit) page keep bytes new → KeepsStore G store outside unit.directory (reach_of unit).pool new
-  came-keeps G store outside bytes new same below absent reads filling committed is clean =
-      let was : bytes ≡ page_in unit.directory committed page =
-      reads (record { told = is.tracks.sure.told; shows = is.tracks.shows }) ∙ page-read (stands (held_of G outside)) is.number store.header.directory committed page is.stood ∙ ap (λ (d : Layout). page_in d committed page) same in
-      subst (λ (pool : Pool). Keeps unit.directory (reach_of unit).pool pool committed)
-      (sym (filling.is ∙ ap (filled filling.room page filling.frame) was))
-      (bring-keeps unit.directory (reach_of unit).pool filling.room committed page keep filling.frame before filling.fits
-      (committed-long G store outside committed is ∙ ap byte_count same) clean below absent filling.came)
+  -- it came in so: these bytes were read, or nothing was asked and each of its lines is kept
+  module _ {W : Type 0} (G : Ghosts W) (store : KeptStore) (old after : W) (new : Pool) where
+    abbrev Came : Type 0
+    Came =
+        ((bytes : List ℕ)
+        × (OnlyAsks G old after × (G.disk_faults after ≡ G.disk_faults old) × (restart.IsShown G store old → bytes ≡ restart.page_in (stands (held_of G old)) page))
+        × IsFilled (reach_of unit) page keep bytes new)
+        ⊎ ((after ≡ old) × IsKept (reach_of unit) page keep new)
+
+    pub came-asked : Came → OnlyAsks G old after × (G.disk_faults after ≡ G.disk_faults old)
+    came-asked (inl (_, asked, _)) = (asked.0, asked.1)
+    came-asked (inr (same, kept)) = (subst (OnlyAsks G old) (sym same) (asks_none G old), ap G.disk_faults same)
+
+    came-filled : Came → (bytes : List ℕ) × IsFilled (reach_of unit) page keep bytes new
+    came-filled (inl (bytes, _, filling)) = (bytes, filling)
+    came-filled (inr (same, kept)) =
+        let size : ℕ = page_bytes unit.directory.page in (replicate size 0, kept.any (replicate size 0) (length-replicate size 0))
+
+    pub came-moved : Came → IsMoved (reach_of unit).pool new
+    came-moved came = let (bytes, filling) = came-filled came in filled-moved bytes new filling
+
+    pub came-resident : Came → new.resident ≡ brought (reach_of unit).pool.frames (option_to_list keep) (reach_of unit).pool.resident page
+    came-resident came = (came-filled came).1.resident
+
+    pub came-keeps : store.header.directory ≡ unit.directory → page < page_count unit.directory → has unit.pool.places.resident.items page ≡ false → Came
+        → KeepsStore G store old unit.directory (reach_of unit).pool new
+    came-keeps same below absent came committed is clean = by_way came
+      where
+        long : length committed ≡ byte_count unit.directory
+        long = committed-long G store old committed is ∙ ap byte_count same
+
+        filled-keeps : (bytes : List ℕ) → bytes ≡ page_in unit.directory committed page → IsFilled (reach_of unit) page keep bytes new → Keeps unit.directory (reach_of unit).pool new committed
+        filled-keeps bytes was filling =
+            subst (λ (pool : Pool). Keeps unit.directory (reach_of unit).pool pool committed)
+            (sym (filling.is ∙ ap (filled filling.room page filling.frame) was))
+            (bring-keeps unit.directory (reach_of unit).pool filling.room committed page keep filling.frame before filling.fits long clean below absent filling.came)
+
+        by_way : Came → Keeps unit.directory (reach_of unit).pool new committed
+        by_way (inl (bytes, asked, filling)) =
+            filled-keeps bytes
+            (asked.2 (record { told = is.tracks.sure.told; shows = is.tracks.shows }) ∙ page-read (stands (held_of G old)) is.number store.header.directory committed page is.stood ∙ ap (λ (d : Layout). page_in d committed page) same)
+            filling
+        by_way (inr (unasked, kept)) = filled-keeps (page_in unit.directory committed page) refl (kept.any (page_in unit.directory committed page) (page_in-long unit.directory committed page long below))
 
   -- it couldn't be read, and all pages went out
   module _ (new : Pool) (gone : HasGoneOut (reach_of unit) page keep new) where
     pub out-moved : IsMoved (reach_of unit).pool new
-    out-moved = subst (IsMoved (reach_of unit).pool) (sym gone.out) (moved-emptied (reach_of unit).pool gone.between (came-moved gone.bytes gone.between gone.was))
+    out-moved = subst (IsMoved (reach_of unit).pool) (sym gone.out) (moved-emptied (reach_of unit).pool gone.between (filled-moved gone.bytes gone.between gone.was))
 
     pub out-keeps : page < page_count unit.directory → has unit.pool.places.resident.items page ≡ false → (committed : List ℕ) → IsClean unit.directory (reach_of unit).pool committed
         → Keeps unit.directory (reach_of unit).pool new committed

@@ -5,13 +5,16 @@ use Rattle.storage_unit.proofs.ByteLemmas.{in-range, same-bytes, over-none}
 use Rattle.storage_unit.proofs.LeaveLemmas.{clean-of, clean-shows}
 use Rattle.storage_unit.proofs.BringLemmas.{full, fewer, not-there, filled-is, full-here, full-elsewhere, full-marked}
 
+-- a page of what is committed is as long as a page
+pub page_in-long : (d : Layout) (committed : List ℕ) (page : ℕ) → length committed ≡ byte_count d → page < page_count d → length (page_in d committed page) ≡ page_bytes d.page
+page_in-long d committed page sized within =
+    simp (length-take, length-drop) (omega (arith, page_part page (page_count d) (page_bytes d.page) within, sized, byte_count-pages d))
+
 module _ (d : Layout) (old new : Pool) (committed : List ℕ) (page : ℕ) (keep : Option ℕ) (frame : ℕ)
     (fits : Fits d old) (sized : length committed ≡ byte_count d) (clean : IsClean d old committed) (within : page < page_count d) (absent : has old.resident page ≡ false)
     (came : Brought old new page keep frame) where
   long : length (page_in d committed page) ≡ page_bytes d.page
-  long =
-      let part = page_part page (page_count d) (page_bytes d.page) within in
-      simp (length-take, length-drop) (omega (arith, part, sized, byte_count-pages d))
+  long = page_in-long d committed page sized within
 
   abbrev brought_in : Pool
   brought_in = full d old new committed (page_in d committed page) page keep frame fits clean within absent came long

@@ -1,7 +1,8 @@
 -- A page that comes in: the frame that is lent is filled, and its kept lines are laid over it.
-use Rattle.storage_unit.proofs.Common.{◌≡◌, refl, ℕ, ◌+◌, ◌*◌, ◌<◌, ◌≤◌, ◌==◌, true, List, [], ◌∷◌, length, Option, is_some, ap, arith, sym, subst, ◌∙◌, eq-eqb, length-take, length-drop, page_bytes, PageSize, Layout, has, Pool, pool_of, IsSeen, frame_count, frame_bytes, Brought, emptied, laid, with_bytes, with_frame_part, lent-part, page_part, Fits, filled, Reach, reach_of, Unit}
+use Rattle.storage_unit.proofs.Common.{◌≡◌, refl, ℕ, ◌+◌, ◌*◌, ◌<◌, ◌≤◌, ◌==◌, true, List, [], ◌∷◌, length, Option, Some, None, is_some, range_with_len, slice_index_or, get_or-set_same, page_count, frame_at, marks_at, with_room, ap, arith, sym, subst, ◌∙◌, eq-eqb, length-take, length-drop, page_bytes, PageSize, Layout, has, Pool, pool_of, IsSeen, frame_count, frame_bytes, Brought, emptied, laid, with_bytes, with_frame_part, lent-part, page_part, Fits, filled, Reach, reach_of, Unit}
 use Rattle.std.proofs.lemmas.Bool.{both_ways, or_left}
-use Rattle.storage_unit.specs.Incoming.{IsFilled, HasGoneOut}
+use Rattle.frame_pool.proofs.LayLemmas.{laid-anyway}
+use Rattle.storage_unit.specs.Incoming.{IsFilled, IsKept, HasGoneOut}
 use Rattle.storage_unit.proofs.LeaveLemmas.{emptied-frame}
 use Rattle.storage_unit.proofs.StateLemmas.{laid-bytes, room-stays}
 use Rattle.storage_unit.proofs.UnitLemmas.{sound-fits, unit-sound}
@@ -31,6 +32,35 @@ module _ (unit brought_in : Unit) (page : ℕ) (keep : Option ℕ) (frame : ℕ)
 
   whole : length lent ≡ page_bytes brought_in.pool.places.page
   whole = ap length lends ∙ simp (length-take, length-drop) (omega (arith, inside))
+
+  -- each of its lines is kept
+  pub is-kept : (now : Unit) → reach_of now ≡ record (reach_of brought_in) { pool = laid (reach_of brought_in).pool page } → range_with_len 0 16 ≡ marks_at (reach_of brought_in).pool page
+      → page < page_count unit.directory → IsKept (reach_of unit) page keep (reach_of now).pool
+  is-kept now lays all below =
+      let pool : Pool = (reach_of brought_in).pool in
+      let stays = (room-stays (reach_of unit).pool keep (unit-sound unit).seen).1 in
+      let room : Pool = with_room (reach_of unit).pool keep in
+      let placed : page < length room.frame_of = omega (arith, below, stays.frame_of, unit.pages) in
+      let in_frame : frame_at pool page ≡ Some frame = ap (λ (p : Pool). frame_at p page) came.rest ∙ get_or-set_same room.frame_of page (Some frame) None placed in
+      let kept : page * page_bytes pool.page + page_bytes pool.page ≤ length pool.kept =
+      omega (arith, page_part page (length pool.frame_of) (page_bytes pool.page) (omega (arith, below, there.pages)), there.seen.kept) in
+      record {
+        whole = sym (all ∙ ap (λ (p : Pool). marks_at p page) came.rest ∙ ap (λ (marked : List (List ℕ)). slice_index_or marked page []) stays.marked);
+        any = λ bytes long. record {
+          frame = frame;
+          room = pool;
+          came = came;
+          fits = there;
+          long = long;
+          is =
+              ap (λ (r : Reach). r.pool) lays
+              ∙ laid-anyway page frame pool bytes in_frame all (long ∙ sym (ap page_bytes there.size)) inside kept;
+          resident =
+              ap (λ (r : Reach). r.pool.resident) lays
+              ∙ ap (λ (pool : Pool). pool.resident) (laid-bytes pool page)
+              ∙ ap (λ (pool : Pool). pool.resident) came.rest;
+        };
+      }
 
   module _ (part : List ℕ) (now : Unit) (keeps_length : length part ≡ length lent)
       (lays : reach_of now ≡ record (reach_of brought_in) { pool = laid (pool_of (with_frame_part brought_in.pool (frame * page_bytes brought_in.pool.places.page) part)) page }) where

@@ -1,9 +1,10 @@
 -- A page that comes in, with the bytes that were read of it.
 use Rattle.std.specs.Prelude.{◌≡◌, ℕ, List, [], length, Option, option_to_list}
+use Rattle.std.specs.List.{range_with_len}
 use Rattle.line_geometry.specs.Segments.{page_bytes}
 use Rattle.lock_rules.specs.Resident.{brought}
 use Rattle.frame_pool.specs.declared.model.Pool.{Pool}
-use Rattle.frame_pool.specs.Pool.{Brought, emptied}
+use Rattle.frame_pool.specs.Pool.{Brought, emptied, marks_at}
 use Rattle.storage_unit.specs.declared.model.Reach.{Reach}
 use Rattle.storage_unit.specs.Laws.{Fits, filled}
 
@@ -17,6 +18,11 @@ pub record IsFilled (old : Reach) (page : ℕ) (keep : Option ℕ) (bytes : List
   pub long : length bytes ≡ page_bytes old.directory.page
   pub is : new ≡ filled room page frame bytes
   pub resident : new.resident ≡ brought old.pool.frames (option_to_list keep) old.pool.resident page
+
+-- A page came in of which each line is kept: nothing was read of it, and with whichever bytes its frame had been filled, the pool would be as it is.
+pub record IsKept (old : Reach) (page : ℕ) (keep : Option ℕ) (new : Pool) : Type 0 where
+  pub whole : marks_at old.pool page ≡ range_with_len 0 16
+  pub any : (bytes : List ℕ) → length bytes ≡ page_bytes old.directory.page → IsFilled old page keep bytes new
 
 -- A page couldn't be read: whatever its frame was filled with, all pages have gone out.
 pub record HasGoneOut (old : Reach) (page : ℕ) (keep : Option ℕ) (new : Pool) : Type 0 where

@@ -1,5 +1,5 @@
 // A page that comes in from a store that is read elsewhere.
-ghost use Rattle.std.specs.Prelude.{◌≡◌, ◌<◌, ℕ, List, false, length, OnOk, OnErr};
+ghost use Rattle.std.specs.Prelude.{◌≡◌, ◌<◌, ◌⊎◌, ℕ, List, false, length, OnOk, OnErr};
 ghost use Rattle.line_geometry.specs.Directory.{page_count};
 ghost use Rattle.line_geometry.specs.Segments.{page_bytes};
 ghost use Rattle.lock_rules.specs.Sets.{has};
@@ -32,11 +32,11 @@ pub trait Pages<W> {
 }
 
 impl Unit {
-    ghost use Rattle.storage_unit.specs.Incoming.{IsFilled, HasGoneOut};
+    ghost use Rattle.storage_unit.specs.Incoming.{IsFilled, IsKept, HasGoneOut};
     ghost use Rattle.storage_unit.specs.View.{reach_of};
 
     /// Brings in a page that isn't resident, as the pool does, with the bytes that are read of it, and its kept lines over
-    /// them. Another page, if one is named, stays.
+    /// them. Where each of its lines is kept, nothing is read. Another page, if one is named, stays.
     ///
     /// # Errors
     ///
@@ -53,11 +53,15 @@ impl Unit {
         requires absent { has (reach_of self.old).pool.resident page ≡ false }
         requires can_read { P.can_read pages.now outside.old page (page_bytes (reach_of self.old).directory.page) }
         ensures rest { reach_of self.new ≡ record (reach_of self.old) { pool = (reach_of self.new).pool } }
-        ensures came { OnOk result ((bytes : List ℕ) × P.read pages.now outside.old page bytes outside.new × IsFilled (reach_of self.old) page keep bytes (reach_of self.new).pool) }
+        ensures came { OnOk result (((bytes : List ℕ) × P.read pages.now outside.old page bytes outside.new × IsFilled (reach_of self.old) page keep bytes (reach_of self.new).pool) ⊎ ((outside.new ≡ outside.old) × IsKept (reach_of self.old) page keep (reach_of self.new).pool)) }
         ensures unread { OnErr result (P.unread outside.old outside.new) }
         ensures out { OnErr result (HasGoneOut (reach_of self.old) page keep (reach_of self.new).pool) }
     {
         let slot = self.bring(page, keep);
+        if self.pool.written(page).bits() == u16::MAX {
+            self.lay_kept(page);
+            return Ok(());
+        }
         let read = pages.read_page(outside, page, self.page_mut(slot.frame));
         self.lay_kept(page);
         match read {

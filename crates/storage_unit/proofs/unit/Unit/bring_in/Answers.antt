@@ -1,14 +1,22 @@
-use Rattle.storage_unit.proofs.IncomingLemmas.{is-filled, has-gone-out}
+use Rattle.storage_unit.proofs.Common.{refl, sym, ◌∙◌, ap, inl, inr}
+use Rattle.line_geometry.specs.LineSets.{lines_of_bits}
+use Rattle.frame_pool.proofs.LayLemmas.{all-lines}
+use Rattle.storage_unit.proofs.IncomingLemmas.{is-filled, is-kept, has-gone-out}
 use Rattle.storage_unit.proofs.unit.Unit.bring_in.Goals as goal
 
+pub returns-then-bits-clause-came : goal.returns-then-bits-clause-came
+returns-then-bits-clause-came g c =
+    inr (refl, is-kept c.args.self.now c.bring-slot.new.self c.args.page c.args.keep c.bring-slot.result.frame _ c.bring-slot.ensures.brought c.bring-slot.ensures.rest refl c.lay_kept.new.self c.lay_kept.ensures
+    (sym all-lines ∙ ap lines_of_bits (sym c.if-bits.true) ∙ c.bits.ensures ∙ c.written.ensures) c.requires.page)
+
 pub returns-in-Ok-clause-came : goal.returns-in-Ok-clause-came
-returns-in-Ok-clause-came g c = (
+returns-in-Ok-clause-came g c = inl (
   c.read_page-read.new.into,
   c.in-Ok.ensures.read,
-  is-filled c.args.self.now c.bring-slot.new.self c.args.page c.args.keep c.bring-slot.result.frame c.page_mut.result.now c.bring-slot.ensures.brought c.bring-slot.ensures.rest c.page_mut.ensures.value c.read_page-read.new.into c.lay_kept.new.self c.read_page-read.auto.into c.lay_kept.ensures,
+  is-filled c.args.self.now c.bring-slot.new.self c.args.page c.args.keep c.bring-slot.result.frame c.page_mut.result.now c.bring-slot.ensures.brought c.bring-slot.ensures.rest c.page_mut.ensures.value c.read_page-read.new.into c.lay_kept-2.new.self c.read_page-read.auto.into c.lay_kept-2.ensures,
 )
 
 pub returns-in-Err-clause-out : goal.returns-in-Err-clause-out
 returns-in-Err-clause-out g c =
     has-gone-out c.args.self.now c.bring-slot.new.self c.args.page c.args.keep c.bring-slot.result.frame c.page_mut.result.now c.bring-slot.ensures.brought c.bring-slot.ensures.rest c.page_mut.ensures.value
-    c.read_page-read.new.into c.lay_kept.new.self c.read_page-read.auto.into c.lay_kept.ensures c.empty.new.self c.empty.ensures
+    c.read_page-read.new.into c.lay_kept-2.new.self c.read_page-read.auto.into c.lay_kept-2.ensures c.empty.new.self c.empty.ensures
