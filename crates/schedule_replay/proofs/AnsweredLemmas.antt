@@ -84,9 +84,9 @@ module _ {D W : Type 0} (S : desk.Ghosts D) (G : Ghosts W) (fewer_later : FewerL
         subst (λ (these : List Event). Answered S G these old new before after result) (sym (take_more events i event lt))
         (answered_on (take i events) (get_or events i event ∷ []) old mid new before between after 0 result one two)
 
-  -- another value, or a failure of another type
-  pub answered_well : {T U : Type 0} (events : List Event) (old new : D) (before after : W) (value : T) (other : U) → Answered S G events old new before after (Ok value) → Answered S G events old new before after (Ok other)
-  answered_well events old new before after value other is = record {
+  -- another result, of which the screen's count says as much
+  answered_as : {T U : Type 0} (events : List Event) (old new : D) (before after : W) (result : Result T Failed) (other : Result U Failed) → (FailsOnlyCounted (G.put_faults before) (G.put_faults after) result → FailsOnlyCounted (G.put_faults before) (G.put_faults after) other) → Answered S G events old new before after result → Answered S G events old new before after other
+  answered_as events old new before after result other turns is = record {
     sound = is.sound;
     fixed = is.fixed;
     given = is.given;
@@ -96,8 +96,12 @@ module _ {D W : Type 0} (S : desk.Ghosts D) (G : Ghosts W) (fewer_later : FewerL
     told = is.told;
     time = is.time;
     disk = is.disk;
-    cause = record { later = is.cause.later; failed = tt; done = is.cause.done };
+    cause = turns is.cause;
   }
+
+  -- another value, or a failure of another type
+  pub answered_well : {T U : Type 0} (events : List Event) (old new : D) (before after : W) (value : T) (other : U) → Answered S G events old new before after (Ok value) → Answered S G events old new before after (Ok other)
+  answered_well events old new before after value other is = answered_as events old new before after (Ok value) (Ok other) (λ cause. record { later = cause.later; failed = tt; done = cause.done }) is
 
   broken_cause : {T U : Type 0} (before after : ℕ) (result : Result T Failed) (other : Result U Failed) → IsErr result → IsErr other → FailsOnlyCounted before after result → FailsOnlyCounted before after other
   broken_cause before after (Ok value) other one two cause = absurd (search (rules, one))
@@ -105,18 +109,7 @@ module _ {D W : Type 0} (S : desk.Ghosts D) (G : Ghosts W) (fewer_later : FewerL
   broken_cause before after (Err failed) (Err other) one two cause = record { later = cause.later; failed = cause.failed; done = tt }
 
   pub answered_broken : {T U : Type 0} (events : List Event) (old new : D) (before after : W) (result : Result T Failed) (other : Result U Failed) → IsErr result → IsErr other → Answered S G events old new before after result → Answered S G events old new before after other
-  answered_broken events old new before after result other one two is = record {
-    sound = is.sound;
-    fixed = is.fixed;
-    given = is.given;
-    turns = is.turns;
-    bytes = is.bytes;
-    honest = is.honest;
-    told = is.told;
-    time = is.time;
-    disk = is.disk;
-    cause = broken_cause (G.put_faults before) (G.put_faults after) result other one two is.cause;
-  }
+  answered_broken events old new before after result other one two is = answered_as events old new before after result other (broken_cause (G.put_faults before) (G.put_faults after) result other one two) is
 
 -- it goes on so from an earlier moment, and a supervisor that was open before
 pub goes_since : {D W : Type 0} (S : desk.Ghosts D) (G : Ghosts W) (going : Going) (old mid new : D) (before between after : W) → (S.fixed mid).header ≡ (S.fixed old).header → (S.closed old ≡ false → S.closed mid ≡ false) → G.disk_faults before ≤ G.disk_faults between → GoesBy S G mid new between after going → GoesBy S G old new before after going

@@ -50,9 +50,9 @@ pub use Rattle.store_format.specs.Stands.{chosen}
 unfoldable pub use Rattle.store_format.specs.Stands.{stands}
 pub use Rattle.schedule_replay.specs.Answered.{Answered, GoesBy, GoesShut, IsReady}
 pub use Rattle.schedule_replay.specs.Asked.{IsAsked, begins_in, is_begin, is_turn, turns_in}
-pub use Rattle.schedule_replay.specs.Puts.{BeginsWith, Puts, PutsTimes, number_told, reopened_number, shown_of, stored_number}
-pub use Rattle.schedule_replay.specs.Quiet.{RanQuietly, Tells, WentQuietly, is_rollback, last_by, out_after, tally_begun, tally_by, unput}
-pub use Rattle.schedule_replay.specs.Ran.{HasOpened, InDoubt, PrintsEarlier, Ran, text_of}
+pub use Rattle.schedule_replay.specs.Puts.{BeginsWith, Puts, PutsTimes, number_told, reopened_number, shown_of, stored_number, unended_told}
+pub use Rattle.schedule_replay.specs.Quiet.{RanQuietly, Tells, WentQuietly, is_rollback, last_by, out_after, tally_begun, tally_by, tally_stored, unput}
+pub use Rattle.schedule_replay.specs.Ran.{HasOpened, InDoubt, PrintsEarlier, Ran, WasStep, text_of}
 pub use Rattle.schedule_replay.specs.RanTo.{RanTo}
-pub use Rattle.schedule_replay.specs.Replays.{RanSome, Reports, going_by, going_if, is_closed, is_damaged}
+pub use Rattle.schedule_replay.specs.Replays.{RanSome, Reports, WentBy, going_begun, going_by, going_if, is_closed, is_damaged}
 pub use Rattle.schedule_replay.specs.declared.events.Going.{Going}

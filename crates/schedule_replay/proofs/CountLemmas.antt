@@ -1,7 +1,6 @@
 -- What lines tell of records and of faults of the disk, and how many puts they are.
 use Rattle.schedule_replay.proofs.Common.{◌≡◌, ℕ, ◌+◌, ◌≤◌, List, [], ◌∷◌, ◌++◌, map, cond, refl, ap, ◌∙◌, arith, rules, Bool, true, false, if◌then◌else◌, count_by, Some, None, Result, Ok, Err, IsErr, OnOk, flat_map, sum_by-append, Failed, Begun, Turn, TurnEnd, Stored, Reopened, begun_told, turn_told, counts_told, stored_told, reopened_told, is_commit, Counts, Ending, most_records, records_after, is_stored, tells_fault, turn_fails, stored_fails, reopened_fails, Line, cycle_lines, turn_lines, happening_lines}
 use Rattle.desk.specs.Run.{Happening, Nothing, Begun as begins, Busy, NoSegment, Turned, CheckpointMade, CheckpointFailed, Crashed, CrashFailed}
-use Rattle.desk.specs.declared.answers.Begun.TheVariants as begun
 use Rattle.desk.specs.declared.answers.TurnEnd.TheVariants as end
 use Rattle.desk.specs.declared.answers.Stored.TheVariants as stored
 use Rattle.desk.specs.declared.answers.Reopened.TheVariants as reopened

@@ -1,9 +1,17 @@
 -- What one event keeps, how it goes on, and the numbers in its lines.
-use Rattle.schedule_replay.proofs.Common.{◌≡◌, ℕ, ◌+◌, ◌≤◌, List, [], length, refl, sym, ap, ◌∙◌, subst, arith, inl, IsSome, true, false, Bool, Option, unwrap_or, Result, ForSome, Failed, Ghosts, IsSure, OnlyAsks, FewerLater, held_of, cause_since, leaves_held, elapses-trans, Program, total, Faulty, bank_of, stands, chosen, Event, Turn, TurnEnd, Stored, Reopened, turn_told, stored_told, reopened_told, turn_closes, turn_fails, stored_closes, stored_fails, reopened_closes, reopened_fails, HasNumbers, StoredNumber, IsReopened, Did, standing_of, Desk, Fine, CallsStore, FailsCounted, Fixed, StaysShut, HoldsStore, IsDamage, records_in, records_after, Line, happening_lines, step, Happening, Answered, GoesBy, begins_in, turns_in, Puts, number_told, stored_number, reopened_number, going_if, going_by, is_damaged}
+use Rattle.schedule_replay.proofs.Common.{◌≡◌, ℕ, ◌+◌, ◌*◌, ◌≤◌, List, [], ◌∷◌, length, refl, sym, ap, ◌∙◌, subst, arith, inl, IsSome, true, false, Bool, Option, unwrap_or, Result, Ok, Err, IfOk, ForSome, Failed, Ghosts, IsSure, OnlyAsks, FewerLater, held_of, cause_since, leaves_held, elapses-trans, Program, total, Faulty, bank_of, stands, chosen, Event, Begun, Turn, TurnEnd, Stored, Reopened, begun_told, turn_told, stored_told, reopened_told, turn_closes, turn_fails, stored_closes, stored_fails, reopened_closes, reopened_fails, HasNumbers, StoredNumber, IsReopened, Did, standing_of, Desk, numbers, Fine, CallsStore, FailsCounted, Fixed, StaysShut, HoldsStore, IsDamage, WritesMore, writes_due, records_in, Line, happening_lines, number_after, step, AreNames, Answered, GoesBy, Going, begins_in, turns_in, Puts, number_told, stored_number, reopened_number, WasStep, WentBy, going_if, going_begun, going_by, is_closed, is_damaged}
+use Rattle.std.specs.Result.{result_and}
+use Rattle.desk.specs.declared.event.Event.TheVariants as event
+use Rattle.desk.specs.declared.answers.Begun.TheVariants as begun
 use Rattle.desk.specs.declared.answers.TurnEnd.TheVariants as end
 use Rattle.desk.specs.declared.answers.Stored.TheVariants as stored
 use Rattle.desk.specs.declared.answers.Reopened.TheVariants as reopened
 use Rattle.desk.specs.declared.supervisor.Supervisor as desk
+use Rattle.schedule_replay.specs.declared.events.Going.TheVariants as going
+use Rattle.schedule_replay.proofs.CountLemmas.{begun_keep, turn_calm, stored_calm, reopened_calm}
+use Rattle.schedule_replay.proofs.PutsLemmas.{PrintedNow, puts_and}
+use Rattle.schedule_replay.proofs.WentLemmas.{ran_event}
+use Rattle.schedule_replay.proofs.WriteLemmas.{writes_same, writes_fewer, begin_writes, turn_writes, reopened_writes, stored_writes}
 
 -- an answer that closes and doesn't tell of a failed disk is that it was shut
 pub turn_shut : (ends : TurnEnd) → turn_closes ends ≡ true → turn_fails ends ≡ false → ends ≡ end.Shut
@@ -12,18 +20,42 @@ turn_shut ends closes calm = grind arith
 pub stored_shut : (answer : Stored) → stored_closes answer ≡ true → stored_fails answer ≡ false → answer ≡ stored.Shut
 stored_shut answer closes calm = grind arith
 
--- the number that the answer tells is the store's
-pub lines_numbered : (names : List (List ℕ)) (activation : ℕ) (answer : Turn) (ends : TurnEnd) (printed : List ℕ) (number : ℕ) → HasNumbers ends activation number → happening_lines names (number_told ends) (turn_told activation (record answer { end = ends }) printed) ≡ happening_lines names number (turn_told activation (record answer { end = ends }) printed)
+-- the line of a begin tells no number of the store, and the number that another answer tells is the store's
+begun_numbered : (names : List (List ℕ)) (program : ℕ) (answer : Begun) (one two : ℕ) → happening_lines names one (begun_told program answer) ≡ happening_lines names two (begun_told program answer)
+begun_numbered names program answer one two = grind arith
+
+lines_numbered : (names : List (List ℕ)) (activation : ℕ) (answer : Turn) (ends : TurnEnd) (printed : List ℕ) (number : ℕ) → HasNumbers ends activation number → happening_lines names (number_told ends) (turn_told activation (record answer { end = ends }) printed) ≡ happening_lines names number (turn_told activation (record answer { end = ends }) printed)
 lines_numbered names activation answer ends printed number has = grind arith
 
-pub stored_numbered : (names : List (List ℕ)) (answer : Stored) (number : ℕ) → StoredNumber answer number → happening_lines names (stored_number answer) (stored_told answer) ≡ happening_lines names number (stored_told answer)
+stored_numbered : (names : List (List ℕ)) (answer : Stored) (number : ℕ) → StoredNumber answer number → happening_lines names (stored_number answer) (stored_told answer) ≡ happening_lines names number (stored_told answer)
 stored_numbered names answer number has = grind arith
 
-pub reopened_numbered : (names : List (List ℕ)) (lost : List ℕ) (answer : Reopened) (number : ℕ) → IsReopened answer number → happening_lines names (reopened_number answer) (reopened_told lost answer) ≡ happening_lines names number (reopened_told lost answer)
+reopened_numbered : (names : List (List ℕ)) (lost : List ℕ) (answer : Reopened) (number : ℕ) → IsReopened answer number → happening_lines names (reopened_number answer) (reopened_told lost answer) ≡ happening_lines names number (reopened_told lost answer)
 reopened_numbered names lost answer number has = grind arith
 
 pub undamaged : (answer : Reopened) (number : ℕ) → IsReopened answer number → is_damaged (going_by answer) ≡ false
 undamaged answer number is = grind arith
+
+pub undamaged_begun : (answer : Begun) → is_damaged (going_begun answer) ≡ false
+undamaged_begun answer = grind arith
+
+pub undamaged_if : (shut : Bool) → is_damaged (going_if shut) ≡ false
+undamaged_if shut = grind arith
+
+-- a supervisor is closed where it doesn't go on
+pub begun_closes : (answer : Begun) (old new : Bool) {same : Type 0} → new ≡ old → StaysShut old (answer ≡ begun.Shut) same → new ≡ is_closed (going_begun answer)
+begun_closes answer true new is stays = is ∙ sym (ap (λ (these : Begun). is_closed (going_begun these)) (stays.shut.1 refl))
+begun_closes begun.Shut false new is stays = is ∙ stays.shut.0 refl
+begun_closes (begun.Started activation) false new is stays = is
+begun_closes (begun.Busy activation) false new is stays = is
+begun_closes (begun.NoSegment activation segment) false new is stays = is
+
+pub if_closes : (shut : Bool) → shut ≡ is_closed (going_if shut)
+if_closes true = refl
+if_closes false = refl
+
+pub crash_closes : (answer : Reopened) → reopened_closes answer ≡ is_closed (going_by answer)
+crash_closes answer = grind arith
 
 module _ {D W : Type 0} (S : desk.Ghosts D) (G : Ghosts W) where
   -- the store of a supervisor stays where the disk is only asked
@@ -34,7 +66,7 @@ module _ {D W : Type 0} (S : desk.Ghosts D) (G : Ghosts W) where
     bytes = subst (λ (these : Fixed). HoldsStore G these.header after) (sym fixed) (subst (λ (held : Option (List ℕ)). ForSome held (λ bytes. total (S.fixed old).header ≤ length bytes)) (sym asks.held) bytes);
   }
 
-  pub answered_event : (fewer_later : FewerLater G) {T : Type 0} (events : List Event) (lines : List Line) (old new : D) (before between after : W) (result : Result T Failed) → S.sound new → S.fixed new ≡ S.fixed old → S.given new ≤ S.given old + begins_in events → S.turns new ≤ S.turns old + turns_in events
+  answered_event : (fewer_later : FewerLater G) {T : Type 0} (events : List Event) (lines : List Line) (old new : D) (before between after : W) (result : Result T Failed) → S.sound new → S.fixed new ≡ S.fixed old → S.given new ≤ S.given old + begins_in events → S.turns new ≤ S.turns old + turns_in events
       → CallsStore G (S.fixed new).header before between → Puts G lines between after result → Answered S G events old new before after result
   answered_event fewer_later events lines old new before between after result sound fixed given turns store puts = record {
     sound = sound;
@@ -65,18 +97,101 @@ module _ {D W : Type 0} (S : desk.Ghosts D) (G : Ghosts W) where
   goes_crash reopened.DiskFault old new before between after closed stays rose damage disk held = (closed, λ was_open. omega (arith, rose, disk))
   goes_crash reopened.Shut old new before between after closed stays rose damage disk held = (closed, λ was_open. absurd (let is : S.closed old ≡ true = stays.shut.0 refl in let no : ⊥ = cc in no))
 
-  -- a begin asks no disk
-  pub begin_did : (stands_law : (s : D) (held : List ℕ) (desk : Desk) → S.shows s held desk → stands held ≡ standing_of (S.fixed s).opened desk) (open_law : (s : D) (held : List ℕ) (desk : Desk) → S.shows s held desk → desk.closed ≡ false) (closed_law : (s : D) (held : List ℕ) (desk : Desk) → S.shows s held desk → S.closed s ≡ false) (order_law : (s : D) (held : List ℕ) (desk : Desk) → S.shows s held desk → S.order s ≡ desk.order)
-      (programs : List Program) (one : Event) (told : Happening) (start next : Desk) (old new : D) (w : W) → IsSure G w → S.shows old (held_of G w) start → step programs one Fine start ≡ record { desk = next; happening = told } → S.shows new (held_of G w) next → records_in (held_of G w) ≤ records_after told (records_in (held_of G w)) → Did G programs (S.fixed old).opened one told (S.closed new) (S.order new) (S.shows new) start w w
-  begin_did stands_law open_law closed_law order_law programs one told start next old new w sure shows is shown few = record {
-    word = Fine;
-    next = next;
-    stepped = is;
-    why = inl refl;
-    closes = closed_law new (held_of G w) next shown ∙ sym (open_law new (held_of G w) next shown);
-    ordered = order_law new (held_of G w) next shown;
-    still = λ still. (sure, shown);
-    records = λ still. few;
-    crash = λ image seen left. inl (ap stands (leaves_held G w sure image seen left) ∙ stands_law old (held_of G w) start shows);
-    doubt = λ doubted. absurd (let no : ⊥ = cc in no);
-  }
+  -- a supervisor that closed at a begin was closed before
+  pub goes_begin : (answer : Begun) {same : Type 0} (old new : D) (before after : W) → S.closed new ≡ S.closed old → StaysShut (S.closed old) (answer ≡ begun.Shut) same → GoesBy S G old new before after (going_begun answer)
+  goes_begin begun.Shut old new before after closed stays =
+      let was : S.closed old ≡ true = stays.shut.0 refl in
+      (closed ∙ was, λ was_open. absurd (let no : ⊥ = cc in no))
+  goes_begin (begun.Started activation) old new before after closed stays = λ was_open. closed ∙ was_open
+  goes_begin (begun.Busy activation) old new before after closed stays = λ was_open. closed ∙ was_open
+  goes_begin (begun.NoSegment activation segment) old new before after closed stays = λ was_open. closed ∙ was_open
+
+  module _ (names : List (List ℕ)) (programs : List Program) where
+    -- a begin asks no disk
+    pub begin_step : (stands_law : (s : D) (held : List ℕ) (desk : Desk) → S.shows s held desk → stands held ≡ standing_of (S.fixed s).opened desk) (open_law : (s : D) (held : List ℕ) (desk : Desk) → S.shows s held desk → desk.closed ≡ false) (closed_law : (s : D) (held : List ℕ) (desk : Desk) → S.shows s held desk → S.closed s ≡ false) (order_law : (s : D) (held : List ℕ) (desk : Desk) → S.shows s held desk → S.order s ≡ desk.order)
+        (program : ℕ) (args : List ℕ) (answer : Begun) (start : Desk) (old new : D) (w : W) → IsSure G w → S.shows old (held_of G w) start
+        → (next : Desk) × (step programs (event.Begin program args) Fine start ≡ record { desk = next; happening = begun_told program answer }) × S.shows new (held_of G w) next
+        → WasStep S G names programs (S.fixed old).opened (event.Begin program args) (happening_lines names 0 (begun_told program answer)) start new w w
+    begin_step stands_law open_law closed_law order_law program args answer start old new w sure shows (next, is, shown) = record {
+      told = begun_told program answer;
+      did = record {
+        word = Fine;
+        next = next;
+        stepped = is;
+        why = inl refl;
+        closes = closed_law new (held_of G w) next shown ∙ sym (open_law new (held_of G w) next shown);
+        ordered = order_law new (held_of G w) next shown;
+        still = λ still. (sure, shown);
+        records = λ still. begun_keep program answer (records_in (held_of G w));
+        crash = λ image seen left. inl (ap stands (leaves_held G w sure image seen left) ∙ stands_law old (held_of G w) start shows);
+        doubt = λ doubted. absurd (let no : ⊥ = cc in no);
+      };
+      lines_are = begun_numbered names program answer 0 (number_after (S.fixed old).opened next);
+      writes = subst (λ (n : ℕ). WritesMore (G.writes w) (G.writes w) (2 * n)) (sym (begin_writes names 0 program answer)) (writes_same (G.writes w));
+      calm = λ none. refl;
+    }
+
+    module _ (number : ℕ) (start : Desk) (new : D) (before after : W) where
+      pub turn_step : (activation limit : ℕ) (answer : Turn) (printed : List ℕ)
+          → (did : Did G programs number (event.Turn activation limit) (turn_told activation answer printed) (S.closed new) (S.order new) (S.shows new) start before after) × HasNumbers answer.end activation (number_after number did.next)
+          → WritesMore (G.writes before) (G.writes after) (writes_due answer.end) → FailsCounted (turn_fails answer.end) (G.disk_faults before) (G.disk_faults after)
+          → WasStep S G names programs number (event.Turn activation limit) (happening_lines names (number_told answer.end) (turn_told activation answer printed)) start new before after
+      turn_step activation limit answer printed (did, has) writes failed = record {
+        told = turn_told activation answer printed;
+        did = did;
+        lines_are = lines_numbered names activation answer answer.end printed (number_after number did.next) has;
+        writes = writes_fewer (G.writes before) (G.writes after) (writes_due answer.end) _ (turn_writes names (number_told answer.end) activation answer answer.end printed) writes;
+        calm = λ none. subst (λ (fails : Bool). FailsCounted fails (G.disk_faults before) (G.disk_faults after)) (turn_calm names (number_told answer.end) activation answer answer.end printed none) failed;
+      }
+
+      pub checkpoint_step : (answer : Stored)
+          → (did : Did G programs number event.Checkpoint (stored_told answer) (S.closed new) (S.order new) (S.shows new) start before after) × StoredNumber answer (number_after number did.next)
+          → WritesMore (G.writes before) (G.writes after) 0 → FailsCounted (stored_fails answer) (G.disk_faults before) (G.disk_faults after)
+          → WasStep S G names programs number event.Checkpoint (happening_lines names (stored_number answer) (stored_told answer)) start new before after
+      checkpoint_step answer (did, has) writes failed = record {
+        told = stored_told answer;
+        did = did;
+        lines_are = stored_numbered names answer (number_after number did.next) has;
+        writes = subst (λ (n : ℕ). WritesMore (G.writes before) (G.writes after) (2 * n)) (sym (stored_writes names (stored_number answer) answer)) writes;
+        calm = λ none. subst (λ (fails : Bool). FailsCounted fails (G.disk_faults before) (G.disk_faults after)) (stored_calm names (stored_number answer) answer none) failed;
+      }
+
+      pub crash_step : (lost : List ℕ) (answer : Reopened) → lost ≡ numbers start
+          → (did : Did G programs number event.Crash (reopened_told (numbers start) answer) (S.closed new) (S.order new) (S.shows new) start before after) × IsReopened answer (number_after number did.next)
+          → OnlyAsks G before after → FailsCounted (reopened_fails answer) (G.disk_faults before) (G.disk_faults after)
+          → WasStep S G names programs number event.Crash (happening_lines names (reopened_number answer) (reopened_told lost answer)) start new before after
+      crash_step lost answer are (did, has) asks failed = record {
+        told = reopened_told (numbers start) answer;
+        did = did;
+        lines_are = ap (λ (these : List ℕ). happening_lines names (reopened_number answer) (reopened_told these answer)) are ∙ reopened_numbered names (numbers start) answer (number_after number did.next) has;
+        writes = subst (λ (n : ℕ). WritesMore (G.writes before) (G.writes after) (2 * n)) (sym (reopened_writes names (reopened_number answer) lost answer)) (subst (λ (told : Option ℕ). WritesMore (G.writes before) told 0) (sym asks.writes) (writes_same (G.writes before)));
+        calm = λ none. subst (λ (fails : Bool). FailsCounted fails (G.disk_faults before) (G.disk_faults after)) (reopened_calm names (reopened_number answer) lost answer none) failed;
+      }
+
+  -- an event whose step is told was asked, and its lines were put: it goes on as the answer says
+  pub went_event : (fewer_later : FewerLater G) (printed_now : PrintedNow G) (stands_law : (s : D) (held : List ℕ) (desk : Desk) → S.shows s held desk → stands held ≡ standing_of (S.fixed s).opened desk) (open_law : (s : D) (held : List ℕ) (desk : Desk) → S.shows s held desk → desk.closed ≡ false)
+      {T : Type 0} (names : List (List ℕ)) (are : AreNames names) (event one : Event) (lines : List Line) (old new : D) (before between after : W) (put : Result T Failed) (way told : Going) (result : Result Going Failed)
+      → event ≡ one → way ≡ told → result ≡ result_and put (Ok way) → Puts G lines between after put
+      → S.sound new → S.fixed new ≡ S.fixed old → S.given new ≤ S.given old + begins_in (one ∷ []) → S.turns new ≤ S.turns old + turns_in (one ∷ []) → CallsStore G (S.fixed new).header before between
+      → (S.closed old ≡ true → told ≡ going.Closed) → S.closed new ≡ is_closed told → (G.disk_faults after ≡ G.disk_faults between → G.held after ≡ G.held between → GoesBy S G old new before after told)
+      → ((start : Desk) → IsSure G before → S.shows old (held_of G before) start → WasStep S G names (S.fixed old).programs (S.fixed old).opened one lines start new before between × (is_damaged told ≡ false))
+      → WentBy S G names event old new before after result
+  went_event fewer_later printed_now stands_law open_law {T} names are event one lines old new before between after put way told result is_one is is_and puts sound fixed given turns store shut closed goes went =
+      subst (λ (e : Event). WentBy S G names e old new before after result) (sym is_one)
+      (subst (λ (how : Result Going Failed). WentBy S G names one old new before after how) (sym is_and) (record {
+        answered = answered_event fewer_later (one ∷ []) lines old new before between after _ sound fixed given turns store all;
+        goes = if_ok_and (GoesBy S G old new before after) (goes puts.only.disk puts.only.held) put;
+        shut = λ was. if_ok_and (λ how. how ≡ going.Closed) (shut was) put;
+        ran = λ start sure shows.
+            ran_event S G fewer_later printed_now stands_law names are (S.fixed old).programs (S.fixed old).opened one lines start new before between after _
+            (open_law old (held_of G before) start shows) (ap (λ (fixed : Fixed). fixed.opened) fixed) store.calls (went start sure shows).0 all;
+        closed = if_ok_and (λ how. S.closed new ≡ is_closed how) closed put;
+        undamaged = λ start sure shows. if_ok_and (λ how. is_damaged how ≡ false) (went start sure shows).1 put;
+      }))
+    where
+      all : Puts G lines between after (result_and put (Ok way))
+      all = puts_and G between after lines put way puts
+
+      if_ok_and : (P : Going → Type 0) → P told → (how : Result T Failed) → IfOk (result_and how (Ok way)) P
+      if_ok_and P holds (Ok value) = subst P (sym is) holds
+      if_ok_and P holds (Err why) = tt

@@ -1,6 +1,7 @@
 -- Puts of lines, one after another.
-use Rattle.schedule_replay.proofs.Common.{◌≡◌, ⊎_elim, ℕ, ◌+◌, ◌<◌, List, [], ◌∷◌, ◌++◌, length, map, get_or, take, drop, min, refl, sym, ◌∙◌, ap, subst, append_assoc, append-nil, length-append, arith, rules, inl, IsSome, Option, None, Some, Result, Ok, Err, IsErr, unwrap_or, map-append, take_more, take-append-drop, take_min, take-append-le, flat_map-append, flat_map, Failed, Ghosts, Prints, AreTold, Elapses, Shows, OnlyPuts, FewerLater, prints_on, prints_stop, prints_same, prints_well, only_on, leaves_on, told_is, Cycle, Line, line_text, Left, Lost, cycle_lines, Puts, PutsTimes, shown_of, BeginsWith}
+use Rattle.schedule_replay.proofs.Common.{◌≡◌, ⊎_elim, ℕ, ◌+◌, ◌<◌, List, [], ◌∷◌, ◌++◌, length, map, get_or, take, drop, min, refl, sym, ◌∙◌, ap, subst, append_assoc, append-nil, length-append, arith, rules, inl, IsSome, Option, None, Some, Result, Ok, Err, IsErr, unwrap_or, map-append, take_more, take-append-drop, take_min, take-append-le, flat_map-append, flat_map, Failed, Ghosts, Prints, AreTold, Elapses, Shows, OnlyPuts, FewerLater, prints_on, prints_stop, prints_same, prints_well, only_on, leaves_on, told_is, Cycle, Line, line_text, cycle_lines, Puts, PutsTimes, shown_of, BeginsWith}
 use Rattle.std.proofs.Math.Seq.{take-append-add}
+use Rattle.std.specs.Result.{result_and}
 
 -- a put that went well
 abbrev pub done : Result ℕ Failed
@@ -70,6 +71,11 @@ module _ {W : Type 0} (G : Ghosts W) where
     images = puts.images;
     crash = puts.crash;
   }
+
+  -- lines were put, and then a value is told where that went well
+  pub puts_and : {T U : Type 0} (old new : W) (lines : List Line) (put : Result T Failed) (value : U) → Puts G lines old new put → Puts G lines old new (result_and put (Ok value))
+  puts_and old new lines (Ok first) value puts = puts_well old new lines first value puts
+  puts_and {T} {U} old new lines (Err why) value puts = puts_broken {T = T} {U = U} old new lines (Err why) (Err why) refl refl puts
 
   -- the puts of lines, and then of lines
   pub times_on : {T U : Type 0} (old mid new : W) (first second : List Line) (value : T) (result : Result U Failed) → Prints (G.printed old) (G.printed mid) (text_of first) (Ok value) → PutsTimes {T = T} G (length first) old mid (Ok value) → PutsTimes G (length second) mid new result → PutsTimes G (length (first ++ second)) old new result
@@ -174,12 +180,6 @@ module _ {W : Type 0} (G : Ghosts W) where
         puts_no_more old mid new first result later is so one two =
             puts_same old new (F (take (i + 1) xs) ++ F (drop (i + 1) xs)) (F xs) later (sym (split (take (i + 1) xs) (drop (i + 1) xs)) ∙ ap F (take-append-drop (i + 1) xs))
             (puts_stop old new (F (take (i + 1) xs)) (F (drop (i + 1) xs)) result later is so (puts_more old mid new first result one two))
-
-pub left_split : (xs ys : List ℕ) → map Left (xs ++ ys) ≡ map Left xs ++ map Left ys
-left_split xs ys = map-append Left xs ys
-
-pub lost_split : (xs ys : List ℕ) → map Lost (xs ++ ys) ≡ map Lost xs ++ map Lost ys
-lost_split xs ys = map-append Lost xs ys
 
 -- the lines of cycles
 abbrev pub cycles_of : List Cycle → List Line

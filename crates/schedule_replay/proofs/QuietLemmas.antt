@@ -1,9 +1,10 @@
 -- Events without a report, one after another.
-use Rattle.schedule_replay.proofs.Common.{◌≡◌, ℕ, ◌+◌, ◌<◌, List, [], ◌∷◌, ◌++◌, length, cond, take, get_or, refl, sym, ap, ◌∙◌, subst, arith, false, not, count_by, Option, None, Some, IfSome, flat_map, fold, map-append, length-map, take_more, fold-append, sum_by-append, Ghosts, IsSure, CallsDisk, FewerLater, held_of, leaves_held, Program, stands, Turn, TurnEnd, Event, Begun, begun_told, turn_told, counts_told, is_commit, standing_of, IsEitherOf, Desk, Word, Doubt, Line, cycle_lines, event_lines, happening_lines, number_after, Step, run, step, faulted, left_none, left_quiet, run_on, open_on, lines_on, faulted_on, Grew, Stepped, counted_quiet, run_grew, step_by, RanQuietly, Tells, WentQuietly, is_rollback, last_by, out_after, tally_begun, tally_by, InDoubt, RanTo}
+use Rattle.schedule_replay.proofs.Common.{◌≡◌, ℕ, ◌+◌, ◌<◌, List, [], ◌∷◌, ◌++◌, length, cond, take, get_or, refl, sym, ap, ◌∙◌, subst, arith, false, not, count_by, Option, None, Some, IfSome, flat_map, fold, map-append, length-map, take_more, fold-append, sum_by-append, Ghosts, IsSure, CallsDisk, FewerLater, held_of, leaves_held, Program, stands, Turn, TurnEnd, Event, Begun, begun_told, turn_told, stored_told, counts_told, Stored, is_commit, standing_of, IsEitherOf, Desk, Word, Doubt, Line, cycle_lines, event_lines, happening_lines, Step, run, step, faulted, left_none, left_quiet, run_on, open_on, lines_on, faulted_on, Grew, Stepped, counted_quiet, run_grew, step_by, RanQuietly, Tells, WentQuietly, is_rollback, last_by, out_after, tally_begun, tally_by, tally_stored, InDoubt, RanTo, WasStep}
 use Rattle.schedule_replay.specs.declared.quietly.Tally.{Tally}
 use Rattle.desk.specs.declared.answers.TurnEnd.TheVariants as end
 use Rattle.desk.specs.declared.supervisor.Supervisor as desk
 use Rattle.desk.specs.declared.answers.Begun.TheVariants as begun
+use Rattle.desk.specs.declared.answers.Stored.TheVariants as stored
 use Rattle.desk.specs.Lines as line
 use Rattle.schedule_replay.proofs.RanLemmas.{images_join, none_last}
 use Rattle.schedule_replay.proofs.RanToLemmas.{to_did, to_none, to_on}
@@ -35,54 +36,31 @@ begin_tells number program (begun.Busy activation) last = record { commits = ref
 begin_tells number program (begun.NoSegment activation segment) last = record { commits = refl; rollbacks = refl; last = refl }
 begin_tells number program begun.Shut last = tt
 
+-- and that of a checkpoint
+pub stored_tells : (number : ℕ) (answer : Stored) (last : List ℕ) → IfSome (tally_stored answer) (λ tally. Tells tally last last (happening_lines [] number (stored_told answer)))
+stored_tells number (stored.Number told) last = record { commits = refl; rollbacks = refl; last = refl }
+stored_tells number stored.Closed last = tt
+stored_tells number stored.Shut last = tt
+
+-- the tally of a turn's counts, its cycles and the lines of its end
+counted_tells : (activation commits rollbacks : ℕ) (answer : Turn) (ends : List Line) (old new : List ℕ) → commits ≡ count_by is_commit ends → rollbacks ≡ length answer.cycles.items + count_by is_rollback ends → new ≡ fold out_after old ends
+    → Tells (record { commits = commits; rollbacks = rollbacks }) old new (line.Turn activation answer.ran answer.pages answer.locks ∷ (flat_map cycle_lines (counts_told answer).cycles ++ ends))
+counted_tells activation commits rollbacks answer ends old new one two last = record {
+  commits = one ∙ sym (counted_quiet activation (counts_told answer) ends);
+  rollbacks = let all = rolled activation answer ends in omega (arith, all, two);
+  last = last ∙ sym (cycles_last old (counts_told answer).cycles ends);
+}
+
 -- the tally of a turn is that of its lines
 pub turn_tells : (number activation : ℕ) (answer : Turn) (ends : TurnEnd) (printed last : List ℕ) → IfSome (tally_by ends (length answer.cycles.items)) (λ tally. Tells tally last (last_by ends printed last) (happening_lines [] number (turn_told activation (record answer { end = ends }) printed)))
 turn_tells number activation answer end.Idle printed last = record { commits = refl; rollbacks = refl; last = refl }
-turn_tells number activation answer end.Limit printed last = record {
-  commits = sym (counted_quiet activation (counts_told answer) []);
-  rollbacks = let all = rolled activation answer [] in omega (arith, all);
-  last = sym (cycles_last last (counts_told answer).cycles []);
-}
-turn_tells number activation answer (end.Committed told steps) printed last =
-    let ends : List Line = line.Commit activation number steps printed ∷ [] in
-    record {
-      commits = sym (counted_quiet activation (counts_told answer) ends);
-      rollbacks = let all = rolled activation answer ends in omega (arith, all);
-      last = sym (cycles_last last (counts_told answer).cycles ends);
-    }
-turn_tells number activation answer (end.Checked code address) printed last =
-    let ends : List Line = line.Check activation code address ∷ [] in
-    record {
-      commits = sym (counted_quiet activation (counts_told answer) ends);
-      rollbacks = let all = rolled activation answer ends in omega (arith, all);
-      last = sym (cycles_last last (counts_told answer).cycles ends);
-    }
-turn_tells number activation answer (end.Waits told holders) printed last =
-    let ends : List Line = line.Wait activation holders.items ∷ [] in
-    record {
-      commits = sym (counted_quiet activation (counts_told answer) ends);
-      rollbacks = let all = rolled activation answer ends in omega (arith, all);
-      last = sym (cycles_last last (counts_told answer).cycles ends);
-    }
-turn_tells number activation answer end.Victim printed last = record {
-  commits = sym (counted_quiet activation (counts_told answer) []);
-  rollbacks = let all = rolled activation answer [] in omega (arith, all);
-  last = sym (cycles_last last (counts_told answer).cycles []);
-}
-turn_tells number activation answer (end.Journal lines limit) printed last =
-    let ends : List Line = line.Journal activation lines limit ∷ [] in
-    record {
-      commits = sym (counted_quiet activation (counts_told answer) ends);
-      rollbacks = let all = rolled activation answer ends in omega (arith, all);
-      last = sym (cycles_last last (counts_told answer).cycles ends);
-    }
-turn_tells number activation answer end.Disk printed last =
-    let ends : List Line = line.Disk activation ∷ [] in
-    record {
-      commits = sym (counted_quiet activation (counts_told answer) ends);
-      rollbacks = let all = rolled activation answer ends in omega (arith, all);
-      last = sym (cycles_last last (counts_told answer).cycles ends);
-    }
+turn_tells number activation answer end.Limit printed last = counted_tells activation 0 (length answer.cycles.items) answer [] last last refl (omega arith) refl
+turn_tells number activation answer (end.Committed told steps) printed last = counted_tells activation 1 (length answer.cycles.items) answer (line.Commit activation number steps printed ∷ []) last printed refl (omega arith) refl
+turn_tells number activation answer (end.Checked code address) printed last = counted_tells activation 0 (length answer.cycles.items + 1) answer (line.Check activation code address ∷ []) last last refl (omega arith) refl
+turn_tells number activation answer (end.Waits told holders) printed last = counted_tells activation 0 (length answer.cycles.items) answer (line.Wait activation holders.items ∷ []) last last refl (omega arith) refl
+turn_tells number activation answer end.Victim printed last = counted_tells activation 0 (length answer.cycles.items) answer [] last last refl (omega arith) refl
+turn_tells number activation answer (end.Journal lines limit) printed last = counted_tells activation 0 (length answer.cycles.items + 1) answer (line.Journal activation lines limit ∷ []) last last refl (omega arith) refl
+turn_tells number activation answer end.Disk printed last = counted_tells activation 0 (length answer.cycles.items + 1) answer (line.Disk activation ∷ []) last last refl (omega arith) refl
 turn_tells number activation answer (end.Closed doubt told) printed last = tt
 turn_tells number activation answer end.Shut printed last = tt
 
@@ -107,6 +85,15 @@ if_some P Q None turns is = tt
 if_some P Q (Some one) turns is = turns one is
 
 module _ {D W : Type 0} (S : desk.Ghosts D) (G : Ghosts W) (fewer_later : FewerLater G) (programs : List Program) (number : ℕ) where
+  -- an event went quietly whose step and tally are told
+  pub went_quietly : (event one : Event) (lines : List Line) (start : Desk) (new : D) (before after : W) (old_last new_last last : List ℕ) (tally told : Option Tally) → event ≡ one → new_last ≡ last → tally ≡ told
+      → WasStep S G [] programs number one lines start new before after → IfSome told (λ each. Tells each old_last last lines) → WentQuietly S G programs number event start new before after old_last new_last tally
+  went_quietly event one lines start new before after old_last new_last last tally told is_one is_last is_told step tells = record {
+    lines = lines;
+    step = subst (λ (e : Event). WasStep S G [] programs number e lines start new before after) (sym is_one) step;
+    tells = subst (λ (these : Option Tally). IfSome these (λ each. Tells each old_last new_last lines)) (sym is_told) (subst (λ (these : List ℕ). IfSome told (λ each. Tells each old_last these lines)) (sym is_last) tells);
+  }
+
   -- nothing was run yet
   pub ran_nothing : (stands_law : (s : D) (held : List ℕ) (desk : Desk) → S.shows s held desk → stands held ≡ standing_of (S.fixed s).opened desk) (open_law : (s : D) (held : List ℕ) (desk : Desk) → S.shows s held desk → desk.closed ≡ false) (closed_law : (s : D) (held : List ℕ) (desk : Desk) → S.shows s held desk → S.closed s ≡ false) (order_law : (s : D) (held : List ℕ) (desk : Desk) → S.shows s held desk → S.order s ≡ desk.order)
       (start : Desk) (new : D) (w : W) → (S.fixed new).opened ≡ number → IsSure G w → S.shows new (held_of G w) start → (ran : RanQuietly S G programs number [] start new w w) × (event_lines [] programs number ran.taken start ≡ [])
@@ -123,20 +110,19 @@ module _ {D W : Type 0} (S : desk.Ghosts D) (G : Ghosts W) (fewer_later : FewerL
       (ran, refl)
 
   -- some events were run, and then one more
-  pub ran_one_more : (xs : List Event) (event : Event) (start : Desk) (mid new : D) (before between after : W) (old_last new_last : List ℕ) (tally : Option Tally) → S.closed mid ≡ false → CallsDisk G before between → CallsDisk G between after → (one : RanQuietly S G programs number xs start mid before between)
-      → (two : WentQuietly S G programs number event (run programs one.taken start) new between after old_last new_last tally)
-      → (ran : RanQuietly S G programs number (xs ++ event ∷ []) start new before after) × (event_lines [] programs number ran.taken start ≡ event_lines [] programs number one.taken start ++ happening_lines [] (number_after number two.did.next) two.told)
-  ran_one_more xs event start mid new before between after old_last new_last tally was_open calls_one calls_two one two =
+  pub ran_one_more : (xs : List Event) (event : Event) (second : List Line) (start : Desk) (mid new : D) (before between after : W) → S.closed mid ≡ false → CallsDisk G before between → CallsDisk G between after → (one : RanQuietly S G programs number xs start mid before between)
+      → WasStep S G [] programs number event second (run programs one.taken start) new between after
+      → (ran : RanQuietly S G programs number (xs ++ event ∷ []) start new before after) × (event_lines [] programs number ran.taken start ≡ event_lines [] programs number one.taken start ++ second)
+  ran_one_more xs event second start mid new before between after was_open calls_one calls_two one two =
       let middle : Desk = run programs one.taken start in
       let word : Word = two.did.word in
       let last_one : List (Event × Word) = (event, word) ∷ [] in
       let next : Step = record { desk = two.did.next; happening = two.told } in
       let first : List Line = event_lines [] programs number one.taken start in
-      let second : List Line = happening_lines [] (number_after number two.did.next) two.told in
       let still_open : middle.closed ≡ false = sym one.to.closes ∙ was_open in
       let next_is : (step programs event word middle).desk ≡ two.did.next = ap (λ (after : Step). after.desk) two.did.stepped in
       let same : run programs (one.taken ++ last_one) start ≡ two.did.next = run_on programs one.taken last_one start ∙ next_is in
-      let lines : event_lines [] programs number (one.taken ++ last_one) start ≡ first ++ second = lines_on programs [] number one.taken last_one start ∙ ap (λ (back : List Line). first ++ back) (one_event [] programs number event word middle next two.did.stepped) in
+      let lines : event_lines [] programs number (one.taken ++ last_one) start ≡ first ++ second = lines_on programs [] number one.taken last_one start ∙ ap (λ (back : List Line). first ++ back) (one_event [] programs number event word middle next two.did.stepped ∙ sym two.lines_are) in
       let steps : Stepped word middle.order [] (step programs event word middle) = step_by programs event word [] middle still_open in
       let grew : Grew programs [] number one.taken start = run_grew programs [] number one.taken start one.each_open in
       let ran : RanQuietly S G programs number (xs ++ event ∷ []) start new before after = record {
@@ -146,7 +132,7 @@ module _ {D W : Type 0} (S : desk.Ghosts D) (G : Ghosts W) (fewer_later : FewerL
         to =
             subst (λ (desk : Desk). RanTo S G desk (event_lines [] programs number (one.taken ++ last_one) start) (faulted (one.taken ++ last_one)) new before after) (sym same)
             (to_on S G middle two.did.next first second (event_lines [] programs number (one.taken ++ last_one) start) (faulted one.taken) (faulted last_one) (faulted (one.taken ++ last_one)) mid new before between after was_open lines (faulted_on one.taken last_one) one.to
-            (to_did S G programs number event two.told [] middle new between after two.did calls_two.disk two.writes two.calm));
+            (to_did S G programs number event [] second middle new between after two calls_two.disk));
         images =
             images_join G fewer_later programs number start one.taken last_one before between after grew.more steps.more calls_one.time calls_two.time one.each_open grew.order_is steps.order_is one.images
             (λ image seen left. left_quiet programs number event word [] middle still_open [] [] image [] 0 (subst (λ (desk : Desk). IsEitherOf programs number event middle desk image) (sym next_is) (two.did.crash image seen left)) refl refl);
@@ -171,9 +157,9 @@ module _ {D W : Type 0} (S : desk.Ghosts D) (G : Ghosts W) (fewer_later : FewerL
       let two : WentQuietly S G programs number (get_or events i event) (run programs one.taken start) new between after old_last new_last tally =
       subst (λ (n : ℕ). WentQuietly S G programs n (get_or events i event) (run programs one.taken start) new between after old_last new_last tally) same_number
       (subst (λ (these : List Program). WentQuietly S G these (S.fixed mid).opened (get_or events i event) (run programs one.taken start) new between after old_last new_last tally) same_programs told) in
-      let more = ran_one_more (take i events) (get_or events i event) start mid new before between after old_last new_last tally was_open calls_one calls_two one two in
+      let more = ran_one_more (take i events) (get_or events i event) two.lines start mid new before between after was_open calls_one calls_two one two.step in
       subst (λ (these : List Event). (ran : RanQuietly S G programs number these start new before after) × IfSome tally (λ more. Tells (record { commits = so_far.commits + more.commits; rollbacks = so_far.rollbacks + more.rollbacks }) [] new_last (event_lines [] programs number ran.taken start))) (sym (take_more events i event lt)) (
         more.0,
-        if_some (λ one_more. Tells one_more old_last new_last (happening_lines [] (number_after number two.did.next) two.told)) _ tally
-            (λ one_more here. tells_on so_far one_more (record { commits = so_far.commits + one_more.commits; rollbacks = so_far.rollbacks + one_more.rollbacks }) [] old_last new_last (event_lines [] programs number one.taken start) (happening_lines [] (number_after number two.did.next) two.told) (event_lines [] programs number more.0.taken start) more.1 refl refl tells here) two.tells,
+        if_some (λ one_more. Tells one_more old_last new_last two.lines) _ tally
+            (λ one_more here. tells_on so_far one_more (record { commits = so_far.commits + one_more.commits; rollbacks = so_far.rollbacks + one_more.rollbacks }) [] old_last new_last (event_lines [] programs number one.taken start) two.lines (event_lines [] programs number more.0.taken start) more.1 refl refl tells here) two.tells,
       )

@@ -1,6 +1,7 @@
 -- The runs of a supervisor, one event after another.
-use Rattle.schedule_replay.proofs.Common.{◌≡◌, ℕ, ◌+◌, ◌<◌, ◌≤◌, List, [], ◌∷◌, ◌++◌, length, map, get_or, take, refl, sym, ap, ◌∙◌, subst, arith, length-append, append-nil, append_assoc, inl, inr, false, Option, None, Some, Result, Ok, IsErr, flat_map, map-append, take_more, flat_map-append, Failed, Ghosts, Prints, Elapses, IsSure, FewerLater, Leaves, held_of, told_is, leaves_held, stands, standing_of, elapses-trans, leaves_on, prints_same, prints_on, Program, Event, Desk, Word, Doubt, run, faulted, OpenBeforeEach, Line, line_text, event_lines, commits_seen, IsLeft, ArePlain, seen_lines, seen_all, AreNames, Grew, run_grew, run_plain, run_on, open_on, lines_on, faulted_on, left_none, left_more, left_behind, BeginsWith, PutsTimes, shown_of, Ran, PrintsEarlier, InDoubt, text_of, RanTo}
+use Rattle.schedule_replay.proofs.Common.{◌≡◌, ℕ, ◌+◌, ◌<◌, ◌≤◌, List, [], ◌∷◌, ◌++◌, length, map, get_or, take, drop, refl, sym, ap, ◌∙◌, subst, arith, length-append, append-nil, append_assoc, inl, inr, true, false, Option, None, Some, Result, Ok, IsErr, IfOk, flat_map, map-append, take_more, take-append-drop, flat_map-append, Failed, Ghosts, Prints, Elapses, IsSure, FewerLater, Leaves, held_of, told_is, leaves_held, stands, standing_of, elapses-trans, leaves_on, prints_same, prints_on, Program, Event, Desk, Word, Doubt, run, faulted, OpenBeforeEach, Line, line_text, event_lines, commits_seen, IsLeft, ArePlain, seen_lines, seen_all, AreNames, Grew, run_grew, run_plain, run_on, open_on, lines_on, faulted_on, left_none, left_more, left_behind, BeginsWith, PutsTimes, shown_of, Ran, PrintsEarlier, InDoubt, text_of, Fixed, Going, RanSome, RanTo, is_closed, is_damaged}
 use Rattle.desk.specs.declared.supervisor.Supervisor as desk
+use Rattle.std.proofs.lemmas.Result.{IfOk-weaker}
 use Rattle.schedule_replay.proofs.CountLemmas.{on_ok_as}
 use Rattle.schedule_replay.proofs.PutsLemmas.{PrintedNow, done, no_time, times_on, shown_after, begins_none, begins_on, begins_behind}
 use Rattle.schedule_replay.proofs.WentLemmas.{last_is}
@@ -130,7 +131,7 @@ module _ {D W : Type 0} (S : desk.Ghosts D) (G : Ghosts W) (fewer_later : FewerL
       (ran_on (take i events) (get_or events i event) start mid new before between after 0 result was_open one two)
 
   -- the next event is run from where the run is
-  pub ran_next : {U : Type 0} (events : List Event) (i : ℕ) (event : Event) → i < length events → (start : Desk) (mid new : D) (before between after : W) (result : Result U Failed) → S.closed mid ≡ false → (S.fixed mid).programs ≡ programs → (S.fixed mid).opened ≡ number → Ran S G names programs number (take i events) start mid before between done
+  ran_next : {U : Type 0} (events : List Event) (i : ℕ) (event : Event) → i < length events → (start : Desk) (mid new : D) (before between after : W) (result : Result U Failed) → S.closed mid ≡ false → (S.fixed mid).programs ≡ programs → (S.fixed mid).opened ≡ number → Ran S G names programs number (take i events) start mid before between done
       → ((desk : Desk) → IsSure G between → S.shows mid (held_of G between) desk → Ran S G names (S.fixed mid).programs (S.fixed mid).opened (get_or events i event ∷ []) desk new between after result) → Ran S G names programs number (take (i + 1) events) start new before after result
   ran_next events i event lt start mid new before between after result was_open same_programs same_number one next =
       let kept = one.to.still (sym one.to.closes ∙ was_open) in
@@ -138,6 +139,28 @@ module _ {D W : Type 0} (S : desk.Ghosts D) (G : Ghosts W) (fewer_later : FewerL
       ran_more events i event lt start mid new before between after result was_open one
       (subst (λ (n : ℕ). Ran S G names programs n (get_or events i event ∷ []) (run programs one.taken start) new between after result) same_number
       (subst (λ (these : List Program). Ran S G names these (S.fixed mid).opened (get_or events i event ∷ []) (run programs one.taken start) new between after result) same_programs two))
+
+-- The events so far were run, from a supervisor that was open, and the next one was asked of it.
+module _ {D W : Type 0} (S : desk.Ghosts D) (G : Ghosts W) (fewer_later : FewerLater G) (names : List (List ℕ)) (are : AreNames names) (events : List Event) (i : ℕ) (event : Event) (lt : i < length events) (start : Desk) (old mid new : D) (before between after : W) (was_open : S.closed mid ≡ false) (fixed : S.fixed mid ≡ S.fixed old)
+    {T : Type 0} (result : Result T Failed) (so_far : Ran S G names (S.fixed old).programs (S.fixed old).opened (take i events) start mid before between done)
+    (next : (desk : Desk) → IsSure G between → S.shows mid (held_of G between) desk → Ran S G names (S.fixed mid).programs (S.fixed mid).opened (get_or events i event ∷ []) desk new between after result) where
+  pub ran_further : {U : Type 0} (other : Result U Failed) → ((one two : Option (List ℕ)) (bytes : List ℕ) → Prints one two bytes result → Prints one two bytes other) → (IsErr result → IsErr other) → Ran S G names (S.fixed old).programs (S.fixed old).opened (take (i + 1) events) start new before after other
+  ran_further other turns fails =
+      ran_as S G fewer_later names are (S.fixed old).programs (S.fixed old).opened (take (i + 1) events) start new before after result other turns fails
+      (ran_next S G fewer_later names are (S.fixed old).programs (S.fixed old).opened events i event lt start mid new before between after result was_open (ap (λ (fixed : Fixed). fixed.programs) fixed) (ap (λ (fixed : Fixed). fixed.opened) fixed) so_far next)
+
+  -- and none is asked behind it
+  pub ran_last : (other : Result Going Failed) → ((one two : Option (List ℕ)) (bytes : List ℕ) → Prints one two bytes result → Prints one two bytes other) → (IsErr result → IsErr other)
+      → IfOk other (λ going. S.closed new ≡ is_closed going) → IfOk other (λ going. is_damaged going ≡ false) → IfOk other (λ going. is_closed going ≡ true) → RanSome S G names (S.fixed old).programs (S.fixed old).opened events start new before after other
+  ran_last other turns fails closed sound shut = record {
+    front = take (i + 1) events;
+    rest = drop (i + 1) events;
+    whole = take-append-drop (i + 1) events;
+    ran = ran_further other turns fails;
+    closed = closed;
+    sound = sound;
+    all = IfOk-weaker other _ _ (λ going is goes_on. absurd (let never : true ≡ false = sym is ∙ goes_on in let no : ⊥ = cc in no)) shut;
+  }
 
 -- no event was run
 pub none_last : (front : List (Event × Word)) (last : Event × Word) → [] ≡ front ++ last ∷ [] → ⊥

@@ -1,5 +1,5 @@
 -- What runs leave, one after another.
-use Rattle.schedule_replay.proofs.Common.{◌≡◌, ℕ, ◌+◌, ◌*◌, ◌≤◌, ◌⊎◌, List, [], ◌∷◌, ◌++◌, refl, sym, ap, ◌∙◌, subst, arith, ⊎_elim, false, Option, unwrap_or, Ghosts, Rose, RoseBy, IsSure, held_of, Program, Event, Did, Desk, WritesMore, records_in, most_records, Line, number_after, happening_lines, Happening, faulted, commits_in, commits_on, RanTo}
+use Rattle.schedule_replay.proofs.Common.{◌≡◌, ℕ, ◌+◌, ◌*◌, ◌≤◌, ◌⊎◌, List, [], ◌∷◌, ◌++◌, refl, sym, ap, ◌∙◌, subst, arith, ⊎_elim, false, Option, unwrap_or, Ghosts, Rose, RoseBy, IsSure, held_of, Program, Event, Desk, WritesMore, records_in, most_records, Line, number_after, faulted, commits_in, commits_on, RanTo, WasStep}
 use Rattle.desk.specs.Instruction.{Word, Fine, ReadFailed, Unwritten, Doubt, Failed as broken_word}
 use Rattle.desk.specs.declared.supervisor.Supervisor as desk
 use Rattle.schedule_replay.proofs.CountLemmas.{faults_in, faults_front, faults_behind, happened_keep, most_on, most_le}
@@ -27,20 +27,19 @@ module _ {D W : Type 0} (S : desk.Ghosts D) (G : Ghosts W) where
   }
 
   -- an event, by its word
-  pub to_did : (programs : List Program) (number : ℕ) (event : Event) (told : Happening) (names : List (List ℕ)) (start : Desk) (new : D) (before after : W) (did : Did G programs number event told (S.closed new) (S.order new) (S.shows new) start before after) → G.disk_faults before ≤ G.disk_faults after
-      → WritesMore (G.writes before) (G.writes after) (2 * commits_in (happening_lines names (number_after number did.next) told)) → (faults_in (happening_lines names (number_after number did.next) told) ≡ 0 → G.disk_faults after ≡ G.disk_faults before)
-      → RanTo S G did.next (happening_lines names (number_after number did.next) told) (faulted ((event, did.word) ∷ [])) new before after
-  to_did programs number event told names start new before after did later writes calm = record {
-    closes = did.closes;
-    ordered = did.ordered;
-    still = did.still;
+  pub to_did : (programs : List Program) (number : ℕ) (event : Event) (names : List (List ℕ)) (lines : List Line) (start : Desk) (new : D) (before after : W) (was : WasStep S G names programs number event lines start new before after) → G.disk_faults before ≤ G.disk_faults after → RanTo S G was.did.next lines (faulted ((event, was.did.word) ∷ [])) new before after
+  to_did programs number event names lines start new before after was later = record {
+    closes = was.did.closes;
+    ordered = was.did.ordered;
+    still = was.did.still;
     records = λ still.
-        let kept = did.records still in
-        let lines = happened_keep names (number_after number did.next) told (records_in (held_of G before)) in
-        omega (arith, kept, lines);
-    faults = word_faults event did.word (G.disk_faults before) (G.disk_faults after) later did.why;
-    calm = calm;
-    writes = writes;
+        let kept = was.did.records still in
+        let told = happened_keep names (number_after number was.did.next) was.told (records_in (held_of G before)) in
+        let same = ap (λ (these : List Line). most_records these (records_in (held_of G before))) was.lines_are in
+        omega (arith, kept, told, same);
+    faults = word_faults event was.did.word (G.disk_faults before) (G.disk_faults after) later was.did.why;
+    calm = was.calm;
+    writes = was.writes;
   }
 
   module _ (end : Desk) (lines : List Line) (unfine : ℕ) (new : D) where

@@ -1,9 +1,10 @@
 -- The report of a run, from its parts.
-use Rattle.schedule_replay.proofs.Common.{◌≡◌, ℕ, List, [], ◌∷◌, ◌++◌, length, map, refl, sym, ap, ◌∙◌, subst, inl, inr, arith, rules, append-nil, IsSome, Option, Bool, true, false, if◌then◌else◌, Result, Ok, Err, IsErr, IfOk, OnOk, flat_map, Failed, Ghosts, Prints, IsSure, Elapses, FewerLater, Leaves, held_of, prints_broken, prints_same, prints_well, prints_on, prints_stop, leaves_held, elapses-trans, leaves_on, Program, stands, Event, standing_of, Desk, numbers, Word, Line, Open, Left, End, line_text, number_after, closing_lines, report, event_lines, run, faulted, commits_seen, IsLeft, ArePlain, plain_on, commits_in, commits_on, seen_all, AreNames, Grew, run_grew, run_plain, report_parts, lines_end, left_none, left_more, Going, Puts, PutsTimes, BeginsWith, shown_of, Ran, HasOpened, PrintsEarlier, text_of, Reports, is_closed}
+use Rattle.schedule_replay.proofs.Common.{◌≡◌, ℕ, List, [], ◌∷◌, ◌++◌, length, map, refl, sym, ap, ◌∙◌, subst, inl, inr, arith, rules, append-nil, IsSome, Option, Bool, true, false, if◌then◌else◌, Result, Ok, Err, IsErr, IfOk, OnOk, flat_map, Failed, Ghosts, Prints, IsSure, Elapses, Leaves, held_of, prints_broken, prints_same, prints_well, prints_on, prints_stop, leaves_held, elapses-trans, leaves_on, Program, stands, Event, standing_of, Desk, numbers, Word, Line, Open, Left, End, line_text, number_after, closing_lines, report, event_lines, run, faulted, commits_seen, IsLeft, ArePlain, plain_on, commits_in, commits_on, seen_all, AreNames, Grew, run_grew, run_plain, report_parts, lines_end, left_none, left_more, Going, Puts, PutsTimes, BeginsWith, shown_of, Ran, HasOpened, PrintsEarlier, text_of, RanSome, Reports, Fixed, is_closed}
 use Rattle.desk.specs.declared.supervisor.Supervisor as desk
+use Rattle.std.proofs.lemmas.Result.{IfOk-weaker}
 use Rattle.schedule_replay.specs.declared.events.Going.TheVariants as going
-use Rattle.schedule_replay.proofs.PutsLemmas.{PrintedNow, times_on, shown_after, begins_none, begins_on, begins_behind}
-use Rattle.schedule_replay.proofs.WentLemmas.{sure_puts, image_is}
+use Rattle.schedule_replay.proofs.PutsLemmas.{times_on, shown_after, begins_none, begins_same, begins_on, begins_behind}
+use Rattle.schedule_replay.proofs.WentLemmas.{Laws, sure_puts, image_is}
 use Rattle.schedule_replay.proofs.RanLemmas.{leaves_join, seen_behind, seen_few}
 use Rattle.schedule_replay.proofs.RanToLemmas.{to_later, to_none, to_since}
 
@@ -18,11 +19,6 @@ if_ok_broken (Ok value) P is = absurd (search (rules, is))
 if_ok_broken (Err failed) P is = tt
 
 -- what isn't to go on is closed
-pub not_on : (how : Going) → (how ≡ going.On → ⊥) → is_closed how ≡ false → ⊥
-not_on going.On not_so is = not_so refl
-not_on going.Closed not_so is = cc
-not_on (going.Damaged offset) not_so is = cc
-
 pub not_on_closed : (how : Going) → (how ≡ going.On → ⊥) → is_closed how ≡ true
 not_on_closed going.On not_so = absurd (not_so refl)
 not_on_closed going.Closed not_so = refl
@@ -70,9 +66,9 @@ earlier_behind old between middle new first text taken value one (inr (front, la
 open_text : (number : ℕ) → flat_map line_text (Open number ∷ []) ≡ line_text (Open number)
 open_text number = append-nil (line_text (Open number))
 
-module _ {D W : Type 0} (S : desk.Ghosts D) (G : Ghosts W) (fewer_later : FewerLater G) (printed_now : PrintedNow G) (stands_law : (s : D) (held : List ℕ) (desk : Desk) → S.shows s held desk → stands held ≡ standing_of (S.fixed s).opened desk) (open_law : (s : D) (held : List ℕ) (desk : Desk) → S.shows s held desk → desk.closed ≡ false) (order_law : (s : D) (held : List ℕ) (desk : Desk) → S.shows s held desk → S.order s ≡ desk.order) (names : List (List ℕ)) (are : AreNames names) where
+module _ {D W : Type 0} (S : desk.Ghosts D) (G : Ghosts W) (laws : Laws S G) (names : List (List ℕ)) (are : AreNames names) where
   -- the first line tells the number with which the desk was opened
-  pub opens : {T : Type 0} (old : D) (before after : W) (start : Desk) (number : ℕ) (result : Result T Failed) → number ≡ number_after (S.fixed old).opened start → HasOpened S G old before start → Puts G (Open number ∷ []) before after result → Puts G (Open (S.fixed old).opened ∷ []) before after result
+  opens : {T : Type 0} (old : D) (before after : W) (start : Desk) (number : ℕ) (result : Result T Failed) → number ≡ number_after (S.fixed old).opened start → HasOpened S G old before start → Puts G (Open number ∷ []) before after result → Puts G (Open (S.fixed old).opened ∷ []) before after result
   opens old before after start number result is opened puts = subst (λ n. Puts G (Open n ∷ []) before after result) (is ∙ opened.number) puts
 
   module _ (programs : List Program) (number : ℕ) where
@@ -86,19 +82,19 @@ module _ {D W : Type 0} (S : desk.Ghosts D) (G : Ghosts W) (fewer_later : FewerL
     left_puts : {T : Type 0} (lines : List Line) (desk : Desk) (new : D) (before after : W) (result : Result T Failed) → (S.fixed new).opened ≡ number → commits_seen (flat_map line_text lines) ≡ 0 → IsSure G before → S.shows new (held_of G before) desk → Puts G lines before after result → IsSome (G.printed before)
         → Leaves G (IsLeft programs number desk [] (flat_map line_text lines) (shown_of G before)) before after
     left_puts lines desk new before after result opened none sure shows puts told image seen left =
-        let from = image_is S G fewer_later printed_now lines before after result puts sure told image seen left in
-        left_none programs number desk (flat_map line_text lines) (shown_of G before) image seen from.1.0 (open_law new (held_of G before) desk shows)
-        (ap stands from.0 ∙ stands_law new (held_of G before) desk shows ∙ ap (λ n. standing_of n desk) opened) from.1.1 none
+        let from = image_is S G laws.later laws.printed lines before after result puts sure told image seen left in
+        left_none programs number desk (flat_map line_text lines) (shown_of G before) image seen from.1.0 (laws.open_desk new (held_of G before) desk shows)
+        (ap stands from.0 ∙ laws.standing new (held_of G before) desk shows ∙ ap (λ n. standing_of n desk) opened) from.1.1 none
 
     -- and the images of it, without a word on the screen
     images_puts : {T : Type 0} (lines : List Line) (desk : Desk) (new : D) (before after : W) (result : Result T Failed) → (S.fixed new).opened ≡ number → IsSure G before → S.shows new (held_of G before) desk → Puts G lines before after result → Leaves G (λ image seen. IsLeft programs number desk [] [] [] image []) before after
     images_puts lines desk new before after result opened sure shows puts image seen left =
         let from = puts.images image seen left in
-        left_none programs number desk [] [] image [] 0 (open_law new (held_of G before) desk shows)
-        (ap stands (leaves_held G before sure image from.0 from.1) ∙ stands_law new (held_of G before) desk shows ∙ ap (λ n. standing_of n desk) opened) refl refl
+        left_none programs number desk [] [] image [] 0 (laws.open_desk new (held_of G before) desk shows)
+        (ap stands (leaves_held G before sure image from.0 from.1) ∙ laws.standing new (held_of G before) desk shows ∙ ap (λ n. standing_of n desk) opened) refl refl
 
     -- what was put behind the first line
-    pub record Tail {T : Type 0} (start : Desk) (taken : List (Event × Word)) (rest : List Event) (between after : W) (later : Result T Failed) : Type 0 where
+    record Tail {T : Type 0} (start : Desk) (taken : List (Event × Word)) (rest : List Event) (between after : W) (later : Result T Failed) : Type 0 where
       pub printed : Prints (G.printed between) (G.printed after) (text_of names programs number taken start ++ flat_map line_text (closing_lines number rest (run programs taken start))) later
       pub times : PutsTimes G (length (event_lines names programs number taken start ++ closing_lines number rest (run programs taken start))) between after later
       pub images : Leaves G (λ image seen. IsLeft programs number start taken [] [] image []) between after
@@ -106,7 +102,7 @@ module _ {D W : Type 0} (S : desk.Ghosts D) (G : Ghosts W) (fewer_later : FewerL
       pub time : Elapses G.moment G.left_since between after
 
     -- a put failed among the lines of the events
-    pub tail_stop : {T U : Type 0} (front rest : List Event) (start : Desk) (new : D) (between after : W) (result : Result T Failed) (later : Result U Failed) → IsErr result → IsErr later → (ran : Ran S G names programs number front start new between after result) → Tail start ran.taken rest between after later
+    tail_stop : {T U : Type 0} (front rest : List Event) (start : Desk) (new : D) (between after : W) (result : Result T Failed) (later : Result U Failed) → IsErr result → IsErr later → (ran : Ran S G names programs number front start new between after result) → Tail start ran.taken rest between after later
     tail_stop front rest start new between after result later one two ran =
         let put = text_of names programs number ran.taken start in
         let ends = flat_map line_text (closing_lines number rest (run programs ran.taken start)) in
@@ -119,7 +115,7 @@ module _ {D W : Type 0} (S : desk.Ghosts D) (G : Ghosts W) (fewer_later : FewerL
         }
 
     -- the desk is closed
-    pub tail_shut : {T U : Type 0} (front rest : List Event) (start : Desk) (new : D) (between after : W) (value : T) (other : U) (ran : Ran S G names programs number front start new between after (Ok value)) → S.closed new ≡ true → Tail start ran.taken rest between after (Ok other)
+    tail_shut : {T U : Type 0} (front rest : List Event) (start : Desk) (new : D) (between after : W) (value : T) (other : U) (ran : Ran S G names programs number front start new between after (Ok value)) → S.closed new ≡ true → Tail start ran.taken rest between after (Ok other)
     tail_shut {T} {U} front rest start new between after value other ran shut =
         let put = text_of names programs number ran.taken start in
         let ends = flat_map line_text (closing_lines number rest (run programs ran.taken start)) in
@@ -133,7 +129,7 @@ module _ {D W : Type 0} (S : desk.Ghosts D) (G : Ghosts W) (fewer_later : FewerL
         }
 
     -- the lines of the end are put
-    pub tail_put : {T U : Type 0} (front rest : List Event) (start : Desk) (new : D) (between middle after : W) (value : T) (later : Result U Failed) → (S.fixed new).opened ≡ number → S.closed new ≡ false → rest ≡ [] → (ran : Ran S G names programs number front start new between middle (Ok value))
+    tail_put : {T U : Type 0} (front rest : List Event) (start : Desk) (new : D) (between middle after : W) (value : T) (later : Result U Failed) → (S.fixed new).opened ≡ number → S.closed new ≡ false → rest ≡ [] → (ran : Ran S G names programs number front start new between middle (Ok value))
         → ((held : List ℕ) (desk : Desk) → S.shows new held desk → Puts G (closing_lines number [] desk) middle after later) → Tail start ran.taken rest between after later
     tail_put front rest start new between middle after value later opened still none ran closing =
         let last = run programs ran.taken start in
@@ -145,27 +141,27 @@ module _ {D W : Type 0} (S : desk.Ghosts D) (G : Ghosts W) (fewer_later : FewerL
           printed = prints_on (G.printed between) (G.printed middle) (G.printed after) put ends value later ran.printed puts.printed;
           times = times_on G between middle after (event_lines names programs number ran.taken start) (closing_lines number [] last) value later ran.printed ran.times puts.times;
           images =
-              leaves_on G fewer_later between middle after ran.time puts.only.time (λ (image seen : List ℕ). IsLeft programs number start ran.taken [] [] image []) ran.images
+              leaves_on G laws.later between middle after ran.time puts.only.time (λ (image seen : List ℕ). IsLeft programs number start ran.taken [] [] image []) ran.images
               (λ image seen left.
               let from = puts.images image seen left in
-              ran.images image from.0 (fewer_later middle (G.moment between) (G.moment middle) image from.0 ran.time.later from.1));
+              ran.images image from.0 (laws.later middle (G.moment between) (G.moment middle) image from.0 ran.time.later from.1));
           left = λ told.
               let shown = shown_after (G.printed between) (G.printed middle) put value told ran.printed in
               subst (λ (these : List (Event × Word)). Leaves G (IsLeft programs number start these (put ++ ends) (shown_of G between)) between after) (append-nil ran.taken)
-              (leaves_join G fewer_later programs number (λ seen. seen) (shown_of G between) (shown_of G middle) start ran.taken [] put ends between middle after [] ran.time puts.only.time shown.1 ran.each_open
+              (leaves_join G laws.later programs number (λ seen. seen) (shown_of G between) (shown_of G middle) start ran.taken [] put ends between middle after [] ran.time puts.only.time shown.1 ran.each_open
               (seen_few names are programs number ran.taken start ran.each_open)
               (seen_behind (event_lines names programs number ran.taken start) (run_plain programs names number are ran.taken start))
               (sym (append-nil last.order)) (ran.left told)
               (left_puts (closing_lines number [] last) last new middle after later opened (closing_quiet number last) kept.0 kept.1 puts shown.0));
-          time = elapses-trans G fewer_later between middle after ran.time puts.only.time;
+          time = elapses-trans G laws.later between middle after ran.time puts.only.time;
         } in
         subst (λ (these : List Event). Tail start ran.taken these between after later) (sym none) all
 
     module _ (old : D) (opened_at : (S.fixed old).opened ≡ number) (start : Desk) (before between : W) where
       -- the first line failed
-      pub reports_none : {T : Type 0} (events : List Event) (result : Result T Failed) (later : Result Going Failed) → IsErr result → IsErr later → S.closed old ≡ false → HasOpened S G old before start → Puts G (Open number ∷ []) before between result → Reports S G names programs number events start old before between is_closed later
+      reports_none : {T : Type 0} (events : List Event) (result : Result T Failed) (later : Result Going Failed) → IsErr result → IsErr later → S.closed old ≡ false → HasOpened S G old before start → Puts G (Open number ∷ []) before between result → Reports S G names programs number events start old before between is_closed later
       reports_none events result later one two was_open opened puts =
-          let sure = sure_puts S G fewer_later printed_now (Open number ∷ []) before between result puts opened.sure in
+          let sure = sure_puts S G laws.later laws.printed (Open number ∷ []) before between result puts opened.sure in
           let first : List ℕ = flat_map line_text (Open number ∷ []) in
           let more : List ℕ = text_of names programs number [] start ++ flat_map line_text (closing_lines number events start) in
           let whole : first ++ more ≡ report names programs number [] events start = ap (λ (front : List ℕ). front ++ more) (open_text number) ∙ sym (report_parts programs names number [] events start) in
@@ -173,7 +169,7 @@ module _ {D W : Type 0} (S : desk.Ghosts D) (G : Ghosts W) (fewer_later : FewerL
             taken = [];
             rest = events;
             is_run = record { prefix = refl; each_open = tt };
-            to = to_later S G start [] 0 old before before between puts.only.held puts.only.disk puts.only.writes (λ is. sure.0) (to_none S G start old before was_open (open_law old (held_of G before) start opened.shows) (order_law old (held_of G before) start opened.shows) opened.sure opened.shows);
+            to = to_later S G start [] 0 old before before between puts.only.held puts.only.disk puts.only.writes (λ is. sure.0) (to_none S G start old before was_open (laws.open_desk old (held_of G before) start opened.shows) (laws.ordered old (held_of G before) start opened.shows) opened.sure opened.shows);
             printed = prints_same (G.printed before) (G.printed between) (first ++ more) (report names programs number [] events start) later whole (prints_stop (G.printed before) (G.printed between) first more result later one two puts.printed);
             times = times_failed _ later two;
             earlier = inl refl;
@@ -183,11 +179,11 @@ module _ {D W : Type 0} (S : desk.Ghosts D) (G : Ghosts W) (fewer_later : FewerL
             left = λ told image seen left.
                 subst (λ (text : List ℕ). IsLeft programs number start [] text (shown_of G before) image seen) whole
                 (longer start [] first more (shown_of G before) image seen (left_puts (Open number ∷ []) start old before between result opened_at (seen_all (Open number ∷ []) (tt, tt)) opened.sure opened.shows puts told image seen left));
-            doubt = λ shut. absurd (let no = sym (open_law old (held_of G before) start opened.shows) ∙ shut in let never : ⊥ = cc in never);
+            doubt = λ shut. absurd (let no = sym (laws.open_desk old (held_of G before) start opened.shows) ∙ shut in let never : ⊥ = cc in never);
           }
 
       -- the first line is put, then the lines of events and those of the end
-      pub reports_of : {T U : Type 0} (events front rest : List Event) (new : D) (middle after : W) (value : T) (result : Result U Failed) (later : Result Going Failed) → HasOpened S G old before start → Puts G (Open number ∷ []) before between (Ok value) → front ++ rest ≡ events → (ran : Ran S G names programs number front start new between middle result)
+      reports_of : {T U : Type 0} (events front rest : List Event) (new : D) (middle after : W) (value : T) (result : Result U Failed) (later : Result Going Failed) → HasOpened S G old before start → Puts G (Open number ∷ []) before between (Ok value) → front ++ rest ≡ events → (ran : Ran S G names programs number front start new between middle result)
           → Tail start ran.taken rest between after later → (IsSure G middle → IsSure G after)
           → ((image seen : List ℕ) → G.left_since after (G.moment after) image seen → (shown : List ℕ) × G.left_since middle (G.moment middle) image shown) → G.disk_faults after ≡ G.disk_faults middle → G.held after ≡ G.held middle → G.writes after ≡ G.writes middle → BeginsWith (G.printed middle) (G.printed after) []
           → IfOk later (λ going. S.closed new ≡ is_closed going) → IfOk later (λ going. is_closed going ≡ false → rest ≡ []) → Reports S G names programs number events start new before after is_closed later
@@ -215,12 +211,12 @@ module _ {D W : Type 0} (S : desk.Ghosts D) (G : Ghosts W) (fewer_later : FewerL
             closed = closed;
             all = all;
             images =
-                leaves_on G fewer_later before between after puts.only.time tail.time (λ (image seen : List ℕ). IsLeft programs number start ran.taken [] [] image [])
+                leaves_on G laws.later before between after puts.only.time tail.time (λ (image seen : List ℕ). IsLeft programs number start ran.taken [] [] image [])
                 (λ image seen left. left_more programs number start [] ran.taken [] [] [] image [] grew.more grew.order_is (images_puts (Open number ∷ []) start old before between (Ok value) opened_at opened.sure opened.shows puts image seen left)) tail.images;
             left = λ told.
                 let shown = shown_after (G.printed before) (G.printed between) first value told puts.printed in
                 subst (λ (text : List ℕ). Leaves G (IsLeft programs number start ran.taken text (shown_of G before)) before after) parts
-                (leaves_join G fewer_later programs number (λ seen. seen) (shown_of G before) (shown_of G between) start [] ran.taken first (put ++ ends) before between after grew.more puts.only.time tail.time shown.1 tt
+                (leaves_join G laws.later programs number (λ seen. seen) (shown_of G before) (shown_of G between) start [] ran.taken first (put ++ ends) before between after grew.more puts.only.time tail.time shown.1 tt
                 (let none = seen_all (Open number ∷ []) (tt, tt) in omega (arith, none))
                 (seen_behind (Open number ∷ []) (tt, tt)) grew.order_is
                 (left_puts (Open number ∷ []) start old before between (Ok value) opened_at (seen_all (Open number ∷ []) (tt, tt)) opened.sure opened.shows puts told)
@@ -231,17 +227,71 @@ module _ {D W : Type 0} (S : desk.Ghosts D) (G : Ghosts W) (fewer_later : FewerL
           }
 
       -- and the lines of the end are put
-      pub reports_ended : {T U : Type 0} (events front rest : List Event) (new : D) (middle after : W) (value : T) (result : U) (later : Result Going Failed) → HasOpened S G old before start → Puts G (Open number ∷ []) before between (Ok value) → front ++ rest ≡ events → Ran S G names programs number front start new between middle (Ok result)
+      reports_closing : {T U : Type 0} (events front rest : List Event) (new : D) (middle after : W) (value : T) (result : U) (later : Result Going Failed) → HasOpened S G old before start → Puts G (Open number ∷ []) before between (Ok value) → front ++ rest ≡ events → Ran S G names programs number front start new between middle (Ok result)
           → (S.fixed new).opened ≡ number → S.closed new ≡ false → rest ≡ [] → ((held : List ℕ) (desk : Desk) → S.shows new held desk → Puts G (closing_lines number [] desk) middle after later)
           → IfOk later (λ going. S.closed new ≡ is_closed going) → IfOk later (λ going. is_closed going ≡ false → rest ≡ []) → Reports S G names programs number events start new before after is_closed later
-      reports_ended events front rest new middle after value result later opened puts whole ran opened_new was_open none closing closed all =
+      reports_closing events front rest new middle after value result later opened puts whole ran opened_new was_open none closing closed all =
           let last = run programs ran.taken start in
           let kept = ran.to.still (sym ran.to.closes ∙ was_open) in
           let ends : Puts G (closing_lines number [] last) middle after later = closing (held_of G middle) last kept.1 in
           reports_of events front rest new middle after value (Ok result) later opened puts whole ran (tail_put front rest start new between middle after result later opened_new was_open none ran closing)
-          (λ sure. (sure_puts S G fewer_later printed_now (closing_lines number [] last) middle after later ends sure).0)
-          (λ image seen left. ends.images image seen (fewer_later after (G.moment middle) (G.moment after) image seen ends.only.time.later left))
+          (λ sure. (sure_puts S G laws.later laws.printed (closing_lines number [] last) middle after later ends sure).0)
+          (λ image seen left. ends.images image seen (laws.later after (G.moment middle) (G.moment after) image seen ends.only.time.later left))
           ends.only.disk ends.only.held ends.only.writes (begins_none (G.printed middle) (G.printed after) (flat_map line_text (closing_lines number [] last)) later ends.printed) closed all
+
+  -- The first line can't be put.
+  pub reports_unopened : {T : Type 0} (old : D) (start : Desk) (before between : W) (number : ℕ) (events : List Event) (result : Result T Failed) (later : Result Going Failed) → HasOpened S G old before start → ((held : List ℕ) (desk : Desk) → S.shows old held desk → number ≡ number_after (S.fixed old).opened desk) → Puts G (Open number ∷ []) before between result
+      → IsErr result → IsErr later → Reports S G names (S.fixed old).programs (S.fixed old).opened events start old before between is_closed later
+  reports_unopened old start before between number events result later opened tells put one two =
+      reports_none (S.fixed old).programs (S.fixed old).opened old refl start before between events result later one two (laws.open_itself old (held_of G before) start opened.shows) opened
+      (opens old before between start number result (tells (held_of G before) start opened.shows) opened put)
+
+  -- The first line is put, and then the lines of some events.
+  module _ (old new : D) (start : Desk) (before between middle : W) (number : ℕ) (events : List Event) {T : Type 0} (value : T) (result : Result Going Failed) (opened : HasOpened S G old before start)
+      (tells : (held : List ℕ) (desk : Desk) → S.shows old held desk → number ≡ number_after (S.fixed old).opened desk) (put : Puts G (Open number ∷ []) before between (Ok value))
+      (ran : (desk : Desk) → IsSure G between → S.shows old (held_of G between) desk → RanSome S G names (S.fixed old).programs (S.fixed old).opened events desk new between middle result) where
+    first_put : Puts G (Open (S.fixed old).opened ∷ []) before between (Ok value)
+    first_put = opens old before between start number (Ok value) (tells (held_of G before) start opened.shows) opened put
+
+    pub some_ran : RanSome S G names (S.fixed old).programs (S.fixed old).opened events start new between middle result
+    some_ran =
+        let sure = sure_puts S G laws.later laws.printed (Open (S.fixed old).opened ∷ []) before between (Ok value) first_put opened.sure in
+        ran start sure.0 (subst (λ (held : List ℕ). S.shows old held start) (sym sure.1) opened.shows)
+
+    -- nothing is put behind them
+    reports_still : (later : Result Going Failed) → Tail (S.fixed old).programs (S.fixed old).opened start some_ran.ran.taken some_ran.rest between middle later → IfOk later (λ going. S.closed new ≡ is_closed going) → IfOk later (λ going. is_closed going ≡ false → some_ran.rest ≡ [])
+        → Reports S G names (S.fixed old).programs (S.fixed old).opened events start new before middle is_closed later
+    reports_still later tail closed all =
+        reports_of (S.fixed old).programs (S.fixed old).opened old refl start before between events some_ran.front some_ran.rest new middle middle value result later opened first_put some_ran.whole some_ran.ran tail
+        (λ sure. sure) (λ image seen left. (seen, left)) refl refl refl (begins_same (G.printed middle) (G.printed middle) refl) closed all
+
+    -- a put failed among them
+    pub reports_stopped : (later : Result Going Failed) → IsErr result → IsErr later → Reports S G names (S.fixed old).programs (S.fixed old).opened events start new before middle is_closed later
+    reports_stopped later one two =
+        reports_still later (tail_stop (S.fixed old).programs (S.fixed old).opened some_ran.front some_ran.rest start new between middle result later one two some_ran.ran) (if_ok_broken later _ two) (if_ok_broken later _ two)
+
+  module _ (old new : D) (start : Desk) (before between middle : W) (number : ℕ) (events : List Event) {T : Type 0} (value : T) (how : Going) (opened : HasOpened S G old before start)
+      (tells : (held : List ℕ) (desk : Desk) → S.shows old held desk → number ≡ number_after (S.fixed old).opened desk) (put : Puts G (Open number ∷ []) before between (Ok value))
+      (ran : (desk : Desk) → IsSure G between → S.shows old (held_of G between) desk → RanSome S G names (S.fixed old).programs (S.fixed old).opened events desk new between middle (Ok how)) where
+    abbrev some : RanSome S G names (S.fixed old).programs (S.fixed old).opened events start new between middle (Ok how)
+    some = some_ran old new start before between middle number events value (Ok how) opened tells put ran
+
+    -- one of them closed the desk
+    pub reports_shut : (how ≡ going.On → ⊥) → Reports S G names (S.fixed old).programs (S.fixed old).opened events start new before middle is_closed (Ok how)
+    reports_shut shut =
+        reports_still old new start before between middle number events value (Ok how) opened tells put ran (Ok how)
+        (tail_shut (S.fixed old).programs (S.fixed old).opened some.front some.rest start new between middle how how some.ran (some.closed ∙ not_on_closed how shut)) some.closed some.all
+
+    -- all were run, and the lines of the end are put
+    pub reports_ended : (after : W) (later : Result Going Failed) → how ≡ going.On → IfOk later (λ going. is_closed going ≡ false) → S.fixed new ≡ S.fixed old
+        → ((held : List ℕ) (desk : Desk) → S.shows new held desk → Puts G (closing_lines (S.fixed new).opened [] desk) middle after later) → Reports S G names (S.fixed old).programs (S.fixed old).opened events start new before after is_closed later
+    reports_ended after later is still fixed closing =
+        let same : (S.fixed new).opened ≡ (S.fixed old).opened = ap (λ (fixed : Fixed). fixed.opened) fixed in
+        let was_open : S.closed new ≡ false = some.closed ∙ ap is_closed is in
+        let none : some.rest ≡ [] = some.all (ap is_closed is) in
+        reports_closing (S.fixed old).programs (S.fixed old).opened old refl start before between events some.front some.rest new middle after value how later opened (first_put old new start before between middle number events value (Ok how) opened tells put ran) some.whole some.ran same was_open none
+        (λ held desk shows. subst (λ (n : ℕ). Puts G (closing_lines n [] desk) middle after later) same (closing held desk shows))
+        (IfOk-weaker later _ _ (λ going on. was_open ∙ sym on) still) (IfOk-weaker later _ _ (λ going on goes. none) still)
 
 -- what is told of a result, as of another that says as much
 pub reports_as : {D W T U : Type 0} (S : desk.Ghosts D) (G : Ghosts W) (names : List (List ℕ)) (programs : List Program) (number : ℕ) (events : List Event) (start : Desk) (new : D) (before after : W) (shut : T → Bool) (other : U → Bool) (result : Result T Failed) (later : Result U Failed)

@@ -1,7 +1,6 @@
 -- One event of a run, and its lines.
-use Rattle.schedule_replay.proofs.Common.{◌≡◌, ℕ, zero, suc, ◌+◌, ◌*◌, ◌≤◌, List, [], ◌∷◌, ◌++◌, length, map, take, refl, sym, ap, ◌∙◌, subst, arith, length-append, ⊎_elim, append-nil, inr, IsTrue, IsSome, true, false, not, Bool, Option, unwrap_or, Result, Ok, Err, All, flat_map, Failed, Ghosts, Prints, AreTold, IsSure, CallsDisk, Leaves, FewerLater, held_of, elapses-trans, leaves_on, told_is, Program, stands, Event, Did, IsEitherOf, standing_of, Desk, WritesMore, Word, Doubt, Step, Happening, step, faulted, Line, line_text, number_after, happening_lines, event_lines, commits_seen, IsUnbroken, IsLeft, seen_cut, seen_all, commits_in, AreNames, Stepped, step_by, run_plain, left_quiet, left_open, Puts, PutsTimes, shown_of, Ran, InDoubt, text_of, RanTo}
+use Rattle.schedule_replay.proofs.Common.{◌≡◌, ℕ, zero, suc, ◌+◌, ◌≤◌, List, [], ◌∷◌, ◌++◌, length, map, take, refl, sym, ap, ◌∙◌, subst, arith, length-append, ⊎_elim, append-nil, inr, IsTrue, IsSome, true, false, not, Bool, Option, unwrap_or, Result, Ok, Err, All, flat_map, Failed, Ghosts, Prints, AreTold, IsSure, CallsDisk, Leaves, FewerLater, held_of, elapses-trans, leaves_on, told_is, Program, stands, Event, Did, IsEitherOf, standing_of, Desk, Word, Doubt, Step, step, faulted, Line, line_text, number_after, happening_lines, event_lines, commits_seen, IsUnbroken, IsLeft, seen_cut, seen_all, commits_in, AreNames, Stepped, step_by, run_plain, left_quiet, left_open, Puts, PutsTimes, shown_of, Ran, InDoubt, WasStep, text_of, RanTo}
 use Rattle.desk.specs.declared.supervisor.Supervisor as desk
-use Rattle.schedule_replay.proofs.CountLemmas.{faults_in}
 use Rattle.schedule_replay.proofs.PutsLemmas.{PrintedNow, puts_same, begins_none}
 use Rattle.schedule_replay.proofs.RanToLemmas.{to_did, to_later}
 
@@ -31,6 +30,15 @@ names_are items [] all program = refl
 names_are items (name ∷ names) all zero = all 0 name (omega arith)
 names_are items (name ∷ names) all (suc program) = names_are items names (λ k d below. all (suc k) d (omega arith)) program
 
+-- what holds of each supervisor and each outside
+pub record Laws {D W : Type 0} (S : desk.Ghosts D) (G : Ghosts W) : Type 0 where
+  pub later : FewerLater G
+  pub printed : PrintedNow G
+  pub standing : (s : D) (held : List ℕ) (desk : Desk) → S.shows s held desk → stands held ≡ standing_of (S.fixed s).opened desk
+  pub open_desk : (s : D) (held : List ℕ) (desk : Desk) → S.shows s held desk → desk.closed ≡ false
+  pub open_itself : (s : D) (held : List ℕ) (desk : Desk) → S.shows s held desk → S.closed s ≡ false
+  pub ordered : (s : D) (held : List ℕ) (desk : Desk) → S.shows s held desk → S.order s ≡ desk.order
+
 module _ {D W : Type 0} (S : desk.Ghosts D) (G : Ghosts W) (fewer_later : FewerLater G) (printed_now : PrintedNow G) where
   -- bytes that were sure are, after puts
   pub sure_puts : {T : Type 0} (lines : List Line) (before after : W) (result : Result T Failed) → Puts G lines before after result → IsSure G before → IsSure G after × (held_of G after ≡ held_of G before)
@@ -58,7 +66,10 @@ module _ {D W : Type 0} (S : desk.Ghosts D) (G : Ghosts W) (fewer_later : FewerL
       told_is (G.printed before) seen told (⊎_elim (λ was. printed_now before image seen was) (λ is. is) (calls.quiet.crash image seen left))
 
   module _ (stands_law : (s : D) (held : List ℕ) (desk : Desk) → S.shows s held desk → stands held ≡ standing_of (S.fixed s).opened desk) (names : List (List ℕ)) (are : AreNames names) (programs : List Program) (number : ℕ) where
-    module _ {T : Type 0} (event : Event) (told : Happening) (start : Desk) (new : D) (before between after : W) (result : Result T Failed) (was_open : start.closed ≡ false) (opened : (S.fixed new).opened ≡ number) (calls : CallsDisk G before between) (did : Did G programs number event told (S.closed new) (S.order new) (S.shows new) start before between) (puts : Puts G (happening_lines names (number_after number did.next) told) between after result) (writes : WritesMore (G.writes before) (G.writes between) (2 * commits_in (happening_lines names (number_after number did.next) told))) (calm : faults_in (happening_lines names (number_after number did.next) told) ≡ 0 → G.disk_faults between ≡ G.disk_faults before) where
+    module _ {T : Type 0} (event : Event) (lines : List Line) (start : Desk) (new : D) (before between after : W) (result : Result T Failed) (was_open : start.closed ≡ false) (opened : (S.fixed new).opened ≡ number) (calls : CallsDisk G before between) (was : WasStep S G names programs number event lines start new before between) (puts : Puts G lines between after result) where
+      abbrev did : Did G programs number event was.told (S.closed new) (S.order new) (S.shows new) start before between
+      did = was.did
+
       abbrev word : Word
       word = did.word
 
@@ -74,13 +85,11 @@ module _ {D W : Type 0} (S : desk.Ghosts D) (G : Ghosts W) (fewer_later : FewerL
       steps : Stepped word start.order names went
       steps = step_by programs event word names start was_open
 
-      lines_are : event_lines names programs number ((event, word) ∷ []) start ≡ happening_lines names (number_after number did.next) told
-      lines_are = one_event names programs number event word start (record { desk = did.next; happening = told }) did.stepped
+      lines_are : event_lines names programs number ((event, word) ∷ []) start ≡ lines
+      lines_are = one_event names programs number event word start (record { desk = did.next; happening = was.told }) did.stepped ∙ sym was.lines_are
 
       lines_put : Puts G (event_lines names programs number ((event, word) ∷ []) start) between after result
-      lines_put =
-          puts_same G between after (happening_lines names (number_after number did.next) told) (event_lines names programs number ((event, word) ∷ []) start) result
-          (sym lines_are) puts
+      lines_put = puts_same G between after lines (event_lines names programs number ((event, word) ∷ []) start) result (sym lines_are) puts
 
       -- the commits seen in its text are those of its lines
       seen_is : commits_seen text ≡ commits_in (happening_lines names (number_after number went.desk) went.happening)
@@ -143,11 +152,10 @@ module _ {D W : Type 0} (S : desk.Ghosts D) (G : Ghosts W) (fewer_later : FewerL
       -- what it left, once its lines were put
       comes_to : RanTo S G went.desk (event_lines names programs number ((event, word) ∷ []) start) (faulted ((event, word) ∷ [])) new before after
       comes_to =
-          let happened : List Line = happening_lines names (number_after number did.next) told in
-          subst (λ (lines : List Line). RanTo S G went.desk lines (faulted ((event, word) ∷ [])) new before after) (sym lines_are)
-          (subst (λ (desk : Desk). RanTo S G desk happened (faulted ((event, word) ∷ [])) new before after) (sym next_is)
-          (to_later S G did.next happened (faulted ((event, word) ∷ [])) new before between after lines_put.only.held lines_put.only.disk lines_put.only.writes (λ sure. (sure_puts (event_lines names programs number ((event, word) ∷ []) start) between after result lines_put sure).0)
-          (to_did S G programs number event told names start new before between did calls.disk writes calm)))
+          subst (λ (these : List Line). RanTo S G went.desk these (faulted ((event, word) ∷ [])) new before after) (sym lines_are)
+          (subst (λ (desk : Desk). RanTo S G desk lines (faulted ((event, word) ∷ [])) new before after) (sym next_is)
+          (to_later S G did.next lines (faulted ((event, word) ∷ [])) new before between after puts.only.held puts.only.disk puts.only.writes (λ sure. (sure_puts lines between after result puts sure).0)
+          (to_did S G programs number event names lines start new before between was calls.disk)))
 
       in_doubt : went.desk.closed ≡ true → (front : List (Event × Word)) (one : Event) → (event, word) ∷ [] ≡ front ++ (one, Doubt) ∷ [] → InDoubt G programs number start front one after
       in_doubt shut front one is =

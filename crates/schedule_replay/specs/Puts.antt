@@ -12,6 +12,8 @@ use Rattle.desk.specs.declared.answers.Stored.{Stored}
 use Rattle.desk.specs.declared.answers.Stored.TheVariants as stored
 use Rattle.desk.specs.declared.answers.Reopened.{Reopened}
 use Rattle.desk.specs.declared.answers.Reopened.TheVariants as reopened
+use Rattle.schedule_replay.specs.declared.lines.Unended.{Unended}
+use Rattle.schedule_replay.specs.declared.lines.Unended.TheVariants as unended
 use Rattle.desk.specs.Answers.{counts_told, ending_told}
 use Rattle.desk.specs.Lines as line
 use Rattle.desk.specs.Lines.{Line, line_text}
@@ -49,6 +51,11 @@ stored_number _ = 0
 abbrev pub reopened_number : Reopened → ℕ
 reopened_number (reopened.Number number) = number
 reopened_number _ = 0
+
+-- the line of an activation that has no end of its own
+abbrev pub unended_told : Unended → ℕ → Line
+unended_told unended.Left = line.Left
+unended_told unended.Lost = line.Lost
 
 -- the lines of a turn that had an instruction to attempt: its counts, the rollbacks and its end
 abbrev pub counted_lines : ℕ → Turn → List ℕ → List Line

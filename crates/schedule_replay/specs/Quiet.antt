@@ -1,11 +1,9 @@
 -- What running events without a report did.
-use Rattle.std.specs.Prelude.{◌≡◌, ℕ, ◌+◌, ◌*◌, ◌≤◌, count_by, Bool, true, false, List, [], ◌∷◌, ◌++◌, map, Option, None, Some, IfSome, Result, Ok}
+use Rattle.std.specs.Prelude.{◌≡◌, ℕ, ◌+◌, ◌≤◌, count_by, Bool, true, false, List, [], ◌∷◌, ◌++◌, map, Option, None, Some, IfSome, Result, Ok}
 use Rattle.std.specs.List.{fold}
 use Rattle.outside.specs.declared.world.Outside.{Ghosts}
 use Rattle.outside.specs.declared.failed.Failed.{Failed}
-use Rattle.outside.specs.Causes.{RoseBy}
-use Rattle.outside.specs.Durable.{IsSure}
-use Rattle.outside.specs.Runs.{Leaves, held_of}
+use Rattle.outside.specs.Runs.{Leaves}
 use Rattle.flat_machine.specs.declared.machine.Program.{Program}
 use Rattle.desk.specs.declared.answers.Begun.{Begun}
 use Rattle.desk.specs.declared.answers.Begun.TheVariants as begun
@@ -17,21 +15,19 @@ use Rattle.desk.specs.declared.event.Event.{Event}
 use Rattle.desk.specs.declared.event.Event.TheVariants.{Crash}
 use Rattle.desk.specs.declared.supervisor.Supervisor as desk
 use Rattle.desk.specs.Commits.{is_commit}
-use Rattle.desk.specs.Crash.{Did}
 use Rattle.desk.specs.Desk.{Desk}
-use Rattle.desk.specs.Kept.{WritesMore, records_in, most_records, tells_fault}
 use Rattle.desk.specs.Instruction.{Word, Doubt}
-use Rattle.desk.specs.Run.{Happening, run, faulted, OpenBeforeEach}
+use Rattle.desk.specs.Run.{run, faulted, OpenBeforeEach}
 use Rattle.desk.specs.Lines.{Line}
 use Rattle.desk.specs.Lines as line
-use Rattle.desk.specs.Report.{number_after, event_lines, happening_lines}
+use Rattle.desk.specs.Report.{event_lines}
 use Rattle.run_law.specs.Left.{IsLeft}
 use Rattle.schedule_replay.specs.declared.events.Going.{Going}
 use Rattle.schedule_replay.specs.declared.events.Going.TheVariants as going
 use Rattle.schedule_replay.specs.declared.quietly.Quiet.{Quiet}
 use Rattle.schedule_replay.specs.declared.quietly.Quiet.TheVariants as quiet
 use Rattle.schedule_replay.specs.declared.quietly.Tally.{Tally}
-use Rattle.schedule_replay.specs.Ran.{InDoubt}
+use Rattle.schedule_replay.specs.Ran.{InDoubt, WasStep}
 use Rattle.schedule_replay.specs.RanTo.{RanTo}
 
 -- no put failed
@@ -105,11 +101,9 @@ going_of quiet.Closed = going.Closed
 
 -- an event was a step of the desk, and what it came to is told, where it left the desk open
 pub record WentQuietly {D W : Type 0} (S : desk.Ghosts D) (G : Ghosts W) (programs : List Program) (number : ℕ) (event : Event) (start : Desk) (new : D) (before after : W) (old_last new_last : List ℕ) (tally : Option Tally) : Type 0 where
-  pub told : Happening
-  pub did : Did G programs number event told (S.closed new) (S.order new) (S.shows new) start before after
-  pub writes : WritesMore (G.writes before) (G.writes after) (2 * count_by is_commit (happening_lines [] (number_after number did.next) told))
-  pub calm : count_by tells_fault (happening_lines [] (number_after number did.next) told) ≡ 0 → G.disk_faults after ≡ G.disk_faults before
-  pub tells : IfSome tally (λ tally. Tells tally old_last new_last (happening_lines [] (number_after number did.next) told))
+  pub lines : List Line
+  pub step : WasStep S G [] programs number event lines start new before after
+  pub tells : IfSome tally (λ tally. Tells tally old_last new_last lines)
 
 -- Events were run from a desk, each with a word, and nothing was put: what `Ran` says but for its lines, which nobody sees. The image that
 -- a crash since the start left is one of the run, whatever was printed before.

@@ -1,5 +1,5 @@
 -- Runs of the desk that a supervisor shows, with what they put.
-use Rattle.std.specs.Prelude.{◌≡◌, ℕ, ◌⊎◌, true, List, [], ◌∷◌, ◌++◌, length, map, Option, Result, IsSome, slice_set}
+use Rattle.std.specs.Prelude.{◌≡◌, ℕ, ◌*◌, ◌⊎◌, count_by, true, List, [], ◌∷◌, ◌++◌, length, map, Option, Result, IsSome, slice_set}
 use Rattle.std.specs.List.{flat_map}
 use Rattle.outside.specs.declared.world.Outside.{Ghosts}
 use Rattle.outside.specs.declared.failed.Failed.{Failed}
@@ -11,12 +11,14 @@ use Rattle.flat_machine.specs.declared.machine.Program.{Program}
 use Rattle.store_format.specs.Stands.{stands}
 use Rattle.desk.specs.declared.event.Event.{Event}
 use Rattle.desk.specs.declared.supervisor.Supervisor as desk
-use Rattle.desk.specs.Crash.{standing_of, fine_step}
+use Rattle.desk.specs.Commits.{is_commit}
+use Rattle.desk.specs.Crash.{Did, standing_of, fine_step}
 use Rattle.desk.specs.Desk.{Desk}
 use Rattle.desk.specs.Instruction.{Word, Doubt}
-use Rattle.desk.specs.Run.{run, faulted, OpenBeforeEach}
-use Rattle.desk.specs.Lines.{line_text}
-use Rattle.desk.specs.Report.{number_after, event_lines}
+use Rattle.desk.specs.Kept.{WritesMore, tells_fault}
+use Rattle.desk.specs.Run.{Happening, run, faulted, OpenBeforeEach}
+use Rattle.desk.specs.Lines.{Line, line_text}
+use Rattle.desk.specs.Report.{number_after, event_lines, happening_lines}
 use Rattle.run_law.specs.Left.{IsLeft}
 use Rattle.schedule_replay.specs.Puts.{BeginsWith, PutsTimes, shown_of}
 use Rattle.schedule_replay.specs.RanTo.{RanTo}
@@ -41,6 +43,15 @@ InDoubt G programs number start front event after =
 -- the text of a run's events
 abbrev pub text_of : List (List ℕ) → List Program → ℕ → List (Event × Word) → Desk → List ℕ
 text_of names programs number taken start = flat_map line_text (event_lines names programs number taken start)
+
+-- An event was a step of the desk, and these are the lines of what happened at it, with these names. Two writes for each commit line succeeded, and
+-- the disk's count of faults stays where no line tells of one.
+pub record WasStep {D W : Type 0} (S : desk.Ghosts D) (G : Ghosts W) (names : List (List ℕ)) (programs : List Program) (number : ℕ) (event : Event) (lines : List Line) (start : Desk) (new : D) (before after : W) : Type 0 where
+  pub told : Happening
+  pub did : Did G programs number event told (S.closed new) (S.order new) (S.shows new) start before after
+  pub lines_are : lines ≡ happening_lines names (number_after number did.next) told
+  pub writes : WritesMore (G.writes before) (G.writes after) (2 * count_by is_commit lines)
+  pub calm : count_by tells_fault lines ≡ 0 → G.disk_faults after ≡ G.disk_faults before
 
 -- Events were run from a desk, each with a word, and their lines put. The image that a crash since the start left is one of the run, and where printed
 -- bytes are told it lacks no commit that was seen by then.

@@ -4,6 +4,7 @@ use Rattle.outside.specs.declared.world.Outside.{Ghosts}
 use Rattle.outside.specs.declared.failed.Failed.{Failed}
 use Rattle.outside.specs.Bytes.{Prints}
 use Rattle.outside.specs.Causes.{Rose}
+use Rattle.outside.specs.Durable.{IsSure}
 use Rattle.outside.specs.Runs.{Leaves, held_of}
 use Rattle.flat_machine.specs.declared.machine.Program.{Program}
 use Rattle.store_format.specs.Bank.{Faulty, bank_of}
@@ -24,6 +25,7 @@ use Rattle.schedule_replay.specs.declared.events.Going.{Going}
 use Rattle.schedule_replay.specs.declared.events.Going.TheVariants as going
 use Rattle.schedule_replay.specs.declared.events.Replayed.{Replayed}
 use Rattle.schedule_replay.specs.declared.events.Replayed.TheVariants as replayed
+use Rattle.schedule_replay.specs.Answered.{Answered, GoesBy}
 use Rattle.schedule_replay.specs.Puts.{PutsTimes, shown_of}
 use Rattle.schedule_replay.specs.Ran.{Ran, PrintsEarlier, InDoubt, text_of}
 use Rattle.schedule_replay.specs.RanTo.{RanTo}
@@ -54,6 +56,16 @@ going_by (reopened.Number number) = going.On
 going_by (reopened.Damaged offset) = going.Damaged offset
 going_by reopened.DiskFault = going.Closed
 going_by reopened.Shut = going.Closed
+
+-- One event was asked and its lines put: what that keeps, how it goes on, and the run of this event alone, from bytes that are sure and show a desk,
+-- which are never found damaged.
+pub record WentBy {D W : Type 0} (S : desk.Ghosts D) (G : Ghosts W) (names : List (List ℕ)) (event : Event) (old new : D) (before after : W) (result : Result Going Failed) : Type 0 where
+  pub answered : Answered S G (event ∷ []) old new before after result
+  pub goes : IfOk result (λ going. GoesBy S G old new before after going)
+  pub shut : S.closed old ≡ true → IfOk result (λ how. how ≡ going.Closed)
+  pub ran : (start : Desk) → IsSure G before → S.shows old (held_of G before) start → Ran S G names (S.fixed old).programs (S.fixed old).opened (event ∷ []) start new before after result
+  pub closed : IfOk result (λ going. S.closed new ≡ is_closed going)
+  pub undamaged : (start : Desk) → IsSure G before → S.shows old (held_of G before) start → IfOk result (λ going. is_damaged going ≡ false)
 
 -- The first of the events were run, and their lines put. All events were run where the desk goes on.
 pub record RanSome {D W : Type 0} (S : desk.Ghosts D) (G : Ghosts W) (names : List (List ℕ)) (programs : List Program) (number : ℕ) (events : List Event) (start : Desk) (new : D) (before after : W) (result : Result Going Failed) : Type 0 where

@@ -3,7 +3,6 @@ ghost use Rattle.std.specs.Prelude.{◌≡◌, ◌+◌, ◌≤◌, ℕ, List, []
 ghost use Rattle.outside.specs.Durable.{IsSure};
 ghost use Rattle.outside.specs.Moments.{Elapses};
 ghost use Rattle.outside.specs.Runs.{held_of};
-ghost use Rattle.desk.specs.declared.event.Event.TheVariants as event;
 ghost use Rattle.desk.specs.Answers.{turn_closes, stored_closes};
 ghost use Rattle.desk.specs.Desk.{Desk};
 ghost use Rattle.desk.specs.Kept.{HoldsStore, StillTold};
@@ -12,10 +11,10 @@ ghost use Rattle.desk.specs.Seen.{IsUnbroken};
 ghost use Rattle.schedule_replay.specs.Answered.{IsReady, Answered, GoesBy, GoesShut};
 ghost use Rattle.schedule_replay.specs.Puts.{Puts};
 ghost use Rattle.outside.specs.Runs.{OnlyPuts};
-ghost use Rattle.schedule_replay.specs.Ran.{Ran, HasOpened};
-ghost use Rattle.schedule_replay.specs.Replays.{Replays, Reports, RanSome, EndsBy, EndsShut, is_closed, is_damaged, going_if, going_begun, going_by};
+ghost use Rattle.schedule_replay.specs.Ran.{HasOpened};
+ghost use Rattle.schedule_replay.specs.Replays.{Replays, Reports, RanSome, WentBy, EndsBy, EndsShut, is_closed, is_damaged, going_if, going_begun, going_by};
 
-use super::lines::{put_begun, put_left, put_one, put_reopened, put_stored, put_turn};
+use super::lines::{Unended, put_begun, put_each_and, put_one, put_reopened, put_stored, put_turn};
 use desk::{Begun, Event, Reopened, Stored, Supervisor, TurnEnd};
 use job_text::Name;
 use outside::{Failed, Outside};
@@ -68,7 +67,7 @@ pub fn replay<S: Supervisor, W: Outside>(
     ensures fixed { S.fixed desk.new ≡ S.fixed desk.old }
     ensures turns { S.turns desk.new ≤ S.turns desk.old + length events.now }
 {
-    match put_report(desk, names, events, &mut Reporter::new(), outside) {
+    match put_report(desk, names, events, outside) {
         Err(Failed) => Replayed::PutFault,
         Ok(Going::Closed) => Replayed::Closed,
         Ok(Going::Damaged(offset)) => Replayed::Damaged(offset),
@@ -81,7 +80,6 @@ fn put_report<S: Supervisor, W: Outside>(
     desk: &mut S,
     names: &[Name],
     events: &[Event],
-    reporter: &mut Reporter,
     outside: &mut W,
 ) -> Result<Going, Failed>
     requires ready { IsReady S.Supervisor W.Outside events.now desk.old outside.old }
@@ -93,10 +91,11 @@ fn put_report<S: Supervisor, W: Outside>(
     ensures shut { S.closed desk.old ≡ true → IfOk result (GoesShut events.now) }
     ensures answered { (count : ℕ) × Answered S.Supervisor W.Outside (take count events.now) desk.old desk.new outside.old outside.new result }
 {
-    put_one(&Line::Open(desk.number()), reporter, outside)?;
-    match put_events(desk, names, events, reporter, outside)? {
+    let mut reporter = Reporter::new();
+    put_one(&Line::Open(desk.number()), &mut reporter, outside)?;
+    match put_events(desk, names, events, &mut reporter, outside)? {
         Going::On => {
-            put_closing(desk, reporter, outside)?;
+            put_closing(desk, &mut reporter, outside)?;
             Ok(Going::On)
         }
         going => Ok(going),
@@ -113,8 +112,9 @@ fn put_closing<S: Supervisor, W: Outside>(
     ensures only { OnlyPuts W.Outside outside.old outside.new result }
     ensures puts { (held : List ℕ) (start : Desk) → S.shows desk.now held start → Puts W.Outside (closing_lines (S.fixed desk.now).opened [] start) outside.old outside.new result }
 {
-    put_left(desk.active().as_slice(), reporter, outside)?;
-    put_one(&Line::End(desk.number()), reporter, outside)
+    let left = desk.active();
+    let end = Line::End(desk.number());
+    put_each_and(Unended::Left, left.as_slice(), &end, reporter, outside)
 }
 
 /// The events and their lines, to the one that closed the desk.
@@ -142,7 +142,7 @@ fn put_events<S: Supervisor, W: Outside>(
     Ok(Going::On)
 }
 
-/// One event and its lines.
+/// One event and its lines. Those that a crash ends are asked for before it, and their lines put after it.
 fn answer<S: Supervisor, W: Outside>(
     desk: &mut S,
     names: &[Name],
@@ -153,111 +153,31 @@ fn answer<S: Supervisor, W: Outside>(
     requires ready { IsReady S.Supervisor W.Outside (event ∷ []) desk.old outside.old }
     requires names { length (S.fixed desk.old).programs ≤ length names.now }
     requires unbroken { All (λ name. IsUnbroken name.items) names.now }
-    ensures answered { Answered S.Supervisor W.Outside (event ∷ []) desk.old desk.new outside.old outside.new result }
-    ensures goes { IfOk result (λ going. GoesBy S.Supervisor W.Outside desk.old desk.new outside.old outside.new going) }
-    ensures shut { S.closed desk.old ≡ true → IfOk result (λ going. going ≡ Going.Closed) }
-    ensures ran { (start : Desk) → IsSure W.Outside outside.old → S.shows desk.old (held_of W.Outside outside.old) start → Ran S.Supervisor W.Outside (map (λ name. name.items) names.now) (S.fixed desk.old).programs (S.fixed desk.old).opened (event ∷ []) start desk.new outside.old outside.new result }
-    ensures closed { IfOk result (λ going. S.closed desk.new ≡ is_closed going) }
-    ensures undamaged { (start : Desk) → IsSure W.Outside outside.old → S.shows desk.old (held_of W.Outside outside.old) start → IfOk result (λ going. is_damaged going ≡ false) }
+    ensures { WentBy S.Supervisor W.Outside (map (λ name. name.items) names.now) event desk.old desk.new outside.old outside.new result }
 {
     match event {
-        Event::Begin { program, args } => begin(desk, names, program, args, reporter, outside),
-        Event::Turn { activation, limit } => turn(
-            desk, names, activation, limit, reporter, outside,
-        ),
-        Event::Checkpoint => checkpoint(desk, names, reporter, outside),
-        Event::Crash => crash(desk, names, reporter, outside),
+        Event::Begin { program, args } => {
+            let begun = desk.begin(program, args);
+            let put = put_begun(begun, program, names, reporter, outside);
+            put.and(Ok(going_after_begin(begun)))
+        }
+        Event::Turn { activation, limit } => {
+            let turn = desk.turn(outside, activation, limit);
+            let put = put_turn(&turn, activation, desk.printed(), reporter, outside);
+            put.and(Ok(going_after_turn(&turn.end)))
+        }
+        Event::Checkpoint => {
+            let stored = desk.checkpoint(outside);
+            let put = put_stored(stored, reporter, outside);
+            put.and(Ok(going_after_checkpoint(stored)))
+        }
+        Event::Crash => {
+            let lost = desk.active();
+            let reopened = desk.forget(outside);
+            let put = put_reopened(reopened, lost.as_slice(), reporter, outside);
+            put.and(Ok(going_after_crash(reopened)))
+        }
     }
-}
-
-/// A begin and its line.
-fn begin<S: Supervisor, W: Outside>(
-    desk: &mut S,
-    names: &[Name],
-    program: u16,
-    args: [u32; 4],
-    reporter: &mut Reporter,
-    outside: &mut W,
-) -> Result<Going, Failed>
-    requires ready { IsReady S.Supervisor W.Outside (event.Begin program args ∷ []) desk.old outside.old }
-    requires names { length (S.fixed desk.old).programs ≤ length names.now }
-    requires unbroken { All (λ name. IsUnbroken name.items) names.now }
-    ensures answered { Answered S.Supervisor W.Outside (event.Begin program args ∷ []) desk.old desk.new outside.old outside.new result }
-    ensures goes { IfOk result (λ going. GoesBy S.Supervisor W.Outside desk.old desk.new outside.old outside.new going) }
-    ensures shut { S.closed desk.old ≡ true → IfOk result (λ going. going ≡ Going.Closed) }
-    ensures ran { (start : Desk) → IsSure W.Outside outside.old → S.shows desk.old (held_of W.Outside outside.old) start → Ran S.Supervisor W.Outside (map (λ name. name.items) names.now) (S.fixed desk.old).programs (S.fixed desk.old).opened (event.Begin program args ∷ []) start desk.new outside.old outside.new result }
-    ensures closed { IfOk result (λ going. S.closed desk.new ≡ is_closed going) }
-    ensures undamaged { IfOk result (λ going. is_damaged going ≡ false) }
-{
-    let begun = desk.begin(program, args);
-    put_begun(begun, program, names, reporter, outside)?;
-    Ok(going_after_begin(begun))
-}
-
-/// A turn and its lines.
-fn turn<S: Supervisor, W: Outside>(
-    desk: &mut S,
-    names: &[Name],
-    activation: u32,
-    limit: u32,
-    reporter: &mut Reporter,
-    outside: &mut W,
-) -> Result<Going, Failed>
-    requires ready { IsReady S.Supervisor W.Outside (event.Turn activation limit ∷ []) desk.old outside.old }
-    requires unbroken { All (λ name. IsUnbroken name.items) names.now }
-    ensures answered { Answered S.Supervisor W.Outside (event.Turn activation limit ∷ []) desk.old desk.new outside.old outside.new result }
-    ensures goes { IfOk result (λ going. GoesBy S.Supervisor W.Outside desk.old desk.new outside.old outside.new going) }
-    ensures shut { S.closed desk.old ≡ true → IfOk result (λ going. going ≡ Going.Closed) }
-    ensures ran { (start : Desk) → IsSure W.Outside outside.old → S.shows desk.old (held_of W.Outside outside.old) start → Ran S.Supervisor W.Outside (map (λ name. name.items) names.now) (S.fixed desk.old).programs (S.fixed desk.old).opened (event.Turn activation limit ∷ []) start desk.new outside.old outside.new result }
-    ensures closed { IfOk result (λ going. S.closed desk.new ≡ is_closed going) }
-    ensures undamaged { IfOk result (λ going. is_damaged going ≡ false) }
-{
-    let turn = desk.turn(outside, activation, limit);
-    put_turn(&turn, activation, desk.printed(), reporter, outside)?;
-    Ok(going_after_turn(&turn.end))
-}
-
-/// A checkpoint and its line.
-fn checkpoint<S: Supervisor, W: Outside>(
-    desk: &mut S,
-    names: &[Name],
-    reporter: &mut Reporter,
-    outside: &mut W,
-) -> Result<Going, Failed>
-    requires ready { IsReady S.Supervisor W.Outside (event.Checkpoint ∷ []) desk.old outside.old }
-    requires unbroken { All (λ name. IsUnbroken name.items) names.now }
-    ensures answered { Answered S.Supervisor W.Outside (event.Checkpoint ∷ []) desk.old desk.new outside.old outside.new result }
-    ensures goes { IfOk result (λ going. GoesBy S.Supervisor W.Outside desk.old desk.new outside.old outside.new going) }
-    ensures shut { S.closed desk.old ≡ true → IfOk result (λ going. going ≡ Going.Closed) }
-    ensures ran { (start : Desk) → IsSure W.Outside outside.old → S.shows desk.old (held_of W.Outside outside.old) start → Ran S.Supervisor W.Outside (map (λ name. name.items) names.now) (S.fixed desk.old).programs (S.fixed desk.old).opened (event.Checkpoint ∷ []) start desk.new outside.old outside.new result }
-    ensures closed { IfOk result (λ going. S.closed desk.new ≡ is_closed going) }
-    ensures undamaged { IfOk result (λ going. is_damaged going ≡ false) }
-{
-    let stored = desk.checkpoint(outside);
-    put_stored(stored, reporter, outside)?;
-    Ok(going_after_checkpoint(stored))
-}
-
-/// A crash and its lines: those that were active are asked for before it, and put after it.
-fn crash<S: Supervisor, W: Outside>(
-    desk: &mut S,
-    names: &[Name],
-    reporter: &mut Reporter,
-    outside: &mut W,
-) -> Result<Going, Failed>
-    requires ready { IsReady S.Supervisor W.Outside (event.Crash ∷ []) desk.old outside.old }
-    requires unbroken { All (λ name. IsUnbroken name.items) names.now }
-    ensures answered { Answered S.Supervisor W.Outside (event.Crash ∷ []) desk.old desk.new outside.old outside.new result }
-    ensures goes { IfOk result (λ going. GoesBy S.Supervisor W.Outside desk.old desk.new outside.old outside.new going) }
-    ensures shut { S.closed desk.old ≡ true → IfOk result (λ going. going ≡ Going.Closed) }
-    ensures ran { (start : Desk) → IsSure W.Outside outside.old → S.shows desk.old (held_of W.Outside outside.old) start → Ran S.Supervisor W.Outside (map (λ name. name.items) names.now) (S.fixed desk.old).programs (S.fixed desk.old).opened (event.Crash ∷ []) start desk.new outside.old outside.new result }
-    ensures closed { IfOk result (λ going. S.closed desk.new ≡ is_closed going) }
-    ensures undamaged { (start : Desk) → IsSure W.Outside outside.old → S.shows desk.old (held_of W.Outside outside.old) start → IfOk result (λ going. is_damaged going ≡ false) }
-{
-    let lost = desk.active();
-    let reopened = desk.forget(outside);
-    put_reopened(reopened, lost.as_slice(), reporter, outside)?;
-    Ok(going_after_crash(reopened))
 }
 
 /// Whether the desk goes on after a begin.

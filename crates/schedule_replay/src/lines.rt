@@ -4,9 +4,9 @@ ghost use Rattle.std.specs.List.{flat_map};
 ghost use Rattle.lock_rules.specs.Waits.{victim_of};
 ghost use Rattle.report_text.specs.Line.{line_told, IsShort};
 ghost use Rattle.desk.specs.Answers.{begun_told, turn_told, ending_told, stored_told, reopened_told};
-ghost use Rattle.desk.specs.Lines.{Doubt, Closed, Left, Lost};
+ghost use Rattle.desk.specs.Lines.{Doubt, Closed};
 ghost use Rattle.desk.specs.Report.{happening_lines, cycle_lines, ending_lines};
-ghost use Rattle.schedule_replay.specs.Puts.{Puts, number_told, stored_number, reopened_number, counted_lines};
+ghost use Rattle.schedule_replay.specs.Puts.{Puts, number_told, stored_number, reopened_number, counted_lines, unended_told};
 
 use desk::{Begun, Cycle, Reopened, Stored, Turn, TurnEnd};
 use job_text::Name;
@@ -189,32 +189,54 @@ fn put_doubt<W: Outside>(
     put_one(&Line::Closed, reporter, outside)
 }
 
-/// A line for each activation that was active at the end.
-pub fn put_left<W: Outside>(
+/// How an activation ended that has no end of its own.
+#[derive(Clone, Copy)]
+pub enum Unended {
+    /// It was active at the end.
+    Left,
+    /// A crash ended it.
+    Lost,
+}
+
+/// The line of an activation that has no end of its own.
+fn unended_line<'a>(unended: Unended, activation: u32) -> Line<'a>
+    ensures line { line_told result ≡ unended_told unended activation }
+    ensures short { IsShort result }
+{
+    match unended {
+        Unended::Left => Line::Left(activation),
+        Unended::Lost => Line::Lost(activation),
+    }
+}
+
+/// A line for each activation that has no end of its own.
+fn put_each<W: Outside>(
+    unended: Unended,
     activations: &[u32],
     reporter: &mut Reporter,
     outside: &mut W,
 ) -> Result<(), Failed>
-    ensures { Puts W.Outside (map Left activations.now) outside.old outside.new result }
+    ensures { Puts W.Outside (map (unended_told unended) activations.now) outside.old outside.new result }
 {
     for activation in activations {
-        put_one(&Line::Left(*activation), reporter, outside)?;
+        put_one(&unended_line(unended, *activation), reporter, outside)?;
     }
     Ok(())
 }
 
-/// A line for each activation that a crash ended.
-pub fn put_lost<W: Outside>(
+/// A line for each activation that has no end of its own, and one more.
+pub fn put_each_and<W: Outside>(
+    unended: Unended,
     activations: &[u32],
+    last: &Line,
     reporter: &mut Reporter,
     outside: &mut W,
 ) -> Result<(), Failed>
-    ensures { Puts W.Outside (map Lost activations.now) outside.old outside.new result }
+    requires { IsShort last.now }
+    ensures { Puts W.Outside (map (unended_told unended) activations.now ++ line_told last.now ∷ []) outside.old outside.new result }
 {
-    for activation in activations {
-        put_one(&Line::Lost(*activation), reporter, outside)?;
-    }
-    Ok(())
+    put_each(unended, activations, reporter, outside)?;
+    put_one(last, reporter, outside)
 }
 
 /// The line of a checkpoint; one of a desk that was closed before has none.
@@ -244,22 +266,19 @@ pub fn put_reopened<W: Outside>(
 {
     match reopened {
         Reopened::Shut => Ok(()),
-        Reopened::Number(number) => put_lost_and(lost, &Line::Open(number), reporter, outside),
-        Reopened::Damaged(_) => put_lost_and(lost, &Line::Closed, reporter, outside),
-        Reopened::DiskFault => put_lost_and(lost, &Line::Closed, reporter, outside),
+        Reopened::Number(number) => put_each_and(
+            Unended::Lost,
+            lost,
+            &Line::Open(number),
+            reporter,
+            outside,
+        ),
+        Reopened::Damaged(_) | Reopened::DiskFault => put_each_and(
+            Unended::Lost,
+            lost,
+            &Line::Closed,
+            reporter,
+            outside,
+        ),
     }
-}
-
-/// A line for each activation that a crash ended, and one more.
-fn put_lost_and<W: Outside>(
-    lost: &[u32],
-    last: &Line,
-    reporter: &mut Reporter,
-    outside: &mut W,
-) -> Result<(), Failed>
-    requires { IsShort last.now }
-    ensures { Puts W.Outside (map Lost lost.now ++ line_told last.now ∷ []) outside.old outside.new result }
-{
-    put_lost(lost, reporter, outside)?;
-    put_one(last, reporter, outside)
 }

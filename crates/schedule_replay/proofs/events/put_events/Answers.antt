@@ -1,9 +1,9 @@
-use Rattle.schedule_replay.proofs.Common.{◌≡◌, [], ◌+◌, length, map, take, drop, refl, sym, ap, ◌∙◌, arith, rules, append-nil, Ok, false, take-append-drop, take_all, Fixed, Begin, is_closed, is_damaged, prints_broken, prints_well}
+use Rattle.schedule_replay.proofs.Common.{◌≡◌, [], ◌+◌, length, map, take, refl, sym, ap, ◌∙◌, arith, rules, append-nil, Ok, take_all, Fixed, Begin, is_closed, prints_broken, prints_well}
 use Rattle.schedule_replay.specs.declared.events.Going.TheVariants as going
 use Rattle.schedule_replay.proofs.AnsweredLemmas.{answered_none, ready_next, answered_more, answered_well, answered_broken, goes_since, shut_asked, shut_unasked}
 use Rattle.schedule_replay.proofs.WentLemmas.{names_are}
-use Rattle.schedule_replay.proofs.RanLemmas.{ran_as, ran_next, ran_none}
-use Rattle.schedule_replay.proofs.ReportLemmas.{if_ok_broken, not_on}
+use Rattle.schedule_replay.proofs.RanLemmas.{ran_as, ran_further, ran_last, ran_none}
+use Rattle.schedule_replay.proofs.ReportLemmas.{if_ok_broken, not_on_closed}
 use Rattle.schedule_replay.proofs.events.put_events.Goals as goal
 
 pub loop-event-init : goal.loop-event-init
@@ -34,53 +34,32 @@ returns-in_err-going-clause-answered g c = (
 )
 
 pub returns-in_err-going-clause-ran : goal.returns-in_err-going-clause-ran
-returns-in_err-going-clause-ran g c =
-    λ start sure shows.
-    let S = g.S.Supervisor in
-    let G = g.W.Outside in
+returns-in_err-going-clause-ran g c = λ start sure shows.
     let now = c.loop-event.invariant in
-    let names = map (λ name. name.items) c.args.names.now in
-    let are = names_are (λ name. name.items) c.args.names.now c.requires.unbroken in
-    let still = now.still (g.met.S.Supervisor.open_shown c.args.desk.now _ start shows) in
-    record {
-      front = take (c.loop-event.event-index + 1) c.args.events.now;
-      rest = drop (c.loop-event.event-index + 1) c.args.events.now;
-      whole = take-append-drop (c.loop-event.event-index + 1) c.args.events.now;
-      ran = ran_as S G g.met.W.Outside.fewer_later names are (S.fixed c.args.desk.now).programs (S.fixed c.args.desk.now).opened _ start c.answer.new.desk c.args.outside.now c.answer.new.outside c.answer.result c.from_residual.result (prints_broken c.answer.result c.from_residual.result (search rules) c.from_residual.ensures.0) (λ is. c.from_residual.ensures.0)
-          (ran_next S G g.met.W.Outside.fewer_later names are (S.fixed c.args.desk.now).programs (S.fixed c.args.desk.now).opened c.args.events.now c.loop-event.event-index (Begin 0 []) c.loop-event-test.true start c.loop-event.desk c.answer.new.desk c.args.outside.now c.loop-event.outside c.answer.new.outside c.answer.result still (ap (λ (fixed : Fixed). fixed.programs) now.answered.fixed) (ap (λ (fixed : Fixed). fixed.opened) now.answered.fixed) (now.ran start sure shows) c.answer.ensures.ran);
-      closed = if_ok_broken c.from_residual.result (λ going. S.closed c.answer.new.desk ≡ is_closed going) c.from_residual.ensures.0;
-      sound = if_ok_broken c.from_residual.result (λ going. is_damaged going ≡ false) c.from_residual.ensures.0;
-      all = if_ok_broken c.from_residual.result (λ going. is_closed going ≡ false → drop (c.loop-event.event-index + 1) c.args.events.now ≡ []) c.from_residual.ensures.0;
-    }
+    let later = c.from_residual.result in
+    let broke = c.from_residual.ensures.0 in
+    ran_last g.S.Supervisor g.W.Outside g.met.W.Outside.fewer_later (map (λ name. name.items) c.args.names.now) (names_are (λ name. name.items) c.args.names.now c.requires.unbroken) c.args.events.now c.loop-event.event-index (Begin 0 []) c.loop-event-test.true start c.args.desk.now c.loop-event.desk c.answer.new.desk c.args.outside.now c.loop-event.outside c.answer.new.outside
+    (now.still (g.met.S.Supervisor.open_shown c.args.desk.now _ start shows)) now.answered.fixed c.answer.result (now.ran start sure shows) c.answer.ensures.ran later (prints_broken c.answer.result later (search rules) broke) (λ is. broke) (if_ok_broken later _ broke) (if_ok_broken later _ broke) (if_ok_broken later _ broke)
 
 pub returns-in_default : goal.returns-in_default
 returns-in_default g c =
     let S = g.S.Supervisor in
     let G = g.W.Outside in
     let now = c.loop-event.invariant in
-    let names = map (λ name. name.items) c.args.names.now in
-    let are = names_are (λ name. name.items) c.args.names.now c.requires.unbroken in
+    let how = c.in_ok-going.going in
     record {
       answered = (
         c.loop-event.event-index + 1,
-        answered_well S G g.met.W.Outside.fewer_later _ c.args.desk.now c.answer.new.desk c.args.outside.now c.answer.new.outside c.in_ok-going.going _
-            (answered_more S G g.met.W.Outside.fewer_later c.args.events.now c.loop-event.event-index (Begin 0 []) c.loop-event-test.true c.args.desk.now c.loop-event.desk c.args.outside.now c.loop-event.outside c.answer.new.desk c.answer.new.outside (Ok c.in_ok-going.going) now.answered c.in_ok-going.ensures.answered),
+        answered_well S G g.met.W.Outside.fewer_later _ c.args.desk.now c.answer.new.desk c.args.outside.now c.answer.new.outside how _
+            (answered_more S G g.met.W.Outside.fewer_later c.args.events.now c.loop-event.event-index (Begin 0 []) c.loop-event-test.true c.args.desk.now c.loop-event.desk c.args.outside.now c.loop-event.outside c.answer.new.desk c.answer.new.outside (Ok how) now.answered c.in_ok-going.ensures.answered),
       );
-      goes = goes_since S G c.in_ok-going.going c.args.desk.now c.loop-event.desk c.answer.new.desk c.args.outside.now c.loop-event.outside c.answer.new.outside (ap (λ (fixed : Fixed). fixed.header) now.answered.fixed) now.still now.answered.disk c.in_ok-going.ensures.goes;
-      shut = λ was. shut_asked c.args.events.now c.loop-event.event-index c.in_ok-going.going c.loop-event-test.true (c.in_ok-going.ensures.shut (now.shut was).1);
+      goes = goes_since S G how c.args.desk.now c.loop-event.desk c.answer.new.desk c.args.outside.now c.loop-event.outside c.answer.new.outside (ap (λ (fixed : Fixed). fixed.header) now.answered.fixed) now.still now.answered.disk c.in_ok-going.ensures.goes;
+      shut = λ was. shut_asked c.args.events.now c.loop-event.event-index how c.loop-event-test.true (c.in_ok-going.ensures.shut (now.shut was).1);
       ran = λ start sure shows.
           let still = now.still (g.met.S.Supervisor.open_shown c.args.desk.now _ start shows) in
           let before = (now.ran start sure shows).to.still (sym (now.ran start sure shows).to.closes ∙ still) in
-          record {
-            front = take (c.loop-event.event-index + 1) c.args.events.now;
-            rest = drop (c.loop-event.event-index + 1) c.args.events.now;
-            whole = take-append-drop (c.loop-event.event-index + 1) c.args.events.now;
-            ran = ran_as S G g.met.W.Outside.fewer_later names are (S.fixed c.args.desk.now).programs (S.fixed c.args.desk.now).opened _ start c.answer.new.desk c.args.outside.now c.answer.new.outside (Ok c.in_ok-going.going) (Ok c.in_ok-going.going) (λ one two bytes prints. prints) (λ is. is)
-                (ran_next S G g.met.W.Outside.fewer_later names are (S.fixed c.args.desk.now).programs (S.fixed c.args.desk.now).opened c.args.events.now c.loop-event.event-index (Begin 0 []) c.loop-event-test.true start c.loop-event.desk c.answer.new.desk c.args.outside.now c.loop-event.outside c.answer.new.outside (Ok c.in_ok-going.going) still (ap (λ (fixed : Fixed). fixed.programs) now.answered.fixed) (ap (λ (fixed : Fixed). fixed.opened) now.answered.fixed) (now.ran start sure shows) c.in_ok-going.ensures.ran);
-            closed = c.in_ok-going.ensures.closed;
-            sound = c.in_ok-going.ensures.undamaged _ before.0 before.1;
-            all = λ goes_on. absurd (not_on c.in_ok-going.going c.in_default.not-On goes_on);
-          };
+          ran_last S G g.met.W.Outside.fewer_later (map (λ name. name.items) c.args.names.now) (names_are (λ name. name.items) c.args.names.now c.requires.unbroken) c.args.events.now c.loop-event.event-index (Begin 0 []) c.loop-event-test.true start c.args.desk.now c.loop-event.desk c.answer.new.desk c.args.outside.now c.loop-event.outside c.answer.new.outside
+          still now.answered.fixed (Ok how) (now.ran start sure shows) c.in_ok-going.ensures.ran (Ok how) (λ one two bytes prints. prints) (λ is. is) c.in_ok-going.ensures.closed (c.in_ok-going.ensures.undamaged _ before.0 before.1) (not_on_closed how c.in_default.not-On);
     }
 
 pub loop-event-preserved : goal.loop-event-preserved
@@ -88,32 +67,25 @@ loop-event-preserved g c =
     let S = g.S.Supervisor in
     let G = g.W.Outside in
     let now = c.loop-event.invariant in
-    let names = map (λ name. name.items) c.args.names.now in
-    let are = names_are (λ name. name.items) c.args.names.now c.requires.unbroken in
+    let how = c.in_ok-going.going in
     record {
-      answered = answered_well S G g.met.W.Outside.fewer_later _ c.args.desk.now c.answer.new.desk c.args.outside.now c.answer.new.outside c.in_ok-going.going 0
-          (answered_more S G g.met.W.Outside.fewer_later c.args.events.now c.loop-event.event-index (Begin 0 []) c.loop-event-test.true c.args.desk.now c.loop-event.desk c.args.outside.now c.loop-event.outside c.answer.new.desk c.answer.new.outside (Ok c.in_ok-going.going) now.answered c.in_ok-going.ensures.answered);
+      answered = answered_well S G g.met.W.Outside.fewer_later _ c.args.desk.now c.answer.new.desk c.args.outside.now c.answer.new.outside how 0
+          (answered_more S G g.met.W.Outside.fewer_later c.args.events.now c.loop-event.event-index (Begin 0 []) c.loop-event-test.true c.args.desk.now c.loop-event.desk c.args.outside.now c.loop-event.outside c.answer.new.desk c.answer.new.outside (Ok how) now.answered c.in_ok-going.ensures.answered);
       still = λ was_open. c.in_ok-going.ensures.closed ∙ ap is_closed c.in-On.is;
       shut = λ was. absurd (let no : going.On ≡ going.Closed = sym c.in-On.is ∙ c.in_ok-going.ensures.shut (now.shut was).1 in cc (no));
       ran = λ start sure shows.
-          let still = now.still (g.met.S.Supervisor.open_shown c.args.desk.now _ start shows) in
-          ran_as S G g.met.W.Outside.fewer_later names are (S.fixed c.args.desk.now).programs (S.fixed c.args.desk.now).opened _ start c.answer.new.desk c.args.outside.now c.answer.new.outside (Ok c.in_ok-going.going) (Ok 0) (λ one two bytes prints. prints_well one two bytes c.in_ok-going.going 0 prints) (λ is. is)
-          (ran_next S G g.met.W.Outside.fewer_later names are (S.fixed c.args.desk.now).programs (S.fixed c.args.desk.now).opened c.args.events.now c.loop-event.event-index (Begin 0 []) c.loop-event-test.true start c.loop-event.desk c.answer.new.desk c.args.outside.now c.loop-event.outside c.answer.new.outside (Ok c.in_ok-going.going) still (ap (λ (fixed : Fixed). fixed.programs) now.answered.fixed) (ap (λ (fixed : Fixed). fixed.opened) now.answered.fixed) (now.ran start sure shows) c.in_ok-going.ensures.ran);
+          ran_further S G g.met.W.Outside.fewer_later (map (λ name. name.items) c.args.names.now) (names_are (λ name. name.items) c.args.names.now c.requires.unbroken) c.args.events.now c.loop-event.event-index (Begin 0 []) c.loop-event-test.true start c.args.desk.now c.loop-event.desk c.answer.new.desk c.args.outside.now c.loop-event.outside c.answer.new.outside
+          (now.still (g.met.S.Supervisor.open_shown c.args.desk.now _ start shows)) now.answered.fixed (Ok how) (now.ran start sure shows) c.in_ok-going.ensures.ran (Ok 0) (λ one two bytes prints. prints_well one two bytes how 0 prints) (λ is. is);
     }
 
 pub returns-clause-ran : goal.returns-clause-ran
-returns-clause-ran g c =
-    λ start sure shows.
-    let S = g.S.Supervisor in
-    let G = g.W.Outside in
+returns-clause-ran g c = λ start sure shows.
     let now = c.loop-event.invariant in
-    let names = map (λ name. name.items) c.args.names.now in
-    let are = names_are (λ name. name.items) c.args.names.now c.requires.unbroken in
     record {
       front = take c.loop-event.event-index c.args.events.now;
       rest = [];
       whole = append-nil (take c.loop-event.event-index c.args.events.now) ∙ take_all c.loop-event.event-index c.args.events.now c.loop-event-test.false;
-      ran = ran_as S G g.met.W.Outside.fewer_later names are (S.fixed c.args.desk.now).programs (S.fixed c.args.desk.now).opened _ start c.loop-event.desk c.args.outside.now c.loop-event.outside (Ok 0) (Ok going.On) (λ one two bytes prints. prints_well one two bytes 0 going.On prints) (λ is. is) (now.ran start sure shows);
+      ran = ran_as g.S.Supervisor g.W.Outside g.met.W.Outside.fewer_later (map (λ name. name.items) c.args.names.now) (names_are (λ name. name.items) c.args.names.now c.requires.unbroken) (g.S.Supervisor.fixed c.args.desk.now).programs (g.S.Supervisor.fixed c.args.desk.now).opened _ start c.loop-event.desk c.args.outside.now c.loop-event.outside (Ok 0) (Ok going.On) (λ one two bytes prints. prints_well one two bytes 0 going.On prints) (λ is. is) (now.ran start sure shows);
       closed = now.still (g.met.S.Supervisor.open_shown c.args.desk.now _ start shows);
       sound = refl;
       all = λ still. refl;

@@ -54,14 +54,11 @@ pub returns-in-None-clause-runs : goal.returns-in-None-clause-runs
 returns-in-None-clause-runs g c =
     λ start sure shows.
     let S = g.S.Supervisor in
-    let G = g.W.Outside in
-    let L = g.met.S.Supervisor in
-    let M = g.met.W.Outside in
     let now = c.loop-event.invariant in
     let old = c.args.desk.now in
     let so_far = now.ran start sure shows in
-    let it = ran_next_quietly S G M.fewer_later (S.fixed old).programs (S.fixed old).opened c.args.events.now c.loop-event.event-index (Begin 0 []) c.loop-event-test.true start c.loop-event.desk c.answer.new.desk c.args.outside.now c.loop-event.outside c.answer.new.outside c.loop-event.last.items c.answer.new.last.items (record { commits = c.loop-event.commits; rollbacks = c.loop-event.rollbacks }) None
-    (now.still (L.open_shown old _ start shows)) (ap (λ (fixed : Fixed). fixed.programs) now.answered.fixed) (ap (λ (fixed : Fixed). fixed.opened) now.answered.fixed) now.calls c.answer.ensures.calls so_far.0 so_far.1 c.in-None.ensures.went in
+    let it = ran_next_quietly S g.W.Outside g.met.W.Outside.fewer_later (S.fixed old).programs (S.fixed old).opened c.args.events.now c.loop-event.event-index (Begin 0 []) c.loop-event-test.true start c.loop-event.desk c.answer.new.desk c.args.outside.now c.loop-event.outside c.answer.new.outside c.loop-event.last.items c.answer.new.last.items (record { commits = c.loop-event.commits; rollbacks = c.loop-event.rollbacks }) None
+    (now.still (g.met.S.Supervisor.open_shown old _ start shows)) (ap (λ (fixed : Fixed). fixed.programs) now.answered.fixed) (ap (λ (fixed : Fixed). fixed.opened) now.answered.fixed) now.calls c.answer.ensures.calls so_far.0 so_far.1 c.in-None.ensures.went in
     record {
       front = take (c.loop-event.event-index + 1) c.args.events.now;
       rest = drop (c.loop-event.event-index + 1) c.args.events.now;

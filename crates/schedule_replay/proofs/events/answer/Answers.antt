@@ -1,0 +1,68 @@
+use Rattle.schedule_replay.proofs.Common.{ℕ, List, map, ap, ◌∙◌, arith, asks_none, TurnEnd, Stored, begun_told, turn_told, stored_told, reopened_told, turn_closes, turn_fails, stored_closes, stored_fails, happening_lines, number_told, stored_number, reopened_number, going_begun, going_if, going_by}
+use Rattle.desk.specs.declared.event.Event.TheVariants as event
+use Rattle.schedule_replay.proofs.PutsLemmas.{puts_same}
+use Rattle.schedule_replay.proofs.WentLemmas.{names_are}
+use Rattle.schedule_replay.proofs.EventLemmas.{begun_closes, if_closes, crash_closes, turn_shut, stored_shut, undamaged, undamaged_begun, undamaged_if, store_asked, goes_begin, goes_if, goes_crash, begin_step, turn_step, checkpoint_step, crash_step, went_event}
+use Rattle.schedule_replay.proofs.events.answer.Goals as goal
+
+pub returns-in-Begin : goal.returns-in-Begin
+returns-in-Begin g c =
+    let S = g.S.Supervisor in
+    let L = g.met.S.Supervisor in
+    let old = c.args.desk.now in
+    let w = c.args.outside.now in
+    let begun = c.begin-begun in
+    let names = map (λ name. name.items) c.args.names.now in
+    went_event S g.W.Outside g.met.W.Outside.fewer_later g.met.W.Outside.printed_now L.shown_stands L.shown_open names (names_are (λ name. name.items) c.args.names.now c.requires.unbroken) c.args.event (event.Begin c.in-Begin.program c.in-Begin.args) (happening_lines names 0 (begun_told c.in-Begin.program begun.result)) old begun.new.self w w c.put_begun-put.new.outside c.put_begun-put.result c.going_after_begin.result (going_begun begun.result) c.and.result
+    c.in-Begin.is c.going_after_begin.ensures c.and.ensures (c.put_begun-put.ensures 0)
+    begun.ensures.sound begun.ensures.fixed (omega (arith, begun.ensures.given)) (omega (arith, begun.ensures.turns)) (store_asked S g.W.Outside old begun.new.self w w begun.ensures.fixed (asks_none g.W.Outside w) c.requires.ready.bytes)
+    (λ was. ap going_begun (begun.ensures.shut.shut.1 was)) (begun_closes begun.result _ _ begun.ensures.closed begun.ensures.shut) (λ disk held. goes_begin S g.W.Outside begun.result old begun.new.self w c.put_begun-put.new.outside begun.ensures.closed begun.ensures.shut)
+    (λ start sure shows. (begin_step S g.W.Outside names (S.fixed old).programs L.shown_stands L.shown_open L.open_shown L.order_shown c.in-Begin.program c.in-Begin.args begun.result start old begun.new.self w sure shows (begun.ensures.did _ start shows), undamaged_begun begun.result))
+
+pub returns-in-Turn : goal.returns-in-Turn
+returns-in-Turn g c =
+    let S = g.S.Supervisor in
+    let G = g.W.Outside in
+    let old = c.args.desk.now in
+    let turn = c.turn-turn in
+    let told = turn_told c.in-Turn.activation turn.result in
+    let names = map (λ name. name.items) c.args.names.now in
+    went_event S G g.met.W.Outside.fewer_later g.met.W.Outside.printed_now g.met.S.Supervisor.shown_stands g.met.S.Supervisor.shown_open names (names_are (λ name. name.items) c.args.names.now c.requires.unbroken) c.args.event (event.Turn c.in-Turn.activation c.in-Turn.limit) (happening_lines names (number_told turn.result.end) (told (S.printed turn.new.self))) old turn.new.self c.args.outside.now turn.new.outside c.put_turn-put.new.outside c.put_turn-put.result c.going_after_turn.result (going_if (turn_closes turn.result.end)) c.and-in-Turn.result
+    c.in-Turn.is c.going_after_turn.ensures c.and-in-Turn.ensures
+    (puts_same G turn.new.outside c.put_turn-put.new.outside (happening_lines names (number_told turn.result.end) (told c.printed.result.now)) (happening_lines names (number_told turn.result.end) (told (S.printed turn.new.self))) c.put_turn-put.result (ap (λ (bytes : List ℕ). happening_lines names (number_told turn.result.end) (told bytes)) c.printed.ensures.bytes) (c.put_turn-put.ensures names))
+    turn.ensures.sound turn.ensures.fixed (omega (arith, turn.ensures.given)) (omega (arith, turn.ensures.turns)) turn.ensures.calls
+    (λ was. ap (λ (ends : TurnEnd). going_if (turn_closes ends)) (turn.ensures.shut.shut.1 was)) (turn.ensures.closed ∙ if_closes (turn_closes turn.result.end))
+    (λ disk held. goes_if S G (turn_closes turn.result.end) (turn_fails turn.result.end) old turn.new.self c.args.outside.now turn.new.outside c.put_turn-put.new.outside turn.ensures.closed turn.ensures.shut (turn_shut turn.result.end) turn.ensures.failed disk)
+    (λ start sure shows. (turn_step S G names (S.fixed old).programs (S.fixed old).opened start turn.new.self c.args.outside.now turn.new.outside c.in-Turn.activation c.in-Turn.limit turn.result (S.printed turn.new.self) (turn.ensures.did start sure shows) turn.ensures.writes turn.ensures.failed, undamaged_if (turn_closes turn.result.end)))
+
+pub returns-in-Checkpoint : goal.returns-in-Checkpoint
+returns-in-Checkpoint g c =
+    let S = g.S.Supervisor in
+    let G = g.W.Outside in
+    let old = c.args.desk.now in
+    let stored = c.checkpoint-stored in
+    let names = map (λ name. name.items) c.args.names.now in
+    went_event S G g.met.W.Outside.fewer_later g.met.W.Outside.printed_now g.met.S.Supervisor.shown_stands g.met.S.Supervisor.shown_open names (names_are (λ name. name.items) c.args.names.now c.requires.unbroken) c.args.event event.Checkpoint (happening_lines names (stored_number stored.result) (stored_told stored.result)) old stored.new.self c.args.outside.now stored.new.outside c.put_stored-put.new.outside c.put_stored-put.result c.going_after_checkpoint.result (going_if (stored_closes stored.result)) c.and-in-Checkpoint.result
+    c.in-Checkpoint.is c.going_after_checkpoint.ensures c.and-in-Checkpoint.ensures (c.put_stored-put.ensures names)
+    stored.ensures.sound stored.ensures.fixed (omega (arith, stored.ensures.given)) (omega (arith, stored.ensures.turns)) stored.ensures.calls
+    (λ was. ap (λ (answer : Stored). going_if (stored_closes answer)) (stored.ensures.shut.shut.1 was)) (stored.ensures.closed ∙ if_closes (stored_closes stored.result))
+    (λ disk held. goes_if S G (stored_closes stored.result) (stored_fails stored.result) old stored.new.self c.args.outside.now stored.new.outside c.put_stored-put.new.outside stored.ensures.closed stored.ensures.shut (stored_shut stored.result) stored.ensures.failed disk)
+    (λ start sure shows. (checkpoint_step S G names (S.fixed old).programs (S.fixed old).opened start stored.new.self c.args.outside.now stored.new.outside stored.result (stored.ensures.did start sure shows) stored.ensures.writes stored.ensures.failed, undamaged_if (stored_closes stored.result)))
+
+pub returns-in-Crash : goal.returns-in-Crash
+returns-in-Crash g c =
+    let S = g.S.Supervisor in
+    let G = g.W.Outside in
+    let old = c.args.desk.now in
+    let w = c.args.outside.now in
+    let lost = c.as_slice.result.now in
+    let reopened = c.forget-reopened in
+    let names = map (λ name. name.items) c.args.names.now in
+    went_event S G g.met.W.Outside.fewer_later g.met.W.Outside.printed_now g.met.S.Supervisor.shown_stands g.met.S.Supervisor.shown_open names (names_are (λ name. name.items) c.args.names.now c.requires.unbroken) c.args.event event.Crash (happening_lines names (reopened_number reopened.result) (reopened_told lost reopened.result)) old reopened.new.self w reopened.new.outside c.put_reopened-put.new.outside c.put_reopened-put.result c.going_after_crash.result (going_by reopened.result) c.and-in-Crash.result
+    c.in-Crash.is c.going_after_crash.ensures c.and-in-Crash.ensures (c.put_reopened-put.ensures names)
+    reopened.ensures.sound reopened.ensures.fixed (omega (arith, reopened.ensures.given)) (omega (arith, reopened.ensures.turns)) (store_asked S G old reopened.new.self w reopened.new.outside reopened.ensures.fixed reopened.ensures.asks c.requires.ready.bytes)
+    (λ was. ap going_by (reopened.ensures.shut.shut.1 was)) (reopened.ensures.closed ∙ crash_closes reopened.result)
+    (λ disk held. goes_crash S G reopened.result old reopened.new.self w reopened.new.outside c.put_reopened-put.new.outside reopened.ensures.closed reopened.ensures.shut reopened.ensures.failed reopened.ensures.damage disk (held ∙ reopened.ensures.asks.held))
+    (λ start sure shows.
+    let did = reopened.ensures.did start sure shows in
+    (crash_step S G names (S.fixed old).programs (S.fixed old).opened start reopened.new.self w reopened.new.outside lost reopened.result (c.as_slice.ensures.value ∙ c.active-lost.ensures _ start shows) did reopened.ensures.asks reopened.ensures.failed, undamaged reopened.result _ did.1))

@@ -1,0 +1,7 @@
+use Rattle.schedule_replay.proofs.Common.{map, take, unended_told, Puts}
+use Rattle.schedule_replay.proofs.PutsLemmas.{done}
+use Rattle.schedule_replay.proofs.lines.put_each.Given as goal
+
+-- the lines so far are put
+abbrev pub invariant-loop-activation : goal.invariant-loop-activation
+invariant-loop-activation g l = Puts g.W.Outside (map (unended_told l.unended) (take l.activation-index l.activations)) l.initial.outside l.outside done

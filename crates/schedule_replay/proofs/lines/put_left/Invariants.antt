@@ -1,7 +1,0 @@
-use Rattle.schedule_replay.proofs.Common.{map, take, Left, Puts}
-use Rattle.schedule_replay.proofs.PutsLemmas.{done}
-use Rattle.schedule_replay.proofs.lines.put_left.Given as goal
-
--- the lines so far are put
-abbrev pub invariant-loop-activation : goal.invariant-loop-activation
-invariant-loop-activation g l = Puts g.W.Outside (map Left (take l.activation-index l.activations)) l.initial.outside l.outside done
