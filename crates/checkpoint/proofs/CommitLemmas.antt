@@ -1,11 +1,11 @@
 -- A record that is added behind a checkpoint.
-use Rattle.checkpoint.proofs.Common.{Option, None, Some, unwrap_or, nat_lt, if◌then◌else◌, Which, RecordLine, Standing, stands, one_more, KeptBank, area_end, needed_end, begun_of, number_of, with_record, IsEither, placed, turned, PageSize, emptied, roomy, kept_by, number_after, IsKeptAfter, Appended}
-use Rattle.std.proofs.Common.{◌≡◌, inl, inr, ⊎_elim, ◌⊎◌, ℕ, ◌+◌, ◌%◌, ◌^◌, ◌<◌, ◌≤◌, Bool, true, false, List, [], ◌∷◌, length, refl, sym, subst, ◌∙◌, ap, arith}
+use Rattle.checkpoint.proofs.Common.{Option, None, Some, unwrap_or, nat_lt, if◌then◌else◌, Which, RecordLine, Standing, stands, one_more, KeptBank, area_end, needed_end, begun_of, number_of, with_record, IsEither, placed, turned, PageSize, emptied, roomy, other, slice_set, number_after, IsKeptAfter, IsMoreBy, SameShape, CountsKept, FailedLeaves, bank_appended, Elapses, FewerLater, Leaves, held_of, leaves_on}
+use Rattle.std.proofs.Common.{◌≡◌, inl, inr, ⊎_elim, ℕ, ◌+◌, ◌%◌, ◌^◌, ◌<◌, ◌≤◌, Bool, true, false, List, [], ◌∷◌, length, refl, sym, subst, ◌∙◌, ap, arith}
 use Rattle.std.specs.Option.{option_map}
 use Rattle.std.proofs.lemmas.Bool.Decides.{nat_tests}
 use Rattle.redo_journal.proofs.TurnLemmas.{one_more_placed}
 use Rattle.redo_journal.specs.declared.keep.Kept.{Kept}
-use Rattle.redo_journal.specs.declared.bank.Appended.TheVariants as appended
+use Rattle.outside.specs.declared.world.Outside.{Ghosts}
 use Rattle.redo_journal.specs.declared.keep.Kept.TheVariants as keeping
 
 -- the begun record behind another gate
@@ -28,24 +28,37 @@ roomy_full bank full = let is : nat_lt (area_end bank) (needed_end bank) ≡ tru
 pub roomy_fits : (bank : KeptBank) → (area_end bank < needed_end bank → ⊥) → roomy bank ≡ bank
 roomy_fits bank fits = let no : nat_lt (area_end bank) (needed_end bank) ≡ false = grind (arith, nat_tests) in rw no refl
 
--- how an append was answered
-pub by_unwritten : (answer : Appended) (kept : Kept) → kept ≡ kept_by answer → kept ≡ keeping.Unwritten → (answer ≡ appended.Full) ⊎ (answer ≡ appended.Unwritten)
-by_unwritten appended.Done kept is same = let no : keeping.Done ≡ keeping.Unwritten = sym is ∙ same in cc
-by_unwritten appended.Full kept is same = inl refl
-by_unwritten appended.Unwritten kept is same = inr refl
-by_unwritten appended.Doubt kept is same = let no : keeping.Doubt ≡ keeping.Unwritten = sym is ∙ same in cc
+-- an append that fits was answered, by what it was
+pub answered_by : (append : Option Kept) (kept : Kept) → (append ≡ None → ⊥) → kept ≡ unwrap_or append keeping.Unwritten → append ≡ Some kept
+answered_by None kept fits is = absurd (fits refl)
+answered_by (Some told) kept fits is = ap Some (sym is)
 
-pub by_doubt : (answer : Appended) (kept : Kept) → kept ≡ kept_by answer → kept ≡ keeping.Doubt → answer ≡ appended.Doubt
-by_doubt appended.Done kept is same = let no : keeping.Done ≡ keeping.Doubt = sym is ∙ same in cc
-by_doubt appended.Full kept is same = let no : keeping.Unwritten ≡ keeping.Doubt = sym is ∙ same in cc
-by_doubt appended.Unwritten kept is same = let no : keeping.Unwritten ≡ keeping.Doubt = sym is ∙ same in cc
-by_doubt appended.Doubt kept is same = refl
+-- what is kept then, and how the disk's count stands behind calls that left it alone
+pub kept_after : (kept : Kept) (there old new : KeptBank) → new ≡ bank_appended (Some kept) there → IsKeptAfter kept there old new
+kept_after keeping.Done there old new is = is
+kept_after keeping.Unwritten there old new is = inl is
+kept_after keeping.Doubt there old new is = is
 
-pub by_done : (answer : Appended) (kept : Kept) → kept ≡ kept_by answer → kept ≡ keeping.Done → answer ≡ appended.Done
-by_done appended.Done kept is same = refl
-by_done appended.Full kept is same = let no : keeping.Unwritten ≡ keeping.Done = sym is ∙ same in cc
-by_done appended.Unwritten kept is same = let no : keeping.Unwritten ≡ keeping.Done = sym is ∙ same in cc
-by_done appended.Doubt kept is same = let no : keeping.Doubt ≡ keeping.Done = sym is ∙ same in cc
+pub counts_on : {W : Type 0} (G : Ghosts W) (before mid after : W) (kept : Kept) → G.disk_faults mid ≡ G.disk_faults before → CountsKept G mid after kept → CountsKept G before after kept
+counts_on G before mid after keeping.Done same is = is ∙ same
+counts_on G before mid after keeping.Unwritten same is = omega (arith, is, same)
+counts_on G before mid after keeping.Doubt same is = omega (arith, is, same)
+
+pub shape_on : (old mid new : KeptBank) → SameShape old mid → SameShape mid new → SameShape old new
+shape_on old mid new first later = record { page = later.page ∙ first.page; bank_bytes = later.bank_bytes ∙ first.bank_bytes; lines = later.lines ∙ first.lines }
+
+-- two writes behind some are at least two
+pub two_more : (before mid after : Option ℕ) → IsMoreBy 0 before mid → after ≡ option_map (λ count. count + 2) mid → IsMoreBy 2 before after
+two_more before mid after more is count told = let now = more count told in (now.0 + 2, is ∙ ap (option_map (λ count. count + 2)) now.1, omega (arith, now.2))
+
+-- what a crash leaves of the record behind a checkpoint
+pub failed_behind : {W : Type 0} (G : Ghosts W) (fewer : FewerLater G) (bank those : KeptBank) (before mid after : W) → Elapses G.moment G.left_since before mid → Elapses G.moment G.left_since mid after → those ≡ emptied bank → stands (held_of G mid) ≡ stands (held_of G before)
+    → Leaves G (λ image seen. stands image ≡ stands (held_of G before)) before mid → (kept : Kept) → FailedLeaves G those those mid after kept → FailedLeaves G bank (emptied bank) before after kept
+failed_behind G fewer bank those before mid after first later same stood so_far keeping.Done is = tt
+failed_behind G fewer bank those before mid after first later same stood so_far keeping.Unwritten is =
+    leaves_on G fewer before mid after first later (λ (image seen : List ℕ). stands image ≡ stands (held_of G before)) so_far (λ image seen left. is image seen left ∙ stood)
+failed_behind G fewer bank those before mid after first later same stood so_far keeping.Doubt is = λ image seen left.
+    subst (λ (that : KeptBank). stands (slice_set image that.gate 0xA5) ≡ one_more (begun_of that) (stands (held_of G mid))) same (is image seen left) ∙ adds_same (other bank.which) bank (stands (held_of G mid)) (stands (held_of G before)) stood
 
 -- a fact on the same bank and outside
 pub carried : {W : Type 0} (P : KeptBank → W → Type 0) (bank that : KeptBank) (w v : W) → bank ≡ that → w ≡ v → P bank w → P that v

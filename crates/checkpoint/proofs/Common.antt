@@ -1,7 +1,7 @@
 -- The names that most proofs cite, passed on from one place. Declares nothing.
 pub use Rattle.std.proofs.Common.{IsTrue, List, [], ap, arith, drop, get_or, inl, inr, length, refl, replicate, slice_index, subst, sym, take, ℕ, ⊎_elim, ◌%◌, ◌*◌, ◌+◌, ◌-◌, ◌<◌, ◌^◌, ◌∙◌, ◌∷◌, ◌≡◌, ◌≤◌, ◌⊎◌}
 pub use Rattle.std.proofs.lemmas.List.{drop-drop, get_or-drop, get_or-replicate, length-drop, length-replicate, length-take-le, take_at}
-pub use Rattle.std.specs.Prelude.{Bool, IfOk, IsSome, None, OnOk, Option, Some, fold, if◌then◌else◌, nat_lt, slice_set, unwrap_or, ◌==◌}
+pub use Rattle.std.specs.Prelude.{Bool, IsSome, None, OnOk, Option, Some, fold, if◌then◌else◌, nat_lt, slice_set, unwrap_or, ◌==◌}
 pub use Rattle.line_geometry.specs.Lines.{line_count}
 pub use Rattle.line_geometry.specs.declared.directory.PageSize.{PageSize}
 pub use Rattle.outside.proofs.Durable.{leaves_held}
@@ -14,12 +14,11 @@ pub use Rattle.outside.specs.Runs.{FewerLater, Leaves, OnlyAsks, held_of}
 pub use Rattle.redo_journal.proofs.AppendLemmas.{place_is}
 pub use Rattle.redo_journal.proofs.GateLemmas.{drop-written, held_is}
 pub use Rattle.redo_journal.proofs.WriteLemmas.{asks_only, held_left, writes_on, wrote_nothing}
-pub use Rattle.redo_journal.specs.Held.{OnlyWrites}
-pub use Rattle.redo_journal.specs.Kept.{KeptBank, area_end, begun_of, end_of, line_bytes_of, needed_end, number_of, place_of, with_record}
-pub use Rattle.redo_journal.specs.Records.{IsCounted, IsLineOf, IsRecordAt}
-pub use Rattle.redo_journal.specs.Tracks.{HoldsOneOf, HoldsRecords, IsAppended, IsEither, TracksBank}
+pub use Rattle.redo_journal.specs.Appended.{CountsKept, FailedLeaves, bank_appended}
+pub use Rattle.redo_journal.specs.Held.{IsMoreBy, OnlyWrites}
+pub use Rattle.redo_journal.specs.Kept.{KeptBank, area_end, begun_of, end_of, line_bytes_of, needed_end, number_of, place_of, with_record, SameShape}
+pub use Rattle.redo_journal.specs.Tracks.{HoldsOneOf, HoldsRecords, IsEither, TracksBank}
 pub use Rattle.redo_journal.specs.Turned.{head_bytes, placed, turned}
-pub use Rattle.redo_journal.specs.declared.bank.Appended.{Appended}
 pub use Rattle.store_format.proofs.Elsewhere.{base_behind, behind_bytes, header_held, same_header, stands_alike, store_behind, store_big, store_empty, store_front}
 pub use Rattle.store_format.proofs.Fronts.{rest_front, same_byte, shorter_front}
 pub use Rattle.store_format.proofs.Stores.{area_within}
@@ -30,6 +29,6 @@ unfoldable pub use Rattle.store_format.specs.Stands.{stands}
 pub use Rattle.store_format.specs.declared.header.Which.{Which}
 pub use Rattle.store_format.specs.declared.header.Which.TheVariants.{A, B}
 pub use Rattle.checkpoint.specs.Chosen.{other, selector_of}
-pub use Rattle.checkpoint.specs.Committed.{HoldsCommitted, IsKeptAfter, emptied, kept_by, number_after, roomy}
+pub use Rattle.checkpoint.specs.Committed.{Commits, IsKeptAfter, emptied, number_after, roomy}
 pub use Rattle.checkpoint.specs.Home.{IsCovered, IsHomed, TornLine, copied, home_line, home_place, store_bytes}
 pub use Rattle.checkpoint.specs.Moved.{IsCheckpointed, IsMoved, IsSame}

@@ -2,12 +2,14 @@
 use Rattle.std.specs.Prelude.{◌≡◌, ◌⊎◌, ℕ, ◌+◌, ◌%◌, ◌^◌, nat_lt, if◌then◌else◌, List, []}
 use Rattle.store_format.specs.Header.{Header}
 use Rattle.store_format.specs.Bank.{RecordLine}
-use Rattle.redo_journal.specs.declared.bank.Appended.{Appended}
-use Rattle.redo_journal.specs.declared.bank.Appended.TheVariants as appended
+use Rattle.outside.specs.declared.world.Outside.{Ghosts}
+use Rattle.outside.specs.Runs.{Leaves, held_of}
 use Rattle.redo_journal.specs.declared.keep.Kept.{Kept}
 use Rattle.redo_journal.specs.declared.keep.Kept.TheVariants.{Done, Unwritten, Doubt}
-use Rattle.redo_journal.specs.Kept.{KeptBank, area_end, needed_end, number_of, begun_of, unbegun, with_record}
-use Rattle.redo_journal.specs.Tracks.{HoldsOneOf}
+use Rattle.redo_journal.specs.Appended.{CountsKept, FailedLeaves}
+use Rattle.redo_journal.specs.Held.{IsMoreBy, OnlyWrites}
+use Rattle.redo_journal.specs.Kept.{KeptBank, SameShape, area_end, needed_end, number_of, begun_of, unbegun, with_record}
+use Rattle.redo_journal.specs.Tracks.{HoldsOneOf, IsAppended, IsEither, TracksBank}
 use Rattle.redo_journal.specs.Turned.{turned}
 use Rattle.checkpoint.specs.Chosen.{other}
 
@@ -18,13 +20,6 @@ emptied bank = turned (other bank.which) bank
 -- the bank that a record is added to: this one, or where it doesn't fit the one after a checkpoint
 abbrev pub roomy : KeptBank → KeptBank
 roomy bank = if nat_lt (area_end bank) (needed_end bank) then emptied bank else bank
-
--- how an append was kept
-abbrev pub kept_by : Appended → Kept
-kept_by appended.Done = Done
-kept_by appended.Full = Unwritten
-kept_by appended.Unwritten = Unwritten
-kept_by appended.Doubt = Doubt
 
 -- the number after a commit
 abbrev pub number_after : Kept → ℕ → ℕ
@@ -42,3 +37,16 @@ IsKeptAfter Doubt there old new = new ≡ unbegun there
 abbrev pub HoldsCommitted : Header → KeptBank → List (List RecordLine) → List ℕ → Type 0
 HoldsCommitted header bank records held =
     HoldsOneOf header bank.which bank.base records (begun_of bank) held ⊎ HoldsOneOf header (other bank.which) (number_of bank) [] (begun_of (emptied bank)) held
+
+-- What a commit of the begun record does, to this bank or behind a checkpoint, where it is answered so: it only asks and writes, the sizes stay, the disk's count
+-- is told, and a record that is kept took at least two writes. Of banks that are tracked: whenever a crash comes, it leaves what stood, or that with the record.
+pub record Commits {W : Type 0} (G : Ghosts W) (there old new : KeptBank) (before after : W) (answer : Kept) : Type 0 where
+  pub only : OnlyWrites G before after
+  pub shape : SameShape old new
+  pub kept : IsKeptAfter answer there old new
+  pub counted : CountsKept G before after answer
+  pub writes : answer ≡ Done → IsMoreBy 2 (G.writes before) (G.writes after)
+  pub crash : TracksBank G old before → Leaves G (IsEither (begun_of old) (held_of G before)) before after
+  pub left : TracksBank G old before → FailedLeaves G old there before after answer
+  pub records : (tracks : TracksBank G old before) → HoldsCommitted tracks.header old tracks.records (held_of G after)
+  pub done : answer ≡ Done → TracksBank G old before → IsAppended G old new before after

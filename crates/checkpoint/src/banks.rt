@@ -1,24 +1,21 @@
-ghost use Rattle.std.specs.Prelude.{◌≡◌, ◌≢◌, ◌↔◌, ◌+◌, ◌≤◌, ◌<◌, [], All, length, slice_set, slice_get, slice_range, is_some, Some, None, IsSome, IfSome, IfOk, IfErr, OnOk};
-ghost use Rattle.std.specs.List.{list_any};
-ghost use Rattle.std.specs.Option.{option_map};
+ghost use Rattle.std.specs.Prelude.{◌≡◌, ◌≢◌, ◌≤◌, [], length, Some, None, IsSome, IfOk, IfErr, OnOk};
 ghost use Rattle.line_geometry.specs.Segments.{line_bytes};
 ghost use Rattle.store_format.specs.Header.{total};
-ghost use Rattle.store_format.specs.Stands.{stands, one_more};
-ghost use Rattle.outside.specs.Causes.{Rose, FailsOnlyCounted};
+ghost use Rattle.outside.specs.Causes.{FailsOnlyCounted};
 ghost use Rattle.outside.specs.Runs.{OnlyAsks, Leaves, held_of};
-ghost use Rattle.redo_journal.specs.Kept.{KeptBank, area_end, number_of, begun_of, needed_end, with_line, unbegun, line_bytes_of, record_bytes_of, SameShape};
+ghost use Rattle.redo_journal.specs.Kept.{KeptBank, area_end, needed_end, with_line, unbegun, line_bytes_of, SameShape};
 ghost use Rattle.redo_journal.specs.Held.{HoldsAtLeast, OnlyWrites};
-ghost use Rattle.redo_journal.specs.Records.{IsRecordAt, IsFound, IsCounted, IsLineOf};
-ghost use Rattle.redo_journal.specs.Tracks.{TracksBank, IsEither, HoldsOneOf, IsAppended};
-ghost use Rattle.redo_journal.specs.Appended as append;
+ghost use Rattle.redo_journal.specs.Tracks.{TracksBank};
+ghost use Rattle.redo_journal.specs.Appended.{TakesLine};
 ghost use Rattle.checkpoint.specs.Chosen.{other, IsChosen, IsOneOf, IsStoreLike, IsChosenReopenFault, IsChosenOpenFault};
+ghost use Rattle.checkpoint.specs.Committed.{emptied, roomy, Commits};
 ghost use Rattle.checkpoint.specs.Home.{store_bytes};
 ghost use Rattle.checkpoint.specs.Moved.{IsSame, IsMoved, IsCheckpointed, bank_checkpointed};
 
 use crate::home::write_home;
 use crate::selector::{other_of, read_selector, write_selector};
 use outside::{Failed, Outside};
-use redo_journal::{Appended, Bank, OpenFault, Record, ReopenFault};
+use redo_journal::{Bank, Kept, OpenFault, ReopenFault};
 use std::alloc::{AllocError, Global};
 use std::marker::Model;
 use store_format::{Header, Which};
@@ -101,43 +98,11 @@ impl Banks {
         }
     }
 
-    /// The number that the chosen bank's records go on from.
-    pub fn base(&self) -> u64
-        ensures { result ≡ self.now.base }
+    /// The bank that the selector chooses.
+    pub fn chosen(&self) -> &Bank
+        ensures { result.now ≡ self.now }
     {
-        self.bank.base()
-    }
-
-    /// How many records the chosen bank has.
-    pub fn records(&self) -> u32
-        ensures { result ≡ self.now.count }
-    {
-        self.bank.records()
-    }
-
-    /// The number that the chosen bank's records lead to.
-    pub fn number(&self) -> u64
-        ensures { result ≡ number_of self.now }
-    {
-        self.bank.number()
-    }
-
-    /// The place on the disk of a line's newest bytes; none where no record of the chosen bank holds the line.
-    pub fn newest(&self, line: u32) -> Option<u64>
-        requires { line < length self.now.newest }
-        ensures place { slice_get self.now.newest line ≡ Some result }
-        ensures within { IfSome result (λ at. at + line_bytes_of self.now ≤ area_end self.now) }
-    {
-        self.bank.newest(line)
-    }
-
-    /// Whether a record of the chosen bank holds one of so many lines from a first on.
-    #[inline(always)]
-    pub fn holds_some(&self, first: u32, count: u32) -> bool
-        requires { first + count ≤ length self.now.newest }
-        ensures { result ≡ list_any is_some (slice_range self.now.newest first (first + count)) }
-    {
-        self.bank.holds_some(first, count)
+        &self.bank
     }
 
     /// The bytes of a line of the store.
@@ -146,47 +111,6 @@ impl Banks {
         ensures { result ≡ line_bytes_of self.now }
     {
         self.line.len()
-    }
-
-    /// The record of the chosen bank whose gate lies at a place of its area: at 0 the first, and where one was found, at what
-    /// lies behind it the next. One that with a gate behind it doesn't fit the area is given with no lines and nothing
-    /// behind it; where the disk's bytes are told and are those of the bank, there is none such.
-    ///
-    /// # Errors
-    ///
-    /// Only where the disk's count rose.
-    pub fn record_at<W: Outside>(&self, outside: &mut W, place: u32) -> Result<Record, Failed>
-        requires inside { place < self.now.bank_bytes }
-        requires room { HoldsAtLeast W.Outside (store_bytes self.now) outside.old }
-        ensures asks { OnlyAsks W.Outside outside.old outside.new }
-        ensures found { IfOk result (IsFound self.now.page self.now.bank_bytes place) }
-        ensures read { IfOk result (λ found. IsSome (W.held outside.old) → (at : IsRecordAt (held_of W.Outside outside.old) self.now place) → IsCounted self.now.page place at.lines found) }
-        ensures cause { FailsOnlyCounted (W.disk_faults outside.old) (W.disk_faults outside.new) result }
-    {
-        self.bank.record_at(outside, place)
-    }
-
-    /// A line of a record that fits the area: its number, and its bytes into the slice.
-    ///
-    /// # Errors
-    ///
-    /// Only where the disk's count rose.
-    pub fn line_at<W: Outside>(
-        &self,
-        outside: &mut W,
-        of: &Record,
-        index: u16,
-        into: &mut [u8],
-    ) -> Result<u32, Failed>
-        requires fits { of.now.place + record_bytes_of self.now of.now.count < self.now.bank_bytes }
-        requires below { index < of.now.count }
-        requires whole { length into.old ≡ line_bytes_of self.now }
-        requires room { HoldsAtLeast W.Outside (store_bytes self.now) outside.old }
-        ensures asks { OnlyAsks W.Outside outside.old outside.new }
-        ensures read { IfOk result (λ line. IsSome (W.held outside.old) → (at : IsRecordAt (held_of W.Outside outside.old) self.now of.now.place) → length at.lines ≡ of.now.count → IsLineOf at.lines index line into.new) }
-        ensures cause { FailsOnlyCounted (W.disk_faults outside.old) (W.disk_faults outside.new) result }
-    {
-        self.bank.line_at(outside, of, index, into)
     }
 
     /// Begins a record, in place of any other that was begun.
@@ -205,40 +129,37 @@ impl Banks {
 
     /// Adds a line to the record that is begun: a line of the store, above those before it.
     pub fn record_line(&mut self, line: u32, bytes: &[u8])
-        requires begun { IsSome self.old.begun }
-        requires whole { length bytes.now ≡ line_bytes_of self.old }
-        requires below { line < length self.old.newest }
-        requires ascending { All (λ begun. begun.line < line) (begun_of self.old) }
-        requires room { record_bytes_of self.old (length (begun_of self.old) + 1) + 1 ≤ self.old.bank_bytes }
+        requires { TakesLine self.old line bytes.now }
         ensures { self.new ≡ with_line self.old line bytes.now }
     {
         self.bank.record_line(line, bytes);
     }
 
-    /// Adds the record that is begun to the chosen bank, and makes it sure. After [`Appended::Full`] the record stays
-    /// begun, and after any other answer no record is; after [`Appended::Unwritten`] and [`Appended::Doubt`] the banks
-    /// have to be reopened before they are used again (docs/FORMATS.md, "Protocols").
-    pub fn append<W: Outside>(&mut self, outside: &mut W) -> Appended
+    /// Adds the record that is begun and makes it sure, behind a checkpoint where it doesn't fit the rest of the bank. It
+    /// takes no memory. No record is begun afterwards. After [`Kept::Unwritten`] and [`Kept::Doubt`] the banks have to be
+    /// reopened before they are used again (docs/FORMATS.md, "Protocols").
+    pub fn commit<W: Outside>(&mut self, outside: &mut W) -> Kept
         requires begun { IsSome self.old.begun }
         requires room { HoldsAtLeast W.Outside (store_bytes self.old) outside.old }
-        ensures only { OnlyWrites W.Outside outside.old outside.new }
-        ensures shape { SameShape self.old self.new }
-        ensures kept { self.new ≡ append.bank_appended result self.old }
-        ensures full { result ≡ Appended.Full ↔ (area_end self.old < needed_end self.old) }
-        ensures nothing { result ≡ Appended.Full → outside.new ≡ outside.old }
-        ensures writes { result ≡ Appended.Done → W.writes outside.new ≡ option_map (λ count. count + 2) (W.writes outside.old) }
-        ensures done_cause { result ≡ Appended.Done → W.disk_faults outside.new ≡ W.disk_faults outside.old }
-        ensures unwritten_cause { result ≡ Appended.Unwritten → Rose (W.disk_faults outside.old) (W.disk_faults outside.new) }
-        ensures doubt_cause { result ≡ Appended.Doubt → Rose (W.disk_faults outside.old) (W.disk_faults outside.new) }
-
-        // Of banks that are tracked: whenever a crash comes, it leaves what stood, or that with the record.
-        ensures crash { TracksBank W.Outside self.old outside.old → Leaves W.Outside (IsEither (begun_of self.old) (held_of W.Outside outside.old)) outside.old outside.new }
-        ensures unwritten { result ≡ Appended.Unwritten → TracksBank W.Outside self.old outside.old → Leaves W.Outside (λ image seen. stands image ≡ stands (held_of W.Outside outside.old)) outside.old outside.new }
-        ensures doubt { result ≡ Appended.Doubt → TracksBank W.Outside self.old outside.old → Leaves W.Outside (λ image seen. stands (slice_set image self.old.gate 0xA5) ≡ one_more (begun_of self.old) (stands (held_of W.Outside outside.old))) outside.new outside.new }
-        ensures records { (tracks : TracksBank W.Outside self.old outside.old) → HoldsOneOf tracks.header self.old.which self.old.base tracks.records (begun_of self.old) (held_of W.Outside outside.new) }
-        ensures done { result ≡ Appended.Done → TracksBank W.Outside self.old outside.old → IsAppended W.Outside self.old self.new outside.old outside.new }
+        ensures { Commits W.Outside (roomy self.old) self.old self.new outside.old outside.new result }
     {
-        self.bank.append(outside)
+        match self.bank.append(outside) {
+            Some(kept) => kept,
+            None => self.commit_behind_checkpoint(outside),
+        }
+    }
+
+    /// Makes room by a checkpoint, and adds the record that is begun then. Where the checkpoint fails the record isn't
+    /// written.
+    fn commit_behind_checkpoint<W: Outside>(&mut self, outside: &mut W) -> Kept
+        requires begun { IsSome self.old.begun }
+        requires room { HoldsAtLeast W.Outside (store_bytes self.old) outside.old }
+        ensures { Commits W.Outside (emptied self.old) self.old self.new outside.old outside.new result }
+    {
+        match self.checkpoint(outside) {
+            Err(Failed) => Kept::Unwritten,
+            Ok(()) => self.bank.append(outside).unwrap_or(Kept::Unwritten),
+        }
     }
 
     /// Writes the newest bytes of each line that the chosen bank holds home, and makes the other bank the chosen one,

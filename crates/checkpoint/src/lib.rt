@@ -2,9 +2,8 @@
 #![tactic(auto)]
 
 mod banks;
-mod commit;
 mod home;
 mod selector;
 
 pub use banks::Banks;
-pub use redo_journal::{Appended, OpenFault, Record, ReopenFault};
+pub use redo_journal::{OpenFault, Record, ReopenFault};

@@ -1,6 +1,6 @@
 -- Records that are read.
-use Rattle.redo_journal.proofs.Common.{◌≡◌, ℕ, suc, ◌+◌, ◌*◌, ◌-◌, ◌<◌, ◌≤◌, Bool, true, false, List, [], ◌∷◌, take, drop, refl, sym, ◌∙◌, ap, arith, slice_index, nat_tests, drop-drop, take-take, get_or-take, get_or-drop, big_number, big_from-take, overlaid, PageSize, line_bytes, entry_bytes, RecordLine, lines_from, wrong_line, count_of, number_of, lines_of, record_bytes, head_fault, lined_gate, headed_gate, gate_if, Wrong, same_number_at, fault_none, not_less, ForSome, bytes_at, noted}
-use Rattle.std.specs.Prelude.{Option, None, Some, ◌&&◌, nat_le, nat_lt, ◌==◌, length}
+use Rattle.redo_journal.proofs.Common.{◌≡◌, ℕ, suc, ◌+◌, ◌*◌, ◌-◌, ◌<◌, ◌≤◌, Bool, true, false, List, [], ◌∷◌, take, drop, refl, sym, subst, ◌∙◌, ap, arith, slice_index, nat_tests, drop-drop, take-take, get_or-take, get_or-drop, big_number, big_from-take, overlaid, PageSize, line_bytes, entry_bytes, RecordLine, lines_from, wrong_line, count_of, number_of, lines_of, record_bytes, head_fault, lined_gate, headed_gate, gate_if, Wrong, same_number_at, fault_none, not_less, ForSome, bytes_at, noted, read_is}
+use Rattle.std.specs.Prelude.{Option, None, Some, IsSome, IfSome, unwrap_or, ◌&&◌, nat_le, nat_lt, ◌==◌, length}
 
 -- the lines from one on
 abbrev pub lines_after : (page : PageSize) (count i at : ℕ) → List ℕ → List RecordLine
@@ -96,3 +96,7 @@ first_read held first gate read shown =
 -- a read within the bytes that are held
 pub reads_within : (told : Option (List ℕ)) (n count : ℕ) → n ≤ count → ForSome told (λ bytes. count ≤ length bytes) → ForSome told (λ bytes. n ≤ length bytes)
 reads_within told n count few room bytes is = omega (arith, room bytes is)
+
+-- bytes that were read behind calls that left those held alone
+pub read_on : (old mid : Option (List ℕ)) (into : List ℕ) (at count : ℕ) → mid ≡ old → IsSome old → IfSome mid (λ bytes. into ≡ bytes_at bytes at count) → into ≡ bytes_at (unwrap_or old []) at count
+read_on old mid into at count same some read = read_is old into at count some (subst (λ (those : Option (List ℕ)). IfSome those (λ bytes. into ≡ bytes_at bytes at count)) same read)

@@ -1,9 +1,13 @@
 -- Where the records of a bank lie in its area, and what is read of one.
-use Rattle.std.specs.Prelude.{◌≡◌, ◌⊎◌, ℕ, ◌+◌, ◌<◌, List, [], ◌∷◌, ◌++◌, length, take, drop, slice_get, Some}
+use Rattle.std.specs.Prelude.{◌≡◌, ◌⊎◌, ℕ, ◌+◌, ◌<◌, List, [], ◌∷◌, ◌++◌, length, take, drop, slice_get, Some, IsSome, Result, IfOk}
 use Rattle.byteorder.specs.Endian.{big_number}
 use Rattle.line_geometry.specs.Segments.{line_bytes}
 use Rattle.line_geometry.specs.declared.directory.PageSize.{PageSize}
 use Rattle.store_format.specs.Bank.{RecordLine, record_bytes}
+use Rattle.outside.specs.declared.failed.Failed.{Failed}
+use Rattle.outside.specs.declared.world.Outside.{Ghosts}
+use Rattle.outside.specs.Causes.{FailsOnlyCounted}
+use Rattle.outside.specs.Runs.{OnlyAsks, held_of}
 use Rattle.redo_journal.specs.declared.find.Record.{Record}
 use Rattle.redo_journal.specs.Kept.{KeptBank}
 use Rattle.redo_journal.specs.Opened.{IsRead}
@@ -43,3 +47,17 @@ pub record IsLineOf (lines : List RecordLine) (index line : ℕ) (into : List �
   pub there : slice_get lines index ≡ Some one
   pub number : line ≡ one.line
   pub bytes_are : into ≡ one.bytes
+
+-- What is answered where the record is read that lies at a place of the kept bank, in a store with these sizes: the disk is only asked, and fails only where
+-- its count rose; a record that is told is found there, and where the told bytes are the bank's it is counted as the one that lies there.
+pub record ReadsRecord {W : Type 0} (G : Ghosts W) (page : PageSize) (bank_bytes : ℕ) (bank : KeptBank) (place : ℕ) (before after : W) (result : Result Record Failed) : Type 0 where
+  pub asks : OnlyAsks G before after
+  pub found : IfOk result (IsFound page bank_bytes place)
+  pub read : IfOk result (λ found. IsSome (G.held before) → (at : IsRecordAt (held_of G before) bank place) → IsCounted page place at.lines found)
+  pub cause : FailsOnlyCounted (G.disk_faults before) (G.disk_faults after) result
+
+-- The same of a line of such a record: where the told bytes are the bank's, and the record has as many lines as was found, these are its number and its bytes.
+pub record ReadsLine {W : Type 0} (G : Ghosts W) (bank : KeptBank) (of : Record) (index : ℕ) (into : List ℕ) (before after : W) (result : Result ℕ Failed) : Type 0 where
+  pub asks : OnlyAsks G before after
+  pub read : IfOk result (λ line. IsSome (G.held before) → (at : IsRecordAt (held_of G before) bank of.place) → length at.lines ≡ of.count → IsLineOf at.lines index line into)
+  pub cause : FailsOnlyCounted (G.disk_faults before) (G.disk_faults after) result

@@ -3,15 +3,13 @@ ghost use Rattle.std.specs.List.{list_any};
 ghost use Rattle.std.specs.Option.{option_map};
 ghost use Rattle.store_format.specs.Header.{total, HasRanges};
 ghost use Rattle.store_format.specs.Bank.{record_bytes};
-ghost use Rattle.store_format.specs.Stands.{stands, one_more};
-ghost use Rattle.outside.specs.Causes.{Rose, FailsOnlyCounted};
 ghost use Rattle.outside.specs.Runs.{OnlyAsks, Leaves, held_of};
 ghost use Rattle.redo_journal.specs.Kept.{KeptBank, place_of, end_of, area_end, number_of, begun_of, needed_end, with_line, unbegun, line_bytes_of, record_bytes_of, SameShape};
-ghost use Rattle.redo_journal.specs.Appended.{bank_appended};
+ghost use Rattle.redo_journal.specs.Appended.{CountsKept, FailedLeaves, TakesLine, bank_appended};
 ghost use Rattle.redo_journal.specs.Turned.{turned, head_bytes};
 ghost use Rattle.redo_journal.specs.Held.{HoldsAtLeast, OnlyWrites, WritesOnce};
 ghost use Rattle.redo_journal.specs.Opened.{IsRead, IsBankOf, IsBankReopenFault, IsBankOpenFault};
-ghost use Rattle.redo_journal.specs.Records.{IsRecordAt, IsFound, IsCounted, IsLineOf};
+ghost use Rattle.redo_journal.specs.Records.{ReadsRecord, ReadsLine};
 ghost use Rattle.redo_journal.specs.Tracks.{TracksBank, IsEither, HoldsOneOf, IsAppended};
 
 use crate::fault::{OpenFault, ReopenFault};
@@ -52,19 +50,6 @@ impl Model for Bank {
     ghost view = { kept_of };
 
     ghost invariant = { IsWhole };
-}
-
-/// What came of a record that was to be added (docs/FORMATS.md, "Protocols").
-#[derive(Debug, Clone, Copy, PartialEq, Eq)]
-pub enum Appended {
-    /// It is on the disk.
-    Done,
-    /// The record and the gate behind it don't fit the rest of the bank. Nothing was written.
-    Full,
-    /// The disk failed before the gate's write began: no crash leaves the record.
-    Unwritten,
-    /// The disk failed from the gate's write on: a crash leaves the record or not.
-    Doubt,
 }
 
 impl Bank {
@@ -250,10 +235,7 @@ impl Bank {
     pub fn record_at<W: Outside>(&self, outside: &mut W, place: u32) -> Result<Record, Failed>
         requires inside { place < self.now.bank_bytes }
         requires room { HoldsAtLeast W.Outside (area_end self.now) outside.old }
-        ensures asks { OnlyAsks W.Outside outside.old outside.new }
-        ensures found { IfOk result (IsFound self.now.page self.now.bank_bytes place) }
-        ensures read { IfOk result (λ found. IsSome (W.held outside.old) → (at : IsRecordAt (held_of W.Outside outside.old) self.now place) → IsCounted self.now.page place at.lines found) }
-        ensures cause { FailsOnlyCounted (W.disk_faults outside.old) (W.disk_faults outside.new) result }
+        ensures { ReadsRecord W.Outside self.now.page self.now.bank_bytes self.now place outside.old outside.new result }
     {
         let area = place_of(self.which, self.bank_bytes) + 8;
         read_record(outside, self.page, area, self.bank_bytes, place)
@@ -275,9 +257,7 @@ impl Bank {
         requires below { index < of.now.count }
         requires whole { length into.old ≡ line_bytes_of self.now }
         requires room { HoldsAtLeast W.Outside (area_end self.now) outside.old }
-        ensures asks { OnlyAsks W.Outside outside.old outside.new }
-        ensures read { IfOk result (λ line. IsSome (W.held outside.old) → (at : IsRecordAt (held_of W.Outside outside.old) self.now of.now.place) → length at.lines ≡ of.now.count → IsLineOf at.lines index line into.new) }
-        ensures cause { FailsOnlyCounted (W.disk_faults outside.old) (W.disk_faults outside.new) result }
+        ensures { ReadsLine W.Outside self.now of.now index into.new outside.old outside.new result }
     {
         let gate = place_of(self.which, self.bank_bytes) + 8 + u64::from(of.place);
         let at = gate + 11 + u64::from(entries_bytes(self.page, index));
@@ -329,11 +309,7 @@ impl Bank {
 
     /// Adds a line to the record that is begun: a line of the store, above those before it.
     pub fn record_line(&mut self, line: u32, bytes: &[u8])
-        requires begun { IsSome self.old.begun }
-        requires whole { length bytes.now ≡ line_bytes_of self.old }
-        requires below { line < length self.old.newest }
-        requires ascending { All (λ begun. begun.line < line) (begun_of self.old) }
-        requires room { record_bytes_of self.old (length (begun_of self.old) + 1) + 1 ≤ self.old.bank_bytes }
+        requires { TakesLine self.old line bytes.now }
         ensures { self.new ≡ with_line self.old line bytes.now }
     {
         let begun = self.begun.unwrap();
@@ -343,40 +319,36 @@ impl Bank {
         self.begun = Some(begun + 1);
     }
 
-    /// Adds the record that is begun to the bank, and makes it sure. After [`Appended::Full`] the record stays
-    /// begun, and after any other answer no record is; after [`Appended::Unwritten`] and [`Appended::Doubt`] the bank
-    /// has to be reopened before it is used again (docs/FORMATS.md, "Protocols").
-    pub fn append<W: Outside>(&mut self, outside: &mut W) -> Appended
+    /// Adds the record that is begun to the bank, and makes it sure. None where the record and the gate behind it don't
+    /// fit the rest of the bank: nothing is written, and the record stays begun. After any other answer no record is,
+    /// and after [`Kept::Unwritten`] and [`Kept::Doubt`] the bank has to be reopened before it is used again
+    /// (docs/FORMATS.md, "Protocols").
+    pub fn append<W: Outside>(&mut self, outside: &mut W) -> Option<Kept>
         requires begun { IsSome self.old.begun }
         requires room { HoldsAtLeast W.Outside (area_end self.old) outside.old }
         ensures only { OnlyWrites W.Outside outside.old outside.new }
         ensures shape { SameShape self.old self.new }
         ensures kept { self.new ≡ bank_appended result self.old }
-        ensures full { result ≡ Appended.Full ↔ (area_end self.old < needed_end self.old) }
-        ensures nothing { result ≡ Appended.Full → outside.new ≡ outside.old }
-        ensures writes { result ≡ Appended.Done → W.writes outside.new ≡ option_map (λ count. count + 2) (W.writes outside.old) }
-        ensures done_cause { result ≡ Appended.Done → W.disk_faults outside.new ≡ W.disk_faults outside.old }
-        ensures unwritten_cause { result ≡ Appended.Unwritten → Rose (W.disk_faults outside.old) (W.disk_faults outside.new) }
-        ensures doubt_cause { result ≡ Appended.Doubt → Rose (W.disk_faults outside.old) (W.disk_faults outside.new) }
+        ensures full { result ≡ None ↔ (area_end self.old < needed_end self.old) }
+        ensures nothing { result ≡ None → outside.new ≡ outside.old }
+        ensures counted { IfSome result (CountsKept W.Outside outside.old outside.new) }
+        ensures writes { result ≡ Some Kept.Done → W.writes outside.new ≡ option_map (λ count. count + 2) (W.writes outside.old) }
 
         // Of a bank that is tracked: whenever a crash comes, it leaves what stood, or that with the record.
         ensures crash { TracksBank W.Outside self.old outside.old → Leaves W.Outside (IsEither (begun_of self.old) (held_of W.Outside outside.old)) outside.old outside.new }
-        ensures unwritten { result ≡ Appended.Unwritten → TracksBank W.Outside self.old outside.old → Leaves W.Outside (λ image seen. stands image ≡ stands (held_of W.Outside outside.old)) outside.old outside.new }
-        ensures doubt { result ≡ Appended.Doubt → TracksBank W.Outside self.old outside.old → Leaves W.Outside (λ image seen. stands (slice_set image self.old.gate 0xA5) ≡ one_more (begun_of self.old) (stands (held_of W.Outside outside.old))) outside.new outside.new }
+        ensures left { TracksBank W.Outside self.old outside.old → IfSome result (FailedLeaves W.Outside self.old self.old outside.old outside.new) }
         ensures records { (tracks : TracksBank W.Outside self.old outside.old) → HoldsOneOf tracks.header self.old.which self.old.base tracks.records (begun_of self.old) (held_of W.Outside outside.new) }
-        ensures done { result ≡ Appended.Done → TracksBank W.Outside self.old outside.old → IsAppended W.Outside self.old self.new outside.old outside.new }
+        ensures done { result ≡ Some Kept.Done → TracksBank W.Outside self.old outside.old → IsAppended W.Outside self.old self.new outside.old outside.new }
     {
         let begun = self.begun.unwrap();
         let bytes = 11 + u64::from(entries_bytes(self.page, begun));
         if end_of(self.which, self.bank_bytes) < self.gate + bytes + 1 {
-            return Appended::Full;
+            return None;
         }
         let due = number_of(self.base, self.count).wrapping_add(1);
         self.begun = None;
         fill(&mut self.body, self.page, begun, due);
         match keep_body(outside, self.gate, record_of(&self.body, self.page, begun)) {
-            Kept::Unwritten => Appended::Unwritten,
-            Kept::Doubt => Appended::Doubt,
             Kept::Done => {
                 note(
                     &mut self.newest,
@@ -387,8 +359,9 @@ impl Bank {
                 );
                 self.gate += bytes;
                 self.count += 1;
-                Appended::Done
+                Some(Kept::Done)
             }
+            failed => Some(failed),
         }
     }
 }

@@ -1,10 +1,11 @@
 // A body that is kept behind a gate.
 ghost use Rattle.std.specs.Prelude.{◌≡◌, ◌+◌, ◌≤◌, ◌<◌, ◌^◌, length, false, OnOk};
 ghost use Rattle.std.specs.Option.{option_map};
-ghost use Rattle.outside.specs.Causes.{Rose, FailsOnlyCounted};
+ghost use Rattle.outside.specs.Causes.{FailsOnlyCounted};
 ghost use Rattle.outside.specs.Runs.{Leaves, held_of};
 ghost use Rattle.outside.specs.Bytes.{Torn};
 ghost use Rattle.outside.specs.Durable.{IsSure, IsWritten};
+ghost use Rattle.redo_journal.specs.Appended.{CountsKept};
 ghost use Rattle.redo_journal.specs.Held.{HoldsAtLeast, OnlyWrites, WritesOnce};
 ghost use Rattle.redo_journal.specs.Gate.{is_open, HasBody, IsShut, IsSafe, IsKept};
 
@@ -34,9 +35,7 @@ pub fn keep_body<W: Outside>(outside: &mut W, gate: u64, body: &[u8]) -> Kept
     ensures doubt { result ≡ Kept.Doubt → IsShut W.Outside gate outside.old → Leaves W.Outside (λ image seen. HasBody gate body.now image) outside.new outside.new }
     ensures done { result ≡ Kept.Done → IsShut W.Outside gate outside.old → IsKept W.Outside gate body.now outside.old outside.new }
     ensures writes { result ≡ Kept.Done → W.writes outside.new ≡ option_map (λ count. count + 2) (W.writes outside.old) }
-    ensures done_cause { result ≡ Kept.Done → W.disk_faults outside.new ≡ W.disk_faults outside.old }
-    ensures unwritten_cause { result ≡ Kept.Unwritten → Rose (W.disk_faults outside.old) (W.disk_faults outside.new) }
-    ensures doubt_cause { result ≡ Kept.Doubt → Rose (W.disk_faults outside.old) (W.disk_faults outside.new) }
+    ensures counted { CountsKept W.Outside outside.old outside.new result }
 {
     match write_sure(outside, gate + 1, body) {
         Err(Failed) => return Kept::Unwritten,

@@ -9,7 +9,7 @@ mod law;
 mod read;
 mod record;
 
-pub use bank::{Appended, Bank};
+pub use bank::Bank;
 pub use fault::{OpenFault, ReopenFault};
 pub use find::Record;
 pub use keep::{Kept, write_once, write_sure};

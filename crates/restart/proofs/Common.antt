@@ -4,7 +4,7 @@ pub use Rattle.std.proofs.lemmas.List.{drop-drop, drop-take, length-drop, length
 pub use Rattle.std.specs.Prelude.{Err, IfErr, IfSome, None, Ok, Option, Result, Some, false, fold, is_some, slice_range, true, unwrap_or}
 pub use Rattle.checkpoint.proofs.StepLemmas.{map_ok, synced_sure}
 pub use Rattle.checkpoint.specs.Chosen.{IsChosen, other}
-pub use Rattle.checkpoint.specs.Committed.{HoldsCommitted, IsKeptAfter, emptied, roomy}
+pub use Rattle.checkpoint.specs.Committed.{Commits, HoldsCommitted, emptied, roomy}
 pub use Rattle.line_geometry.proofs.Within.{byte_count-lines, page-lines}
 pub use Rattle.line_geometry.specs.Directory.{Layout, byte_count, page_count}
 pub use Rattle.line_geometry.specs.Lines.{line_count}
@@ -15,8 +15,8 @@ pub use Rattle.outside.proofs.Runs.{asks_on, asks_one}
 pub use Rattle.outside.specs.Bytes.{AreTold, bytes_at}
 pub use Rattle.outside.specs.Runs.{FewerLater, Leaves, OnlyAsks, held_of}
 pub use Rattle.redo_journal.proofs.Newest.{Agree, bytes_of_line, newest_bytes, other_line, same_line, same_lines, store_agrees}
-pub use Rattle.redo_journal.specs.Kept.{KeptBank, area_end, begun_of}
-pub use Rattle.redo_journal.specs.Records.{IsCounted, IsFound, IsLineOf, IsRecordAt}
+pub use Rattle.redo_journal.specs.Kept.{KeptBank, area_end}
+pub use Rattle.redo_journal.specs.Records.{ReadsLine, ReadsRecord}
 pub use Rattle.redo_journal.specs.declared.fault.ReopenFault.{ReopenFault}
 pub use Rattle.store_format.proofs.Padded.{read_is}
 pub use Rattle.store_format.proofs.Stores.{not_less, stands_is}

@@ -5,7 +5,7 @@ use Rattle.store_format.specs.declared.header.Which.TheVariants.{A, B}
 use Rattle.store_format.specs.Bank.{RecordLine, Holds, Faulty, base_of, bank_of, bank_held}
 use Rattle.outside.specs.declared.world.Outside.{Ghosts}
 use Rattle.outside.specs.Durable.{IsSure}
-use Rattle.redo_journal.specs.Kept.{KeptBank, place_of, end_of, begun_of, number_of as number_in}
+use Rattle.redo_journal.specs.Kept.{KeptBank, area_end, place_of, end_of, begun_of, number_of as number_in}
 use Rattle.redo_journal.specs.Opened.{bank_in}
 use Rattle.redo_journal.proofs.AppendLemmas.{place_is}
 use Rattle.redo_journal.specs.declared.fault.OpenFault.{OpenFault}
@@ -159,6 +159,9 @@ records_intact header which base records held is = record { which = which; base 
 pub end_inside : (header : Header) (which : Which) (bytes : ℕ) → header.bank_bytes ≡ bytes → end_of which bytes ≤ total header
 end_inside header A bytes same = omega (arith, same)
 end_inside header B bytes same = omega (arith, same)
+
+pub bank_inside : (header : Header) (bank those : KeptBank) → those ≡ bank → Fits header bank → area_end those ≤ total header
+bank_inside header bank those same fits = subst (λ (that : KeptBank). area_end that ≤ total header) (sym same) (end_inside header bank.which bank.bank_bytes fits.bank_bytes)
 
 -- what a store that was reopened says of the bytes, whatever their header is
 pub reopened_holds : (held : List ℕ) (header : Header) (store : KeptStore) → store.header ≡ header → IsReopened held store

@@ -1,15 +1,16 @@
-ghost use Rattle.std.specs.Prelude.{◌≡◌, ◌≢◌, ◌+◌, ◌*◌, ◌%◌, ◌^◌, ◌≤◌, ◌<◌, [], All, length, slice_set, Some, None, IsTrue, IsSome, IfOk, IfErr, OnOk};
+ghost use Rattle.std.specs.Prelude.{◌≡◌, ◌≢◌, ◌+◌, ◌*◌, ◌%◌, ◌^◌, ◌≤◌, ◌<◌, [], All, length, Some, None, IsTrue, IsSome, IfOk, IfErr, OnOk};
 ghost use Rattle.line_geometry.specs.Directory.{page_count};
 ghost use Rattle.line_geometry.specs.Segments.{page_bytes, line_bytes};
 ghost use Rattle.line_geometry.specs.Lines.{line_count};
 ghost use Rattle.store_format.specs.Header.{total};
-ghost use Rattle.store_format.specs.Stands.{stands, one_more, HasHeader};
-ghost use Rattle.outside.specs.Causes.{Rose, FailsOnlyCounted};
+ghost use Rattle.store_format.specs.Stands.{stands, HasHeader};
+ghost use Rattle.outside.specs.Causes.{FailsOnlyCounted};
 ghost use Rattle.outside.specs.Runs.{OnlyAsks, Leaves, held_of};
+ghost use Rattle.redo_journal.specs.Appended.{CountsKept, FailedLeaves};
 ghost use Rattle.redo_journal.specs.Held.{HoldsAtLeast, IsMoreBy, OnlyWrites};
 ghost use Rattle.redo_journal.specs.Kept.{KeptBank, area_end, begun_of, needed_end, with_line};
 ghost use Rattle.store_format.specs.Bank.{record_bytes};
-ghost use Rattle.redo_journal.specs.Records.{IsRecordAt, IsFound, IsCounted, IsLineOf};
+ghost use Rattle.redo_journal.specs.Records.{ReadsRecord, ReadsLine};
 ghost use Rattle.redo_journal.specs.Tracks.{IsEither};
 ghost use Rattle.restart.specs.Kept.{KeptStore, number_of};
 ghost use Rattle.checkpoint.specs.Moved.{IsSame, bank_checkpointed};
@@ -81,21 +82,21 @@ impl Durable {
     pub fn base(&self) -> u64
         ensures { result ≡ self.now.bank.base }
     {
-        self.banks.base()
+        self.banks.chosen().base()
     }
 
     /// How many records the chosen bank has.
     pub fn records(&self) -> u32
         ensures { result ≡ self.now.bank.count }
     {
-        self.banks.records()
+        self.banks.chosen().records()
     }
 
     /// The number of the store: how many commits it has had, modulo 2 to the 64.
     pub fn number(&self) -> u64
         ensures { result ≡ number_of self.now }
     {
-        self.banks.number()
+        self.banks.chosen().number()
     }
 
     /// Reads the disk again, under the header that is kept. No record is begun after any answer.
@@ -158,15 +159,12 @@ impl Durable {
         ensures kept { IsKeptAfter result (roomy self.old.bank) self.old.bank self.new.bank }
         ensures number { number_of self.new ≡ number_after result (number_of self.old) }
         ensures count { self.new.bank.count ≤ self.old.bank.count + 1 }
+        ensures counted { CountsKept W.Outside outside.old outside.new result }
         ensures writes { result ≡ Kept.Done → IsMoreBy 2 (W.writes outside.old) (W.writes outside.new) }
-        ensures done_cause { result ≡ Kept.Done → W.disk_faults outside.new ≡ W.disk_faults outside.old }
-        ensures unwritten_cause { result ≡ Kept.Unwritten → Rose (W.disk_faults outside.old) (W.disk_faults outside.new) }
-        ensures doubt_cause { result ≡ Kept.Doubt → Rose (W.disk_faults outside.old) (W.disk_faults outside.new) }
 
         // Of a store that is tracked: whenever a crash comes, it leaves what stood, or that with the record.
         ensures crash { TracksStore W.Outside self.old outside.old → Leaves W.Outside (IsEither (begun_of self.old.bank) (held_of W.Outside outside.old)) outside.old outside.new }
-        ensures unwritten { result ≡ Kept.Unwritten → TracksStore W.Outside self.old outside.old → Leaves W.Outside (λ image seen. stands image ≡ stands (held_of W.Outside outside.old)) outside.old outside.new }
-        ensures doubt { result ≡ Kept.Doubt → TracksStore W.Outside self.old outside.old → Leaves W.Outside (λ image seen. stands (slice_set image (roomy self.old.bank).gate 0xA5) ≡ one_more (begun_of self.old.bank) (stands (held_of W.Outside outside.old))) outside.new outside.new }
+        ensures left { TracksStore W.Outside self.old outside.old → FailedLeaves W.Outside self.old.bank (roomy self.old.bank) outside.old outside.new result }
         ensures records { (tracks : TracksStore W.Outside self.old outside.old) → HoldsCommitted self.old.header self.old.bank tracks.shows.read.records (held_of W.Outside outside.new) }
         ensures intact { TracksStore W.Outside self.old outside.old → IsStoreWith self.old.header (held_of W.Outside outside.new) }
         ensures done { result ≡ Kept.Done → TracksStore W.Outside self.old outside.old → IsCommitted W.Outside self.old self.new outside.old outside.new }
@@ -207,12 +205,9 @@ impl Durable {
     pub fn record_at<W: Outside>(&self, outside: &mut W, place: u32) -> Result<Record, Failed>
         requires inside { place < self.now.header.bank_bytes }
         requires room { HoldsAtLeast W.Outside (total self.now.header) outside.old }
-        ensures asks { OnlyAsks W.Outside outside.old outside.new }
-        ensures found { IfOk result (IsFound self.now.header.directory.page self.now.header.bank_bytes place) }
-        ensures read { IfOk result (λ found. IsSome (W.held outside.old) → (at : IsRecordAt (held_of W.Outside outside.old) self.now.bank place) → IsCounted self.now.header.directory.page place at.lines found) }
-        ensures cause { FailsOnlyCounted (W.disk_faults outside.old) (W.disk_faults outside.new) result }
+        ensures { ReadsRecord W.Outside self.now.header.directory.page self.now.header.bank_bytes self.now.bank place outside.old outside.new result }
     {
-        self.banks.record_at(outside, place)
+        self.banks.chosen().record_at(outside, place)
     }
 
     /// A line of a record that fits the area: its number, and its bytes into the slice.
@@ -231,11 +226,9 @@ impl Durable {
         requires below { index < of.now.count }
         requires whole { length into.old ≡ line_bytes self.now.header.directory.page }
         requires room { HoldsAtLeast W.Outside (total self.now.header) outside.old }
-        ensures asks { OnlyAsks W.Outside outside.old outside.new }
-        ensures read { IfOk result (λ line. IsSome (W.held outside.old) → (at : IsRecordAt (held_of W.Outside outside.old) self.now.bank of.now.place) → length at.lines ≡ of.now.count → IsLineOf at.lines index line into.new) }
-        ensures cause { FailsOnlyCounted (W.disk_faults outside.old) (W.disk_faults outside.new) result }
+        ensures { ReadsLine W.Outside self.now.bank of.now index into.new outside.old outside.new result }
     {
-        self.banks.line_at(outside, of, index, into)
+        self.banks.chosen().line_at(outside, of, index, into)
     }
 
     /// Reads a page of the committed store: its home lines, with the newest lines of the bank over them. It takes one
@@ -259,7 +252,7 @@ impl Durable {
     {
         let first = u32::from(page) * 16;
         outside.read_at(self.header.home_at(first), into)?;
-        if !self.banks.holds_some(first, 16) {
+        if !self.banks.chosen().holds_some(first, 16) {
             return Ok(());
         }
         let page = self.header.directory().page();

@@ -1,13 +1,13 @@
 -- Why the answers of a session come.
-use Rattle.std.specs.Prelude.{◌≡◌, ℕ, ◌+◌, ◌%◌, ◌<◌, ◌^◌, ◌++◌, ◌∷◌, [], true, List, length, slice_set, Option, Some, None}
+use Rattle.std.specs.Prelude.{◌≡◌, ℕ, ◌+◌, ◌%◌, ◌<◌, ◌^◌, ◌++◌, ◌∷◌, [], true, List, length, Option, Some, None}
 use Rattle.lock_rules.specs.Sets.{has}
 use Rattle.outside.specs.declared.world.Outside.{Ghosts}
 use Rattle.outside.specs.Causes.{Rose}
 use Rattle.outside.specs.Runs.{Leaves, OnlyAsks, held_of}
 use Rattle.store_format.specs.Bank.{RecordLine}
-use Rattle.store_format.specs.Stands.{stands, one_more}
 use Rattle.redo_journal.specs.declared.keep.Kept.{Kept}
 use Rattle.redo_journal.specs.declared.keep.Kept.TheVariants as kept
+use Rattle.redo_journal.specs.Appended.{FailedLeaves}
 use Rattle.redo_journal.specs.Held.{OnlyWrites}
 use Rattle.redo_journal.specs.Kept.{begun_of}
 use Rattle.redo_journal.specs.Tracks.{IsEither}
@@ -78,19 +78,13 @@ abbrev pub ReopenedNumber : Reopened → (number : ℕ) → Type 0
 ReopenedNumber (reopened.Number told) number = told ≡ number
 ReopenedNumber _ number = Unit {0}
 
--- what a commit that failed leaves of a store with a begun record: what stood, and after a doubt what stands with the record, once the gate's byte is on
-abbrev pub FailedLeaves : {W : Type 0} → Ghosts W → Kept → KeptStore → W → W → Type 0
-FailedLeaves G kept.Unwritten store before after = Leaves G (λ image seen. stands image ≡ stands (held_of G before)) before after
-FailedLeaves G kept.Doubt store before after = Leaves G (λ image seen. stands (slice_set image (roomy store.bank).gate 165) ≡ one_more (begun_of store.bank) (stands (held_of G before))) after after
-FailedLeaves G kept.Done store before after = ⊥
-
 -- What `Durable::commit` promises of a store with a begun record where it answers so, Unwritten or Doubt: the disk's count rose in it.
 pub record IsFailedCommit {W : Type 0} (G : Ghosts W) (answer : Kept) (old new : KeptStore) (before after : W) : Type 0 where
   pub only : OnlyWrites G before after
   pub rose : Rose (G.disk_faults before) (G.disk_faults after)
   pub kept : IsKeptAfter answer (roomy old.bank) old.bank new.bank
   pub crash : TracksStore G old before → Leaves G (IsEither (begun_of old.bank) (held_of G before)) before after
-  pub left : TracksStore G old before → FailedLeaves G answer old before after
+  pub left : TracksStore G old before → FailedLeaves G old.bank (roomy old.bank) before after answer
 
 -- Up to a moment the disk was only asked, and its count stayed. From then on all is as `Durable::commit` promises where it answers so, of a record of the
 -- lines that an activation holds to write: the count rose in it. The activation sits there still.

@@ -1,5 +1,6 @@
-use Rattle.redo_journal.proofs.Common.{◌≡◌, ◌+◌, List, ℕ, take, drop, ap, sym, subst, ◌∙◌, arith, IsSome, drop-drop, big_number, big_from-take, line_bytes, bytes_at, held_of, read_is}
-use Rattle.std.specs.Prelude.{Option, [], unwrap_or, IfSome}
+use Rattle.redo_journal.proofs.Common.{◌≡◌, ◌+◌, List, ℕ, take, drop, ap, sym, subst, ◌∙◌, arith, drop-drop, big_number, big_from-take, line_bytes, bytes_at, held_of, read_is}
+use Rattle.std.specs.Prelude.{IfSome}
+use Rattle.redo_journal.proofs.ReadLemmas.{read_on}
 use Rattle.redo_journal.proofs.find.read_line.Goals as goal
 
 pub returns-clause-read : goal.returns-clause-read
@@ -7,11 +8,9 @@ returns-clause-read g c some =
     let G = g.W.Outside in
     let held = held_of G c.args.outside.now in
     let head : c.read_at.new.into ≡ bytes_at held c.args.at 4 = read_is (G.held c.args.outside.now) c.read_at.new.into c.args.at 4 some c.in_ok-read_at.ensures.read in
-    let told = subst (λ (those : Option (List ℕ)). IsSome those) (sym c.read_at.ensures.held) some in
     let line = line_bytes c.args.page in
     let bytes : c.read_at-2.new.into ≡ bytes_at held (c.args.at + 4) line =
-    read_is (G.held c.read_at.new.self) c.read_at-2.new.into (c.args.at + 4) line told (subst (λ (n : ℕ). IfSome (G.held c.read_at.new.self) (λ bytes. c.read_at-2.new.into ≡ bytes_at bytes (c.args.at + 4) n)) c.requires.whole c.in_ok-read_at-2.ensures.read)
-    ∙ ap (λ (those : Option (List ℕ)). bytes_at (unwrap_or those []) (c.args.at + 4) line) c.read_at.ensures.held in
+    read_on (G.held c.args.outside.now) (G.held c.read_at.new.self) c.read_at-2.new.into (c.args.at + 4) line c.read_at.ensures.held some (subst (λ (n : ℕ). IfSome (G.held c.read_at.new.self) (λ bytes. c.read_at-2.new.into ≡ bytes_at bytes (c.args.at + 4) n)) c.requires.whole c.in_ok-read_at-2.ensures.read) in
     record {
       number = c.read_u32.ensures ∙ ap (λ (these : List ℕ). big_number 4 these) head ∙ big_from-take 0 4 4 (drop c.args.at held) (omega arith);
       bytes_are = bytes ∙ ap (λ (these : List ℕ). take line these) (sym (drop-drop 4 c.args.at held));

@@ -1,6 +1,6 @@
-use Rattle.redo_journal.proofs.Common.{◌≡◌, ℕ, ◌+◌, ◌*◌, List, [], length, drop, sym, subst, ◌∙◌, ap, arith, IsSome, entry_bytes, RecordLine, lines_from, wrong_line, gate_if, lined_gate, bytes_at, held_of, OnlyAsks, noted, read_is, asks_on, asks_one}
+use Rattle.redo_journal.proofs.Common.{◌≡◌, ℕ, ◌+◌, ◌*◌, List, [], length, drop, sym, subst, ◌∙◌, ap, arith, IsSome, entry_bytes, RecordLine, lines_from, wrong_line, gate_if, lined_gate, held_of, OnlyAsks, noted, read_is, asks_on, asks_one}
 use Rattle.std.specs.Prelude.{Option, None, Some, unwrap_or, slice_index, ◌==◌}
-use Rattle.redo_journal.proofs.ReadLemmas.{first_read, gate_read, gate_misnumbered}
+use Rattle.redo_journal.proofs.ReadLemmas.{first_read, gate_read, gate_misnumbered, read_on}
 use Rattle.redo_journal.proofs.read.read_gate.Given.{Over}
 use Rattle.redo_journal.proofs.read.read_gate.Goals as goal
 use Rattle.redo_journal.proofs.read.read_gate.Goals.{After-read_lines}
@@ -14,12 +14,9 @@ gate_is : (g : Over) (c : goal.After-read_lines g) → IsSome (g.W.Outside.held 
     ≡ lined_gate (wrong_line (length c.args.newest.now) 0 (lines g c)) (lines g c) (c.args.gate + 11 + entry_bytes c.args.page * c.read_u16-count.result)
 unfolding lines
 gate_is g c some =
-    let G = g.W.Outside in
-    let first = read_is (G.held c.args.outside.now) c.read_at.new.into c.args.gate 1 some c.in_ok-read_at.ensures.read in
-    let told = subst (λ (those : Option (List ℕ)). IsSome those) (sym c.read_at.ensures.held) some in
-    let head = read_is (G.held c.read_at.new.self) c.read_at-2.new.into (c.args.gate + 1) 10 told c.in_ok-read_at-2.ensures.read ∙ ap (λ (those : Option (List ℕ)). bytes_at (unwrap_or those []) (c.args.gate + 1) 10) c.read_at.ensures.held in
-    gate_read c.args.page (held_of G c.args.outside.now) c.read_at-2.new.into (length c.args.newest.now) c.args.end c.args.due c.args.gate c.read_u16-count.result c.read_u64.result head c.read_u16-count.ensures c.read_u64.ensures c.if-read_u64-due.false
-    (first_read (held_of G c.args.outside.now) c.read_at.new.into c.args.gate first c.if-first.false)
+    let head = read_on (g.W.Outside.held c.args.outside.now) (g.W.Outside.held c.read_at.new.self) c.read_at-2.new.into (c.args.gate + 1) 10 c.read_at.ensures.held some c.in_ok-read_at-2.ensures.read in
+    gate_read c.args.page (held_of g.W.Outside c.args.outside.now) c.read_at-2.new.into (length c.args.newest.now) c.args.end c.args.due c.args.gate c.read_u16-count.result c.read_u64.result head c.read_u16-count.ensures c.read_u64.ensures c.if-read_u64-due.false
+    (first_read (held_of g.W.Outside c.args.outside.now) c.read_at.new.into c.args.gate (read_is (g.W.Outside.held c.args.outside.now) c.read_at.new.into c.args.gate 1 some c.in_ok-read_at.ensures.read) c.if-first.false)
     (omega (arith, c.if-end-next.false, c.from.ensures, c.entries_bytes.ensures.value))
 
 -- the bytes held by then are those at the start
@@ -69,10 +66,7 @@ returns-then-read_u64-due-clause-asks g c =
 
 pub returns-then-read_u64-due-clause-found : goal.returns-then-read_u64-due-clause-found
 returns-then-read_u64-due-clause-found g c some =
-    let G = g.W.Outside in
-    let first = read_is (G.held c.args.outside.now) c.read_at.new.into c.args.gate 1 some c.in_ok-read_at.ensures.read in
-    let told = subst (λ (those : Option (List ℕ)). IsSome those) (sym c.read_at.ensures.held) some in
-    let head = read_is (G.held c.read_at.new.self) c.read_at-2.new.into (c.args.gate + 1) 10 told c.in_ok-read_at-2.ensures.read ∙ ap (λ (those : Option (List ℕ)). bytes_at (unwrap_or those []) (c.args.gate + 1) 10) c.read_at.ensures.held in
-    gate_misnumbered c.args.page (held_of G c.args.outside.now) c.read_at-2.new.into (length c.args.newest.now) c.args.end c.args.due c.args.gate c.read_u16-count.result c.read_u64.result head c.read_u16-count.ensures c.read_u64.ensures c.if-read_u64-due.true
-    (first_read (held_of G c.args.outside.now) c.read_at.new.into c.args.gate first c.if-first.false)
+    let head = read_on (g.W.Outside.held c.args.outside.now) (g.W.Outside.held c.read_at.new.self) c.read_at-2.new.into (c.args.gate + 1) 10 c.read_at.ensures.held some c.in_ok-read_at-2.ensures.read in
+    gate_misnumbered c.args.page (held_of g.W.Outside c.args.outside.now) c.read_at-2.new.into (length c.args.newest.now) c.args.end c.args.due c.args.gate c.read_u16-count.result c.read_u64.result head c.read_u16-count.ensures c.read_u64.ensures c.if-read_u64-due.true
+    (first_read (held_of g.W.Outside c.args.outside.now) c.read_at.new.into c.args.gate (read_is (g.W.Outside.held c.args.outside.now) c.read_at.new.into c.args.gate 1 some c.in_ok-read_at.ensures.read) c.if-first.false)
     (omega (arith, c.if-end-next.false, c.from.ensures, c.entries_bytes.ensures.value))

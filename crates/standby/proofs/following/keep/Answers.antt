@@ -1,5 +1,7 @@
-use Rattle.standby.proofs.Common.{◌≡◌, ⊎_elim, ◌∙◌, ap, Err, line_bytes, FlatStore, Stands, stands, Leaves, held_of, IsEither, KeptStore, number_of, TracksStore, Steps, put_of, kept_line, next, record_of, DiskFault}
+use Rattle.standby.proofs.Common.{◌≡◌, ⊎_elim, ◌∙◌, ap, subst, Err, line_bytes, FlatStore, Stands, stands, Leaves, held_of, IsEither, KeptStore, number_of, TracksStore, Steps, put_of, kept_line, next, record_of, DiskFault}
+use Rattle.redo_journal.specs.Appended.{CountsKept}
 use Rattle.redo_journal.specs.declared.keep.Kept.{Kept}
+use Rattle.redo_journal.specs.declared.keep.Kept.TheVariants.{Unwritten, Doubt}
 use Rattle.checkpoint.specs.Committed.{number_after}
 use Rattle.standby.proofs.GoLemmas.{goes_on, goes_puts, goes_writes}
 use Rattle.standby.proofs.StepLemmas.{either_begun, more_begun, sized, step_kept, step_unkept, tracks_begun}
@@ -22,12 +24,16 @@ unkept g c store tracks stood =
     step_unkept g.W.Outside g.met.W.Outside.fewer_later g.met.W.Outside.printed_now (number_of c.args.durable.now) (line_bytes c.args.durable.now.header.directory.page) store (record_of (line_bytes c.args.durable.now.header.directory.page) c.args.sent.now) c.begin.ensures.begun c.args.outside.now c.commit.new.outside
     (sized (held_of g.W.Outside c.args.outside.now) c.args.durable.now (number_of c.args.durable.now) store tracks.shows stood) c.begin.ensures.lines_are stood c.commit.ensures.only.calls (either g c tracks) c.commit.new.self
 
+-- the disk's count by the answer
+counted : (g : Over) (c : goal.After-commit g) (kept : Kept) → c.commit.result ≡ kept → CountsKept g.W.Outside c.args.outside.now c.commit.new.outside kept
+counted g c kept is = subst (CountsKept g.W.Outside c.args.outside.now c.commit.new.outside) is c.commit.ensures.counted
+
 pub returns-in-Unwritten : goal.returns-in-Unwritten
 returns-in-Unwritten g c =
     let at = (goal.at.returns-in-Unwritten g c).After-commit in
     record {
       only = goes_writes g.W.Outside c.args.outside.now c.commit.new.outside c.commit.ensures.only;
-      ends = (⊎_elim c.commit.ensures.unwritten_cause c.commit.ensures.doubt_cause c.in-Unwritten.is, c.commit.ensures.only.calls.put);
+      ends = (⊎_elim (counted g at Unwritten) (counted g at Doubt) c.in-Unwritten.is, c.commit.ensures.only.calls.put);
       stopped = tt;
       header = c.commit.ensures.header ∙ ap (λ (store : KeptStore). store.header) c.begin.ensures.now_is;
       number = tt;

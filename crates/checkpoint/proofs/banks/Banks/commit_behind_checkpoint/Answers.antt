@@ -1,88 +1,75 @@
-use Rattle.checkpoint.proofs.Common.{◌≡◌, inl, inr, ⊎_elim, ℕ, List, [], sym, subst, ◌∙◌, ap, arith, slice_set, Header, RecordLine, stands, one_more, Leaves, held_of, leaves_on, KeptBank, begun_of, TracksBank, IsEither, HoldsOneOf, writes_on, other, IsCheckpointed, emptied}
-use Rattle.checkpoint.proofs.CommitLemmas.{adds_same, either_same, by_unwritten, by_doubt, by_done, no_records}
+use Rattle.checkpoint.proofs.Common.{◌≡◌, ◌≤◌, inl, inr, ⊎_elim, List, [], sym, subst, ◌∙◌, ap, arith, Option, Some, Header, RecordLine, stands, one_more, Leaves, held_of, leaves_on, KeptBank, area_end, begun_of, needed_end, TracksBank, IsEither, HoldsOneOf, writes_on, other, emptied, CountsKept, FailedLeaves, IsCheckpointed, SameShape, bank_appended}
+use Rattle.std.specs.Prelude.{IfSome}
+use Rattle.redo_journal.specs.declared.keep.Kept.{Kept}
+use Rattle.checkpoint.proofs.CommitLemmas.{adds_same, answered_by, counts_on, either_same, failed_behind, kept_after, no_records, shape_on, two_more}
 use Rattle.checkpoint.proofs.banks.Banks.commit_behind_checkpoint.Given.{Over}
 use Rattle.checkpoint.proofs.banks.Banks.commit_behind_checkpoint.Goals as goal
-use Rattle.checkpoint.proofs.banks.Banks.commit_behind_checkpoint.Goals.{After-checkpoint, After-append}
+use Rattle.checkpoint.proofs.banks.Banks.commit_behind_checkpoint.Goals.{After-checkpoint}
 
 -- what stood stands while the checkpoint is made
 stood : (g : Over) (c : goal.After-checkpoint g) → TracksBank g.W.Outside c.args.self.now c.args.outside.now → Leaves g.W.Outside (λ image seen. stands image ≡ stands (held_of g.W.Outside c.args.outside.now)) c.args.outside.now c.checkpoint.new.outside
 stood g c tracks image seen left = (c.checkpoint.ensures.crash tracks image seen left).stood
 
-pub returns-in-Err-clause-crash : goal.returns-in-Err-clause-crash
-returns-in-Err-clause-crash g c tracks image seen left = inl (stood g (goal.at.returns-in-Err-clause-crash g c).After-checkpoint tracks image seen left)
-
-pub returns-in-Err-clause-unwritten : goal.returns-in-Err-clause-unwritten
-returns-in-Err-clause-unwritten g c is tracks = stood g (goal.at.returns-in-Err-clause-unwritten g c).After-checkpoint tracks
-
-pub returns-in-Err-clause-records : goal.returns-in-Err-clause-records
-returns-in-Err-clause-records g c tracks = ⊎_elim (λ here. inl (inl here)) (λ there. inr (inl there)) (c.checkpoint.ensures.held tracks).one_of
-
-pub returns-in-Ok-clause-only : goal.returns-in-Ok-clause-only
-returns-in-Ok-clause-only g c = writes_on g.W.Outside g.met.W.Outside.fewer_later c.args.outside.now c.checkpoint.new.outside c.append.new.outside c.checkpoint.ensures.only c.append.ensures.only
-
--- what the append leaves, of the bank turned to
-behind : (g : Over) (c : goal.After-append g) (tracks : TracksBank g.W.Outside c.args.self.now c.args.outside.now) (made : IsCheckpointed g.W.Outside c.args.self.now c.checkpoint.new.self c.args.outside.now c.checkpoint.new.outside) → c.checkpoint.new.self ≡ emptied c.args.self.now
-    → Leaves g.W.Outside (IsEither (begun_of c.args.self.now) (held_of g.W.Outside c.args.outside.now)) c.checkpoint.new.outside c.append.new.outside
-behind g c tracks made kept image seen left =
-    let G = g.W.Outside in
-    let old = c.args.self.now in
-    either_same (other old.which) old (held_of G c.args.outside.now) (held_of G c.checkpoint.new.outside) image seen made.stood
-    (subst (λ (bank : KeptBank). IsEither (begun_of bank) (held_of G c.checkpoint.new.outside) image seen) kept (c.append.ensures.crash made.tracks image seen left))
-
-pub returns-in-Ok-clause-crash : goal.returns-in-Ok-clause-crash
-returns-in-Ok-clause-crash g c tracks =
-    let G = g.W.Outside in
-    let at = goal.at.returns-in-Ok-clause-crash g c in
-    leaves_on G g.met.W.Outside.fewer_later c.args.outside.now c.checkpoint.new.outside c.append.new.outside c.checkpoint.ensures.only.calls.time c.append.ensures.only.calls.time
-    (IsEither (begun_of c.args.self.now) (held_of G c.args.outside.now))
-    (λ image seen left. inl (stood g at.After-checkpoint tracks image seen left))
-    (behind g at.After-append tracks (c.in-Ok.ensures.done tracks) c.in-Ok.ensures.kept)
-
-pub returns-in-Ok-clause-unwritten : goal.returns-in-Ok-clause-unwritten
-returns-in-Ok-clause-unwritten g c is tracks =
-    let G = g.W.Outside in
-    let at = goal.at.returns-in-Ok-clause-unwritten g c in
-    let made = c.in-Ok.ensures.done tracks in
-    leaves_on G g.met.W.Outside.fewer_later c.args.outside.now c.checkpoint.new.outside c.append.new.outside c.checkpoint.ensures.only.calls.time c.append.ensures.only.calls.time
-    (λ (image seen : List ℕ). stands image ≡ stands (held_of G c.args.outside.now))
-    (stood g at.After-checkpoint tracks)
-    (λ image seen left.
-    ⊎_elim (λ full. absurd (let no = c.append.ensures.full.0 full in let fits = c.in-Ok.ensures.fits in omega (arith, no, fits)))
-    (λ unwritten. c.append.ensures.unwritten unwritten made.tracks image seen left ∙ made.stood)
-    (by_unwritten c.append.result c.kept_by.result c.kept_by.ensures is))
-
-pub returns-in-Ok-clause-doubt : goal.returns-in-Ok-clause-doubt
-returns-in-Ok-clause-doubt g c is tracks image seen left =
-    let G = g.W.Outside in
-    let old = c.args.self.now in
-    let made = c.in-Ok.ensures.done tracks in
-    subst (λ (bank : KeptBank). stands (slice_set image bank.gate 0xA5) ≡ one_more (begun_of bank) (stands (held_of G c.checkpoint.new.outside))) c.in-Ok.ensures.kept
-    (c.append.ensures.doubt (by_doubt c.append.result c.kept_by.result c.kept_by.ensures is) made.tracks image seen left)
-    ∙ adds_same (other old.which) old (stands (held_of G c.checkpoint.new.outside)) (stands (held_of G c.args.outside.now)) made.stood
-
-pub returns-in-Ok-clause-records : goal.returns-in-Ok-clause-records
-returns-in-Ok-clause-records g c tracks =
-    let G = g.W.Outside in
-    let old = c.args.self.now in
-    let made = c.in-Ok.ensures.done tracks in
-    let now = held_of G c.append.new.outside in
-    let header : made.tracks.header ≡ tracks.header = sym made.tracks.store.said ∙ made.header ∙ tracks.store.said in
-    let none : made.tracks.records ≡ [] = no_records made.tracks.records (made.tracks.count ∙ ap (λ (bank : KeptBank). bank.count) c.in-Ok.ensures.kept) in
-    inr (subst (λ (those : Header). HoldsOneOf those (other old.which) (emptied old).base [] (begun_of (emptied old)) now) header
-    (subst (λ (those : List (List RecordLine)). HoldsOneOf made.tracks.header (other old.which) (emptied old).base those (begun_of (emptied old)) now) none
-    (subst (λ (bank : KeptBank). HoldsOneOf made.tracks.header bank.which bank.base made.tracks.records (begun_of bank) now) c.in-Ok.ensures.kept (c.append.ensures.records made.tracks))))
-
-pub returns-in-Ok-clause-done : goal.returns-in-Ok-clause-done
-returns-in-Ok-clause-done g c is tracks =
-    let G = g.W.Outside in
-    let old = c.args.self.now in
-    let made = c.in-Ok.ensures.done tracks in
-    let added = c.append.ensures.done (by_done c.append.result c.kept_by.result c.kept_by.ensures is) made.tracks in
+pub returns-in-Err : goal.returns-in-Err
+returns-in-Err g c =
+    let at = (goal.at.returns-in-Err g c).After-checkpoint in
     record {
-      tracks = added.tracks;
-      stood =
-          added.stood
-          ∙ ap (λ (bank : KeptBank). one_more (begun_of bank) (stands (held_of G c.checkpoint.new.outside))) c.in-Ok.ensures.kept
-          ∙ adds_same (other old.which) old (stands (held_of G c.checkpoint.new.outside)) (stands (held_of G c.args.outside.now)) made.stood;
-      header = added.header ∙ made.header;
+      only = c.checkpoint.ensures.only;
+      shape = c.checkpoint.ensures.shape;
+      kept = inr c.in-Err.ensures.kept;
+      counted = c.in-Err.ensures.cause.failed;
+      writes = λ is. cc;
+      crash = λ tracks image seen left. inl (stood g at tracks image seen left);
+      left = stood g at;
+      records = λ tracks. ⊎_elim (λ here. inl (inl here)) (λ there. inr (inl there)) (c.checkpoint.ensures.held tracks).one_of;
+      done = λ is. cc;
+    }
+
+pub returns-in-Ok : goal.returns-in-Ok
+returns-in-Ok g c =
+    let G = g.W.Outside in
+    let at = (goal.at.returns-in-Ok g c).After-checkpoint in
+    let old = c.args.self.now in
+    let before = c.args.outside.now in
+    let mid = c.checkpoint.new.outside in
+    let after = c.append.new.outside in
+    let bank = c.self.inside.bank in
+    let turned : bank ≡ emptied old = c.self.view_is ∙ c.in-Ok.ensures.kept in
+    let kept = c.unwrap_or.result in
+    let answered : c.append.result ≡ Some kept = answered_by c.append.result kept (λ none. let no = c.append.ensures.full.0 none in let fits = subst (λ (those : KeptBank). needed_end those ≤ area_end those) (sym c.self.view_is) c.in-Ok.ensures.fits in omega (arith, no, fits)) c.unwrap_or.ensures in
+    let first = c.checkpoint.ensures.only in
+    let later = c.append.ensures.only in
+    record {
+      only = writes_on G g.met.W.Outside.fewer_later before mid after first later;
+      shape = shape_on old bank c.append.new.self (subst (SameShape old) (sym c.self.view_is) c.checkpoint.ensures.shape) c.append.ensures.shape;
+      kept = kept_after kept (emptied old) old c.append.new.self (c.append.ensures.kept ∙ ap (λ (answer : Option Kept). bank_appended answer bank) answered ∙ ap (bank_appended (Some kept)) turned);
+      counted = counts_on G before mid after kept c.in-Ok.ensures.cause.done (subst (λ (answer : Option Kept). IfSome answer (CountsKept G mid after)) answered c.append.ensures.counted);
+      writes = λ is. two_more (G.writes before) (G.writes mid) (G.writes after) first.writes (c.append.ensures.writes (answered ∙ ap Some is));
+      crash = λ tracks.
+          let made = subst (λ (those : KeptBank). IsCheckpointed G old those before mid) (sym c.self.view_is) (c.in-Ok.ensures.done tracks) in
+          leaves_on G g.met.W.Outside.fewer_later before mid after first.calls.time later.calls.time (IsEither (begun_of old) (held_of G before))
+          (λ image seen left. inl (stood g at tracks image seen left))
+          (λ image seen left.
+          either_same (other old.which) old (held_of G before) (held_of G mid) image seen made.stood
+          (subst (λ (bank : KeptBank). IsEither (begun_of bank) (held_of G mid) image seen) turned (c.append.ensures.crash made.tracks image seen left)));
+      left = λ tracks.
+          let made = subst (λ (those : KeptBank). IsCheckpointed G old those before mid) (sym c.self.view_is) (c.in-Ok.ensures.done tracks) in
+          failed_behind G g.met.W.Outside.fewer_later old bank before mid after first.calls.time later.calls.time turned made.stood (stood g at tracks) kept
+          (subst (λ (answer : Option Kept). IfSome answer (FailedLeaves G bank bank mid after)) answered (c.append.ensures.left made.tracks));
+      records = λ tracks.
+          let made = subst (λ (those : KeptBank). IsCheckpointed G old those before mid) (sym c.self.view_is) (c.in-Ok.ensures.done tracks) in
+          let now = held_of G after in
+          let header : made.tracks.header ≡ tracks.header = sym made.tracks.store.said ∙ made.header ∙ tracks.store.said in
+          let none : made.tracks.records ≡ [] = no_records made.tracks.records (made.tracks.count ∙ ap (λ (bank : KeptBank). bank.count) turned) in
+          inr (subst (λ (those : Header). HoldsOneOf those (other old.which) (emptied old).base [] (begun_of (emptied old)) now) header
+          (subst (λ (those : List (List RecordLine)). HoldsOneOf made.tracks.header (other old.which) (emptied old).base those (begun_of (emptied old)) now) none
+          (subst (λ (bank : KeptBank). HoldsOneOf made.tracks.header bank.which bank.base made.tracks.records (begun_of bank) now) turned (c.append.ensures.records made.tracks))));
+      done = λ is tracks.
+          let made = subst (λ (those : KeptBank). IsCheckpointed G old those before mid) (sym c.self.view_is) (c.in-Ok.ensures.done tracks) in
+          let added = c.append.ensures.done (answered ∙ ap Some is) made.tracks in
+          record {
+            tracks = added.tracks;
+            stood = added.stood ∙ ap (λ (bank : KeptBank). one_more (begun_of bank) (stands (held_of G mid))) turned ∙ adds_same (other old.which) old (stands (held_of G mid)) (stands (held_of G before)) made.stood;
+            header = added.header ∙ made.header;
+          };
     }

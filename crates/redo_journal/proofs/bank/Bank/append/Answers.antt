@@ -1,16 +1,16 @@
-use Rattle.redo_journal.proofs.Common.{◌≡◌, ℕ, ◌+◌, ◌*◌, ◌<◌, List, [], ◌∷◌, ◌++◌, length, drop, slice_set, refl, sym, subst, ◌∙◌, ap, arith, length-append, Option, entry_bytes, RecordLine, lines_from, wrong_line, record_bytes, length-take-le, IsStore, stands, one_more, held_of, noted, AreNewest, KeptBank, end_of, area_end, begun_of, needed_end, begun_count, begun_lines, kept_of, TracksBank, IsEither, HoldsOneOf, IsSafe, IsShut}
-use Rattle.redo_journal.proofs.AppendLemmas.{IsReadied, make_ready, shut, either, one_of, same, more, after, doubted, filled_lines, says_room, begun_is, fields_tracked, with_record_is, is_begun, unwrapped}
+use Rattle.redo_journal.proofs.Common.{◌≡◌, ℕ, ◌+◌, ◌*◌, ◌<◌, List, [], ◌∷◌, ◌++◌, length, drop, slice_set, refl, sym, subst, ◌∙◌, ap, arith, length-append, Option, entry_bytes, RecordLine, lines_from, wrong_line, record_bytes, length-take-le, IsStore, stands, one_more, Leaves, held_of, noted, AreNewest, KeptBank, end_of, area_end, begun_of, needed_end, unbegun, begun_count, begun_lines, kept_of, TracksBank, IsEither, HoldsOneOf, IsSafe, IsShut}
+use Rattle.redo_journal.proofs.AppendLemmas.{IsReadied, make_ready, shut, either, one_of, same, more, after, doubted, filled_lines, says_room, begun_is, fields_tracked, with_record_is, is_begun, unwrapped, failed_leaves, unkept_is}
 use Rattle.redo_journal.proofs.Places.{below_in_order, newest_more}
 use Rattle.redo_journal.proofs.WriteLemmas.{held_left}
 use Rattle.redo_journal.proofs.bank.Bank.append.Given.{Over}
 use Rattle.redo_journal.proofs.bank.Bank.append.Goals as goal
-use Rattle.redo_journal.proofs.bank.Bank.append.Goals.{After-record_of, After-keep_body, After-note}
+use Rattle.redo_journal.proofs.bank.Bank.append.Goals.{After-keep_body, After-note}
 
 pub unwrap-begun-requires : goal.unwrap-begun-requires
 unwrap-begun-requires g c = is_begun c.self.inside c.args.self.now c.self.view_is c.requires.begun
 
 -- how many lines are begun
-count : (g : Over) (c : goal.After-record_of g) → begun_count c.self.inside ≡ c.unwrap-begun.result
+count : (g : Over) (c : goal.After-keep_body g) → begun_count c.self.inside ≡ c.unwrap-begun.result
 count g c = unwrapped c.self.inside.begun c.unwrap-begun.result c.unwrap-begun.ensures
 
 pub fill-requires : goal.fill-requires
@@ -19,11 +19,11 @@ fill-requires g c =
     omega (arith, ap (λ (k : ℕ). entry_bytes c.self.inside.page * k) n, c.self.invariant.buffer, c.self.invariant.fits)
 
 -- the bytes of the lines that are begun
-sized : (g : Over) (c : goal.After-record_of g) → c.from-bytes.result ≡ entry_bytes c.self.inside.page * begun_count c.self.inside
+sized : (g : Over) (c : goal.After-keep_body g) → c.from-bytes.result ≡ entry_bytes c.self.inside.page * begun_count c.self.inside
 sized g c = c.from-bytes.ensures ∙ c.entries_bytes.ensures.value ∙ ap (λ (n : ℕ). entry_bytes c.self.inside.page * n) (sym (count g c))
 
 -- the bank's fields are tracked, and the body adds the begun record
-abbrev ready : (g : Over) (c : goal.After-record_of g) → TracksBank g.W.Outside c.args.self.now c.args.outside.now → IsReadied g.W.Outside c.self.inside c.args.outside.now c.record_of.result.now
+abbrev ready : (g : Over) (c : goal.After-keep_body g) → TracksBank g.W.Outside c.args.self.now c.args.outside.now → IsReadied g.W.Outside c.self.inside c.args.outside.now c.record_of.result.now
 ready g c given =
     let n = count g c in
     let tracks : TracksBank g.W.Outside (kept_of c.self.inside) c.args.outside.now = fields_tracked g.W.Outside c.self.inside c.args.self.now c.args.outside.now c.self.view_is given in
@@ -35,7 +35,7 @@ ready g c given =
           (omega (arith, sized g c, c.end_of.ensures.value, c.if-end_of-self.false));
     }
 
-begun : (g : Over) (c : goal.After-record_of g) → begun_lines c.self.inside ≡ begun_of c.args.self.now
+begun : (g : Over) (c : goal.After-keep_body g) → begun_lines c.self.inside ≡ begun_of c.args.self.now
 begun g c = begun_is c.self.inside c.args.self.now c.self.view_is
 
 pub returns-then-end_of-self-clause-full : goal.returns-then-end_of-self-clause-full
@@ -45,22 +45,22 @@ returns-then-end_of-self-clause-full g c =
     (λ is. omega (arith, ap (λ (k : ℕ). entry_bytes c.self.inside.page * k) n, says.end, says.need, c.end_of.ensures.value, c.from-bytes.ensures, c.entries_bytes.ensures.value, c.if-end_of-self.true), λ is. refl)
 
 -- the record fits
-not_full : (g : Over) (c : goal.After-record_of g) → area_end c.args.self.now < needed_end c.args.self.now → ⊥
+not_full : (g : Over) (c : goal.After-keep_body g) → area_end c.args.self.now < needed_end c.args.self.now → ⊥
 not_full g c full =
     let says = says_room c.self.inside c.args.self.now c.self.view_is in
     omega (arith, sized g c, full, says.end, says.need, c.end_of.ensures.value, c.if-end_of-self.false)
 
 pub note-requires-clause-ordered : goal.note-requires-clause-ordered
 note-requires-clause-ordered g c =
-    let n = count g (goal.at.note-requires-clause-ordered g c).After-record_of in
+    let n = count g (goal.at.note-requires-clause-ordered g c).After-keep_body in
     rw (← n) (ap (wrong_line (length c.self.inside.newest) 0) (filled_lines c.self.inside c.fill.new.body c.as_slice.result.now (rw n c.fill.ensures.lines) c.as_slice.ensures) ∙ c.self.invariant.ordered)
 
 -- the gate is shut
-shut_gate : (g : Over) (c : goal.After-record_of g) → TracksBank g.W.Outside c.args.self.now c.args.outside.now → IsShut g.W.Outside c.self.inside.gate c.args.outside.now
+shut_gate : (g : Over) (c : goal.After-keep_body g) → TracksBank g.W.Outside c.args.self.now c.args.outside.now → IsShut g.W.Outside c.self.inside.gate c.args.outside.now
 shut_gate g c tracks = record { sure = tracks.sure; shut = shut _ _ _ _ _ _ _ _ _ (ready g c tracks).ready }
 
 -- what a safe image stands for, and which records it has
-left : (g : Over) (r : goal.After-record_of g) (tracks : TracksBank g.W.Outside r.args.self.now r.args.outside.now) (image seen : List ℕ) → IsSafe r.self.inside.gate r.record_of.result.now (held_of g.W.Outside r.args.outside.now) image → IsEither (begun_of r.args.self.now) (held_of g.W.Outside r.args.outside.now) image seen
+left : (g : Over) (r : goal.After-keep_body g) (tracks : TracksBank g.W.Outside r.args.self.now r.args.outside.now) (image seen : List ℕ) → IsSafe r.self.inside.gate r.record_of.result.now (held_of g.W.Outside r.args.outside.now) image → IsEither (begun_of r.args.self.now) (held_of g.W.Outside r.args.outside.now) image seen
 left g r tracks image seen safe =
     subst (λ (lines : List RecordLine). IsEither lines (held_of g.W.Outside r.args.outside.now) image seen) (begun g r) (either _ _ _ _ _ _ _ _ _ (ready g r tracks).ready image safe seen)
 
@@ -76,7 +76,7 @@ held_safe g c shut =
     since g c shut (held_of g.W.Outside c.keep_body.new.outside) now.0 now.1
 
 -- the records of bytes that are safe
-records : (g : Over) (c : goal.After-record_of g) (tracks : TracksBank g.W.Outside c.args.self.now c.args.outside.now) (held : List ℕ) → IsSafe c.self.inside.gate c.record_of.result.now (held_of g.W.Outside c.args.outside.now) held
+records : (g : Over) (c : goal.After-keep_body g) (tracks : TracksBank g.W.Outside c.args.self.now c.args.outside.now) (held : List ℕ) → IsSafe c.self.inside.gate c.record_of.result.now (held_of g.W.Outside c.args.outside.now) held
     → HoldsOneOf tracks.header c.args.self.now.which c.args.self.now.base tracks.records (begun_of c.args.self.now) held
 records g c tracks held safe =
     let bank = c.self.inside in
@@ -84,48 +84,48 @@ records g c tracks held safe =
     (subst (λ (lines : List RecordLine). HoldsOneOf tracks.header bank.which bank.base tracks.records lines held) (begun_is bank (kept_of bank) refl)
     (one_of _ _ _ _ _ _ _ _ _ (ready g c tracks).ready held safe))
 
-pub returns-in-Unwritten-clause-crash : goal.returns-in-Unwritten-clause-crash
-returns-in-Unwritten-clause-crash g c tracks image seen was = let at = (goal.at.returns-in-Unwritten-clause-crash g c).After-record_of in left g at tracks image seen (c.keep_body.ensures.crash (shut_gate g at tracks) image seen was)
+-- each image since the start, and the bytes held after any answer
+crash : (g : Over) (c : goal.After-keep_body g) → TracksBank g.W.Outside c.args.self.now c.args.outside.now → Leaves g.W.Outside (IsEither (begun_of c.args.self.now) (held_of g.W.Outside c.args.outside.now)) c.args.outside.now c.keep_body.new.outside
+crash g c tracks image seen was = left g c tracks image seen (c.keep_body.ensures.crash (shut_gate g c tracks) image seen was)
 
-pub returns-in-Unwritten-clause-full : goal.returns-in-Unwritten-clause-full
-returns-in-Unwritten-clause-full g c = (λ is. cc, λ is. absurd (not_full g (goal.at.returns-in-Unwritten-clause-full g c).After-record_of is))
-
-pub returns-in-Doubt-clause-crash : goal.returns-in-Doubt-clause-crash
-returns-in-Doubt-clause-crash g c tracks image seen was = let at = (goal.at.returns-in-Doubt-clause-crash g c).After-record_of in left g at tracks image seen (c.keep_body.ensures.crash (shut_gate g at tracks) image seen was)
-
-pub returns-in-Doubt-clause-full : goal.returns-in-Doubt-clause-full
-returns-in-Doubt-clause-full g c = (λ is. cc, λ is. absurd (not_full g (goal.at.returns-in-Doubt-clause-full g c).After-record_of is))
+held : (g : Over) (c : goal.After-keep_body g) (tracks : TracksBank g.W.Outside c.args.self.now c.args.outside.now)
+    → HoldsOneOf tracks.header c.args.self.now.which c.args.self.now.base tracks.records (begun_of c.args.self.now) (held_of g.W.Outside c.keep_body.new.outside)
+held g c tracks = records g c tracks (held_of g.W.Outside c.keep_body.new.outside) (held_safe g c (shut_gate g c tracks))
 
 pub returns-in-Done-clause-crash : goal.returns-in-Done-clause-crash
-returns-in-Done-clause-crash g c tracks image seen was = let at = (goal.at.returns-in-Done-clause-crash g c).After-record_of in left g at tracks image seen (c.keep_body.ensures.crash (shut_gate g at tracks) image seen was)
+returns-in-Done-clause-crash g c = crash g (goal.at.returns-in-Done-clause-crash g c).After-keep_body
+
+pub returns-in_default-clause-crash : goal.returns-in_default-clause-crash
+returns-in_default-clause-crash g c = crash g (goal.at.returns-in_default-clause-crash g c).After-keep_body
 
 pub returns-in-Done-clause-full : goal.returns-in-Done-clause-full
-returns-in-Done-clause-full g c = (λ is. cc, λ is. absurd (not_full g (goal.at.returns-in-Done-clause-full g c).After-record_of is))
+returns-in-Done-clause-full g c = (λ is. cc, λ is. absurd (not_full g (goal.at.returns-in-Done-clause-full g c).After-keep_body is))
 
-pub returns-in-Unwritten-clause-unwritten : goal.returns-in-Unwritten-clause-unwritten
-returns-in-Unwritten-clause-unwritten g c is tracks image seen left =
-    let at = goal.at.returns-in-Unwritten-clause-unwritten g c in
-    let gate = shut_gate g at.After-record_of tracks in
-    same _ _ _ _ _ _ _ _ _ (ready g at.After-record_of tracks).ready image (c.keep_body.ensures.crash gate image seen left) (c.keep_body.ensures.unwritten c.in-Unwritten.is gate image seen left)
-
-pub returns-in-Doubt-clause-doubt : goal.returns-in-Doubt-clause-doubt
-returns-in-Doubt-clause-doubt g c is tracks image seen left =
-    let at = goal.at.returns-in-Doubt-clause-doubt g c in
-    let shut = shut_gate g at.After-record_of tracks in
-    let gate : c.self.inside.gate ≡ c.args.self.now.gate = ap (λ (bank : KeptBank). bank.gate) c.self.view_is in
-    let held = held_of g.W.Outside c.args.outside.now in
-    subst (λ (n : ℕ). stands (slice_set image n 0xA5) ≡ one_more (begun_of c.args.self.now) (stands held)) gate
-    (doubted _ _ _ _ _ _ _ _ _ (ready g at.After-record_of tracks).ready image (since g at.After-keep_body shut image seen left) (c.keep_body.ensures.doubt c.in-Doubt.is shut image seen left)
-    ∙ ap (λ (lines : List RecordLine). one_more lines (stands held)) (begun g at.After-record_of))
-
-pub returns-in-Unwritten-clause-records : goal.returns-in-Unwritten-clause-records
-returns-in-Unwritten-clause-records g c tracks = let at = goal.at.returns-in-Unwritten-clause-records g c in records g at.After-record_of tracks (held_of g.W.Outside c.keep_body.new.outside) (held_safe g at.After-keep_body (shut_gate g at.After-record_of tracks))
-
-pub returns-in-Doubt-clause-records : goal.returns-in-Doubt-clause-records
-returns-in-Doubt-clause-records g c tracks = let at = goal.at.returns-in-Doubt-clause-records g c in records g at.After-record_of tracks (held_of g.W.Outside c.keep_body.new.outside) (held_safe g at.After-keep_body (shut_gate g at.After-record_of tracks))
+pub returns-in_default-clause-full : goal.returns-in_default-clause-full
+returns-in_default-clause-full g c = (λ is. cc, λ is. absurd (not_full g (goal.at.returns-in_default-clause-full g c).After-keep_body is))
 
 pub returns-in-Done-clause-records : goal.returns-in-Done-clause-records
-returns-in-Done-clause-records g c tracks = let at = goal.at.returns-in-Done-clause-records g c in records g at.After-record_of tracks (held_of g.W.Outside c.keep_body.new.outside) (held_safe g at.After-keep_body (shut_gate g at.After-record_of tracks))
+returns-in-Done-clause-records g c = held g (goal.at.returns-in-Done-clause-records g c).After-keep_body
+
+pub returns-in_default-clause-records : goal.returns-in_default-clause-records
+returns-in_default-clause-records g c = held g (goal.at.returns-in_default-clause-records g c).After-keep_body
+
+pub returns-in_default-clause-kept : goal.returns-in_default-clause-kept
+returns-in_default-clause-kept g c = ap unbegun c.self.view_is ∙ sym (unkept_is c.args.self.now c.keep_body.result c.in_default.not-Done)
+
+pub returns-in_default-clause-left : goal.returns-in_default-clause-left
+returns-in_default-clause-left g c tracks =
+    let G = g.W.Outside in
+    let at = goal.at.returns-in_default-clause-left g c in
+    let shut = shut_gate g at.After-keep_body tracks in
+    let now = (ready g at.After-keep_body tracks).ready in
+    let gate : c.self.inside.gate ≡ c.args.self.now.gate = ap (λ (bank : KeptBank). bank.gate) c.self.view_is in
+    let stood = stands (held_of G c.args.outside.now) in
+    failed_leaves G c.args.self.now c.args.self.now c.args.outside.now c.keep_body.new.outside c.keep_body.result
+    (λ is image seen left. same _ _ _ _ _ _ _ _ _ now image (c.keep_body.ensures.crash shut image seen left) (c.keep_body.ensures.unwritten is shut image seen left))
+    (λ is image seen left.
+    subst (λ (n : ℕ). stands (slice_set image n 0xA5) ≡ one_more (begun_of c.args.self.now) stood) gate
+    (doubted _ _ _ _ _ _ _ _ _ now image (since g at.After-keep_body shut image seen left) (c.keep_body.ensures.doubt is shut image seen left) ∙ ap (λ (lines : List RecordLine). one_more lines stood) (begun g at.After-keep_body)))
 
 -- the lines that are noted are those that were begun
 noted_lines : (g : Over) (c : goal.After-note g) → c.note.new.newest ≡ noted c.self.inside.newest (begun_lines c.self.inside)
@@ -137,13 +137,13 @@ noted_lines g c =
 
 pub returns-in-Done-clause-kept : goal.returns-in-Done-clause-kept
 returns-in-Done-clause-kept g c =
-    let n = count g (goal.at.returns-in-Done-clause-kept g c).After-record_of in
+    let n = count g (goal.at.returns-in-Done-clause-kept g c).After-keep_body in
     let bank = c.self.inside in
-    with_record_is bank c.args.self.now (bank.gate + (11 + c.from-bytes.result)) c.note.new.newest c.self.view_is (omega (arith, sized g (goal.at.returns-in-Done-clause-kept g c).After-record_of)) (noted_lines g (goal.at.returns-in-Done-clause-kept g c).After-note)
+    with_record_is bank c.args.self.now (bank.gate + (11 + c.from-bytes.result)) c.note.new.newest c.self.view_is (omega (arith, sized g (goal.at.returns-in-Done-clause-kept g c).After-keep_body)) (noted_lines g (goal.at.returns-in-Done-clause-kept g c).After-note)
 
 pub returns-in-Done-clause-done : goal.returns-in-Done-clause-done
 returns-in-Done-clause-done g c is tracks =
-    let at = (goal.at.returns-in-Done-clause-done g c).After-record_of in
+    let at = (goal.at.returns-in-Done-clause-done g c).After-keep_body in
     let n = count g at in
     let now = ready g at tracks in
     let bank = c.self.inside in
@@ -168,8 +168,8 @@ returns-in-Done-clause-done g c is tracks =
       header = store.said ∙ sym now.tracks.store.said;
     }
 
-pub invariant_of-self-in-Done : goal.invariant_of-self-in-Done
-invariant_of-self-in-Done g c =
+pub invariant_of-self : goal.invariant_of-self
+invariant_of-self g c =
     let old = c.self.invariant in
     record {
       some_bytes = old.some_bytes;

@@ -1,4 +1,5 @@
 use Rattle.redo_journal.proofs.Common.{◌≡◌, ◌+◌, ◌*◌, ◌<◌, List, ℕ, ap, subst, ◌∙◌, PageSize, entry_bytes, number_at, Failed, held_of, Record, KeptBank, place_of, IsRecordAt, IsCounted}
+use Rattle.redo_journal.specs.Records.{IsFound}
 use Rattle.std.specs.Prelude.{IsSome, Result, Ok, Err, IfOk}
 use Rattle.redo_journal.proofs.RecordLemmas.{counted}
 use Rattle.redo_journal.proofs.bank.Bank.record_at.Goals as goal
@@ -16,11 +17,17 @@ by_result held bank place area bytes some page size many is (Ok found) read fits
     (subst (λ (n : ℕ). place + 11 + entry_bytes bank.page * number_at held (area + place + 1) 2 < n → found.next ≡ place + 11 + entry_bytes bank.page * found.count) many next)
 by_result held bank place area bytes some page size many is (Err failed) read fits = tt
 
-pub returns-clause-read : goal.returns-clause-read
-returns-clause-read g c =
+pub returns : goal.returns
+returns g c =
     let bank = c.args.self.now in
-    by_result (held_of g.W.Outside c.args.outside.now) bank c.args.place (c.place_of-area.result + 8) c.self.inside.bank_bytes (IsSome (g.W.Outside.held c.args.outside.now)) c.self.inside.page
-    (ap (λ (those : KeptBank). those.page) c.self.view_is)
-    (ap (λ (those : KeptBank). those.bank_bytes) c.self.view_is)
-    (ap (λ (n : ℕ). n + 8) (c.place_of-area.ensures.value ∙ ap (λ (those : KeptBank). place_of those.which those.bank_bytes) c.self.view_is))
-    c.read_record.result c.read_record.ensures.read c.read_record.ensures.fits
+    record {
+      asks = c.read_record.ensures.asks;
+      found = subst (λ (those : KeptBank). IfOk c.read_record.result (IsFound those.page those.bank_bytes c.args.place)) c.self.view_is c.read_record.ensures.found;
+      read =
+          by_result (held_of g.W.Outside c.args.outside.now) bank c.args.place (c.place_of-area.result + 8) c.self.inside.bank_bytes (IsSome (g.W.Outside.held c.args.outside.now)) c.self.inside.page
+          (ap (λ (those : KeptBank). those.page) c.self.view_is)
+          (ap (λ (those : KeptBank). those.bank_bytes) c.self.view_is)
+          (ap (λ (n : ℕ). n + 8) (c.place_of-area.ensures.value ∙ ap (λ (those : KeptBank). place_of those.which those.bank_bytes) c.self.view_is))
+          c.read_record.result c.read_record.ensures.read c.read_record.ensures.fits;
+      cause = c.read_record.ensures.cause;
+    }

@@ -1,4 +1,5 @@
-use Rattle.restart.proofs.Common.{◌≡◌, ℕ, ◌+◌, ◌*◌, ◌≤◌, List, [], length, get_or, ap, subst, sym, IsSome, ◌∙◌, arith, refl, ◌<◌, Option, None, unwrap_or, Layout, page_count, PageSize, page_bytes, line_bytes, page-lines, home_at, total, home_of, bytes_at, held_of, asks_on, asks_one, told_some, area_end, read_is, KeptStore, Shows, newest_over}
+use Rattle.restart.proofs.Common.{◌≡◌, ℕ, ◌+◌, ◌*◌, ◌≤◌, List, [], length, get_or, ap, subst, sym, IsSome, ◌∙◌, arith, refl, ◌<◌, Option, None, is_some, slice_range, unwrap_or, Layout, page_count, PageSize, page_bytes, line_bytes, page-lines, home_at, total, home_of, bytes_at, held_of, asks_on, asks_one, told_some, area_end, read_is, KeptBank, KeptStore, Shows, newest_over}
+use Rattle.std.specs.List.{list_any}
 use Rattle.restart.proofs.Compose.{Composed, composed_none, composed_more, composed_at_home, shown_page, placed_at}
 use Rattle.restart.proofs.ShowLemmas.{end_inside}
 use Rattle.restart.proofs.durable.Durable.read_page.Goals as goal
@@ -64,7 +65,7 @@ returns-then-not-holds_some-clause-read g c shown =
     ∙ ap (λ (n : ℕ). bytes_at held n (length c.args.into.now)) c.home_at.ensures.value
     ∙ ap (bytes_at held (home_at store.header first)) sized in
     let at_home : Composed store.header.directory.page held (home_of held store.header) store.bank.newest first 16 c.read_at.new.into =
-    composed_at_home store.header.directory.page held (home_of held store.header) store.bank.newest first c.read_at.new.into (omega (arith, shows.fits.lines, within, same)) (sym c.holds_some.ensures ∙ c.if-not-holds_some.true) (composed_none held store.header store.bank.newest first c.read_at.new.into read) in
+    composed_at_home store.header.directory.page held (home_of held store.header) store.bank.newest first c.read_at.new.into (omega (arith, shows.fits.lines, within, same)) (ap (λ (bank : KeptBank). list_any is_some (slice_range bank.newest first (first + 16))) (sym c.chosen.ensures) ∙ sym c.holds_some.ensures ∙ c.if-not-holds_some.true) (composed_none held store.header store.bank.newest first c.read_at.new.into read) in
     shown_page held store shows c.read_at.new.into c.args.page within whole
     (subst (λ (n : ℕ). Composed store.header.directory.page held (home_of held store.header) store.bank.newest n 16 c.read_at.new.into) same at_home)
 

@@ -130,7 +130,7 @@ returns-in-Doubt-clause-went g c = λ begins sure over at.
     (c.committed_in-committed.ensures.activation ∙ ap (λ (a : Activity). number_in a.seating seat) c.in_default.ensures.kept)
     (c.committed_in-committed.ensures.steps ∙ ap (λ (a : Activity). (sitter a.seating seat).rows + 1) c.in_default.ensures.kept)
     refl c.enter_order-in-Doubt.ensures.order c.args.tally.now (roomy c.record.new.store.bank).gate
-    (c.commit.ensures.doubt_cause c.in-Doubt.is) (c.commit.ensures.crash tracks) (c.commit.ensures.doubt c.in-Doubt.is tracks)
+    c.in-Doubt.ensures.counted (c.commit.ensures.crash tracks) (c.in-Doubt.ensures.left tracks)
 
 pub returns-in-Unwritten-clause-sound : goal.returns-in-Unwritten-clause-sound
 returns-in-Unwritten-clause-sound g c =
@@ -150,7 +150,7 @@ returns-in-Unwritten-clause-went g c = λ begins sure over at.
     let gives = c.in_default.ensures.laid over.committed at.now at.follows at.at at.goes in
     let tracks = tracked G s seat c.requires.sound before after over at.now lines gives sure c.record.new.store begun in
     went-unwritten G s seat c.requires.sound before after over at.now lines gives c.number-number.result (c.number-number.ensures ∙ ap number_of begun) _
-    refl refl c.args.tally.now (c.commit.ensures.unwritten_cause c.in-Unwritten.is) (c.commit.ensures.unwritten c.in-Unwritten.is tracks)
+    refl refl c.args.tally.now c.in-Unwritten.ensures.counted (c.in-Unwritten.ensures.left tracks)
 
 pub returns-in-Doubt-clause-ordered : goal.returns-in-Doubt-clause-ordered
 returns-in-Doubt-clause-ordered g c = (
@@ -169,10 +169,10 @@ returns-in-Doubt-clause-committing g c =
     closes-now G s (record entered { closed = true }) c.args.seat Doubt there c.args.outside.now c.commit.new.outside c.requires.taken (ap activity others ∙ c.in_default.ensures.kept) c.in_default.ensures.begun c.in_default.ensures.record
     (record {
       only = c.commit.ensures.only;
-      rose = c.commit.ensures.doubt_cause c.in-Doubt.is;
-      kept = subst (λ (store : KeptStore). IsKeptAfter Doubt (roomy there.bank) there.bank store.bank) (sym (ap (λ (n : Session). n.store) others)) (subst (λ (answer : Kept). IsKeptAfter answer (roomy there.bank) there.bank c.commit.new.self.bank) c.in-Doubt.is c.commit.ensures.kept);
+      rose = c.in-Doubt.ensures.counted;
+      kept = subst (λ (store : KeptStore). IsKeptAfter Doubt (roomy there.bank) there.bank store.bank) (sym (ap (λ (n : Session). n.store) others)) c.in-Doubt.ensures.kept;
       crash = c.commit.ensures.crash;
-      left = c.commit.ensures.doubt c.in-Doubt.is;
+      left = c.in-Doubt.ensures.left;
     })
 
 pub returns-in-Unwritten-clause-committing : goal.returns-in-Unwritten-clause-committing
@@ -183,8 +183,8 @@ returns-in-Unwritten-clause-committing g c =
     closes-now G s _ c.args.seat Unwritten there c.args.outside.now c.commit.new.outside c.requires.taken c.in_default.ensures.kept c.in_default.ensures.begun c.in_default.ensures.record
     (record {
       only = c.commit.ensures.only;
-      rose = c.commit.ensures.unwritten_cause c.in-Unwritten.is;
-      kept = subst (λ (answer : Kept). IsKeptAfter answer (roomy there.bank) there.bank c.commit.new.self.bank) c.in-Unwritten.is c.commit.ensures.kept;
+      rose = c.in-Unwritten.ensures.counted;
+      kept = c.in-Unwritten.ensures.kept;
       crash = c.commit.ensures.crash;
-      left = c.commit.ensures.unwritten c.in-Unwritten.is;
+      left = c.in-Unwritten.ensures.left;
     })
