@@ -1,13 +1,13 @@
 -- Labels that stand nowhere before.
-use Rattle.romp_asm.proofs.Common.{◌≡◌, ℕ, ◌+◌, ◌<◌, ◌≤◌, ◌||◌, Bool, true, false, List, length, get_or, Bor, Option, Some, None, refl, sym, ap, ◌∙◌, arith, inl, inr, option_map_or, BTreeMap, le-ltb, cases_lt, get_or_default, Statement, Place, is_labelled, found_in, stands_before, repeated_in, noted, IsNew, AreAlone}
+use Rattle.romp_asm.proofs.Common.{◌≡◌, ℕ, ◌+◌, ◌<◌, ◌≤◌, ◌||◌, Bool, true, false, List, length, get_or, Bor, Option, Some, None, refl, sym, ap, ◌∙◌, arith, inl, inr, option_map_or, HashMap, le-ltb, cases_lt, get_or_default, Statement, Place, is_labelled, found_in, stands_before, repeated_in, noted, IsNew, AreAlone}
 
 -- neither of two
 pub or_none : (one two : Bool) → (one || two) ≡ false → (one ≡ false) × (two ≡ false)
 or_none true two none = absurd (let no : ⊥ = cc in no)
 or_none false two none = (refl, none)
 
-abbrev Labels : Type 0
-Labels = BTreeMap (Bor (List ℕ)) Place
+abbrev Labels : Type 0 → Type 0
+Labels S = HashMap (Bor (List ℕ)) Place S
 
 -- what doesn't stand before a statement doesn't so once a later one is noted
 stays_alone : (index : ℕ) (found : Option Place) (labelled : Bool) (place : Place) → index ≤ place.statement → stands_before index found ≡ false → stands_before index (noted found labelled place) ≡ false
@@ -15,7 +15,7 @@ stays_alone index (Some before) labelled place le is = is
 stays_alone index None true place le is = le-ltb place.statement index le
 stays_alone index None false place le is = refl
 
-module _ (old new : Labels) (statement : Statement) (place : Place) (noted_is : (word : List ℕ) → found_in new word ≡ noted (found_in old word) (is_labelled word statement) place) where
+module _ {S : Type 0} (old new : Labels S) (statement : Statement) (place : Place) (noted_is : (word : List ℕ) → found_in new word ≡ noted (found_in old word) (is_labelled word statement) place) where
   repeated_on : (other : Statement) (index : ℕ) → index ≤ place.statement → repeated_in old index other ≡ false → repeated_in new index other ≡ false
   repeated_on other index le is = by_label other.label is
     where

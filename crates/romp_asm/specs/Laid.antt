@@ -1,5 +1,5 @@
 -- What is laid, statement by statement.
-use Rattle.std.specs.Prelude.{◌≡◌, ℕ, ℤ, ◌++◌, List, [], ◌∷◌, length, take, Bool, Option, slice_index_or, ◌<◌, Result, Ok, Err}
+use Rattle.std.specs.Prelude.{◌≡◌, ℕ, ℤ, ◌++◌, List, [], length, take, Bool, Option, slice_index_or, ◌<◌, Result, Ok, Err}
 use Rattle.asm_parse.specs.declared.statement.Body.{Body}
 use Rattle.asm_parse.specs.declared.statement.Statement.{Statement}
 use Rattle.romp_asm.specs.Labels.{addresses_in, repeated_in}

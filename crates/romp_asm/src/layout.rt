@@ -14,7 +14,7 @@ use super::value::{Givers, Labels, Scope, labels_of, tables_of};
 use asm_parse::{AsmFault, LineFault, Part, Statement, Statements, parse};
 use flat_machine::Program;
 use std::alloc::Global;
-use std::collections::BTreeMap;
+use std::collections::HashMap;
 
 /// The program of a source.
 ///
@@ -49,7 +49,7 @@ pub fn assemble(alloc: Global, statements: &[Statement]) -> Result<Program, AsmF
     ensures { IsAnswer parts_of result (assembled statements.now) }
 {
     let table = labels_of(alloc, statements)?;
-    let givers = BTreeMap::new(alloc);
+    let givers = HashMap::new(alloc);
     let scope = Scope {
         own: &table,
         tables: &[],

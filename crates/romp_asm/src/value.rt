@@ -10,7 +10,7 @@ use super::size::size_of;
 use arrayvec::ArrayVec;
 use asm_parse::{Expr, Operand, Part, Statement, Statements};
 use std::alloc::{AllocError, Global};
-use std::collections::BTreeMap;
+use std::collections::HashMap;
 
 /// Where a label stands: its statement, counted from 0, and its address.
 #[derive(Clone, Copy)]
@@ -20,10 +20,10 @@ pub(crate) struct Place {
 }
 
 /// The labels of statements, each where it stands first.
-pub(crate) type Labels<'a> = BTreeMap<&'a [u8], Place>;
+pub(crate) type Labels<'a> = HashMap<&'a [u8], Place>;
 
 /// The source that gives a word to the others, by its number.
-pub type Givers<'a> = BTreeMap<&'a [u8], usize>;
+pub type Givers<'a> = HashMap<&'a [u8], usize>;
 
 /// The labels of statements, whether one of them stands twice, and where the statements end.
 #[derive(Drop)]
@@ -66,7 +66,7 @@ pub(crate) fn labels_of(alloc: Global, statements: &[Statement]) -> Result<Table
     ensures found { IfOk result (λ table. (word : List ℕ) → found_in table.labels word ≡ place_of statements.now word) }
     ensures alone { IfOk result (λ table. table.repeats ≡ false → AreAlone table.labels statements.now (length statements.now)) }
 {
-    let mut labels = BTreeMap::new(alloc);
+    let mut labels = HashMap::new(alloc);
     let mut repeats = false;
     let mut address: u64 = 0;
     for (index, statement) in statements.iter().enumerate() {
@@ -106,7 +106,7 @@ fn labels_kept(alloc: Global, statements: &Statements, start: u64) -> Result<Tab
     ensures table { IfOk result (λ table. IsTable table start statements.now) }
     ensures small { IfOk result (λ table. total statements.now ≤ length statements.now * 2 ^ 32) }
 {
-    let mut labels = BTreeMap::new(alloc);
+    let mut labels = HashMap::new(alloc);
     let mut repeats = false;
     let mut address = start;
     for index in 0..statements.len() {

@@ -11,7 +11,7 @@ ghost use Rattle.romp_link.specs.Exported.{AreExports, HasLabels, told_of};
 use asm_parse::{Body, Part, Statements};
 use romp_asm::Givers;
 use std::alloc::{AllocError, Global};
-use std::collections::BTreeMap;
+use std::collections::HashMap;
 
 /// The source of an export lacks the label.
 const NO_EXPORT: u8 = 15;
@@ -19,7 +19,7 @@ const NO_EXPORT: u8 = 15;
 const DOUBLE_EXPORT: u8 = 16;
 
 /// The labels of a source.
-type Labels<'a> = BTreeMap<&'a [u8], ()>;
+type Labels<'a> = HashMap<&'a [u8], ()>;
 
 /// Why a line can't export a label.
 #[derive(Clone, Copy)]
@@ -40,7 +40,7 @@ pub(crate) fn exports_of(alloc: Global, sources: &[Statements]) -> Result<Export
     ensures { IfOk result (λ exports. AreExports exports sources.now) }
 {
     let mut exports = Exports {
-        givers: BTreeMap::new(alloc),
+        givers: HashMap::new(alloc),
         fault: None,
     };
     for (source, statements) in sources.iter().enumerate() {
@@ -78,7 +78,7 @@ fn has_exports(statements: &Statements) -> bool
 fn labels_of(alloc: Global, statements: &Statements) -> Result<Labels<'_>, AllocError>
     ensures { IfOk result (λ labels. HasLabels labels statements.now) }
 {
-    let mut labels = BTreeMap::new(alloc);
+    let mut labels = HashMap::new(alloc);
     for index in 0..statements.len() {
         match statements.at(index).label {
             Some(label) => {
