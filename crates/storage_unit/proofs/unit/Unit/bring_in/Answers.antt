@@ -6,8 +6,11 @@ use Rattle.storage_unit.proofs.unit.Unit.bring_in.Goals as goal
 
 pub returns-then-bits-clause-came : goal.returns-then-bits-clause-came
 returns-then-bits-clause-came g c =
-    inr (refl, is-kept c.args.self.now c.bring-slot.new.self c.args.page c.args.keep c.bring-slot.result.frame _ c.bring-slot.ensures.brought c.bring-slot.ensures.rest refl c.lay_kept.new.self c.lay_kept.ensures
-    (sym all-lines ∙ ap lines_of_bits (sym c.if-bits.true) ∙ c.bits.ensures ∙ c.written.ensures) c.requires.page)
+    inr (
+      refl,
+      is-kept c.args.self.now c.bring-slot.new.self c.args.page c.args.keep c.bring-slot.result.frame _ c.bring-slot.ensures.brought c.bring-slot.ensures.rest refl c.lay_kept.new.self c.lay_kept.ensures
+          (sym all-lines ∙ ap lines_of_bits (sym c.if-bits.true) ∙ c.bits.ensures ∙ c.written.ensures) c.requires.page,
+    )
 
 pub returns-in-Ok-clause-came : goal.returns-in-Ok-clause-came
 returns-in-Ok-clause-came g c = inl (
