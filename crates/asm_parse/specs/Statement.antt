@@ -81,14 +81,14 @@ body_of (token.Word word ∷ operands) = named_body word operands
 body_of _ = Err 2
 
 -- a statement on a line with this number
-abbrev pub stated : ℕ → Option (List ℕ) → Result Body ℕ → Result (Option Statement) ℕ
-stated number label (Ok body) = Ok (Some (record { line = number; label = label; body = body }))
-stated number label (Err kind) = Err kind
+abbrev pub on_line : ℕ → Option (List ℕ) → Result Body ℕ → Result (Option Statement) ℕ
+on_line number label (Ok body) = Ok (Some (record { line = number; label = label; body = body }))
+on_line number label (Err kind) = Err kind
 
 -- the statement of a line's tokens; a line without tokens has none
 abbrev pub statement_of : ℕ → List Token → Result (Option Statement) ℕ
 statement_of number [] = Ok None
-statement_of number (first ∷ rest) = stated number (label_of (first ∷ rest)) (body_of (behind_label (first ∷ rest)))
+statement_of number (first ∷ rest) = on_line number (label_of (first ∷ rest)) (body_of (behind_label (first ∷ rest)))
 
 -- the statement of tokens, if there are no bad ones
 abbrev pub statement_by : ℕ → Result (List Token) ℕ → Result (Option Statement) ℕ

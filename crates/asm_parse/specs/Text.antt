@@ -1,7 +1,9 @@
 -- The statements of a text.
 use Rattle.std.specs.Prelude.{◌≡◌, ℕ, ◌+◌, ◌==◌, Bool, List, [], ◌∷◌, ◌++◌, Option, Some, None, Result, Ok, Err}
 use Rattle.std.specs.List.{slice_split}
+use Rattle.asm_parse.specs.declared.fault.LineFault.{LineFault}
 use Rattle.asm_parse.specs.declared.statement.Statement.{Statement}
+use Rattle.asm_parse.specs.Answers.{IsFaultOf}
 use Rattle.asm_parse.specs.Statement.{line_of}
 
 -- a line's answer, with its line where it is a fault
@@ -10,7 +12,7 @@ at_line number (Ok value) = Ok value
 at_line number (Err kind) = Err (number, kind)
 
 -- a list of statements gains the one of a line, if the line has one
-abbrev pub Gains : List Statement → List Statement → Result (Option Statement) (ℕ × ℕ) → Type 0
+abbrev pub Gains : {E : Type 0} → List Statement → List Statement → Result (Option Statement) E → Type 0
 Gains old new (Ok (Some statement)) = new ≡ old ++ statement ∷ []
 Gains old new (Ok None) = new ≡ old
 Gains old new (Err fault) = ⊥
@@ -18,6 +20,11 @@ Gains old new (Err fault) = ⊥
 -- whether a byte is a line feed
 abbrev pub is_feed : ℕ → Bool
 is_feed byte = byte == 10
+
+-- the answer to an appending: the list gains the statement of this reading, or the fault is the reading's and the list stays
+abbrev pub Adds : {A : Type 0} → Result A LineFault → List Statement → List Statement → Result (Option Statement) ℕ → Type 0
+Adds (Ok _) old new reading = Gains old new reading
+Adds (Err fault) old new reading = IsFaultOf fault reading × (new ≡ old)
 
 -- the lines of a text, between its line feeds; what stands behind the last one is a line too
 abbrev pub lines_of : List ℕ → List (List ℕ)

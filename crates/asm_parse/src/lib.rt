@@ -15,7 +15,7 @@ mod word;
 pub use fault::{AsmFault, LineFault};
 pub use form::{Form, form_of};
 pub use head::Part;
-pub use line::{first_line, parse, statement_of};
+pub use line::{first_line, parse};
 pub use statement::{Body, Expr, Operand, Statement};
 pub use statements::Statements;
 pub use token::{Token, tokens_into};

@@ -1,10 +1,10 @@
-ghost use Rattle.std.specs.Prelude.{◌≡◌, ◌+◌, ◌≤◌, ◌<◌, ◌^◌, ◌==◌, ◌∷◌, not, nat_eq, codes, length, position, Some, IfOk, IfSome, MatchResult};
+ghost use Rattle.std.specs.Prelude.{◌≡◌, ◌+◌, ◌≤◌, ◌<◌, ◌^◌, ◌==◌, ◌∷◌, not, nat_eq, codes, length, position, Some, Ok, IfOk, IfSome, MatchResult};
 ghost use Rattle.std.specs.List.{before_first, starts_with};
 ghost use Rattle.std.specs.Option.{option_map};
 ghost use Rattle.asm_parse.specs.Cut.{behind_first};
 ghost use Rattle.asm_parse.specs.Operand.{expression_of};
-ghost use Rattle.asm_parse.specs.Statement.{access_of, behind_label, body_of, directive_of, export_of, instruction_of, label_of, line_of, named_body, space_of, statement_of, window_of};
-ghost use Rattle.asm_parse.specs.Text.{Gains, at_line, is_feed, parsed};
+ghost use Rattle.asm_parse.specs.Statement.{access_of, behind_label, body_of, directive_of, export_of, instruction_of, label_of, line_of, on_line, space_of, window_of};
+ghost use Rattle.asm_parse.specs.Text.{Adds, Gains, at_line, is_feed, parsed};
 ghost use Rattle.asm_parse.specs.Answers.{IsAnswer, IsTextFaultOf};
 
 use super::fault::{AsmFault, LineFault, MNEMONIC, OPERANDS};
@@ -53,27 +53,28 @@ fn push_line(
         (λ _. Gains statements.old.items statements.new.items (at_line number (line_of number line.now)))
         (λ fault. IsTextFaultOf fault (at_line number (line_of number line.now))) }
 {
-    match parse_in(room, number, line)? {
-        Some(statement) => {
-            statements.push(statement)?;
-            Ok(())
-        }
-        None => Ok(()),
-    }
-}
-
-/// The statement of one line without its line feed, whose tokens lie in the room; none where the line has neither a label nor a statement.
-fn parse_in(room: &mut Vec<Token>, number: u32, line: &[u8]) -> Result<Option<Statement>, AsmFault>
-    ensures { IsAnswer (λ statement. statement) result (at_line number (line_of number line.now)) }
-{
-    match tokens_into(room, line) {
-        Ok(()) => match statement_of(number, room.as_slice()) {
-            Ok(statement) => Ok(statement),
-            Err(kind) => Err(AsmFault::Fault { line: number, kind }),
-        },
+    match push_tokens(room, statements, number, line) {
+        Ok(()) => Ok(()),
         Err(LineFault::Kind(kind)) => Err(AsmFault::Fault { line: number, kind }),
         Err(LineFault::Memory) => Err(AsmFault::Memory),
     }
+}
+
+/// Appends the statement of a line, if it has one, by its tokens.
+fn push_tokens(
+    room: &mut Vec<Token>,
+    statements: &mut Vec<Statement>,
+    number: u32,
+    line: &[u8],
+) -> Result<(), LineFault>
+    ensures { Adds result statements.old.items statements.new.items (line_of number line.now) }
+{
+    tokens_into(room, line)?;
+    if room.is_empty() {
+        return Ok(());
+    }
+    let (label, rest) = split_label(room.as_slice());
+    push_body(statements, number, label, rest)
 }
 
 /// The first line of a text, and what stands behind its line feed, if it has one.
@@ -97,28 +98,8 @@ fn feed_in(text: &[u8]) -> Option<usize>
     text.iter().position(|byte| *byte == b'\n')
 }
 
-/// The statement of a line's tokens; none where there are no tokens.
-///
-/// # Errors
-///
-/// The kind of the line's fault, 2 or 3.
-pub fn statement_of(number: u32, tokens: &[Token]) -> Result<Option<Statement>, u8>
-    ensures { result ≡ statement_of number tokens.now }
-{
-    if tokens.is_empty() {
-        return Ok(None);
-    }
-    let (label, rest) = split_label(tokens);
-    let body = body_of(rest)?;
-    Ok(Some(Statement {
-        line: number,
-        label,
-        body,
-    }))
-}
-
 /// The label that tokens begin with, if they do, and the tokens behind it.
-fn split_label(tokens: &[Token]) -> (Option<Word>, &[Token])
+pub(crate) fn split_label(tokens: &[Token]) -> (Option<Word>, &[Token])
     ensures label { result.0 ≡ label_of tokens.now }
     ensures behind { result.1.now ≡ behind_label tokens.now }
 {
@@ -130,35 +111,55 @@ fn split_label(tokens: &[Token]) -> (Option<Word>, &[Token])
     }
 }
 
-/// What tokens say behind a label.
-fn body_of(tokens: &[Token]) -> Result<Body, u8>
-    ensures { result ≡ body_of tokens.now }
+/// Appends a statement with what tokens say behind its label.
+pub(crate) fn push_body(
+    statements: &mut Vec<Statement>,
+    line: u32,
+    label: Option<Word>,
+    tokens: &[Token],
+) -> Result<(), LineFault>
+    ensures { Adds result statements.old.items statements.new.items (on_line line label (body_of tokens.now)) }
 {
     match tokens {
-        [] => Ok(Body::Nothing),
-        [Token::Word(word), operands @ ..] => named_body(word.as_str(), operands),
-        _ => Err(MNEMONIC),
+        [] => push(statements, line, label, Body::Nothing),
+        [Token::Word(word), operands @ ..] => match by_name(word.as_bytes()) {
+            Some(op) => push_instruction(statements, line, label, op, operands),
+            None => match directive_of(word.as_str(), operands) {
+                Ok(body) => push(statements, line, label, body),
+                Err(kind) => Err(LineFault::Kind(kind)),
+            },
+        },
+        _ => Err(LineFault::Kind(MNEMONIC)),
     }
 }
 
-/// The statement that begins with this word.
-fn named_body(word: &str, tokens: &[Token]) -> Result<Body, u8>
-    ensures { result ≡ named_body word.now tokens.now }
-{
-    match by_name(word.as_bytes()) {
-        Some(op) => instruction_of(op, tokens),
-        None => directive_of(word, tokens),
-    }
-}
-
-/// An instruction with its operands.
-fn instruction_of(op: Op, tokens: &[Token]) -> Result<Body, u8>
-    ensures { result ≡ instruction_of op tokens.now }
+/// Appends an instruction with its operands.
+fn push_instruction(
+    statements: &mut Vec<Statement>,
+    line: u32,
+    label: Option<Word>,
+    op: Op,
+    tokens: &[Token],
+) -> Result<(), LineFault>
+    ensures { Adds result statements.old.items statements.new.items (on_line line label (instruction_of op tokens.now)) }
 {
     match operands_of(sorts_of(form_of(op)), tokens) {
-        Some(operands) => Ok(Body::Inst(op, operands)),
-        None => Err(OPERANDS),
+        Some(operands) => push(statements, line, label, Body::Inst(op, operands)),
+        None => Err(LineFault::Kind(OPERANDS)),
     }
+}
+
+/// Appends a statement by its parts.
+fn push(
+    statements: &mut Vec<Statement>,
+    line: u32,
+    label: Option<Word>,
+    body: Body,
+) -> Result<(), LineFault>
+    ensures { Adds result statements.old.items statements.new.items (on_line line label (Ok body)) }
+{
+    statements.push(Statement { line, label, body })?;
+    Ok(())
 }
 
 /// A statement that is no instruction.

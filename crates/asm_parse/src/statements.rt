@@ -1,11 +1,16 @@
-ghost use Rattle.std.specs.Prelude.{◌≡◌, ◌+◌, ◌≤◌, ◌<◌, ◌^◌, [], ◌∷◌, ◌++◌, length, slice_index_or, Some, OnOk, OnErr};
+ghost use Rattle.std.specs.Prelude.{◌≡◌, ◌+◌, ◌≤◌, ◌<◌, ◌^◌, [], length, slice_index_or, Some, Ok};
 ghost use Rattle.asm_parse.specs.Kept.{stated};
+ghost use Rattle.asm_parse.specs.Statement.{body_of, on_line, statement_of};
+ghost use Rattle.asm_parse.specs.Text.{Adds};
 ghost use Rattle.asm_parse.specs.declared.statement.Body.TheVariants.{Nothing};
 
+use super::fault::LineFault;
 use super::head::{Head, Part};
+use super::line::{push_body, split_label};
 use super::statement::{Body, Statement};
+use super::token::Token;
 use super::word::Word;
-use std::alloc::{AllocError, Global};
+use std::alloc::Global;
 use std::marker::Model;
 
 /// Statements, one after another. A line with a label alone takes no room for a body. Contracts see their list.
@@ -56,41 +61,50 @@ impl Statements {
         self.wholes.clear();
     }
 
-    /// Appends a statement. Where there is no memory, the statements stay as they were.
-    pub fn push(&mut self, statement: Statement) -> Result<(), AllocError>
+    /// Appends the statement of a line's tokens, if there are tokens. Otherwise, and where it is refused, the statements
+    /// stay as they were.
+    ///
+    /// # Errors
+    ///
+    /// [`LineFault::Kind`] with the kind of the line's fault, 2 or 3; [`LineFault::Memory`] where there is no memory.
+    pub fn push_line(&mut self, number: u32, tokens: &[Token]) -> Result<(), LineFault>
         requires { length self.old < 2 ^ 31 }
-        ensures pushed { OnOk result (self.new ≡ self.old ++ statement ∷ []) }
-        ensures kept { OnErr result (self.new ≡ self.old) }
+        ensures { Adds result self.old self.new (statement_of number tokens.now) }
     {
-        let Statement { line, label, body } = statement;
-        match (label, body) {
-            (Some(label), Body::Nothing) => self.push_bare(line, label),
-            (label, body) => self.push_whole(Statement { line, label, body }),
+        if tokens.is_empty() {
+            return Ok(());
+        }
+        match split_label(tokens) {
+            (Some(label), []) => self.push_bare(number, label),
+            (label, rest) => self.push_whole(number, label, rest),
         }
     }
 
     /// Appends a statement that is a label alone.
-    fn push_bare(&mut self, line: u32, label: Word) -> Result<(), AllocError>
-        ensures pushed { OnOk result (self.new ≡ self.old ++ (record { line = line; label = Some label; body = Nothing }) ∷ []) }
-        ensures kept { OnErr result (self.new ≡ self.old) }
+    fn push_bare(&mut self, line: u32, label: Word) -> Result<(), LineFault>
+        ensures { Adds result self.old self.new (on_line line (Some label) (Ok Nothing)) }
     {
         self.heads.push(Head::Bare(line, label))?;
         Ok(())
     }
 
-    /// Appends a statement whole.
-    fn push_whole(&mut self, statement: Statement) -> Result<(), AllocError>
+    /// Appends a statement with what tokens say behind its label, whole.
+    fn push_whole(
+        &mut self,
+        line: u32,
+        label: Option<Word>,
+        tokens: &[Token],
+    ) -> Result<(), LineFault>
         requires { length self.old < 2 ^ 31 }
-        ensures pushed { OnOk result (self.new ≡ self.old ++ statement ∷ []) }
-        ensures kept { OnErr result (self.new ≡ self.old) }
+        ensures { Adds result self.old self.new (on_line line label (body_of tokens.now)) }
     {
         let place = self.wholes.len() as u32;
-        self.wholes.push(statement)?;
-        match self.heads.push(Head::Whole(place)) {
+        self.heads.push(Head::Whole(place))?;
+        match push_body(&mut self.wholes, line, label, tokens) {
             Ok(()) => Ok(()),
-            Err(_) => {
-                let _ = self.wholes.pop();
-                Err(AllocError)
+            Err(fault) => {
+                let _ = self.heads.pop();
+                Err(fault)
             }
         }
     }

@@ -1,9 +1,9 @@
 -- The stages put together: a fault that meets no conflict, and one whose contest left none, go on; and the second attempt of
 -- each finds its lines there.
-use Rattle.desk_law.proofs.Common.{false, nat_lt, ◌≡◌, refl, ℕ, ◌+◌, true, List, [], ◌∷◌, length, filter, map, Some, ap, sym, ◌∙◌, subst, is_fine_page, has, Lines, with_whole_pages, Plain, On, row, after, Desk, Entry, with_entry, conflicts_of, Word, Fine, Counts, Turning, Going, Attempt, Fetched, fetches, instruction, lines_written, touched_pages, refused_pages, gets, asks, AreThere, AreAlike, over_all, requested, IsTableBut, kept_conflict, AreStatesBut, IsTold, Reads, gone_on, row_done, IsAmong, due_to, IsReady, served_attempt, IsOrderly}
+use Rattle.desk_law.proofs.Common.{false, nat_lt, ◌≡◌, refl, ℕ, ◌+◌, true, List, [], ◌∷◌, length, filter, map, Some, ap, sym, ◌∙◌, subst, is_fine_page, Lines, with_whole_pages, Plain, On, row, after, Desk, Entry, with_entry, conflicts_of, Word, Fine, Counts, Turning, Going, Attempt, Fetched, fetches, instruction, lines_written, touched_pages, refused_pages, gets, asks, AreAlike, over_all, requested, IsTableBut, kept_conflict, AreStatesBut, IsTold, Reads, gone_on, row_done, IsAmong, due_to, IsReady, served_attempt, IsOrderly}
 use Rattle.desk_law.proofs.AttemptsOnCurrent.{wanted-is}
 use Rattle.desk_law.proofs.KeptTables.{conflicts-kept}
-use Rattle.desk_law.proofs.ServedEffect.{got, served-there}
+use Rattle.desk_law.proofs.ServedEffect.{got}
 use Rattle.desk_law.proofs.ServesConflicts.{IsContesting, contesting-begins}
 use Rattle.desk_law.proofs.ServesToLocks.{asked_for, serve-asks, serve-ready, serve-ends}
 use Rattle.desk_law.proofs.ToldSteps.{HasServed, told-served}
@@ -41,9 +41,6 @@ module _ (desk : Desk) (counts : Counts) (entry : Entry) (now shown : Plain) (by
     (locks requests : ℕ → Lines) (states : ℕ → Plain) (told : IsTold desk.committed desk.active locks requests states bytes)
     (first : List ℕ) (counted : ℕ)
     (fetched : fetches Fine desk.frames (touched_pages (served_attempt desk entry now bytes)) (touched_pages (served_attempt desk entry now bytes)) desk.resident counts.pages ≡ Fetched first counted) where
-  abbrev refused_now : List ℕ
-  refused_now = refused_pages (served_attempt desk entry now bytes) desk
-
   -- Without a conflict it gets its pages at once.
   pub free-gets : map (λ (other : Entry). other.number) (filter (kept_conflict (asked_for desk.committed.directory (served_attempt desk entry now bytes)) locks entry.number) desk.active) ≡ []
       → (word : Word) → Reads word counted
@@ -65,14 +62,6 @@ module _ (desk : Desk) (counts : Counts) (entry : Entry) (now shown : Plain) (by
   pub free-none : map (λ (other : Entry). other.number) (filter (kept_conflict (asked_for desk.committed.directory (served_attempt desk entry now bytes)) locks entry.number) desk.active) ≡ []
       → conflicts_of (record desk { resident = first }) entry ≡ []
   free-none none = sym (conflicts-kept desk locks requests told.kept (asked_for desk.committed.directory (served_attempt desk entry now bytes)) entry alike-asked) ∙ none
-
-  -- The second attempt finds its lines there, once both fetches are done and the refused pages granted.
-  pub free-there : (resident : List ℕ) → ((page : ℕ) → has (touched_pages (served_attempt desk entry now bytes)) page ≡ true → has resident page ≡ true)
-      → AreThere (got (served_attempt desk entry now bytes) (refused_pages (served_attempt desk entry now bytes) desk) resident (record desk { resident = first })) entry.number
-      (served_attempt desk entry now bytes).lines
-  free-there resident there =
-      served-there (served_attempt desk entry now bytes) desk.authority (record desk { resident = first }) resident
-      (serve-ready desk counts entry now shown bytes is here at went within first) (λ page own. refl) there
 
   -- With a conflict its contest begins, with the kept request that it asks for.
   pub contest-begins : (holder : ℕ) (holders : List ℕ) (asked : ℕ → Lines)

@@ -6,7 +6,7 @@ ghost use Rattle.job_text.specs.Reading.{bad_token, four_of, is_end, is_limit, i
 
 use super::job::{JobFault, Name};
 use super::stage::Stage;
-use asm_parse::{LineFault, Statements, Token, Word, statement_of, tokens_into};
+use asm_parse::{LineFault, Statements, Token, Word, tokens_into};
 use desk::Event;
 use flat_machine::Program;
 use romp_link::link;
@@ -193,12 +193,11 @@ impl Reader {
                 Err(LineFault::Memory) => Err(JobFault::Memory),
             };
         }
-        match statement_of(number, found) {
-            Ok(Some(statement)) => self.statements.push(statement)?,
-            Ok(None) => {}
-            Err(kind) => return Err(JobFault::Fault { line: number, kind }),
+        match self.statements.push_line(number, found) {
+            Ok(()) => Ok(()),
+            Err(LineFault::Kind(kind)) => Err(JobFault::Fault { line: number, kind }),
+            Err(LineFault::Memory) => Err(JobFault::Memory),
         }
-        Ok(())
     }
 
     /// The `end` of a program.

@@ -69,9 +69,6 @@ module _ {W : Type 0} (G : Ghosts W) (fewer_later : FewerLater G) (before start 
   same-held : held_of G start ≡ held_of G before
   same-held = ap (λ (these : Option (List ℕ)). unwrap_or these []) asks.held
 
-  still_empty : (IsSome (G.held before) → held_of G before ≡ []) → IsSome (G.held start) → held_of G start ≡ []
-  still_empty empty told = same-held ∙ empty (subst (λ (these : Option (List ℕ)). IsSome these) asks.held told)
-
   honest-start : IsTrue (G.is_honest before) → IsTrue (G.is_honest start)
   honest-start honest = subst (λ b. IsTrue b) (sym asks.calls.honest) honest
 
@@ -127,14 +124,3 @@ module _ {W : Type 0} (G : Ghosts W) (fewer_later : FewerLater G) (before start 
         by status.DiskFault why = (asks.calls.quiet.same, λ told. (told-start told, subst (λ (held : List ℕ). Torn 0 (length image) held (held_of G start)) same-held (untouched 0 (length image) (held_of G start))))
         by status.Exists why = (asks, why)
         by _ why = absurd why
-
-    -- there is no memory for the image
-    pub no_memory : Written G image line (call before start [] status.NoMemory)
-    no_memory = record {
-      no_order = refl;
-      honest = asks.calls.honest;
-      time = asks.calls.time;
-      crash = λ honest told crashed seen left. (crashed, seen, asks.crash told crashed seen left, untouched 0 (length image) crashed);
-      full = λ told some. asks;
-      by_status = asks;
-    }

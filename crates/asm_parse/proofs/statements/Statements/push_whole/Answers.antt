@@ -1,9 +1,11 @@
-use Rattle.asm_parse.proofs.Common.{◌++◌, ◌∷◌, [], ap, ◌∙◌, List, arith, Statement}
-use Rattle.asm_parse.proofs.KeptLemmas.{kept_more}
+use Rattle.asm_parse.proofs.Common.{arith, body_of}
+use Rattle.asm_parse.proofs.KeptLemmas.{are_kept, is_gained}
 use Rattle.asm_parse.proofs.statements.Statements.push_whole.Goals as goal
 
-pub returns-in-Ok-clause-pushed : goal.returns-in-Ok-clause-pushed
-returns-in-Ok-clause-pushed c =
-    rw (c.in_ok-push.ensures.items, c.in-Ok.ensures.items)
-    (kept_more c.self.inside.wholes.items c.self.inside.heads.items c.args.statement c.len-place.result c.self.invariant.each (omega arith)
-    ∙ ap (λ (statements : List Statement). statements ++ c.args.statement ∷ []) c.self.view_is)
+pub invariant_of-self-in-Ok : goal.invariant_of-self-in-Ok
+invariant_of-self-in-Ok c =
+    rw c.in_ok-push.ensures.items (are_kept c.self.inside.nothing c.self.inside.wholes.items c.push_body.new.statements.items c.self.inside.heads.items c.len-place.result c.args.line c.args.label (body_of c.args.tokens.now) c.self.invariant (omega arith) c.in-Ok.ensures)
+
+pub returns-in-Ok : goal.returns-in-Ok
+returns-in-Ok c =
+    rw (← c.self.view_is, c.in_ok-push.ensures.items) (is_gained c.self.inside.wholes.items c.push_body.new.statements.items c.self.inside.heads.items c.len-place.result c.args.line c.args.label (body_of c.args.tokens.now) c.self.invariant.each (omega arith) c.in-Ok.ensures)
