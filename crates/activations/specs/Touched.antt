@@ -3,7 +3,7 @@ use Rattle.std.specs.Prelude.{ℕ, ◌+◌, ◌-◌, ◌*◌, ◌<◌, ◌==◌,
 use Rattle.line_locks.specs.Flat.{lines_wanted}
 use Rattle.line_locks.specs.Held.{AreWithin}
 use Rattle.line_geometry.specs.Directory.{Layout, page_count, is_fine_page}
-use Rattle.lock_rules.specs.Lines.{pages_of}
+use Rattle.lock_rules.specs.Lines.{pages_of, Lines}
 use Rattle.desk_law.specs.Consistent.{AreDistinct}
 use Rattle.seats.specs.Waiting.{AreOfPage}
 use Rattle.lock_rules.specs.Sets.{has}
@@ -11,7 +11,6 @@ use Rattle.std.specs.List.{list_any, range_with_len}
 use Rattle.lockbit_rules.specs.declared.Authority.{Authority}
 use Rattle.lockbit_rules.specs.Entries.{entry_of, lets}
 use Rattle.inverted_table.specs.Placed.{unowned}
-use Rattle.lock_rules.specs.Lines.{Lines}
 use Rattle.line_geometry.specs.LineSets.{between, union}
 use Rattle.activations.specs.declared.touch.Touch.{Touch}
 use Rattle.line_locks.specs.declared.request.Want.{Want}

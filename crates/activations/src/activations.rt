@@ -1,11 +1,10 @@
 // Who runs, what each has, and the storage that they share.
-ghost use Rattle.std.specs.Prelude.{◌≡◌, ℕ, ◌-◌, ◌^◌, ◌≤◌, List, length, IfOk};
+ghost use Rattle.std.specs.Prelude.{◌≡◌, ℕ, ◌-◌, ◌^◌, ◌≤◌, List, length, IfOk, ◌<◌, true};
 ghost use Rattle.store_format.specs.Header.{most_lines};
 ghost use Rattle.desk.specs.Run.{absent_segment};
 ghost use Rattle.desk.specs.Desk.{opened};
 ghost use Rattle.line_geometry.specs.Directory.{byte_count};
 ghost use Rattle.storage_unit.specs.View.{reach_of};
-ghost use Rattle.std.specs.Prelude.{◌<◌, true};
 ghost use Rattle.lock_rules.specs.Sets.{has};
 
 use super::live::Live;

@@ -1,8 +1,5 @@
 -- The statements of a text, as its lines are read one after the other.
-use Rattle.asm_parse.proofs.Common.{◌≡◌, ℕ, suc, ◌+◌, ◌<◌, ◌≤◌, Bool, true, false, cond, nat_lt, List, [], ◌∷◌, ◌++◌, length, Option, Some, None, Result, Ok, Err, refl, sym, ap, ◌∙◌, arith, append_assoc, append-nil, length-append, length-drop, slice_split, position_or_len, before_first, after_first, lt-ltb, nat_tests, Statement, line_of, Gains, at_line, is_feed, lines_of, statements_from, then_statements}
-use Rattle.asm_parse.specs.declared.fault.AsmFault.{AsmFault}
-use Rattle.asm_parse.specs.declared.fault.AsmFault.TheVariants.{Fault, Memory}
-use Rattle.asm_parse.specs.Answers.{IsTextFaultOf}
+use Rattle.asm_parse.proofs.Common.{◌≡◌, ℕ, suc, ◌+◌, ◌<◌, ◌≤◌, Bool, true, false, cond, nat_lt, List, [], ◌∷◌, ◌++◌, length, Option, Some, None, Result, Ok, Err, refl, sym, ap, ◌∙◌, arith, append_assoc, append-nil, length-append, length-drop, slice_split, position_or_len, before_first, after_first, lt-ltb, nat_tests, Statement, line_of, Gains, is_feed, lines_of, statements_from, then_statements}
 use Rattle.asm_parse.specs.Cut.{behind_first}
 
 -- the parts of what stands behind a cut, if there was one
@@ -37,7 +34,7 @@ statements_behind read (Ok others) = Ok (read ++ others)
 statements_behind read (Err fault) = Err fault
 
 -- what a line's answer adds to what was read
-gained : (read more : List Statement) (number : ℕ) (answer : Result (Option Statement) ℕ) (others : Result (List Statement) (ℕ × ℕ)) → Gains read more (at_line number answer) → statements_behind more others ≡ statements_behind read (then_statements number answer others)
+gained : (read more : List Statement) (number : ℕ) (answer : Result (Option Statement) ℕ) (others : Result (List Statement) (ℕ × ℕ)) → Gains read more answer → statements_behind more others ≡ statements_behind read (then_statements number answer others)
 gained read more number (Ok (Some statement)) (Ok others) new = ap Ok (ap (λ list. list ++ others) new ∙ append_assoc read (statement ∷ []) others)
 gained read more number (Ok (Some statement)) (Err fault) new = refl
 gained read more number (Ok None) others new = ap (λ list. statements_behind list others) new
@@ -49,21 +46,17 @@ unfolding statements_from
 by_first number text = rw (cut is_feed text) refl
 
 -- one line more was read
-pub line_read : (read more : List Statement) (number : ℕ) (text line : List ℕ) (behind : Option (List ℕ)) (whole : Result (List Statement) (ℕ × ℕ)) → line ≡ before_first is_feed text → behind ≡ behind_first is_feed text → Gains read more (at_line number (line_of number line)) → statements_behind read (statements_from number (lines_of text)) ≡ whole → statements_behind more (statements_from (number + 1) (parts_behind is_feed behind)) ≡ whole
+pub line_read : (read more : List Statement) (number : ℕ) (text line : List ℕ) (behind : Option (List ℕ)) (whole : Result (List Statement) (ℕ × ℕ)) → line ≡ before_first is_feed text → behind ≡ behind_first is_feed text → Gains read more (line_of number line) → statements_behind read (statements_from number (lines_of text)) ≡ whole → statements_behind more (statements_from (number + 1) (parts_behind is_feed behind)) ≡ whole
 line_read read more number text line behind whole first rest new so_far =
     rw (rest, gained read more number (line_of number line) _ new, first, ← by_first number text) so_far
 
-faulty : (read : List Statement) (number : ℕ) (answer : Result (Option Statement) ℕ) (others whole : Result (List Statement) (ℕ × ℕ)) (fault : AsmFault) → IsTextFaultOf fault (at_line number answer) → statements_behind read (then_statements number answer others) ≡ whole → IsTextFaultOf fault whole
-faulty read number answer others whole Memory told so_far = tt
-faulty read number (Ok value) others whole (Fault line kind) told so_far = absurd (cc told)
-faulty read number (Err kind') others whole (Fault line kind) told so_far =
-    let same : (number, kind') ≡ (line, kind) = cc told in
-    sym so_far ∙ ap Err same
+faulty : (read : List Statement) (number kind : ℕ) (answer : Result (Option Statement) ℕ) (others : Result (List Statement) (ℕ × ℕ)) → answer ≡ Err kind → statements_behind read (then_statements number answer others) ≡ Err (number, kind)
+faulty read number kind answer others is = rw is refl
 
 -- a line has a fault
-pub line_faulty : (read : List Statement) (number : ℕ) (text line : List ℕ) (whole : Result (List Statement) (ℕ × ℕ)) (fault : AsmFault) → line ≡ before_first is_feed text → IsTextFaultOf fault (at_line number (line_of number line)) → statements_behind read (statements_from number (lines_of text)) ≡ whole → IsTextFaultOf fault whole
-line_faulty read number text line whole fault first told so_far =
-    faulty read number (line_of number line) (statements_from (number + 1) (parts_behind is_feed (behind_first is_feed text))) whole fault told (ap (λ line. statements_behind read (then_statements number (line_of number line) (statements_from (number + 1) (parts_behind is_feed (behind_first is_feed text))))) first ∙ rw (by_first number text) at so_far)
+pub line_faulty : (read : List Statement) (number kind : ℕ) (text line : List ℕ) (whole : Result (List Statement) (ℕ × ℕ)) → line ≡ before_first is_feed text → line_of number line ≡ Err kind → statements_behind read (statements_from number (lines_of text)) ≡ whole → whole ≡ Err (number, kind)
+line_faulty read number kind text line whole first told so_far =
+    sym (rw (by_first number text) at so_far) ∙ faulty read number kind (line_of number (before_first is_feed text)) _ (rw first at told)
 
 -- all lines were read
 pub all_read : (read : List Statement) (number : ℕ) (behind : Option (List ℕ)) (whole : Result (List Statement) (ℕ × ℕ)) → behind ≡ None → statements_behind read (statements_from number (parts_behind is_feed behind)) ≡ whole → whole ≡ Ok read
@@ -87,7 +80,7 @@ behind_shorter text behind is = rw is (by_test (nat_lt n (length text)) refl)
     by_test false e = omega arith
 
 -- a line gives one statement at the most
-pub gained_one : (old new : List Statement) (answer : Result (Option Statement) (ℕ × ℕ)) → Gains old new answer → length new ≤ length old + 1
+pub gained_one : (old new : List Statement) (answer : Result (Option Statement) ℕ) → Gains old new answer → length new ≤ length old + 1
 gained_one old new (Ok (Some statement)) e = omega (arith, ap length e, length-append old (statement ∷ []))
 gained_one old new (Ok None) e = omega (arith, ap length e)
 gained_one old new (Err fault) e = absurd e

@@ -1,11 +1,11 @@
-ghost use Rattle.std.specs.Prelude.{◌≡◌, ◌+◌, ◌≤◌, ◌<◌, ◌^◌, ◌==◌, ◌∷◌, not, nat_eq, codes, length, position, Some, Ok, IfOk, IfSome, MatchResult};
+ghost use Rattle.std.specs.Prelude.{◌≡◌, ◌+◌, ◌≤◌, ◌<◌, ◌^◌, ◌==◌, ◌∷◌, not, nat_eq, codes, length, position, Some, Ok, IfOk, IfSome};
 ghost use Rattle.std.specs.List.{before_first, starts_with};
 ghost use Rattle.std.specs.Option.{option_map};
 ghost use Rattle.asm_parse.specs.Cut.{behind_first};
 ghost use Rattle.asm_parse.specs.Operand.{expression_of};
-ghost use Rattle.asm_parse.specs.Statement.{access_of, behind_label, body_of, directive_of, export_of, instruction_of, label_of, line_of, on_line, space_of, window_of};
-ghost use Rattle.asm_parse.specs.Text.{Adds, Gains, at_line, is_feed, parsed};
-ghost use Rattle.asm_parse.specs.Answers.{IsAnswer, IsTextFaultOf};
+ghost use Rattle.asm_parse.specs.Statement.{access_of, behind_label, body_of, directive_of, export_of, label_of, line_of, on_line, space_of, window_of};
+ghost use Rattle.asm_parse.specs.Text.{Adds, is_feed, parsed};
+ghost use Rattle.asm_parse.specs.Answers.{IsAnswer};
 
 use super::fault::{AsmFault, LineFault, MNEMONIC, OPERANDS};
 use super::form::{form_of, sorts_of};
@@ -13,7 +13,7 @@ use super::operand::{expression_of, operands_of};
 use super::statement::{Body, Statement};
 use super::token::{Token, tokens_into};
 use super::word::Word;
-use romp_table::{Op, by_name};
+use romp_table::by_name;
 use std::alloc::Global;
 
 /// The statements of a text. What stands behind its last line feed is a line too.
@@ -35,7 +35,11 @@ pub fn parse(alloc: Global, text: &[u8]) -> Result<Vec<Statement>, AsmFault>
     let mut left = Some(text);
     while let Some(rest) = left {
         let (line, behind) = first_line(rest);
-        push_line(&mut tokens, &mut statements, number, line)?;
+        match push_line(&mut tokens, &mut statements, number, line) {
+            Ok(()) => {}
+            Err(LineFault::Kind(kind)) => return Err(AsmFault::Fault { line: number, kind }),
+            Err(LineFault::Memory) => return Err(AsmFault::Memory),
+        }
         number += 1;
         left = behind;
     }
@@ -44,24 +48,6 @@ pub fn parse(alloc: Global, text: &[u8]) -> Result<Vec<Statement>, AsmFault>
 
 /// Appends the statement of a line, if it has one; its tokens lie in the room.
 fn push_line(
-    room: &mut Vec<Token>,
-    statements: &mut Vec<Statement>,
-    number: u32,
-    line: &[u8],
-) -> Result<(), AsmFault>
-    ensures { MatchResult result
-        (λ _. Gains statements.old.items statements.new.items (at_line number (line_of number line.now)))
-        (λ fault. IsTextFaultOf fault (at_line number (line_of number line.now))) }
-{
-    match push_tokens(room, statements, number, line) {
-        Ok(()) => Ok(()),
-        Err(LineFault::Kind(kind)) => Err(AsmFault::Fault { line: number, kind }),
-        Err(LineFault::Memory) => Err(AsmFault::Memory),
-    }
-}
-
-/// Appends the statement of a line, if it has one, by its tokens.
-fn push_tokens(
     room: &mut Vec<Token>,
     statements: &mut Vec<Statement>,
     number: u32,
@@ -123,29 +109,16 @@ pub(crate) fn push_body(
     match tokens {
         [] => push(statements, line, label, Body::Nothing),
         [Token::Word(word), operands @ ..] => match by_name(word.as_bytes()) {
-            Some(op) => push_instruction(statements, line, label, op, operands),
+            Some(op) => match operands_of(sorts_of(form_of(op)), operands) {
+                Some(operands) => push(statements, line, label, Body::Inst(op, operands)),
+                None => Err(LineFault::Kind(OPERANDS)),
+            },
             None => match directive_of(word.as_str(), operands) {
                 Ok(body) => push(statements, line, label, body),
                 Err(kind) => Err(LineFault::Kind(kind)),
             },
         },
         _ => Err(LineFault::Kind(MNEMONIC)),
-    }
-}
-
-/// Appends an instruction with its operands.
-fn push_instruction(
-    statements: &mut Vec<Statement>,
-    line: u32,
-    label: Option<Word>,
-    op: Op,
-    tokens: &[Token],
-) -> Result<(), LineFault>
-    ensures { Adds result statements.old.items statements.new.items (on_line line label (instruction_of op tokens.now)) }
-{
-    match operands_of(sorts_of(form_of(op)), tokens) {
-        Some(operands) => push(statements, line, label, Body::Inst(op, operands)),
-        None => Err(LineFault::Kind(OPERANDS)),
     }
 }
 

@@ -1,6 +1,4 @@
-ghost use Rattle.desk_law.specs.Laws.{FineRowsAskForTheirLines, WriteBitsHoldPages};
-ghost use Rattle.desk_law.specs.Laws.{BrokenCyclesWere, ContestedCyclesClose, IdleWhereInactive, PermittedIsFree};
-ghost use Rattle.desk_law.specs.Laws.{RunsStayConsistent, SomebodyCanGoOn, StaysConsistent};
+ghost use Rattle.desk_law.specs.Laws.{FineRowsAskForTheirLines, WriteBitsHoldPages, BrokenCyclesWere, ContestedCyclesClose, IdleWhereInactive, PermittedIsFree, RunsStayConsistent, SomebodyCanGoOn, StaysConsistent};
 
 /// A desk that is consistent is so after every event with every word (docs/MODEL.md). It calls nothing.
 pub fn desks_stay_consistent()

@@ -1,6 +1,4 @@
-ghost use Rattle.desk_law.specs.CurrentLaws.{CommitsChangeNoLine, CommitsLeaveOthers, HoldersSeeCurrent};
-ghost use Rattle.desk_law.specs.CurrentLaws.{OneListIsCurrent, RollbacksGiveBack, RowsChangeTheirLines};
-ghost use Rattle.desk_law.specs.CurrentLaws.{RowsRunOnCurrent};
+ghost use Rattle.desk_law.specs.CurrentLaws.{CommitsChangeNoLine, CommitsLeaveOthers, HoldersSeeCurrent, OneListIsCurrent, RollbacksGiveBack, RowsChangeTheirLines, RowsRunOnCurrent};
 
 /// One list of bytes, and no other, has every line as it is now (docs/MODEL.md). It calls nothing.
 pub fn one_list_is_current()

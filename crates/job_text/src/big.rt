@@ -1,7 +1,6 @@
 // The job of `big TRANSFERS` (docs/FORMATS.md, "The big job").
-ghost use Rattle.std.specs.Prelude.{◌≡◌, ◌+◌, ◌≤◌, ℕ, [], ◌++◌, length, Ok, IfOk, OnOk};
+ghost use Rattle.std.specs.Prelude.{◌≡◌, ◌+◌, ◌≤◌, ℕ, [], ◌++◌, length, Ok, IfOk, OnOk, map};
 ghost use Rattle.std.specs.List.{flat_map, range_with_len};
-ghost use Rattle.std.specs.Prelude.{map};
 ghost use Rattle.job_text.specs.Big.{IsBigJob, batch, batches, big_events, big_sources, transfer, turns_of};
 ghost use Rattle.job_text.specs.Grammar.{content_of, job_of};
 ghost use Rattle.job_text.specs.Ready.{IsReady};

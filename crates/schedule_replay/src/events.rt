@@ -2,7 +2,7 @@
 ghost use Rattle.std.specs.Prelude.{◌≡◌, ◌+◌, ◌≤◌, ℕ, List, [], ◌∷◌, All, true, false, length, map, take, IfOk};
 ghost use Rattle.outside.specs.Durable.{IsSure};
 ghost use Rattle.outside.specs.Moments.{Elapses};
-ghost use Rattle.outside.specs.Runs.{held_of};
+ghost use Rattle.outside.specs.Runs.{held_of, OnlyPuts};
 ghost use Rattle.desk.specs.Answers.{turn_closes, stored_closes};
 ghost use Rattle.desk.specs.Desk.{Desk};
 ghost use Rattle.desk.specs.Kept.{HoldsStore, StillTold};
@@ -10,7 +10,6 @@ ghost use Rattle.desk.specs.Report.{closing_lines};
 ghost use Rattle.desk.specs.Seen.{IsUnbroken};
 ghost use Rattle.schedule_replay.specs.Answered.{IsReady, Answered, GoesBy, GoesShut};
 ghost use Rattle.schedule_replay.specs.Puts.{Puts};
-ghost use Rattle.outside.specs.Runs.{OnlyPuts};
 ghost use Rattle.schedule_replay.specs.Ran.{HasOpened};
 ghost use Rattle.schedule_replay.specs.Replays.{Replays, Reports, RanSome, WentBy, EndsBy, EndsShut, is_closed, is_damaged, going_if, going_begun, going_by};
 

@@ -1,7 +1,7 @@
 -- What shipping the records of a store did.
 use Rattle.std.specs.Prelude.{◌≡◌, ◌⊎◌, ◌<◌, ◌≤◌, ℕ, List, [], IsSome}
 use Rattle.outside.specs.declared.world.Outside.{Ghosts}
-use Rattle.outside.specs.Runs.{OnlyAsks, held_of}
+use Rattle.outside.specs.Runs.{OnlyAsks, held_of, AsksAndPuts}
 use Rattle.restart.specs.Kept.{KeptStore, number_of}
 use Rattle.restart.specs.Shows.{Shows}
 use Rattle.standby.specs.Shipped.{shipped}
@@ -13,7 +13,6 @@ use Rattle.call_status.specs.Printed.{PrintsBy}
 use Rattle.call_status.specs.Statuses.{IsOfOpening}
 use Rattle.call_status.specs.declared.status.Status.{Status}
 use Rattle.call_status.specs.declared.status.Status.TheVariants as status
-use Rattle.outside.specs.Runs.{AsksAndPuts}
 
 -- The bytes show a store whose bank keeps all records behind the number, and their text was put: all of it, or a first part. At Done they are in the
 -- ranges of a ship text.

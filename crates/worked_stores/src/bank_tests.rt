@@ -28,24 +28,3 @@ fn a_bank_takes_a_record(rt: HostRuntime) -> Result<(), Fail> {
     assert_eq!(rt; bank.room(), Some(29));
     Ok(())
 }
-
-#[test]
-fn a_bank_of_version_two_takes_a_record(rt: HostRuntime) -> Result<(), Fail> {
-    let alloc = rt.alloc();
-    let directory = Directory::new(PageSize::Four, &[(1, 1)]).expect(&rt, "a directory");
-    let header = Header::new(directory, 4096);
-    assert!(rt; header.directory().page() == PageSize::Four);
-    assert!(rt; header.directory().line_count() == 16);
-    let mut disk = Joint::new(
-        MemoryDisk::new(alloc, header.fresh(alloc)?, Vec::new(alloc)),
-        MemoryScreen::new(alloc, Vec::new(alloc)),
-    );
-    let mut bank = Bank::open(alloc, &header, Which::B, &mut disk).expect(&rt, "a bank");
-    assert_eq!(rt; bank.room(), Some(15));
-    bank.record_start();
-    bank.record_line(3, &[7; 256]);
-    assert_eq!(rt; bank.append(&mut disk), Some(Kept::Done));
-    assert_eq!(rt; bank.newest(3), Some(4383));
-    assert_eq!(rt; bank.room(), Some(14));
-    Ok(())
-}
