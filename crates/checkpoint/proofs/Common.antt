@@ -1,7 +1,7 @@
 -- The names that most proofs cite, passed on from one place. Declares nothing.
 pub use Rattle.std.proofs.Common.{IsTrue, List, [], ap, arith, drop, get_or, inl, inr, length, refl, replicate, slice_index, subst, sym, take, ℕ, ⊎_elim, ◌%◌, ◌*◌, ◌+◌, ◌-◌, ◌<◌, ◌^◌, ◌∙◌, ◌∷◌, ◌≡◌, ◌≤◌, ◌⊎◌}
 pub use Rattle.std.proofs.lemmas.List.{drop-drop, get_or-drop, get_or-replicate, length-drop, length-replicate, length-take-le, take_at}
-pub use Rattle.std.specs.Prelude.{Bool, IsSome, None, OnOk, Option, Some, fold, if◌then◌else◌, nat_lt, slice_set, unwrap_or, ◌==◌}
+pub use Rattle.std.specs.Prelude.{Bool, IfSome, IsSome, None, OnOk, Option, Some, fold, if◌then◌else◌, nat_lt, slice_set, unwrap_or, ◌==◌}
 pub use Rattle.line_geometry.specs.Lines.{line_count}
 pub use Rattle.line_geometry.specs.declared.directory.PageSize.{PageSize}
 pub use Rattle.outside.proofs.Durable.{leaves_held}
@@ -14,7 +14,7 @@ pub use Rattle.outside.specs.Runs.{FewerLater, Leaves, OnlyAsks, held_of}
 pub use Rattle.redo_journal.proofs.AppendLemmas.{place_is}
 pub use Rattle.redo_journal.proofs.GateLemmas.{drop-written, held_is}
 pub use Rattle.redo_journal.proofs.WriteLemmas.{asks_only, held_left, writes_on, wrote_nothing}
-pub use Rattle.redo_journal.specs.Appended.{CountsKept, FailedLeaves, bank_appended}
+pub use Rattle.redo_journal.specs.Appended.{CountsKept, FailedLeaves, bank_appended, kept_in}
 pub use Rattle.redo_journal.specs.Held.{IsMoreBy, OnlyWrites}
 pub use Rattle.redo_journal.specs.Kept.{KeptBank, area_end, begun_of, end_of, line_bytes_of, needed_end, number_of, place_of, with_record, SameShape}
 pub use Rattle.redo_journal.specs.Tracks.{HoldsOneOf, HoldsRecords, IsEither, TracksBank}

@@ -1,12 +1,12 @@
-ghost use Rattle.std.specs.Prelude.{◌≡◌, ◌≢◌, ◌≤◌, [], length, Some, None, IsSome, IfOk, IfErr, OnOk};
+ghost use Rattle.std.specs.Prelude.{◌≡◌, ◌≢◌, ◌+◌, ◌≤◌, ◌<◌, [], length, slice_get, Some, None, IsSome, IfSome, IfOk, IfErr, OnOk};
 ghost use Rattle.line_geometry.specs.Segments.{line_bytes};
 ghost use Rattle.store_format.specs.Header.{total};
 ghost use Rattle.outside.specs.Causes.{FailsOnlyCounted};
 ghost use Rattle.outside.specs.Runs.{OnlyAsks, Leaves, held_of};
-ghost use Rattle.redo_journal.specs.Kept.{KeptBank, area_end, needed_end, with_line, unbegun, line_bytes_of, SameShape};
+ghost use Rattle.redo_journal.specs.Kept.{KeptBank, area_end, needed_end, number_of, with_line, unbegun, line_bytes_of, SameShape};
 ghost use Rattle.redo_journal.specs.Held.{HoldsAtLeast, OnlyWrites};
 ghost use Rattle.redo_journal.specs.Tracks.{TracksBank};
-ghost use Rattle.redo_journal.specs.Appended.{TakesLine};
+ghost use Rattle.redo_journal.specs.Appended.{Appends, TakesLine};
 ghost use Rattle.checkpoint.specs.Chosen.{other, IsChosen, IsOneOf, IsStoreLike, IsChosenReopenFault, IsChosenOpenFault};
 ghost use Rattle.checkpoint.specs.Committed.{emptied, roomy, Commits};
 ghost use Rattle.checkpoint.specs.Home.{store_bytes};
@@ -15,7 +15,7 @@ ghost use Rattle.checkpoint.specs.Moved.{IsSame, IsMoved, IsCheckpointed, bank_c
 use crate::home::write_home;
 use crate::selector::{other_of, read_selector, write_selector};
 use outside::{Failed, Outside};
-use redo_journal::{Bank, Kept, OpenFault, ReopenFault};
+use redo_journal::{Appended, Bank, Kept, OpenFault, ReopenFault};
 use std::alloc::{AllocError, Global};
 use std::marker::Model;
 use store_format::{Header, Which};
@@ -105,6 +105,22 @@ impl Banks {
         &self.bank
     }
 
+    /// The number that the chosen bank's records lead to.
+    pub fn number(&self) -> u64
+        ensures { result ≡ number_of self.now }
+    {
+        self.bank.number()
+    }
+
+    /// The place on the disk of a line's newest bytes; none where no record of the chosen bank holds the line.
+    pub fn newest(&self, line: u32) -> Option<u64>
+        requires { line < length self.now.newest }
+        ensures place { slice_get self.now.newest line ≡ Some result }
+        ensures within { IfSome result (λ at. at + line_bytes_of self.now ≤ area_end self.now) }
+    {
+        self.bank.newest(line)
+    }
+
     /// The bytes of a line of the store.
     #[inline(always)]
     pub fn line_bytes(&self) -> usize
@@ -135,6 +151,16 @@ impl Banks {
         self.bank.record_line(line, bytes);
     }
 
+    /// Adds the record that is begun to the chosen bank, as [`Bank::append`] does. After [`Appended::Unwritten`] and
+    /// [`Appended::Doubt`] the banks have to be reopened before they are used again (docs/FORMATS.md, "Protocols").
+    pub fn append<W: Outside>(&mut self, outside: &mut W) -> Appended
+        requires begun { IsSome self.old.begun }
+        requires room { HoldsAtLeast W.Outside (area_end self.old) outside.old }
+        ensures { Appends W.Outside self.old self.new outside.old outside.new result }
+    {
+        self.bank.append(outside)
+    }
+
     /// Adds the record that is begun and makes it sure, behind a checkpoint where it doesn't fit the rest of the bank. It
     /// takes no memory. No record is begun afterwards. After [`Kept::Unwritten`] and [`Kept::Doubt`] the banks have to be
     /// reopened before they are used again (docs/FORMATS.md, "Protocols").
@@ -143,7 +169,7 @@ impl Banks {
         requires room { HoldsAtLeast W.Outside (store_bytes self.old) outside.old }
         ensures { Commits W.Outside (roomy self.old) self.old self.new outside.old outside.new result }
     {
-        match self.bank.append(outside) {
+        match self.append(outside).kept() {
             Some(kept) => kept,
             None => self.commit_behind_checkpoint(outside),
         }
@@ -158,7 +184,7 @@ impl Banks {
     {
         match self.checkpoint(outside) {
             Err(Failed) => Kept::Unwritten,
-            Ok(()) => self.bank.append(outside).unwrap_or(Kept::Unwritten),
+            Ok(()) => self.append(outside).kept().unwrap_or(Kept::Unwritten),
         }
     }
 

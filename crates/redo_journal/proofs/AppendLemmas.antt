@@ -1,10 +1,7 @@
 -- What the images of an append stand for.
-use Rattle.redo_journal.proofs.Common.{◌≡◌, inl, inr, ℕ, zero, suc, ◌+◌, ◌*◌, ◌-◌, ◌%◌, ◌^◌, ◌<◌, ◌≤◌, Bool, true, false, List, [], ◌∷◌, ◌++◌, length, take, drop, refl, sym, ◌∙◌, ap, subst, arith, slice_index, slice_set, option_map, drop-drop, take_all, take-set-le, drop-set-lt, length-set, get_or-set_same, length-take-le, line_count, PageSize, Which, Header, number_at, home_at, bank_at, entry_bytes, RecordLine, lines_from, wrong_line, record_bytes, area_of, IsStore, stands, one_more, same_number_at, same_lines, same_byte, later_front, shorter_front, Around, area_within, store_same, stands_same, stands_more, store_more, Ghosts, held_of, Inside, is_open, HasBody, IsSafe, KeptBank, place_of, end_of, area_end, begun_of, needed_end, unbegun, with_record, noted, AreNewest, buffered, begun_count, begun_lines, kept_of, IsWhole, TracksBank, IsEither, HoldsOneOf}
-use Rattle.std.specs.Prelude.{Option, None, Some, unwrap_or, IsSome, ◌==◌, ◌≢◌}
+use Rattle.redo_journal.proofs.Common.{◌≡◌, inl, inr, ℕ, zero, suc, ◌+◌, ◌*◌, ◌-◌, ◌%◌, ◌^◌, ◌<◌, ◌≤◌, Bool, true, false, List, [], ◌∷◌, ◌++◌, length, take, drop, refl, sym, ◌∙◌, ap, subst, arith, slice_index, slice_set, option_map, drop-drop, take_all, take-set-le, drop-set-lt, length-set, get_or-set_same, length-take-le, line_count, PageSize, Which, Header, number_at, home_at, bank_at, entry_bytes, RecordLine, lines_from, wrong_line, record_bytes, area_of, IsStore, stands, one_more, same_number_at, same_lines, same_byte, later_front, shorter_front, Around, area_within, store_same, stands_same, stands_more, store_more, Ghosts, held_of, Inside, is_open, HasBody, IsSafe, KeptBank, place_of, end_of, area_end, begun_of, needed_end, with_record, noted, AreNewest, buffered, begun_count, begun_lines, kept_of, IsWhole, TracksBank, IsEither, HoldsOneOf}
+use Rattle.std.specs.Prelude.{Option, None, Some, unwrap_or, IsSome, ◌==◌}
 use Rattle.store_format.specs.declared.header.Which.TheVariants.{A, B}
-use Rattle.redo_journal.specs.Appended.{FailedLeaves, bank_appended}
-use Rattle.redo_journal.specs.declared.keep.Kept.{Kept}
-use Rattle.redo_journal.specs.declared.keep.Kept.TheVariants as keeping
 use Rattle.store_format.specs.Body.{IsBody}
 use Rattle.store_format.proofs.Stores as stores
 
@@ -193,15 +190,3 @@ with_record_is bank kept gate newest is gate_is newest_is =
 pub record IsReadied {W : Type 0} (G : Ghosts W) (bank : Inside) (outside : W) (body : List ℕ) : Type 0 where
   pub tracks : TracksBank G (kept_of bank) outside
   pub ready : Ready (held_of G outside) tracks.header bank.which bank.base bank.gate tracks.records (begun_count bank) (begun_lines bank) body
-
--- a record that wasn't kept is begun no more, and what a crash leaves of it is told by the answer
-pub unkept_is : (bank : KeptBank) (kept : Kept) → kept ≢ keeping.Done → bank_appended (Some kept) bank ≡ unbegun bank
-unkept_is bank keeping.Done unkept = absurd (unkept refl)
-unkept_is bank keeping.Unwritten unkept = refl
-unkept_is bank keeping.Doubt unkept = refl
-
-pub failed_leaves : {W : Type 0} (G : Ghosts W) (bank there : KeptBank) (before after : W) (kept : Kept) → (kept ≡ keeping.Unwritten → FailedLeaves G bank there before after keeping.Unwritten) → (kept ≡ keeping.Doubt → FailedLeaves G bank there before after keeping.Doubt)
-    → FailedLeaves G bank there before after kept
-failed_leaves G bank there before after keeping.Done unwritten doubt = tt
-failed_leaves G bank there before after keeping.Unwritten unwritten doubt = unwritten refl
-failed_leaves G bank there before after keeping.Doubt unwritten doubt = doubt refl

@@ -1,5 +1,5 @@
 -- The names that most proofs cite, passed on from one place. Declares nothing.
-pub use Rattle.std.proofs.Common.{Bool, IsSome, List, [], ap, append_assoc, arith, drop, false, get_or, inl, inr, length, length-append, refl, replicate, slice_index, slice_set, subst, suc, sym, take, true, zero, ℕ, ◌%◌, ◌*◌, ◌++◌, ◌+◌, ◌-◌, ◌<◌, ◌^◌, ◌∙◌, ◌∷◌, ◌≡◌, ◌≤◌, ◌⊎◌}
+pub use Rattle.std.proofs.Common.{Bool, IsSome, List, [], ap, append_assoc, arith, drop, false, get_or, inl, inr, length, length-append, refl, replicate, rules, slice_index, slice_set, subst, suc, sym, take, true, zero, ℕ, ◌%◌, ◌*◌, ◌++◌, ◌+◌, ◌-◌, ◌<◌, ◌^◌, ◌∙◌, ◌∷◌, ◌≡◌, ◌≤◌, ◌⊎◌}
 pub use Rattle.std.proofs.lemmas.Bool.{cases_eq, cases_lt}
 pub use Rattle.std.proofs.lemmas.Bool.Decides.{nat_tests}
 pub use Rattle.std.proofs.lemmas.List.{append-nil, drop-drop, drop-set-lt, drop_at, get_or-drop, get_or-replicate, get_or-set_same, get_or-take, length-drop, length-replicate, length-set, length-take, length-take-le, take-append-drop, take-set-le, take-take, take_all, take_at, take_rest}
@@ -11,7 +11,7 @@ pub use Rattle.byteorder.specs.Numbers.{big_from-take, big_number-reads_back}
 pub use Rattle.line_geometry.specs.Lines.{line_count}
 pub use Rattle.line_geometry.specs.Segments.{line_bytes}
 pub use Rattle.line_geometry.specs.declared.directory.PageSize.{PageSize}
-pub use Rattle.outside.proofs.Durable.{told_some, torn_first}
+pub use Rattle.outside.proofs.Durable.{leaves_held, told_some, torn_first}
 pub use Rattle.outside.proofs.Runs.{asks_on, asks_one, calls_none, calls_on, leaves_on, leaves_same, still_told}
 pub use Rattle.outside.specs.Bytes.{CountsWrite, Torn, Writes, bytes_at, written}
 pub use Rattle.outside.specs.Runs.{FewerLater, Leaves, OnlyAsks, held_of}
@@ -33,11 +33,11 @@ unfoldable pub use Rattle.store_format.specs.Stands.{stands}
 pub use Rattle.store_format.specs.declared.header.Which.{Which}
 pub use Rattle.redo_journal.specs.Gate.{HasBody, IsSafe, IsShut, is_open}
 pub use Rattle.redo_journal.specs.Inside.{IsWhole, begun_count, begun_lines, buffered, kept_of}
-pub use Rattle.redo_journal.specs.Kept.{KeptBank, area_end, begun_of, end_of, line_bytes_of, needed_end, place_of, record_bytes_of, unbegun, with_line, with_record}
+pub use Rattle.redo_journal.specs.Kept.{KeptBank, SameShape, area_end, begun_of, end_of, line_bytes_of, needed_end, place_of, record_bytes_of, unbegun, with_line, with_record}
 pub use Rattle.redo_journal.specs.Noted.{AreNewest, AreWithin, IsNowhere, newest_place, noted, place_in}
 pub use Rattle.redo_journal.specs.Read.{AreRead, IsBank}
 pub use Rattle.redo_journal.specs.Records.{IsCounted, IsLine, IsLineOf, IsRecordAt, area_bytes}
-pub use Rattle.redo_journal.specs.Tracks.{HoldsOneOf, IsEither, TracksBank}
+pub use Rattle.redo_journal.specs.Tracks.{HoldsOneOf, IsAppended, IsEither, TracksBank}
 pub use Rattle.redo_journal.specs.Turned.{head_bytes, placed, turned}
 pub use Rattle.redo_journal.specs.declared.bank.Bank.TheInside.{Inside}
 pub use Rattle.redo_journal.specs.declared.find.Record.{Record}

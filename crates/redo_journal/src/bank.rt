@@ -1,20 +1,18 @@
 ghost use Rattle.std.specs.Prelude.{◌≡◌, ◌≢◌, ◌↔◌, ◌+◌, ◌*◌, ◌%◌, ◌≤◌, ◌<◌, ◌^◌, [], All, length, take, slice_set, slice_get, slice_range, is_some, Some, None, IsNone, IsSome, IfSome, IfOk, IfErr, OnOk};
 ghost use Rattle.std.specs.List.{list_any};
-ghost use Rattle.std.specs.Option.{option_map};
 ghost use Rattle.store_format.specs.Header.{total, HasRanges};
 ghost use Rattle.store_format.specs.Bank.{record_bytes};
-ghost use Rattle.outside.specs.Runs.{OnlyAsks, Leaves, held_of};
+ghost use Rattle.outside.specs.Runs.{OnlyAsks, held_of};
 ghost use Rattle.redo_journal.specs.Kept.{KeptBank, place_of, end_of, area_end, number_of, begun_of, needed_end, with_line, unbegun, line_bytes_of, record_bytes_of, SameShape};
-ghost use Rattle.redo_journal.specs.Appended.{CountsKept, FailedLeaves, TakesLine, bank_appended};
+ghost use Rattle.redo_journal.specs.Appended.{Appends, TakesLine};
 ghost use Rattle.redo_journal.specs.Turned.{turned, head_bytes};
-ghost use Rattle.redo_journal.specs.Held.{HoldsAtLeast, OnlyWrites, WritesOnce};
+ghost use Rattle.redo_journal.specs.Held.{HoldsAtLeast, WritesOnce};
 ghost use Rattle.redo_journal.specs.Opened.{IsRead, IsBankOf, IsBankReopenFault, IsBankOpenFault};
 ghost use Rattle.redo_journal.specs.Records.{ReadsRecord, ReadsLine};
-ghost use Rattle.redo_journal.specs.Tracks.{TracksBank, IsEither, HoldsOneOf, IsAppended};
 
 use crate::fault::{OpenFault, ReopenFault};
 use crate::find::{Record, read_line, read_record};
-use crate::keep::{Kept, keep_body, write_once};
+use crate::keep::{Appended, Kept, keep_body, write_once};
 use crate::read::{Found, read_bank};
 use crate::record::{fill, forget, head_of_bank, note, word};
 use byteorder::{BigEndian, ByteOrder};
@@ -319,31 +317,19 @@ impl Bank {
         self.begun = Some(begun + 1);
     }
 
-    /// Adds the record that is begun to the bank, and makes it sure. None where the record and the gate behind it don't
+    /// Adds the record that is begun to the bank, and makes it sure. Full where the record and the gate behind it don't
     /// fit the rest of the bank: nothing is written, and the record stays begun. After any other answer no record is,
-    /// and after [`Kept::Unwritten`] and [`Kept::Doubt`] the bank has to be reopened before it is used again
+    /// and after [`Appended::Unwritten`] and [`Appended::Doubt`] the bank has to be reopened before it is used again
     /// (docs/FORMATS.md, "Protocols").
-    pub fn append<W: Outside>(&mut self, outside: &mut W) -> Option<Kept>
+    pub fn append<W: Outside>(&mut self, outside: &mut W) -> Appended
         requires begun { IsSome self.old.begun }
         requires room { HoldsAtLeast W.Outside (area_end self.old) outside.old }
-        ensures only { OnlyWrites W.Outside outside.old outside.new }
-        ensures shape { SameShape self.old self.new }
-        ensures kept { self.new ≡ bank_appended result self.old }
-        ensures full { result ≡ None ↔ (area_end self.old < needed_end self.old) }
-        ensures nothing { result ≡ None → outside.new ≡ outside.old }
-        ensures counted { IfSome result (CountsKept W.Outside outside.old outside.new) }
-        ensures writes { result ≡ Some Kept.Done → W.writes outside.new ≡ option_map (λ count. count + 2) (W.writes outside.old) }
-
-        // Of a bank that is tracked: whenever a crash comes, it leaves what stood, or that with the record.
-        ensures crash { TracksBank W.Outside self.old outside.old → Leaves W.Outside (IsEither (begun_of self.old) (held_of W.Outside outside.old)) outside.old outside.new }
-        ensures left { TracksBank W.Outside self.old outside.old → IfSome result (FailedLeaves W.Outside self.old self.old outside.old outside.new) }
-        ensures records { (tracks : TracksBank W.Outside self.old outside.old) → HoldsOneOf tracks.header self.old.which self.old.base tracks.records (begun_of self.old) (held_of W.Outside outside.new) }
-        ensures done { result ≡ Some Kept.Done → TracksBank W.Outside self.old outside.old → IsAppended W.Outside self.old self.new outside.old outside.new }
+        ensures { Appends W.Outside self.old self.new outside.old outside.new result }
     {
         let begun = self.begun.unwrap();
         let bytes = 11 + u64::from(entries_bytes(self.page, begun));
         if end_of(self.which, self.bank_bytes) < self.gate + bytes + 1 {
-            return None;
+            return Appended::Full;
         }
         let due = number_of(self.base, self.count).wrapping_add(1);
         self.begun = None;
@@ -359,9 +345,10 @@ impl Bank {
                 );
                 self.gate += bytes;
                 self.count += 1;
-                Some(Kept::Done)
+                Appended::Done
             }
-            failed => Some(failed),
+            Kept::Unwritten => Appended::Unwritten,
+            Kept::Doubt => Appended::Doubt,
         }
     }
 }

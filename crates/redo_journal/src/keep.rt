@@ -1,11 +1,11 @@
 // A body that is kept behind a gate.
-ghost use Rattle.std.specs.Prelude.{◌≡◌, ◌+◌, ◌≤◌, ◌<◌, ◌^◌, length, false, OnOk};
+ghost use Rattle.std.specs.Prelude.{◌≡◌, ◌+◌, ◌≤◌, ◌<◌, ◌^◌, length, false, None, Some, OnOk};
 ghost use Rattle.std.specs.Option.{option_map};
 ghost use Rattle.outside.specs.Causes.{FailsOnlyCounted};
 ghost use Rattle.outside.specs.Runs.{Leaves, held_of};
 ghost use Rattle.outside.specs.Bytes.{Torn};
 ghost use Rattle.outside.specs.Durable.{IsSure, IsWritten};
-ghost use Rattle.redo_journal.specs.Appended.{CountsKept};
+ghost use Rattle.redo_journal.specs.Appended.{CountsKept, kept_in};
 ghost use Rattle.redo_journal.specs.Held.{HoldsAtLeast, OnlyWrites, WritesOnce};
 ghost use Rattle.redo_journal.specs.Gate.{is_open, HasBody, IsShut, IsSafe, IsKept};
 
@@ -23,6 +23,35 @@ pub enum Kept {
     Unwritten,
     /// The disk failed from the gate's write on: a crash leaves the record or not.
     Doubt,
+}
+
+/// What came of an append: it found no room, or how far the record was kept (docs/FORMATS.md, "Protocols").
+#[derive(Debug, Clone, Copy, PartialEq, Eq)]
+pub enum Appended {
+    /// As [`Kept::Done`].
+    Done,
+    /// The record and the gate behind it don't fit the rest of the bank: nothing was written.
+    Full,
+    /// As [`Kept::Unwritten`].
+    Unwritten,
+    /// As [`Kept::Doubt`].
+    Doubt,
+}
+
+impl Appended {
+    /// How far the record was kept; none where it found no room.
+    pub fn kept(self) -> Option<Kept>
+        ensures value { result ≡ kept_in self }
+        ensures full { result ≡ None → self ≡ Appended.Full }
+        ensures done { result ≡ Some Kept.Done → self ≡ Appended.Done }
+    {
+        match self {
+            Appended::Done => Some(Kept::Done),
+            Appended::Full => None,
+            Appended::Unwritten => Some(Kept::Unwritten),
+            Appended::Doubt => Some(Kept::Doubt),
+        }
+    }
 }
 
 /// Writes a body behind a closed gate, makes it sure, and then opens the gate and makes that sure.

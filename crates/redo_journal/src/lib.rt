@@ -12,5 +12,5 @@ mod record;
 pub use bank::Bank;
 pub use fault::{OpenFault, ReopenFault};
 pub use find::Record;
-pub use keep::{Kept, write_once, write_sure};
+pub use keep::{Appended, Kept, write_once, write_sure};
 pub use law::what_no_record_has_is_nowhere;

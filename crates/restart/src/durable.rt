@@ -96,7 +96,7 @@ impl Durable {
     pub fn number(&self) -> u64
         ensures { result ≡ number_of self.now }
     {
-        self.banks.chosen().number()
+        self.banks.number()
     }
 
     /// Reads the disk again, under the header that is kept. No record is begun after any answer.

@@ -27,7 +27,7 @@ pub fn read_newest<W: Outside>(
     ensures read { OnOk result (IsSome (W.held outside.old) → page.new ≡ newest_over (line_bytes_of banks.now) (held_of W.Outside outside.old) (slice_index_or banks.now.newest line None) page.old at) }
     ensures cause { FailsOnlyCounted (W.disk_faults outside.old) (W.disk_faults outside.new) result }
 {
-    match banks.chosen().newest(line) {
+    match banks.newest(line) {
         None => Ok(()),
         Some(place) => read_line(outside, place, page, at, banks.line_bytes()),
     }

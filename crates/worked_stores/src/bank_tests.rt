@@ -1,7 +1,7 @@
 // What no clause says: a bank is opened where there is memory, and the places are those of docs/FORMATS.md.
 use line_geometry::{Directory, PageSize};
 use outside::{Joint, MemoryDisk, MemoryScreen};
-use redo_journal::{Bank, Kept};
+use redo_journal::{Appended, Bank};
 use std::test::Fail;
 use store_format::{Header, Which};
 
@@ -21,7 +21,7 @@ fn a_bank_takes_a_record(rt: HostRuntime) -> Result<(), Fail> {
     assert_eq!(rt; bank.room(), Some(30));
     bank.record_start();
     bank.record_line(3, &[7; 128]);
-    assert_eq!(rt; bank.append(&mut disk), Some(Kept::Done));
+    assert_eq!(rt; bank.append(&mut disk), Appended::Done);
     assert_eq!(rt; bank.number(), 1);
     assert_eq!(rt; bank.newest(3), Some(279));
     assert_eq!(rt; bank.newest(4), None);

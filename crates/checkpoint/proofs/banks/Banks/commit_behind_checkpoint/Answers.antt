@@ -1,5 +1,4 @@
-use Rattle.checkpoint.proofs.Common.{◌≡◌, ◌≤◌, inl, inr, ⊎_elim, List, [], sym, subst, ◌∙◌, ap, arith, Option, Some, Header, RecordLine, stands, one_more, Leaves, held_of, leaves_on, KeptBank, area_end, begun_of, needed_end, TracksBank, IsEither, HoldsOneOf, writes_on, other, emptied, CountsKept, FailedLeaves, IsCheckpointed, SameShape, bank_appended}
-use Rattle.std.specs.Prelude.{IfSome}
+use Rattle.checkpoint.proofs.Common.{◌≡◌, inl, inr, ⊎_elim, List, [], sym, subst, ◌∙◌, ap, arith, Option, IfSome, Some, Header, RecordLine, stands, one_more, Leaves, held_of, leaves_on, KeptBank, begun_of, TracksBank, IsEither, HoldsOneOf, writes_on, other, emptied, CountsKept, FailedLeaves, bank_appended, kept_in}
 use Rattle.redo_journal.specs.declared.keep.Kept.{Kept}
 use Rattle.checkpoint.proofs.CommitLemmas.{adds_same, answered_by, counts_on, either_same, failed_behind, kept_after, no_records, shape_on, two_more}
 use Rattle.checkpoint.proofs.banks.Banks.commit_behind_checkpoint.Given.{Over}
@@ -33,31 +32,32 @@ returns-in-Ok g c =
     let before = c.args.outside.now in
     let mid = c.checkpoint.new.outside in
     let after = c.append.new.outside in
-    let bank = c.self.inside.bank in
-    let turned : bank ≡ emptied old = c.self.view_is ∙ c.in-Ok.ensures.kept in
+    let bank = c.checkpoint.new.self in
+    let turned : bank ≡ emptied old = c.in-Ok.ensures.kept in
     let kept = c.unwrap_or.result in
-    let answered : c.append.result ≡ Some kept = answered_by c.append.result kept (λ none. let no = c.append.ensures.full.0 none in let fits = subst (λ (those : KeptBank). needed_end those ≤ area_end those) (sym c.self.view_is) c.in-Ok.ensures.fits in omega (arith, no, fits)) c.unwrap_or.ensures in
+    let answered : c.kept.result ≡ Some kept = answered_by c.kept.result kept (λ none. let no = c.append.ensures.full.0 (c.kept.ensures.full none) in omega (arith, no, c.in-Ok.ensures.fits)) c.unwrap_or.ensures in
+    let told : kept_in c.append.result ≡ Some kept = sym c.kept.ensures.value ∙ answered in
     let first = c.checkpoint.ensures.only in
     let later = c.append.ensures.only in
     record {
       only = writes_on G g.met.W.Outside.fewer_later before mid after first later;
-      shape = shape_on old bank c.append.new.self (subst (SameShape old) (sym c.self.view_is) c.checkpoint.ensures.shape) c.append.ensures.shape;
-      kept = kept_after kept (emptied old) old c.append.new.self (c.append.ensures.kept ∙ ap (λ (answer : Option Kept). bank_appended answer bank) answered ∙ ap (bank_appended (Some kept)) turned);
-      counted = counts_on G before mid after kept c.in-Ok.ensures.cause.done (subst (λ (answer : Option Kept). IfSome answer (CountsKept G mid after)) answered c.append.ensures.counted);
-      writes = λ is. two_more (G.writes before) (G.writes mid) (G.writes after) first.writes (c.append.ensures.writes (answered ∙ ap Some is));
+      shape = shape_on old bank c.append.new.self c.checkpoint.ensures.shape c.append.ensures.shape;
+      kept = kept_after kept (emptied old) old c.append.new.self (c.append.ensures.kept ∙ ap (λ (answer : Option Kept). bank_appended answer bank) told ∙ ap (bank_appended (Some kept)) turned);
+      counted = counts_on G before mid after kept c.in-Ok.ensures.cause.done (subst (λ (answer : Option Kept). IfSome answer (CountsKept G mid after)) told c.append.ensures.counted);
+      writes = λ is. two_more (G.writes before) (G.writes mid) (G.writes after) first.writes (c.append.ensures.writes (c.kept.ensures.done (answered ∙ ap Some is)));
       crash = λ tracks.
-          let made = subst (λ (those : KeptBank). IsCheckpointed G old those before mid) (sym c.self.view_is) (c.in-Ok.ensures.done tracks) in
+          let made = c.in-Ok.ensures.done tracks in
           leaves_on G g.met.W.Outside.fewer_later before mid after first.calls.time later.calls.time (IsEither (begun_of old) (held_of G before))
           (λ image seen left. inl (stood g at tracks image seen left))
           (λ image seen left.
           either_same (other old.which) old (held_of G before) (held_of G mid) image seen made.stood
           (subst (λ (bank : KeptBank). IsEither (begun_of bank) (held_of G mid) image seen) turned (c.append.ensures.crash made.tracks image seen left)));
       left = λ tracks.
-          let made = subst (λ (those : KeptBank). IsCheckpointed G old those before mid) (sym c.self.view_is) (c.in-Ok.ensures.done tracks) in
+          let made = c.in-Ok.ensures.done tracks in
           failed_behind G g.met.W.Outside.fewer_later old bank before mid after first.calls.time later.calls.time turned made.stood (stood g at tracks) kept
-          (subst (λ (answer : Option Kept). IfSome answer (FailedLeaves G bank bank mid after)) answered (c.append.ensures.left made.tracks));
+          (subst (λ (answer : Option Kept). IfSome answer (FailedLeaves G bank bank mid after)) told (c.append.ensures.left made.tracks));
       records = λ tracks.
-          let made = subst (λ (those : KeptBank). IsCheckpointed G old those before mid) (sym c.self.view_is) (c.in-Ok.ensures.done tracks) in
+          let made = c.in-Ok.ensures.done tracks in
           let now = held_of G after in
           let header : made.tracks.header ≡ tracks.header = sym made.tracks.store.said ∙ made.header ∙ tracks.store.said in
           let none : made.tracks.records ≡ [] = no_records made.tracks.records (made.tracks.count ∙ ap (λ (bank : KeptBank). bank.count) turned) in
@@ -65,8 +65,8 @@ returns-in-Ok g c =
           (subst (λ (those : List (List RecordLine)). HoldsOneOf made.tracks.header (other old.which) (emptied old).base those (begun_of (emptied old)) now) none
           (subst (λ (bank : KeptBank). HoldsOneOf made.tracks.header bank.which bank.base made.tracks.records (begun_of bank) now) turned (c.append.ensures.records made.tracks))));
       done = λ is tracks.
-          let made = subst (λ (those : KeptBank). IsCheckpointed G old those before mid) (sym c.self.view_is) (c.in-Ok.ensures.done tracks) in
-          let added = c.append.ensures.done (answered ∙ ap Some is) made.tracks in
+          let made = c.in-Ok.ensures.done tracks in
+          let added = c.append.ensures.done (c.kept.ensures.done (answered ∙ ap Some is)) made.tracks in
           record {
             tracks = added.tracks;
             stood = added.stood ∙ ap (λ (bank : KeptBank). one_more (begun_of bank) (stands (held_of G mid))) turned ∙ adds_same (other old.which) old (stands (held_of G mid)) (stands (held_of G before)) made.stood;

@@ -1,7 +1,12 @@
-use Rattle.redo_journal.proofs.Common.{◌≡◌, ℕ, ◌+◌, ◌*◌, ◌<◌, List, [], ◌∷◌, ◌++◌, length, drop, slice_set, refl, sym, subst, ◌∙◌, ap, arith, length-append, Option, entry_bytes, RecordLine, lines_from, wrong_line, record_bytes, length-take-le, IsStore, stands, one_more, Leaves, held_of, noted, AreNewest, KeptBank, end_of, area_end, begun_of, needed_end, unbegun, begun_count, begun_lines, kept_of, TracksBank, IsEither, HoldsOneOf, IsSafe, IsShut}
-use Rattle.redo_journal.proofs.AppendLemmas.{IsReadied, make_ready, shut, either, one_of, same, more, after, doubted, filled_lines, says_room, begun_is, fields_tracked, with_record_is, is_begun, unwrapped, failed_leaves, unkept_is}
+use Rattle.redo_journal.proofs.Common.{◌≡◌, inl, ℕ, ◌+◌, ◌*◌, List, [], ◌∷◌, ◌++◌, length, drop, slice_set, refl, sym, subst, ◌∙◌, ap, arith, rules, length-append, Option, None, Some, IfSome, SameShape, IsAppended, entry_bytes, RecordLine, lines_from, wrong_line, record_bytes, length-take-le, leaves_held, IsStore, stands, one_more, held_of, noted, AreNewest, KeptBank, end_of, begun_of, unbegun, begun_count, begun_lines, kept_of, TracksBank, IsEither, HoldsOneOf, IsSafe, IsShut}
+use Rattle.redo_journal.proofs.AppendLemmas.{IsReadied, make_ready, shut, either, one_of, same, more, after, doubted, filled_lines, says_room, begun_is, fields_tracked, with_record_is, is_begun, unwrapped}
 use Rattle.redo_journal.proofs.Places.{below_in_order, newest_more}
 use Rattle.redo_journal.proofs.WriteLemmas.{held_left}
+use Rattle.redo_journal.specs.Appended.{Appends, CountsKept, FailedLeaves, bank_appended, kept_in}
+use Rattle.redo_journal.specs.declared.keep.Appended.{Appended}
+use Rattle.redo_journal.specs.declared.keep.Appended.TheVariants as appending
+use Rattle.redo_journal.specs.declared.keep.Kept.{Kept}
+use Rattle.redo_journal.specs.declared.keep.Kept.TheVariants as keeping
 use Rattle.redo_journal.proofs.bank.Bank.append.Given.{Over}
 use Rattle.redo_journal.proofs.bank.Bank.append.Goals as goal
 use Rattle.redo_journal.proofs.bank.Bank.append.Goals.{After-keep_body, After-note}
@@ -38,17 +43,23 @@ ready g c given =
 begun : (g : Over) (c : goal.After-keep_body g) → begun_lines c.self.inside ≡ begun_of c.args.self.now
 begun g c = begun_is c.self.inside c.args.self.now c.self.view_is
 
-pub returns-then-end_of-self-clause-full : goal.returns-then-end_of-self-clause-full
-returns-then-end_of-self-clause-full g c =
+pub returns-then-end_of-self : goal.returns-then-end_of-self
+returns-then-end_of-self g c =
     let says = says_room c.self.inside c.args.self.now c.self.view_is in
     let n = unwrapped c.self.inside.begun c.unwrap-begun.result c.unwrap-begun.ensures in
-    (λ is. omega (arith, ap (λ (k : ℕ). entry_bytes c.self.inside.page * k) n, says.end, says.need, c.end_of.ensures.value, c.from-bytes.ensures, c.entries_bytes.ensures.value, c.if-end_of-self.true), λ is. refl)
-
--- the record fits
-not_full : (g : Over) (c : goal.After-keep_body g) → area_end c.args.self.now < needed_end c.args.self.now → ⊥
-not_full g c full =
-    let says = says_room c.self.inside c.args.self.now c.self.view_is in
-    omega (arith, sized g c, full, says.end, says.need, c.end_of.ensures.value, c.if-end_of-self.false)
+    record {
+      only = search rules;
+      shape = search rules;
+      kept = refl;
+      full = (λ is. omega (arith, ap (λ (k : ℕ). entry_bytes c.self.inside.page * k) n, says.end, says.need, c.end_of.ensures.value, c.from-bytes.ensures, c.entries_bytes.ensures.value, c.if-end_of-self.true), λ is. refl);
+      nothing = λ is. refl;
+      counted = tt;
+      writes = λ is. cc;
+      crash = λ tracks image seen left. inl (ap stands (leaves_held g.W.Outside c.args.outside.now tracks.sure image seen left));
+      left = λ tracks. tt;
+      records = search rules;
+      done = λ is. cc;
+    }
 
 pub note-requires-clause-ordered : goal.note-requires-clause-ordered
 note-requires-clause-ordered g c =
@@ -59,73 +70,61 @@ note-requires-clause-ordered g c =
 shut_gate : (g : Over) (c : goal.After-keep_body g) → TracksBank g.W.Outside c.args.self.now c.args.outside.now → IsShut g.W.Outside c.self.inside.gate c.args.outside.now
 shut_gate g c tracks = record { sure = tracks.sure; shut = shut _ _ _ _ _ _ _ _ _ (ready g c tracks).ready }
 
--- what a safe image stands for, and which records it has
-left : (g : Over) (r : goal.After-keep_body g) (tracks : TracksBank g.W.Outside r.args.self.now r.args.outside.now) (image seen : List ℕ) → IsSafe r.self.inside.gate r.record_of.result.now (held_of g.W.Outside r.args.outside.now) image → IsEither (begun_of r.args.self.now) (held_of g.W.Outside r.args.outside.now) image seen
-left g r tracks image seen safe =
-    subst (λ (lines : List RecordLine). IsEither lines (held_of g.W.Outside r.args.outside.now) image seen) (begun g r) (either _ _ _ _ _ _ _ _ _ (ready g r tracks).ready image safe seen)
-
 -- an image of now is one since the start
 since : (g : Over) (c : goal.After-keep_body g) → IsShut g.W.Outside c.self.inside.gate c.args.outside.now → (image seen : List ℕ) → g.W.Outside.left_since c.keep_body.new.outside (g.W.Outside.moment c.keep_body.new.outside) image seen
     → IsSafe c.self.inside.gate c.record_of.result.now (held_of g.W.Outside c.args.outside.now) image
 since g c shut image seen left = c.keep_body.ensures.crash shut image seen (g.met.W.Outside.fewer_later c.keep_body.new.outside _ _ image seen c.keep_body.ensures.only.calls.time.later left)
 
--- the bytes held are an image of now
-held_safe : (g : Over) (c : goal.After-keep_body g) → IsShut g.W.Outside c.self.inside.gate c.args.outside.now → IsSafe c.self.inside.gate c.record_of.result.now (held_of g.W.Outside c.args.outside.now) (held_of g.W.Outside c.keep_body.new.outside)
-held_safe g c shut =
-    let now = held_left g.W.Outside g.met.W.Outside.held_now c.keep_body.new.outside (c.keep_body.ensures.only.told shut.sure.told) in
-    since g c shut (held_of g.W.Outside c.keep_body.new.outside) now.0 now.1
-
--- the records of bytes that are safe
-records : (g : Over) (c : goal.After-keep_body g) (tracks : TracksBank g.W.Outside c.args.self.now c.args.outside.now) (held : List ℕ) → IsSafe c.self.inside.gate c.record_of.result.now (held_of g.W.Outside c.args.outside.now) held
-    → HoldsOneOf tracks.header c.args.self.now.which c.args.self.now.base tracks.records (begun_of c.args.self.now) held
-records g c tracks held safe =
-    let bank = c.self.inside in
-    subst (λ (kept : KeptBank). HoldsOneOf tracks.header kept.which kept.base tracks.records (begun_of kept) held) c.self.view_is
-    (subst (λ (lines : List RecordLine). HoldsOneOf tracks.header bank.which bank.base tracks.records lines held) (begun_is bank (kept_of bank) refl)
-    (one_of _ _ _ _ _ _ _ _ _ (ready g c tracks).ready held safe))
-
--- each image since the start, and the bytes held after any answer
-crash : (g : Over) (c : goal.After-keep_body g) → TracksBank g.W.Outside c.args.self.now c.args.outside.now → Leaves g.W.Outside (IsEither (begun_of c.args.self.now) (held_of g.W.Outside c.args.outside.now)) c.args.outside.now c.keep_body.new.outside
-crash g c tracks image seen was = left g c tracks image seen (c.keep_body.ensures.crash (shut_gate g c tracks) image seen was)
-
-held : (g : Over) (c : goal.After-keep_body g) (tracks : TracksBank g.W.Outside c.args.self.now c.args.outside.now)
-    → HoldsOneOf tracks.header c.args.self.now.which c.args.self.now.base tracks.records (begun_of c.args.self.now) (held_of g.W.Outside c.keep_body.new.outside)
-held g c tracks = records g c tracks (held_of g.W.Outside c.keep_body.new.outside) (held_safe g c (shut_gate g c tracks))
-
-pub returns-in-Done-clause-crash : goal.returns-in-Done-clause-crash
-returns-in-Done-clause-crash g c = crash g (goal.at.returns-in-Done-clause-crash g c).After-keep_body
-
-pub returns-in_default-clause-crash : goal.returns-in_default-clause-crash
-returns-in_default-clause-crash g c = crash g (goal.at.returns-in_default-clause-crash g c).After-keep_body
-
-pub returns-in-Done-clause-full : goal.returns-in-Done-clause-full
-returns-in-Done-clause-full g c = (λ is. cc, λ is. absurd (not_full g (goal.at.returns-in-Done-clause-full g c).After-keep_body is))
-
-pub returns-in_default-clause-full : goal.returns-in_default-clause-full
-returns-in_default-clause-full g c = (λ is. cc, λ is. absurd (not_full g (goal.at.returns-in_default-clause-full g c).After-keep_body is))
-
-pub returns-in-Done-clause-records : goal.returns-in-Done-clause-records
-returns-in-Done-clause-records g c = held g (goal.at.returns-in-Done-clause-records g c).After-keep_body
-
-pub returns-in_default-clause-records : goal.returns-in_default-clause-records
-returns-in_default-clause-records g c = held g (goal.at.returns-in_default-clause-records g c).After-keep_body
-
-pub returns-in_default-clause-kept : goal.returns-in_default-clause-kept
-returns-in_default-clause-kept g c = ap unbegun c.self.view_is ∙ sym (unkept_is c.args.self.now c.keep_body.result c.in_default.not-Done)
-
-pub returns-in_default-clause-left : goal.returns-in_default-clause-left
-returns-in_default-clause-left g c tracks =
+-- what an append leaves that found room, where it is answered by how the body was kept
+appends : (g : Over) (c : goal.After-keep_body g) (new : KeptBank) (answer : Appended) → kept_in answer ≡ Some c.keep_body.result → new ≡ bank_appended (kept_in answer) c.args.self.now → SameShape c.args.self.now new
+    → (TracksBank g.W.Outside c.args.self.now c.args.outside.now → IfSome (kept_in answer) (FailedLeaves g.W.Outside c.args.self.now c.args.self.now c.args.outside.now c.keep_body.new.outside))
+    → (answer ≡ appending.Done → TracksBank g.W.Outside c.args.self.now c.args.outside.now → IsAppended g.W.Outside c.args.self.now new c.args.outside.now c.keep_body.new.outside)
+    → Appends g.W.Outside c.args.self.now new c.args.outside.now c.keep_body.new.outside answer
+appends g c new answer told kept shape failed done =
     let G = g.W.Outside in
-    let at = goal.at.returns-in_default-clause-left g c in
-    let shut = shut_gate g at.After-keep_body tracks in
-    let now = (ready g at.After-keep_body tracks).ready in
-    let gate : c.self.inside.gate ≡ c.args.self.now.gate = ap (λ (bank : KeptBank). bank.gate) c.self.view_is in
-    let stood = stands (held_of G c.args.outside.now) in
-    failed_leaves G c.args.self.now c.args.self.now c.args.outside.now c.keep_body.new.outside c.keep_body.result
-    (λ is image seen left. same _ _ _ _ _ _ _ _ _ now image (c.keep_body.ensures.crash shut image seen left) (c.keep_body.ensures.unwritten is shut image seen left))
-    (λ is image seen left.
-    subst (λ (n : ℕ). stands (slice_set image n 0xA5) ≡ one_more (begun_of c.args.self.now) stood) gate
-    (doubted _ _ _ _ _ _ _ _ _ now image (since g at.After-keep_body shut image seen left) (c.keep_body.ensures.doubt is shut image seen left) ∙ ap (λ (lines : List RecordLine). one_more lines stood) (begun g at.After-keep_body)))
+    let bank = c.self.inside in
+    let old = c.args.self.now in
+    let before = c.args.outside.now in
+    let after = c.keep_body.new.outside in
+    let says = says_room bank old c.self.view_is in
+    let room : answer ≡ appending.Full → ⊥ = λ is. let no : None ≡ Some c.keep_body.result = sym (ap kept_in is) ∙ told in cc in
+    record {
+      only = c.keep_body.ensures.only;
+      shape = shape;
+      kept = kept;
+      full = (λ is. absurd (room is), λ full. let no : ⊥ = omega (arith, sized g c, full, says.end, says.need, c.end_of.ensures.value, c.if-end_of-self.false) in absurd no);
+      nothing = λ is. absurd (room is);
+      counted = subst (λ (those : Option Kept). IfSome those (CountsKept G before after)) (sym told) c.keep_body.ensures.counted;
+      writes = λ is. let same : Some c.keep_body.result ≡ Some keeping.Done = sym told ∙ ap kept_in is in c.keep_body.ensures.writes cc;
+      crash = λ tracks image seen was. subst (λ (lines : List RecordLine). IsEither lines (held_of G before) image seen) (begun g c) (either _ _ _ _ _ _ _ _ _ (ready g c tracks).ready image (c.keep_body.ensures.crash (shut_gate g c tracks) image seen was) seen);
+      left = failed;
+      records = λ tracks.
+          let now = held_left G g.met.W.Outside.held_now after (c.keep_body.ensures.only.told tracks.sure.told) in
+          subst (λ (kept : KeptBank). HoldsOneOf tracks.header kept.which kept.base tracks.records (begun_of kept) (held_of G after)) c.self.view_is
+          (subst (λ (lines : List RecordLine). HoldsOneOf tracks.header bank.which bank.base tracks.records lines (held_of G after)) (begun_is bank (kept_of bank) refl)
+          (one_of _ _ _ _ _ _ _ _ _ (ready g c tracks).ready (held_of G after) (since g c (shut_gate g c tracks) (held_of G after) now.0 now.1)));
+      done = done;
+    }
+
+pub returns-in-Unwritten : goal.returns-in-Unwritten
+returns-in-Unwritten g c =
+    let at = (goal.at.returns-in-Unwritten g c).After-keep_body in
+    appends g at _ appending.Unwritten (ap Some (sym c.in-Unwritten.is)) (ap unbegun c.self.view_is) (search rules)
+    (λ tracks image seen left.
+    let shut = shut_gate g at tracks in
+    same _ _ _ _ _ _ _ _ _ (ready g at tracks).ready image (c.keep_body.ensures.crash shut image seen left) (c.keep_body.ensures.unwritten c.in-Unwritten.is shut image seen left))
+    (λ is. cc)
+
+pub returns-in-Doubt : goal.returns-in-Doubt
+returns-in-Doubt g c =
+    let at = (goal.at.returns-in-Doubt g c).After-keep_body in
+    let stood = stands (held_of g.W.Outside c.args.outside.now) in
+    appends g at _ appending.Doubt (ap Some (sym c.in-Doubt.is)) (ap unbegun c.self.view_is) (search rules)
+    (λ tracks image seen left.
+    let shut = shut_gate g at tracks in
+    subst (λ (n : ℕ). stands (slice_set image n 0xA5) ≡ one_more (begun_of c.args.self.now) stood) (ap (λ (bank : KeptBank). bank.gate) c.self.view_is)
+    (doubted _ _ _ _ _ _ _ _ _ (ready g at tracks).ready image (since g at shut image seen left) (c.keep_body.ensures.doubt c.in-Doubt.is shut image seen left) ∙ ap (λ (lines : List RecordLine). one_more lines stood) (begun g at)))
+    (λ is. cc)
 
 -- the lines that are noted are those that were begun
 noted_lines : (g : Over) (c : goal.After-note g) → c.note.new.newest ≡ noted c.self.inside.newest (begun_lines c.self.inside)
@@ -135,23 +134,20 @@ noted_lines g c =
     let lines : lines_from bank.page c.unwrap-begun.result (bank.gate + 11) (drop 10 c.as_slice.result.now) ≡ begun_lines bank = rw (← n) (filled_lines bank c.fill.new.body c.as_slice.result.now (rw n c.fill.ensures.lines) c.as_slice.ensures) in
     c.note.ensures.value ∙ ap (noted bank.newest) lines
 
-pub returns-in-Done-clause-kept : goal.returns-in-Done-clause-kept
-returns-in-Done-clause-kept g c =
-    let n = count g (goal.at.returns-in-Done-clause-kept g c).After-keep_body in
-    let bank = c.self.inside in
-    with_record_is bank c.args.self.now (bank.gate + (11 + c.from-bytes.result)) c.note.new.newest c.self.view_is (omega (arith, sized g (goal.at.returns-in-Done-clause-kept g c).After-keep_body)) (noted_lines g (goal.at.returns-in-Done-clause-kept g c).After-note)
-
-pub returns-in-Done-clause-done : goal.returns-in-Done-clause-done
-returns-in-Done-clause-done g c is tracks =
-    let at = (goal.at.returns-in-Done-clause-done g c).After-keep_body in
+pub returns-in-Done : goal.returns-in-Done
+returns-in-Done g c =
+    let at = (goal.at.returns-in-Done g c).After-keep_body in
     let n = count g at in
-    let now = ready g at tracks in
     let bank = c.self.inside in
+    let noted_is = noted_lines g (goal.at.returns-in-Done g c).After-note in
+    appends g at _ appending.Done (ap Some (sym c.in-Done.is))
+    (with_record_is bank c.args.self.now (bank.gate + (11 + c.from-bytes.result)) c.note.new.newest c.self.view_is (omega (arith, sized g at)) noted_is) (search rules) (λ tracks. tt)
+    (λ is tracks.
+    let now = ready g at tracks in
     let kept = c.keep_body.ensures.done c.in-Done.is (shut_gate g at tracks) in
     let held = held_of g.W.Outside c.keep_body.new.outside in
     let gate : bank.gate + length c.record_of.result.now ≡ bank.gate + (11 + c.from-bytes.result) = omega (arith, sized g at, ap length c.record_of.ensures, length-take-le (record_bytes bank.page c.unwrap-begun.result) c.fill.new.body (omega (arith, c.fill.ensures.len, c.self.invariant.buffer, c.self.invariant.fits, ap (λ (k : ℕ). entry_bytes bank.page * k) n)), ap (λ (k : ℕ). entry_bytes bank.page * k) n) in
     let store = after _ _ _ _ _ _ _ _ _ now.ready held kept.safe kept.shown in
-    let noted_is = noted_lines g (goal.at.returns-in-Done-clause-done g c).After-note in
     record {
       tracks = record {
         sure = kept.sure;
@@ -166,7 +162,7 @@ returns-in-Done-clause-done g c is tracks =
       };
       stood = more _ _ _ _ _ _ _ _ _ now.ready held kept.safe kept.shown ∙ ap (λ (lines : List RecordLine). one_more lines (stands (held_of g.W.Outside c.args.outside.now))) (begun g at);
       header = store.said ∙ sym now.tracks.store.said;
-    }
+    })
 
 pub invariant_of-self : goal.invariant_of-self
 invariant_of-self g c =
