@@ -13,7 +13,7 @@ pub use Rattle.std.specs.Str.Parse.{AllDigits, digits_value}
 pub use Rattle.asm_parse.specs.Number.{number_in, number_of}
 pub use Rattle.asm_parse.specs.Operand.{operands_of}
 pub use Rattle.asm_parse.specs.Statement.{body_of, line_of, statement_of}
-pub use Rattle.asm_parse.specs.Text.{Gains, at_line, is_feed, lines_of, parsed, then_statements}
+pub use Rattle.asm_parse.specs.Text.{Gains, is_feed, lines_of, parsed, then_statements}
 unfoldable pub use Rattle.asm_parse.specs.Text.{statements_from}
 pub use Rattle.asm_parse.specs.Token.{before, begins, begins_word, continues_word, is_blank, mark_begins, more_of, number_begins, then_tokens, tokens, word_begins}
 unfoldable pub use Rattle.asm_parse.specs.Token.{tokens_past}

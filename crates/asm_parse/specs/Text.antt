@@ -17,14 +17,14 @@ Gains old new (Ok (Some statement)) = new ≡ old ++ statement ∷ []
 Gains old new (Ok None) = new ≡ old
 Gains old new (Err fault) = ⊥
 
--- whether a byte is a line feed
-abbrev pub is_feed : ℕ → Bool
-is_feed byte = byte == 10
-
 -- the answer to an appending: the list gains the statement of this reading, or the fault is the reading's and the list stays
 abbrev pub Adds : {A : Type 0} → Result A LineFault → List Statement → List Statement → Result (Option Statement) ℕ → Type 0
 Adds (Ok _) old new reading = Gains old new reading
 Adds (Err fault) old new reading = IsFaultOf fault reading × (new ≡ old)
+
+-- whether a byte is a line feed
+abbrev pub is_feed : ℕ → Bool
+is_feed byte = byte == 10
 
 -- the lines of a text, between its line feeds; what stands behind the last one is a line too
 abbrev pub lines_of : List ℕ → List (List ℕ)

@@ -9,7 +9,6 @@ ghost use Rattle.asm_parse.specs.Answers.{Answers};
 use super::fault::LineFault;
 use super::numbers::number_of;
 use super::word::Word;
-use std::alloc::Global;
 
 /// What a line is made of (docs/FORMATS.md, "Assembler").
 #[derive(Debug, Drop)]
@@ -44,7 +43,7 @@ const CHARACTER: u8 = 1;
 const NUMBER: u8 = 4;
 
 /// The tokens of a line without its line feed, in a room that is kept for one line after another. Of the tokens before
-/// nothing is left.
+/// nothing is left; after an error any may lie there.
 ///
 /// # Errors
 ///

@@ -16,7 +16,7 @@ use crate::home::write_home;
 use crate::selector::{other_of, read_selector, write_selector};
 use outside::{Failed, Outside};
 use redo_journal::{Appended, Bank, Kept, OpenFault, ReopenFault};
-use std::alloc::{AllocError, Global};
+use std::alloc::Global;
 use std::marker::Model;
 use store_format::{Header, Which};
 
@@ -44,7 +44,7 @@ impl Banks {
     ///
     /// # Errors
     ///
-    /// [`OpenFault::Damaged`] exactly where the chosen bank has a fault, with its offset; [`OpenFault::DiskFault`]
+    /// [`OpenFault::Damaged`] only where the chosen bank has a fault, with its offset; [`OpenFault::DiskFault`]
     /// only where the disk's count rose; [`OpenFault::Memory`] where there was none. Never [`OpenFault::NotAStore`]
     /// (docs/FORMATS.md, "What an image stands for").
     pub fn open<W: Outside>(
@@ -64,10 +64,8 @@ impl Banks {
             Err(Failed) => return Err(OpenFault::DiskFault),
             Ok(which) => which,
         };
-        match Bank::open(alloc, header, which, outside) {
-            Err(fault) => Err(fault),
-            Ok(bank) => with_buffer(alloc, header, bank),
-        }
+        let bank = Bank::open(alloc, header, which, outside)?;
+        with_buffer(alloc, header, bank)
     }
 
     /// Reads the selector and the bank that it chooses again. No record is begun after any answer. After an error they
@@ -75,7 +73,7 @@ impl Banks {
     ///
     /// # Errors
     ///
-    /// [`ReopenFault::Damaged`] exactly where the chosen bank has a fault, with its offset, and never after this
+    /// [`ReopenFault::Damaged`] only where the chosen bank has a fault, with its offset, and never after this
     /// value's own calls over an honest outside that tells its bytes; [`ReopenFault::DiskFault`] only where the disk's
     /// count rose.
     pub fn reopen<W: Outside>(&mut self, outside: &mut W) -> Result<(), ReopenFault>
@@ -229,10 +227,8 @@ fn with_buffer(alloc: Global, header: &Header, bank: Bank) -> Result<Banks, Open
     ensures value { IfOk result (λ banks. banks ≡ bank) }
     ensures fault { IfErr result (λ fault. fault ≡ OpenFault.Memory) }
 {
-    match vec![in alloc; 0; header.line_bytes()] {
-        Err(AllocError) => Err(OpenFault::Memory),
-        Ok(line) => Ok(Banks { bank, line }),
-    }
+    let line = vec![in alloc; 0; header.line_bytes()]?;
+    Ok(Banks { bank, line })
 }
 
 /// Moves what a bank holds home, through a buffer of one line, and lets the selector choose the other bank.

@@ -18,23 +18,11 @@ use job_calls::{Ended, run_load, run_source};
 use outside::{Outside, Source};
 use standby_calls::{follow_source, ship_store};
 use std::alloc::Global;
-use store_calls::{Range, make_store, renew_store, show_range};
+use store_calls::{make_store, renew_store, show_range};
 
 /// All that the program does: it takes the words of the command line, without the program's name, and the source, disk
 /// and screen that are handed in, and answers how it ended (docs/FORMATS.md, "Words" and "Statuses").
-///
-/// The words `try` and `run STORE`: the job of the source runs on the disk's store, and its report is put, a line at a
-/// time. The words `list`: the programs of the job are listed, a line at a time, and the disk is left alone. The word
-/// `drill`: the job is stopped at each of its writes in turn, in memory, and a line is put for each stop. The words
-/// `show STORE S FROM COUNT`: bytes of the disk's store are put, a row at a time. The words `new STORE BANK S P ..`: an
-/// empty disk becomes a store with nothing in it, and `new2` in place of `new` one with pages of 4,096 bytes, of which a segment is
-/// fine whose pages have an `f` behind them. The words `renew STORE BANK`: an empty disk becomes a store of version 2 with what
-/// the source's store of version 1 has. The words `ship STORE NUMBER`: the records that the disk's store keeps behind this number are put as
-/// a text. The words `follow STORE`: the records of such a text, from the source, are committed to the disk's store, with a line for
-/// each. The words `big TRANSFERS`: a load of so many transfers, with waits and victims, runs on
-/// the disk's store, and one line tells what came of it. The word `audit`: the bundle of the source is checked, and one line
-/// tells its verdict. The words `trace ACTIVATION`: the lines that this activation of a bundle touched are put. A file that the word STORE
-/// names is opened by whoever makes the disk.
+/// A file that the word STORE names is opened by whoever makes the disk.
 pub fn console<S: Source, W: Outside>(
     alloc: Global,
     words: &[String],

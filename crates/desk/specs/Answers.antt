@@ -1,5 +1,5 @@
 -- What the answers to events tell of.
-use Rattle.std.specs.Prelude.{◌≡◌, ℕ, ◌+◌, ◌%◌, ◌^◌, Bool, true, false, List, map, Some, None}
+use Rattle.std.specs.Prelude.{◌≡◌, ℕ, ◌+◌, ◌%◌, ◌^◌, Bool, true, false, List, [], ◌∷◌, ◌++◌, map, Some, None}
 use Rattle.desk.specs.declared.answers.Begun.{Begun}
 use Rattle.desk.specs.declared.answers.Begun.TheVariants as begun
 use Rattle.desk.specs.declared.answers.Turn.{Turn}
@@ -66,6 +66,17 @@ reopened_told lost (reopened.Number number) = run.Crashed lost
 reopened_told lost (reopened.Damaged offset) = run.CrashFailed lost
 reopened_told lost reopened.DiskFault = run.CrashFailed lost
 reopened_told lost reopened.Shut = run.Nothing
+
+-- a commit, and one in doubt, enters the order with the activation, and no other end changes it
+abbrev pub EntersOrder : (activation : ℕ) → TurnEnd → (old new : List (ℕ × ℕ)) → Type 0
+EntersOrder activation (end.Committed told steps) old new = new ≡ old ++ (activation, steps) ∷ []
+EntersOrder activation (end.Closed (Some doubted) told) old new = (steps : ℕ) × (new ≡ old ++ (activation, steps) ∷ [])
+EntersOrder activation _ old new = new ≡ old
+
+-- what the last commit printed stays but for a commit
+abbrev pub KeepsPrinted : TurnEnd → (old new : List ℕ) → Type 0
+KeepsPrinted (end.Committed told steps) old new = Unit {0}
+KeepsPrinted _ old new = new ≡ old
 
 -- whether an answer says that the desk is closed
 abbrev pub turn_closes : TurnEnd → Bool

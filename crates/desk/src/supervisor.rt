@@ -8,7 +8,7 @@ ghost use Rattle.desk.specs.Holdings.{numbers};
 ghost use Rattle.desk.specs.Instruction.{Fine};
 ghost use Rattle.desk.specs.Run.{step};
 ghost use Rattle.desk.specs.Report.{number_after};
-ghost use Rattle.desk.specs.Answers.{begun_told, turn_told, stored_told, reopened_told, turn_closes, stored_closes, reopened_closes, HasNumbers, StoredNumber, IsReopened};
+ghost use Rattle.desk.specs.Answers.{begun_told, turn_told, stored_told, reopened_told, turn_closes, stored_closes, reopened_closes, EntersOrder, HasNumbers, KeepsPrinted, StoredNumber, IsReopened};
 ghost use Rattle.desk.specs.Crash.{Did, standing_of};
 ghost use Rattle.desk.specs.Calls.{CallsStore, FailsCounted, Fixed, StaysShut, reopened_fails, stored_fails};
 ghost use Rattle.desk.specs.Kept.{HoldsStore, IsDamage, WritesMore, writes_due, turn_fails};
@@ -53,6 +53,7 @@ pub trait Supervisor {
         ensures shut { StaysShut (closed self.old) (result ≡ Begun.Shut) (self.new ≡ self.old) }
         ensures closed { closed self.new ≡ closed self.old }
         ensures order { order self.new ≡ order self.old }
+        ensures printed { printed self.new ≡ printed self.old }
         ensures sound { sound self.new }
         ensures fixed { fixed self.new ≡ fixed self.old }
         ensures given { given self.new ≤ given self.old + 1 }
@@ -70,6 +71,8 @@ pub trait Supervisor {
         ensures closed { closed self.new ≡ turn_closes result.end }
         ensures failed { FailsCounted (turn_fails result.end) (W.disk_faults outside.old) (W.disk_faults outside.new) }
         ensures calls { CallsStore W.Outside (fixed self.new).header outside.old outside.new }
+        ensures ordered { EntersOrder activation result.end (order self.old) (order self.new) }
+        ensures printed { KeepsPrinted result.end (printed self.old) (printed self.new) }
         ensures sound { sound self.new }
         ensures fixed { fixed self.new ≡ fixed self.old }
         ensures given { given self.new ≡ given self.old }
@@ -85,6 +88,8 @@ pub trait Supervisor {
         ensures closed { closed self.new ≡ stored_closes result }
         ensures failed { FailsCounted (stored_fails result) (W.disk_faults outside.old) (W.disk_faults outside.new) }
         ensures calls { CallsStore W.Outside (fixed self.new).header outside.old outside.new }
+        ensures order { order self.new ≡ order self.old }
+        ensures printed { printed self.new ≡ printed self.old }
         ensures sound { sound self.new }
         ensures fixed { fixed self.new ≡ fixed self.old }
         ensures given { given self.new ≡ given self.old }
@@ -100,17 +105,19 @@ pub trait Supervisor {
         ensures failed { FailsCounted (reopened_fails result) (W.disk_faults outside.old) (W.disk_faults outside.new) }
         ensures damage { IsDamage W.Outside (fixed self.old).header outside.old result }
         ensures asks { OnlyAsks W.Outside outside.old outside.new }
+        ensures order { order self.new ≡ order self.old }
+        ensures printed { printed self.new ≡ printed self.old }
         ensures sound { sound self.new }
         ensures fixed { fixed self.new ≡ fixed self.old }
         ensures given { given self.new ≡ given self.old }
         ensures turns { turns self.new ≡ turns self.old };
 
-    /// The store's number.
+    /// The store's number, where it shows a desk.
     fn number(&self) -> u64
         requires { sound self.now }
         ensures { (held : List ℕ) (desk : Desk) → shows self.now held desk → result ≡ number_after (fixed self.now).opened desk };
 
-    /// The numbers of those that are active, ascending.
+    /// The numbers of those that are active, ascending, where it shows a desk.
     fn active(&self) -> ArrayVec<u32, 16>
         requires { sound self.now }
         ensures { (held : List ℕ) (desk : Desk) → shows self.now held desk → result.items ≡ numbers desk };

@@ -1,6 +1,6 @@
 -- Branches, with values worked out by hand: registers 2, 3 and 15, the status and the address after each.
 use Rattle.flat_machine.proofs.Common.{refl, ℕ, true, false, Some, None, Option, List, [], ◌∷◌, slice_index, row_numbered, Cs, clear, Outcome, On, Check}
-use Rattle.flat_machine.proofs.Rows.{holding, status, all, outcome, AreRight, as_is}
+use Rattle.flat_machine.proofs.Rows.{status, all, AreRight, as_is}
 
 -- registers 2, 3 and 15, status and address of a state that was gone on to
 abbrev gone : Outcome → Option (List ℕ × Cs × ℕ)

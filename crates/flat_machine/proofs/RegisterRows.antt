@@ -1,6 +1,6 @@
 -- Rows on registers alone, with values worked out by hand: register 2 and the status after each.
 use Rattle.flat_machine.proofs.Common.{refl, ℕ, true, false, Some, None, Option, [], ◌∷◌, slice_index, row_numbered, Cs, clear, Outcome, On, Check}
-use Rattle.flat_machine.proofs.Rows.{holding, status, all, outcome, AreRight, as_is}
+use Rattle.flat_machine.proofs.Rows.{status, all, AreRight, as_is}
 
 -- register 2 and the status of a state that was gone on to
 abbrev seen_two : Outcome → Option (ℕ × Cs)

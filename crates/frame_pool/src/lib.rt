@@ -9,4 +9,5 @@ mod pool;
 mod sizes;
 
 pub use model::Pool;
-pub use pool::{FramePool, Slot, Spot};
+pub use pool::{FramePool, Slot};
+pub use sizes::private_frames;

@@ -22,9 +22,9 @@ pub struct Slot {
 
 /// A line of a frame.
 #[derive(Debug, Clone, Copy, PartialEq, Eq)]
-pub struct Spot {
-    pub frame: u16,
-    pub line: u8,
+struct Spot {
+    frame: u16,
+    line: u8,
 }
 
 /// Frames for the private storage of sixteen seats and for pages of a store, and paging space for lines that are marked as
@@ -60,7 +60,7 @@ impl FramePool {
     ghost use Rattle.frame_pool.specs.PoolLending.{LendsFrame, LendsMarked, with_marked};
 
     /// A pool with so many frames for pages of a store that has so many. No page is resident. It takes all memory that the
-    /// pool will need.
+    /// pool will need, or fails for want of it.
     pub fn new(
         alloc: Global,
         page: PageSize,
@@ -262,7 +262,7 @@ impl FramePool {
     }
 
     /// One line of a frame.
-    pub fn line(&self, at: Spot) -> &[u8]
+    fn line(&self, at: Spot) -> &[u8]
         requires frame { at.frame < frame_count (pool_of self.now).page (pool_of self.now).frames }
         requires line { at.line < 16 }
         ensures { result.now ≡ line_in_frame (pool_of self.now) at.frame at.line }
@@ -280,19 +280,6 @@ impl FramePool {
     {
         self.bytes
             .part(page_place(self.places.page, frame) + at, count)
-    }
-
-    /// Lends one line of a frame, to be written. If the frame is a page's of the store, the line is marked.
-    pub fn line_mut(&mut self, at: Spot) -> &mut [u8]
-        requires frame { at.frame < frame_count (pool_of self.old).page (pool_of self.old).frames }
-        requires line { at.line < 16 }
-        ensures* writes_back { sem 𝓛 (LendsMarked self.entry at.frame (between at.line at.line) (line_place (pool_of self.entry.now).page at.frame at.line) result) }
-        ensures value { result.now ≡ line_in_frame (pool_of self.old) at.frame at.line }
-    {
-        let place = self.place(at);
-        let size = line_bytes(self.places.page);
-        self.mark(at.frame, LineSet::between(at.line, at.line));
-        self.bytes.part_mut(place, size)
     }
 
     /// Lends a part of a frame, from an offset on, to be written. If the frame is a page's of the store, the lines of the

@@ -49,7 +49,7 @@ fn no_keys(alloc: Global, count: usize) -> Result<Vec<Option<Key>>, AllocError>
 
 impl Table {
     /// A table in which no frame holds a page and each page is nobody's. The anchors are the least power of two that is not
-    /// below the frames.
+    /// below the frames. It fails for want of memory alone.
     pub fn new(alloc: Global, frames: u16, pages: u16) -> Result<Table, AllocError>
         ensures { IfOk result (λ table. table ≡ bare frames pages) }
     {

@@ -32,7 +32,8 @@ impl Model for Locks {
 }
 
 impl Locks {
-    /// Sixteen seats that hold nothing of a store with so many pages. It takes all memory that the locks will need.
+    /// Sixteen seats that hold nothing of a store with so many pages. It takes all memory that the locks will need,
+    /// or fails for want of it.
     pub fn new(alloc: Global, pages: u16) -> Result<Locks, AllocError>
         ensures { IfOk result (λ locks. locks ≡ nothing_held pages) }
     {

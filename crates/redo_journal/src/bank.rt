@@ -15,7 +15,6 @@ use crate::find::{Record, read_line, read_record};
 use crate::keep::{Appended, Kept, keep_body, write_once};
 use crate::read::{Found, read_bank};
 use crate::record::{fill, forget, head_of_bank, note, word};
-use byteorder::{BigEndian, ByteOrder};
 use line_geometry::PageSize;
 use outside::{Failed, Outside};
 use owned_list::OwnedList;
@@ -55,7 +54,7 @@ impl Bank {
     ///
     /// # Errors
     ///
-    /// [`OpenFault::Damaged`] exactly where the bank has a fault, with its offset; [`OpenFault::DiskFault`] only where
+    /// [`OpenFault::Damaged`] only where the bank has a fault, with its offset; [`OpenFault::DiskFault`] only where
     /// the disk's count rose; [`OpenFault::Memory`] where there was none. Never [`OpenFault::NotAStore`]
     /// (docs/FORMATS.md, "What an image stands for").
     pub fn open<W: Outside>(
@@ -72,10 +71,7 @@ impl Bank {
         ensures fault { IfErr result (IsBankOpenFault W.Outside outside.old outside.new header.now which) }
         ensures calm { IfErr result (λ fault. fault ≢ OpenFault.DiskFault → W.disk_faults outside.new ≡ W.disk_faults outside.old) }
     {
-        let mut bank = match Bank::of_store(alloc, header) {
-            Err(AllocError) => return Err(OpenFault::Memory),
-            Ok(bank) => bank,
-        };
+        let mut bank = Bank::of_store(alloc, header)?;
         match bank.reopen(which, outside) {
             Err(ReopenFault::Damaged(offset)) => Err(OpenFault::Damaged(offset)),
             Err(ReopenFault::DiskFault) => Err(OpenFault::DiskFault),
@@ -108,7 +104,7 @@ impl Bank {
     ///
     /// # Errors
     ///
-    /// [`ReopenFault::Damaged`] exactly where that bank has a fault, with its offset; [`ReopenFault::DiskFault`] only
+    /// [`ReopenFault::Damaged`] only where that bank has a fault, with its offset; [`ReopenFault::DiskFault`] only
     /// where the disk's count rose.
     pub fn reopen<W: Outside>(&mut self, which: Which, outside: &mut W) -> Result<(), ReopenFault>
         requires room { HoldsAtLeast W.Outside (end_of which self.old.bank_bytes) outside.old }

@@ -1,11 +1,11 @@
 // The words of a line. Each function here gives what was written where something was, and anything where nothing was.
 ghost use Rattle.std.specs.Prelude.{◌≡◌, ◌≢◌, ℕ, ◌<◌, ◌^◌, List, [], ◌∷◌, length, map, decimal, All, IfOk};
-ghost use Rattle.std.specs.List.{AllByRecursion, join_with_byte};
+ghost use Rattle.std.specs.List.{AllByRecursion, after_first, before_first, join_with_byte};
 ghost use Rattle.byteorder.specs.Endian.{big_bytes};
 ghost use Rattle.hex.specs.Hex.{encode_lower};
 ghost use Rattle.hex.specs.declared.error.FromHexError.TheVariants.{OutOfMemory};
 ghost use Rattle.desk.specs.Lines.{printed};
-ghost use Rattle.report_text.specs.Words.{IsOneWord};
+ghost use Rattle.report_text.specs.Words.{IsOneWord, is_space};
 
 use byteorder::{BigEndian, ByteOrder};
 use hex::FromHexError;
@@ -14,6 +14,8 @@ use text_line::{number, place_of};
 
 /// The first word of a text, and what stands behind the space after it.
 pub(crate) fn split(text: &[u8]) -> (&[u8], &[u8])
+    ensures first { result.0.now ≡ before_first is_space text.now }
+    ensures rest { result.1.now ≡ after_first is_space text.now }
     ensures parts { (word : List ℕ) (words : List (List ℕ)) → IsOneWord word
         → text.now ≡ join_with_byte 32 (word ∷ words) → (result.0.now ≡ word) × (result.1.now ≡ join_with_byte 32 words) }
     ensures shorter { length text.now ≢ 0 → length result.1.now < length text.now }
@@ -26,7 +28,8 @@ pub(crate) fn split(text: &[u8]) -> (&[u8], &[u8])
 
 /// What stands behind the first word of a text.
 pub fn behind(text: &[u8]) -> &[u8]
-    ensures { (word : List ℕ) (words : List (List ℕ)) → IsOneWord word
+    ensures value { result.now ≡ after_first is_space text.now }
+    ensures parts { (word : List ℕ) (words : List (List ℕ)) → IsOneWord word
         → text.now ≡ join_with_byte 32 (word ∷ words) → result.now ≡ join_with_byte 32 words }
 {
     split(text).1
@@ -39,9 +42,10 @@ pub(crate) fn small(word: &[u8]) -> u32
     u32::try_from(number(word)).unwrap_or(0)
 }
 
-/// The number that a text begins with, and what stands behind it.
+/// The number that a text begins with, anything where its first word is none; and what stands behind that word.
 pub fn first_number(text: &[u8]) -> (u64, &[u8])
-    ensures { (n : ℕ) (words : List (List ℕ)) → n < 2 ^ 64
+    ensures rest { result.1.now ≡ after_first is_space text.now }
+    ensures parts { (n : ℕ) (words : List (List ℕ)) → n < 2 ^ 64
         → text.now ≡ join_with_byte 32 (decimal n ∷ words) → (result.0 ≡ n) × (result.1.now ≡ join_with_byte 32 words) }
 {
     let (word, rest) = split(text);

@@ -51,7 +51,7 @@ impl Durable {
     ///
     /// # Errors
     ///
-    /// [`OpenFault::NotAStore`] and [`OpenFault::Damaged`] exactly where the bytes have that fault, with its offset;
+    /// [`OpenFault::NotAStore`] and [`OpenFault::Damaged`] only where the bytes have that fault, with its offset;
     /// [`OpenFault::DiskFault`] only where the disk's count rose; [`OpenFault::Memory`] where there was none
     /// (docs/FORMATS.md, "What an image stands for").
     pub fn open<W: Outside>(alloc: Global, outside: &mut W) -> Result<Durable, OpenFault>
@@ -103,10 +103,9 @@ impl Durable {
     ///
     /// # Errors
     ///
-    /// [`ReopenFault::Damaged`] exactly where the chosen bank has a fault, with its offset, and never after this
+    /// [`ReopenFault::Damaged`] only where the chosen bank has a fault, with its offset, and never after this
     /// value's own calls over an honest outside that tells its bytes; [`ReopenFault::DiskFault`] only where the disk's
-    /// count rose. After an error it has to be reopened before it is
-    /// used again.
+    /// count rose. After an error it has to be reopened before it is used again.
     pub fn reopen<W: Outside>(&mut self, outside: &mut W) -> Result<(), ReopenFault>
         requires room { HoldsAtLeast W.Outside (total self.old.header) outside.old }
         ensures asks { OnlyAsks W.Outside outside.old outside.new }

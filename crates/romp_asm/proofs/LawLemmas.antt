@@ -1,5 +1,5 @@
 -- What the definitions say of all statements and sources.
-use Rattle.romp_asm.proofs.Common.{◌≡◌, ℕ, ◌⊎◌, Result, Ok, Err, refl, ap, inl, inr, Body, Nothing, Inst, Data, Space, Window, Entry, Export, form_of, Parts, SameMnemonic, form_size, size_of}
+use Rattle.romp_asm.proofs.Common.{◌≡◌, refl, ap, Body, Nothing, Inst, Data, Space, Window, Entry, Export, form_of, SameMnemonic, form_size, size_of}
 
 -- statements of the same mnemonic have the same size
 pub same_size : (one other : Body) → SameMnemonic one other → size_of one ≡ size_of other
@@ -11,12 +11,3 @@ same_size (Window register segment write) (Window register' segment' write') sam
 same_size (Entry value) (Entry value') same = refl
 same_size (Export word) (Export word') same = refl
 same_size _ _ same = absurd same
-
--- an answer is a program or a fault
-pub one_of : (answer : Result Parts (ℕ × ℕ)) → ((parts : Parts) × (answer ≡ Ok parts)) ⊎ ((fault : ℕ × ℕ) × (answer ≡ Err fault))
-one_of (Ok parts) = inl (parts, refl)
-one_of (Err fault) = inr (fault, refl)
-
--- no answer is both
-pub not_both : (answer : Result Parts (ℕ × ℕ)) (parts : Parts) (fault : ℕ × ℕ) → answer ≡ Ok parts → ¬ (answer ≡ Err fault)
-not_both answer parts fault made refused = cc

@@ -10,6 +10,6 @@ mod output;
 mod size;
 mod value;
 
-pub use law::{a_source_has_one_answer, size_is_by_mnemonic};
+pub use law::size_is_by_mnemonic;
 pub use layout::{assemble, assemble_sources, assemble_text};
 pub use value::Givers;

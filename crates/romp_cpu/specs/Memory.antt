@@ -1,5 +1,5 @@
 -- A storage that is one list of bytes under register 0.
-use Rattle.std.specs.Prelude.{ℕ, true, List, [], ◌∷◌, Option, Some}
+use Rattle.std.specs.Prelude.{ℕ, true, [], ◌∷◌, Some}
 use Rattle.line_geometry.specs.declared.directory.PageSize.TheVariants.{Two}
 use Rattle.segment_regs.specs.Registers.{Registers}
 

@@ -1,5 +1,5 @@
 -- The segment registers of a program.
-use Rattle.std.specs.Prelude.{ℕ, List, ◌∷◌, map, Option, Some, None, option_map}
+use Rattle.std.specs.Prelude.{ℕ, ◌∷◌, map, Option, Some, None, option_map}
 use Rattle.line_geometry.specs.Directory.{Layout, length_of}
 use Rattle.segment_regs.specs.declared.registers.SegmentRegister.{SegmentRegister}
 use Rattle.segment_regs.specs.Registers.{Registers, private_register}

@@ -3,7 +3,7 @@ ghost use Rattle.romp_link.specs.declared.fault.LinkFault.TheVariants.{Memory};
 ghost use Rattle.romp_link.specs.Answers.{link_fault};
 
 use asm_parse::AsmFault;
-use std::alloc::{AllocError, AllocFailed};
+use std::alloc::AllocError;
 
 /// Why sources make no program (docs/FORMATS.md, "Programs of several sources").
 #[derive(Debug, Clone, Copy, PartialEq, Eq)]

@@ -1,5 +1,5 @@
 -- What a crash leaves of a run from an opening, in the words of the programs run one after another.
-use Rattle.std.specs.Prelude.{◌≡◌, ℕ, ◌+◌, ◌≤◌, ◌%◌, ◌^◌, true, List, [], ◌∷◌, ◌++◌, length, take, Some}
+use Rattle.std.specs.Prelude.{◌≡◌, ℕ, ◌+◌, ◌≤◌, ◌%◌, ◌^◌, List, [], ◌∷◌, ◌++◌, length, take, Some}
 use Rattle.line_geometry.specs.FlatStore.{FlatStore}
 use Rattle.flat_machine.specs.declared.machine.Program.{Program}
 use Rattle.flat_machine.specs.Serial.{Activation, serial}
@@ -7,7 +7,7 @@ use Rattle.store_format.specs.Stands.{Stands, stands}
 use Rattle.desk.specs.declared.event.Event.{Event}
 use Rattle.desk.specs.Commits.{begun}
 use Rattle.desk.specs.Crash.{standing_of, fine_step}
-use Rattle.desk.specs.Desk.{Desk, opened}
+use Rattle.desk.specs.Desk.{opened}
 use Rattle.desk.specs.Instruction.{Word, Doubt}
 use Rattle.desk.specs.Run.{run, IsRunOf}
 use Rattle.desk.specs.Seen.{commits_seen}

@@ -1,10 +1,11 @@
 -- What the lines of one answer are, and what putting lines does.
-use Rattle.std.specs.Prelude.{◌≡◌, ℕ, ◌+◌, List, [], ◌∷◌, ◌++◌, length, take, Option, None, Some, Result, OnOk, IsSome, unwrap_or}
+use Rattle.std.specs.Prelude.{◌≡◌, ℕ, List, [], ◌∷◌, ◌++◌, length, take, Option, None, Some, Result, IsSome, unwrap_or}
 use Rattle.std.specs.List.{flat_map}
 use Rattle.outside.specs.declared.world.Outside.{Ghosts}
 use Rattle.outside.specs.declared.failed.Failed.{Failed}
 use Rattle.outside.specs.Bytes.{Prints}
 use Rattle.outside.specs.Runs.{OnlyPuts, Leaves}
+pub use Rattle.outside.specs.Runs.{PutsTimes}
 use Rattle.desk.specs.declared.answers.Turn.{Turn}
 use Rattle.desk.specs.declared.answers.TurnEnd.{TurnEnd}
 use Rattle.desk.specs.declared.answers.TurnEnd.TheVariants as end
@@ -22,10 +23,6 @@ use Rattle.desk.specs.Report.{cycle_lines, ending_lines}
 -- the bytes printed, or none where they aren't told
 abbrev pub shown_of : {W : Type 0} → Ghosts W → W → List ℕ
 shown_of G outside = unwrap_or (G.printed outside) []
-
--- so many puts were recorded, where the last succeeded and the printed bytes are told
-abbrev pub PutsTimes : {W T : Type 0} → Ghosts W → ℕ → W → W → Result T Failed → Type 0
-PutsTimes G count old new result = OnOk result (IsSome (G.printed old) → (G.moment new).puts ≡ (G.moment old).puts + count)
 
 -- These lines are put, each by one put, or a prefix of their bytes where a put failed. A crash since then leaves an image of the start,
 -- and what was printed then with a prefix of these bytes.

@@ -57,10 +57,6 @@ abbrev pub left : Seating → (seat : ℕ) → Seating
 left seating seat =
     record seating { taken = filter (λ other. not (other == seat)) seating.taken; holding = released seating.holding seat }
 
--- all leave
-abbrev pub all_left : Seating → Seating
-all_left seating = record seating { taken = []; holding = nothing_held seating.holding.pages }
-
 -- who sits in a seat has done so many rows more, and waits for nothing
 abbrev pub went_on : Seating → (seat rows : ℕ) → Seating
 went_on seating seat rows =

@@ -3,7 +3,7 @@ ghost use Rattle.std.specs.Option.{option_map_or};
 ghost use Rattle.lock_rules.specs.Sets.{has};
 ghost use Rattle.line_locks.specs.Held.{AreWithin};
 ghost use Rattle.line_locks.specs.Holding.{IsWhole, nothing_held};
-ghost use Rattle.seats.specs.Seating.{IsSeating, newcomer, sitter, number_in, numbers, seat_of, nobody_sits, next_seat, seated, left, all_left, went_on, waiting_for, took};
+ghost use Rattle.seats.specs.Seating.{IsSeating, newcomer, sitter, number_in, numbers, seat_of, nobody_sits, next_seat, seated, left, went_on, waiting_for, took};
 
 use super::seat::Seat;
 use arrayvec::ArrayVec;
@@ -34,7 +34,7 @@ impl Model for Seats {
 }
 
 impl Seats {
-    /// Sixteen free seats for a store with so many pages. It takes all memory that they will need.
+    /// Sixteen free seats for a store with so many pages. It takes all memory that they will need, or fails for want of it.
     pub fn new(alloc: Global, pages: u16) -> Result<Seats, AllocError>
         ensures { IfOk result (λ seats. seats ≡ nobody_sits pages) }
     {
@@ -132,14 +132,6 @@ impl Seats {
         self.locks.release(seat);
     }
 
-    /// All leave, and nothing is held any more.
-    pub fn leave_all(&mut self)
-        ensures { self.new ≡ all_left self.old }
-    {
-        self.taken.clear();
-        release_all(&mut self.locks);
-    }
-
     /// Who sits in a seat has done so many rows more, and waits for nothing.
     #[inline]
     pub fn go_on(&mut self, seat: u8, rows: u32)
@@ -169,15 +161,5 @@ impl Seats {
         ensures { self.new ≡ took self.old seat request.now.wants.items }
     {
         self.locks.take(seat, request);
-    }
-}
-
-/// No seat holds anything any more.
-fn release_all(locks: &mut Locks)
-    requires { IsWhole locks.old }
-    ensures { locks.new ≡ nothing_held locks.old.pages }
-{
-    for seat in 0..SEATS {
-        locks.release(seat);
     }
 }

@@ -2,7 +2,7 @@
 ghost use Rattle.serial_audit.specs.Bundle.{HasOneSplitting};
 
 /// The law of a bundle: it has its parts in one way, so whoever splits it audits what was bundled (docs/MODEL.md,
-/// "A bundle"). The call does nothing; its contract is the law.
+/// "An audit"). The call does nothing; its contract is the law.
 pub fn a_bundle_has_one_splitting()
     ensures { HasOneSplitting }
 {}

@@ -1,6 +1,8 @@
 -- A page that comes in: the frame that is lent is filled, and its kept lines are laid over it.
 use Rattle.storage_unit.proofs.Common.{◌≡◌, refl, ℕ, ◌+◌, ◌*◌, ◌<◌, ◌≤◌, ◌==◌, true, List, [], ◌∷◌, length, Option, Some, None, is_some, range_with_len, slice_index_or, get_or-set_same, page_count, frame_at, marks_at, with_room, ap, arith, sym, subst, ◌∙◌, eq-eqb, length-take, length-drop, page_bytes, PageSize, Layout, has, Pool, pool_of, IsSeen, frame_count, frame_bytes, Brought, emptied, laid, with_bytes, with_frame_part, lent-part, page_part, Fits, filled, Reach, reach_of, Unit}
 use Rattle.std.proofs.lemmas.Bool.{both_ways, or_left}
+use Rattle.line_geometry.specs.LineSets.{bits_of, lines_of_bits}
+use Rattle.line_geometry.proofs.LineSetLemmas.{bits_of-lines}
 use Rattle.frame_pool.proofs.LayLemmas.{laid-anyway}
 use Rattle.storage_unit.specs.Incoming.{IsFilled, IsKept, HasGoneOut}
 use Rattle.storage_unit.proofs.LeaveLemmas.{emptied-frame}
@@ -14,6 +16,17 @@ none-has (x ∷ xs) none = absurd (none x (or_left (x == x) (has xs x) (eq-eqb x
 -- once all pages went out, none is resident
 pub emptied-resident : (pool : Pool) → IsSeen pool → IsSeen (emptied pool) → (emptied pool).resident ≡ []
 emptied-resident pool seen after = none-has (emptied pool).resident (λ page inside. both_ways (has (emptied pool).resident page) (after.resident page ∙ ap is_some (emptied-frame pool page seen)) inside)
+
+module _ (unit brought_in : Unit) (page : ℕ) (keep : Option ℕ) (frame : ℕ) (came : Brought (reach_of unit).pool (reach_of brought_in).pool page keep frame) where
+  -- what is marked of it stays as it comes
+  marks-stay : marks_at (reach_of brought_in).pool page ≡ marks_at (reach_of unit).pool page
+  marks-stay =
+      ap (λ (p : Pool). marks_at p page) came.rest
+      ∙ ap (λ (marked : List (List ℕ)). slice_index_or marked page []) (room-stays (reach_of unit).pool keep (unit-sound unit).seen).1.marked
+
+  -- where each of its lines is marked, the bits say so
+  pub all-marked : (bits : ℕ) → bits < 65536 → lines_of_bits bits ≡ marks_at (reach_of brought_in).pool page → marks_at (reach_of unit).pool page ≡ range_with_len 0 16 → bits ≡ 65535
+  all-marked bits small told all = sym (bits_of-lines bits small) ∙ ap bits_of (told ∙ marks-stay ∙ all)
 
 module _ (unit brought_in : Unit) (page : ℕ) (keep : Option ℕ) (frame : ℕ) (lent : List ℕ)
     (came : Brought (reach_of unit).pool (reach_of brought_in).pool page keep frame) (rest : reach_of brought_in ≡ record (reach_of unit) { pool = (reach_of brought_in).pool })
@@ -45,7 +58,7 @@ module _ (unit brought_in : Unit) (page : ℕ) (keep : Option ℕ) (frame : ℕ)
       let kept : page * page_bytes pool.page + page_bytes pool.page ≤ length pool.kept =
       omega (arith, page_part page (length pool.frame_of) (page_bytes pool.page) (omega (arith, below, there.pages)), there.seen.kept) in
       record {
-        whole = sym (all ∙ ap (λ (p : Pool). marks_at p page) came.rest ∙ ap (λ (marked : List (List ℕ)). slice_index_or marked page []) stays.marked);
+        whole = sym (all ∙ marks-stay unit brought_in page keep frame came);
         any = λ bytes long. record {
           frame = frame;
           room = pool;

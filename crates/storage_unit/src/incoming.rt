@@ -1,8 +1,10 @@
 // A page that comes in from a store that is read elsewhere.
-ghost use Rattle.std.specs.Prelude.{◌≡◌, ◌<◌, ◌⊎◌, ℕ, List, false, length, OnOk, OnErr};
+ghost use Rattle.std.specs.Prelude.{◌≡◌, ◌<◌, ◌⊎◌, ℕ, List, false, length, IsOk, OnOk, OnErr};
+ghost use Rattle.std.specs.List.{range_with_len};
 ghost use Rattle.line_geometry.specs.Directory.{page_count};
 ghost use Rattle.line_geometry.specs.Segments.{page_bytes};
 ghost use Rattle.lock_rules.specs.Sets.{has};
+ghost use Rattle.frame_pool.specs.Pool.{marks_at};
 
 use super::unit::Unit;
 
@@ -54,6 +56,7 @@ impl Unit {
         requires can_read { P.can_read pages.now outside.old page (page_bytes (reach_of self.old).directory.page) }
         ensures rest { reach_of self.new ≡ record (reach_of self.old) { pool = (reach_of self.new).pool } }
         ensures came { OnOk result (((bytes : List ℕ) × P.read pages.now outside.old page bytes outside.new × IsFilled (reach_of self.old) page keep bytes (reach_of self.new).pool) ⊎ ((outside.new ≡ outside.old) × IsKept (reach_of self.old) page keep (reach_of self.new).pool)) }
+        ensures kept { marks_at (reach_of self.old).pool page ≡ range_with_len 0 16 → IsOk result × (outside.new ≡ outside.old) }
         ensures unread { OnErr result (P.unread outside.old outside.new) }
         ensures out { OnErr result (HasGoneOut (reach_of self.old) page keep (reach_of self.new).pool) }
     {

@@ -2,23 +2,11 @@
 ghost use Rattle.std.specs.Prelude.{◌≡◌, ◌+◌, ◌-◌, ◌*◌, ◌/◌, ◌%◌, ◌<◌, ◌≤◌, ◌^◌, nat_le};
 ghost use Rattle.line_geometry.specs.Segments.{page_bytes, line_bytes};
 ghost use Rattle.segment_regs.specs.Registers.{bytes_on};
-ghost use Rattle.frame_pool.specs.Sizes.{private_frames};
 ghost use Rattle.storage_unit.specs.Held.{seat_pages};
 ghost use Rattle.storage_unit.specs.Places.{offset_of};
 
 use line_geometry::PageSize;
 use segment_regs::{Virtual, virtual_at};
-
-/// The private frames.
-pub fn private_frames(page: PageSize) -> u16
-    ensures value { result ≡ private_frames page }
-    ensures few { result ≤ 128 }
-{
-    match page {
-        PageSize::Two => 128,
-        PageSize::Four => 64,
-    }
-}
 
 /// The private pages of a seat.
 pub fn seat_pages(page: PageSize) -> u16

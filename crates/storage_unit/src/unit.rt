@@ -9,8 +9,7 @@ ghost use Rattle.tlb_model.specs.Buffer.{IsOfTable, found, after_found};
 ghost use Rattle.storage_unit.specs.Held.{keys_of, AreOfPages, IsSelected, table_of};
 ghost use Rattle.storage_unit.specs.Served.{made};
 
-use super::sizes::private_frames;
-use frame_pool::FramePool;
+use frame_pool::{FramePool, private_frames};
 use inverted_table::Table;
 use line_geometry::Directory;
 use segment_regs::{SegmentRegs, Virtual};

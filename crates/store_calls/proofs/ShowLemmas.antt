@@ -96,6 +96,7 @@ module _ {W : Type 0} (G : Ghosts W) (fewer_later : FewerLater G) (store : KeptS
         (prints_on (G.printed old) (G.printed mid) (G.printed new) (row_lines offset (bytes_of at done)) (row_lines (offset + done) (bytes_of (at + done) part)) tt (Ok tt) (before.printed shown) (part-puts (Ok tt) puts shown));
     times = λ told. omega (arith, whole, before.times told, puts.times (before.only.told told));
     unfailed = puts.unfailed ∙ before.unfailed;
+    asked = puts.asked ∙ before.asked;
     stops = tt;
   }
 
@@ -147,6 +148,7 @@ module _ {W : Type 0} (G : Ghosts W) (fewer_later : FewerLater G) (store : KeptS
         (prints_on (G.printed old) (G.printed mid) (G.printed new) (row_lines offset (bytes_of at done)) (row_lines (offset + done) (bytes_of (at + done) (count - done))) tt broke (before.printed shown) (rest-prints why puts reads shown));
     times = tt;
     unfailed = tt;
+    asked = tt;
     stops = stops why before.unfailed before.only puts.stops;
   }
     where
@@ -164,6 +166,7 @@ nothing_put G fewer_later store at offset now = record {
       (prints_none (G.printed now) tt);
   times = λ told. omega arith;
   unfailed = refl;
+  asked = refl;
   stops = tt;
 }
 
@@ -178,14 +181,15 @@ module _ {W : Type 0} (G : Ghosts W) (fewer_later : FewerLater G) (store : KeptS
       prints_same (G.printed old) (G.printed new) (row_lines offset bytes) (row_lines offset (bytes_in (stands (held_of G old)) at count)) result (ap (row_lines offset) (these-bytes shown))
       (subst (λ (told : Option (List ℕ)). Prints told (G.printed new) (row_lines offset bytes) result) asks.calls.quiet.same prints)
 
-  pub part_put : Puts G (row_lines offset bytes) mid new went → PutsTimes G (div_ceil (length bytes) 16) mid new went → PutsBytes G store at offset count old new (Ok tt)
-  part_put puts times = record {
+  pub part_put : G.disk_faults mid ≡ G.disk_faults old → Puts G (row_lines offset bytes) mid new went → PutsTimes G (div_ceil (length bytes) 16) mid new went → PutsBytes G store at offset count old new (Ok tt)
+  part_put same puts times = record {
     only = shows_on G fewer_later old mid new (shows_asks G old mid asks) (shows_line G fewer_later (row_lines offset bytes) mid new went puts);
     printed = put-rows (Ok tt) puts.printed;
     times = λ told.
         times (subst (λ (these : Option (List ℕ)). IsSome these) (sym asks.calls.quiet.same) told)
         ∙ ap (λ (n : ℕ). n + div_ceil (length bytes) 16) asks.calls.puts ∙ ap (λ (n : ℕ). (G.moment old).puts + div_ceil n 16) long;
     unfailed = puts.only.cause.done ∙ asks.calls.put;
+    asked = puts.only.disk ∙ same;
     stops = tt;
   }
 
@@ -195,6 +199,7 @@ module _ {W : Type 0} (G : Ghosts W) (fewer_later : FewerLater G) (store : KeptS
     printed = λ shown. prints_broken (stopped failed) broke refl refl (G.printed old) (G.printed new) (row_lines offset (bytes_in (stands (held_of G old)) at count)) (put-rows (Err failed) puts.printed shown);
     times = tt;
     unfailed = tt;
+    asked = tt;
     stops = let rose = puts.only.cause.failed in omega (arith, rose, asks.calls.put);
   }
 

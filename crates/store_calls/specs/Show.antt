@@ -51,6 +51,7 @@ pub record PutsBytes {W : Type 0} (G : Ghosts W) (store : KeptStore) (at offset 
   pub printed : IsShown G store old → PutsDone G (row_lines offset (bytes_in (stands (held_of G old)) at count)) old new result
   pub times : OnOk result (IsSome (G.printed old) → (G.moment new).puts ≡ (G.moment old).puts + div_ceil count 16)
   pub unfailed : OnOk result (G.put_faults new ≡ G.put_faults old)
+  pub asked : OnOk result (G.disk_faults new ≡ G.disk_faults old)
   pub stops : IfErr result (StopsBy G old new)
 
 -- so many bytes were read

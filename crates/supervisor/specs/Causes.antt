@@ -1,5 +1,5 @@
 -- Why the answers of a session come.
-use Rattle.std.specs.Prelude.{◌≡◌, ℕ, ◌+◌, ◌%◌, ◌<◌, ◌^◌, ◌++◌, ◌∷◌, [], true, List, length, Option, Some, None}
+use Rattle.std.specs.Prelude.{◌≡◌, ℕ, ◌+◌, ◌%◌, ◌<◌, ◌^◌, true, List, length, Option, Some, None}
 use Rattle.lock_rules.specs.Sets.{has}
 use Rattle.outside.specs.declared.world.Outside.{Ghosts}
 use Rattle.outside.specs.Causes.{Rose}
@@ -61,17 +61,6 @@ pub record IsTurnEnd (activation limit most number : ℕ) (answer : Turn) : Type
   pub victim : IfVictim activation answer.cycles.items answer.end
   pub pages : answer.end ≡ end.Disk → 0 < answer.pages
   pub numbered : TellsNumber activation number answer.end
-
--- a commit, and one in doubt, enters the order with the activation, and no other end changes it
-abbrev pub EntersOrder : (activation : ℕ) → TurnEnd → (old new : List (ℕ × ℕ)) → Type 0
-EntersOrder activation (end.Committed told steps) old new = new ≡ old ++ (activation, steps) ∷ []
-EntersOrder activation (end.Closed (Some doubted) told) old new = (steps : ℕ) × (new ≡ old ++ (activation, steps) ∷ [])
-EntersOrder activation _ old new = new ≡ old
-
--- what the last commit printed stays but for a commit
-abbrev pub KeepsPrinted : TurnEnd → (old new : List ℕ) → Type 0
-KeepsPrinted (end.Committed told steps) old new = Unit {0}
-KeepsPrinted _ old new = new ≡ old
 
 -- the number in the answer to a crash is this one
 abbrev pub ReopenedNumber : Reopened → (number : ℕ) → Type 0

@@ -9,18 +9,18 @@ use Rattle.store_format.specs.Header.{Header, header_of, most_lines}
 use Rattle.store_format.specs.Stands.{Stands, stands}
 use Rattle.desk.specs.Desk.{opened}
 use Rattle.supervisor.specs.declared.session.Session.{Session}
-use Rattle.supervisor.specs.Session.{IsSound, activity, header_of_session}
+use Rattle.supervisor.specs.Session.{IsSound, activity, fixed_of, header_of_session, is_closed, printed_of, turns_of}
 use Rattle.supervisor.specs.Shown.{ShowsDesk}
 
 -- it is sound and open, for so many begins of these programs, and no number was given
 pub record IsNew (programs : List Program) (begins : ℕ) (s : Session) : Type 0 where
   pub sound : IsSound s
   pub programs_are : (activity s).programs ≡ programs
-  pub begins_are : s.begins ≡ begins
+  pub begins_are : (fixed_of s).begins ≡ begins
   pub none_given : (activity s).next ≡ 1
-  pub no_turns : s.turns ≡ 0
-  pub nothing_printed : s.printed ≡ []
-  pub still_open : s.closed ≡ false
+  pub no_turns : turns_of s ≡ 0
+  pub nothing_printed : printed_of s ≡ []
+  pub still_open : is_closed s ≡ false
 
 -- the bytes begin with this header, and stand for a number and a store
 abbrev pub HasStood : Header → List ℕ → Type 0
@@ -31,6 +31,6 @@ HasStood header held = (header_of (take 128 held) ≡ header) × ((number : ℕ)
 pub record IsSessionOpened {W : Type 0} (G : Ghosts W) (frames : ℕ) (old new : W) (s : Session) : Type 0 where
   pub sure : IsSure G new
   pub store : FlatStore
-  pub stood : stands (held_of G old) ≡ Stands s.opened store
+  pub stood : stands (held_of G old) ≡ Stands (fixed_of s).opened store
   pub header : header_of (take 128 (held_of G old)) ≡ header_of_session s
   pub shows : ShowsDesk s (held_of G new) (opened frames 16 (most_lines (header_of_session s)) store)

@@ -8,7 +8,7 @@ ghost use Rattle.desk.specs.Holdings.{numbers};
 ghost use Rattle.desk.specs.Instruction.{Fine, no_counts};
 ghost use Rattle.desk.specs.Run.{step};
 ghost use Rattle.desk.specs.Report.{number_after};
-ghost use Rattle.desk.specs.Answers.{begun_told, turn_told, stored_told, reopened_told, counts_told, turn_closes, stored_closes, reopened_closes, HasNumbers, StoredNumber, IsReopened};
+ghost use Rattle.desk.specs.Answers.{begun_told, turn_told, stored_told, reopened_told, counts_told, turn_closes, stored_closes, reopened_closes, EntersOrder, HasNumbers, KeepsPrinted, StoredNumber, IsReopened};
 ghost use Rattle.desk.specs.Crash.{Did};
 ghost use Rattle.desk.specs.Calls.{CallsStore, FailsCounted, StaysShut, reopened_fails, stored_fails};
 ghost use Rattle.desk.specs.Kept.{HoldsStore, IsDamage, WritesMore, writes_due, turn_fails};
@@ -37,7 +37,7 @@ fn told(tally: Tally, end: TurnEnd) -> Turn
 impl Session {
     ghost use Rattle.supervisor.specs.Session.{IsSound, activity, order_of, records_told, is_closed, fixed_of, turns_of, printed_of, number_told, store_told};
     ghost use Rattle.supervisor.specs.Shown.{ShowsDesk};
-    ghost use Rattle.supervisor.specs.Causes.{IsFull, HasPlace, lacking, IsTurnEnd, EntersOrder, KeepsPrinted, ReopenedNumber, ClosesAsCommit};
+    ghost use Rattle.supervisor.specs.Causes.{IsFull, HasPlace, lacking, IsTurnEnd, ReopenedNumber, ClosesAsCommit};
     ghost use Rattle.store_format.specs.Header.{most_lines};
     ghost use Rattle.seats.specs.Seating.{seat_of, numbers as numbers_seated};
 

@@ -7,7 +7,7 @@ ghost use Rattle.outside.specs.Runs.{held_of};
 ghost use Rattle.redo_journal.specs.Held.{OnlyWrites};
 ghost use Rattle.desk.specs.Calls.{FailsCounted};
 ghost use Rattle.desk.specs.Kept.{HoldsStore, WritesMore, writes_due, turn_fails};
-ghost use Rattle.desk.specs.Answers.{turn_closes};
+ghost use Rattle.desk.specs.Answers.{EntersOrder, KeepsPrinted, turn_closes};
 ghost use Rattle.desk.specs.Instruction.{Word, Turning};
 ghost use Rattle.activations.specs.Turning.{tally_counts};
 
@@ -23,7 +23,7 @@ impl Session {
     ghost use Rattle.store_format.specs.Header.{most_lines};
     ghost use Rattle.supervisor.specs.Session.{IsSound, KeepsParts, activity, order_of, records_told};
     ghost use Rattle.supervisor.specs.Shown.{IsOpenOver};
-    ghost use Rattle.supervisor.specs.Causes.{TellsNumber, EntersOrder, KeepsPrinted, ClosesAsCommit};
+    ghost use Rattle.supervisor.specs.Causes.{TellsNumber, ClosesAsCommit};
     ghost use Rattle.restart.specs.Kept.{number_of};
     ghost use Rattle.supervisor.specs.Went.{HasCommitted, IsCommitEnd, most_kept};
 

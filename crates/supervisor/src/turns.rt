@@ -6,7 +6,7 @@ ghost use Rattle.redo_journal.specs.Held.{OnlyWrites};
 ghost use Rattle.desk.specs.declared.answers.TurnEnd.TheVariants as end;
 ghost use Rattle.desk.specs.Calls.{FailsCounted};
 ghost use Rattle.desk.specs.Kept.{HoldsStore, WritesMore, writes_due, turn_fails};
-ghost use Rattle.desk.specs.Answers.{turn_closes};
+ghost use Rattle.desk.specs.Answers.{EntersOrder, KeepsPrinted, turn_closes};
 
 use super::session::Session;
 use activations::Tally;
@@ -17,7 +17,7 @@ impl Session {
     ghost use Rattle.activations.specs.Kept.{AreRowsWithin};
     ghost use Rattle.supervisor.specs.Session.{IsSound, KeepsParts, activity, order_of, records_told};
     ghost use Rattle.supervisor.specs.Shown.{IsOpenOver};
-    ghost use Rattle.supervisor.specs.Causes.{IsTurnEnd, answer_of, EntersOrder, KeepsPrinted, ClosesAsCommit};
+    ghost use Rattle.supervisor.specs.Causes.{IsTurnEnd, answer_of, ClosesAsCommit};
     ghost use Rattle.store_format.specs.Header.{most_lines};
     ghost use Rattle.restart.specs.Kept.{number_of};
     ghost use Rattle.seats.specs.Seating.{seat_of};

@@ -41,7 +41,7 @@ impl TextLine {
 
     /// Begins a line anew with a word. Of the line before nothing is left.
     pub fn begin(&mut self, word: &[u8])
-        requires { length word.now ≤ 16 }
+        requires { length word.now ≤ ROOM }
         ensures { self.new ≡ word.now }
     {
         self.bytes.clear();

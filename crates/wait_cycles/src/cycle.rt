@@ -6,10 +6,11 @@ ghost use Rattle.wait_cycles.specs.Rows.{is_on, waits_in, places, places_of};
 
 use arrayvec::ArrayVec;
 
-/// The shown cycle from a place: it begins and ends with it, and each next member is the least place that the last one
-/// waits for and from which waits lead back. None exactly where waits don't lead from the place to itself. There are as
-/// many places as rows, sixteen at most, and place i waits for place j where bit j of row i is on; places ascend by
-/// activation. It takes no memory (docs/MODEL.md, "The shown cycle").
+/// The shown cycle from a place: it begins with it, and each next member is the least place that the last one waits for
+/// and from which waits lead back. It ends with the place where every cycle of waits goes through it, and anyway behind
+/// as many steps as there are rows. None exactly where waits don't lead from the place to itself. There are sixteen rows
+/// at most, and place i waits for place j where bit j of row i is on; places ascend by activation. It takes no memory
+/// (docs/MODEL.md, "Lines, locks and waits").
 pub fn shown_cycle(from: u8, waits: &[u16]) -> Option<ArrayVec<u8, 17>>
     requires from { from < length waits.now }
     requires few { length waits.now ≤ 16 }

@@ -2,7 +2,6 @@
 use super::crash_tests::{NOTHING, run, run_on};
 use call_status::Status;
 use outside::{Call, MemoryDisk, Refusal};
-use std::alloc::Global;
 use std::test::Fail;
 use store_calls::try_store;
 

@@ -1,4 +1,4 @@
-use Rattle.console.proofs.Common.{◌≡◌, ◌⊎◌, ℕ, List, [], inl, inr, subst, sym, Call, call, given, Status, TracedFrom, Command, IsForm}
+use Rattle.console.proofs.Common.{◌≡◌, ◌⊎◌, List, [], inl, inr, subst, sym, Call, call, given, Status, TracedFrom, Command, IsForm}
 use Rattle.desk.specs.Answers.{order_told}
 use Rattle.desk.specs.declared.answers.Committed.{Committed}
 use Rattle.store_calls.specs.New.{Made}

@@ -6,6 +6,6 @@ returns c = λ a code h small_a small_code small_h is.
     let at : List (List ℕ) = encode_lower (big_bytes 4 h) ∷ [] in
     let one = c.first_small-activation.ensures.parts a (codes "code" ∷ decimal code ∷ codes "at" ∷ at) small_a is in
     let two = c.first_small-code.ensures.parts code (codes "at" ∷ at) small_code
-    (c.behind.ensures (codes "code") (decimal code ∷ codes "at" ∷ at) refl one.1) in
-    let three = c.address.ensures h small_h (c.behind-2.ensures (codes "at") at refl two.1) in
+    (c.behind.ensures.parts (codes "code") (decimal code ∷ codes "at" ∷ at) refl one.1) in
+    let three = c.address.ensures h small_h (c.behind-2.ensures.parts (codes "at") at refl two.1) in
     rw (one.0, two.0, three) refl

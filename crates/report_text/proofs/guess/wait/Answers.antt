@@ -5,5 +5,5 @@ pub returns : goal.returns
 returns c = λ a holders small_a small is.
     let one = c.first_small-activation.ensures.parts a (codes "for" ∷ map decimal holders) small_a is in
     let two = c.in_ok-all_small.ensures holders (recursion_from_All _ holders small)
-    (c.behind.ensures (codes "for") (map decimal holders) refl one.1) in
+    (c.behind.ensures.parts (codes "for") (map decimal holders) refl one.1) in
     rw (one.0, two) refl

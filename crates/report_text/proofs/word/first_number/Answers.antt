@@ -2,7 +2,7 @@ use Rattle.std.proofs.Common.{decimal}
 use Rattle.report_text.proofs.PartLemmas.{number_word}
 use Rattle.report_text.proofs.word.first_number.Goals as goal
 
-pub returns : goal.returns
-returns c = λ n words small is.
+pub returns-clause-parts : goal.returns-clause-parts
+returns-clause-parts c = λ n words small is.
     let cut = c.split.ensures.parts (decimal n) words (number_word n small) is in
     (c.number.ensures n small cut.0, cut.1)

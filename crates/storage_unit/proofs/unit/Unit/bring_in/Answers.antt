@@ -1,7 +1,7 @@
 use Rattle.storage_unit.proofs.Common.{refl, sym, ◌∙◌, ap, inl, inr}
 use Rattle.line_geometry.specs.LineSets.{lines_of_bits}
 use Rattle.frame_pool.proofs.LayLemmas.{all-lines}
-use Rattle.storage_unit.proofs.IncomingLemmas.{is-filled, is-kept, has-gone-out}
+use Rattle.storage_unit.proofs.IncomingLemmas.{is-filled, is-kept, all-marked, has-gone-out}
 use Rattle.storage_unit.proofs.unit.Unit.bring_in.Goals as goal
 
 pub returns-then-bits-clause-came : goal.returns-then-bits-clause-came
@@ -23,3 +23,9 @@ pub returns-in-Err-clause-out : goal.returns-in-Err-clause-out
 returns-in-Err-clause-out g c =
     has-gone-out c.args.self.now c.bring-slot.new.self c.args.page c.args.keep c.bring-slot.result.frame c.page_mut.result.now c.bring-slot.ensures.brought c.bring-slot.ensures.rest c.page_mut.ensures.value
     c.read_page-read.new.into c.lay_kept-2.new.self c.read_page-read.auto.into c.lay_kept-2.ensures c.empty.new.self c.empty.ensures
+
+pub returns-in-Ok-clause-kept : goal.returns-in-Ok-clause-kept
+returns-in-Ok-clause-kept g c = λ all. absurd (c.if-bits.false (all-marked c.args.self.now c.bring-slot.new.self c.args.page c.args.keep c.bring-slot.result.frame c.bring-slot.ensures.brought c.bits.result c.bits.type_inv (c.bits.ensures ∙ c.written.ensures) all))
+
+pub returns-in-Err-clause-kept : goal.returns-in-Err-clause-kept
+returns-in-Err-clause-kept g c = λ all. absurd (c.if-bits.false (all-marked c.args.self.now c.bring-slot.new.self c.args.page c.args.keep c.bring-slot.result.frame c.bring-slot.ensures.brought c.bits.result c.bits.type_inv (c.bits.ensures ∙ c.written.ensures) all))
