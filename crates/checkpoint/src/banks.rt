@@ -64,8 +64,10 @@ impl Banks {
             Err(Failed) => return Err(OpenFault::DiskFault),
             Ok(which) => which,
         };
-        let bank = Bank::open(alloc, header, which, outside)?;
-        with_buffer(alloc, header, bank)
+        match Bank::open(alloc, header, which, outside) {
+            Err(fault) => Err(fault),
+            Ok(bank) => with_buffer(alloc, header, bank),
+        }
     }
 
     /// Reads the selector and the bank that it chooses again. No record is begun after any answer. After an error they
