@@ -55,11 +55,11 @@ module _ {W : Type 0} (G : Ghosts W) (fewer_later : FewerLater G) (range : Range
       only-shows : (result : Result (Unit {0}) Status) → PutsBytes G store at range.from range.count start after result → AsksAndPuts G before after
       only-shows result puts = shows_on G fewer_later before start after (shows_asks G before start asks) puts.only
 
-      pub shown_whole : PutsBytes G store at range.from range.count start after (Ok tt) → RangeShown G range (call before after [] status.Done)
-      shown_whole puts = record {
+      pub shown_whole : G.disk_faults start ≡ G.disk_faults before → PutsBytes G store at range.from range.count start after (Ok tt) → RangeShown G range (call before after [] status.Done)
+      shown_whole calm puts = record {
         no_order = refl;
         only = only-shows (Ok tt) puts;
-        by_status = (has-range, rows-put (Ok tt) puts, λ told. puts.times (subst (λ (these : Option (List ℕ)). IsSome these) (sym asks.calls.quiet.same) told) ∙ ap (λ (n : ℕ). n + div_ceil range.count 16) asks.calls.puts);
+        by_status = (has-range, rows-put (Ok tt) puts, λ told. puts.times (subst (λ (these : Option (List ℕ)). IsSome these) (sym asks.calls.quiet.same) told) ∙ ap (λ (n : ℕ). n + div_ceil range.count 16) asks.calls.puts, puts.asked ∙ calm);
       }
 
       pub shown_part : (why : Status) → PutsBytes G store at range.from range.count start after (Err why) → RangeShown G range (call before after [] why)

@@ -23,12 +23,13 @@ pub record IsWrittenWhole {W : Type 0} (G : Ghosts W) (bytes : List ℕ) (old ne
   pub sure : IsTrue (G.is_honest old) → IsSome (G.held old) → IsSure G new
   pub writes : G.writes new ≡ option_map (λ count. count + 1) (G.writes old)
 
--- The bytes are this image, where they are told, and sure where the disk is honest too; one write succeeded on an empty disk.
+-- The bytes are this image, where they are told, and sure where the disk is honest too; one write succeeded on an empty disk, and no call failed.
 pub record IsStored {W : Type 0} (G : Ghosts W) (image : List ℕ) (before after : W) : Type 0 where
   pub empty : IsSome (G.held before) → held_of G before ≡ []
   pub held : IsSome (G.held before) → G.held after ≡ Some image
   pub sure : IsTrue (G.is_honest before) → IsSome (G.held before) → IsSure G after
   pub writes : G.writes after ≡ option_map (λ count. count + 1) (G.writes before)
+  pub calm : G.disk_faults after ≡ G.disk_faults before
 
 -- a disk that tells its bytes holds others now at most among so many from the front
 abbrev pub IsTornBy : {W : Type 0} → Ghosts W → ℕ → W → W → Type 0

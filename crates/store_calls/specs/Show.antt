@@ -82,7 +82,7 @@ PutsRows G range before after = IsSome (G.printed before) → (G.moment after).p
 
 -- what it did, by the status, and where the disk failed, nothing was put or the range is there; other statuses don't come
 abbrev pub ShownBy : {W : Type 0} → Ghosts W → Range → W → W → Status → Type 0
-ShownBy G range before after status.Done = HasRange G range before × PrintsRows G range before after status.Done × PutsRows G range before after
+ShownBy G range before after status.Done = HasRange G range before × PrintsRows G range before after status.Done × PutsRows G range before after × (G.disk_faults after ≡ G.disk_faults before)
 ShownBy G range before after status.PutFault = HasRange G range before × PrintsRows G range before after status.PutFault
 ShownBy G range before after status.DiskFault = PrintsRows G range before after status.DiskFault × ((G.printed after ≡ G.printed before) ⊎ HasRange G range before)
 ShownBy G range before after status.NoRange = OnlyAsks G before after × HasNoRange G range before

@@ -15,7 +15,6 @@ use text_line::TextLine;
 pub fn make_store<W: Outside>(alloc: Global, header: &Header, outside: &mut W) -> Status
     ensures made { Made W.Outside header.now (call outside.old outside.new [] result) }
     ensures unfailed { result ≡ Status.Done → W.put_faults outside.new ≡ W.put_faults outside.old }
-    ensures calm { result ≡ Status.Done → W.disk_faults outside.new ≡ W.disk_faults outside.old }
     ensures put { result ≡ Status.PutFault → Rose (W.put_faults outside.old) (W.put_faults outside.new) }
     ensures disk { result ≡ Status.DiskFault → Rose (W.disk_faults outside.old) (W.disk_faults outside.new) }
     ensures only { IsOfNew result }

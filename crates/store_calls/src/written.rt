@@ -42,7 +42,6 @@ pub(super) fn write_store<W: Outside>(image: &[u8], line: &[u8], outside: &mut W
     requires empty { IsSome (W.held outside.old) → held_of W.Outside outside.old ≡ [] }
     ensures written { Written W.Outside image.now line.now (call outside.old outside.new [] result) }
     ensures unfailed { result ≡ Status.Done → W.put_faults outside.new ≡ W.put_faults outside.old }
-    ensures calm { result ≡ Status.Done → W.disk_faults outside.new ≡ W.disk_faults outside.old }
     ensures put { result ≡ Status.PutFault → Rose (W.put_faults outside.old) (W.put_faults outside.new) }
     ensures disk { result ≡ Status.DiskFault → Rose (W.disk_faults outside.old) (W.disk_faults outside.new) }
     ensures only { IsOfWriting result }

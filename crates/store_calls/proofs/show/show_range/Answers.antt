@@ -7,7 +7,7 @@ returns-in-Ok-put_range-clause-shown g c =
     shown_whole g.W.Outside g.met.W.Outside.fewer_later c.args.range c.args.outside.now c.open.new.outside c.in-Ok.ensures.asks c.in-Ok.store c.in-Ok.ensures.shows c.in-Some.at
     (subst (λ (header : Header). IsInside header.directory c.args.range) c.header.ensures c.in-Some.ensures.0)
     (c.in-Some.ensures.1 ∙ ap (λ (header : Header). start_of header.directory c.args.range.segment + c.args.range.from) c.header.ensures)
-    c.put_range.new.outside c.in-Ok-put_range.ensures.puts
+    c.put_range.new.outside c.in-Ok.ensures.no_fault c.in-Ok-put_range.ensures.puts
 
 pub returns-in-Some-clause-shown : goal.returns-in-Some-clause-shown
 returns-in-Some-clause-shown g c =
