@@ -1,8 +1,8 @@
 -- Records that are kept and told, one after another.
-use Rattle.standby.proofs.Common.{◌≡◌, ℕ, suc, ◌+◌, ◌-◌, ◌<◌, List, [], ◌++◌, length, take, get_or, refl, sym, ◌∙◌, ap, subst, arith, append-nil, IfSome_then, Option, Result, Ok, Err, OnErr, take_all, FlatStore, Stands, stands, Failed, Ghosts, Prints, FewerLater, Leaves, held_of, told_is, prints_none, prints_on, prints_same, prints_stop, leaves_on, KeptStore, Shows, TracksStore, FollowsBy, IsAtNumber, IsStopped, Follows, Keeps, SoFar, broken, kept_text, well, Puts, laid_by, Steps, followed_of, over, put_of, ShipLine, end_line, kept_line, later, next, Followed, Done, DiskFault, PutFault}
+use Rattle.standby.proofs.Common.{⊎_elim, ◌≡◌, ℕ, suc, ◌+◌, ◌-◌, ◌<◌, List, [], ◌++◌, length, take, get_or, refl, sym, ◌∙◌, ap, subst, arith, append-nil, IfSome_then, Option, Result, Ok, Err, OnErr, take_all, FlatStore, Stands, stands, Failed, Ghosts, Prints, FewerLater, Leaves, held_of, told_is, prints_none, prints_on, prints_same, prints_stop, leaves_on, KeptStore, Shows, TracksStore, FollowsBy, IsAtNumber, IsStopped, Follows, Keeps, SoFar, broken, kept_text, well, Puts, laid_by, Steps, followed_of, put_of, ShipLine, end_line, kept_line, later, next, Followed, Done, DiskFault, PutFault}
 use Rattle.outside.specs.Moments.{Elapses}
-use Rattle.standby.proofs.PutLemmas.{PrintedNow, image_is, sure_puts}
-use Rattle.standby.proofs.TellLemmas.{at_end, at_some, at_step, kept_front, later_more, laid_more}
+use Rattle.standby.proofs.PutLemmas.{PrintedNow, image_is, sure_puts, told_on}
+use Rattle.standby.proofs.TellLemmas.{at_end, at_some, at_step, kept_front, stood_more}
 
 module _ {W : Type 0} (G : Ghosts W) (fewer_later : FewerLater G) (printed_now : PrintedNow G) (bytes number : ℕ) (store : FlatStore) (records : List (List ShipLine)) where
   -- none yet
@@ -16,6 +16,7 @@ module _ {W : Type 0} (G : Ghosts W) (fewer_later : FewerLater G) (printed_now :
         tracks = tracks;
         stood = here;
         printed = prints_none (G.printed now) tt;
+        times = λ some. omega arith;
       }
 
   module _ (i : ℕ) (lt : i < length records) (old_store : KeptStore) (before mid : W) (time : Elapses G.moment G.left_since before mid) (so_far : SoFar G bytes number store records i old_store before mid)
@@ -27,30 +28,34 @@ module _ {W : Type 0} (G : Ghosts W) (fewer_later : FewerLater G) (printed_now :
         (λ image seen left. at_step bytes number store records (G.printed before) i (G.printed mid) image seen lt so_far.printed (steps.crash image seen left))
 
     number_on : next (later number i) ≡ later number (suc i)
-    number_on =
-        let is : i + 1 ≡ suc i = omega arith in
-        later_more number i ∙ ap (later number) is
+    number_on = omega arith
 
     -- it is kept and told
     pub so_far_more : Steps G bytes (later number i) (laid_by bytes store (take i records)) (get_or records i []) durable mid after (Ok tt) → SoFar G bytes number store records (i + 1) durable before after
     so_far_more steps = record {
       crash = crash_on (Ok tt) steps;
       tracks = steps.ends.0;
-      stood = steps.ends.1 ∙ ap (λ (n : ℕ). Stands n (over bytes (laid_by bytes store (take i records)) (get_or records i []))) (later_more number i) ∙ ap (Stands (later number (i + 1))) (laid_more bytes store records i lt);
+      stood = stood_more bytes number store records i (held_of G after) lt steps.ends.1;
       printed =
+          let one_on : suc i ≡ i + 1 = omega arith in
           let text : kept_text number i ++ kept_line (next (later number i)) ≡ kept_text number (i + 1) = ap (λ (n : ℕ). kept_text number i ++ kept_line n) number_on ∙ ap (kept_text number) one_on in
           prints_same (G.printed before) (G.printed after) (kept_text number i ++ kept_line (next (later number i))) (kept_text number (i + 1)) well text
           (prints_on (G.printed before) (G.printed mid) (G.printed after) (kept_text number i) (kept_line (next (later number i))) tt well so_far.printed steps.ends.2);
+      times = λ some. omega (arith, so_far.times some, steps.ends.3 (told_on (G.printed before) (G.printed mid) (kept_text number i) so_far.printed some));
     }
-      where
-        one_on : suc i ≡ i + 1
-        one_on = omega arith
 
     -- it isn't
     pub so_far_stopped : (why : Followed) → Steps G bytes (later number i) (laid_by bytes store (take i records)) (get_or records i []) durable mid after (Err why) → Keeps G bytes number store records durable before after why
     so_far_stopped DiskFault steps = record {
       crash = crash_on (Err DiskFault) steps;
-      ends = (i, lt, subst (λ (those : Option (List ℕ)). Prints (G.printed before) those (kept_text number i) well) (sym steps.ends) so_far.printed);
+      ends = (
+        record {
+          count = i;
+          printed = subst (λ (those : Option (List ℕ)). Prints (G.printed before) those (kept_text number i) well) (sym steps.ends) so_far.printed;
+          left = λ image seen left. ⊎_elim (λ was. (i, omega arith, omega arith, was.0)) (λ more. (i + 1, omega arith, omega arith, stood_more bytes number store records i image lt more.0)) (steps.crash image seen (fewer_later after (G.moment mid) (G.moment after) image seen on.later left));
+        },
+        lt,
+      );
     }
     so_far_stopped PutFault steps = record {
       crash = crash_on (Err PutFault) steps;
@@ -79,6 +84,7 @@ module _ {W : Type 0} (G : Ghosts W) (fewer_later : FewerLater G) (printed_now :
             ∙ ap (λ (these : List (List ShipLine)). Stands (later number (length records)) (laid_by bytes store these)) (take_all count records (omega (arith, all)));
       },
       prints_same (G.printed before) (G.printed now) (kept_text number count) (kept_text number (length records)) well (ap (kept_text number) all) so_far.printed,
+      λ some. omega (arith, so_far.times some, all),
     );
   }
 
@@ -106,6 +112,7 @@ module _ {W : Type 0} (G : Ghosts W) (fewer_later : FewerLater G) (printed_now :
               stood = ap stands sure.1 ∙ keeps.ends.0.stood;
             },
             prints_on (G.printed before) (G.printed mid) (G.printed after) (kept_text number (length records)) last tt well keeps.ends.1 put.printed,
+            λ some. omega (arith, keeps.ends.2 some, put.once (told_on (G.printed before) (G.printed mid) (kept_text number (length records)) keeps.ends.1 some)),
           );
         }
     ended line (Err why) is only puts =

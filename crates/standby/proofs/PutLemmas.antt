@@ -1,5 +1,5 @@
 -- One line that is put, and what a crash leaves of it.
-use Rattle.standby.proofs.Common.{◌≡◌, ⊎_elim, ℕ, List, [], ◌++◌, take, sym, ◌∙◌, ap, subst, IsSome, IsTrue, Option, None, Some, IfSome, Result, Ok, unwrap_or, IfSome_then, Failed, Ghosts, Prints, AreTold, IsSure, CallsDisk, FewerLater, Leaves, held_of, told_is, Puts, SeesPart}
+use Rattle.standby.proofs.Common.{well, ◌≡◌, ⊎_elim, ℕ, List, [], ◌++◌, take, sym, ◌∙◌, ap, subst, IsSome, IsTrue, Option, None, Some, IfSome, Result, Ok, unwrap_or, IfSome_then, Failed, Ghosts, Prints, AreTold, IsSure, CallsDisk, FewerLater, Leaves, held_of, told_is, Puts, SeesPart}
 
 -- a crash leaves the bytes printed
 abbrev pub PrintedNow : {W : Type 0} → Ghosts W → Type 0
@@ -9,6 +9,11 @@ PrintedNow {W} G = (w : W) (image seen : List ℕ) → G.left_since w (G.moment 
 pub on_printed : (old new : Option (List ℕ)) (bytes : List ℕ) {T : Type 0} (value : T) (P : List ℕ → Type 0) → Prints old new bytes (Ok value) → IfSome new P → IfSome old (λ shown. P (shown ++ bytes))
 on_printed None new bytes value P prints has = tt
 on_printed (Some old) new bytes value P prints has = subst (λ (those : Option (List ℕ)). IfSome those P) prints has
+
+-- bytes printed that are told still are then
+pub told_on : (old new : Option (List ℕ)) (bytes : List ℕ) → Prints old new bytes well → IsSome old → IsSome new
+told_on None new bytes prints told = cc
+told_on (Some old) new bytes prints told = cc
 
 module _ {W : Type 0} (G : Ghosts W) (printed_now : PrintedNow G) where
   -- what a call of the disk leaves printed

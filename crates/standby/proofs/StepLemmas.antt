@@ -1,5 +1,5 @@
 -- One record that is kept and told.
-use Rattle.standby.proofs.Common.{◌≡◌, inl, inr, ⊎_elim, ℕ, ◌+◌, ◌*◌, List, [], ◌∷◌, refl, sym, ◌∙◌, ap, subst, append-nil, IfSome_then, FlatStore, line_bytes, PageSize, RecordLine, Standing, Stands, home_of, stands, one_more, Failed, Ghosts, AreTold, Prints, IsSure, CallsDisk, FewerLater, Leaves, held_of, leaves_on, begun_of, IsEither, KeptStore, with_begun, Shows, TracksStore, Puts, SeesPart, laid, well, broken, IsStep, Steps, over, put_of, Followed, DiskFault, PutFault, ShipLine, next, kept_line, told}
+use Rattle.standby.proofs.Common.{IsSome, ◌≡◌, inl, inr, ⊎_elim, ℕ, ◌+◌, ◌*◌, List, [], ◌∷◌, refl, sym, ◌∙◌, ap, subst, append-nil, IfSome_then, FlatStore, line_bytes, PageSize, RecordLine, Standing, Stands, home_of, stands, one_more, Failed, Ghosts, AreTold, Prints, IsSure, CallsDisk, FewerLater, Leaves, held_of, leaves_on, begun_of, IsEither, KeptStore, with_begun, Shows, TracksStore, Puts, SeesPart, laid, well, broken, IsStep, Steps, over, put_of, Followed, DiskFault, PutFault, ShipLine, next, kept_line, told}
 use Rattle.std.specs.Prelude.{◌%◌, ◌^◌, length, Option, Result, Ok, Err, OnErr, fold}
 use Rattle.owned_list.specs.Overlay.{overlaid}
 use Rattle.store_format.proofs.Stores.{stands_is}
@@ -72,6 +72,7 @@ module _ {W : Type 0} (G : Ghosts W) (fewer_later : FewerLater G) (printed_now :
           record { sure = sure.0; shows = subst (λ (held : List ℕ). Shows held durable) (sym sure.1) tracks.shows },
           ap stands sure.1 ∙ stands_more,
           subst (λ (those : Option (List ℕ)). Prints those (G.printed after) (kept_line (next number)) well) calls.quiet.same kept.printed,
+          λ some. kept.once (subst (λ (those : Option (List ℕ)). IsSome those) (sym calls.quiet.same) some) ∙ ap (λ (n : ℕ). n + 1) calls.puts,
         );
       }
   step_kept durable after line (Err why) tracks more is only puts =

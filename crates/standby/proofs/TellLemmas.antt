@@ -19,13 +19,15 @@ kept_longer number i (suc more) =
     let long = ap (λ (n : ℕ). length (kept_text number n)) same in
     omega (arith, long, kept_longer number i more, length-append (kept_text number (i + more)) (kept_line (later number (suc (i + more)))), line_some (later number (suc (i + more))))
 
+kept_grows : (number i j : ℕ) → i ≤ j → length (kept_text number i) + (j - i) ≤ length (kept_text number j)
+kept_grows number i j le =
+    let far : i + (j - i) ≡ j = omega (arith, le) in
+    omega (arith, kept_longer number i (j - i), ap (λ (n : ℕ). length (kept_text number n)) far)
+
 -- so a text of at most these lines tells of no more
 pub kept_few : (number i j count : ℕ) → count ≤ length (kept_text number j) → length (kept_text number i) ≤ count → i ≤ j
 kept_few number i j count few many = ⊎_elim
-    (λ (past : j < i).
-    let far : j + (i - j) ≡ i = omega (arith, past) in
-    let long = ap (λ (n : ℕ). length (kept_text number n)) far in
-    absurd (omega (arith, kept_longer number j (i - j), long, few, many, past)))
+    (λ (past : j < i). absurd (omega (arith, kept_grows number j i (omega (arith, past)), few, many, past)))
     (λ (within : i ≤ j). within)
     (cases_lt j i)
 
@@ -71,10 +73,15 @@ pub later_more : (number i : ℕ) → next (later number i) ≡ later number (i 
 later_more number i = omega arith
 
 -- one record more
-pub laid_more : (bytes : ℕ) (store : FlatStore) (records : List (List ShipLine)) (i : ℕ) → i < length records → over bytes (laid_by bytes store (take i records)) (get_or records i []) ≡ laid_by bytes store (take (i + 1) records)
+laid_more : (bytes : ℕ) (store : FlatStore) (records : List (List ShipLine)) (i : ℕ) → i < length records → over bytes (laid_by bytes store (take i records)) (get_or records i []) ≡ laid_by bytes store (take (i + 1) records)
 laid_more bytes store records i lt =
     ap (λ (these : List ℕ). let it : FlatStore = record { directory = store.directory; bytes = these } in it)
     (sym (fold-append (laid bytes) store.bytes (take i records) (get_or records i [] ∷ [])) ∙ ap (fold (laid bytes) store.bytes) (sym (take_more records i [] lt)))
+
+pub stood_more : (bytes number : ℕ) (store : FlatStore) (records : List (List ShipLine)) (i : ℕ) (image : List ℕ) → i < length records
+    → stands image ≡ Stands (next (later number i)) (over bytes (laid_by bytes store (take i records)) (get_or records i [])) → stands image ≡ Stands (later number (i + 1)) (laid_by bytes store (take (i + 1) records))
+stood_more bytes number store records i image lt more =
+    more ∙ ap (λ (n : ℕ). Stands n (over bytes (laid_by bytes store (take i records)) (get_or records i []))) (later_more number i) ∙ ap (Stands (later number (i + 1))) (laid_more bytes store records i lt)
 
 module _ (bytes number : ℕ) (store : FlatStore) (records : List (List ShipLine)) (printed : Option (List ℕ)) where
   -- what stands after so many records, with their lines
@@ -87,6 +94,7 @@ module _ (bytes number : ℕ) (store : FlatStore) (records : List (List ShipLine
       count = length (kept_text number i);
       seen_is = same ∙ ap (λ (these : List ℕ). shown ++ these) (sym (told_whole number i (length records) le));
       no_more = λ k few many. kept_few number k i (length (kept_text number i)) (omega arith) many;
+      no_fewer = λ k few. omega (arith, kept_grows number k i (omega (arith, few)));
     });
   }
 
@@ -96,14 +104,13 @@ module _ (bytes number : ℕ) (store : FlatStore) (records : List (List ShipLine
   at_step i mid image seen lt prints (inl was) =
       at_some i image seen (omega (arith, lt)) was.0 (on_printed printed mid (kept_text number i) tt (λ (shown : List ℕ). seen ≡ shown) prints was.1)
   at_step i mid image seen lt prints (inr more) =
-      let is : suc i ≡ i + 1 = omega arith in
-      let number_is : next (later number i) ≡ later number (suc i) = later_more number i ∙ ap (later number) (sym is) in
+      let number_is : next (later number i) ≡ later number (suc i) = omega arith in
       let line = kept_line (later number (suc i)) in
       let part = on_printed printed mid (kept_text number i) tt (λ (shown : List ℕ). (count : ℕ) × (seen ≡ shown ++ take count (kept_line (next (later number i))))) prints more.1 in
       record {
         j = i + 1;
         few = omega (arith, lt);
-        stood = more.0 ∙ ap (λ (n : ℕ). Stands n (over bytes (laid_by bytes store (take i records)) (get_or records i []))) (later_more number i) ∙ ap (Stands (later number (i + 1))) (laid_more bytes store records i lt);
+        stood = stood_more bytes number store records i image lt more.0;
         told = IfSome_then printed part (λ shown sees. record {
           count = length (kept_text number i) + min sees.0 (length line);
           seen_is =
@@ -114,6 +121,7 @@ module _ (bytes number : ℕ) (store : FlatStore) (records : List (List ShipLine
           no_more = λ k few many.
               let up : k ≤ suc i = kept_few number k (suc i) (length (kept_text number i) + min sees.0 (length line)) (omega (arith, length-append (kept_text number i) line)) many in
               omega (arith, up);
+          no_fewer = λ k few. omega (arith, kept_grows number k i (omega (arith, few)));
         });
       }
 
@@ -133,6 +141,7 @@ module _ (bytes number : ℕ) (store : FlatStore) (records : List (List ShipLine
               ∙ append_assoc shown (kept_text number all) (take part.0 (end_line (later number all)))
               ∙ ap (λ (these : List ℕ). shown ++ these) (sym (take-append-add (kept_text number all) (end_line (later number all)) part.0));
           no_more = λ k few many. few;
+          no_fewer = λ k few. omega (arith, kept_grows number k all (omega (arith, few)));
         });
       }
     where

@@ -1,5 +1,5 @@
 -- What following a text does.
-use Rattle.std.specs.Prelude.{◌≡◌, ℕ, zero, suc, ◌<◌, ◌≤◌, List, [], ◌++◌, length, take, Option, Result, Ok, Err, IsSome, IfSome}
+use Rattle.std.specs.Prelude.{◌≡◌, ℕ, zero, suc, ◌+◌, ◌<◌, ◌≤◌, List, [], ◌++◌, length, take, Option, Result, Ok, Err, IsSome, IfSome}
 use Rattle.line_geometry.specs.FlatStore.{FlatStore}
 use Rattle.line_geometry.specs.Lines.{line_count}
 use Rattle.store_format.specs.Header.{Header}
@@ -14,6 +14,7 @@ use Rattle.outside.specs.Runs.{Leaves, held_of}
 use Rattle.redo_journal.specs.Held.{HoldsAtLeast, IsMoreBy}
 use Rattle.restart.specs.Kept.{KeptStore}
 use Rattle.restart.specs.Shows.{TracksStore}
+use Rattle.standby.specs.Puts.{CountsPuts}
 use Rattle.standby.specs.State.{laid_by}
 use Rattle.standby.specs.Text.{Content, ShipLine, later, end_line, kept_line}
 use Rattle.standby.specs.declared.following.Followed.{Followed}
@@ -33,20 +34,21 @@ pub record IsAlike (header : Header) (content : Content) : Type 0 where
   pub bytes : content.line_bytes ≡ line_bytes header.directory.page
   pub lines : content.lines ≡ line_count header.directory
 
--- Seen is what was printed before with a first part of what is told of so many records behind a number, and of no record behind the first few a
--- whole line.
-pub record TellsNoMore (number all few : ℕ) (seen printed : List ℕ) : Type 0 where
+-- Seen is what was printed before with a first part of what is told of so many records behind a number: of no record behind the first few a whole
+-- line, and of each but the last of these.
+pub record TellsUpTo (number all few : ℕ) (seen printed : List ℕ) : Type 0 where
   pub count : ℕ
   pub seen_is : seen ≡ printed ++ take count (followed_text number all)
   pub no_more : (i : ℕ) → i ≤ all → length (kept_text number i) ≤ count → i ≤ few
+  pub no_fewer : (i : ℕ) → i + 1 ≤ few → length (kept_text number i) ≤ count
 
 -- A crash left an image that stands for the store at a number, or at one of the records behind it; and where the bytes printed are told, the whole
--- line of none behind that was seen.
+-- line of none behind that was seen, and that of each before it.
 pub record IsAtNumber (bytes number : ℕ) (store : FlatStore) (records : List (List ShipLine)) (printed : Option (List ℕ)) (image seen : List ℕ) : Type 0 where
   pub j : ℕ
   pub few : j ≤ length records
   pub stood : stands image ≡ Stands (later number j) (laid_by bytes store (take j records))
-  pub told : IfSome printed (TellsNoMore number (length records) j seen)
+  pub told : IfSome printed (TellsUpTo number (length records) j seen)
 
 -- calls of the disk, and puts: told bytes stay told and get no fewer, no count falls, and time goes on
 pub record OnlyGoesOn {W : Type 0} (G : Ghosts W) (old new : W) : Type 0 where
@@ -82,23 +84,29 @@ well = Ok tt
 abbrev pub broken : Result (Unit {0}) Failed
 broken = Err (record {})
 
--- how the records were kept and told, from a store that was tracked: all were; or a first part of what tells of them is printed; or some
--- were kept and told, and the disk then failed; it ends in no other way
+-- So many of the records are told, to the byte, and each image that a crash leaves now stands for the store with these, or with one more.
+pub record StopsAt {W : Type 0} (G : Ghosts W) (bytes number : ℕ) (store : FlatStore) (records : List (List ShipLine)) (before after : W) : Type 0 where
+  pub count : ℕ
+  pub printed : Prints (G.printed before) (G.printed after) (kept_text number count) well
+  pub left : Leaves G (λ image seen. (k : ℕ) × (count ≤ k) × (k ≤ count + 1) × (stands image ≡ Stands (later number k) (laid_by bytes store (take k records)))) after after
+
+-- how the records were kept and told, from a store that was tracked: all were, each by one put; or a first part of what tells of them is printed;
+-- or some were kept and told, and the disk then failed; it ends in no other way
 abbrev pub KeepsBy : {W : Type 0} → Ghosts W → (bytes number : ℕ) → FlatStore → List (List ShipLine) → KeptStore → W → W → Followed → Type 0
 KeepsBy G bytes number store records durable before after Done =
-    IsLater G bytes number store records durable after × Prints (G.printed before) (G.printed after) (kept_text number (length records)) well
+    IsLater G bytes number store records durable after × Prints (G.printed before) (G.printed after) (kept_text number (length records)) well × CountsPuts G (length records) before after
 KeepsBy G bytes number store records durable before after PutFault = Prints (G.printed before) (G.printed after) (kept_text number (length records)) broken
 KeepsBy G bytes number store records durable before after DiskFault =
-    (count : ℕ) × (count < length records) × Prints (G.printed before) (G.printed after) (kept_text number count) well
+    (at : StopsAt G bytes number store records before after) × (at.count < length records)
 KeepsBy G bytes number store records durable before after _ = ⊥
 
 -- the same with the last line; where they weren't to be kept nothing was called
 abbrev pub FollowsBy : {W : Type 0} → Ghosts W → (bytes number : ℕ) → FlatStore → List (List ShipLine) → KeptStore → W → W → Followed → Type 0
 FollowsBy G bytes number store records durable before after Done =
-    IsLater G bytes number store records durable after × Prints (G.printed before) (G.printed after) (followed_text number (length records)) well
+    IsLater G bytes number store records durable after × Prints (G.printed before) (G.printed after) (followed_text number (length records)) well × CountsPuts G (length records + 1) before after
 FollowsBy G bytes number store records durable before after PutFault = Prints (G.printed before) (G.printed after) (followed_text number (length records)) broken
 FollowsBy G bytes number store records durable before after DiskFault =
-    (count : ℕ) × (count < length records) × Prints (G.printed before) (G.printed after) (kept_text number count) well
+    (at : StopsAt G bytes number store records before after) × (at.count < length records)
 FollowsBy G bytes number store records durable before after _ = after ≡ before
 
 -- so many of the records are kept and told
@@ -107,6 +115,7 @@ pub record SoFar {W : Type 0} (G : Ghosts W) (bytes number : ℕ) (store : FlatS
   pub tracks : TracksStore G durable now
   pub stood : stands (held_of G now) ≡ Stands (later number count) (laid_by bytes store (take count records))
   pub printed : Prints (G.printed before) (G.printed now) (kept_text number count) well
+  pub times : CountsPuts G count before now
 
 -- What keeping records did, and what a crash in it left.
 pub record Keeps {W : Type 0} (G : Ghosts W) (bytes number : ℕ) (store : FlatStore) (records : List (List ShipLine)) (durable : KeptStore) (before after : W) (how : Followed) : Type 0 where

@@ -1,5 +1,5 @@
 -- What keeping one record of a text does.
-use Rattle.std.specs.Prelude.{◌≡◌, ◌⊎◌, ℕ, ◌≤◌, List, length, Option, Some, Result, Ok, Err}
+use Rattle.std.specs.Prelude.{◌≡◌, ◌⊎◌, ℕ, ◌≤◌, List, length, Option, Result, Ok, Err}
 use Rattle.line_geometry.specs.FlatStore.{FlatStore}
 use Rattle.line_geometry.specs.Lines.{line_count}
 use Rattle.store_format.specs.Bank.{RecordLine}
@@ -13,7 +13,7 @@ use Rattle.outside.specs.Runs.{Leaves, held_of}
 use Rattle.restart.specs.Kept.{KeptStore, with_begun}
 use Rattle.restart.specs.Shows.{TracksStore}
 use Rattle.standby.specs.Followed.{well, broken}
-use Rattle.standby.specs.Puts.{SeesPart}
+use Rattle.standby.specs.Puts.{CountsPuts, SeesPart}
 use Rattle.standby.specs.State.{laid}
 use Rattle.standby.specs.Text.{ShipLine, AreLines, IsPacked, record_of, next, kept_line, told}
 use Rattle.standby.specs.declared.following.Followed.{Followed}
@@ -42,11 +42,11 @@ IsStep bytes number store lines printed image seen =
     ((stands image ≡ Stands number store) × AreTold printed seen)
     ⊎ ((stands image ≡ Stands (next number) (over bytes store lines)) × SeesPart printed (kept_line (next number)) seen)
 
--- how a record was kept and told: it stands, tracked, and its line is printed; or a first part of that is; or the disk failed, and nothing
+-- how a record was kept and told: it stands, tracked, and its line is printed, by one put; or a first part of that is; or the disk failed, and nothing
 -- was printed
 abbrev pub StepsBy : {W : Type 0} → Ghosts W → (bytes number : ℕ) → FlatStore → List ShipLine → KeptStore → W → W → Result (Unit {0}) Followed → Type 0
 StepsBy G bytes number store lines durable before after (Ok done) =
-    TracksStore G durable after × (stands (held_of G after) ≡ Stands (next number) (over bytes store lines)) × Prints (G.printed before) (G.printed after) (kept_line (next number)) well
+    TracksStore G durable after × (stands (held_of G after) ≡ Stands (next number) (over bytes store lines)) × Prints (G.printed before) (G.printed after) (kept_line (next number)) well × CountsPuts G 1 before after
 StepsBy G bytes number store lines durable before after (Err PutFault) = Prints (G.printed before) (G.printed after) (kept_line (next number)) broken
 StepsBy G bytes number store lines durable before after (Err DiskFault) = G.printed after ≡ G.printed before
 StepsBy G bytes number store lines durable before after (Err _) = ⊥

@@ -1,5 +1,5 @@
 -- A call over an opening that follows a text.
-use Rattle.std.proofs.Common.{◌≡◌, inl, inr, ℕ, ◌-◌, ◌^◌, ◌<◌, ◌≤◌, List, [], ◌++◌, length, refl, sym, ◌∙◌, ap, subst, arith, append-nil, IsSome, IsTrue}
+use Rattle.std.proofs.Common.{◌≡◌, inl, inr, ℕ, ◌+◌, ◌-◌, ◌^◌, ◌<◌, ◌≤◌, List, [], ◌++◌, length, refl, sym, ◌∙◌, ap, subst, arith, append-nil, IsSome, IsTrue}
 use Rattle.std.proofs.lemmas.Option.{IfSome_then}
 use Rattle.std.specs.Prelude.{Option, Result, unwrap_or}
 use Rattle.std.proofs.lemmas.List.{take_all, length-drop}
@@ -10,7 +10,7 @@ use Rattle.outside.specs.declared.world.Outside.{Ghosts}
 use Rattle.outside.specs.Bytes.{Prints}
 use Rattle.outside.specs.Moments.{Elapses}
 use Rattle.outside.specs.Runs.{FewerLater, Leaves, OnlyAsks, held_of}
-use Rattle.outside.proofs.Prints.{prints_on, prints_same, prints_unput}
+use Rattle.outside.proofs.Prints.{prints_none, prints_on, prints_same, prints_unput}
 use Rattle.outside.proofs.Runs.{leaves_on}
 use Rattle.redo_journal.specs.declared.fault.OpenFault.{OpenFault}
 use Rattle.restart.specs.Faults.{IsStoreOpenFault}
@@ -53,13 +53,15 @@ module _ {W : Type 0} (G : Ghosts W) (fewer_later : FewerLater G) (printed_now :
   small number store at = (stood_header (held_of G before) number store at.stood).2
 
   -- a crash in the opening leaves the store at the number
+  opening_stood : (number : ℕ) (store : FlatStore) → StandsAt G before number store → Leaves G (λ image seen. stands image ≡ Stands (later number 0) store) before mid
+  opening_stood number store at image seen left =
+      let number_is : later number 0 ≡ number = omega (arith, small number store at) in
+      at.images image seen (asks.crash at.told image seen left) ∙ ap (λ (n : ℕ). Stands n store) (sym number_is)
+
   opening_crash : (number : ℕ) (store : FlatStore) → StandsAt G before number store → Leaves G (IsAtNumber content.line_bytes number store (due content number) (G.printed before)) before mid
   opening_crash number store at image seen left =
       let since = asks.crash at.told image seen left in
-      let few = small number store at in
-      let number_is : later number 0 ≡ number = omega (arith, few) in
-      at_some content.line_bytes number store (due content number) (G.printed before) 0 image seen (omega arith)
-      (at.images image seen since ∙ ap (λ (n : ℕ). Stands n store) (sym number_is))
+      at_some content.line_bytes number store (due content number) (G.printed before) 0 image seen (omega arith) (opening_stood number store at image seen left)
       (IfSome_then (G.printed before) (printed_now before image seen since) (λ shown same. same ∙ sym (append-nil shown)))
 
   -- the disk failed in the opening
@@ -67,9 +69,9 @@ module _ {W : Type 0} (G : Ghosts W) (fewer_later : FewerLater G) (printed_now :
   unopened number store at = record {
     crash = opening_crash number store at;
     printed = prints_unput (G.printed before) (G.printed mid) (followed_text number (length (due content number))) broken refl asks.calls.quiet.same;
-    sure = λ is. absurd (cc);
-    stood = λ is. absurd (cc);
-    last = λ is. absurd (cc);
+    ends =
+        let none = subst (λ (these : Option (List ℕ)). Prints (G.printed before) these [] well) (sym asks.calls.quiet.same) (prints_none (G.printed before) tt) in
+        (record { count = 0; printed = none; left = λ image seen left. (0, omega arith, omega arith, opening_stood number store at image seen (fewer_later mid (G.moment before) (G.moment mid) image seen asks.calls.time.later left)) }, inr asks);
   }
 
   -- the store isn't opened
@@ -128,11 +130,13 @@ module _ {W : Type 0} (G : Ghosts W) (fewer_later : FewerLater G) (printed_now :
         record {
           crash = crash_since Done goes store at;
           printed = printed_since (followed_text number (length records)) well follows.ends.1;
-          sure = λ is. follows.ends.0.tracks.sure;
-          stood = λ is.
-              follows.ends.0.stood
-              ∙ ap (λ (these : List (List ShipLine)). Stands (later number (length records)) (laid_by content.line_bytes store these)) (sym (take_all (length records) records (omega arith)));
-          last = λ is. last_is content number start (small number store at) among;
+          ends = (
+            λ some. follows.ends.2 (subst (λ (these : Option (List ℕ)). IsSome these) (sym asks.calls.quiet.same) some) ∙ ap (λ (n : ℕ). n + (length records + 1)) asks.calls.puts,
+            follows.ends.0.tracks.sure,
+            follows.ends.0.stood
+                ∙ ap (λ (these : List (List ShipLine)). Stands (later number (length records)) (laid_by content.line_bytes store these)) (sym (take_all (length records) records (omega arith))),
+            last_is content number start (small number store at) among,
+          );
         })
 
     pub followed_put : Goes PutFault → FollowsOn G content before after status.PutFault
@@ -141,20 +145,15 @@ module _ {W : Type 0} (G : Ghosts W) (fewer_later : FewerLater G) (printed_now :
         record {
           crash = crash_since PutFault goes store at;
           printed = printed_since (followed_text (number_of durable) (length (due content (number_of durable)))) broken follows.ends;
-          sure = λ is. absurd (cc);
-          stood = λ is. absurd (cc);
-          last = λ is. absurd (cc);
+          ends = tt;
         })
 
     pub followed_disk : Goes DiskFault → FollowsOn G content before after status.DiskFault
     followed_disk goes = from_number status.DiskFault (λ store at.
-        let follows = goes_from DiskFault goes store at in
+        let stops = (goes_from DiskFault goes store at).ends in
+        let told = printed_since (kept_text (number_of durable) stops.0.count) well stops.0.printed in
         record {
           crash = crash_since DiskFault goes store at;
-          printed =
-              printed_since (followed_text (number_of durable) (length (due content (number_of durable)))) broken
-              (prints_some (G.printed mid) (G.printed after) (number_of durable) follows.ends.0 (length (due content (number_of durable))) follows.ends.1 follows.ends.2);
-          sure = λ is. absurd (cc);
-          stood = λ is. absurd (cc);
-          last = λ is. absurd (cc);
+          printed = prints_some (G.printed before) (G.printed after) (number_of durable) stops.0.count (length (due content (number_of durable))) stops.1 told;
+          ends = (record { count = stops.0.count; printed = told; left = stops.0.left }, inl stops.1);
         })

@@ -1,5 +1,5 @@
 -- What following a ship text did.
-use Rattle.std.specs.Prelude.{◌≡◌, ◌⊎◌, ℕ, ◌+◌, ◌≤◌, List, [], length, IsSome, All}
+use Rattle.std.specs.Prelude.{◌≡◌, ◌⊎◌, ℕ, ◌+◌, ◌≤◌, ◌<◌, List, [], length, IsSome, All}
 use Rattle.outside.specs.declared.world.Outside.{Ghosts}
 use Rattle.outside.specs.Causes.{Rose}
 use Rattle.outside.specs.Durable.{IsSure}
@@ -10,7 +10,8 @@ use Rattle.store_format.specs.Header.{most_lines}
 use Rattle.store_format.specs.Stands.{Stands, stands}
 use Rattle.restart.specs.Kept.{KeptStore, number_of}
 use Rattle.restart.specs.Shows.{Shows}
-use Rattle.standby.specs.Followed.{IsAlike, IsAtNumber, followed_text}
+use Rattle.standby.specs.Followed.{IsAlike, IsAtNumber, StopsAt, followed_text}
+use Rattle.standby.specs.Puts.{CountsPuts}
 use Rattle.standby.specs.Read.{IsFirstBad}
 use Rattle.standby.specs.State.{IsAmong, IsFirstLong, due, state}
 use Rattle.standby.specs.Text.{Content, IsContent, IsTextOf, later, text_of}
@@ -23,15 +24,25 @@ use Rattle.call_status.specs.Statuses.{IsOfOpening}
 use Rattle.call_status.specs.declared.status.Status.{Status}
 use Rattle.call_status.specs.declared.status.Status.TheVariants as status
 
+-- How it ended, by the status. Done: each line was put, by one put, and the bytes are sure and stand for the text's last number. DiskFault: the whole
+-- lines of some of the records are printed, and each image of the end stands for the last of these numbers, or for the one behind it; they are fewer
+-- than all, or the disk was only asked.
+abbrev pub EndsOn : {W : Type 0} → Ghosts W → Content → ℕ → FlatStore → W → W → Status → Type 0
+EndsOn G content number store before after status.Done =
+    CountsPuts G (length (due content number) + 1) before after × IsSure G after
+    × (stands (held_of G after) ≡ Stands (later number (length (due content number))) (state content number store (length (due content number))))
+    × (later number (length (due content number)) ≡ later content.start (length content.records))
+EndsOn G content number store before after status.DiskFault =
+    (at : StopsAt G content.line_bytes number store (due content number) before after) × ((at.count < length (due content number)) ⊎ OnlyAsks G before after)
+EndsOn G content number store before after _ = Unit {0}
+
 -- Where the bytes and each image of the start stand for a number and a store: each image that a crash leaves since stands for the store at that
--- number or at one of the text's behind it, and where the bytes printed are told, not before a number whose whole `kept` line was seen; the lines
--- are printed, or a first part of them. At Done the bytes, and each image of the end, stand for the text's last number.
+-- number or at one of the text's behind it, and where the bytes printed are told, not before a number whose whole `kept` line was seen, and at most
+-- one behind the last such; the lines are printed, or a first part of them.
 pub record HasFollowed {W : Type 0} (G : Ghosts W) (content : Content) (number : ℕ) (store : FlatStore) (call : Call W) : Type 0 where
   pub crash : Leaves G (IsAtNumber content.line_bytes number store (due content number) (G.printed call.before)) call.before call.after
   pub printed : PrintsBy (G.printed call.before) (G.printed call.after) (followed_text number (length (due content number))) call.status
-  pub sure : call.status ≡ status.Done → IsSure G call.after
-  pub stood : call.status ≡ status.Done → stands (held_of G call.after) ≡ Stands (later number (length (due content number))) (state content number store (length (due content number)))
-  pub last : call.status ≡ status.Done → later number (length (due content number)) ≡ later content.start (length content.records)
+  pub ends : EndsOn G content number store call.before call.after call.status
 
 -- what following did from a text with this content, on a store that stood
 abbrev pub FollowsOn : {W : Type 0} → Ghosts W → Content → W → W → Status → Type 0
@@ -98,11 +109,12 @@ IsRefusal _ = Unit {0}
 abbrev pub Stays : {W : Type 0} → Ghosts W → W → W → Type 0
 Stays G before after = (number : ℕ) (store : FlatStore) → StandsAt G before number store → Leaves G (λ image seen. stands image ≡ Stands number store) before after
 
--- what it did; there is no order
+-- what it did; there is no order, and Done comes only where the disk's count stayed
 pub record FollowedFrom {W : Type 0} (G : Ghosts W) (given : Given) (call : Call W) : Type 0 where
   pub no_order : call.order ≡ []
   pub honest : G.is_honest call.after ≡ G.is_honest call.before
   pub time : Elapses G.moment G.left_since call.before call.after
+  pub calm : call.status ≡ status.Done → G.disk_faults call.after ≡ G.disk_faults call.before
   pub stays : IsRefusal call.status → Stays G call.before call.after
   pub by_status : FollowedBy G given call.before call.after call.status
 

@@ -56,6 +56,7 @@ fn follow_text<W: Outside>(alloc: Global, ship: &Ship, outside: &mut W) -> Statu
     ensures on { OnStore W.Outside (content_of ship.now) outside.old outside.new result }
     ensures honest { W.is_honest outside.new ≡ W.is_honest outside.old }
     ensures time { Elapses W.moment W.left_since outside.old outside.new }
+    ensures calm { result ≡ Status.Done → W.disk_faults outside.new ≡ W.disk_faults outside.old }
     ensures unfailed { result ≡ Status.Done → W.put_faults outside.new ≡ W.put_faults outside.old }
     ensures put { result ≡ Status.PutFault → Rose (W.put_faults outside.old) (W.put_faults outside.new) }
     ensures disk { result ≡ Status.DiskFault → Rose (W.disk_faults outside.old) (W.disk_faults outside.new) }
