@@ -8,5 +8,6 @@ returns g c =
         only = record { held = put.held; writes = put.writes; honest = put.honest; time = put.time; cause = put.cause; calls = put.once.calls; disk = put.disk };
         printed = put.printed;
         crash = put.crash;
+        once = put.once;
       };
     }
