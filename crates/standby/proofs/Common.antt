@@ -48,4 +48,5 @@ pub use Rattle.standby.specs.Step.{IsBegun, IsFitting, IsStep, Steps, followed_o
 pub use Rattle.standby.specs.Text.{AreLines, Content, HoldsOne, IsContent, IsPacked, IsShip, ShipLine, content_of, end_line, head_line, kept_line, later, line_line, lines_text, next, parted, record_line, record_of, record_text, records_text, text_of, told}
 pub use Rattle.standby.specs.declared.following.Followed.{Followed}
 pub use Rattle.standby.specs.declared.following.Followed.TheVariants.{DiskFault, Done, Geometry, Long, NotKept, PutFault}
+pub use Rattle.standby.specs.declared.shipping.Shipped.{Shipped}
 pub use Rattle.standby.specs.declared.text.ShipRecord.{ShipRecord}

@@ -112,7 +112,7 @@ module _ {W : Type 0} (G : Ghosts W) (fewer_later : FewerLater G) (printed_now :
               stood = ap stands sure.1 ∙ keeps.ends.0.stood;
             },
             prints_on (G.printed before) (G.printed mid) (G.printed after) (kept_text number (length records)) last tt well keeps.ends.1 put.printed,
-            λ some. omega (arith, keeps.ends.2 some, put.once (told_on (G.printed before) (G.printed mid) (kept_text number (length records)) keeps.ends.1 some)),
+            λ some. omega (arith, keeps.ends.2 some, put.once.done (told_on (G.printed before) (G.printed mid) (kept_text number (length records)) keeps.ends.1 some)),
           );
         }
     ended line (Err why) is only puts =

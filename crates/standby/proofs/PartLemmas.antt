@@ -60,6 +60,9 @@ pub record IsLine (line : List ℕ) : Type 0 where
   pub is : line ≡ body ++ 10 ∷ []
   pub plain : feeds body ≡ 0
 
+pub one_feed : (line : List ℕ) → IsLine line → feeds line ≡ 1
+one_feed line is = ap feeds is.is ∙ feeds_append is.body (10 ∷ []) ∙ ap (λ (n : ℕ). n + 1) is.plain
+
 both : (a b : List ℕ) → feeds a ≡ 0 → feeds b ≡ 0 → feeds (a ++ b) ≡ 0
 both a b one two = omega (arith, feeds_append a b, one, two)
 

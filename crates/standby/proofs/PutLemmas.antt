@@ -1,5 +1,6 @@
 -- One line that is put, and what a crash leaves of it.
-use Rattle.standby.proofs.Common.{well, ◌≡◌, ⊎_elim, ℕ, List, [], ◌++◌, take, sym, ◌∙◌, ap, subst, IsSome, IsTrue, Option, None, Some, IfSome, Result, Ok, unwrap_or, IfSome_then, Failed, Ghosts, Prints, AreTold, IsSure, CallsDisk, FewerLater, Leaves, held_of, told_is, Puts, SeesPart}
+use Rattle.standby.proofs.Common.{◌≡◌, ⊎_elim, ℕ, List, [], ◌++◌, take, sym, ◌∙◌, ap, subst, arith, IsSome, IsTrue, Option, None, Some, IfSome, Result, Ok, Err, unwrap_or, IfSome_then, Failed, Ghosts, Prints, AreTold, IsSure, CallsDisk, FewerLater, Leaves, held_of, prints_none, prints_on, told_is, Puts, PrintsBy, SeesPart, Shipped, broken, feeds, put_of, well}
+use Rattle.standby.proofs.PartLemmas.{feeds_append}
 
 -- a crash leaves the bytes printed
 abbrev pub PrintedNow : {W : Type 0} → Ghosts W → Type 0
@@ -42,3 +43,18 @@ module _ {W : Type 0} (G : Ghosts W) (printed_now : PrintedNow G) where
       },
       ap (λ (those : Option (List ℕ)). unwrap_or those []) puts.only.held,
     )
+
+module _ {W : Type 0} (G : Ghosts W) where
+  -- calls of the disk put nothing
+  pub quiet_by : (old new : W) → CallsDisk G old new → PrintsBy {T = Unit {0}} G [] old new (Ok tt)
+  quiet_by old new calls = (subst (λ (these : Option (List ℕ)). Prints (G.printed old) these [] well) (sym calls.quiet.same) (prints_none (G.printed old) tt), λ told. omega (arith, calls.puts))
+
+  -- one line is put
+  pub by_put : (line : List ℕ) (old new : W) (result : Result (Unit {0}) Shipped) → feeds line ≡ 1 → Puts G line old new (put_of result) → PrintsBy G line old new result
+  by_put line old new (Ok done) one puts = (puts.printed, λ told. omega (arith, puts.once.done told, one))
+  by_put line old new (Err why) one puts = puts.printed
+
+  -- bytes, and then more
+  pub prints_by : (old mid new : W) (first second : List ℕ) (result : Result (Unit {0}) Shipped) → PrintsBy {T = Unit {0}} G first old mid (Ok tt) → PrintsBy G second mid new result → PrintsBy G (first ++ second) old new result
+  prints_by old mid new first second (Ok done) one two = (prints_on (G.printed old) (G.printed mid) (G.printed new) first second tt well one.0 two.0, λ told. omega (arith, one.1 told, two.1 (told_on (G.printed old) (G.printed mid) first one.0 told), feeds_append first second))
+  prints_by old mid new first second (Err why) one two = prints_on (G.printed old) (G.printed mid) (G.printed new) first second tt broken one.0 two

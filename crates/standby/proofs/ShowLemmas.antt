@@ -1,6 +1,5 @@
 -- Calls that ask the disk, and puts, one after another.
-use Rattle.standby.proofs.Common.{◌≡◌, ℕ, List, [], length, refl, sym, ◌∙◌, ap, subst, IsSome, Option, Result, Ok, Err, unwrap_or, Failed, Ghosts, Prints, AsksAndPuts, held_of, shows_puts, number_at, HasHeader, chosen, place_of, bank_in, KeptStore, IsShown, Shows, Puts, PrintsBy, put_of}
-use Rattle.standby.specs.declared.shipping.Shipped.{Shipped}
+use Rattle.standby.proofs.Common.{◌≡◌, ℕ, List, [], length, refl, sym, ◌∙◌, ap, subst, IsSome, Option, Result, unwrap_or, Failed, Ghosts, AsksAndPuts, held_of, shows_puts, number_at, HasHeader, chosen, place_of, bank_in, KeptStore, IsShown, Shows, Puts}
 
 module _ {W : Type 0} (G : Ghosts W) where
   pub shows_line : {T : Type 0} (bytes : List ℕ) (old new : W) (result : Result T Failed) → Puts G bytes old new result → AsksAndPuts G old new
@@ -27,8 +26,3 @@ module _ {W : Type 0} (G : Ghosts W) where
         };
         fits = shows.fits;
       }
-
--- how a line was put is how the text was
-pub by_put : {W : Type 0} (G : Ghosts W) (bytes : List ℕ) (old new : W) (result : Result (Unit {0}) Shipped) → Prints (G.printed old) (G.printed new) bytes (put_of result) → PrintsBy G bytes old new result
-by_put G bytes old new (Ok done) prints = prints
-by_put G bytes old new (Err why) prints = prints

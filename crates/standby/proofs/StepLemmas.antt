@@ -72,7 +72,7 @@ module _ {W : Type 0} (G : Ghosts W) (fewer_later : FewerLater G) (printed_now :
           record { sure = sure.0; shows = subst (λ (held : List ℕ). Shows held durable) (sym sure.1) tracks.shows },
           ap stands sure.1 ∙ stands_more,
           subst (λ (those : Option (List ℕ)). Prints those (G.printed after) (kept_line (next number)) well) calls.quiet.same kept.printed,
-          λ some. kept.once (subst (λ (those : Option (List ℕ)). IsSome those) (sym calls.quiet.same) some) ∙ ap (λ (n : ℕ). n + 1) calls.puts,
+          λ some. kept.once.done (subst (λ (those : Option (List ℕ)). IsSome those) (sym calls.quiet.same) some) ∙ ap (λ (n : ℕ). n + 1) calls.puts,
         );
       }
   step_kept durable after line (Err why) tracks more is only puts =

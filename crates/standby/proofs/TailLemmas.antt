@@ -1,6 +1,6 @@
 -- What may stand behind lines that were read, a line at a time.
 use Rattle.standby.proofs.Common.{◌≡◌, ◌≢◌, ◌⊎◌, inl, inr, ℕ, zero, suc, ◌+◌, ◌^◌, ◌<◌, ◌≤◌, List, [], ◌∷◌, ◌++◌, length, codes, decimal, refl, sym, ◌∙◌, ap, subst, append_assoc, append-nil, arith, All, AllByRecursion, All-from_recursion, recursion_from_All, encode_lower, AreWhole, feeds, GoesOn, IsFirstBad, IsRead, Tail, AreLines, Content, ShipLine, end_line, head_line, later, line_line, lines_text, next, record_line, record_text, records_text, text_of, same_number}
-use Rattle.standby.proofs.PartLemmas.{IsLine, end_is_line, end_parts, feeds_append, head_is_line, head_parts, line_is_line, line_parts, record_is_line, record_parts, same_hex}
+use Rattle.standby.proofs.PartLemmas.{IsLine, end_is_line, end_parts, feeds_append, head_is_line, head_parts, line_is_line, line_parts, one_feed, record_is_line, record_parts, same_hex}
 
 -- lines that ascend below a bound are no more than lie between
 pub room_left : (bytes bound least : ℕ) (lines : List ShipLine) → AreLines bytes bound least lines → least ≤ bound → least + length lines ≤ bound
@@ -136,9 +136,7 @@ whole_more : (front line : List ℕ) → IsLine line → AreWhole (front ++ line
 whole_more front line is = inr (front ++ is.body, ap (λ (these : List ℕ). front ++ these) is.is ∙ sym (append_assoc front is.body (10 ∷ [])))
 
 feeds_more : (front line : List ℕ) (read : ℕ) → read ≡ feeds front → IsLine line → read + 1 ≡ feeds (front ++ line)
-feeds_more front line read same is =
-    let one : feeds line ≡ feeds is.body + feeds (10 ∷ []) = ap feeds is.is ∙ feeds_append is.body (10 ∷ []) in
-    omega (arith, same, one, is.plain, feeds_append front line)
+feeds_more front line read same is = omega (arith, same, one_feed line is, feeds_append front line)
 
 further : (front line behind : List ℕ) → GoesOn front (line ++ behind) → GoesOn (front ++ line) behind
 further front line behind goes = record { content = goes.content; is_content = goes.is_content; text_is = goes.text_is ∙ sym (append_assoc front line behind) }

@@ -8,6 +8,8 @@ use Rattle.outside.specs.Bytes.{Prints}
 use Rattle.outside.specs.Causes.{Rose}
 use Rattle.restart.specs.Kept.{KeptStore}
 use Rattle.standby.specs.Followed.{well, broken}
+use Rattle.standby.specs.Puts.{CountsPuts}
+use Rattle.standby.specs.Read.{feeds}
 use Rattle.standby.specs.State.{behind}
 use Rattle.standby.specs.Text.{Content, told}
 use Rattle.standby.specs.declared.shipping.Shipped.{Shipped}
@@ -43,13 +45,13 @@ EndsBy G old new DiskFault = Rose (G.disk_faults old) (G.disk_faults new) × (G.
 EndsBy G old new PutFault = (G.disk_faults new ≡ G.disk_faults old) × Rose (G.put_faults old) (G.put_faults new)
 EndsBy G old new _ = (G.disk_faults new ≡ G.disk_faults old) × (G.put_faults new ≡ G.put_faults old)
 
--- how bytes were put, by a result: all of them, or a first part
+-- how bytes were put, by a result: all of them, each line by one put, or a first part
 abbrev pub PrintsBy : {W T : Type 0} → Ghosts W → List ℕ → W → W → Result T Shipped → Type 0
-PrintsBy G bytes old new (Ok done) = Prints (G.printed old) (G.printed new) bytes well
+PrintsBy G bytes old new (Ok done) = Prints (G.printed old) (G.printed new) bytes well × CountsPuts G (feeds bytes) old new
 PrintsBy G bytes old new (Err why) = Prints (G.printed old) (G.printed new) bytes broken
 
 -- how a text was put, by the end; where it wasn't to be nothing was called
 abbrev pub ShipsBy : {W : Type 0} → Ghosts W → List ℕ → W → W → Shipped → Type 0
-ShipsBy G bytes old new Done = Prints (G.printed old) (G.printed new) bytes well
+ShipsBy G bytes old new Done = Prints (G.printed old) (G.printed new) bytes well × CountsPuts G (feeds bytes) old new
 ShipsBy G bytes old new NotKept = new ≡ old
 ShipsBy G bytes old new _ = Prints (G.printed old) (G.printed new) bytes broken

@@ -1,5 +1,6 @@
 // The lines of a ship text and of what is told of one, each filled into a room.
 ghost use Rattle.std.specs.Prelude.{◌≡◌, ◌≤◌, length};
+ghost use Rattle.standby.specs.Read.{feeds};
 ghost use Rattle.standby.specs.Text.{end_line, head_line, kept_line, line_line, record_line};
 
 use text_line::TextLine;
@@ -28,7 +29,8 @@ pub fn fill_record(text: &mut TextLine, number: u64, count: u32)
 /// `line INDEX HEX`.
 pub fn fill_line(text: &mut TextLine, line: u32, bytes: &[u8])
     requires { length bytes.now ≤ 4096 }
-    ensures { text.new ≡ line_line line bytes.now }
+    ensures text { text.new ≡ line_line line bytes.now }
+    ensures one { feeds text.new ≡ 1 }
 {
     text.begin(b"line");
     text.number(u64::from(line));

@@ -1,91 +1,89 @@
 -- What shipping the records of a store did.
-use Rattle.std.proofs.Common.{◌≡◌, ◌<◌, ◌≤◌, ℕ, List, [], inl, inr, refl, sym, subst}
-use Rattle.std.specs.Prelude.{Option, IsSome, Result}
+use Rattle.std.proofs.Common.{◌≡◌, ◌⊎◌, ◌<◌, ◌≤◌, ℕ, List, [], inl, inr, ⊎_elim, refl, sym, ◌∙◌, ap, subst}
+use Rattle.std.specs.Prelude.{Option, IsSome, IsTrue, Result, Ok, Err, unwrap_or}
 use Rattle.std.proofs.lemmas.Bool.{cases_lt}
-use Rattle.outside.specs.declared.failed.Failed.{Failed}
 use Rattle.outside.specs.declared.world.Outside.{Ghosts}
-use Rattle.outside.specs.Bytes.{Prints}
+use Rattle.outside.specs.Bytes.{AreTold}
 use Rattle.outside.specs.Runs.{FewerLater, OnlyAsks, held_of, AsksAndPuts}
+use Rattle.redo_journal.specs.declared.fault.OpenFault.{OpenFault}
 use Rattle.store_format.specs.Bank.{RecordLine}
 use Rattle.restart.specs.Kept.{KeptStore, number_of}
-use Rattle.restart.specs.Shows.{IsShown, Shows}
-use Rattle.standby.specs.Followed.{well, broken}
-use Rattle.standby.specs.Shipped.{ShipsBy, shipped}
+use Rattle.restart.specs.Faults.{IsStoreOpenFault}
+use Rattle.restart.specs.Shows.{IsShown, Shows, TracksStore}
+use Rattle.standby.specs.Shipped.{PrintsBy as PutsBy, ShipsBy, shipped}
 use Rattle.standby.specs.State.{behind}
 use Rattle.standby.specs.Text.{IsContent, text_of}
 use Rattle.standby.specs.declared.shipping.Shipped.{Shipped}
+use Rattle.outside.proofs.Durable.{leaves_held}
+use Rattle.outside.proofs.Runs.{leaves_on}
 use Rattle.outside.proofs.Shows.{shows_asks, shows_on}
+use Rattle.standby.proofs.PutLemmas.{PrintedNow, prints_by, quiet_by, quiet_is}
 use Rattle.standby.proofs.ShowLemmas.{still_shown}
 use Rattle.call_status.specs.Call.{call}
-use Rattle.call_status.specs.Printed.{PrintsBy}
+use Rattle.call_status.specs.Statuses.{status_of_open}
 use Rattle.call_status.specs.declared.status.Status.{Status}
-use Rattle.standby_calls.specs.Shipped.{PutsText, ShippedFrom}
+use Rattle.standby_calls.specs.Shipped.{ShippedBy, ShippedFrom}
+use Rattle.redo_journal.specs.declared.fault.OpenFault.TheVariants as open_fault
 use Rattle.standby.specs.declared.shipping.Shipped.TheVariants as how
 use Rattle.call_status.specs.declared.status.Status.TheVariants as status
 
 -- all is kept unless the answer is that it isn't
 pub all_kept : (answer : Shipped) (count far : ℕ) → (count < far → answer ≡ how.NotKept) → (answer ≡ how.NotKept → ⊥) → far ≤ count
-all_kept answer count far only other = elim (cases_lt count far) [
-  | inl less ↦ absurd (other (only less))
-  | inr within ↦ within
-]
+all_kept answer count far only other = ⊎_elim (λ less. absurd (other (only less))) (λ within. within) (cases_lt count far)
 
-module _ {W : Type 0} (G : Ghosts W) (fewer_later : FewerLater G) (from : ℕ) (before mid after : W) (asks : OnlyAsks G before mid) (store : KeptStore) (shows : IsSome (G.held before) → Shows (held_of G before) store) (only : AsksAndPuts G mid after) where
-  all_shows : AsksAndPuts G before after
-  all_shows = shows_on G fewer_later before mid after (shows_asks G before mid asks) only
+module _ {W : Type 0} (G : Ghosts W) (printed_now : PrintedNow G) (from : ℕ) (before : W) where
+  -- the store isn't opened
+  pub not_shipped : (mid : W) → OnlyAsks G before mid → (fault : OpenFault) (now : Status) → now ≡ status_of_open fault → IsStoreOpenFault G before mid fault → ((fault ≡ open_fault.DiskFault → ⊥) → G.disk_faults mid ≡ G.disk_faults before) → ShippedFrom G from (call before mid [] now)
+  not_shipped mid asks fault now is why calm =
+      record { no_order = refl; only = shows_asks G before mid asks; sure = λ honest told image seen left. inl (quiet_is G printed_now before mid asks.calls image seen left); calm = λ other. calm (λ failed. other (is ∙ ap status_of_open failed)); by_status = subst (ShippedBy G from before mid) (sym is) (by fault why) }
+    where
+      by : (fault : OpenFault) → IsStoreOpenFault G before mid fault → ShippedBy G from before mid (status_of_open fault)
+      by (open_fault.NotAStore offset) why = (asks, λ told. inl (why told))
+      by (open_fault.Damaged offset) why = (asks, λ told. inr (why told))
+      by open_fault.DiskFault why = inl asks.calls.quiet.same
+      by open_fault.Memory why = asks
 
-  module _ (told : IsSome (G.held before)) where
-    abbrev shown : IsShown G store before
-    shown = record { told = told; shows = shows told }
-
-    still : (now : IsShown G store mid) × (now.shows.read.records ≡ shown.shows.read.records)
-    still = still_shown G store before mid shown asks.held
+  module _ (fewer_later : FewerLater G) (mid after : W) (asks : OnlyAsks G before mid) (store : KeptStore) (shows : IsSome (G.held before) → Shows (held_of G before) store)
+      (tracks : IsTrue (G.is_honest before) → IsSome (G.held before) → TracksStore G store mid) (only : AsksAndPuts G mid after) where
+    -- what a crash leaves once something is printed was sure when the store had opened
+    ended : (now : Status) → ((now ≡ status.DiskFault → ⊥) → G.disk_faults after ≡ G.disk_faults before) → ShippedBy G from before after now → ShippedFrom G from (call before after [] now)
+    ended now calm by_status = record {
+      no_order = refl;
+      only = shows_on G fewer_later before mid after (shows_asks G before mid asks) only;
+      sure = λ honest told.
+          let sure = (tracks honest told).sure in
+          leaves_on G fewer_later before mid after asks.calls.time only.time (λ (image seen : List ℕ). AreTold (G.printed before) seen ⊎ (image ≡ held_of G before)) (λ image seen left. inl (quiet_is G printed_now before mid asks.calls image seen left))
+          (λ image seen left. let from = only.images sure.told image seen left in inr (leaves_held G mid sure image from.0 from.1 ∙ ap (λ (these : Option (List ℕ)). unwrap_or these []) asks.held));
+      calm = calm;
+      by_status = by_status;
+    }
 
     abbrev text : List (List RecordLine) → List ℕ
     text records = text_of (shipped store records from)
 
-    from_before : {T : Type 0} (result : Result T Failed) → Prints (G.printed mid) (G.printed after) (text still.0.shows.read.records) result → Prints (G.printed before) (G.printed after) (text (shows told).read.records) result
-    from_before result prints =
-        subst (λ (these : Option (List ℕ)). Prints these (G.printed after) (text (shows told).read.records) result) asks.calls.quiet.same
-        (subst (λ (records : List (List RecordLine)). Prints (G.printed mid) (G.printed after) (text records) result) still.1 prints)
+    module _ (told : IsSome (G.held before)) where
+      still : (now : IsShown G store mid) × (now.shows.read.records ≡ (shows told).read.records)
+      still = still_shown G store before mid (record { told = told; shows = shows told }) asks.held
 
-    puts_text : (now : Status) → behind store.bank.base from ≤ store.bank.count → PrintsBy (G.printed before) (G.printed after) (text (shows told).read.records) now → (now ≡ Status.Done → IsContent (shipped store still.0.shows.read.records from)) → PutsText G from before after now
-    puts_text now kept printed content = record {
-      store = store;
-      shows = shows told;
-      kept = kept;
-      printed = printed;
-      content = λ is. subst (λ (records : List (List RecordLine)). IsContent (shipped store records from)) still.1 (content is);
-    }
+      -- the puts of the call are those behind the opening
+      from_before : (result : Result (Unit {0}) Shipped) → PutsBy G (text still.0.shows.read.records) mid after result → PutsBy G (text (shows told).read.records) before after result
+      from_before result puts = subst (λ (records : List (List RecordLine)). PutsBy G (text records) before after result) still.1 (prints_by G before mid after [] (text still.0.shows.read.records) result (quiet_by G before mid asks.calls) puts)
 
-  pub shipped_all : behind store.bank.base from ≤ store.bank.count → ((now : IsShown G store mid) → ShipsBy G (text_of (shipped store now.shows.read.records from)) mid after how.Done) → ((now : IsShown G store mid) → IsContent (shipped store now.shows.read.records from))
-      → ShippedFrom G from (call before after [] status.Done)
-  shipped_all kept ships content = record {
-    no_order = refl;
-    only = all_shows;
-    by_status = λ told. puts_text told status.Done kept (from_before told well (ships (still told).0)) (λ is. content (still told).0);
-  }
+    pub shipped_all : G.disk_faults after ≡ G.disk_faults before → behind store.bank.base from ≤ store.bank.count → ((now : IsShown G store mid) → ShipsBy G (text now.shows.read.records) mid after how.Done) → ((now : IsShown G store mid) → IsContent (shipped store now.shows.read.records from))
+        → ShippedFrom G from (call before after [] status.Done)
+    shipped_all calm kept ships content = ended status.Done (λ other. calm) (λ told.
+        let puts = from_before told (Ok tt) (ships (still told).0) in
+        let ranges = subst (λ (records : List (List RecordLine)). IsContent (shipped store records from)) (still told).1 (content (still told).0) in
+        record { store = store; shows = shows told; kept = kept; printed = puts.0; times = λ is. puts.1; content = λ is. ranges })
 
-  pub shipped_part : behind store.bank.base from ≤ store.bank.count → ((now : IsShown G store mid) → ShipsBy G (text_of (shipped store now.shows.read.records from)) mid after how.PutFault) → ShippedFrom G from (call before after [] status.PutFault)
-  shipped_part kept ships = record {
-    no_order = refl;
-    only = all_shows;
-    by_status = λ told. puts_text told status.PutFault kept (from_before told broken (ships (still told).0)) (λ is. absurd (cc));
-  }
+    pub shipped_part : G.disk_faults after ≡ G.disk_faults before → behind store.bank.base from ≤ store.bank.count → ((now : IsShown G store mid) → ShipsBy G (text now.shows.read.records) mid after how.PutFault) → ShippedFrom G from (call before after [] status.PutFault)
+    shipped_part calm kept ships = ended status.PutFault (λ other. calm)
+        (λ told. record { store = store; shows = shows told; kept = kept; printed = from_before told (Err how.PutFault) (ships (still told).0); times = λ is. absurd (cc); content = λ is. absurd (cc) })
 
-  pub shipped_short : behind store.bank.base from ≤ store.bank.count → ((now : IsShown G store mid) → ShipsBy G (text_of (shipped store now.shows.read.records from)) mid after how.DiskFault) → ShippedFrom G from (call before after [] status.DiskFault)
-  shipped_short kept ships = record {
-    no_order = refl;
-    only = all_shows;
-    by_status = inr (λ told. puts_text told status.DiskFault kept (from_before told broken (ships (still told).0)) (λ is. absurd (cc)));
-  }
+    pub shipped_short : behind store.bank.base from ≤ store.bank.count → ((now : IsShown G store mid) → ShipsBy G (text now.shows.read.records) mid after how.DiskFault) → ShippedFrom G from (call before after [] status.DiskFault)
+    shipped_short kept ships = ended status.DiskFault (λ other. absurd (other refl))
+        (inr (λ told. record { store = store; shows = shows told; kept = kept; printed = from_before told (Err how.DiskFault) (ships (still told).0); times = λ is. absurd (cc); content = λ is. absurd (cc) }))
 
-  pub none_kept : (base number : ℕ) → after ≡ mid → base ≡ store.bank.base → number ≡ number_of store → store.bank.count < behind store.bank.base from → ShippedFrom G from (call before after [] (status.NotKept base number))
-  none_kept base number same base_is number_is behind_all = record {
-    no_order = refl;
-    only = all_shows;
-    by_status = (
-      subst (λ (now : W). OnlyAsks G before now) (sym same) asks,
-      λ told. record { store = store; shows = shows told; base_is = base_is; number_is = number_is; behind_all = behind_all },
-    );
-  }
+    pub none_kept : G.disk_faults after ≡ G.disk_faults before → (base number : ℕ) → after ≡ mid → base ≡ store.bank.base → number ≡ number_of store → store.bank.count < behind store.bank.base from → ShippedFrom G from (call before after [] (status.NotKept base number))
+    none_kept calm base number same base_is number_is behind_all = ended (status.NotKept base number) (λ other. calm)
+        (subst (λ (now : W). OnlyAsks G before now) (sym same) asks, λ told. record { store = store; shows = shows told; base_is = base_is; number_is = number_is; behind_all = behind_all })

@@ -7,7 +7,7 @@ returns g c =
       puts = record {
         only = record { held = put.held; writes = put.writes; honest = put.honest; time = put.time; cause = put.cause; calls = put.once.calls; disk = put.disk };
         printed = put.printed;
-        once = put.once.done;
         crash = put.crash;
+        once = put.once;
       };
     }

@@ -1,5 +1,5 @@
-use Rattle.standby.proofs.Common.{◌≡◌, ℕ, List, refl, subst, sym, ◌∙◌, ap, Option, RecordLine, Prints, broken, put_of, line_line, prints_unput}
-use Rattle.standby.proofs.ShowLemmas.{by_put}
+use Rattle.standby.proofs.Common.{◌≡◌, ℕ, List, [], refl, subst, sym, ◌∙◌, ap, RecordLine, PrintsBy, broken, feeds, line_line, prints_unput}
+use Rattle.standby.proofs.PutLemmas.{by_put, prints_by, quiet_by}
 use Rattle.standby.proofs.shipping.put_one.Goals as goal
 
 pub returns-in-Err-clause-prints : goal.returns-in-Err-clause-prints
@@ -13,10 +13,10 @@ returns-clause-prints g c shown at many one there =
     let same : read.one ≡ one = cc in
     let text : c.as_slice.result.now ≡ line_line one.line one.bytes =
     c.as_slice.ensures
-    ∙ c.fill_line.ensures
+    ∙ c.fill_line.ensures.text
     ∙ ap (λ (n : ℕ). line_line n c.line_at.new.into) read.number
     ∙ ap (λ (bytes : List ℕ). line_line read.one.line bytes) read.bytes_are
     ∙ ap (λ (that : RecordLine). line_line that.line that.bytes) same in
-    by_put G (line_line one.line one.bytes) c.args.outside.now c.put_line.new.outside c.put_line.result
-    (subst (λ (printed : Option (List ℕ)). Prints printed (G.printed c.put_line.new.outside) (line_line one.line one.bytes) (put_of c.put_line.result)) c.line_at.ensures.asks.calls.quiet.same
-    (subst (λ (bytes : List ℕ). Prints (G.printed c.line_at.new.outside) (G.printed c.put_line.new.outside) bytes (put_of c.put_line.result)) text c.put_line.ensures.puts.printed))
+    subst (λ (bytes : List ℕ). PrintsBy G bytes c.args.outside.now c.put_line.new.outside c.put_line.result) text
+    (prints_by G c.args.outside.now c.line_at.new.outside c.put_line.new.outside [] c.as_slice.result.now c.put_line.result (quiet_by G c.args.outside.now c.line_at.new.outside c.line_at.ensures.asks.calls)
+    (by_put G c.as_slice.result.now c.line_at.new.outside c.put_line.new.outside c.put_line.result (ap feeds c.as_slice.ensures ∙ c.fill_line.ensures.one) c.put_line.ensures.puts))

@@ -1,6 +1,8 @@
-use Rattle.standby.proofs.Common.{◌≡◌, ℕ, ◌+◌, ◌<◌, List, [], ◌++◌, length, take, drop, get_or, refl, sym, subst, ◌∙◌, ap, arith, All, Option, Some, slice_get, unwrap_or, length-map, take_all, slice_get-get_or, line_bytes, RecordLine, Prints, Ghosts, held_of, prints_on, prints_same, prints_stop, Record, IsRecordAt, KeptStore, IsShown, well, broken, HasBytes, ShipLine, line_line, lines_text, record_line, told, shows_on}
+use Rattle.standby.proofs.Common.{◌≡◌, ℕ, ◌+◌, ◌<◌, List, [], ◌++◌, length, take, drop, get_or, refl, sym, subst, ◌∙◌, ap, arith, append-nil, All, Ok, Option, Some, slice_get, unwrap_or, length-map, take_all, slice_get-get_or, line_bytes, RecordLine, Prints, PrintsBy, Ghosts, feeds, held_of, prints_on, prints_same, prints_stop, Record, IsRecordAt, KeptStore, IsShown, broken, HasBytes, ShipLine, line_line, lines_text, record_line, told, shows_on}
 use Rattle.standby.proofs.ShipLemmas.{all_more, text_more, text_rest, there_still}
-use Rattle.standby.proofs.ShowLemmas.{still_shown}
+use Rattle.standby.proofs.PartLemmas.{one_feed, record_is_line}
+use Rattle.standby.proofs.PutLemmas.{by_put, prints_by}
+use Rattle.standby.proofs.ShowLemmas.{shows_line, still_shown}
 use Rattle.standby.proofs.shipping.put_record.Goals as goal
 
 -- the first line counts the lines
@@ -40,11 +42,23 @@ returns-in-Err-put_one-clause-prints g c shown at many =
     many c.loop-index.invariant.only.held c.loop-index-test.true c.in-Err-put_one.ensures.prints in
     let head = record_line c.args.number c.args.entry.now.count in
     let front = head ++ lines_text (take i (told at.lines)) in
-    prints_same (G.printed c.args.outside.now) (G.printed c.put_one.new.outside) (head ++ lines_text (told at.lines)) (record_line c.args.number (length (told at.lines)) ++ lines_text (told at.lines)) broken
-    (ap (λ (first : List ℕ). first ++ lines_text (told at.lines)) (counts c.args.number c.args.entry.now.count at.lines many))
-    (prints_same (G.printed c.args.outside.now) (G.printed c.put_one.new.outside) ((front ++ line_line one.line one.bytes) ++ lines_text (drop (i + 1) (told at.lines))) (head ++ lines_text (told at.lines)) broken (text_rest head at.lines i one lt (slice_get-get_or at.lines i no_record lt))
+    prints_same (G.printed c.args.outside.now) (G.printed c.put_one.new.outside) ((front ++ line_line one.line one.bytes) ++ lines_text (drop (i + 1) (told at.lines))) (record_line c.args.number (length (told at.lines)) ++ lines_text (told at.lines)) broken
+    (text_rest head at.lines i one lt (slice_get-get_or at.lines i no_record lt) ∙ ap (λ (first : List ℕ). first ++ lines_text (told at.lines)) (counts c.args.number c.args.entry.now.count at.lines many))
     (prints_stop (G.printed c.args.outside.now) (G.printed c.put_one.new.outside) (front ++ line_line one.line one.bytes) (lines_text (drop (i + 1) (told at.lines))) broken broken refl refl
-    (prints_on (G.printed c.args.outside.now) (G.printed c.loop-index.outside) (G.printed c.put_one.new.outside) front (line_line one.line one.bytes) tt broken (c.loop-index.invariant.so_far shown at many) part)))
+    (prints_on (G.printed c.args.outside.now) (G.printed c.loop-index.outside) (G.printed c.put_one.new.outside) front (line_line one.line one.bytes) tt broken (c.loop-index.invariant.so_far shown at many).0 part))
+
+pub loop-index-init : goal.loop-index-init
+loop-index-init g c =
+    let line = record_line c.args.number c.args.entry.now.count in
+    let text : c.as_slice.result.now ≡ line = c.as_slice.ensures ∙ c.fill_record.ensures ∙ ap (record_line c.args.number) c.from.ensures in
+    let one = ap feeds text ∙ one_feed line (record_is_line c.args.number c.args.entry.now.count (omega (arith, c.ranges.number.fits)) (omega (arith, c.from.type_inv, c.from.ensures))) in
+    record {
+      only = shows_line g.W.Outside c.as_slice.result.now c.args.outside.now c.put_line.new.outside (Ok tt) c.in-Ok.ensures.puts;
+      disk = c.in-Ok.ensures.puts.only.disk;
+      put = c.in-Ok.ensures.puts.only.cause.done;
+      so_far = λ shown at many. subst (λ (bytes : List ℕ). PrintsBy {T = Unit {0}} g.W.Outside bytes c.args.outside.now c.put_line.new.outside (Ok tt)) (text ∙ sym (append-nil line)) (by_put g.W.Outside c.as_slice.result.now c.args.outside.now c.put_line.new.outside (Ok tt) one c.in-Ok.ensures.puts);
+      bytes = λ shown at many k d lt. absurd (omega (arith, lt));
+    }
 
 pub loop-index-preserved : goal.loop-index-preserved
 loop-index-preserved g c =
@@ -60,10 +74,9 @@ loop-index-preserved g c =
           let lt : i < length at.lines = omega (arith, many, c.loop-index-test.true) in
           let one = get_or at.lines i no_record in
           let head = record_line c.args.number c.args.entry.now.count in
-          prints_same (G.printed old) (G.printed c.put_one.new.outside) ((head ++ lines_text (take i (told at.lines))) ++ line_line one.line one.bytes) (head ++ lines_text (take (i + 1) (told at.lines))) well
-          (text_more head at.lines i one lt (slice_get-get_or at.lines i no_record lt))
-          (prints_on (G.printed old) (G.printed mid) (G.printed c.put_one.new.outside) (head ++ lines_text (take i (told at.lines))) (line_line one.line one.bytes) tt well (c.loop-index.invariant.so_far shown at many)
-          (said G c.args.durable.now c.args.entry.now i old mid shown at (λ (one : RecordLine). Prints (G.printed mid) (G.printed c.put_one.new.outside) (line_line one.line one.bytes) well) many c.loop-index.invariant.only.held c.loop-index-test.true c.in-Ok-put_one.ensures.prints));
+          subst (λ (bytes : List ℕ). PrintsBy {T = Unit {0}} G bytes old c.put_one.new.outside (Ok tt)) (text_more head at.lines i one lt (slice_get-get_or at.lines i no_record lt))
+          (prints_by G old mid c.put_one.new.outside (head ++ lines_text (take i (told at.lines))) (line_line one.line one.bytes) (Ok tt) (c.loop-index.invariant.so_far shown at many)
+          (said G c.args.durable.now c.args.entry.now i old mid shown at (λ (one : RecordLine). PrintsBy {T = Unit {0}} G (line_line one.line one.bytes) mid c.put_one.new.outside (Ok tt)) many c.loop-index.invariant.only.held c.loop-index-test.true c.in-Ok-put_one.ensures.prints));
       bytes = λ shown at many.
           all_more (HasBytes (line_bytes c.args.durable.now.header.directory.page)) at.lines i no_record (omega (arith, many, c.loop-index-test.true)) (c.loop-index.invariant.bytes shown at many)
           (said G c.args.durable.now c.args.entry.now i old mid shown at (HasBytes (line_bytes c.args.durable.now.header.directory.page)) many c.loop-index.invariant.only.held c.loop-index-test.true c.in-Ok-put_one.ensures.bytes);
@@ -78,7 +91,7 @@ pub returns-clause-prints : goal.returns-clause-prints
 returns-clause-prints g c shown at many =
     let head = record_line c.args.number c.args.entry.now.count in
     let bare = λ (one : RecordLine). let it : ShipLine = record { line = one.line; bytes = one.bytes } in it in
-    prints_same (g.W.Outside.printed c.args.outside.now) (g.W.Outside.printed c.loop-index.outside) (head ++ lines_text (take c.loop-index.index (told at.lines))) (record_line c.args.number (length (told at.lines)) ++ lines_text (told at.lines)) well
+    subst (λ (bytes : List ℕ). PrintsBy {T = Unit {0}} g.W.Outside bytes c.args.outside.now c.loop-index.outside (Ok tt))
     (ap (λ (these : List ShipLine). head ++ lines_text these) (take_all c.loop-index.index (told at.lines) (omega (arith, many, c.loop-index-test.false, length-map at.lines bare)))
     ∙ ap (λ (first : List ℕ). first ++ lines_text (told at.lines)) (counts c.args.number c.args.entry.now.count at.lines many))
     (c.loop-index.invariant.so_far shown at many)

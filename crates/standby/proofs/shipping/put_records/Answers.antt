@@ -1,5 +1,6 @@
-use Rattle.standby.proofs.Common.{◌≡◌, ⊎_elim, ℕ, ◌+◌, ◌-◌, ◌<◌, List, [], ◌++◌, length, map, take, drop, get_or, refl, sym, subst, ◌∙◌, ap, arith, get_or-drop, length-drop, length-map, take-append-drop, take_all, line_bytes, RecordLine, Prints, prints_on, prints_same, prints_stop, prints_none, prints_unput, HasBytes, well, broken, later, record_text, records_text, told, shows_asks, shows_none, shows_on, held_of, IsCounted, IsRecordAt, area_bytes, IsShown}
+use Rattle.standby.proofs.Common.{◌≡◌, ⊎_elim, ℕ, ◌+◌, ◌-◌, ◌<◌, List, [], ◌++◌, length, map, take, drop, get_or, refl, sym, subst, ◌∙◌, ap, arith, get_or-drop, length-drop, length-map, take-append-drop, take_all, line_bytes, RecordLine, Prints, prints_on, prints_same, prints_stop, prints_none, prints_unput, HasBytes, Ok, PrintsBy, broken, later, record_text, records_text, told, shows_asks, shows_none, shows_on, held_of, IsCounted, IsRecordAt, area_bytes, IsShown}
 use Rattle.std.specs.Prelude.{All, ◌%◌, ◌^◌, ◌≤◌, Option}
+use Rattle.standby.proofs.PutLemmas.{prints_by, quiet_by}
 use Rattle.standby.proofs.ShipLemmas.{all_more, area_more, later_later, next_is, records_more, records_rest, records_split, there_in}
 use Rattle.standby.proofs.shipping.put_records.Given.{Over}
 use Rattle.standby.proofs.shipping.put_records.Goals as goal
@@ -15,8 +16,8 @@ loop-index-init g c =
       inside = c.requires.inside;
       place = λ shown is. is;
       so_far = λ shown is.
-          prints_same (g.W.Outside.printed c.args.outside.now) (g.W.Outside.printed c.args.outside.now) [] (records_text (later c.args.durable.now.bank.base c.args.passed) (take (c.args.passed - c.args.passed) (map told (drop c.args.passed shown.shows.read.records)))) well
-          (ap (λ (n : ℕ). records_text (later c.args.durable.now.bank.base c.args.passed) (take n (map told (drop c.args.passed shown.shows.read.records)))) (sym none)) (prints_none (g.W.Outside.printed c.args.outside.now) tt);
+          subst (λ (n : ℕ). PrintsBy {T = Unit {0}} g.W.Outside (records_text (later c.args.durable.now.bank.base c.args.passed) (take n (map told (drop c.args.passed shown.shows.read.records)))) c.args.outside.now c.args.outside.now (Ok tt)) (sym none)
+          (prints_none (g.W.Outside.printed c.args.outside.now) tt, λ told. omega arith);
       bytes = λ shown is. subst (λ (n : ℕ). All (λ lines. All (HasBytes (line_bytes c.args.durable.now.header.directory.page)) lines) (take n (drop c.args.passed shown.shows.read.records))) (sym none) (λ k d lt. absurd (omega (arith, lt)));
     }
 
@@ -45,7 +46,7 @@ returns-in-Err-clause-prints g c shown is =
     let i = c.loop-index.index - c.args.passed in
     let rest = part_of number behind i in
     prints_same (g.W.Outside.printed c.args.outside.now) (g.W.Outside.printed c.record_at.new.outside) (records_text number (take i (map told behind)) ++ rest.0) (records_text number (map told behind)) broken rest.1
-    (prints_on (g.W.Outside.printed c.args.outside.now) (g.W.Outside.printed c.loop-index.outside) (g.W.Outside.printed c.record_at.new.outside) (records_text number (take i (map told behind))) rest.0 tt broken (c.loop-index.invariant.so_far shown is)
+    (prints_on (g.W.Outside.printed c.args.outside.now) (g.W.Outside.printed c.loop-index.outside) (g.W.Outside.printed c.record_at.new.outside) (records_text number (take i (map told behind))) rest.0 tt broken (c.loop-index.invariant.so_far shown is).0
     (prints_unput (g.W.Outside.printed c.loop-index.outside) (g.W.Outside.printed c.record_at.new.outside) rest.0 broken refl c.record_at.ensures.asks.calls.quiet.same))
 
 pub returns-in-Err-put_record-clause-only : goal.returns-in-Err-put_record-clause-only
@@ -96,7 +97,7 @@ returns-in-Err-put_record-clause-prints g c shown is =
     let line = record_text (later number (i + 1)) (told (get_or behind i [])) in
     prints_same (G.printed old) (G.printed c.put_record.new.outside) ((records_text number (take i (map told behind)) ++ line) ++ rest.0) (records_text number (map told behind)) broken rest.1
     (prints_stop (G.printed old) (G.printed c.put_record.new.outside) (records_text number (take i (map told behind)) ++ line) rest.0 broken broken refl refl
-    (prints_on (G.printed old) (G.printed c.loop-index.outside) (G.printed c.put_record.new.outside) (records_text number (take i (map told behind))) line tt broken (c.loop-index.invariant.so_far shown is)
+    (prints_on (G.printed old) (G.printed c.loop-index.outside) (G.printed c.put_record.new.outside) (records_text number (take i (map told behind))) line tt broken (c.loop-index.invariant.so_far shown is).0
     (subst (λ (printed : Option (List ℕ)). Prints printed (G.printed c.put_record.new.outside) line broken) c.record_at.ensures.asks.calls.quiet.same
     (subst (λ (bytes : List ℕ). Prints (G.printed c.record_at.new.outside) (G.printed c.put_record.new.outside) bytes broken) text (c.in-Err-put_record.ensures.prints at.0 at.1.0 at.1.1.1)))))
 
@@ -129,10 +130,10 @@ loop-index-preserved g c =
           let at = lies g here shown (c.loop-index.invariant.place shown is) in
           let text = text_is c.args.durable.now.bank.base c.args.passed index ((c.base.result + (c.from.result + 1)) % 2 ^ 64) shown.shows.read.records at.1.0.lines le (omega (arith, c.base.ensures, c.from.ensures)) at.1.1.0 in
           let line = record_text (later number (i + 1)) (told (get_or behind i [])) in
-          prints_same (G.printed old) (G.printed c.put_record.new.outside) (records_text number (take i (map told behind)) ++ line) (records_text number (take (index + 1 - c.args.passed) (map told behind))) well
+          subst (λ (bytes : List ℕ). PrintsBy {T = Unit {0}} G bytes old c.put_record.new.outside (Ok tt))
           (records_more number behind i (omega (arith, within g here shown, le, length-drop c.args.passed shown.shows.read.records)) ∙ ap (λ (n : ℕ). records_text number (take n (map told behind))) on)
-          (prints_on (G.printed old) (G.printed loop) (G.printed c.put_record.new.outside) (records_text number (take i (map told behind))) line tt well (c.loop-index.invariant.so_far shown is)
-          (subst (λ (printed : Option (List ℕ)). Prints printed (G.printed c.put_record.new.outside) line well) c.record_at.ensures.asks.calls.quiet.same (subst (λ (bytes : List ℕ). Prints (G.printed mid) (G.printed c.put_record.new.outside) bytes well) text (c.in-Ok-put_record.ensures.prints at.0 at.1.0 at.1.1.1))));
+          (prints_by G old loop c.put_record.new.outside (records_text number (take i (map told behind))) line (Ok tt) (c.loop-index.invariant.so_far shown is)
+          (prints_by G loop mid c.put_record.new.outside [] line (Ok tt) (quiet_by G loop mid c.record_at.ensures.asks.calls) (subst (λ (bytes : List ℕ). PrintsBy {T = Unit {0}} G bytes mid c.put_record.new.outside (Ok tt)) text (c.in-Ok-put_record.ensures.prints at.0 at.1.0 at.1.1.1))));
       bytes = λ shown is.
           let behind = drop c.args.passed shown.shows.read.records in
           let at = lies g here shown (c.loop-index.invariant.place shown is) in
@@ -152,6 +153,6 @@ pub returns-clause-prints : goal.returns-clause-prints
 returns-clause-prints g c shown is =
     let number = later c.args.durable.now.bank.base c.args.passed in
     let behind = drop c.args.passed shown.shows.read.records in
-    prints_same (g.W.Outside.printed c.args.outside.now) (g.W.Outside.printed c.loop-index.outside) (records_text number (take (c.loop-index.index - c.args.passed) (map told behind))) (records_text number (map told behind)) well
+    subst (λ (bytes : List ℕ). PrintsBy {T = Unit {0}} g.W.Outside bytes c.args.outside.now c.loop-index.outside (Ok tt))
     (ap (records_text number) (take_all (c.loop-index.index - c.args.passed) (map told behind) (omega (arith, shown.shows.read.count, c.loop-index-test.false, c.records-index-end.ensures, length-map behind told, length-drop c.args.passed shown.shows.read.records))))
     (c.loop-index.invariant.so_far shown is)

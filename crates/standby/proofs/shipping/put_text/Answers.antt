@@ -1,7 +1,9 @@
-use Rattle.standby.proofs.Common.{◌≡◌, ℕ, ◌+◌, ◌-◌, ◌≤◌, List, ◌++◌, length, map, take, drop, refl, sym, subst, ◌∙◌, ap, arith, Result, Ok, Err, All, OnOk, Option, length-drop, length-map, Layout, line_count, Header, line_bytes, RecordLine, Prints, prints_on, prints_stop, prints_unput, area_bytes, well, broken, HasBytes, shipped, behind, put_of, end_line, head_line, later, records_text, text_of, told, held_of, AsksAndPuts, shows_asks, shows_on, Failed, IsShown}
+use Rattle.standby.proofs.Common.{◌≡◌, ℕ, ◌+◌, ◌-◌, ◌≤◌, List, [], ◌++◌, length, map, take, drop, refl, sym, subst, ◌∙◌, ap, arith, Result, Ok, Err, All, OnOk, length-drop, length-map, Layout, line_count, Header, line_bytes, RecordLine, Prints, PrintsBy, Puts, Shipped, feeds, prints_on, prints_stop, prints_unput, area_bytes, broken, HasBytes, shipped, behind, put_of, end_line, head_line, later, records_text, text_of, told, held_of, AsksAndPuts, shows_asks, shows_on, IsShown}
 use Rattle.standby.proofs.ShipLemmas.{later_later}
 use Rattle.standby.proofs.ContentLemmas.{content_is}
-use Rattle.standby.proofs.ShowLemmas.{by_put, shows_line, still_shown}
+use Rattle.standby.proofs.PartLemmas.{end_is_line, head_is_line, one_feed}
+use Rattle.standby.proofs.PutLemmas.{by_put, prints_by, quiet_by}
+use Rattle.standby.proofs.ShowLemmas.{shows_line, still_shown}
 use Rattle.standby.proofs.shipping.put_text.Given.{Over}
 use Rattle.standby.proofs.shipping.put_text.Goals as goal
 use Rattle.standby.proofs.shipping.put_text.Goals.{After-put_line, After-put_records}
@@ -17,13 +19,17 @@ line_only g c =
     (shows_line g.W.Outside c.as_slice.result.now c.place_behind.new.outside c.put_line.new.outside (put_of c.put_line.result) c.put_line.ensures.puts)
 
 -- which is the first line
-line_put : (g : Over) (c : goal.After-put_line g) (result : Result (Unit {0}) Failed) → Prints (g.W.Outside.printed c.place_behind.new.outside) (g.W.Outside.printed c.put_line.new.outside) c.as_slice.result.now result
-    → Prints (g.W.Outside.printed c.args.outside.now) (g.W.Outside.printed c.put_line.new.outside) (head_line (line_bytes c.args.durable.now.header.directory.page) (line_count c.args.durable.now.header.directory) c.args.from) result
-line_put g c result put =
-    let head = head_line (line_bytes c.args.durable.now.header.directory.page) (line_count c.args.durable.now.header.directory) c.args.from in
-    let head_is : c.as_slice.result.now ≡ head = c.as_slice.ensures ∙ c.fill_head.ensures ∙ ap (λ (n : ℕ). head_line n c.args.lines c.args.from) (c.line_bytes.ensures.value ∙ ap (λ (layout : Layout). line_bytes layout.page) (c.directory.ensures.value ∙ ap (λ (header : Header). header.directory) c.header.ensures)) ∙ ap (λ (n : ℕ). head_line (line_bytes c.args.durable.now.header.directory.page) n c.args.from) c.requires.lines in
-    subst (λ (printed : Option (List ℕ)). Prints printed (g.W.Outside.printed c.put_line.new.outside) head result) c.place_behind.ensures.asks.calls.quiet.same
-    (subst (λ (bytes : List ℕ). Prints (g.W.Outside.printed c.place_behind.new.outside) (g.W.Outside.printed c.put_line.new.outside) bytes result) head_is put)
+line_put : (g : Over) (c : goal.After-put_line g) (result : Result (Unit {0}) Shipped) → Puts g.W.Outside c.as_slice.result.now c.place_behind.new.outside c.put_line.new.outside (put_of result)
+    → PrintsBy g.W.Outside (head_line (line_bytes c.args.durable.now.header.directory.page) (line_count c.args.durable.now.header.directory) c.args.from) c.args.outside.now c.put_line.new.outside result
+line_put g c result puts =
+    let head = head_line c.line_bytes.result c.args.lines c.args.from in
+    let head_is : c.as_slice.result.now ≡ head = c.as_slice.ensures ∙ c.fill_head.ensures in
+    let same : head ≡ head_line (line_bytes c.args.durable.now.header.directory.page) (line_count c.args.durable.now.header.directory) c.args.from =
+    ap (λ (n : ℕ). head_line n c.args.lines c.args.from) (c.line_bytes.ensures.value ∙ ap (λ (layout : Layout). line_bytes layout.page) (c.directory.ensures.value ∙ ap (λ (header : Header). header.directory) c.header.ensures)) ∙ ap (λ (n : ℕ). head_line (line_bytes c.args.durable.now.header.directory.page) n c.args.from) c.requires.lines in
+    let one = ap feeds head_is ∙ one_feed head (head_is_line c.line_bytes.result c.args.lines c.args.from (omega (arith, c.line_bytes.ensures.few)) (omega (arith, c.ranges.lines.fits)) (omega (arith, c.ranges.from.fits))) in
+    subst (λ (bytes : List ℕ). PrintsBy g.W.Outside bytes c.args.outside.now c.put_line.new.outside result) (head_is ∙ same)
+    (prints_by g.W.Outside c.args.outside.now c.place_behind.new.outside c.put_line.new.outside [] c.as_slice.result.now result (quiet_by g.W.Outside c.args.outside.now c.place_behind.new.outside c.place_behind.ensures.asks.calls)
+    (by_put g.W.Outside c.as_slice.result.now c.place_behind.new.outside c.put_line.new.outside result one puts))
 
 -- the store is shown still, and the first of the records is where it was
 still_there : (g : Over) (c : goal.After-put_line g) (shown : IsShown g.W.Outside c.args.durable.now c.args.outside.now)
@@ -42,7 +48,7 @@ returns-in-Err-put_line-clause-prints g c shown =
     let head = head_line (line_bytes c.args.durable.now.header.directory.page) (line_count c.args.durable.now.header.directory) c.args.from in
     prints_stop (G.printed c.args.outside.now) (G.printed c.put_line.new.outside) (head ++ records_text content.start content.records) (end_line (later content.start (length content.records))) broken broken refl refl
     (prints_stop (G.printed c.args.outside.now) (G.printed c.put_line.new.outside) head (records_text content.start content.records) broken broken refl refl
-    (line_put g (goal.at.returns-in-Err-put_line-clause-prints g c).After-put_line broken c.in-Err-put_line.ensures.puts.printed))
+    (line_put g (goal.at.returns-in-Err-put_line-clause-prints g c).After-put_line (Err c.in-Err-put_line.why) c.in-Err-put_line.ensures.puts))
 
 -- the records are those behind the number
 records_are : (base passed from : ℕ) (first second : List (List RecordLine)) → from ≡ later base passed → passed ≡ behind base from → second ≡ first → records_text (later base passed) (map told (drop passed second)) ≡ records_text from (map told (drop (behind base from) first))
@@ -73,7 +79,7 @@ returns-in-Err-put_records-clause-prints g c shown =
     let mid = c.put_line.new.outside in
     let new = c.put_records.new.outside in
     prints_stop (G.printed old) (G.printed new) (head ++ records_text content.start content.records) (end_line (later content.start (length content.records))) broken broken refl refl
-    (prints_on (G.printed old) (G.printed mid) (G.printed new) head (records_text content.start content.records) tt broken (line_put g then well c.in-Ok-put_line.ensures.puts.printed)
+    (prints_on (G.printed old) (G.printed mid) (G.printed new) head (records_text content.start content.records) tt broken (line_put g then (Ok tt) c.in-Ok-put_line.ensures.puts).0
     (subst (λ (bytes : List ℕ). Prints (G.printed mid) (G.printed new) bytes broken) (records_are c.args.durable.now.bank.base c.args.passed c.args.from shown.shows.read.records still.0.shows.read.records c.requires.from c.requires.behind still.1.0)
     (c.in-Err-put_records.ensures.prints still.0 still.1.1)))
 
@@ -87,14 +93,14 @@ returns-clause-prints g c shown =
     let content = shipped c.args.durable.now shown.shows.read.records c.args.from in
     let head = head_line (line_bytes c.args.durable.now.header.directory.page) (line_count c.args.durable.now.header.directory) c.args.from in
     let still = still_there g line shown in
-    let part = subst (λ (bytes : List ℕ). Prints (G.printed c.put_line.new.outside) (G.printed then) bytes well) (records_are c.args.durable.now.bank.base c.args.passed c.args.from shown.shows.read.records still.0.shows.read.records c.requires.from c.requires.behind still.1.0)
+    let part = subst (λ (bytes : List ℕ). PrintsBy {T = Unit {0}} G bytes c.put_line.new.outside then (Ok tt)) (records_are c.args.durable.now.bank.base c.args.passed c.args.from shown.shows.read.records still.0.shows.read.records c.requires.from c.requires.behind still.1.0)
     (c.in-Ok-put_records.ensures.prints still.0 still.1.1) in
     let last : c.as_slice-2.result.now ≡ end_line (later content.start (length content.records)) =
     c.as_slice-2.ensures ∙ c.fill_end.ensures ∙ ap end_line (c.number.ensures ∙ last_is c.args.durable.now.bank.base c.args.passed c.args.from c.args.durable.now.bank.count shown.shows.read.records c.requires.from c.requires.behind shown.shows.read.count c.requires.passed) in
-    by_put G (text_of content) old new c.put_line-2.result
-    (prints_on (G.printed old) (G.printed then) (G.printed new) (head ++ records_text content.start content.records) (end_line (later content.start (length content.records))) tt (put_of c.put_line-2.result)
-    (prints_on (G.printed old) (G.printed c.put_line.new.outside) (G.printed then) head (records_text content.start content.records) tt well (line_put g line well c.in-Ok-put_line.ensures.puts.printed) part)
-    (subst (λ (bytes : List ℕ). Prints (G.printed then) (G.printed new) bytes (put_of c.put_line-2.result)) last c.put_line-2.ensures.puts.printed))
+    prints_by G old then new (head ++ records_text content.start content.records) (end_line (later content.start (length content.records))) c.put_line-2.result
+    (prints_by G old c.put_line.new.outside then head (records_text content.start content.records) (Ok tt) (line_put g line (Ok tt) c.in-Ok-put_line.ensures.puts) part)
+    (subst (λ (bytes : List ℕ). PrintsBy G bytes then new c.put_line-2.result) last
+    (by_put G c.as_slice-2.result.now then new c.put_line-2.result (ap feeds last ∙ one_feed (end_line (later content.start (length content.records))) (end_is_line (later content.start (length content.records)) (omega arith))) c.put_line-2.ensures.puts))
 
 -- and the records
 records_only : (g : Over) (c : goal.After-put_records g) → AsksAndPuts g.W.Outside c.args.outside.now c.put_line.new.outside → AsksAndPuts g.W.Outside c.args.outside.now c.put_records.new.outside
