@@ -1,6 +1,7 @@
 // What no clause says: a fresh store is made and its header is read where there is memory.
+use super::image_tests::{disk_of, one_refusal};
 use line_geometry::{Directory, PageSize};
-use outside::{Call, Joint, MemoryDisk, MemoryScreen, Refusal};
+use outside::Call;
 use std::alloc::{AllocError, Global};
 use std::process::Abort;
 use std::test::Fail;
@@ -8,7 +9,7 @@ use store_format::{Header, HeaderFault, read_header};
 
 // A change of a store's bytes: a byte is another, only so many are left, or there is one more.
 #[derive(Clone, Copy)]
-enum Change {
+pub(super) enum Change {
     Byte(usize, u8),
     Cut(usize),
     More,
@@ -40,7 +41,7 @@ const WIDE_CASES: [(Change, u64); 7] = [
     (Change::More, 155_920),
 ];
 
-fn changed(image: &mut Vec<u8>, change: Change) -> Result<(), AllocError> {
+pub(super) fn changed(image: &mut Vec<u8>, change: Change) -> Result<(), AllocError> {
     match change {
         Change::Byte(at, byte) => {
             if let Some(there) = image.get_mut(at) {
@@ -53,19 +54,13 @@ fn changed(image: &mut Vec<u8>, change: Change) -> Result<(), AllocError> {
     Ok(())
 }
 
-fn disk_of(alloc: Global, image: Vec<u8>) -> Joint<MemoryDisk, MemoryScreen> {
-    Joint::new(
-        MemoryDisk::new(alloc, image, Vec::new(alloc)),
-        MemoryScreen::new(alloc, Vec::new(alloc)),
-    )
-}
-
-fn header_of(rt: &impl Abort) -> Header {
-    let directory = Directory::new(PageSize::Two, &[(1, 4), (2, 2)]).expect(rt, "a directory");
+// That of the store of `try`, with pages of a size.
+pub(super) fn header_of(rt: &impl Abort, page: PageSize) -> Header {
+    let directory = Directory::new(page, &[(1, 4), (2, 2)]).expect(rt, "a directory");
     Header::new(directory, 65_536)
 }
 
-// The same with pages of 4,096 bytes; its second segment is fine.
+// One with pages of 4,096 bytes, whose second segment is fine.
 fn wide_header_of(rt: &impl Abort) -> Header {
     let directory = Directory::with_fine(PageSize::Four, &[(1, 4), (2, 2)], 2);
     Header::new(directory.expect(rt, "a directory"), 65_536)
@@ -80,7 +75,7 @@ fn told_where_wrong(
     for (change, offset) in cases {
         let mut image = header.fresh(alloc)?;
         changed(&mut image, *change)?;
-        let mut disk = disk_of(alloc, image);
+        let mut disk = disk_of(alloc, image, Vec::new(alloc));
         assert_eq!(rt;
             read_header(&mut disk).err(),
             Some(HeaderFault::NotAStore(*offset))
@@ -92,25 +87,15 @@ fn told_where_wrong(
 #[test]
 fn a_header_is_read_with_its_faults(rt: HostRuntime) -> Result<(), Fail> {
     let alloc = rt.alloc();
-    let header = header_of(&rt);
-    let mut disk = disk_of(alloc, header.fresh(alloc)?);
+    let header = header_of(&rt, PageSize::Two);
+    let mut disk = disk_of(alloc, header.fresh(alloc)?, Vec::new(alloc));
     let read = read_header(&mut disk).expect(&rt, "a header");
     assert_eq!(rt; read.bank_bytes(), 65_536);
     assert_eq!(rt; read.total(), 143_632);
     assert_eq!(rt; read.directory().segments(), [(1, 4), (2, 2)].as_slice());
     told_where_wrong(&rt, alloc, &header, CASES.as_slice())?;
-    let refused = vec![in alloc;
-        Refusal {
-            call: Call::Read,
-            from: 0,
-            to: 128,
-            skip: 0
-        },
-    ]?;
-    let mut disk = Joint::new(
-        MemoryDisk::new(alloc, header.fresh(alloc)?, refused),
-        MemoryScreen::new(alloc, Vec::new(alloc)),
-    );
+    let refused = one_refusal(alloc, Call::Read, 0, 128, 0)?;
+    let mut disk = disk_of(alloc, header.fresh(alloc)?, refused);
     assert_eq!(rt; read_header(&mut disk).err(), Some(HeaderFault::DiskFault));
     Ok(())
 }
@@ -119,7 +104,7 @@ fn a_header_is_read_with_its_faults(rt: HostRuntime) -> Result<(), Fail> {
 fn a_header_of_version_two_is_read_with_its_flags(rt: HostRuntime) -> Result<(), Fail> {
     let alloc = rt.alloc();
     let header = wide_header_of(&rt);
-    let mut disk = disk_of(alloc, header.fresh(alloc)?);
+    let mut disk = disk_of(alloc, header.fresh(alloc)?, Vec::new(alloc));
     let read = read_header(&mut disk).expect(&rt, "a header");
     assert_eq!(rt; read.total(), 155_920);
     assert!(rt; read.directory().page() == PageSize::Four);

@@ -4,6 +4,7 @@ ghost use Rattle.std.specs.Prelude.{◌≡◌, ◌+◌, ◌<◌, ◌≤◌, IsSo
 ghost use Rattle.line_geometry.specs.Lines.{line_count};
 ghost use Rattle.store_format.specs.Bank.{record_bytes};
 
+use super::header_tests::{Change, changed, header_of};
 use line_geometry::{Directory, PageSize};
 use outside::{Call, Joint, MemoryDisk, MemoryScreen, Refusal};
 use restart::{Durable, Kept, OpenFault};
@@ -14,13 +15,6 @@ use store_format::Header;
 
 // The bytes of one commit, of line 0 with the word 5 in front, at these offsets. All others are zero.
 const RECORD: [(usize, u8); 5] = [(264, 0xa5), (266, 1), (274, 1), (282, 5), (407, 0)];
-
-// A change of the bytes, or so many of them.
-#[derive(Clone, Copy)]
-enum Change {
-    Byte(usize, u8),
-    Cut(usize),
-}
 
 // Changes of the store with one commit, and what it opens as.
 const IMAGES: [(&[Change], Result<u64, OpenFault>); 10] = [
@@ -52,11 +46,6 @@ const REFUSALS: [(Call, u64, u64, u32, Kept); 5] = [
     (Call::Sync, 0, 0, 3, Kept::Done),
 ];
 
-fn fresh_store(rt: &impl Abort, alloc: Global) -> Result<Vec<u8>, AllocError> {
-    let directory = Directory::new(PageSize::Two, &[(1, 4), (2, 2)]).expect(rt, "a directory");
-    Header::new(directory, 65_536).fresh(alloc)
-}
-
 fn set(image: &mut Vec<u8>, at: usize, byte: u8) {
     if let Some(there) = image.get_mut(at) {
         *there = byte;
@@ -64,14 +53,14 @@ fn set(image: &mut Vec<u8>, at: usize, byte: u8) {
 }
 
 fn committed(rt: &impl Abort, alloc: Global) -> Result<Vec<u8>, AllocError> {
-    let mut image = fresh_store(rt, alloc)?;
+    let mut image = header_of(rt, PageSize::Two).fresh(alloc)?;
     for (at, byte) in RECORD {
         set(&mut image, at, byte);
     }
     Ok(image)
 }
 
-fn disk_of(
+pub(super) fn disk_of(
     alloc: Global,
     image: Vec<u8>,
     refused: Vec<Refusal>,
@@ -93,10 +82,7 @@ fn images_stand_or_are_told_where_not(rt: HostRuntime) -> Result<(), Fail> {
     for (changes, wanted) in IMAGES {
         let mut image = committed(&rt, alloc)?;
         for change in changes {
-            match *change {
-                Change::Byte(at, byte) => set(&mut image, at, byte),
-                Change::Cut(len) => image.truncate(len),
-            }
+            changed(&mut image, *change)?;
         }
         assert_eq!(rt; number_of(alloc, image), wanted);
     }
@@ -104,7 +90,7 @@ fn images_stand_or_are_told_where_not(rt: HostRuntime) -> Result<(), Fail> {
 }
 
 // One call that is refused.
-fn one_refusal(
+pub(super) fn one_refusal(
     alloc: Global,
     call: Call,
     from: u64,
@@ -128,7 +114,7 @@ fn a_commit_is_kept_or_not(rt: HostRuntime) -> Result<(), Fail> {
     line[3] = 5;
     for (call, from, to, skip, wanted) in REFUSALS {
         let refused = one_refusal(alloc, call, from, to, skip)?;
-        let mut disk = disk_of(alloc, fresh_store(&rt, alloc)?, refused);
+        let mut disk = disk_of(alloc, header_of(&rt, PageSize::Two).fresh(alloc)?, refused);
         let mut store = Durable::open(alloc, &mut disk).expect(&rt, "a store");
         assert!(rt; store.header().directory().page() == PageSize::Two);
         assert!(rt; store.header().directory().line_count() == 96);
@@ -240,10 +226,7 @@ fn a_commit_makes_its_own_room(rt: HostRuntime) -> Result<(), Fail> {
     for (changes, number) in CRASHES {
         let mut image = filled(&rt, alloc)?;
         for change in changes {
-            match *change {
-                Change::Byte(at, byte) => set(&mut image, at, byte),
-                Change::Cut(len) => image.truncate(len),
-            }
+            changed(&mut image, *change)?;
         }
         assert_eq!(rt; number_of(alloc, image), Ok(number));
     }

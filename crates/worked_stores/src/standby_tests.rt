@@ -2,38 +2,23 @@
 ghost use Rattle.std.specs.Prelude.{◌<◌, ◌^◌, length};
 ghost use Rattle.standby.specs.Text.{IsShip};
 
-use line_geometry::{Directory, PageSize};
-use outside::{Joint, MemoryDisk, MemoryScreen};
+use super::header_tests::header_of;
+use super::image_tests::disk_of;
+use line_geometry::PageSize;
 use redo_journal::Kept;
 use restart::Durable;
 use standby::{Followed, Ship, ShipFault, Shipped, follow, read_ship, ship};
 use std::alloc::{AllocError, Global};
 use std::process::Abort;
 use std::test::Fail;
-use store_format::Header;
-
-type Both = Joint<MemoryDisk, MemoryScreen>;
 
 /// The sizes of pages, with the bytes of a line.
 const SIZES: [(PageSize, usize); 2] = [(PageSize::Two, 128), (PageSize::Four, 256)];
 
-/// The store of `try`, with nothing in it.
-fn fresh(rt: &impl Abort, alloc: Global, page: PageSize) -> Result<Vec<u8>, AllocError> {
-    let directory = Directory::new(page, &[(1, 4), (2, 2)]).expect(rt, "a directory");
-    Header::new(directory, 65_536).fresh(alloc)
-}
-
-fn over(alloc: Global, image: Vec<u8>) -> Both {
-    Joint::new(
-        MemoryDisk::new(alloc, image, Vec::new(alloc)),
-        MemoryScreen::new(alloc, Vec::new(alloc)),
-    )
-}
-
 /// The store of `try` with the word 5 in line 0, by one commit.
 fn first(rt: &impl Abort, alloc: Global, page: PageSize) -> Result<Vec<u8>, AllocError> {
-    let image = fresh(rt, alloc, page)?;
-    let mut outside = over(alloc, image);
+    let image = header_of(rt, page).fresh(alloc)?;
+    let mut outside = disk_of(alloc, image, Vec::new(alloc));
     let mut store = Durable::open(alloc, &mut outside).expect(rt, "a store");
     let mut line = [0; 256];
     line[3] = 5;
@@ -50,7 +35,7 @@ fn first(rt: &impl Abort, alloc: Global, page: PageSize) -> Result<Vec<u8>, Allo
 
 /// How a shipping of an image behind a number ends, and what it prints.
 fn shipped(rt: &impl Abort, alloc: Global, image: Vec<u8>, from: u64) -> (Shipped, Vec<u8>) {
-    let mut outside = over(alloc, image);
+    let mut outside = disk_of(alloc, image, Vec::new(alloc));
     let store = Durable::open(alloc, &mut outside).expect(rt, "a store");
     let done = ship(&store, &mut outside, from);
     let (_disk, screen) = outside.into_parts();
@@ -113,7 +98,7 @@ struct Outcome {
 fn followed(rt: &impl Abort, alloc: Global, text: &Ship, image: Vec<u8>) -> Outcome
     requires { IsShip text.now }
 {
-    let mut outside = over(alloc, image);
+    let mut outside = disk_of(alloc, image, Vec::new(alloc));
     let mut store = Durable::open(alloc, &mut outside).expect(rt, "a store");
     let done = follow(&mut store, text, &mut outside);
     let (disk, screen) = outside.into_parts();
@@ -136,7 +121,7 @@ fn read(rt: &impl Abort, alloc: Global, text: &[u8]) -> Ship
 /// Follows the first store by a fresh one, and again.
 fn follows(rt: &impl Abort, alloc: Global, page: PageSize, bytes: usize) -> Result<(), AllocError> {
     let text = read(rt, alloc, wanted(alloc, bytes, 0)?.as_slice());
-    let once = followed(rt, alloc, &text, fresh(rt, alloc, page)?);
+    let once = followed(rt, alloc, &text, header_of(rt, page).fresh(alloc)?);
     assert_eq!(rt; once.done, Followed::Done);
     assert_eq!(rt; once.text.as_slice(), b"kept 1\nend 1\n".as_slice());
     assert_eq!(rt; once.image.as_slice(), first(rt, alloc, page)?.as_slice());
@@ -167,7 +152,7 @@ fn texts_are_read_or_not(rt: HostRuntime) -> Result<(), Fail> {
     assert!(rt; cut < 65_536);
     assert!(rt; matches!(read_ship(alloc, &whole[..cut]), Err(ShipFault::Bad(4))));
     let text = read(&rt, alloc, AROUND);
-    let image = fresh(&rt, alloc, PageSize::Two)?;
+    let image = header_of(&rt, PageSize::Two).fresh(alloc)?;
     let found = followed(&rt, alloc, &text, image);
     assert_eq!(rt; found.done, Followed::Done);
     Ok(())
