@@ -1,5 +1,5 @@
 -- What a drill's stops come to, and what is put of them.
-use Rattle.drills.proofs.Common.{◌≡◌, inl, inr, ℕ, zero, suc, ◌+◌, ◌*◌, ◌%◌, ◌<◌, ◌≤◌, Bool, true, false, List, [], ◌∷◌, ◌++◌, length, refl, sym, ◌∙◌, ap, subst, rules, arith, append_assoc, append-nil, length-append, ◌^◌, min, All, Result, Ok, Vec, FlatStore, HasRanges, fresh, Standing, Stands, stands, Job, Ghosts, FewerLater, puts_on, puts_same, times_on, Status, Stop, Committed, length-map, IsStop, fine_order, Rose, Given, DrilledBy, DrilledTo, IsPair, PutsFirst, PutsStops, PutsWhole, broken, last_line, pair_lines, stop_lines, try_flat, try_order, well, IsStanding}
+use Rattle.drills.proofs.Common.{◌≡◌, inl, inr, ℕ, zero, suc, ◌+◌, ◌*◌, ◌%◌, ◌<◌, ◌≤◌, Bool, true, false, List, [], ◌∷◌, ◌++◌, length, refl, sym, ◌∙◌, ap, subst, rules, arith, append_assoc, append-nil, length-append, ◌^◌, min, All, Result, Ok, Vec, FlatStore, HasRanges, fresh, Standing, Stands, stands, Job, Ghosts, FewerLater, puts_on, puts_same, times_on, Status, Stop, Committed, length-map, IsStop, Rose, Given, DrilledBy, DrilledTo, IsPair, PutsFirst, PutsStops, PutsWhole, broken, last_line, pair_lines, stop_lines, try_flat, try_order, well, IsStanding}
 use Rattle.std.specs.declared.alloc.Global.{Global}
 use Rattle.std.proofs.lemmas.Bool.{cases_lt}
 use Rattle.line_geometry.specs.Legal.{IsInRange, IsLegal}
@@ -39,8 +39,12 @@ try-standing image is = (0, try_flat, try-stands image is)
 order-short : (order : Vec Committed Global) → length order.items < 2 ^ 64
 order-short order = omega (arith, order.ok.0, order.ok.1, order.small)
 
--- a stop's image stands for as many commits as it has
-module _ (job : Job) (image : List ℕ) (stop : Stop) (is : IsStop job image 0 try_flat stop) where
+-- a stop on the store of `try`
+pub stop-fresh : (job : Job) (image : List ℕ) (stop : Stop) → image ≡ fresh try_layout → ((number : ℕ) (store : FlatStore) → stands image ≡ Stands number store → IsStop job image number store stop) → IsStop job (fresh try_layout) 0 try_flat stop
+stop-fresh job image stop bytes is = subst (λ (held : List ℕ). IsStop job held 0 try_flat stop) bytes (is 0 try_flat (try-stands image bytes))
+
+-- its image stands for as many commits as it has
+module _ (job : Job) (stop : Stop) (is : IsStop job (fresh try_layout) 0 try_flat stop) where
   small : (0 + is.j) % 2 ^ 64 ≡ is.j
   small = let few = order-short stop.order in omega (arith, few, is.few)
 
@@ -50,16 +54,9 @@ module _ (job : Job) (image : List ℕ) (stop : Stop) (is : IsStop job image 0 t
   pub stop-standing : IsStanding stop.image.items
   stop-standing = (is.j, is.left, stop-stands)
 
-  pub stop-found : (number : ℕ) → ((number_there : ℕ) (store : FlatStore) → stands stop.image.items ≡ Stands number_there store → number ≡ number_there) → stop.seen ≤ number
-  stop-found number there = omega (arith, there is.j is.left stop-stands, is.told)
-
   -- where the write wasn't reached, for all
-  pub stop-all : image ≡ fresh try_layout → stop.reached ≡ false → is.j ≡ length (try_order job)
-  stop-all bytes un =
-      is.all un
-      ∙ sym (length-map stop.order.items (λ (commit : Committed). (commit.activation, commit.steps)))
-      ∙ ap (λ (order : List (ℕ × ℕ)). length order) (is.whole un)
-      ∙ ap (λ (these : List ℕ). length (fine_order job these try_flat)) bytes
+  pub stop-all : stop.reached ≡ false → is.j ≡ length (try_order job)
+  stop-all un = is.all un ∙ sym (length-map stop.order.items (λ (commit : Committed). (commit.activation, commit.steps))) ∙ ap (λ (order : List (ℕ × ℕ)). length order) (is.whole un)
 
 -- lines of one write more
 pub stop_lines-append : (write : ℕ) (pairs : List Pair) (pair : Pair) → stop_lines write (pairs ++ pair ∷ []) ≡ stop_lines write pairs ++ pair_lines (write + length pairs) pair
@@ -70,25 +67,25 @@ stop_lines-append write (first ∷ pairs) pair =
     ∙ sym (append_assoc (pair_lines write first) (stop_lines (write + 1) pairs) (pair_lines (write + length (first ∷ pairs)) pair))
 
 -- what was put so far
-module _ {W : Type 0} (G : Ghosts W) where
+module _ {W : Type 0} (G : Ghosts W) (job : Job) where
   pub record IsPut (before after : W) (count : ℕ) : Type 0 where
     pub pairs : List Pair
     pub many : length pairs ≡ count
-    pub each : All IsPair pairs
+    pub each : All (IsPair job) pairs
     pub puts : Puts G (stop_lines 1 pairs) before after well
     pub times : PutsTimes G (2 * length pairs) before after well
 
   pub none-put : (w : W) → IsPut w w 0
   none-put w = record { pairs = []; many = refl; each = λ k d below. absurd (omega (arith, below)); puts = search rules; times = λ told. omega arith }
 
-  abbrev pub as-first : (before after : W) (count : ℕ) → count ≤ 256 → IsPut before after count → PutsFirst G before after well
+  abbrev pub as-first : (before after : W) (count : ℕ) → count ≤ 256 → IsPut before after count → PutsFirst G job before after well
   as-first before after count few put = record { pairs = put.pairs; stops = record { few = omega (arith, few, put.many); each = put.each }; puts = put.puts; times = put.times }
 
   -- all that there are
-  pub all-put : (job : Job) (before after : W) (count : ℕ) → count ≤ 256 → min 256 (2 * length (try_order job)) ≤ count → IsPut before after count → PutsStops G job before after (Ok count)
-  all-put job before after count few enough put = (as-first before after count few put, put.many, enough)
+  pub all-put : (before after : W) (count : ℕ) → count ≤ 256 → min 256 (2 * length (try_order job)) ≤ count → IsPut before after count → PutsStops G job before after (Ok count)
+  all-put before after count few enough put = (as-first before after count few put, put.many, enough)
 
-  one-pair : (pairs : List Pair) (pair : Pair) → All IsPair pairs → IsPair pair → All IsPair (pairs ++ pair ∷ [])
+  one-pair : (pairs : List Pair) (pair : Pair) → All (IsPair job) pairs → IsPair job pair → All (IsPair job) (pairs ++ pair ∷ [])
   one-pair [] pair each this zero d below = this
   one-pair [] pair each this (suc k) d below = absurd (omega arith)
   one-pair (first ∷ pairs) pair each this zero d below = each zero d (omega arith)
@@ -102,7 +99,7 @@ module _ {W : Type 0} (G : Ghosts W) where
         (subst (λ (n : ℕ). Puts G (pair_lines n pair) mid after result) (let same : count + 1 ≡ 1 + length put.pairs = omega (arith, put.many) in same) puts))
 
     -- one pair more
-    pub put-more : (before mid after : W) (count : ℕ) (pair : Pair) → IsPair pair → Puts G (pair_lines (count + 1) pair) mid after well → PutsTimes G 2 mid after well → IsPut before mid count → IsPut before after (count + 1)
+    pub put-more : (before mid after : W) (count : ℕ) (pair : Pair) → IsPair job pair → Puts G (pair_lines (count + 1) pair) mid after well → PutsTimes G 2 mid after well → IsPut before mid count → IsPut before after (count + 1)
     put-more before mid after count pair this puts times put =
         let more : length (put.pairs ++ pair ∷ []) ≡ length put.pairs + 1 = length-append put.pairs (pair ∷ []) in
         record {
@@ -115,7 +112,7 @@ module _ {W : Type 0} (G : Ghosts W) where
         }
 
     -- and one that wasn't put whole
-    pub put-broken : (before mid after : W) (count : ℕ) (pair : Pair) → count < 256 → IsPair pair → Puts G (pair_lines (count + 1) pair) mid after broken → IsPut before mid count → PutsFirst G before after broken
+    pub put-broken : (before mid after : W) (count : ℕ) (pair : Pair) → count < 256 → IsPair job pair → Puts G (pair_lines (count + 1) pair) mid after broken → IsPut before mid count → PutsFirst G job before after broken
     put-broken before mid after count pair few this puts put =
         let more : length (put.pairs ++ pair ∷ []) ≡ length put.pairs + 1 = length-append put.pairs (pair ∷ []) in
         record {
@@ -126,9 +123,9 @@ module _ {W : Type 0} (G : Ghosts W) where
         }
 
     -- the last line
-    pub whole-put : (job : Job) (before mid after : W) (count number : ℕ) (result : Result (Unit {0}) Failed) → PutsStops G job before mid (Ok count) → number ≡ length (try_order job) → Puts G (last_line count number) mid after result → PutsTimes G 1 mid after result
+    pub whole-put : (before mid after : W) (count number : ℕ) (result : Result (Unit {0}) Failed) → PutsStops G job before mid (Ok count) → number ≡ length (try_order job) → Puts G (last_line count number) mid after result → PutsTimes G 1 mid after result
         → PutsWhole G job before after result
-    whole-put job before mid after count number result (put, many, enough) is puts times = record {
+    whole-put before mid after count number result (put, many, enough) is puts times = record {
       pairs = put.pairs;
       stops = put.stops;
       number = number;
@@ -166,13 +163,13 @@ module _ {W : Type 0} (G : Ghosts W) (job : Job) (before after : W) where
   pub drilled-text : (given : Given) (text : List ℕ) (status : Status) → IsWhole given.left given.left_now text → job_of text ≡ Ok (content_of job) → DrilledTo G job before after status → DrilledBy G given before after status
   drilled-text given text status.Done whole means did = record { text = text; whole = whole; job = job; means = means; did = did }
   drilled-text given text status.PutFault whole means did = record { text = text; whole = whole; job = job; means = means; did = did }
-  drilled-text given text status.NoMemory whole means did = did
+  drilled-text given text status.NoMemory whole means did = inr (record { text = text; whole = whole; job = job; means = means; did = did })
   drilled-text given text _ whole means did = absurd did
 
 -- nothing was put of a job that wasn't read
-pub drilled-unread : {W : Type 0} (G : Ghosts W) (given : Given) (w : W) (status : Status) → IsPut G w w 0 → IsOfReading status → DrilledBy G given w w status
-drilled-unread G given w (status.Job line kind) none is = refl
-drilled-unread G given w status.SourceFault none is = refl
-drilled-unread G given w status.TooBig none is = refl
-drilled-unread G given w status.NoMemory none is = as-first G w w 0 (omega arith) none
-drilled-unread G given w _ none is = absurd is
+pub drilled-unread : {W : Type 0} (G : Ghosts W) (given : Given) (w : W) (status : Status) → IsOfReading status → DrilledBy G given w w status
+drilled-unread G given w (status.Job line kind) is = refl
+drilled-unread G given w status.SourceFault is = refl
+drilled-unread G given w status.TooBig is = refl
+drilled-unread G given w status.NoMemory is = inl refl
+drilled-unread G given w _ is = absurd is

@@ -1,10 +1,14 @@
 -- What a run leaves on a disk that stops.
-use Rattle.drills.proofs.Common.{◌≡◌, ℕ, ◌+◌, ◌*◌, ◌%◌, ◌≤◌, ◌<◌, ◌⊎◌, inl, inr, Bool, true, false, List, [], ◌∷◌, ◌++◌, length, map, take, rules, cond, refl, sym, ◌∙◌, ap, subst, arith, append-nil, Option, Some, None, ◌↔◌, ◌^◌, IfOk, OnOk, Result, Ok, Err, IsSome, unwrap_or, count_by, not, nat_lt, if◌then◌else◌, length-map, take_all, length-filter, sum_by-append, Ghosts, Rose, FewerLater, held_of, disk_calls, disk_first, disk_images, disk_moment, images_at, FlatStore, Program, Header, header_of, total, fields, first_fault, most_lines, Standing, Stands, NotAStore, stands, standing_by, standing_if, chosen, Event, Committed, order_told, commits_seen, Job, Status, Stop, IsLeft, IsStop, all_fine, fine_order, ByOpening, JobHasRun, HasRunFrom, HappenedTo, Refused, StoodForNone, Untouched, job_desk, call, StandsAt}
+use Rattle.drills.proofs.Common.{◌≡◌, ℕ, ◌+◌, ◌*◌, ◌%◌, ◌≤◌, ◌<◌, inl, inr, Bool, true, false, List, [], ◌∷◌, ◌++◌, length, map, take, rules, cond, refl, sym, ◌∙◌, ap, subst, arith, append-nil, append_assoc, Option, Some, None, ◌↔◌, ◌^◌, Result, Ok, IsSome, unwrap_or, count_by, not, nat_lt, if◌then◌else◌, length-map, length-append, length-filter, sum_by-append, Ghosts, Rose, FewerLater, held_of, disk_calls, disk_faults, disk_first, disk_held, disk_images, disk_moment, disk_writes, images_at, FlatStore, Program, Header, header_of, total, fields, first_fault, most_lines, Standing, Stands, NotAStore, stands, standing_by, standing_if, chosen, Event, Committed, order_told, commits_seen, Job, Status, Stop, IsLeft, IsStop, IsStoppedRun, IsTold, all_fine, fine_order, ByOpening, JobHasRun, HasRunFrom, HappenedTo, Refused, StoodForNone, Untouched, job_desk, names_of, call, StandsAt}
+use Rattle.std.proofs.lemmas.Bool.{cases_Bool}
+use Rattle.std.specs.List.{flat_map}
 use Rattle.std.specs.Option.{option_and_then}
-use Rattle.outside.specs.Bytes.{AreTold}
+use Rattle.outside.specs.Bytes.{AreTold, Prints}
+use Rattle.outside.specs.MemoryScreen.{screen_printed}
+use Rattle.outside.specs.declared.failed.Failed.{Failed as PutFailed}
 use Rattle.outside.specs.declared.memory_disk.MemoryDisk.{MemoryDisk}
+use Rattle.outside.specs.declared.memory_screen.MemoryScreen.{MemoryScreen}
 use Rattle.outside.specs.declared.record.Entry.{Entry}
-use Rattle.std.specs.declared.alloc.AllocError.{AllocError}
 use Rattle.flat_machine.specs.declared.machine.Plain.{Plain}
 use Rattle.flat_machine.specs.Serial.{Activation, committing, serial}
 use Rattle.store_format.specs.Bank.{Bank, Holds, Faulty, base_of, bank_of}
@@ -12,10 +16,17 @@ use Rattle.desk.specs.Desk.{Desk, opened}
 use Rattle.desk.specs.Commits.{IsSerial, begun, is_commit, line_before, serial_lines}
 use Rattle.desk.specs.Instruction.{Word, Fine, ReadFailed, Unwritten, Doubt, Failed}
 use Rattle.desk.specs.Kept.{WritesMore}
-use Rattle.desk.specs.Lines.{Line}
+use Rattle.desk.specs.Lines.{Line, Open, line_text}
+use Rattle.desk.specs.Report.{closing_lines, event_lines, report}
 use Rattle.desk.specs.Run.{run, faulted, is_fine}
 use Rattle.run_law.specs.Headline.{IsPrefix}
+use Rattle.run_law.proofs.RunLemmas.{report_parts}
+use Rattle.run_law.proofs.SeenLemmas.{commits_in, commits_on, seen_lines}
+use Rattle.run_law.proofs.StepLemmas.{AreNames, run_plain}
+use Rattle.job_calls.specs.Headline.{put_by}
+use Rattle.job_calls.specs.declared.ended.Ended.{Ended}
 use Rattle.schedule_replay.proofs.PutsLemmas.{PrintedNow}
+use Rattle.schedule_replay.proofs.ReportLemmas.{no_closing}
 use Rattle.supervisor.specs.declared.session.Session.{Session}
 use Rattle.call_status.specs.declared.status.Status.TheVariants as status
 
@@ -54,15 +65,19 @@ lines-each activations number (commit ∷ commits) store left is =
     by None is later = absurd (cc)
     by (Some state) is later = let rest = later state left is in omega (arith, rest)
 
--- while the desk is open, as many lines as commits
-lines-of-commits : (activations : List Activation) (number : ℕ) (store : FlatStore) (order : List (ℕ × ℕ)) (lines : List Line) (committed : FlatStore) (closed : Bool) → closed ≡ false
-    → IsSerial activations number store order lines committed closed → length order ≡ count_by is_commit lines
-lines-of-commits activations number store order lines committed closed still is =
-    let none : is.doubt ≡ [] = is.none_open still in
-    let all : order ≡ is.done = is.order_is ∙ ap (λ (behind : List (ℕ × ℕ)). is.done ++ behind) none ∙ append-nil is.done in
+-- at most one commit has no line, and while the desk is open none
+lines-of-commits : (activations : List Activation) (number : ℕ) (store : FlatStore) (order : List (ℕ × ℕ)) (lines : List Line) (committed : FlatStore) (closed : Bool) → IsSerial activations number store order lines committed closed
+    → (length order ≤ count_by is_commit lines + 1) × (closed ≡ false → length order ≡ count_by is_commit lines)
+lines-of-commits activations number store order lines committed closed is =
+    let all : length order ≡ length is.done + length is.doubt = ap (λ (these : List (ℕ × ℕ)). length these) is.order_is ∙ length-append is.done is.doubt in
     let each : length (serial_lines activations number is.done store) ≡ length is.done = lines-each activations number is.done store committed is.leaves in
     let counted : count_by is_commit lines ≡ length (serial_lines activations number is.done store) = sym (length-filter is_commit lines) ∙ ap (λ (these : List Line). length these) is.lines_are in
-    ap (λ (these : List (ℕ × ℕ)). length these) all ∙ sym each ∙ sym counted
+    (omega (arith, all, each, counted, is.one_doubt), λ still. let none : length is.doubt ≡ 0 = ap (λ (these : List (ℕ × ℕ)). length these) (is.none_open still) in omega (arith, all, each, counted, none))
+
+-- a report that didn't fail was put whole
+put-whole : (status : Status) (put : Result ℕ PutFailed) (text seen : List ℕ) → (status ≡ Status.PutFault → ⊥) → put_by status put → Prints (Some []) (Some seen) text put → seen ≡ text
+put-whole status.PutFault put text seen unfailed is prints = absurd (unfailed refl)
+put-whole _ put text seen unfailed is prints = let told : Prints {T = ℕ} (Some []) (Some seen) text (Ok 0) = subst (λ (put : Result ℕ PutFailed). Prints (Some []) (Some seen) text put) is prints in cc
 
 -- a number for which bytes stand is one of 64 bits
 within-bank : (image : List ℕ) (header : Header) (base : ℕ) (bank : Bank) (number : ℕ) (store : FlatStore) → standing_by image header base bank ≡ Stands number store → number < 2 ^ 64
@@ -100,6 +115,32 @@ module _ {W : Type 0} (G : Ghosts W) (job : Job) (number : ℕ) (store : FlatSto
       (subst (λ (those : Option (List ℕ)). IsPrefix commits number store order (unwrap_or those []) image seen) nothing
       (ran.seen told image seen (fewer_later after (G.moment before) (G.moment after) image seen ran.time.later left)))
 
+  -- the commit lines that are seen are those of the run
+  ran-left : (status : Status) → AreNames (names_of job) → (seen : List ℕ) → commits_seen seen ≤ length order → JobHasRun G job number store (call before after order status) session → G.printed before ≡ Some [] → G.printed after ≡ Some seen → (status ≡ Status.PutFault → ⊥)
+      → IsStoppedRun (names_of job) job.programs.items job.events.items number (job_desk job (held_of G before) store) order (commits_seen seen) × (status ≡ Status.Done → commits_seen seen ≡ length order)
+  ran-left status are seen few ran nothing prints unfailed =
+      let start = job_desk job (held_of G before) store in
+      let end = run job.programs.items ran.ran.taken start in
+      let lines = event_lines (names_of job) job.programs.items number ran.ran.taken start in
+      let closing = closing_lines number ran.ran.rest end in
+      let text = report (names_of job) job.programs.items number ran.ran.taken ran.ran.rest start in
+      let put = put-whole status ran.put text seen unfailed ran.put_is (rw prints at (rw nothing at ran.printed)) in
+      let whole : commits_seen seen ≡ commits_in (Open number ∷ lines) + commits_seen (flat_map line_text closing) =
+      ap commits_seen (put ∙ report_parts job.programs.items (names_of job) number ran.ran.taken ran.ran.rest start ∙ sym (append_assoc (line_text (Open number)) (flat_map line_text lines) (flat_map line_text closing)))
+      ∙ seen_lines (Open number ∷ lines) (flat_map line_text closing) (tt, run_plain job.programs.items (names_of job) number are ran.ran.taken start) in
+      let split = commits_on (Open number ∷ []) lines in
+      let (most, still) = lines-of-commits commits number store order ran.ran.lines _ _ ran.ran.serial_run in
+      let same : count_by is_commit ran.ran.lines ≡ count_by is_commit lines = ap (count_by is_commit) (ran.ran.lines_are ∙ ap (λ (names : List (List ℕ)). event_lines names job.programs.items number ran.ran.taken start) ran.named) in
+      let all : commits_seen seen ≡ count_by is_commit lines =
+      elim (cases_Bool end.closed) [
+        | inl shut ↦ let none = ap (λ (these : List Line). commits_seen (flat_map line_text these)) (no_closing number ran.ran.rest end shut) in omega (arith, whole, split, none)
+        | inr on ↦ let each = still (ap (λ (desk : Desk). desk.closed) ran.ran.end_is ∙ on) in omega (arith, whole, split, few, each, same)
+      ] in
+      let order_is = ran.ran.order_is ∙ ap (λ (desk : Desk). desk.order) ran.ran.end_is in (
+        record { taken = ran.ran.taken; rest = ran.ran.rest; is_run = ran.ran.is_run; order_is = order_is; seen_is = all; most_seen = omega (arith, most, same, all) },
+        λ done. all ∙ sym same ∙ sym (still (ran.still_open done)),
+      )
+
   -- where nothing failed all events were fine
   order-fine : (status : Status) → JobHasRun G job number store (call before after order status) session → status ≡ Status.Done → (Rose (G.disk_faults before) (G.disk_faults after) → ⊥) → order ≡ fine_order job (held_of G before) store
   order-fine status ran done calm =
@@ -113,17 +154,24 @@ module _ {W : Type 0} (G : Ghosts W) (job : Job) (number : ℕ) (store : FlatSto
   -- and two writes were made for each commit
   writes-made : (status : Status) → JobHasRun G job number store (call before after order status) session → status ≡ Status.Done → WritesMore (G.writes before) (G.writes after) (2 * length order)
   writes-made status ran done =
-      let each : length order ≡ count_by is_commit ran.ran.lines = lines-of-commits commits number store order ran.ran.lines _ _ (ran.still_open done) ran.ran.serial_run in
+      let each : length order ≡ count_by is_commit ran.ran.lines = (lines-of-commits commits number store order ran.ran.lines _ _ ran.ran.serial_run).1 (ran.still_open done) in
       subst (λ (n : ℕ). WritesMore (G.writes before) (G.writes after) (2 * n)) (sym each) ran.ran.to.writes
 
   -- what ran
-  left-by : (status : Status) → FewerLater G → PrintedNow G → HeldNow G → JobHasRun G job number store (call before after order status) session → IsLeft G job number store (call before after order status)
-  left-by status fewer_later printed_now held_now ran = record {
+  left-by : (status : Status) → AreNames (names_of job) → FewerLater G → PrintedNow G → HeldNow G → JobHasRun G job number store (call before after order status) session → IsLeft G job number store (call before after order status)
+  left-by status are fewer_later printed_now held_now ran = record {
     first = first-left status fewer_later printed_now held_now ran;
-    all = λ done. ran.ran.leaves (ran.still_open done);
+    ran = λ image seen holds nothing prints unfailed.
+        let left = first-left status fewer_later printed_now held_now ran image seen holds nothing prints in
+        ran-left status are seen (omega (arith, left.told, left.few, ap commits_seen left.seen_is)) ran nothing prints unfailed;
     writes = writes-made status ran;
     fine = order-fine status ran;
   }
+
+  -- where nothing ran nothing is printed
+  quiet-left : (status : Status) → Untouched G (call before after order status) → (seen : List ℕ) → G.printed before ≡ Some [] → G.printed after ≡ Some seen → seen ≡ []
+  quiet-left status untouched seen nothing prints =
+      ap (λ (told : Option (List ℕ)). unwrap_or told []) (let one : Some seen ≡ Some [] = sym prints ∙ untouched.asks.calls.quiet.same ∙ nothing in one)
 
   -- a disk on which nothing ran holds what it held
   untouched-left : (status : Status) → (status ≡ Status.Done → ⊥) → Untouched G (call before after order status) → StandsAt G before number store → IsLeft G job number store (call before after order status)
@@ -131,136 +179,117 @@ module _ {W : Type 0} (G : Ghosts W) (job : Job) (number : ℕ) (store : FlatSto
     first = λ image seen holds nothing prints.
         let kept : Some image ≡ G.held before = sym holds ∙ untouched.asks.held in
         let same : image ≡ held_of G before = ap (λ (told : Option (List ℕ)). unwrap_or told []) kept in
-        let quiet : seen ≡ [] = ap (λ (told : Option (List ℕ)). unwrap_or told []) (let one : Some seen ≡ Some [] = sym prints ∙ untouched.asks.calls.quiet.same ∙ nothing in one) in
         let small : number < 2 ^ 64 = number-within (held_of G before) number store standing.stood in
         record {
           j = 0;
           few = omega arith;
           since = [];
-          seen_is = quiet;
+          seen_is = quiet-left status untouched seen nothing prints;
           told = omega arith;
           left = store;
           leaves = refl;
           stood = ap (λ (those : List ℕ). stands those) same ∙ standing.stood ∙ ap (λ (n : ℕ). let that : Standing = Stands n store in that) (let same : number ≡ (number + 0) % 2 ^ 64 = omega (arith, small) in same);
         };
-    all = λ done. absurd (undone done);
+    ran = λ image seen holds nothing prints unfailed.
+        let none : length order ≡ 0 = ap (λ (these : List (ℕ × ℕ)). length these) untouched.no_order in
+        let seen_is = ap commits_seen (quiet-left status untouched seen nothing prints) in (
+          record { taken = []; rest = job.events.items; is_run = record { prefix = refl; each_open = tt }; order_is = untouched.no_order; seen_is = seen_is; most_seen = omega (arith, none) },
+          λ done. absurd (undone done),
+        );
     writes = λ done. absurd (undone done);
     fine = λ done. absurd (undone done);
   }
 
   -- whatever happened
-  pub happened-left : (status : Status) → FewerLater G → PrintedNow G → HeldNow G → StandsAt G before number store → HappenedTo G job (call before after order status) session → IsLeft G job number store (call before after order status)
-  happened-left status.Done fewer_later printed_now held_now standing ran = left-by status.Done fewer_later printed_now held_now (ran number store standing)
-  happened-left status.PutFault fewer_later printed_now held_now standing ran = left-by status.PutFault fewer_later printed_now held_now (ran number store standing)
-  happened-left status.DiskFault fewer_later printed_now held_now standing did =
+  pub happened-left : (status : Status) → AreNames (names_of job) → FewerLater G → PrintedNow G → HeldNow G → StandsAt G before number store → HappenedTo G job (call before after order status) session → IsLeft G job number store (call before after order status)
+  happened-left status.Done are fewer_later printed_now held_now standing ran = left-by status.Done are fewer_later printed_now held_now (ran number store standing)
+  happened-left status.PutFault are fewer_later printed_now held_now standing ran = left-by status.PutFault are fewer_later printed_now held_now (ran number store standing)
+  happened-left status.DiskFault are fewer_later printed_now held_now standing did =
       by-opening session
-      (λ (ran : HasRunFrom G job (call before after order status.DiskFault) session). left-by status.DiskFault fewer_later printed_now held_now (ran number store standing))
+      (λ (ran : HasRunFrom G job (call before after order status.DiskFault) session). left-by status.DiskFault are fewer_later printed_now held_now (ran number store standing))
       (λ (untouched : Untouched G (call before after order status.DiskFault)). untouched-left status.DiskFault (λ is. cc) untouched standing) did
-  happened-left (status.Store offset) fewer_later printed_now held_now standing did =
+  happened-left (status.Store offset) are fewer_later printed_now held_now standing did =
       by-opening session
       (λ (none : StoodForNone G before). let that : IsLeft G job number store (call before after order (status.Store offset)) = absurd (none number store standing) in that)
       (λ (refused : Refused G (call before after order (status.Store offset))). untouched-left (status.Store offset) (λ is. cc) refused.untouched standing) did
-  happened-left other fewer_later printed_now held_now standing refused = untouched-left other (λ is. cc) refused.untouched standing
+  happened-left other are fewer_later printed_now held_now standing refused = untouched-left other (λ is. cc) refused.untouched standing
 
 -- the same of a job that says as much
 record Parts : Type 0 where
   frames : ℕ
+  names : List (List ℕ)
   programs : List Program
   events : List Event
 
-pub left-same : {W : Type 0} (G : Ghosts W) (copy job : Job) (number : ℕ) (store : FlatStore) (before after : W) (order : List (ℕ × ℕ)) (status : Status) → copy.frames ≡ job.frames → copy.programs.items ≡ job.programs.items → copy.events.items ≡ job.events.items
+pub left-same : {W : Type 0} (G : Ghosts W) (copy job : Job) (number : ℕ) (store : FlatStore) (before after : W) (order : List (ℕ × ℕ)) (status : Status) → copy.frames ≡ job.frames → names_of copy ≡ names_of job → copy.programs.items ≡ job.programs.items → copy.events.items ≡ job.events.items
     → IsLeft G copy number store (call before after order status) → IsLeft G job number store (call before after order status)
-left-same G copy job number store before after order status frames programs events left =
-    let of_job : Job → Parts = λ job. record { frames = job.frames; programs = job.programs.items; events = job.events.items } in
-    let same : of_job copy ≡ of_job job = λ i. record { frames = frames i; programs = programs i; events = events i } in
+left-same G copy job number store before after order status frames names programs events left =
+    let of_job : Job → Parts = λ job. record { frames = job.frames; names = names_of job; programs = job.programs.items; events = job.events.items } in
+    let same : of_job copy ≡ of_job job = λ i. record { frames = frames i; names = names i; programs = programs i; events = events i } in
     record {
       first = λ image seen holds nothing prints. subst (λ (parts : Parts). IsPrefix (begun parts.programs parts.events) number store order [] image seen) same (left.first image seen holds nothing prints);
-      all = λ done. subst (λ (parts : Parts). (last : FlatStore) × (serial (begun parts.programs parts.events) order store ≡ Some last) × (stands (held_of G after) ≡ Stands ((number + length order) % 2 ^ 64) last)) same (left.all done);
+      ran = λ image seen holds nothing prints unfailed.
+          let (ran, all) = left.ran image seen holds nothing prints unfailed in
+          (subst (λ (parts : Parts). IsStoppedRun parts.names parts.programs parts.events number (opened parts.frames 16 (most_lines (header_of (take 128 (held_of G before)))) store) order (commits_seen seen)) same ran, all);
       writes = left.writes;
       fine = λ done calm.
           subst (λ (parts : Parts). order ≡ (run parts.programs (all_fine parts.events) (opened parts.frames 16 (most_lines (header_of (take 128 (held_of G before)))) store)).order) same (left.fine done calm);
     }
 
--- what a stop is, by what was left and what the disk tells
-module _ (job : Job) (held : List ℕ) (number : ℕ) (store : FlatStore) (order : List Committed) (status : Status) (image printed : List ℕ) (faults writes write : ℕ) where
-  pub record IsTold (stop : Stop) : Type 0 where
-    pub reached : stop.reached ≡ false → (faults ≡ 0) × (writes < write)
-    pub seen : stop.seen ≤ commits_seen printed
-    pub order_is : stop.order.items ≡ order
-    pub image_is : stop.image.items ≡ image
+-- what a stop is, by what was left and what is told of it
+module _ (job : Job) (held : List ℕ) (number : ℕ) (store : FlatStore) (ended : Ended) (disk : MemoryDisk) (screen : MemoryScreen) where
+  abbrev order : List (ℕ × ℕ)
+  order = order_told ended.order.items
 
   pub record HasLeft : Type 0 where
-    pub first : IsPrefix (begun job.programs.items job.events.items) number store (order_told order) [] image printed
-    pub all : status ≡ Status.Done → (left : FlatStore) × (serial (begun job.programs.items job.events.items) (order_told order) store ≡ Some left) × (stands image ≡ Stands ((number + length (order_told order)) % 2 ^ 64) left)
-    pub writes_are : status ≡ Status.Done → 2 * length (order_told order) ≤ writes
-    pub fine : status ≡ Status.Done → faults ≡ 0 → order_told order ≡ fine_order job held store
-    pub fault : status ≡ Status.DiskFault → 1 ≤ faults
+    pub first : IsPrefix (begun job.programs.items job.events.items) number store (order_told ended.order.items) [] (disk_held disk) (screen_printed screen)
+    pub ran : (ended.status ≡ Status.PutFault → ⊥) → IsStoppedRun (names_of job) job.programs.items job.events.items number (job_desk job held store) (order_told ended.order.items) (commits_seen (screen_printed screen)) × (ended.status ≡ Status.Done → commits_seen (screen_printed screen) ≡ length (order_told ended.order.items))
+    pub writes : ended.status ≡ Status.Done → 2 * length (order_told ended.order.items) ≤ disk_writes disk
+    pub fine : ended.status ≡ Status.Done → disk_faults disk ≡ 0 → order_told ended.order.items ≡ fine_order job held store
+    pub fault : ended.status ≡ Status.DiskFault → 1 ≤ disk_faults disk
 
-  told-count : (commits : List Committed) → length (order_told commits) ≡ length commits
-  told-count commits = length-map commits (λ (commit : Committed). (commit.activation, commit.steps))
+  module _ (left : HasLeft) (write : ℕ) (stop : Stop) (told : IsTold ended disk screen write stop) where
+    -- where the write wasn't reached the run came to its end
+    came-done : stop.reached ≡ false → ended.status ≡ Status.Done
+    came-done un = elim told.status [
+      | inl is ↦ is
+      | inr failed ↦ let some = left.fault failed in let calm = (told.reached un).0 in absurd (omega (arith, some, calm))
+    ]
 
-  -- where the write wasn't reached the run came to its end
-  done-unless : (status ≡ Status.Done) ⊎ (status ≡ Status.DiskFault) → HasLeft → faults ≡ 0 → status ≡ Status.Done
-  done-unless (inl done) left calm = done
-  done-unless (inr failed) left calm = let some = left.fault failed in absurd (omega (arith, some, calm))
+    unfailed : ended.status ≡ Status.PutFault → ⊥
+    unfailed is = elim told.status [
+      | inl well ↦ let both : Status.Done ≡ Status.PutFault = sym well ∙ is in cc
+      | inr failed ↦ let both : Status.DiskFault ≡ Status.PutFault = sym failed ∙ is in cc
+    ]
 
-  pub stop-is : (stop : Stop) → IsTold stop → (status ≡ Status.Done) ⊎ (status ≡ Status.DiskFault) → HasLeft → IsStop job held number store stop
-  stop-is stop told ended left = by stop.reached refl
-    where
-      by : (reached : Bool) → stop.reached ≡ reached → IsStop job held number store stop
-      by true is = record {
-        j = left.first.j;
-        told = omega (arith, told.seen, left.first.told, ap commits_seen left.first.seen_is);
-        few = omega (arith, left.first.few, told-count order, ap (λ (commits : List Committed). length commits) told.order_is);
-        left = left.first.left;
-        leaves = ap (λ (commits : List Committed). serial (begun job.programs.items job.events.items) (take left.first.j (order_told commits)) store) told.order_is ∙ left.first.leaves;
-        stood = ap (λ (bytes : List ℕ). stands bytes) told.image_is ∙ left.first.stood;
-        whole = λ un. absurd (let both : true ≡ false = sym is ∙ un in cc);
-        all = λ un. absurd (let both : true ≡ false = sym is ∙ un in cc);
-      }
-      by false is =
-          let done = done-unless ended left (told.reached is).0 in
-          let all = left.all done in
-          let count : length stop.order.items ≡ length (order_told order) = ap (λ (commits : List Committed). length commits) told.order_is ∙ sym (told-count order) in
-          record {
-            j = length stop.order.items;
-            told = omega (arith, told.seen, left.first.told, ap commits_seen left.first.seen_is, left.first.few, count);
-            few = omega arith;
-            left = all.0;
-            leaves = ap (λ (commits : List Committed). serial (begun job.programs.items job.events.items) (take (length stop.order.items) (order_told commits)) store) told.order_is
-                ∙ ap (λ (commits : List (ℕ × ℕ)). serial (begun job.programs.items job.events.items) commits store) (take_all (length stop.order.items) (order_told order) (omega (arith, count)))
-                ∙ all.1;
-            stood = ap (λ (bytes : List ℕ). stands bytes) told.image_is ∙ all.2 ∙ ap (λ (n : ℕ). let that : Standing = Stands ((number + n) % 2 ^ 64) all.0 in that) (sym count);
-            whole = λ un. ap order_told told.order_is ∙ left.fine done (told.reached is).0;
-            all = λ un. refl;
-          }
+    pub stop-is : IsStop job held number store stop
+    stop-is =
+        let (ran, all) = left.ran unfailed in
+        let count : length stop.order.items ≡ length order = ap (λ (commits : List Committed). length commits) told.order_is ∙ sym (length-map ended.order.items (λ (commit : Committed). (commit.activation, commit.steps))) in
+        let seen : stop.seen ≤ left.first.j = omega (arith, told.seen, left.first.told, ap commits_seen left.first.seen_is) in
+        record {
+          ran = subst (λ (n : ℕ). IsStoppedRun (names_of job) job.programs.items job.events.items number (job_desk job held store) (order_told stop.order.items) n) (sym told.seen)
+              (subst (λ (commits : List Committed). IsStoppedRun (names_of job) job.programs.items job.events.items number (job_desk job held store) (order_told commits) (commits_seen (screen_printed screen))) (sym told.order_is) ran);
+          j = left.first.j;
+          told = seen;
+          few = omega (arith, left.first.few, count);
+          left = left.first.left;
+          leaves = ap (λ (commits : List Committed). serial (begun job.programs.items job.events.items) (take left.first.j (order_told commits)) store) told.order_is ∙ left.first.leaves;
+          stood = ap (λ (bytes : List ℕ). stands bytes) told.image_is ∙ left.first.stood;
+          whole = λ un. ap order_told told.order_is ∙ left.fine (came-done un) (told.reached un).0;
+          all = λ un. let each = all (came-done un) in omega (arith, each, told.seen, seen, left.first.few, count);
+          all_seen = λ un. told.seen ∙ all (came-done un) ∙ sym count;
+        }
 
-  pub is-reached : (stop : Stop) → IsTold stop → (status ≡ Status.Done) ⊎ (status ≡ Status.DiskFault) → HasLeft → write ≤ 2 * length (fine_order job held store) → stop.reached ≡ true
-  is-reached stop told ended left due = by stop.reached refl
-    where
-      by : (reached : Bool) → stop.reached ≡ reached → stop.reached ≡ true
-      by true is = is
-      by false is =
-          let done = done-unless ended left (told.reached is).0 in
-          let same : length (order_told order) ≡ length (fine_order job held store) = ap (λ (these : List (ℕ × ℕ)). length these) (left.fine done (told.reached is).0) in
-          let some = left.writes_are done in
-          let few = (told.reached is).1 in
+    pub is-reached : write ≤ 2 * length (fine_order job held store) → stop.reached ≡ true
+    is-reached due = elim (cases_Bool stop.reached) [
+      | inl is ↦ is
+      | inr un ↦
+          let same : length order ≡ length (fine_order job held store) = ap (λ (these : List (ℕ × ℕ)). length these) (left.fine (came-done un) (told.reached un).0) in
+          let some = left.writes (came-done un) in
+          let few = (told.reached un).1 in
           absurd (omega (arith, same, some, few, due))
-
-  pub told-ok : (P : Stop → Type 0) (result : Result Stop AllocError) (disk_image disk_printed : List ℕ) (disk_faults disk_writes : ℕ) (run : List Committed)
-      → IfOk result (λ stop. stop.reached ≡ false → (disk_faults ≡ 0) × (disk_writes < write)) → IfOk result (λ stop. stop.seen ≤ commits_seen disk_printed) → IfOk result (λ stop. stop.order.items ≡ run) → IfOk result (λ stop. stop.image.items ≡ disk_image)
-      → OnOk result ((status ≡ Status.Done) ⊎ (status ≡ Status.DiskFault)) → disk_image ≡ image → disk_printed ≡ printed → disk_faults ≡ faults → disk_writes ≡ writes → run ≡ order
-      → ((stop : Stop) → IsTold stop → (status ≡ Status.Done) ⊎ (status ≡ Status.DiskFault) → P stop) → IfOk result P
-  told-ok P (Err error) disk_image disk_printed disk_faults disk_writes run reached seen ordered held ended same_image same_printed same_faults same_writes same_order means = tt
-  told-ok P (Ok stop) disk_image disk_printed disk_faults disk_writes run reached seen ordered held ended same_image same_printed same_faults same_writes same_order means =
-      means stop
-      (record {
-        reached = λ un. (sym same_faults ∙ (reached un).0, omega (arith, (reached un).1, same_writes));
-        seen = omega (arith, seen, ap commits_seen same_printed);
-        order_is = ordered ∙ same_order;
-        image_is = held ∙ same_image;
-      })
-      ended
+    ]
 
 -- a disk with a fuse has the one image that it had when it was made
 pub one-image : (made fused disk : MemoryDisk) (bytes image : List ℕ) (at : ℕ) → disk ≡ fused → disk_first fused ≡ disk_first made → disk_calls fused ≡ disk_calls made → disk_moment made ≡ 0

@@ -1,21 +1,30 @@
 -- What a job leaves on a disk that stops at one of its writes.
-use Rattle.std.specs.Prelude.{◌≡◌, ℕ, ◌+◌, ◌*◌, ◌%◌, ◌^◌, ◌≤◌, false, List, [], length, map, take, Some}
+use Rattle.std.specs.Prelude.{◌≡◌, ◌⊎◌, ℕ, ◌+◌, ◌*◌, ◌%◌, ◌^◌, ◌<◌, ◌≤◌, false, List, [], length, map, take, count_by, Some}
 use Rattle.outside.specs.declared.world.Outside.{Ghosts}
+use Rattle.outside.specs.declared.memory_disk.MemoryDisk.{MemoryDisk}
+use Rattle.outside.specs.declared.memory_screen.MemoryScreen.{MemoryScreen}
 use Rattle.outside.specs.Causes.{Rose}
+use Rattle.outside.specs.MemoryDisk.{disk_faults, disk_held, disk_writes}
+use Rattle.outside.specs.MemoryScreen.{screen_printed}
 use Rattle.outside.specs.Runs.{held_of}
 use Rattle.line_geometry.specs.FlatStore.{FlatStore}
+use Rattle.flat_machine.specs.declared.machine.Program.{Program}
 use Rattle.flat_machine.specs.Serial.{serial}
 use Rattle.store_format.specs.Stands.{Stands, stands}
 use Rattle.desk.specs.declared.event.Event.{Event}
 use Rattle.desk.specs.Answers.{order_told}
-use Rattle.desk.specs.Commits.{begun}
+use Rattle.desk.specs.Commits.{begun, is_commit}
+use Rattle.desk.specs.Desk.{Desk}
 use Rattle.desk.specs.Instruction.{Word, Fine}
 use Rattle.desk.specs.Kept.{WritesMore}
-use Rattle.desk.specs.Run.{run}
+use Rattle.desk.specs.Report.{event_lines}
+use Rattle.desk.specs.Run.{run, IsRunOf}
+use Rattle.desk.specs.Seen.{commits_seen}
 use Rattle.run_law.specs.Headline.{IsPrefix}
 use Rattle.job_text.specs.declared.job.Job.{Job}
 use Rattle.drills.specs.declared.stops.Stop.{Stop}
-use Rattle.job_calls.specs.Headline.{job_desk}
+use Rattle.job_calls.specs.declared.ended.Ended.{Ended}
+use Rattle.job_calls.specs.Headline.{job_desk, names_of}
 use Rattle.call_status.specs.Call.{Call}
 use Rattle.call_status.specs.declared.status.Status.{Status}
 
@@ -27,18 +36,38 @@ all_fine events = map (λ event. (event, Fine)) events
 abbrev pub fine_order : Job → (held : List ℕ) → FlatStore → List (ℕ × ℕ)
 fine_order job held store = (run job.programs.items (all_fine job.events.items) (job_desk job held store)).order
 
+-- An order and so many commit lines are those of one run of the desk over the first of these events; at most the last commit has no line.
+pub record IsStoppedRun (names : List (List ℕ)) (programs : List Program) (events : List Event) (number : ℕ) (start : Desk) (order : List (ℕ × ℕ)) (seen : ℕ) : Type 0 where
+  pub taken : List (Event × Word)
+  pub rest : List Event
+  pub is_run : IsRunOf programs events start taken rest
+  pub order_is : order ≡ (run programs taken start).order
+  pub seen_is : seen ≡ count_by is_commit (event_lines names programs number taken start)
+  pub most_seen : length order ≤ seen + 1
+
 -- What a run of a job left of the number and the store for which the disk stood. What is held now stands for the first commits, run one
--- after another, and no fewer than are seen in what was printed, where nothing was before. At Done it stands for all of them, two writes
--- were made for each, and all events went well where no fault was counted.
+-- after another, and no fewer than are seen in what was printed, where nothing was before; unless a put failed, those seen are all of
+-- one run of the desk. At Done there is one for each commit, two writes were made for each, and all events went well where no fault was counted.
 pub record IsLeft {W : Type 0} (G : Ghosts W) (job : Job) (number : ℕ) (store : FlatStore) (call : Call W) : Type 0 where
   pub first : (image seen : List ℕ) → G.held call.after ≡ Some image → G.printed call.before ≡ Some [] → G.printed call.after ≡ Some seen → IsPrefix (begun job.programs.items job.events.items) number store call.order [] image seen
-  pub all : call.status ≡ Status.Done → (left : FlatStore) × (serial (begun job.programs.items job.events.items) call.order store ≡ Some left) × (stands (held_of G call.after) ≡ Stands ((number + length call.order) % 2 ^ 64) left)
+  pub ran : (image seen : List ℕ) → G.held call.after ≡ Some image → G.printed call.before ≡ Some [] → G.printed call.after ≡ Some seen → (call.status ≡ Status.PutFault → ⊥)
+      → IsStoppedRun (names_of job) job.programs.items job.events.items number (job_desk job (held_of G call.before) store) call.order (commits_seen seen) × (call.status ≡ Status.Done → commits_seen seen ≡ length call.order)
   pub writes : call.status ≡ Status.Done → WritesMore (G.writes call.before) (G.writes call.after) (2 * length call.order)
   pub fine : call.status ≡ Status.Done → (Rose (G.disk_faults call.before) (G.disk_faults call.after) → ⊥) → call.order ≡ fine_order job (held_of G call.before) store
 
--- A stop's image stands for the first commits of its order, run one after another on the store before, and no fewer than were
--- seen. Where the write wasn't reached all events went well, and it stands for all commits.
+-- what is told of a run that ended so, over a disk that was to stop at this write and a screen
+pub record IsTold (ended : Ended) (disk : MemoryDisk) (screen : MemoryScreen) (write : ℕ) (stop : Stop) : Type 0 where
+  pub status : (ended.status ≡ Status.Done) ⊎ (ended.status ≡ Status.DiskFault)
+  pub reached : stop.reached ≡ false → (disk_faults disk ≡ 0) × (disk_writes disk < write)
+  pub seen : stop.seen ≡ commits_seen (screen_printed screen)
+  pub order_is : stop.order.items ≡ ended.order.items
+  pub image_is : stop.image.items ≡ disk_held disk
+
+-- A stop's order and the commit lines seen are those of one run of the desk. Its image stands for the first commits of the order, run one
+-- after another on the store before, and no fewer than were seen. Where the write wasn't reached all events went well, all commits were
+-- seen, and it stands for all.
 pub record IsStop (job : Job) (held : List ℕ) (number : ℕ) (store : FlatStore) (stop : Stop) : Type 0 where
+  pub ran : IsStoppedRun (names_of job) job.programs.items job.events.items number (job_desk job held store) (order_told stop.order.items) stop.seen
   pub j : ℕ
   pub told : stop.seen ≤ j
   pub few : j ≤ length stop.order.items
@@ -47,3 +76,4 @@ pub record IsStop (job : Job) (held : List ℕ) (number : ℕ) (store : FlatStor
   pub stood : stands stop.image.items ≡ Stands ((number + j) % 2 ^ 64) left
   pub whole : stop.reached ≡ false → order_told stop.order.items ≡ fine_order job held store
   pub all : stop.reached ≡ false → j ≡ length stop.order.items
+  pub all_seen : stop.reached ≡ false → stop.seen ≡ length stop.order.items

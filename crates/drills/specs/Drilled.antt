@@ -1,4 +1,4 @@
--- What a drill did: a job was stopped at each of its writes in turn, each time on a store of its own.
+-- What a drill did: a job was stopped at its writes in turn, each time on a store of its own.
 use Rattle.std.specs.Prelude.{◌≡◌, ℕ, ◌+◌, ◌*◌, ◌≤◌, min, ◌⊎◌, List, [], ◌∷◌, ◌++◌, codes, decimal, length, replicate, All, Result, Ok, Err}
 use Rattle.outside.specs.declared.world.Outside.{Ghosts}
 use Rattle.outside.specs.declared.failed.Failed.{Failed}
@@ -13,7 +13,8 @@ use Rattle.drills.specs.declared.drill.Pair.{Pair}
 use Rattle.call_status.specs.Call.{Call, Given}
 use Rattle.call_status.specs.declared.status.Status.{Status}
 use Rattle.call_status.specs.declared.status.Status.TheVariants as status
-use Rattle.drills.specs.Drill.{fine_order}
+use Rattle.drills.specs.Drill.{IsStop, fine_order}
+use Rattle.drills.specs.declared.stops.Stop.{Stop}
 use Rattle.store_calls.specs.TryStore.{try_layout}
 use Rattle.call_status.specs.SourceText.{IsWhole}
 
@@ -43,24 +44,24 @@ try_flat = record { directory = try_layout.directory; bytes = replicate (byte_co
 abbrev pub try_order : Job → List (ℕ × ℕ)
 try_order job = fine_order job (fresh try_layout) try_flat
 
--- restart finds no smaller a number than commit lines were seen
-abbrev pub IsFound : Found → Type 0
-IsFound found = found.seen ≤ found.number
+-- these are the commit lines seen at a stop of the job on the store of `try`, and the number for which its image stands
+abbrev pub IsFound : Job → Found → Type 0
+IsFound job found = (stop : Stop) × (is : IsStop job (fresh try_layout) 0 try_flat stop) × (found.seen ≡ stop.seen) × (found.number ≡ is.j)
 
 -- and so at both stops at a write
-pub record IsPair (pair : Pair) : Type 0 where
-  pub old : IsFound pair.old
-  pub torn : IsFound pair.torn
+pub record IsPair (job : Job) (pair : Pair) : Type 0 where
+  pub old : IsFound job pair.old
+  pub torn : IsFound job pair.torn
 
--- of at most 256 writes the outcomes of two stops each, in none of which more commits were seen than restart finds
-pub record AreStops (pairs : List Pair) : Type 0 where
+-- what at most 256 writes came to, by two stops of the job for each
+pub record AreStops (job : Job) (pairs : List Pair) : Type 0 where
   pub few : length pairs ≤ 256
-  pub each : All IsPair pairs
+  pub each : All (IsPair job) pairs
 
 -- lines of such stops, numbered from write 1 on, are put, each by one put, or a prefix of them where a put failed
-pub record PutsFirst {W T : Type 0} (G : Ghosts W) (before after : W) (result : Result T Failed) : Type 0 where
+pub record PutsFirst {W T : Type 0} (G : Ghosts W) (job : Job) (before after : W) (result : Result T Failed) : Type 0 where
   pub pairs : List Pair
-  pub stops : AreStops pairs
+  pub stops : AreStops job pairs
   pub puts : Puts G (stop_lines 1 pairs) before after result
   pub times : PutsTimes G (2 * length pairs) before after result
 
@@ -68,7 +69,7 @@ pub record PutsFirst {W T : Type 0} (G : Ghosts W) (before after : W) (result : 
 -- two for each commit, or at 256; the last line tells at how many, and how many commits the job has.
 pub record PutsWhole {W T : Type 0} (G : Ghosts W) (job : Job) (before after : W) (result : Result T Failed) : Type 0 where
   pub pairs : List Pair
-  pub stops : AreStops pairs
+  pub stops : AreStops job pairs
   pub number : ℕ
   pub number_is : number ≡ length (try_order job)
   pub enough : min 256 (2 * number) ≤ length pairs
@@ -84,16 +85,16 @@ broken = Err (record {})
 
 -- what putting the stops came to: so many writes, or a put that failed, or no memory
 abbrev pub PutsStops : {W : Type 0} → Ghosts W → Job → W → W → Result ℕ Status → Type 0
-PutsStops G job before after (Ok count) = (put : PutsFirst G before after well) × (length put.pairs ≡ count) × (min 256 (2 * length (try_order job)) ≤ count)
-PutsStops G job before after (Err status.PutFault) = PutsFirst G before after broken
-PutsStops G job before after (Err status.NoMemory) = PutsFirst G before after well
+PutsStops G job before after (Ok count) = (put : PutsFirst G job before after well) × (length put.pairs ≡ count) × (min 256 (2 * length (try_order job)) ≤ count)
+PutsStops G job before after (Err status.PutFault) = PutsFirst G job before after broken
+PutsStops G job before after (Err status.NoMemory) = PutsFirst G job before after well
 PutsStops G job before after (Err _) = ⊥
 
 -- what a drill of a job did, by its status; other statuses don't come
 abbrev pub DrilledTo : {W : Type 0} → Ghosts W → Job → W → W → Status → Type 0
 DrilledTo G job before after status.Done = PutsWhole G job before after well
-DrilledTo G job before after status.PutFault = PutsFirst G before after broken ⊎ PutsWhole G job before after broken
-DrilledTo G job before after status.NoMemory = PutsFirst G before after well
+DrilledTo G job before after status.PutFault = PutsFirst G job before after broken ⊎ PutsWhole G job before after broken
+DrilledTo G job before after status.NoMemory = PutsFirst G job before after well
 DrilledTo G job before after _ = ⊥
 
 -- the text was had whole and means a job, which was drilled
@@ -104,11 +105,11 @@ pub record DrillsJob {W : Type 0} (G : Ghosts W) (given : Given) (before after :
   pub means : job_of text ≡ Ok (content_of job)
   pub did : DrilledTo G job before after status
 
--- what a drill did, by its status: the lines are put or a put failed, or memory was wanting, or nothing outside was called
+-- what a drill did, by its status: the lines are put or a put failed, or memory was wanting behind some of them, or nothing outside was called
 abbrev pub DrilledBy : {W : Type 0} → Ghosts W → Given → W → W → Status → Type 0
 DrilledBy G given before after status.Done = DrillsJob G given before after status.Done
 DrilledBy G given before after status.PutFault = DrillsJob G given before after status.PutFault
-DrilledBy G given before after status.NoMemory = PutsFirst G before after well
+DrilledBy G given before after status.NoMemory = (after ≡ before) ⊎ DrillsJob G given before after status.NoMemory
 DrilledBy G given before after (status.Job line kind) = after ≡ before
 DrilledBy G given before after status.SourceFault = after ≡ before
 DrilledBy G given before after status.TooBig = after ≡ before

@@ -1,4 +1,4 @@
-// A drill: a job that is stopped at each of its writes in turn.
+// A drill: a job that is stopped at its writes in turn.
 ghost use Rattle.std.specs.Prelude.{◌≡◌, ◌⊎◌, ◌*◌, ◌<◌, ◌≤◌, ℕ, [], length, MatchOption, IfOk};
 ghost use Rattle.outside.specs.Causes.{Rose};
 ghost use Rattle.line_geometry.specs.FlatStore.{FlatStore};
@@ -29,7 +29,7 @@ const TORN: u8 = 0xA5;
 /// What a stop came to: how many commit lines were seen, and the number that restart finds.
 #[derive(Debug, Clone, Copy, PartialEq, Eq)]
 pub struct Found {
-    pub seen: u32,
+    pub seen: u64,
     pub number: u64,
 }
 
@@ -40,7 +40,7 @@ pub struct Pair {
     pub torn: Found,
 }
 
-/// Stops the job of a source at each of its writes in turn, each time on a store of `try` in memory of its own, and puts a line
+/// Stops the job of a source at its writes in turn, up to the 256th, each time on a store of `try` in memory of its own, and puts a line
 /// for each stop and one for the run that isn't stopped (docs/FORMATS.md, "Drill"). The disk that is handed in isn't called.
 pub fn drill_source<S: Source, W: Outside>(alloc: Global, source: &mut S, outside: &mut W) -> Status
     ensures read { ReadsBy (given S.Source source.old source.new) result }
@@ -101,7 +101,7 @@ fn put_stops<W: Outside>(
 fn pair_at(alloc: Global, job: &Job, write: u32) -> Result<Option<Pair>, AllocError>
     requires ready { IsReady job.now }
     requires write { 1 ≤ write }
-    ensures { IfOk result (λ pair. MatchOption pair (2 * length (try_order job.now) < write) IsPair) }
+    ensures { IfOk result (λ pair. MatchOption pair (2 * length (try_order job.now) < write) (IsPair job.now)) }
 {
     let Some(old) = found_at(alloc, job, write, Vec::new(alloc))? else {
         return Ok(None);
@@ -123,7 +123,7 @@ fn found_at(
 ) -> Result<Option<Found>, AllocError>
     requires ready { IsReady job.now }
     requires write { 1 ≤ write }
-    ensures { IfOk result (λ found. MatchOption found (2 * length (try_order job.now) < write) IsFound) }
+    ensures { IfOk result (λ found. MatchOption found (2 * length (try_order job.now) < write) (IsFound job.now)) }
 {
     let stop = drill_stop(alloc, job, try_store(alloc)?, write, outcome)?;
     if stop.reached {
@@ -189,7 +189,7 @@ fn put_stop<W: Outside>(
     text.begin(b"stop");
     text.number(u64::from(write));
     text.word(left);
-    text.part(b"seen", u64::from(found.seen));
+    text.part(b"seen", found.seen);
     text.part(b"number", found.number);
     text.end();
     outside.put(text.as_slice())

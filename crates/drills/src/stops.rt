@@ -1,14 +1,12 @@
 // A job that runs on a disk in memory until the disk stops.
-ghost use Rattle.std.specs.Prelude.{◌≡◌, ◌⊎◌, ◌*◌, ◌-◌, ◌<◌, ◌≤◌, ◌^◌, ℕ, true, false, length, min, IfOk, OnOk};
+ghost use Rattle.std.specs.Prelude.{◌≡◌, ◌*◌, ◌≤◌, ℕ, true, length, IfOk};
 ghost use Rattle.outside.specs.Causes.{Rose};
-ghost use Rattle.outside.specs.MemoryDisk.{disk_held, disk_writes, disk_faults};
-ghost use Rattle.outside.specs.MemoryScreen.{screen_printed};
 ghost use Rattle.line_geometry.specs.FlatStore.{FlatStore};
 ghost use Rattle.store_format.specs.Stands.{Stands, stands};
 ghost use Rattle.desk.specs.Seen.{commits_seen};
 ghost use Rattle.job_text.specs.Ready.{IsReady};
 ghost use Rattle.desk.specs.Answers.{order_told};
-ghost use Rattle.drills.specs.Drill.{IsLeft, IsStop, fine_order};
+ghost use Rattle.drills.specs.Drill.{IsLeft, IsStop, IsTold, fine_order};
 ghost use Rattle.call_status.specs.Call.{call};
 ghost use Rattle.call_status.specs.Opening.{IsStanding, StandsAt};
 
@@ -26,7 +24,7 @@ pub struct Stop {
     /// Whether the run came to that write.
     pub reached: bool,
     /// How many commit lines were put whole.
-    pub seen: u32,
+    pub seen: u64,
     /// The commits whose gate write began, in order.
     pub order: Vec<Committed>,
     /// What the disk held at the end, which is one of its crash images.
@@ -76,11 +74,7 @@ fn told(
     screen: &MemoryScreen,
     write: u32,
 ) -> Result<Stop, AllocError>
-    ensures reached { IfOk result (λ stop. stop.reached ≡ false → (disk_faults disk ≡ 0) × (disk_writes disk < write)) }
-    ensures seen { IfOk result (λ stop. stop.seen ≤ commits_seen (screen_printed screen.now)) }
-    ensures order { IfOk result (λ stop. stop.order.items ≡ ended.order.items) }
-    ensures image { IfOk result (λ stop. stop.image.items ≡ disk_held disk) }
-    ensures status { OnOk result ((ended.status ≡ Status.Done) ⊎ (ended.status ≡ Status.DiskFault)) }
+    ensures { IfOk result (IsTold ended disk screen.now write) }
 {
     if disk.starved() || screen.starved() {
         return Err(AllocError);
@@ -88,7 +82,7 @@ fn told(
     match ended.status {
         Status::Done | Status::DiskFault => Ok(Stop {
             reached: disk.faults() > 0 || disk.writes() >= u64::from(write),
-            seen: count(screen.printed()),
+            seen: commits_in(screen.printed()),
             order: ended.order,
             image: disk.into_image(),
         }),
@@ -96,15 +90,8 @@ fn told(
     }
 }
 
-/// How many whole commit lines stand in these bytes, or the most that are counted.
-fn count(printed: &[u8]) -> u32
-    ensures { result ≡ min (commits_seen printed.now) (2 ^ 32 - 1) }
-{
-    u32::try_from(commits_in(printed)).unwrap_or(u32::MAX)
-}
-
 /// How many whole commit lines stand in these bytes.
-fn commits_in(printed: &[u8]) -> usize
+fn commits_in(printed: &[u8]) -> u64
     ensures { result ≡ commits_seen printed.now }
 {
     let mut count = 0;

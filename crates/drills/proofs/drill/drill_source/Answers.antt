@@ -1,15 +1,10 @@
 use Rattle.drills.proofs.Common.{refl, given}
-use Rattle.drills.proofs.DrillLemmas.{drill-rose, drill-same, drilled-text, drilled-unread, none-put}
+use Rattle.drills.proofs.DrillLemmas.{drill-rose, drill-same, drilled-text, drilled-unread}
 use Rattle.drills.proofs.drill.drill_source.Goals as goal
 
 pub returns-in-Err-clause-drilled : goal.returns-in-Err-clause-drilled
 returns-in-Err-clause-drilled g c =
-    let G = g.W.Outside in
-    let before = c.args.outside.now in
-    record {
-      no_order = refl;
-      by_status = drilled-unread G (given g.S.Source c.args.source.now c.job_from.new.source) before c.in-Err.status (none-put G before) c.in-Err.ensures.only;
-    }
+    record { no_order = refl; by_status = drilled-unread g.W.Outside (given g.S.Source c.args.source.now c.job_from.new.source) c.args.outside.now c.in-Err.status c.in-Err.ensures.only }
 
 pub returns-in-Ok-clause-drilled : goal.returns-in-Ok-clause-drilled
 returns-in-Ok-clause-drilled g c =

@@ -1,21 +1,17 @@
-use Rattle.drills.proofs.Common.{◌*◌, ◌≤◌, length, ap, subst, List, ℕ, sym, IsStop, fine_order, try_flat, try_order}
-use Rattle.drills.proofs.DrillLemmas.{stop-found, stop-standing, try-standing, try-stands, unreached}
+use Rattle.drills.proofs.Common.{◌*◌, ◌≤◌, length, ap, refl, subst, List, ℕ, sym, fine_order, try_flat, try_order}
+use Rattle.drills.proofs.DrillLemmas.{stop-fresh, stop-standing, stop-stands, try-standing, try-stands, unreached}
 use Rattle.drills.proofs.drill.found_at.Goals as goal
 
 pub drill_stop-requires-clause-stands : goal.drill_stop-requires-clause-stands
 drill_stop-requires-clause-stands c = try-standing c.in_ok-try_store.field-0.items c.in_ok-try_store.ensures.bytes
 
 pub number_in-requires : goal.number_in-requires
-number_in-requires c =
-    let image = c.in_ok-try_store.field-0.items in
-    stop-standing c.args.job.now image c.in_ok-stop.stop (c.in_ok-stop.ensures.stop 0 try_flat (try-stands image c.in_ok-try_store.ensures.bytes))
+number_in-requires c = stop-standing c.args.job.now c.in_ok-stop.stop (stop-fresh c.args.job.now c.in_ok-try_store.field-0.items c.in_ok-stop.stop c.in_ok-try_store.ensures.bytes c.in_ok-stop.ensures.stop)
 
 pub returns-in_ok-number : goal.returns-in_ok-number
 returns-in_ok-number c =
-    let job = c.args.job.now in
-    let image = c.in_ok-try_store.field-0.items in
-    let is : IsStop job image 0 try_flat c.in_ok-stop.stop = c.in_ok-stop.ensures.stop 0 try_flat (try-stands image c.in_ok-try_store.ensures.bytes) in
-    stop-found job image c.in_ok-stop.stop is c.in_ok-number.number c.in_ok-number.ensures
+    let is = stop-fresh c.args.job.now c.in_ok-try_store.field-0.items c.in_ok-stop.stop c.in_ok-try_store.ensures.bytes c.in_ok-stop.ensures.stop in
+    (c.in_ok-stop.stop, is, refl, c.in_ok-number.ensures is.j is.left (stop-stands c.args.job.now c.in_ok-stop.stop is))
 
 pub returns-else-stop : goal.returns-else-stop
 returns-else-stop c =

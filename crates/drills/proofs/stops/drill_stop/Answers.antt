@@ -1,11 +1,12 @@
-use Rattle.drills.proofs.Common.{◌≡◌, ◌*◌, ◌∙◌, true, ap, refl, rules, length, Some, List, [], ℕ, count_by, disk_held, disk_faults, disk_writes, is_write, FlatStore, Stands, stands, order_told, IsStop, fine_order}
+use Rattle.drills.proofs.Common.{◌≡◌, ◌*◌, ◌∙◌, true, ap, refl, rules, length, Some, List, [], ℕ, count_by, disk_held, disk_faults, disk_writes, is_write, FlatStore, Stands, stands, order_told, IsStop, fine_order, IfOk, IsStoppedRun, IsTold, commits_seen, job_desk, names_of, subst}
+use Rattle.std.proofs.lemmas.Result.{IfOk-weaker}
 use Rattle.outside.specs.MemoryScreen.{screen_printed}
-use Rattle.drills.proofs.StopLemmas.{HasLeft, is-reached, no-rise, one-image, some-rise, stop-is, told-ok, writes-more}
+use Rattle.drills.proofs.StopLemmas.{HasLeft, is-reached, no-rise, one-image, some-rise, stop-is, writes-more}
 use Rattle.drills.proofs.stops.drill_stop.Goals as goal
 
 -- what was left on the disk that was made
 has-left : (c : goal.After-drop-screen-3) (number : ℕ) (store : FlatStore) → stands c.args.image.items ≡ Stands number store
-    → HasLeft c.args.job.now c.args.image.items number store c.in_ok-ended.ended.order.items c.in_ok-ended.ended.status (disk_held c.run_copy.new.outside.disk) (screen_printed c.run_copy.new.outside.screen) (disk_faults c.run_copy.new.outside.disk) (disk_writes c.run_copy.new.outside.disk) c.args.write
+    → HasLeft c.args.job.now c.args.image.items number store c.in_ok-ended.ended c.run_copy.new.outside.disk c.run_copy.new.outside.screen
 has-left c number store stood =
     let made = c.new-disk.result in
     let fused = c.fuse.new.self in
@@ -24,32 +25,24 @@ has-left c number store stood =
     }) in
     record {
       first = left.first (disk_held after.disk) (screen_printed after.screen) refl (ap (λ (bytes : List ℕ). Some bytes) nothing) refl;
-      all = left.all;
-      writes_are = λ done. writes-more (disk_writes outside.disk) (disk_writes after.disk) (2 * length (order_told c.in_ok-ended.ended.order.items)) none (left.writes done);
+      ran = λ unfailed.
+          let (ran, all) = left.ran (disk_held after.disk) (screen_printed after.screen) refl (ap (λ (bytes : List ℕ). Some bytes) nothing) refl unfailed in
+          (subst (λ (bytes : List ℕ). IsStoppedRun (names_of c.args.job.now) c.args.job.now.programs.items c.args.job.now.events.items number (job_desk c.args.job.now bytes store) (order_told c.in_ok-ended.ended.order.items) (commits_seen (screen_printed after.screen))) held ran, all);
+      writes = λ done. writes-more (disk_writes outside.disk) (disk_writes after.disk) (2 * length (order_told c.in_ok-ended.ended.order.items)) none (left.writes done);
       fine = λ done well. left.fine done (no-rise (disk_faults outside.disk) (disk_faults after.disk) calm well) ∙ ap (λ (bytes : List ℕ). fine_order c.args.job.now bytes store) held;
       fault = λ failed. some-rise (disk_faults outside.disk) (disk_faults after.disk) calm (c.in_ok-ended.ensures.disk failed);
     }
 
+-- what is told of the disk and the screen that are left
+told-is : (c : goal.After-drop-screen-3) → IfOk c.told.result (IsTold c.in_ok-ended.ended c.run_copy.new.outside.disk c.run_copy.new.outside.screen c.args.write)
+told-is c = rw c.into_parts-disk.ensures.disk at (rw c.into_parts-disk.ensures.screen at c.told.ensures)
+
 pub returns-clause-stop : goal.returns-clause-stop
 returns-clause-stop c = λ number store stood.
-    let after = c.run_copy.new.outside in
-    let ended = c.in_ok-ended.ended in
-    let told = c.told.ensures in
-    let parts = c.into_parts-disk in
-    let left = has-left c number store stood in
-    told-ok c.args.job.now c.args.image.items number store ended.order.items ended.status (disk_held after.disk) (screen_printed after.screen) (disk_faults after.disk) (disk_writes after.disk) c.args.write
-    (IsStop c.args.job.now c.args.image.items number store) c.told.result (disk_held parts.result.0) (screen_printed parts.result.1) (disk_faults parts.result.0) (disk_writes parts.result.0) ended.order.items
-    told.reached told.seen told.order told.image told.status (ap disk_held parts.ensures.disk) (ap screen_printed parts.ensures.screen) (ap disk_faults parts.ensures.disk) (ap disk_writes parts.ensures.disk) refl
-    (λ stop is well. stop-is c.args.job.now c.args.image.items number store ended.order.items ended.status (disk_held after.disk) (screen_printed after.screen) (disk_faults after.disk) (disk_writes after.disk) c.args.write stop is well left)
+    IfOk-weaker c.told.result _ (IsStop c.args.job.now c.args.image.items number store)
+    (stop-is c.args.job.now c.args.image.items number store c.in_ok-ended.ended c.run_copy.new.outside.disk c.run_copy.new.outside.screen (has-left c number store stood) c.args.write) (told-is c)
 
 pub returns-clause-reached : goal.returns-clause-reached
 returns-clause-reached c = λ number store stood due.
-    let after = c.run_copy.new.outside in
-    let ended = c.in_ok-ended.ended in
-    let told = c.told.ensures in
-    let parts = c.into_parts-disk in
-    let left = has-left c number store stood in
-    told-ok c.args.job.now c.args.image.items number store ended.order.items ended.status (disk_held after.disk) (screen_printed after.screen) (disk_faults after.disk) (disk_writes after.disk) c.args.write
-    (λ stop. stop.reached ≡ true) c.told.result (disk_held parts.result.0) (screen_printed parts.result.1) (disk_faults parts.result.0) (disk_writes parts.result.0) ended.order.items
-    told.reached told.seen told.order told.image told.status (ap disk_held parts.ensures.disk) (ap screen_printed parts.ensures.screen) (ap disk_faults parts.ensures.disk) (ap disk_writes parts.ensures.disk) refl
-    (λ stop is well. is-reached c.args.job.now c.args.image.items number store ended.order.items ended.status (disk_held after.disk) (screen_printed after.screen) (disk_faults after.disk) (disk_writes after.disk) c.args.write stop is well left due)
+    IfOk-weaker c.told.result _ (λ stop. stop.reached ≡ true)
+    (λ stop told. is-reached c.args.job.now c.args.image.items number store c.in_ok-ended.ended c.run_copy.new.outside.disk c.run_copy.new.outside.screen (has-left c number store stood) c.args.write stop told due) (told-is c)
