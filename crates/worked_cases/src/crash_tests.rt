@@ -56,126 +56,59 @@ enum Running {
     FinePage,
 }
 
-/// A disk that stops at a write with some bytes in its range, and what opens then.
-struct Stop {
-    running: Running,
-    write: u32,
-    outcome: (u8, usize),
-    report: &'static str,
-}
+// What is reported of what opens then, by what is in the store.
+const NOT_ADDED: &str =
+    "open 0\nbegin 1 shown\nturn 1 ran 4 page 1 lock 1\ncommit 1 number 1 steps 4 out 00\nend 1\n";
+
+const ADDED: &str =
+    "open 1\nbegin 1 shown\nturn 1 ran 4 page 1 lock 1\ncommit 1 number 2 steps 4 out 05\nend 2\n";
+
+const FILLED_ALONE: &str =
+    "open 1\nbegin 1 shown\nturn 1 ran 5 page 1 lock 1\ncommit 1 number 2 steps 5 out 1c\nend 2\n";
+
+const FILLED_AND_NULL: &str =
+    "open 2\nbegin 1 shown\nturn 1 ran 5 page 1 lock 1\ncommit 1 number 3 steps 5 out 1c\nend 3\n";
+
+const NO_PAGE: &str =
+    "open 0\nbegin 1 shown\nturn 1 ran 8 page 3 lock 3\ncommit 1 number 1 steps 8 out 000000\nend 1\n";
+
+const SECOND_PAGE: &str =
+    "open 1\nbegin 1 shown\nturn 1 ran 8 page 3 lock 3\ncommit 1 number 2 steps 8 out 000700\nend 2\n";
+
+const BOTH_PAGES: &str =
+    "open 2\nbegin 1 shown\nturn 1 ran 8 page 3 lock 3\ncommit 1 number 3 steps 8 out 050700\nend 3\n";
+
+const SECOND_LINE: &str =
+    "open 1\nbegin 1 shown\nturn 1 ran 8 page 1 lock 3\ncommit 1 number 2 steps 8 out 000700\nend 2\n";
+
+const BOTH_LINES: &str =
+    "open 2\nbegin 1 shown\nturn 1 ran 8 page 1 lock 3\ncommit 1 number 3 steps 8 out 050700\nend 3\n";
+
+/// What runs until the disk stops at a write; the byte that this leaves in its range, and how often; and what opens then.
+type Stop = (Running, u32, (u8, usize), &'static str);
 
 const STOPS: [Stop; 18] = [
-    Stop {
-        running: Running::OneAdd,
-        write: 1,
-        outcome: (0xff, 143),
-        report: "open 0\nbegin 1 shown\nturn 1 ran 4 page 1 lock 1\ncommit 1 number 1 steps 4 out 00\nend 1\n",
-    },
-    Stop {
-        running: Running::OneAdd,
-        write: 2,
-        outcome: (0x5a, 1),
-        report: "open 0\nbegin 1 shown\nturn 1 ran 4 page 1 lock 1\ncommit 1 number 1 steps 4 out 00\nend 1\n",
-    },
-    Stop {
-        running: Running::OneAdd,
-        write: 2,
-        outcome: (0xa5, 1),
-        report: "open 1\nbegin 1 shown\nturn 1 ran 4 page 1 lock 1\ncommit 1 number 2 steps 4 out 05\nend 2\n",
-    },
+    (Running::OneAdd, 1, (0xff, 143), NOT_ADDED),
+    (Running::OneAdd, 2, (0x5a, 1), NOT_ADDED),
+    (Running::OneAdd, 2, (0xa5, 1), ADDED),
     // the home line 3, the head of the other bank, and the selector
-    Stop {
-        running: Running::Filled,
-        write: 6,
-        outcome: (0xff, 128),
-        report: "open 1\nbegin 1 shown\nturn 1 ran 5 page 1 lock 1\ncommit 1 number 2 steps 5 out 1c\nend 2\n",
-    },
-    Stop {
-        running: Running::Filled,
-        write: 34,
-        outcome: (0xa5, 9),
-        report: "open 1\nbegin 1 shown\nturn 1 ran 5 page 1 lock 1\ncommit 1 number 2 steps 5 out 1c\nend 2\n",
-    },
-    Stop {
-        running: Running::Filled,
-        write: 35,
-        outcome: (7, 1),
-        report: "open 1\nbegin 1 shown\nturn 1 ran 5 page 1 lock 1\ncommit 1 number 2 steps 5 out 1c\nend 2\n",
-    },
-    Stop {
-        running: Running::Filled,
-        write: 35,
-        outcome: (1, 1),
-        report: "open 1\nbegin 1 shown\nturn 1 ran 5 page 1 lock 1\ncommit 1 number 2 steps 5 out 1c\nend 2\n",
-    },
-    Stop {
-        running: Running::Filled,
-        write: 36,
-        outcome: (0xff, 11),
-        report: "open 1\nbegin 1 shown\nturn 1 ran 5 page 1 lock 1\ncommit 1 number 2 steps 5 out 1c\nend 2\n",
-    },
-    Stop {
-        running: Running::Filled,
-        write: 37,
-        outcome: (0xa5, 1),
-        report: "open 2\nbegin 1 shown\nturn 1 ran 5 page 1 lock 1\ncommit 1 number 3 steps 5 out 1c\nend 3\n",
-    },
+    (Running::Filled, 6, (0xff, 128), FILLED_ALONE),
+    (Running::Filled, 34, (0xa5, 9), FILLED_ALONE),
+    (Running::Filled, 35, (7, 1), FILLED_ALONE),
+    (Running::Filled, 35, (1, 1), FILLED_ALONE),
+    (Running::Filled, 36, (0xff, 11), FILLED_ALONE),
+    (Running::Filled, 37, (0xa5, 1), FILLED_AND_NULL),
     // the body and the gate of the first commit, and those of the second
-    Stop {
-        running: Running::SideBySide,
-        write: 1,
-        outcome: (0xff, 143),
-        report: "open 0\nbegin 1 shown\nturn 1 ran 8 page 3 lock 3\ncommit 1 number 1 steps 8 out 000000\nend 1\n",
-    },
-    Stop {
-        running: Running::SideBySide,
-        write: 2,
-        outcome: (0xa5, 1),
-        report: "open 1\nbegin 1 shown\nturn 1 ran 8 page 3 lock 3\ncommit 1 number 2 steps 8 out 000700\nend 2\n",
-    },
-    Stop {
-        running: Running::SideBySide,
-        write: 3,
-        outcome: (0xff, 143),
-        report: "open 1\nbegin 1 shown\nturn 1 ran 8 page 3 lock 3\ncommit 1 number 2 steps 8 out 000700\nend 2\n",
-    },
-    Stop {
-        running: Running::SideBySide,
-        write: 4,
-        outcome: (0x5a, 1),
-        report: "open 1\nbegin 1 shown\nturn 1 ran 8 page 3 lock 3\ncommit 1 number 2 steps 8 out 000700\nend 2\n",
-    },
-    Stop {
-        running: Running::SideBySide,
-        write: 4,
-        outcome: (0xa5, 1),
-        report: "open 2\nbegin 1 shown\nturn 1 ran 8 page 3 lock 3\ncommit 1 number 3 steps 8 out 050700\nend 3\n",
-    },
+    (Running::SideBySide, 1, (0xff, 143), NO_PAGE),
+    (Running::SideBySide, 2, (0xa5, 1), SECOND_PAGE),
+    (Running::SideBySide, 3, (0xff, 143), SECOND_PAGE),
+    (Running::SideBySide, 4, (0x5a, 1), SECOND_PAGE),
+    (Running::SideBySide, 4, (0xa5, 1), BOTH_PAGES),
     // the gate of the first commit, and the body and the gate of the second
-    Stop {
-        running: Running::FinePage,
-        write: 2,
-        outcome: (0xa5, 1),
-        report: "open 1\nbegin 1 shown\nturn 1 ran 8 page 1 lock 3\ncommit 1 number 2 steps 8 out 000700\nend 2\n",
-    },
-    Stop {
-        running: Running::FinePage,
-        write: 3,
-        outcome: (0xff, 271),
-        report: "open 1\nbegin 1 shown\nturn 1 ran 8 page 1 lock 3\ncommit 1 number 2 steps 8 out 000700\nend 2\n",
-    },
-    Stop {
-        running: Running::FinePage,
-        write: 4,
-        outcome: (0x5a, 1),
-        report: "open 1\nbegin 1 shown\nturn 1 ran 8 page 1 lock 3\ncommit 1 number 2 steps 8 out 000700\nend 2\n",
-    },
-    Stop {
-        running: Running::FinePage,
-        write: 4,
-        outcome: (0xa5, 1),
-        report: "open 2\nbegin 1 shown\nturn 1 ran 8 page 1 lock 3\ncommit 1 number 3 steps 8 out 050700\nend 3\n",
-    },
+    (Running::FinePage, 2, (0xa5, 1), SECOND_LINE),
+    (Running::FinePage, 3, (0xff, 271), SECOND_LINE),
+    (Running::FinePage, 4, (0x5a, 1), SECOND_LINE),
+    (Running::FinePage, 4, (0xa5, 1), BOTH_LINES),
 ];
 
 /// A schedule of nothing, which tells the number that a store opens with.
@@ -340,23 +273,22 @@ fn parts_of(alloc: Global, running: Running) -> Result<(Vec<u8>, &'static str), 
 #[test]
 fn a_disk_that_stopped_opens_as_the_commits_before(rt: HostRuntime) -> Result<(), Fail> {
     let alloc = rt.alloc();
-    for stop in &STOPS {
-        let (held, job) = parts_of(alloc, stop.running)?;
-        let reads = match stop.running {
+    for (running, write, (byte, count), report) in STOPS {
+        let (held, job) = parts_of(alloc, running)?;
+        let reads = match running {
             Running::OneAdd => FIRST,
             Running::Filled => SHOWN,
             Running::SideBySide => PAGES,
             Running::FinePage => LINES,
         };
-        let outcome = vec![in alloc; stop.outcome.0; stop.outcome.1]?;
-        let stopped = run(alloc, held, Some((stop.write, outcome)), job)?;
-        assert_eq!(rt; stopped.status, Status::DiskFault, "write {}", stop.write);
+        let outcome = vec![in alloc; byte; count]?;
+        let stopped = run(alloc, held, Some((write, outcome)), job)?;
+        assert_eq!(rt; stopped.status, Status::DiskFault, "write {write}");
         let opened = run(alloc, stopped.held, None, reads)?;
-        assert_eq!(rt; opened.status, Status::Done, "write {}", stop.write);
+        assert_eq!(rt; opened.status, Status::Done, "write {write}");
         assert!(rt;
-            opened.printed.as_slice() == stop.report.as_bytes(),
-            "write {}",
-            stop.write
+            opened.printed.as_slice() == report.as_bytes(),
+            "write {write}"
         );
     }
     Ok(())
