@@ -1,5 +1,5 @@
 -- What a drill's stops come to, and what is put of them.
-use Rattle.drills.proofs.Common.{◌≡◌, inl, inr, ℕ, zero, suc, ◌+◌, ◌*◌, ◌%◌, ◌<◌, ◌≤◌, Bool, true, false, List, [], ◌∷◌, ◌++◌, length, refl, sym, ◌∙◌, ap, subst, rules, arith, append_assoc, append-nil, length-append, ◌^◌, min, All, Result, Ok, Vec, FlatStore, HasRanges, fresh, Standing, Stands, stands, Job, Ghosts, FewerLater, puts_on, puts_same, times_on, Status, Stop, Committed, length-map, IsStop, Rose, Given, DrilledBy, DrilledTo, IsPair, PutsFirst, PutsStops, PutsWhole, broken, last_line, pair_lines, stop_lines, try_flat, try_order, well, IsStanding}
+use Rattle.drills.proofs.Common.{◌≡◌, inl, inr, ℕ, zero, suc, ◌+◌, ◌*◌, ◌%◌, ◌<◌, ◌≤◌, Bool, true, false, List, [], ◌∷◌, ◌++◌, length, refl, sym, ◌∙◌, ap, subst, rules, arith, append_assoc, append-nil, length-append, ◌^◌, min, All, Result, Ok, Vec, FlatStore, HasRanges, fresh, Standing, Stands, stands, Job, Ghosts, FewerLater, puts_on, puts_same, times_on, Status, Stop, Committed, length-map, IsStop, Rose, Given, DrilledBy, DrilledTo, IsPair, PutsFirst, PutsStops, PutsWhole, last_line, pair_lines, stop_lines, try_flat, try_order, well, IsStanding}
 use Rattle.std.specs.declared.alloc.Global.{Global}
 use Rattle.std.proofs.lemmas.Bool.{cases_lt}
 use Rattle.line_geometry.specs.Legal.{IsInRange, IsLegal}
@@ -68,22 +68,11 @@ stop_lines-append write (first ∷ pairs) pair =
 
 -- what was put so far
 module _ {W : Type 0} (G : Ghosts W) (job : Job) where
-  pub record IsPut (before after : W) (count : ℕ) : Type 0 where
-    pub pairs : List Pair
-    pub many : length pairs ≡ count
-    pub each : All (IsPair job) pairs
-    pub puts : Puts G (stop_lines 1 pairs) before after well
-    pub times : PutsTimes G (2 * length pairs) before after well
+  abbrev pub IsPut : (before after : W) → Result (Unit {0}) Failed → (count : ℕ) → Type 0
+  IsPut before after result count = (put : PutsFirst G job before after result) × (length put.pairs ≡ count)
 
-  pub none-put : (w : W) → IsPut w w 0
-  none-put w = record { pairs = []; many = refl; each = λ k d below. absurd (omega (arith, below)); puts = search rules; times = λ told. omega arith }
-
-  abbrev pub as-first : (before after : W) (count : ℕ) → count ≤ 256 → IsPut before after count → PutsFirst G job before after well
-  as-first before after count few put = record { pairs = put.pairs; stops = record { few = omega (arith, few, put.many); each = put.each }; puts = put.puts; times = put.times }
-
-  -- all that there are
-  pub all-put : (before after : W) (count : ℕ) → count ≤ 256 → min 256 (2 * length (try_order job)) ≤ count → IsPut before after count → PutsStops G job before after (Ok count)
-  all-put before after count few enough put = (as-first before after count few put, put.many, enough)
+  pub none-put : (w : W) → IsPut w w well 0
+  none-put w = (record { pairs = []; stops = record { few = omega arith; each = λ k d below. absurd (omega (arith, below)) }; puts = search rules; times = λ told. omega arith }, refl)
 
   one-pair : (pairs : List Pair) (pair : Pair) → All (IsPair job) pairs → IsPair job pair → All (IsPair job) (pairs ++ pair ∷ [])
   one-pair [] pair each this zero d below = this
@@ -92,35 +81,21 @@ module _ {W : Type 0} (G : Ghosts W) (job : Job) where
   one-pair (first ∷ pairs) pair each this (suc k) d below = one-pair pairs pair (λ k d within. each (suc k) d (omega (arith, within))) this k d (omega (arith, below))
 
   module _ (fewer_later : FewerLater G) where
-    pair-put : {T : Type 0} (before mid after : W) (count : ℕ) (pair : Pair) (result : Result T Failed) (put : IsPut before mid count) → Puts G (pair_lines (count + 1) pair) mid after result → Puts G (stop_lines 1 (put.pairs ++ pair ∷ [])) before after result
-    pair-put before mid after count pair result put puts =
-        puts_same G before after (stop_lines 1 put.pairs ++ pair_lines (1 + length put.pairs) pair) (stop_lines 1 (put.pairs ++ pair ∷ [])) result (sym (stop_lines-append 1 put.pairs pair))
-        (puts_on G fewer_later before mid after (stop_lines 1 put.pairs) (pair_lines (1 + length put.pairs) pair) tt result put.puts
-        (subst (λ (n : ℕ). Puts G (pair_lines n pair) mid after result) (let same : count + 1 ≡ 1 + length put.pairs = omega (arith, put.many) in same) puts))
-
-    -- one pair more
-    pub put-more : (before mid after : W) (count : ℕ) (pair : Pair) → IsPair job pair → Puts G (pair_lines (count + 1) pair) mid after well → PutsTimes G 2 mid after well → IsPut before mid count → IsPut before after (count + 1)
-    put-more before mid after count pair this puts times put =
-        let more : length (put.pairs ++ pair ∷ []) ≡ length put.pairs + 1 = length-append put.pairs (pair ∷ []) in
-        record {
-          pairs = put.pairs ++ pair ∷ [];
-          many = omega (arith, more, put.many);
-          each = one-pair put.pairs pair put.each this;
-          puts = pair-put before mid after count pair well put puts;
-          times = subst (λ (n : ℕ). PutsTimes G n before after well) (let same : 2 * length put.pairs + 2 ≡ 2 * length (put.pairs ++ pair ∷ []) = omega (arith, more) in same)
-              (times_on G before mid after (2 * length put.pairs) 2 (stop_lines 1 put.pairs) tt well put.puts put.times times);
-        }
-
-    -- and one that wasn't put whole
-    pub put-broken : (before mid after : W) (count : ℕ) (pair : Pair) → count < 256 → IsPair job pair → Puts G (pair_lines (count + 1) pair) mid after broken → IsPut before mid count → PutsFirst G job before after broken
-    put-broken before mid after count pair few this puts put =
-        let more : length (put.pairs ++ pair ∷ []) ≡ length put.pairs + 1 = length-append put.pairs (pair ∷ []) in
-        record {
-          pairs = put.pairs ++ pair ∷ [];
-          stops = record { few = omega (arith, more, put.many, few); each = one-pair put.pairs pair put.each this };
-          puts = pair-put before mid after count pair broken put puts;
-          times = tt;
-        }
+    -- one pair more, or a part of its lines
+    pub put-more : (before mid after : W) (count : ℕ) (pair : Pair) (result : Result (Unit {0}) Failed) → count < 256 → IsPair job pair → Puts G (pair_lines (count + 1) pair) mid after result → PutsTimes G 2 mid after result → IsPut before mid well count → IsPut before after result (count + 1)
+    put-more before mid after count pair result few this puts times (put, many) =
+        let more : length (put.pairs ++ pair ∷ []) ≡ length put.pairs + 1 = length-append put.pairs (pair ∷ []) in (
+          record {
+            pairs = put.pairs ++ pair ∷ [];
+            stops = record { few = omega (arith, more, many, few); each = one-pair put.pairs pair put.stops.each this };
+            puts = puts_same G before after (stop_lines 1 put.pairs ++ pair_lines (1 + length put.pairs) pair) (stop_lines 1 (put.pairs ++ pair ∷ [])) result (sym (stop_lines-append 1 put.pairs pair))
+                (puts_on G fewer_later before mid after (stop_lines 1 put.pairs) (pair_lines (1 + length put.pairs) pair) tt result put.puts
+                (subst (λ (n : ℕ). Puts G (pair_lines n pair) mid after result) (let same : count + 1 ≡ 1 + length put.pairs = omega (arith, many) in same) puts));
+            times = subst (λ (n : ℕ). PutsTimes G n before after result) (let same : 2 * length put.pairs + 2 ≡ 2 * length (put.pairs ++ pair ∷ []) = omega (arith, more) in same)
+                (times_on G before mid after (2 * length put.pairs) 2 (stop_lines 1 put.pairs) tt result put.puts put.times times);
+          },
+          omega (arith, more, many),
+        )
 
     -- the last line
     pub whole-put : (before mid after : W) (count number : ℕ) (result : Result (Unit {0}) Failed) → PutsStops G job before mid (Ok count) → number ≡ length (try_order job) → Puts G (last_line count number) mid after result → PutsTimes G 1 mid after result

@@ -301,14 +301,3 @@ one-image made fused disk bytes image at is first calls none images by left =
     let moment : disk_moment disk ≡ 0 = ap disk_moment is ∙ ap (λ (these : List Entry). length these) calls ∙ none in
     let zero_at : at ≡ 0 = omega (arith, moment, by) in
     (images image).0 (subst (λ (n : ℕ). disk_images made n image) zero_at there)
-
-pub writes-more : (before now more : ℕ) → before ≡ 0 → WritesMore (Some before) (Some now) more → more ≤ now
-writes-more before now more none due =
-    let same : due.0 ≡ now = let is = due.1 in cc in
-    omega (arith, same, due.2)
-
-pub no-rise : (before now : ℕ) → before ≡ 0 → now ≡ 0 → Rose before now → ⊥
-no-rise before now none calm rose = omega (arith, none, calm, rose)
-
-pub some-rise : (before now : ℕ) → before ≡ 0 → Rose before now → 1 ≤ now
-some-rise before now none rose = omega (arith, none, rose)

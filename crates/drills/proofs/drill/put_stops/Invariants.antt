@@ -1,6 +1,7 @@
+use Rattle.drills.proofs.Common.{well}
 use Rattle.drills.proofs.DrillLemmas.{IsPut}
 use Rattle.drills.proofs.drill.put_stops.Given as goal
 
 -- the lines of the stops so far are put
 abbrev pub invariant-loop-stops : goal.invariant-loop-stops
-invariant-loop-stops g l = IsPut g.W.Outside l.job l.initial.outside l.outside l.stops
+invariant-loop-stops g l = IsPut g.W.Outside l.job l.initial.outside l.outside well l.stops

@@ -1,7 +1,7 @@
-use Rattle.drills.proofs.Common.{◌≡◌, ◌*◌, ◌∙◌, true, ap, refl, rules, length, Some, List, [], ℕ, count_by, disk_held, disk_faults, disk_writes, is_write, FlatStore, Stands, stands, order_told, IsStop, fine_order, IfOk, IsStoppedRun, IsTold, commits_seen, job_desk, names_of, subst}
+use Rattle.drills.proofs.Common.{◌≡◌, ◌∙◌, true, ap, refl, rules, arith, Some, List, [], ℕ, count_by, disk_held, disk_faults, disk_writes, is_write, FlatStore, Stands, stands, order_told, IsStop, fine_order, IfOk, IsStoppedRun, IsTold, commits_seen, job_desk, names_of, subst}
 use Rattle.std.proofs.lemmas.Result.{IfOk-weaker}
 use Rattle.outside.specs.MemoryScreen.{screen_printed}
-use Rattle.drills.proofs.StopLemmas.{HasLeft, is-reached, no-rise, one-image, some-rise, stop-is, writes-more}
+use Rattle.drills.proofs.StopLemmas.{HasLeft, is-reached, one-image, stop-is}
 use Rattle.drills.proofs.stops.drill_stop.Goals as goal
 
 -- what was left on the disk that was made
@@ -28,9 +28,9 @@ has-left c number store stood =
       ran = λ unfailed.
           let (ran, all) = left.ran (disk_held after.disk) (screen_printed after.screen) refl (ap (λ (bytes : List ℕ). Some bytes) nothing) refl unfailed in
           (subst (λ (bytes : List ℕ). IsStoppedRun (names_of c.args.job.now) c.args.job.now.programs.items c.args.job.now.events.items number (job_desk c.args.job.now bytes store) (order_told c.in_ok-ended.ended.order.items) (commits_seen (screen_printed after.screen))) held ran, all);
-      writes = λ done. writes-more (disk_writes outside.disk) (disk_writes after.disk) (2 * length (order_told c.in_ok-ended.ended.order.items)) none (left.writes done);
-      fine = λ done well. left.fine done (no-rise (disk_faults outside.disk) (disk_faults after.disk) calm well) ∙ ap (λ (bytes : List ℕ). fine_order c.args.job.now bytes store) held;
-      fault = λ failed. some-rise (disk_faults outside.disk) (disk_faults after.disk) calm (c.in_ok-ended.ensures.disk failed);
+      writes = λ done. let (count, same, due) = left.writes done in let is : count ≡ disk_writes after.disk = cc in omega (arith, none, is, due);
+      fine = λ done well. left.fine done (λ rose. omega (arith, calm, well, rose)) ∙ ap (λ (bytes : List ℕ). fine_order c.args.job.now bytes store) held;
+      fault = λ failed. let rose = c.in_ok-ended.ensures.disk failed in omega (arith, calm, rose);
     }
 
 -- what is told of the disk and the screen that are left
