@@ -17,7 +17,7 @@ pub use Rattle.activations.specs.View.{activity_of}
 pub use Rattle.activations.specs.declared.activations.Activations.{Activations}
 pub use Rattle.activations.specs.declared.live.Live.{Live}
 pub use Rattle.activations.specs.declared.tally.Tally.{Tally}
-pub use Rattle.desk.specs.Answers.{HasNumbers, begun_told, counts_told, ending_told, order_told, turn_closes, turn_told}
+pub use Rattle.desk.specs.Answers.{EntersOrder, HasNumbers, begun_told, counts_told, ending_told, order_told, turn_closes, turn_told}
 pub use Rattle.desk.specs.Calls.{CallsStore, FailsCounted, Fixed, StaysShut}
 pub use Rattle.desk.specs.Crash.{Did, IsEitherOf, fine_step, standing_of}
 pub use Rattle.desk.specs.Desk.{Desk, Entry, opened, with_entry}
@@ -60,7 +60,7 @@ pub use Rattle.store_format.specs.Bank.{Faulty, Holds, RecordLine, bank_of}
 pub use Rattle.store_format.specs.Header.{HasRanges, Header, header_of, most_lines, total}
 pub use Rattle.store_format.specs.Stands.{Standing, Stands, chosen, laid, one_more}
 unfoldable pub use Rattle.store_format.specs.Stands.{stands}
-pub use Rattle.supervisor.specs.Causes.{ClosesAsCommit, ClosesInCommit, EntersOrder, HasPlace, IsFailedCommit, IsFull, IsTurnEnd, TellsNumber, answer_of, lacking}
+pub use Rattle.supervisor.specs.Causes.{ClosesAsCommit, ClosesInCommit, HasPlace, IsFailedCommit, IsFull, IsTurnEnd, TellsNumber, answer_of, lacking}
 pub use Rattle.supervisor.specs.Laws.{CyclesWereMet, ShownIsConsistent, ShownIsIsolated, WasMet, WereMet}
 pub use Rattle.supervisor.specs.Session.{IsSound, activity, session_desk, order_of, records_told}
 pub use Rattle.supervisor.specs.Shown.{IsOpenOver, ShowsDesk}
