@@ -1,6 +1,6 @@
 // What no clause says: a bank is opened where there is memory, and the places are those of docs/FORMATS.md.
-use super::image_tests::disk_of;
 use line_geometry::{Directory, PageSize};
+use outside::{Joint, MemoryDisk, MemoryScreen};
 use redo_journal::{Appended, Bank};
 use std::test::Fail;
 use store_format::{Header, Which};
@@ -12,7 +12,10 @@ fn a_bank_takes_a_record(rt: HostRuntime) -> Result<(), Fail> {
     let header = Header::new(directory, 4096);
     assert!(rt; header.directory().page() == PageSize::Two);
     assert!(rt; header.directory().line_count() == 16);
-    let mut disk = disk_of(alloc, header.fresh(alloc)?, Vec::new(alloc));
+    let mut disk = Joint::new(
+        MemoryDisk::new(alloc, header.fresh(alloc)?, Vec::new(alloc)),
+        MemoryScreen::new(alloc, Vec::new(alloc)),
+    );
     let mut bank = Bank::open(alloc, &header, Which::A, &mut disk).expect(&rt, "a bank");
     assert_eq!(rt; bank.number(), 0);
     assert_eq!(rt; bank.room(), Some(30));

@@ -46,6 +46,10 @@ const REFUSALS: [(Call, u64, u64, u32, Kept); 5] = [
     (Call::Sync, 0, 0, 3, Kept::Done),
 ];
 
+fn fresh_store(rt: &impl Abort, alloc: Global) -> Result<Vec<u8>, AllocError> {
+    header_of(rt, PageSize::Two).fresh(alloc)
+}
+
 fn set(image: &mut Vec<u8>, at: usize, byte: u8) {
     if let Some(there) = image.get_mut(at) {
         *there = byte;
@@ -53,7 +57,7 @@ fn set(image: &mut Vec<u8>, at: usize, byte: u8) {
 }
 
 fn committed(rt: &impl Abort, alloc: Global) -> Result<Vec<u8>, AllocError> {
-    let mut image = header_of(rt, PageSize::Two).fresh(alloc)?;
+    let mut image = fresh_store(rt, alloc)?;
     for (at, byte) in RECORD {
         set(&mut image, at, byte);
     }
@@ -114,7 +118,7 @@ fn a_commit_is_kept_or_not(rt: HostRuntime) -> Result<(), Fail> {
     line[3] = 5;
     for (call, from, to, skip, wanted) in REFUSALS {
         let refused = one_refusal(alloc, call, from, to, skip)?;
-        let mut disk = disk_of(alloc, header_of(&rt, PageSize::Two).fresh(alloc)?, refused);
+        let mut disk = disk_of(alloc, fresh_store(&rt, alloc)?, refused);
         let mut store = Durable::open(alloc, &mut disk).expect(&rt, "a store");
         assert!(rt; store.header().directory().page() == PageSize::Two);
         assert!(rt; store.header().directory().line_count() == 96);
