@@ -64,11 +64,10 @@ fn committed(rt: &impl Abort, alloc: Global) -> Result<Vec<u8>, AllocError> {
     Ok(image)
 }
 
-pub(super) fn disk_of(
-    alloc: Global,
-    image: Vec<u8>,
-    refused: Vec<Refusal>,
-) -> Joint<MemoryDisk, MemoryScreen> {
+// A disk and a screen in memory.
+pub(super) type Memory = Joint<MemoryDisk, MemoryScreen>;
+
+pub(super) fn disk_of(alloc: Global, image: Vec<u8>, refused: Vec<Refusal>) -> Memory {
     Joint::new(
         MemoryDisk::new(alloc, image, refused),
         MemoryScreen::new(alloc, Vec::new(alloc)),
@@ -111,32 +110,49 @@ pub(super) fn one_refusal(
     ]?)
 }
 
+// How a commit of line 0, with the word 5 in front, ends on the store of 96 lines that a disk holds.
+pub(super) fn commit_first(rt: &impl Abort, alloc: Global, disk: &mut Memory) -> Kept {
+    let mut store = Durable::open(alloc, disk).expect(rt, "a store");
+    let mut line = [0; 256];
+    line[3] = 5;
+    let width = store.header().line_bytes();
+    assert!(rt; width <= 256);
+    assert!(rt; store.header().directory().line_count() == 96);
+    assert!(rt; store.header().bank_bytes() == 65_536);
+    store.record_start();
+    store.record_line(0, &line[..width]);
+    let kept = store.commit(disk);
+    assert!(rt; kept != Kept::Done || store.number() == 1);
+    kept
+}
+
+// Whether an image is the store with that commit, and shows it.
+fn shows_first(rt: &impl Abort, alloc: Global, image: Vec<u8>) -> Result<(), AllocError> {
+    let wanted = committed(rt, alloc)?;
+    assert!(rt; image.as_slice() == wanted.as_slice());
+    let mut disk = disk_of(alloc, image, Vec::new(alloc));
+    let store = Durable::open(alloc, &mut disk).expect(rt, "a store");
+    assert!(rt; store.header().directory().page() == PageSize::Two);
+    assert!(rt; store.header().directory().pages() == 6);
+    let mut page = [0; 2048];
+    store
+        .read_page(&mut disk, 0, &mut page)
+        .expect(rt, "a page");
+    assert!(rt; page[..4] == [0, 0, 0, 5]);
+    Ok(())
+}
+
 #[test]
 fn a_commit_is_kept_or_not(rt: HostRuntime) -> Result<(), Fail> {
     let alloc = rt.alloc();
-    let mut line = [0; 128];
-    line[3] = 5;
     for (call, from, to, skip, wanted) in REFUSALS {
         let refused = one_refusal(alloc, call, from, to, skip)?;
         let mut disk = disk_of(alloc, fresh_store(&rt, alloc)?, refused);
-        let mut store = Durable::open(alloc, &mut disk).expect(&rt, "a store");
-        assert!(rt; store.header().directory().page() == PageSize::Two);
-        assert!(rt; store.header().directory().line_count() == 96);
-        assert!(rt; store.header().bank_bytes() == 65_536);
-        store.record_start();
-        store.record_line(0, &line);
-        let kept = store.commit(&mut disk);
+        let kept = commit_first(&rt, alloc, &mut disk);
         assert_eq!(rt; kept, wanted);
         if kept == Kept::Done {
-            assert_eq!(rt; store.number(), 1);
-            let mut page = [0; 2048];
-            assert!(rt; store.header().directory().pages() == 6);
-            store
-                .read_page(&mut disk, 0, &mut page)
-                .expect(&rt, "a page");
-            assert_eq!(rt; &page[..4], [0, 0, 0, 5].as_slice());
             let (disk, _) = disk.into_parts();
-            assert_eq!(rt; disk.bytes(), committed(&rt, alloc)?.as_slice());
+            shows_first(&rt, alloc, disk.into_image())?;
         }
     }
     Ok(())
@@ -218,6 +234,30 @@ const FAULTS: [(Call, u64, u64, u32, Kept, u64); 10] = [
     (Call::Sync, 0, 0, 4, Kept::Doubt, 2),
 ];
 
+// The small store with one record of 31 lines and an empty one behind it, for which a checkpoint made room.
+fn moved(rt: &impl Abort, alloc: Global) -> Result<Vec<u8>, AllocError> {
+    let mut disk = disk_of(alloc, filled(rt, alloc)?, Vec::new(alloc));
+    let mut store = Durable::open(alloc, &mut disk).expect(rt, "a store");
+    store.record_start();
+    assert!(rt; store.commit(&mut disk) == Kept::Done);
+    assert!(rt; store.number() == 2);
+    let (disk, _) = disk.into_parts();
+    Ok(disk.into_image())
+}
+
+#[test]
+fn crashes_of_a_checkpoint_stand(rt: HostRuntime) -> Result<(), Fail> {
+    let alloc = rt.alloc();
+    for (changes, number) in CRASHES {
+        let mut image = filled(&rt, alloc)?;
+        for change in changes {
+            changed(&mut image, *change)?;
+        }
+        assert_eq!(rt; number_of(alloc, image), Ok(number));
+    }
+    Ok(())
+}
+
 #[test]
 fn a_commit_makes_its_own_room(rt: HostRuntime) -> Result<(), Fail> {
     let alloc = rt.alloc();
@@ -226,25 +266,14 @@ fn a_commit_makes_its_own_room(rt: HostRuntime) -> Result<(), Fail> {
         set(&mut wanted, at, byte);
     }
     set_entries(&mut wanted, 275, 31, 128);
-    assert_eq!(rt; filled(&rt, alloc)?.as_slice(), wanted.as_slice());
-    for (changes, number) in CRASHES {
-        let mut image = filled(&rt, alloc)?;
-        for change in changes {
-            changed(&mut image, *change)?;
-        }
-        assert_eq!(rt; number_of(alloc, image), Ok(number));
-    }
-    let mut disk = disk_of(alloc, filled(&rt, alloc)?, Vec::new(alloc));
-    let mut store = Durable::open(alloc, &mut disk).expect(&rt, "a store");
-    store.record_start();
-    assert_eq!(rt; store.commit(&mut disk), Kept::Done);
-    assert_eq!(rt; store.number(), 2);
+    let found = filled(&rt, alloc)?;
+    assert!(rt; found.as_slice() == wanted.as_slice());
     for (at, byte) in [(128, 1), (4375, 1), (4376, 0xa5), (4386, 2)] {
         set(&mut wanted, at, byte);
     }
     set_lines(&mut wanted, 8480, 31, 128);
-    let (disk, _) = disk.into_parts();
-    assert_eq!(rt; disk.bytes(), wanted.as_slice());
+    let found = moved(&rt, alloc)?;
+    assert!(rt; found.as_slice() == wanted.as_slice());
     set(&mut wanted, 4376, 0);
     assert_eq!(rt; number_of(alloc, wanted), Ok(1));
     Ok(())
@@ -298,6 +327,21 @@ fn first_page(rt: &impl Abort, alloc: Global, image: Vec<u8>) -> [u8; 4096] {
     page
 }
 
+// That store with one record more, of one line, for which a checkpoint made room.
+fn wide_moved(rt: &impl Abort, alloc: Global) -> Result<Vec<u8>, AllocError> {
+    let mut disk = disk_of(alloc, wide_filled(rt, alloc)?, Vec::new(alloc));
+    let mut store = Durable::open(alloc, &mut disk).expect(rt, "a store");
+    assert!(rt; store.header().directory().fine() == 2);
+    assert!(rt; store.header().directory().page() == PageSize::Four);
+    assert!(rt; store.header().directory().line_count() == 32);
+    assert!(rt; store.header().bank_bytes() == 4096);
+    begin_lines(&mut store, 1);
+    assert!(rt; store.commit(&mut disk) == Kept::Done);
+    assert!(rt; store.number() == 2);
+    let (disk, _) = disk.into_parts();
+    Ok(disk.into_image())
+}
+
 #[test]
 fn a_store_of_version_two_makes_its_own_room(rt: HostRuntime) -> Result<(), Fail> {
     let alloc = rt.alloc();
@@ -306,25 +350,17 @@ fn a_store_of_version_two_makes_its_own_room(rt: HostRuntime) -> Result<(), Fail
         set(&mut wanted, at, byte);
     }
     set_entries(&mut wanted, 275, 15, 256);
-    assert_eq!(rt; wide_filled(&rt, alloc)?.as_slice(), wanted.as_slice());
-    let page = first_page(&rt, alloc, wide_filled(&rt, alloc)?);
-    assert_eq!(rt; &page[256..260], [0, 0, 0, 14].as_slice());
-    let mut disk = disk_of(alloc, wide_filled(&rt, alloc)?, Vec::new(alloc));
-    let mut store = Durable::open(alloc, &mut disk).expect(&rt, "a store");
-    assert_eq!(rt; store.header().directory().fine(), 2);
-    assert!(rt; store.header().directory().page() == PageSize::Four);
-    assert!(rt; store.header().directory().line_count() == 32);
-    assert!(rt; store.header().bank_bytes() == 4096);
-    begin_lines(&mut store, 1);
-    assert_eq!(rt; store.commit(&mut disk), Kept::Done);
-    assert_eq!(rt; store.number(), 2);
+    let found = wide_filled(&rt, alloc)?;
+    assert!(rt; found.as_slice() == wanted.as_slice());
+    let page = first_page(&rt, alloc, found);
+    assert!(rt; page[256..260] == [0, 0, 0, 14]);
     for (at, byte) in [(128, 1), (4367, 1), (4368, 0xa5), (4370, 1), (4378, 2)] {
         set(&mut wanted, at, byte);
     }
     set_entries(&mut wanted, 4379, 1, 256);
     set_lines(&mut wanted, 8464, 15, 256);
-    let (disk, _) = disk.into_parts();
-    assert_eq!(rt; disk.bytes(), wanted.as_slice());
+    let found = wide_moved(&rt, alloc)?;
+    assert!(rt; found.as_slice() == wanted.as_slice());
     set(&mut wanted, 4368, 0);
     assert_eq!(rt; number_of(alloc, wanted), Ok(1));
     Ok(())

@@ -3,7 +3,7 @@ ghost use Rattle.std.specs.Prelude.{◌<◌, ◌^◌, length};
 ghost use Rattle.standby.specs.Text.{IsShip};
 
 use super::header_tests::header_of;
-use super::image_tests::disk_of;
+use super::image_tests::{commit_first, disk_of};
 use line_geometry::PageSize;
 use redo_journal::Kept;
 use restart::Durable;
@@ -19,16 +19,7 @@ const SIZES: [(PageSize, usize); 2] = [(PageSize::Two, 128), (PageSize::Four, 25
 fn first(rt: &impl Abort, alloc: Global, page: PageSize) -> Result<Vec<u8>, AllocError> {
     let image = header_of(rt, page).fresh(alloc)?;
     let mut outside = disk_of(alloc, image, Vec::new(alloc));
-    let mut store = Durable::open(alloc, &mut outside).expect(rt, "a store");
-    let mut line = [0; 256];
-    line[3] = 5;
-    let width = store.header().line_bytes();
-    assert!(rt; width <= 256);
-    assert!(rt; store.header().directory().line_count() == 96);
-    assert!(rt; store.header().bank_bytes() == 65_536);
-    store.record_start();
-    store.record_line(0, &line[..width]);
-    assert_eq!(rt; store.commit(&mut outside), Kept::Done);
+    assert!(rt; commit_first(rt, alloc, &mut outside) == Kept::Done);
     let (disk, _screen) = outside.into_parts();
     Ok(disk.into_image())
 }
