@@ -1,9 +1,10 @@
 -- The lines of a trace are those that the agreement law asks for.
 use Rattle.touch_trace.proofs.Common.{◌≡◌, ℕ, zero, suc, ◌+◌, ◌<◌, ◌||◌, Bool, true, false, List, [], ◌∷◌, ◌++◌, map, Some, refl, sym, ◌∙◌, ap, arith, map-append, FlatStore, Lines, both, Plain, after, touched_next, touched_within, Outcome, On, Commit, Check, row, Activation, if_commit, Touch, touch_at, touches, touches_of_step}
+use Rattle.std.proofs.lemmas.Bool.{true≢false}
 use Rattle.std.proofs.lemmas.Option.{same_Some, option_and_then_some, none-some}
 use Rattle.lock_rules.specs.Sets.{has}
 use Rattle.lock_rules.proofs.Sets.{has-append}
-use Rattle.flat_machine.specs.Agreement.{AgreeOn, SameWay, all_of}
+use Rattle.flat_machine.specs.Agreement.{AgreeOn, DoesTheSame, SameWay, all_of, line_in}
 use Rattle.flat_machine.proofs.Agreement.{agreement-enough}
 use Rattle.touch_trace.specs.Laws.{TraceIsEnough, lines_touched}
 use Rattle.touch_trace.proofs.StepLemmas.{touches_more}
@@ -85,6 +86,43 @@ also_commits (On next) same = absurd same
 also_commits Commit same = refl
 also_commits (Check code) same = absurd same
 
+or_last : (a b : Bool) → b ≡ true → (a || b) ≡ true
+or_last true b is = refl
+or_last false b is = is
+
+no_last : (a b : Bool) → (a || b) ≡ false → b ≡ false
+no_last true b is = absurd (true≢false is)
+no_last false b is = is
+
+no_first : (a b : Bool) → (a || b) ≡ false → a ≡ false
+no_first true b is = absurd (true≢false is)
+no_first false b is = refl
+
+-- the stores agree in the end on each line of the trace: one that a row wrote, and one that none did, which is as it was
+agree_at_line : (activation : Activation) (store other : FlatStore) (n : ℕ) (reached : Plain) (bytes : List ℕ)
+    → DoesTheSame activation.program activation.args store other n reached bytes
+    → AgreeOn store.directory (lines_touched (touches activation store (suc n))) store.bytes other.bytes
+    → (line : ℕ) → has (lines_touched (touches activation store (suc n))) line ≡ true
+    → (is_written : Bool) → has (touched_within activation.program activation.args store n).writes line ≡ is_written
+    → line_in store.directory reached.store line ≡ line_in store.directory bytes line
+agree_at_line activation store other n reached bytes same agree line inside true is =
+    let within = touched_within activation.program activation.args store n in
+    same.agrees line (has-append within.reads within.writes line ∙ or_last (has within.reads line) (has within.writes line) is)
+agree_at_line activation store other n reached bytes same agree line inside false is =
+    sym (same.kept line is) ∙ agree line inside ∙ same.kept_on_other line is
+
+-- a line that isn't in the trace was written by no row
+not_written : (activation : Activation) (store : FlatStore) (n line : ℕ)
+    → has (lines_touched (touches activation store (suc n))) line ≡ false
+    → has (touched_within activation.program activation.args store n).writes line ≡ false
+not_written activation store n line outside =
+    let within = touched_within activation.program activation.args store n in
+    no_last (has within.reads line) (has within.writes line)
+    (sym (has-append within.reads within.writes line)
+    ∙ sym (in_trace activation store n line)
+    ∙ no_first (has (lines_touched (touches activation store n)) line) (has (all_of (touched_next activation.program activation.args store n)) line)
+    (sym (in_more activation store n line) ∙ outside))
+
 pub trace-enough : TraceIsEnough
 trace-enough activation zero store other state whole whole_other one commits agree = absurd (none-some state commits)
 trace-enough activation (suc n) store other state whole whole_other one commits agree =
@@ -97,4 +135,6 @@ trace-enough activation (suc n) store other state whole whole_other one commits 
       bytes,
       rw (same.state_on_other, last) (ap (λ (s : Plain). Some (record s { store = bytes })) ends.1),
       touches_alike activation store other (suc n) (λ k below. same.touches k (omega arith)),
+      (λ line inside. ap (λ (s : Plain). line_in store.directory s.store line) (sym ends.1) ∙ agree_at_line activation store other n reached bytes same agree line inside (has (touched_within activation.program activation.args store n).writes line) refl),
+      (λ line outside. same.kept_on_other line (not_written activation store n line outside)),
     ))
