@@ -18,6 +18,10 @@ pub record IsEntry (job : Job) (before : List Told) (place : ℕ) (entry : Entry
   pub steps : entry.steps ≡ min (steps_allowed job (place + 1)) (2 ^ 64 - 1)
   pub committed : IsTrue entry.committed ↔ Contains (map (λ earlier. earlier.activation) before) (place + 1)
 
+-- the entry of the activation with a number
+abbrev pub IsEntryOf : Job → List Told → ℕ → Entry → Type 0
+IsEntryOf job before activation entry = (place : ℕ) × (place + 1 ≡ activation) × IsEntry job before place entry
+
 -- each activation of a job has its entry, in the order of their numbers, and there are no others
 abbrev pub IsIndex : Job → List Told → List Entry → Type 0
 IsIndex job before entries =

@@ -5,7 +5,7 @@ ghost use Rattle.job_text.specs.declared.job.Job.{Job};
 ghost use Rattle.serial_audit.specs.declared.auditing.KeptStore.{KeptStore};
 ghost use Rattle.serial_audit.specs.Audit.{AreSound, IsFirstUnsound, IsVerdict, Told, report_told};
 ghost use Rattle.serial_audit.specs.Commit.{told_of};
-ghost use Rattle.serial_audit.specs.Index.{activation_in};
+ghost use Rattle.serial_audit.specs.Index.{IsEntryOf, activation_in};
 ghost use Rattle.serial_audit.specs.Progress.{IsTaken, MayFollow, Stands};
 
 use super::index::{Entry, index_of, mark, place_among};
@@ -171,7 +171,7 @@ impl<'j> Progress<'j> {
     pub fn entry_for(&self, commit: &Commit) -> Option<Entry<'j>>
         ensures { (job : Job) (opening : KeptStore) (before : List Told) → Stands job opening before self.now
             → MatchOption result ((activation : Activation) → ¬ (MayFollow job opening before (told_of commit.now) activation))
-            (λ entry. MayFollow job opening before (told_of commit.now) (activation_in entry)) }
+            (λ entry. MayFollow job opening before (told_of commit.now) (activation_in entry) × IsEntryOf job before commit.now.activation entry) }
     {
         let place = match place_among(self.entries.len(), commit.activation) {
             Some(place) => place,

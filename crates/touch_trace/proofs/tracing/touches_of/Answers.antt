@@ -8,7 +8,7 @@ returns-then-eq c = λ job opening before same stands.
     let traced = rw c.in-Some-2.is at c.in_ok-state.ensures in
     let prints : c.args.commit.now.out.now ≡ c.in-Some-2.state.out = search rules in
     traced_sound job opening before (told_of c.args.commit.now) (activation_in c.in-Some.entry) c.args.progress c.args.directory.now
-    c.in-Some-2.state c.in-Some-2.touches.items same stands (c.in-Some.ensures job opening before stands) traced prints
+    c.in-Some-2.state c.in-Some-2.touches.items same stands (c.in-Some.ensures job opening before stands).0 traced prints
 
 pub returns-in-None : goal.returns-in-None
 returns-in-None c = λ job opening before same stands sound.

@@ -1,6 +1,6 @@
 use Rattle.serial_audit.proofs.Common.{◌≡◌, ◌<◌, ◌^◌, false, arith, rules, told_of}
 use Rattle.serial_audit.proofs.BegunLemmas.{got}
-use Rattle.serial_audit.proofs.IndexLemmas.{none_begun}
+use Rattle.serial_audit.proofs.IndexLemmas.{entry_at, none_begun}
 use Rattle.serial_audit.proofs.VerdictLemmas.{follows_so, may_follow}
 use Rattle.serial_audit.proofs.auditing.Progress.entry_for.Goals as goal
 use Rattle.serial_audit.proofs.auditing.Progress.entry_for.Goals.{else-commit-self-via-then-commit-self+then-not-entry+else-commit-entry, else-commit-self-via-then-commit-self+else-not-entry, else-commit-self-via-else-commit-self}
@@ -15,9 +15,11 @@ returns-then-commit-entry c = λ job opening before stands.
     let inside = rw (c.len.ensures, c.args.self.now.entries.ok.0) at c.in-Some.ensures.0 in
     let entry = c.index-entry.result.now in
     let found = got c.args.self.now.entries.items c.in-Some.place entry inside c.index-entry.ensures in
-    let open_yet : entry.committed ≡ false = search rules in
-    may_follow job opening before (told_of c.args.commit.now) c.args.self.now c.in-Some.place entry stands found c.in-Some.ensures.1
-    c.if-commit-self.true open_yet c.if-commit-entry.true
+    let open_yet : entry.committed ≡ false = search rules in (
+      may_follow job opening before (told_of c.args.commit.now) c.args.self.now c.in-Some.place entry stands found c.in-Some.ensures.1
+          c.if-commit-self.true open_yet c.if-commit-entry.true,
+      (c.in-Some.place, c.in-Some.ensures.1, entry_at job before c.args.self.now.entries.items c.in-Some.place entry stands.index found),
+    )
 
 pub returns-else-commit-self : goal.returns-else-commit-self
 returns-else-commit-self c = λ job opening before stands activation follows.
