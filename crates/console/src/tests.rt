@@ -1,5 +1,5 @@
-//! Calls by their words, with every part in memory: a store that is made, run on, shown and renewed, also where a part fails; the
-//! expected bytes are worked out by hand. What the other words do is shown on the program (checks/run).
+//! Calls by their words, with every part in memory: a store that is made, run on and shown, also where a part fails; the expected
+//! bytes are worked out by hand. What the other words do is shown on the program (checks/run).
 use super::*;
 use outside::{Call, Joint, MemoryDisk, MemoryScreen, MemorySource, Refusal};
 use std::alloc::{AllocError, Global};
@@ -152,95 +152,6 @@ const STEPS: [Step; 12] = [
     },
 ];
 
-/// A renewal of a store, or of all of it but its last byte, on an empty disk or one that isn't, and what it comes to.
-#[derive(Clone, Copy)]
-struct Renewal {
-    cut: bool,
-    empty: bool,
-    refusal: Option<Call>,
-    status: Status,
-    printed: &'static str,
-}
-
-/// Of an old store with four pages.
-const RENEWALS: [Renewal; 4] = [
-    Renewal {
-        cut: true,
-        empty: true,
-        refusal: None,
-        status: Status::Store(16_671),
-        printed: "",
-    },
-    Renewal {
-        cut: false,
-        empty: false,
-        refusal: None,
-        status: Status::Exists,
-        printed: "",
-    },
-    Renewal {
-        cut: false,
-        empty: true,
-        refusal: Some(Call::Sync),
-        status: Status::DiskFault,
-        printed: "",
-    },
-    Renewal {
-        cut: false,
-        empty: true,
-        refusal: None,
-        status: Status::Done,
-        printed: "renew 16656 at 3\n",
-    },
-];
-
-/// Renews a store by each of these cases, and leaves the last one's bytes.
-fn renew(
-    rt: &impl Abort,
-    alloc: Global,
-    old: &Vec<u8>,
-    cases: &[Renewal],
-) -> Result<Vec<u8>, Fail> {
-    let mut held = Vec::new(alloc);
-    for case in cases {
-        let mut bytes = old.clone()?;
-        if case.cut {
-            bytes.pop();
-        }
-        let source = MemorySource::new(bytes, Vec::new(alloc));
-        let mut refusals = Vec::new(alloc);
-        if let Some(call) = case.refusal {
-            refusals.push(Refusal {
-                call,
-                from: 0,
-                to: 0,
-                skip: 0,
-            })?;
-        }
-        let there = if case.empty {
-            Vec::new(alloc)
-        } else {
-            old.clone()?
-        };
-        let disk = MemoryDisk::new(alloc, there, refusals);
-        let left = call(
-            alloc,
-            &["renew", "t", "4096"],
-            source,
-            disk,
-            Vec::new(alloc),
-        )?;
-        assert_eq!(rt; left.status, case.status);
-        assert!(rt;
-            left.printed.as_slice() == case.printed.as_bytes(),
-            "{}",
-            case.printed
-        );
-        held = left.held;
-    }
-    Ok(held)
-}
-
 /// Takes the steps one after another, and leaves the kept disk's bytes.
 fn walk(rt: &impl Abort, alloc: Global, steps: &[Step]) -> Result<Vec<u8>, Fail> {
     let mut held = Vec::new(alloc);
@@ -284,7 +195,5 @@ fn walk(rt: &impl Abort, alloc: Global, steps: &[Step]) -> Result<Vec<u8>, Fail>
 fn a_store_is_made_run_on_and_shown(rt: HostRuntime) -> Result<(), Fail> {
     let held = walk(&rt, rt.alloc(), &STEPS)?;
     assert_eq!(rt; held.len(), 16_672);
-    let renewed = renew(&rt, rt.alloc(), &held, &RENEWALS)?;
-    assert_eq!(rt; renewed.len(), 16_656);
     Ok(())
 }

@@ -85,7 +85,7 @@ fn images_stand_or_are_told_where_not(rt: HostRuntime) -> Result<(), Fail> {
     for (changes, wanted) in IMAGES {
         let mut image = committed(&rt, alloc)?;
         for change in changes {
-            changed(&mut image, *change)?;
+            changed(&mut image, *change);
         }
         assert_eq!(rt; number_of(alloc, image), wanted);
     }
@@ -93,7 +93,7 @@ fn images_stand_or_are_told_where_not(rt: HostRuntime) -> Result<(), Fail> {
 }
 
 // One call that is refused.
-pub(super) fn one_refusal(
+fn one_refusal(
     alloc: Global,
     call: Call,
     from: u64,
@@ -251,7 +251,7 @@ fn crashes_of_a_checkpoint_stand(rt: HostRuntime) -> Result<(), Fail> {
     for (changes, number) in CRASHES {
         let mut image = filled(&rt, alloc)?;
         for change in changes {
-            changed(&mut image, *change)?;
+            changed(&mut image, *change);
         }
         assert_eq!(rt; number_of(alloc, image), Ok(number));
     }
