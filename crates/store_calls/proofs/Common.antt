@@ -33,6 +33,6 @@ pub use Rattle.store_format.specs.Header.{Header, fresh, number_at, page_of, tot
 pub use Rattle.store_format.specs.Stands.{Damaged, NotAStore, Standing, Stands}
 unfoldable pub use Rattle.store_format.specs.Stands.{stands}
 pub use Rattle.store_calls.specs.New.{IsNoEmpty, IsOfWriting, IsStored, IsTornBy, IsWrittenWhole, LeavesTorn, Written, WrittenBy, new_line}
-pub use Rattle.store_calls.specs.Renewed.{HasOne, IsRenewed, Renewed, is_version_two, renew_line, renewed_header, renewed_image, widened, widened_bytes, widened_segments}
+pub use Rattle.store_calls.specs.Renewed.{HasOne, IsRenewed, Renewed, RenewedBy, is_version_two, renew_line, renewed_header, renewed_image, widened, widened_bytes, widened_segments}
 pub use Rattle.store_calls.specs.Show.{AreRead, HasRange, HasRead, IsInside, PutsBytes, PutsDone, RangeShown, ShownBy, StopsBy, bytes_in, rows_of}
 pub use Rattle.store_calls.specs.declared.show.Range.{Range}

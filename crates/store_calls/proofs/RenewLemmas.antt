@@ -1,5 +1,5 @@
 -- A store of version 2 with what a store of version 1 has.
-use Rattle.store_calls.proofs.Common.{◌≡◌, inl, inr, ℕ, suc, ◌+◌, ◌*◌, ◌/◌, ◌%◌, ◌-◌, ◌^◌, ◌<◌, ◌≤◌, true, false, List, [], ◌∷◌, ◌++◌, length, map, take, take-suc, get_or, drop, replicate, true≢false, refl, sym, ◌∙◌, ap, subst, arith, All, sum_by, cases_eq, length-append, length-drop, length-replicate, length-map, length-take, map-append, pow_pos, Layout, FlatStore, IsInRange, IsLegal, bytes_of, Two, number_at, page_of, Stands, stands, Ghosts, flat_of, KeptStore, Given, call, Status, IsNoEmpty, IsOfWriting, Written, HasOne, IsRenewed, Renewed, is_version_two, renew_line, renewed_header, renewed_image, widened, widened_bytes, widened_segments}
+use Rattle.store_calls.proofs.Common.{◌≡◌, inl, inr, ℕ, suc, ◌+◌, ◌*◌, ◌/◌, ◌%◌, ◌^◌, ◌<◌, ◌≤◌, false, List, [], ◌∷◌, ◌++◌, length, map, take, take-suc, get_or, drop, replicate, true≢false, refl, sym, ◌∙◌, ap, subst, arith, All, sum_by, cases_eq, length-append, length-drop, length-replicate, length-map, length-take, map-append, pow_pos, Layout, FlatStore, IsInRange, IsLegal, bytes_of, Two, number_at, page_of, Stands, stands, Ghosts, flat_of, KeptStore, Given, call, Status, IsNoEmpty, IsOfWriting, Written, HasOne, IsRenewed, Renewed, RenewedBy, is_version_two, renew_line, renewed_header, renewed_image, widened, widened_bytes, widened_segments}
 use Rattle.std.specs.List.Sorted.{IsStrictlyIncreasing}
 use Rattle.std.proofs.lemmas.List.Sums.{sum_by-cons}
 use Rattle.std.proofs.lemmas.List.Elements.{All-nil, All-cons, All-head, All-tail}
@@ -90,7 +90,7 @@ stood_one text number store plain is =
     one_left n least most other = omega (arith, least, most, other)
 
 -- an old store with an image that was written, or couldn't be
-module _ {W : Type 0} (G : Ghosts W) (bank : ℕ) (given : Given) (before after : W) (old : KeptStore) (has : HasOne given old) (least : 4096 ≤ bank) (most : bank ≤ 131072) where
+module _ {W : Type 0} (G : Ghosts W) (bank : ℕ) (given : Given) (before after : W) (read : given.faults_now ≡ given.faults) (old : KeptStore) (has : HasOne given old) (least : 4096 ≤ bank) (most : bank ≤ 131072) where
   renewed_from : (now : Status) → Written G (renewed_image bank old.number (flat_of old)) (renew_line (length (renewed_image bank old.number (flat_of old))) old.number) (call before after [] now) → IsRenewed G bank given (call before after [] now)
   renewed_from now written = record {
     text = has.text;
@@ -102,15 +102,19 @@ module _ {W : Type 0} (G : Ghosts W) (bank : ℕ) (given : Given) (before after 
     written = written;
   }
 
+  -- what it did is what writing did, where the status is one of writing
+  renewed_so : (now : Status) → Written G (renewed_image bank old.number (flat_of old)) (renew_line (length (renewed_image bank old.number (flat_of old))) old.number) (call before after [] now) → RenewedBy G bank given (call before after [] now) now → Renewed G bank given (call before after [] now)
+  renewed_so now written by = record { no_order = refl; calm = written.calm; source_calm = λ other. read; by_status = by }
+
   pub renewed_by_writing : (now : Status) → IsOfWriting now → Written G (renewed_image bank old.number (flat_of old)) (renew_line (length (renewed_image bank old.number (flat_of old))) old.number) (call before after [] now)
       → Renewed G bank given (call before after [] now)
-  renewed_by_writing status.Done of written = record { no_order = refl; by_status = renewed_from status.Done written }
-  renewed_by_writing status.PutFault of written = record { no_order = refl; by_status = renewed_from status.PutFault written }
-  renewed_by_writing status.DiskFault of written = record { no_order = refl; by_status = renewed_from status.DiskFault written }
+  renewed_by_writing status.Done of written = renewed_so status.Done written (renewed_from status.Done written)
+  renewed_by_writing status.PutFault of written = renewed_so status.PutFault written (renewed_from status.PutFault written)
+  renewed_by_writing status.DiskFault of written = renewed_so status.DiskFault written (renewed_from status.DiskFault written)
   renewed_by_writing _ of written = absurd of
 
   pub renewed_no_empty : (now : Status) → IsNoEmpty G before after now → Written G (renewed_image bank old.number (flat_of old)) (renew_line (length (renewed_image bank old.number (flat_of old))) old.number) (call before after [] now)
       → Renewed G bank given (call before after [] now)
-  renewed_no_empty status.DiskFault why written = record { no_order = refl; by_status = renewed_from status.DiskFault written }
-  renewed_no_empty status.Exists why written = record { no_order = refl; by_status = renewed_from status.Exists written }
+  renewed_no_empty status.DiskFault why written = renewed_so status.DiskFault written (renewed_from status.DiskFault written)
+  renewed_no_empty status.Exists why written = renewed_so status.Exists written (renewed_from status.Exists written)
   renewed_no_empty _ why written = absurd why

@@ -154,7 +154,7 @@ module _ {W : Type 0} (G : Ghosts W) (fewer_later : FewerLater G) (store : KeptS
     where
       stops : (now : Status) → G.put_faults mid ≡ G.put_faults old → AsksAndPuts G old mid → StopsBy G mid new now → StopsBy G old new now
       stops status.DiskFault same only why = omega (arith, why, only.disk)
-      stops status.PutFault same only why = omega (arith, why, same)
+      stops status.PutFault same only why = (omega (arith, why.0, same), why.1 ∙ before.asked)
       stops _ same only why = absurd why
 
 -- nothing was printed yet
@@ -193,14 +193,14 @@ module _ {W : Type 0} (G : Ghosts W) (fewer_later : FewerLater G) (store : KeptS
     stops = tt;
   }
 
-  pub part_failed : (failed : Failed) → Puts G (row_lines offset bytes) mid new (stopped failed) → PutsBytes G store at offset count old new (Err status.PutFault)
-  part_failed failed puts = record {
+  pub part_failed : G.disk_faults mid ≡ G.disk_faults old → (failed : Failed) → Puts G (row_lines offset bytes) mid new (stopped failed) → PutsBytes G store at offset count old new (Err status.PutFault)
+  part_failed same failed puts = record {
     only = shows_on G fewer_later old mid new (shows_asks G old mid asks) (shows_line G fewer_later (row_lines offset bytes) mid new (stopped failed) puts);
     printed = λ shown. prints_broken (stopped failed) broke refl refl (G.printed old) (G.printed new) (row_lines offset (bytes_in (stands (held_of G old)) at count)) (put-rows (Err failed) puts.printed shown);
     times = tt;
     unfailed = tt;
     asked = tt;
-    stops = let rose = puts.only.cause.failed in omega (arith, rose, asks.calls.put);
+    stops = let rose = puts.only.cause.failed in (omega (arith, rose, asks.calls.put), puts.only.disk ∙ same);
   }
 
 drop_none : (n : ℕ) → drop {A = ℕ} n [] ≡ []

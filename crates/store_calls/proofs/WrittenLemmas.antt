@@ -15,7 +15,7 @@ module _ {W : Type 0} (G : Ghosts W) (fewer_later : FewerLater G) (image line : 
 
   -- the disk failed
   pub written_torn : (IsSome (G.held start) → held_of G start ≡ []) → IsTornBy G (length image) start mid → Written G image line (call start mid [] status.DiskFault)
-  written_torn empty left = record { no_order = refl; honest = calls.honest; time = calls.time; crash = torn; full = none_held mid empty; by_status = (calls.quiet.same, left) }
+  written_torn empty left = record { no_order = refl; honest = calls.honest; time = calls.time; crash = torn; calm = λ other. absurd (other refl); full = none_held mid empty; by_status = (calls.quiet.same, left) }
 
   -- all was written, and the line put
   module _ (empty : IsSome (G.held start) → held_of G start ≡ []) (written : IsWrittenWhole G image start mid) (calm : G.disk_faults mid ≡ G.disk_faults start) (after : W) where
@@ -25,7 +25,6 @@ module _ {W : Type 0} (G : Ghosts W) (fewer_later : FewerLater G) (image line : 
       held = λ told. puts.only.held ∙ written.held told (empty told);
       sure = λ honest told. sure_shows G fewer_later mid after (written.sure honest told) (shows_line G fewer_later line mid after result puts);
       writes = puts.only.writes ∙ written.writes;
-      calm = puts.only.disk ∙ calm;
     }
 
     torn-after : (result : Result (Unit {0}) Failed) → Puts G line mid after result → LeavesTorn G (length image) start after
@@ -42,6 +41,7 @@ module _ {W : Type 0} (G : Ghosts W) (fewer_later : FewerLater G) (image line : 
       honest = puts.only.honest ∙ calls.honest;
       time = elapses-trans G fewer_later start mid after calls.time puts.only.time;
       crash = torn-after result puts;
+      calm = λ other. puts.only.disk ∙ calm;
       full = none_held after empty;
       by_status = by;
     }
@@ -82,24 +82,23 @@ module _ {W : Type 0} (G : Ghosts W) (fewer_later : FewerLater G) (before start 
       (first, begun, asks.crash told first begun (fewer_later start (G.moment before) (G.moment start) first begun asks.calls.time.later since), is))
 
   module _ (image line : List ℕ) (after : W) where
-    stored-since : G.disk_faults start ≡ G.disk_faults before → IsStored G image start after → IsStored G image before after
-    stored-since calm stored = record {
+    stored-since : IsStored G image start after → IsStored G image before after
+    stored-since stored = record {
       empty = λ told. sym same-held ∙ stored.empty (told-start told);
       held = λ told. stored.held (told-start told);
       sure = λ honest told. stored.sure (honest-start honest) (told-start told);
       writes = stored.writes ∙ ap (option_map (λ count. count + 1)) asks.writes;
-      calm = stored.calm ∙ calm;
     }
 
     prints-since : (now : Status) → PrintsBy (G.printed start) (G.printed after) line now → PrintsBy (G.printed before) (G.printed after) line now
     prints-since now prints = subst (λ (these : Option (List ℕ)). PrintsBy these (G.printed after) line now) asks.calls.quiet.same prints
 
-    by-since : G.disk_faults start ≡ G.disk_faults before → (now : Status) → IsOfWriting now → WrittenBy G image line start after now → WrittenBy G image line before after now
-    by-since calm status.Done of (stored, prints, once) =
-        (stored-since calm stored, prints-since status.Done prints, λ told. once (subst (λ (these : Option (List ℕ)). IsSome these) (sym asks.calls.quiet.same) told) ∙ ap (λ (n : ℕ). n + 1) asks.calls.puts)
-    by-since calm status.PutFault of (stored, prints) = (stored-since calm stored, prints-since status.PutFault prints)
-    by-since calm status.DiskFault of (same, torn) = (same ∙ asks.calls.quiet.same, λ told. let left = torn (told-start told) in (left.0, subst (λ (held : List ℕ). Torn 0 (length image) held (held_of G after)) same-held left.1))
-    by-since calm _ of by = absurd of
+    by-since : (now : Status) → IsOfWriting now → WrittenBy G image line start after now → WrittenBy G image line before after now
+    by-since status.Done of (stored, prints, once) =
+        (stored-since stored, prints-since status.Done prints, λ told. once (subst (λ (these : Option (List ℕ)). IsSome these) (sym asks.calls.quiet.same) told) ∙ ap (λ (n : ℕ). n + 1) asks.calls.puts)
+    by-since status.PutFault of (stored, prints) = (stored-since stored, prints-since status.PutFault prints)
+    by-since status.DiskFault of (same, torn) = (same ∙ asks.calls.quiet.same, λ told. let left = torn (told-start told) in (left.0, subst (λ (held : List ℕ). Torn 0 (length image) held (held_of G after)) same-held left.1))
+    by-since _ of by = absurd of
 
     pub written_since : G.disk_faults start ≡ G.disk_faults before → (now : Status) → IsOfWriting now → (IsSome (G.held before) → held_of G before ≡ []) → Written G image line (call start after [] now) → Written G image line (call before after [] now)
     written_since calm now of empty written = record {
@@ -107,8 +106,9 @@ module _ {W : Type 0} (G : Ghosts W) (fewer_later : FewerLater G) (before start 
       honest = written.honest ∙ asks.calls.honest;
       time = elapses-trans G fewer_later before start after asks.calls.time written.time;
       crash = torn_on (length image) after written.time written.crash;
+      calm = λ other. written.calm other ∙ calm;
       full = λ told some. absurd (omega (arith, some, ap length (empty told)));
-      by_status = by-since calm now of written.by_status;
+      by_status = by-since now of written.by_status;
     }
 
     -- the disk isn't empty, or couldn't be asked
@@ -118,11 +118,17 @@ module _ {W : Type 0} (G : Ghosts W) (fewer_later : FewerLater G) (before start 
       honest = asks.calls.honest;
       time = asks.calls.time;
       crash = λ honest told crashed seen left. (crashed, seen, asks.crash told crashed seen left, untouched 0 (length image) crashed);
+      calm = calm now why;
       full = λ told some. asks;
       by_status = by now why;
     }
       where
         by : (now : Status) → IsNoEmpty G before start now → WrittenBy G image line before start now
         by status.DiskFault why = (asks.calls.quiet.same, λ told. (told-start told, subst (λ (held : List ℕ). Torn 0 (length image) held (held_of G start)) same-held (untouched 0 (length image) (held_of G start))))
-        by status.Exists why = (asks, why)
+        by status.Exists why = (asks, why.0)
         by _ why = absurd why
+
+        calm : (now : Status) → IsNoEmpty G before start now → (now ≡ status.DiskFault → ⊥) → G.disk_faults start ≡ G.disk_faults before
+        calm status.DiskFault why other = absurd (other refl)
+        calm status.Exists why other = why.1
+        calm _ why other = absurd why

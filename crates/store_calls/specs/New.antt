@@ -23,13 +23,12 @@ pub record IsWrittenWhole {W : Type 0} (G : Ghosts W) (bytes : List ℕ) (old ne
   pub sure : IsTrue (G.is_honest old) → IsSome (G.held old) → IsSure G new
   pub writes : G.writes new ≡ option_map (λ count. count + 1) (G.writes old)
 
--- The bytes are this image, where they are told, and sure where the disk is honest too; one write succeeded on an empty disk, and no call failed.
+-- The bytes are this image, where they are told, and sure where the disk is honest too; one write succeeded on an empty disk.
 pub record IsStored {W : Type 0} (G : Ghosts W) (image : List ℕ) (before after : W) : Type 0 where
   pub empty : IsSome (G.held before) → held_of G before ≡ []
   pub held : IsSome (G.held before) → G.held after ≡ Some image
   pub sure : IsTrue (G.is_honest before) → IsSome (G.held before) → IsSure G after
   pub writes : G.writes after ≡ option_map (λ count. count + 1) (G.writes before)
-  pub calm : G.disk_faults after ≡ G.disk_faults before
 
 -- a disk that tells its bytes holds others now at most among so many from the front
 abbrev pub IsTornBy : {W : Type 0} → Ghosts W → ℕ → W → W → Type 0
@@ -50,10 +49,10 @@ WrittenBy G image line before after status.Exists = OnlyAsks G before after × (
 WrittenBy G image line before after status.NoMemory = OnlyAsks G before after
 WrittenBy G image line before after _ = ⊥
 
--- why the disk isn't empty, or can't be asked
+-- why nothing is written: the disk can't be asked, and its count rose, or it isn't empty, and its count stays
 abbrev pub IsNoEmpty : {W : Type 0} → Ghosts W → W → W → Status → Type 0
 IsNoEmpty G before after status.DiskFault = Rose (G.disk_faults before) (G.disk_faults after)
-IsNoEmpty G before after status.Exists = IsSome (G.held before) → 0 < length (held_of G before)
+IsNoEmpty G before after status.Exists = (IsSome (G.held before) → 0 < length (held_of G before)) × (G.disk_faults after ≡ G.disk_faults before)
 IsNoEmpty G before after _ = ⊥
 
 -- a status of writing an image
@@ -63,12 +62,13 @@ IsOfWriting status.PutFault = Unit {0}
 IsOfWriting status.DiskFault = Unit {0}
 IsOfWriting _ = ⊥
 
--- what it did; there is no order
+-- what it did; there is no order, and the disk's count of faults rises with DiskFault alone
 pub record Written {W : Type 0} (G : Ghosts W) (image line : List ℕ) (call : Call W) : Type 0 where
   pub no_order : call.order ≡ []
   pub honest : G.is_honest call.after ≡ G.is_honest call.before
   pub time : Elapses G.moment G.left_since call.before call.after
   pub crash : LeavesTorn G (length image) call.before call.after
+  pub calm : (call.status ≡ status.DiskFault → ⊥) → G.disk_faults call.after ≡ G.disk_faults call.before
   -- a disk that holds bytes is only asked
   pub full : IsSome (G.held call.before) → 0 < length (held_of G call.before) → OnlyAsks G call.before call.after
   pub by_status : WrittenBy G image line call.before call.after call.status

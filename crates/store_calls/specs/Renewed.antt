@@ -95,9 +95,11 @@ RenewedBy G bank given call (status.Store offset) = (call.after ≡ call.before)
 RenewedBy G bank given call status.NoMemory = OnlyAsks G call.before call.after
 RenewedBy G bank given call _ = IsRenewed G bank given call
 
--- what it did; there is no order
+-- what it did; there is no order, the disk's count of faults rises with DiskFault alone, and the source's with SourceFault alone
 pub record Renewed {W : Type 0} (G : Ghosts W) (bank : ℕ) (given : Given) (call : Call W) : Type 0 where
   pub no_order : call.order ≡ []
+  pub calm : (call.status ≡ status.DiskFault → ⊥) → G.disk_faults call.after ≡ G.disk_faults call.before
+  pub source_calm : (call.status ≡ status.SourceFault → ⊥) → given.faults_now ≡ given.faults
   pub by_status : RenewedBy G bank given call call.status
 
 -- a status of renewing a store

@@ -1,10 +1,10 @@
 -- What printing bytes of a store did.
-use Rattle.std.specs.Prelude.{◌≡◌, ◌⊎◌, ℕ, ◌+◌, ◌≤◌, List, [], length, Some, IsSome, Result, Ok, Err, OnOk, IfErr}
+use Rattle.std.specs.Prelude.{◌≡◌, ◌⊎◌, ℕ, ◌+◌, ◌≤◌, List, [], length, Some, IsSome, IsTrue, Result, Ok, Err, OnOk, IfErr}
 use Rattle.std.specs.Int.{div_ceil}
 use Rattle.outside.specs.declared.world.Outside.{Ghosts}
-use Rattle.outside.specs.Bytes.{Prints, bytes_at}
+use Rattle.outside.specs.Bytes.{AreTold, Prints, bytes_at}
 use Rattle.outside.specs.Causes.{Rose}
-use Rattle.outside.specs.Runs.{AsksAndPuts, OnlyAsks, held_of}
+use Rattle.outside.specs.Runs.{AsksAndPuts, Leaves, OnlyAsks, held_of}
 use Rattle.line_geometry.specs.Directory.{Layout, length_of, start_of}
 use Rattle.line_geometry.specs.FlatStore.{FlatStore}
 use Rattle.store_format.specs.Stands.{Standing, Stands, NotAStore, Damaged, stands}
@@ -38,10 +38,10 @@ abbrev pub PutsDone : {W : Type 0} → Ghosts W → List ℕ → W → W → Res
 PutsDone G bytes old new (Ok done) = Prints {T = Unit {0}} (G.printed old) (G.printed new) bytes (Ok tt)
 PutsDone G bytes old new (Err status) = Prints {T = Unit {0}} (G.printed old) (G.printed new) bytes (Err (record {}))
 
--- why it stopped: the disk's or the screen's count rose
+-- why it stopped: the disk's count rose, or the screen's and not the disk's
 abbrev pub StopsBy : {W : Type 0} → Ghosts W → W → W → Status → Type 0
 StopsBy G old new status.DiskFault = Rose (G.disk_faults old) (G.disk_faults new)
-StopsBy G old new status.PutFault = Rose (G.put_faults old) (G.put_faults new)
+StopsBy G old new status.PutFault = Rose (G.put_faults old) (G.put_faults new) × (G.disk_faults new ≡ G.disk_faults old)
 StopsBy G old new _ = ⊥
 
 -- What printing so many bytes of a kept store from a place on did, in rows that begin with this offset: of a store that told bytes show the
@@ -82,7 +82,7 @@ PutsRows G range before after = IsSome (G.printed before) → (G.moment after).p
 
 -- what it did, by the status, and where the disk failed, nothing was put or the range is there; other statuses don't come
 abbrev pub ShownBy : {W : Type 0} → Ghosts W → Range → W → W → Status → Type 0
-ShownBy G range before after status.Done = HasRange G range before × PrintsRows G range before after status.Done × PutsRows G range before after × (G.disk_faults after ≡ G.disk_faults before)
+ShownBy G range before after status.Done = HasRange G range before × PrintsRows G range before after status.Done × PutsRows G range before after
 ShownBy G range before after status.PutFault = HasRange G range before × PrintsRows G range before after status.PutFault
 ShownBy G range before after status.DiskFault = PrintsRows G range before after status.DiskFault × ((G.printed after ≡ G.printed before) ⊎ HasRange G range before)
 ShownBy G range before after status.NoRange = OnlyAsks G before after × HasNoRange G range before
@@ -90,10 +90,13 @@ ShownBy G range before after (status.Store offset) = OnlyAsks G before after × 
 ShownBy G range before after status.NoMemory = OnlyAsks G before after
 ShownBy G range before after _ = ⊥
 
--- what it did; it writes nothing
+-- What it did; it writes nothing, each image that a crash may leave since is one of the start, and there is no order. Where the disk is honest and
+-- tells its bytes, each that is left once something is printed is just these. The disk's count of faults rises with DiskFault alone.
 pub record RangeShown {W : Type 0} (G : Ghosts W) (range : Range) (call : Call W) : Type 0 where
   pub no_order : call.order ≡ []
   pub only : AsksAndPuts G call.before call.after
+  pub sure : IsTrue (G.is_honest call.before) → IsSome (G.held call.before) → Leaves G (λ image seen. AreTold (G.printed call.before) seen ⊎ (image ≡ held_of G call.before)) call.before call.after
+  pub calm : (call.status ≡ status.DiskFault → ⊥) → G.disk_faults call.after ≡ G.disk_faults call.before
   pub by_status : ShownBy G range call.before call.after call.status
 
 -- a status of printing bytes of a store

@@ -8,6 +8,7 @@ returns-clause-read g c =
     let whole = c.in_ok-text.ensures.bytes in
     record {
       source = λ is. absurd (cc);
+      calm = λ is. c.in_ok-text.ensures.unfailed;
       big = λ is. absurd (cc);
       text = λ past. (text, whole);
       no_job = λ line kind is. absurd (cc);

@@ -10,7 +10,7 @@ returns-in-Err-ask_empty-clause-renewed g c =
     let bank = c.args.bank_bytes in
     let image = renewed_image bank old.number (flat_of old) in
     let line = renew_line (length image) old.number in
-    renewed_no_empty G bank (given g.S.Source c.args.source.now c.old_store.new.source) c.args.outside.now c.ask_empty.new.outside old c.in-Ok.ensures.has
+    renewed_no_empty G bank (given g.S.Source c.args.source.now c.old_store.new.source) c.args.outside.now c.ask_empty.new.outside c.in-Ok.ensures.unfailed old c.in-Ok.ensures.has
     c.requires.least c.requires.most c.in-Err-ask_empty.status c.in-Err-ask_empty.ensures.refused
     (not_written G g.met.W.Outside.fewer_later c.args.outside.now c.ask_empty.new.outside c.in-Err-ask_empty.ensures.asks image line c.ask_empty.new.outside c.in-Err-ask_empty.status c.in-Err-ask_empty.ensures.refused)
 
@@ -24,7 +24,7 @@ returns-clause-renewed g c =
     let image : c.as_slice.result.now ≡ renewed_image bank old.number (flat_of old) = c.as_slice.ensures.value ∙ c.in-Ok-renewed_image.ensures.image in
     let line : c.as_slice-2.result.now ≡ renew_line (length (renewed_image bank old.number (flat_of old))) old.number =
     c.as_slice-2.ensures ∙ c.renew_line-line.ensures ∙ ap (λ (n : ℕ). renew_line n old.number) (c.len.ensures ∙ sym c.as_slice.ensures.len ∙ ap length image) in
-    renewed_by_writing G bank (given g.S.Source c.args.source.now c.old_store.new.source) before after old c.in-Ok.ensures.has
+    renewed_by_writing G bank (given g.S.Source c.args.source.now c.old_store.new.source) before after c.in-Ok.ensures.unfailed old c.in-Ok.ensures.has
     c.requires.least c.requires.most c.write_store.result c.write_store.ensures.only
     (subst (λ (bytes : List ℕ). Written G bytes (renew_line (length (renewed_image bank old.number (flat_of old))) old.number) (call before after [] c.write_store.result)) image
     (subst (λ (bytes : List ℕ). Written G c.as_slice.result.now bytes (call before after [] c.write_store.result)) line
