@@ -78,10 +78,15 @@ module _ {W : Type 0} (G : Ghosts W) (fewer_later : FewerLater G) (printed_now :
   step_kept durable after line (Err why) tracks more is only puts =
       let kept = subst (λ (these : List ℕ). Puts {T = Unit {0}} G these mid after broken) is puts in
       let stands_more = more ∙ one_over begun lines (stands (held_of G before)) number bytes store sized same stood in
+      let sure = sure_puts G printed_now fewer_later (kept_line (next number)) mid after broken kept tracks.sure in
       let put_is : why ≡ PutFault = cc in
       let stopped : Steps G bytes number store lines durable before after (Err PutFault) = record {
         crash = in_put after broken tracks.sure stands_more kept;
-        ends = subst (λ (those : Option (List ℕ)). Prints those (G.printed after) (kept_line (next number)) broken) calls.quiet.same kept.printed;
+        ends = (
+          record { sure = sure.0; shows = subst (λ (held : List ℕ). Shows held durable) (sym sure.1) tracks.shows },
+          ap stands sure.1 ∙ stands_more,
+          subst (λ (those : Option (List ℕ)). Prints those (G.printed after) (kept_line (next number)) broken) calls.quiet.same kept.printed,
+        );
       } in
       subst (λ (how : Followed). Steps G bytes number store lines durable before after (Err how)) (sym put_is) stopped
 

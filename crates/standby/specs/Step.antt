@@ -42,12 +42,13 @@ IsStep bytes number store lines printed image seen =
     ((stands image ≡ Stands number store) × AreTold printed seen)
     ⊎ ((stands image ≡ Stands (next number) (over bytes store lines)) × SeesPart printed (kept_line (next number)) seen)
 
--- how a record was kept and told: it stands, tracked, and its line is printed, by one put; or a first part of that is; or the disk failed, and nothing
--- was printed
+-- how a record was kept and told: it stands, tracked, and its line is printed, by one put, or where that failed a first part of it; or the disk failed,
+-- and nothing was printed
 abbrev pub StepsBy : {W : Type 0} → Ghosts W → (bytes number : ℕ) → FlatStore → List ShipLine → KeptStore → W → W → Result (Unit {0}) Followed → Type 0
 StepsBy G bytes number store lines durable before after (Ok done) =
     TracksStore G durable after × (stands (held_of G after) ≡ Stands (next number) (over bytes store lines)) × Prints (G.printed before) (G.printed after) (kept_line (next number)) well × CountsPuts G 1 before after
-StepsBy G bytes number store lines durable before after (Err PutFault) = Prints (G.printed before) (G.printed after) (kept_line (next number)) broken
+StepsBy G bytes number store lines durable before after (Err PutFault) =
+    TracksStore G durable after × (stands (held_of G after) ≡ Stands (next number) (over bytes store lines)) × Prints (G.printed before) (G.printed after) (kept_line (next number)) broken
 StepsBy G bytes number store lines durable before after (Err DiskFault) = G.printed after ≡ G.printed before
 StepsBy G bytes number store lines durable before after (Err _) = ⊥
 
