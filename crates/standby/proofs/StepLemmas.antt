@@ -1,11 +1,16 @@
 -- One record that is kept and told.
 use Rattle.standby.proofs.Common.{IsSome, ◌≡◌, inl, inr, ⊎_elim, ℕ, ◌+◌, ◌*◌, List, [], ◌∷◌, refl, sym, ◌∙◌, ap, subst, append-nil, IfSome_then, FlatStore, line_bytes, PageSize, RecordLine, Standing, Stands, home_of, stands, one_more, Failed, Ghosts, AreTold, Prints, IsSure, CallsDisk, FewerLater, Leaves, held_of, leaves_on, begun_of, IsEither, KeptStore, with_begun, Shows, TracksStore, Puts, SeesPart, laid, well, broken, IsStep, Steps, over, put_of, Followed, DiskFault, PutFault, ShipLine, next, kept_line, told}
-use Rattle.std.specs.Prelude.{◌%◌, ◌^◌, length, Option, Result, Ok, Err, OnErr, fold}
+use Rattle.std.specs.Prelude.{◌%◌, ◌^◌, length, Option, Result, Ok, Err, OnErr, OnOk, fold}
 use Rattle.owned_list.specs.Overlay.{overlaid}
 use Rattle.store_format.proofs.Stores.{stands_is}
 use Rattle.restart.proofs.ShowLemmas.{shown_store, shows_begun}
 use Rattle.store_format.specs.Stands as format
 use Rattle.standby.proofs.PutLemmas.{PrintedNow, quiet_is, image_is, sure_puts}
+
+-- what is so is so where it went well
+pub on_ok : {T E P : Type 0} (result : Result T E) → P → OnOk result P
+on_ok (Ok done) is = is
+on_ok (Err why) is = tt
 
 -- the lines of a record lie over a store wherever they stand in the bank
 told_laid : (page : PageSize) (bytes : List ℕ) (lines : List RecordLine) → format.laid page bytes lines ≡ laid (line_bytes page) bytes (told lines)

@@ -12,6 +12,7 @@ use Rattle.outside.specs.Bytes.{AreTold, Prints}
 use Rattle.outside.specs.Runs.{Leaves, held_of}
 use Rattle.restart.specs.Kept.{KeptStore, with_begun}
 use Rattle.restart.specs.Shows.{TracksStore}
+use Rattle.standby.specs.Bank.{bank_begun}
 use Rattle.standby.specs.Followed.{well, broken}
 use Rattle.standby.specs.Puts.{CountsPuts, SeesPart}
 use Rattle.standby.specs.State.{laid}
@@ -26,11 +27,12 @@ pub record IsFitting (header : Header) (kept : ShipRecord) : Type 0 where
   pub lines : AreLines (line_bytes header.directory.page) (line_count header.directory) 0 (record_of (line_bytes header.directory.page) kept)
   pub few : length kept.lines.items ≤ most_lines header
 
--- a record of these lines is begun
+-- a record of these lines is begun, and nothing else of the bank changed
 pub record IsBegun (store now : KeptStore) (lines : List ShipLine) : Type 0 where
   pub begun : List RecordLine
   pub now_is : now ≡ with_begun store begun
   pub lines_are : told begun ≡ lines
+  pub bank_is : now.bank ≡ bank_begun store.bank lines
 
 -- a store with a record laid over it
 abbrev pub over : ℕ → FlatStore → List ShipLine → FlatStore
