@@ -27,7 +27,7 @@ pub record IsFitting (header : Header) (kept : ShipRecord) : Type 0 where
   pub lines : AreLines (line_bytes header.directory.page) (line_count header.directory) 0 (record_of (line_bytes header.directory.page) kept)
   pub few : length kept.lines.items ≤ most_lines header
 
--- a record of these lines is begun, and nothing else of the bank changed
+-- a record of these lines is begun, by one line after another
 pub record IsBegun (store now : KeptStore) (lines : List ShipLine) : Type 0 where
   pub begun : List RecordLine
   pub now_is : now ≡ with_begun store begun

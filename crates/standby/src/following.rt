@@ -54,6 +54,8 @@ pub fn follow<W: Outside>(durable: &mut Durable, ship: &Ship, outside: &mut W) -
     ensures only { OnlyGoesOn W.Outside outside.old outside.new }
     ensures ends { EndsBy W.Outside outside.old outside.new result }
     ensures header { durable.new.header ≡ durable.old.header }
+
+    // The bank is that of the commits: a checkpoint comes only in front of a record that doesn't fit.
     ensures kept { result ≡ Followed.Done → durable.new.bank ≡ bank_behind durable.old.bank (due (content_of ship.now) (number_of durable.old)) }
 
     // Of a store that is tracked: whenever a crash comes, it leaves the store at a number of the text from there on, and not
