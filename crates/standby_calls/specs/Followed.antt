@@ -119,12 +119,13 @@ IsRefusal _ = Unit {0}
 abbrev pub Stays : {W : Type 0} → Ghosts W → W → W → Type 0
 Stays G before after = (number : ℕ) (store : FlatStore) → StandsAt G before number store → Leaves G (λ image seen. stands image ≡ Stands number store) before after
 
--- What it did; there is no order. The disk's count of faults rises with DiskFault alone, and the source's with SourceFault alone.
+-- What it did; there is no order. The disk's count of faults rises with DiskFault alone, the screen's with PutFault, and the source's with SourceFault.
 pub record FollowedFrom {W : Type 0} (G : Ghosts W) (given : Given) (call : Call W) : Type 0 where
   pub no_order : call.order ≡ []
   pub honest : G.is_honest call.after ≡ G.is_honest call.before
   pub time : Elapses G.moment G.left_since call.before call.after
   pub calm : (call.status ≡ status.DiskFault → ⊥) → G.disk_faults call.after ≡ G.disk_faults call.before
+  pub put : (call.status ≡ status.PutFault → ⊥) → G.put_faults call.after ≡ G.put_faults call.before
   pub read : (call.status ≡ status.SourceFault → ⊥) → given.faults_now ≡ given.faults
   pub stays : IsRefusal call.status → Stays G call.before call.after
   pub by_status : FollowedBy G given call.before call.after call.status

@@ -58,7 +58,7 @@ fn follow_text<W: Outside>(alloc: Global, ship: &Ship, outside: &mut W) -> Statu
     ensures honest { W.is_honest outside.new ≡ W.is_honest outside.old }
     ensures time { Elapses W.moment W.left_since outside.old outside.new }
     ensures calm { result ≢ Status.DiskFault → W.disk_faults outside.new ≡ W.disk_faults outside.old }
-    ensures unfailed { result ≡ Status.Done → W.put_faults outside.new ≡ W.put_faults outside.old }
+    ensures unfailed { result ≢ Status.PutFault → W.put_faults outside.new ≡ W.put_faults outside.old }
     ensures put { result ≡ Status.PutFault → Rose (W.put_faults outside.old) (W.put_faults outside.new) }
     ensures disk { result ≡ Status.DiskFault → Rose (W.disk_faults outside.old) (W.disk_faults outside.new) }
     ensures only { IsOfText result }
