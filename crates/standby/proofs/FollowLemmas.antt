@@ -1,5 +1,5 @@
 -- Records that are kept and told, one after another.
-use Rattle.standby.proofs.Common.{⊎_elim, ◌≡◌, ℕ, suc, ◌+◌, ◌-◌, ◌<◌, List, [], ◌++◌, length, take, get_or, refl, sym, ◌∙◌, ap, subst, arith, append-nil, IfSome_then, Option, Result, Ok, Err, OnErr, take_all, FlatStore, Stands, stands, Failed, Ghosts, Prints, FewerLater, Leaves, held_of, told_is, prints_none, prints_on, prints_same, prints_stop, leaves_on, KeptStore, Shows, TracksStore, FollowsBy, IsAtNumber, IsStopped, Follows, Keeps, SoFar, broken, kept_text, well, Puts, laid_by, Steps, followed_of, put_of, ShipLine, end_line, kept_line, later, next, Followed, Done, DiskFault, PutFault}
+use Rattle.standby.proofs.Common.{⊎_elim, ◌≡◌, ℕ, suc, ◌+◌, ◌-◌, ◌<◌, List, [], ◌++◌, length, take, get_or, refl, sym, ◌∙◌, ap, subst, arith, append-nil, IfSome_then, Option, Result, Ok, Err, OnErr, take_all, FlatStore, Stands, stands, Failed, Ghosts, Prints, FewerLater, Leaves, held_of, told_is, prints_none, prints_on, prints_same, prints_stop, leaves_on, KeptStore, Shows, TracksStore, BreaksAt, FollowsBy, IsAtNumber, IsStopped, Follows, Keeps, SoFar, broken, kept_text, well, Puts, laid_by, Steps, followed_of, put_of, ShipLine, end_line, kept_line, later, next, Followed, Done, DiskFault, PutFault}
 use Rattle.outside.specs.Moments.{Elapses}
 use Rattle.standby.proofs.PutLemmas.{PrintedNow, image_is, sure_puts, told_on}
 use Rattle.standby.proofs.TellLemmas.{at_end, at_some, at_step, kept_front, stood_more}
@@ -60,14 +60,17 @@ module _ {W : Type 0} (G : Ghosts W) (fewer_later : FewerLater G) (printed_now :
     so_far_stopped PutFault steps = record {
       crash = crash_on (Err PutFault) steps;
       ends =
+          let breaks : BreaksAt G bytes number store records durable after = record { count = i + 1; few = omega (arith, lt); tracks = steps.ends.0; stood = stood_more bytes number store records i (held_of G after) lt steps.ends.1 } in
           let far : suc i + (length records - suc i) ≡ length records = omega (arith, lt) in
           let front = kept_front number (suc i) (length records - suc i) in
           let line = kept_line (later number (suc i)) in
           let whole : (kept_text number i ++ line) ++ front.0 ≡ kept_text number (length records) = sym front.1 ∙ ap (kept_text number) far in
-          let part = subst (λ (n : ℕ). Prints (G.printed mid) (G.printed after) (kept_line n) broken) number_on steps.ends in
-          prints_same (G.printed before) (G.printed after) ((kept_text number i ++ line) ++ front.0) (kept_text number (length records)) broken whole
-          (prints_stop (G.printed before) (G.printed after) (kept_text number i ++ line) front.0 broken broken refl refl
-          (prints_on (G.printed before) (G.printed mid) (G.printed after) (kept_text number i) line tt broken so_far.printed part));
+          let part = subst (λ (n : ℕ). Prints (G.printed mid) (G.printed after) (kept_line n) broken) number_on steps.ends.2 in (
+            breaks,
+            prints_same (G.printed before) (G.printed after) ((kept_text number i ++ line) ++ front.0) (kept_text number (length records)) broken whole
+                (prints_stop (G.printed before) (G.printed after) (kept_text number i ++ line) front.0 broken broken refl refl
+                (prints_on (G.printed before) (G.printed mid) (G.printed after) (kept_text number i) line tt broken so_far.printed part)),
+          );
     }
     so_far_stopped _ steps = absurd steps.ends
 
@@ -117,10 +120,19 @@ module _ {W : Type 0} (G : Ghosts W) (fewer_later : FewerLater G) (printed_now :
         }
     ended line (Err why) is only puts =
         let put = subst (λ (these : List ℕ). Puts {T = Unit {0}} G these mid after broken) is puts in
+        let sure = sure_puts G printed_now fewer_later last mid after broken put keeps.ends.0.tracks.sure in
         let put_is : why ≡ PutFault = cc in
         let stopped : Follows G bytes number store records durable before after PutFault = record {
           crash = end_crash broken put;
-          ends = prints_on (G.printed before) (G.printed mid) (G.printed after) (kept_text number (length records)) last tt broken keeps.ends.1 put.printed;
+          ends = (
+            record {
+              count = length records;
+              few = omega arith;
+              tracks = record { sure = sure.0; shows = subst (λ (held : List ℕ). Shows held durable) (sym sure.1) keeps.ends.0.tracks.shows };
+              stood = ap stands sure.1 ∙ keeps.ends.0.stood ∙ ap (λ (these : List (List ShipLine)). Stands (later number (length records)) (laid_by bytes store these)) (sym (take_all (length records) records (omega arith)));
+            },
+            prints_on (G.printed before) (G.printed mid) (G.printed after) (kept_text number (length records)) last tt broken keeps.ends.1 put.printed,
+          );
         } in
         subst (λ (how : Followed). Follows G bytes number store records durable before after how) (sym put_is) stopped
 
@@ -130,7 +142,7 @@ module _ {W : Type 0} (G : Ghosts W) (fewer_later : FewerLater G) (printed_now :
   stopped_early durable before after DiskFault differs keeps = record { crash = keeps.crash; ends = keeps.ends }
   stopped_early durable before after PutFault differs keeps = record {
     crash = keeps.crash;
-    ends = prints_stop (G.printed before) (G.printed after) (kept_text number (length records)) (end_line (later number (length records))) broken broken refl refl keeps.ends;
+    ends = (keeps.ends.0, prints_stop (G.printed before) (G.printed after) (kept_text number (length records)) (end_line (later number (length records))) broken broken refl refl keeps.ends.1);
   }
   stopped_early durable before after _ differs keeps = absurd keeps.ends
 

@@ -1,11 +1,16 @@
 -- One record that is kept and told.
 use Rattle.standby.proofs.Common.{IsSome, ◌≡◌, inl, inr, ⊎_elim, ℕ, ◌+◌, ◌*◌, List, [], ◌∷◌, refl, sym, ◌∙◌, ap, subst, append-nil, IfSome_then, FlatStore, line_bytes, PageSize, RecordLine, Standing, Stands, home_of, stands, one_more, Failed, Ghosts, AreTold, Prints, IsSure, CallsDisk, FewerLater, Leaves, held_of, leaves_on, begun_of, IsEither, KeptStore, with_begun, Shows, TracksStore, Puts, SeesPart, laid, well, broken, IsStep, Steps, over, put_of, Followed, DiskFault, PutFault, ShipLine, next, kept_line, told}
-use Rattle.std.specs.Prelude.{◌%◌, ◌^◌, length, Option, Result, Ok, Err, OnErr, fold}
+use Rattle.std.specs.Prelude.{◌%◌, ◌^◌, length, Option, Result, Ok, Err, OnErr, OnOk, fold}
 use Rattle.owned_list.specs.Overlay.{overlaid}
 use Rattle.store_format.proofs.Stores.{stands_is}
 use Rattle.restart.proofs.ShowLemmas.{shown_store, shows_begun}
 use Rattle.store_format.specs.Stands as format
 use Rattle.standby.proofs.PutLemmas.{PrintedNow, quiet_is, image_is, sure_puts}
+
+-- what is so is so where it went well
+pub on_ok : {T E P : Type 0} (result : Result T E) → P → OnOk result P
+on_ok (Ok done) is = is
+on_ok (Err why) is = tt
 
 -- the lines of a record lie over a store wherever they stand in the bank
 told_laid : (page : PageSize) (bytes : List ℕ) (lines : List RecordLine) → format.laid page bytes lines ≡ laid (line_bytes page) bytes (told lines)
@@ -78,10 +83,15 @@ module _ {W : Type 0} (G : Ghosts W) (fewer_later : FewerLater G) (printed_now :
   step_kept durable after line (Err why) tracks more is only puts =
       let kept = subst (λ (these : List ℕ). Puts {T = Unit {0}} G these mid after broken) is puts in
       let stands_more = more ∙ one_over begun lines (stands (held_of G before)) number bytes store sized same stood in
+      let sure = sure_puts G printed_now fewer_later (kept_line (next number)) mid after broken kept tracks.sure in
       let put_is : why ≡ PutFault = cc in
       let stopped : Steps G bytes number store lines durable before after (Err PutFault) = record {
         crash = in_put after broken tracks.sure stands_more kept;
-        ends = subst (λ (those : Option (List ℕ)). Prints those (G.printed after) (kept_line (next number)) broken) calls.quiet.same kept.printed;
+        ends = (
+          record { sure = sure.0; shows = subst (λ (held : List ℕ). Shows held durable) (sym sure.1) tracks.shows },
+          ap stands sure.1 ∙ stands_more,
+          subst (λ (those : Option (List ℕ)). Prints those (G.printed after) (kept_line (next number)) broken) calls.quiet.same kept.printed,
+        );
       } in
       subst (λ (how : Followed). Steps G bytes number store lines durable before after (Err how)) (sym put_is) stopped
 

@@ -90,12 +90,20 @@ pub record StopsAt {W : Type 0} (G : Ghosts W) (bytes number : ℕ) (store : Fla
   pub printed : Prints (G.printed before) (G.printed after) (kept_text number count) well
   pub left : Leaves G (λ image seen. (k : ℕ) × (count ≤ k) × (k ≤ count + 1) × (stands image ≡ Stands (later number k) (laid_by bytes store (take k records)))) after after
 
--- how the records were kept and told, from a store that was tracked: all were, each by one put; or a first part of what tells of them is printed;
--- or some were kept and told, and the disk then failed; it ends in no other way
+-- The store is tracked, and stands for what stood with so many of the records laid over it.
+pub record BreaksAt {W : Type 0} (G : Ghosts W) (bytes number : ℕ) (store : FlatStore) (records : List (List ShipLine)) (durable : KeptStore) (now : W) : Type 0 where
+  pub count : ℕ
+  pub few : count ≤ length records
+  pub tracks : TracksStore G durable now
+  pub stood : stands (held_of G now) ≡ Stands (later number count) (laid_by bytes store (take count records))
+
+-- how the records were kept and told, from a store that was tracked: all were, each by one put; or some were kept, and a first part of what tells of
+-- all is printed; or some were kept and told, and the disk then failed; it ends in no other way
 abbrev pub KeepsBy : {W : Type 0} → Ghosts W → (bytes number : ℕ) → FlatStore → List (List ShipLine) → KeptStore → W → W → Followed → Type 0
 KeepsBy G bytes number store records durable before after Done =
     IsLater G bytes number store records durable after × Prints (G.printed before) (G.printed after) (kept_text number (length records)) well × CountsPuts G (length records) before after
-KeepsBy G bytes number store records durable before after PutFault = Prints (G.printed before) (G.printed after) (kept_text number (length records)) broken
+KeepsBy G bytes number store records durable before after PutFault =
+    BreaksAt G bytes number store records durable after × Prints (G.printed before) (G.printed after) (kept_text number (length records)) broken
 KeepsBy G bytes number store records durable before after DiskFault =
     (at : StopsAt G bytes number store records before after) × (at.count < length records)
 KeepsBy G bytes number store records durable before after _ = ⊥
@@ -104,7 +112,8 @@ KeepsBy G bytes number store records durable before after _ = ⊥
 abbrev pub FollowsBy : {W : Type 0} → Ghosts W → (bytes number : ℕ) → FlatStore → List (List ShipLine) → KeptStore → W → W → Followed → Type 0
 FollowsBy G bytes number store records durable before after Done =
     IsLater G bytes number store records durable after × Prints (G.printed before) (G.printed after) (followed_text number (length records)) well × CountsPuts G (length records + 1) before after
-FollowsBy G bytes number store records durable before after PutFault = Prints (G.printed before) (G.printed after) (followed_text number (length records)) broken
+FollowsBy G bytes number store records durable before after PutFault =
+    BreaksAt G bytes number store records durable after × Prints (G.printed before) (G.printed after) (followed_text number (length records)) broken
 FollowsBy G bytes number store records durable before after DiskFault =
     (at : StopsAt G bytes number store records before after) × (at.count < length records)
 FollowsBy G bytes number store records durable before after _ = after ≡ before

@@ -5,3 +5,4 @@ pub mod Followed
 pub mod Step
 pub mod Shipped
 pub mod Read
+pub mod Bank

@@ -12,6 +12,7 @@ use Rattle.outside.specs.Bytes.{AreTold, Prints}
 use Rattle.outside.specs.Runs.{Leaves, held_of}
 use Rattle.restart.specs.Kept.{KeptStore, with_begun}
 use Rattle.restart.specs.Shows.{TracksStore}
+use Rattle.standby.specs.Bank.{bank_begun}
 use Rattle.standby.specs.Followed.{well, broken}
 use Rattle.standby.specs.Puts.{CountsPuts, SeesPart}
 use Rattle.standby.specs.State.{laid}
@@ -26,11 +27,12 @@ pub record IsFitting (header : Header) (kept : ShipRecord) : Type 0 where
   pub lines : AreLines (line_bytes header.directory.page) (line_count header.directory) 0 (record_of (line_bytes header.directory.page) kept)
   pub few : length kept.lines.items ≤ most_lines header
 
--- a record of these lines is begun
+-- a record of these lines is begun, by one line after another
 pub record IsBegun (store now : KeptStore) (lines : List ShipLine) : Type 0 where
   pub begun : List RecordLine
   pub now_is : now ≡ with_begun store begun
   pub lines_are : told begun ≡ lines
+  pub bank_is : now.bank ≡ bank_begun store.bank lines
 
 -- a store with a record laid over it
 abbrev pub over : ℕ → FlatStore → List ShipLine → FlatStore
@@ -42,12 +44,13 @@ IsStep bytes number store lines printed image seen =
     ((stands image ≡ Stands number store) × AreTold printed seen)
     ⊎ ((stands image ≡ Stands (next number) (over bytes store lines)) × SeesPart printed (kept_line (next number)) seen)
 
--- how a record was kept and told: it stands, tracked, and its line is printed, by one put; or a first part of that is; or the disk failed, and nothing
--- was printed
+-- how a record was kept and told: it stands, tracked, and its line is printed, by one put, or where that failed a first part of it; or the disk failed,
+-- and nothing was printed
 abbrev pub StepsBy : {W : Type 0} → Ghosts W → (bytes number : ℕ) → FlatStore → List ShipLine → KeptStore → W → W → Result (Unit {0}) Followed → Type 0
 StepsBy G bytes number store lines durable before after (Ok done) =
     TracksStore G durable after × (stands (held_of G after) ≡ Stands (next number) (over bytes store lines)) × Prints (G.printed before) (G.printed after) (kept_line (next number)) well × CountsPuts G 1 before after
-StepsBy G bytes number store lines durable before after (Err PutFault) = Prints (G.printed before) (G.printed after) (kept_line (next number)) broken
+StepsBy G bytes number store lines durable before after (Err PutFault) =
+    TracksStore G durable after × (stands (held_of G after) ≡ Stands (next number) (over bytes store lines)) × Prints (G.printed before) (G.printed after) (kept_line (next number)) broken
 StepsBy G bytes number store lines durable before after (Err DiskFault) = G.printed after ≡ G.printed before
 StepsBy G bytes number store lines durable before after (Err _) = ⊥
 

@@ -8,6 +8,7 @@ ghost use Rattle.outside.specs.Runs.{held_of};
 ghost use Rattle.redo_journal.specs.Held.{HoldsAtLeast};
 ghost use Rattle.restart.specs.Kept.{number_of};
 ghost use Rattle.restart.specs.Shows.{TracksStore};
+ghost use Rattle.standby.specs.Bank.{bank_with, bank_behind};
 ghost use Rattle.standby.specs.Followed.{IsAlike, OnlyGoesOn, EndsBy, IsStopped, Keeps, Follows};
 ghost use Rattle.standby.specs.Puts.{Puts};
 ghost use Rattle.standby.specs.State.{IsAmong, IsFirstLong, IsLongAt, due};
@@ -53,6 +54,9 @@ pub fn follow<W: Outside>(durable: &mut Durable, ship: &Ship, outside: &mut W) -
     ensures only { OnlyGoesOn W.Outside outside.old outside.new }
     ensures ends { EndsBy W.Outside outside.old outside.new result }
     ensures header { durable.new.header ≡ durable.old.header }
+
+    // The bank is that of the commits: a checkpoint comes only in front of a record that doesn't fit.
+    ensures kept { result ≡ Followed.Done → durable.new.bank ≡ bank_behind durable.old.bank (due (content_of ship.now) (number_of durable.old)) }
 
     // Of a store that is tracked: whenever a crash comes, it leaves the store at a number of the text from there on, and not
     // one before a number that was told; and how it ended, with what was printed.
@@ -110,6 +114,7 @@ fn keep_all<W: Outside>(
     ensures ends { EndsBy W.Outside outside.old outside.new (followed_of result) }
     ensures stopped { IfErr result IsStopped }
     ensures header { durable.new.header ≡ durable.old.header }
+    ensures kept { OnOk result (durable.new.bank ≡ bank_behind durable.old.bank (map (record_of (line_bytes durable.old.header.directory.page)) records.now)) }
     ensures follows { (store : FlatStore) → TracksStore W.Outside durable.old outside.old → stands (held_of W.Outside outside.old) ≡ Stands (number_of durable.old) store → Follows W.Outside (line_bytes durable.old.header.directory.page) (number_of durable.old) store (map (record_of (line_bytes durable.old.header.directory.page)) records.now) durable.new outside.old outside.new (followed_of result) }
 {
     let mut text = TextLine::new();
@@ -135,6 +140,7 @@ fn keep_each<W: Outside>(
     ensures stopped { IfErr result IsStopped }
     ensures header { durable.new.header ≡ durable.old.header }
     ensures number { OnOk result (number_of durable.new ≡ later (number_of durable.old) (length records.now)) }
+    ensures kept { OnOk result (durable.new.bank ≡ bank_behind durable.old.bank (map (record_of (line_bytes durable.old.header.directory.page)) records.now)) }
     ensures keeps { (store : FlatStore) → TracksStore W.Outside durable.old outside.old → stands (held_of W.Outside outside.old) ≡ Stands (number_of durable.old) store → Keeps W.Outside (line_bytes durable.old.header.directory.page) (number_of durable.old) store (map (record_of (line_bytes durable.old.header.directory.page)) records.now) durable.new outside.old outside.new (followed_of result) }
 {
     for record in records {
@@ -160,6 +166,7 @@ fn keep<W: Outside>(
     ensures stopped { IfErr result IsStopped }
     ensures header { durable.new.header ≡ durable.old.header }
     ensures number { OnOk result (number_of durable.new ≡ next (number_of durable.old)) }
+    ensures kept { OnOk result (durable.new.bank ≡ bank_with durable.old.bank (record_of (line_bytes durable.old.header.directory.page) sent.now)) }
     ensures steps { (store : FlatStore) → TracksStore W.Outside durable.old outside.old → stands (held_of W.Outside outside.old) ≡ Stands (number_of durable.old) store → Steps W.Outside (line_bytes durable.old.header.directory.page) (number_of durable.old) store (record_of (line_bytes durable.old.header.directory.page) sent.now) durable.new outside.old outside.new result }
 {
     begin(durable, sent);

@@ -16,7 +16,7 @@ pub fn fill_head(text: &mut TextLine, line_bytes: u16, lines: u32, start: u64)
     text.end();
 }
 
-/// `record NUMBER COUNT`.
+/// `record NUMBER LINES`.
 pub fn fill_record(text: &mut TextLine, number: u64, count: u32)
     ensures { text.new ≡ record_line number count }
 {

@@ -4,6 +4,7 @@ use Rattle.std.proofs.lemmas.Option.{IfSome_then}
 use Rattle.std.specs.Prelude.{Option, Result, unwrap_or}
 use Rattle.std.proofs.lemmas.List.{take_all, length-drop}
 use Rattle.line_geometry.specs.FlatStore.{FlatStore}
+use Rattle.store_format.specs.Header.{Header}
 use Rattle.store_format.specs.Stands.{Stands, stands}
 use Rattle.store_format.proofs.Sound.{stood_header}
 use Rattle.outside.specs.declared.world.Outside.{Ghosts}
@@ -13,10 +14,12 @@ use Rattle.outside.specs.Runs.{FewerLater, Leaves, OnlyAsks, held_of}
 use Rattle.outside.proofs.Prints.{prints_none, prints_on, prints_same, prints_unput}
 use Rattle.outside.proofs.Runs.{leaves_on}
 use Rattle.redo_journal.specs.declared.fault.OpenFault.{OpenFault}
+use Rattle.redo_journal.specs.Kept.{KeptBank}
 use Rattle.restart.specs.Faults.{IsStoreOpenFault}
 use Rattle.restart.specs.Kept.{KeptStore, number_of}
 use Rattle.restart.specs.Shows.{Shows, TracksStore}
 use Rattle.restart.proofs.ShowLemmas.{shown_stands}
+use Rattle.standby.specs.Bank.{bank_behind}
 use Rattle.standby.specs.Followed.{Follows, IsAtNumber, broken, followed_text, kept_text, well}
 use Rattle.standby.specs.State.{IsAmong, behind, due, laid_by}
 use Rattle.standby.specs.Text.{Content, ShipLine, later}
@@ -122,8 +125,13 @@ module _ {W : Type 0} (G : Ghosts W) (fewer_later : FewerLater G) (printed_now :
     printed_since : (bytes : List ℕ) (result : Result (Unit {0}) _) → Prints (G.printed mid) (G.printed after) bytes result → Prints (G.printed before) (G.printed after) bytes result
     printed_since bytes result prints = subst (λ (these : Option (List ℕ)). Prints these (G.printed after) bytes result) asks.calls.quiet.same prints
 
-    pub followed_done : content.start < 2 ^ 64 → IsAmong content (number_of durable) → Goes Done → FollowsOn G content before after status.Done
-    followed_done start among goes = from_number status.Done (λ store at.
+    -- the store that is kept, by its header and its bank
+    kept_is : kept.header ≡ durable.header → (bank : KeptBank) → kept.bank ≡ bank → kept ≡ record durable { bank = bank }
+    kept_is header_is bank bank_is =
+        ap (λ (header : Header). let it : KeptStore = record { header = header; bank = kept.bank } in it) header_is ∙ ap (λ (those : KeptBank). let it : KeptStore = record { header = durable.header; bank = those } in it) bank_is
+
+    pub followed_done : content.start < 2 ^ 64 → IsAmong content (number_of durable) → kept.header ≡ durable.header → kept.bank ≡ bank_behind durable.bank (due content (number_of durable)) → Goes Done → FollowsOn G content before after status.Done
+    followed_done start among header_is bank_is goes = from_number status.Done (λ store at.
         let follows = goes_from Done goes store at in
         let number = number_of durable in
         let records = due content (number_of durable) in
@@ -136,6 +144,7 @@ module _ {W : Type 0} (G : Ghosts W) (fewer_later : FewerLater G) (printed_now :
             follows.ends.0.stood
                 ∙ ap (λ (these : List (List ShipLine)). Stands (later number (length records)) (laid_by content.line_bytes store these)) (sym (take_all (length records) records (omega arith))),
             last_is content number start (small number store at) among,
+            record { store = durable; was = shows at.told; now = subst (λ (store : KeptStore). Shows (held_of G after) store) (kept_is header_is (bank_behind durable.bank records) bank_is) follows.ends.0.tracks.shows },
           );
         })
 
@@ -144,8 +153,8 @@ module _ {W : Type 0} (G : Ghosts W) (fewer_later : FewerLater G) (printed_now :
         let follows = goes_from PutFault goes store at in
         record {
           crash = crash_since PutFault goes store at;
-          printed = printed_since (followed_text (number_of durable) (length (due content (number_of durable)))) broken follows.ends;
-          ends = tt;
+          printed = printed_since (followed_text (number_of durable) (length (due content (number_of durable)))) broken follows.ends.1;
+          ends = (follows.ends.0.count, follows.ends.0.few, follows.ends.0.tracks.sure, follows.ends.0.stood);
         })
 
     pub followed_disk : Goes DiskFault → FollowsOn G content before after status.DiskFault

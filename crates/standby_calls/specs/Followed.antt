@@ -10,11 +10,12 @@ use Rattle.store_format.specs.Header.{most_lines}
 use Rattle.store_format.specs.Stands.{Stands, stands}
 use Rattle.restart.specs.Kept.{KeptStore, number_of}
 use Rattle.restart.specs.Shows.{Shows}
+use Rattle.standby.specs.Bank.{bank_behind}
 use Rattle.standby.specs.Followed.{IsAlike, IsAtNumber, StopsAt, followed_text}
 use Rattle.standby.specs.Puts.{CountsPuts}
 use Rattle.standby.specs.Read.{IsFirstBad}
 use Rattle.standby.specs.State.{IsAmong, IsFirstLong, due, state}
-use Rattle.standby.specs.Text.{Content, IsContent, IsTextOf, later, text_of}
+use Rattle.standby.specs.Text.{Content, ShipLine, IsContent, IsTextOf, later, text_of}
 use Rattle.standby.specs.declared.text.Ship.{Ship}
 use Rattle.call_status.specs.Call.{Call, Given, call}
 use Rattle.call_status.specs.Opening.{IsFaultAt, StandsAt}
@@ -24,14 +25,23 @@ use Rattle.call_status.specs.Statuses.{IsOfOpening}
 use Rattle.call_status.specs.declared.status.Status.{Status}
 use Rattle.call_status.specs.declared.status.Status.TheVariants as status
 
--- How it ended, by the status. Done: each line was put, by one put, and the bytes are sure and stand for the text's last number. DiskFault: the whole
--- lines of some of the records are printed, and each image of the end stands for the last of these numbers, or for the one behind it; they are fewer
--- than all, or the disk was only asked.
+-- The bytes of the start show a store, and those of the end the same with the bank that commits of these records make, one after another.
+pub record KeepsBank {W : Type 0} (G : Ghosts W) (records : List (List ShipLine)) (before after : W) : Type 0 where
+  pub store : KeptStore
+  pub was : Shows (held_of G before) store
+  pub now : Shows (held_of G after) (record store { bank = bank_behind store.bank records })
+
+-- How it ended, by the status. Done: each line was put, by one put, the bytes are sure and stand for the text's last number, and the bank is that of
+-- the commits. PutFault: the bytes are sure and stand for the number of the start or one of the text's behind it. DiskFault: the whole lines of some of
+-- the records are printed, and each image of the end stands for the last of these numbers, or for the one behind it; they are fewer than all, or the
+-- disk was only asked.
 abbrev pub EndsOn : {W : Type 0} → Ghosts W → Content → ℕ → FlatStore → W → W → Status → Type 0
 EndsOn G content number store before after status.Done =
     CountsPuts G (length (due content number) + 1) before after × IsSure G after
     × (stands (held_of G after) ≡ Stands (later number (length (due content number))) (state content number store (length (due content number))))
-    × (later number (length (due content number)) ≡ later content.start (length content.records))
+    × (later number (length (due content number)) ≡ later content.start (length content.records)) × KeepsBank G (due content number) before after
+EndsOn G content number store before after status.PutFault =
+    (count : ℕ) × (count ≤ length (due content number)) × IsSure G after × (stands (held_of G after) ≡ Stands (later number count) (state content number store count))
 EndsOn G content number store before after status.DiskFault =
     (at : StopsAt G content.line_bytes number store (due content number) before after) × ((at.count < length (due content number)) ⊎ OnlyAsks G before after)
 EndsOn G content number store before after _ = Unit {0}
@@ -109,12 +119,14 @@ IsRefusal _ = Unit {0}
 abbrev pub Stays : {W : Type 0} → Ghosts W → W → W → Type 0
 Stays G before after = (number : ℕ) (store : FlatStore) → StandsAt G before number store → Leaves G (λ image seen. stands image ≡ Stands number store) before after
 
--- what it did; there is no order, and Done comes only where the disk's count stayed
+-- What it did; there is no order. The disk's count of faults rises with DiskFault alone, the screen's with PutFault, and the source's with SourceFault.
 pub record FollowedFrom {W : Type 0} (G : Ghosts W) (given : Given) (call : Call W) : Type 0 where
   pub no_order : call.order ≡ []
   pub honest : G.is_honest call.after ≡ G.is_honest call.before
   pub time : Elapses G.moment G.left_since call.before call.after
-  pub calm : call.status ≡ status.Done → G.disk_faults call.after ≡ G.disk_faults call.before
+  pub calm : (call.status ≡ status.DiskFault → ⊥) → G.disk_faults call.after ≡ G.disk_faults call.before
+  pub put : (call.status ≡ status.PutFault → ⊥) → G.put_faults call.after ≡ G.put_faults call.before
+  pub read : (call.status ≡ status.SourceFault → ⊥) → given.faults_now ≡ given.faults
   pub stays : IsRefusal call.status → Stays G call.before call.after
   pub by_status : FollowedBy G given call.before call.after call.status
 

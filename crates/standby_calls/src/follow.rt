@@ -1,5 +1,5 @@
 // A ship text that a store follows.
-ghost use Rattle.std.specs.Prelude.{◌≡◌, [], MatchResult, OnOk};
+ghost use Rattle.std.specs.Prelude.{◌≡◌, ◌≢◌, [], MatchResult, IfErr, OnOk};
 ghost use Rattle.outside.specs.Causes.{Rose};
 ghost use Rattle.outside.specs.Moments.{Elapses};
 ghost use Rattle.call_status.specs.Call.{call, given};
@@ -41,6 +41,7 @@ pub fn follow_source<S: Source, W: Outside>(
 fn ship_from<S: Source>(alloc: Global, source: &mut S) -> Result<Ship, Status>
     ensures text { MatchResult result (IsShipFrom (given S.Source source.old source.new)) (IsNoText (given S.Source source.old source.new)) }
     ensures unfailed { OnOk result (S.faults source.new ≡ S.faults source.old) }
+    ensures calm { IfErr result (λ status. status ≢ Status.SourceFault → S.faults source.new ≡ S.faults source.old) }
 {
     let text = read_text(alloc, source, MOST_OF_JOB)?;
     match read_ship(alloc, &text) {
@@ -56,8 +57,8 @@ fn follow_text<W: Outside>(alloc: Global, ship: &Ship, outside: &mut W) -> Statu
     ensures on { OnStore W.Outside (content_of ship.now) outside.old outside.new result }
     ensures honest { W.is_honest outside.new ≡ W.is_honest outside.old }
     ensures time { Elapses W.moment W.left_since outside.old outside.new }
-    ensures calm { result ≡ Status.Done → W.disk_faults outside.new ≡ W.disk_faults outside.old }
-    ensures unfailed { result ≡ Status.Done → W.put_faults outside.new ≡ W.put_faults outside.old }
+    ensures calm { result ≢ Status.DiskFault → W.disk_faults outside.new ≡ W.disk_faults outside.old }
+    ensures unfailed { result ≢ Status.PutFault → W.put_faults outside.new ≡ W.put_faults outside.old }
     ensures put { result ≡ Status.PutFault → Rose (W.put_faults outside.old) (W.put_faults outside.new) }
     ensures disk { result ≡ Status.DiskFault → Rose (W.disk_faults outside.old) (W.disk_faults outside.new) }
     ensures only { IsOfText result }

@@ -1,4 +1,6 @@
-use Rattle.standby.proofs.Common.{◌≡◌, ℕ, suc, ◌+◌, ◌*◌, ◌-◌, ◌<◌, ◌≤◌, List, [], ◌∷◌, ◌++◌, length, take, drop, get_or, sym, ◌∙◌, ap, subst, arith, refl, All, length-take-le, take_all, take_more, map-append, RecordLine, record_bytes, line_count, line_bytes, Layout, PageSize, Header, begun_of, record_bytes_of, KeptStore, with_begun, AreLines, ShipLine, parted, told}
+use Rattle.standby.proofs.Common.{◌≡◌, ℕ, suc, ◌+◌, ◌*◌, ◌-◌, ◌<◌, ◌≤◌, List, [], ◌∷◌, ◌++◌, length, take, drop, get_or, sym, ◌∙◌, ap, subst, arith, refl, All, Some, fold-append, length-take-le, take_all, take_more, map-append, RecordLine, record_bytes, line_count, line_bytes, Layout, PageSize, Header, begun_of, record_bytes_of, KeptBank, KeptStore, bank_begun, with_begun, AreLines, ShipLine, parted, told}
+use Rattle.std.specs.Prelude.{fold}
+use Rattle.redo_journal.specs.Kept.{with_line}
 use Rattle.standby.proofs.BeginLemmas.{before_next, get_or-parted, length-parted, line_below, no_line, part_at, room_for}
 use Rattle.standby.proofs.following.begin.Goals as goal
 
@@ -28,6 +30,17 @@ one_told size items bytes begun i one lt is last =
     ∙ ap (λ (these : List ShipLine). these ++ told (one ∷ [])) is
     ∙ ap (λ (these : List ShipLine). take i (parted size items bytes) ++ these) (last ∙ ap (λ (line : ShipLine). line ∷ []) (sym (get_or-parted size items bytes i lt)))
     ∙ sym (take_more (parted size items bytes) i no_line (omega (arith, lt, length-parted size items bytes)))
+
+-- the bank with it
+bank_on : (bank now : KeptBank) (size : ℕ) (items bytes : List ℕ) (i : ℕ) (one : RecordLine) → i < length items → now ≡ bank_begun bank (take i (parted size items bytes)) → told (one ∷ []) ≡ part_at size items bytes i ∷ []
+    → with_line now one.line one.bytes ≡ bank_begun bank (take (i + 1) (parted size items bytes))
+bank_on bank now size items bytes i one lt is last =
+    let all = parted size items bytes in
+    let more : KeptBank → ShipLine → KeptBank = λ bank line. with_line bank line.line line.bytes in
+    ap (λ (those : KeptBank). with_line those one.line one.bytes) is
+    ∙ ap (fold more (bank_begun bank (take i all))) (last ∙ ap (λ (line : ShipLine). line ∷ []) (sym (get_or-parted size items bytes i lt)))
+    ∙ sym (fold-append more (record bank { begun = Some [] }) (take i all) (get_or all i no_line ∷ []))
+    ∙ ap (bank_begun bank) (sym (take_more all i no_line (omega (arith, lt, length-parted size items bytes))))
 
 pub record_line-requires-clause-below : goal.record_line-requires-clause-below
 record_line-requires-clause-below c =
@@ -83,6 +96,7 @@ loop-index-preserved c =
         begun = begun_of now.bank ++ one ∷ [];
         now_is = c.record_line.ensures ∙ ap (λ (store : KeptStore). with_begun store (begun_of now.bank ++ one ∷ [])) was.now_is;
         lines_are = one_told (line_bytes c.args.durable.now.header.directory.page) kept.lines.items kept.bytes.items (begun_of now.bank) i one inside before last;
+        bank_is = ap (λ (store : KeptStore). store.bank) c.record_line.ensures ∙ bank_on c.args.durable.now.bank now.bank (line_bytes c.args.durable.now.header.directory.page) kept.lines.items kept.bytes.items i one inside was.bank_is last;
       };
     }
 
@@ -91,4 +105,4 @@ returns c =
     let kept = c.args.sent.now in
     let was = c.loop-index.invariant.begun in
     let all = take_all c.loop-index.index (parted (line_bytes c.args.durable.now.header.directory.page) kept.lines.items kept.bytes.items) (omega (arith, c.loop-index-test.false, ap length c.deref-line-items.ensures.value, length-parted (line_bytes c.args.durable.now.header.directory.page) kept.lines.items kept.bytes.items)) in
-    record { begun = was.begun; now_is = was.now_is; lines_are = was.lines_are ∙ all }
+    record { begun = was.begun; now_is = was.now_is; lines_are = was.lines_are ∙ all; bank_is = was.bank_is ∙ ap (bank_begun c.args.durable.now.bank) all }

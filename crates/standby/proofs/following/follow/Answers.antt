@@ -1,7 +1,7 @@
-use Rattle.standby.proofs.Common.{◌≡◌, ℕ, ◌+◌, ◌-◌, List, length, map, take, drop, refl, sym, subst, ◌∙◌, ap, arith, length-map, line_bytes, most_lines, number_of, Follows, IsAlike, IsLongAt, behind, due, ShipLine, content_of, later, record_of, Done, Geometry, NotKept, Long, ShipRecord}
+use Rattle.standby.proofs.Common.{◌≡◌, ℕ, ◌+◌, ◌-◌, List, length, map, take, drop, refl, sym, subst, ◌∙◌, ap, arith, length-map, line_bytes, most_lines, number_of, bank_behind, Follows, IsAlike, IsLongAt, behind, due, ShipLine, content_of, later, record_of, Done, Geometry, NotKept, Long, ShipRecord}
 use Rattle.std.specs.Prelude.{All, ◌≤◌}
 use Rattle.standby.proofs.DueLemmas.{due_are, few_are, first_is, fitting}
-use Rattle.standby.proofs.FollowLemmas.{follows_none}
+use Rattle.standby.proofs.FollowLemmas.{follows_none, not_done}
 use Rattle.standby.proofs.following.follow.Given.{Over}
 use Rattle.standby.proofs.following.follow.Goals as goal
 use Rattle.standby.proofs.following.follow.Goals.{After-long_among}
@@ -77,6 +77,14 @@ pub returns-in-Err-clause-fits : goal.returns-in-Err-clause-fits
 returns-in-Err-clause-fits g c stopped =
     let at = (goal.at.returns-in-Err-clause-fits g c).After-long_among in
     (alike g at, among g at, few_are c.args.ship.now c.args.durable.now.header c.requires.ship (alike g at) (passed g at) c.deref.result.now (slice g at) c.deref.ensures.value (slice_is g at) (few g at c.in-None.ensures.none))
+
+pub returns-in-Ok-clause-kept : goal.returns-in-Ok-clause-kept
+returns-in-Ok-clause-kept g c done =
+    let at = (goal.at.returns-in-Ok-clause-kept g c).After-long_among in
+    c.in-Ok.ensures.kept ∙ ap (bank_behind c.args.durable.now.bank) (due_is g at)
+
+pub returns-in-Err-clause-kept : goal.returns-in-Err-clause-kept
+returns-in-Err-clause-kept g c done = absurd (not_done c.in-Err.why c.in-Err.ensures.stopped done)
 
 pub returns-in-Ok-clause-follows : goal.returns-in-Ok-clause-follows
 returns-in-Ok-clause-follows g c store tracks stood =

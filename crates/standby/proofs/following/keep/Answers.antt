@@ -1,10 +1,11 @@
-use Rattle.standby.proofs.Common.{◌≡◌, ⊎_elim, ◌∙◌, ap, subst, Err, line_bytes, FlatStore, Stands, stands, Leaves, held_of, IsEither, KeptStore, number_of, TracksStore, Steps, put_of, kept_line, next, record_of, DiskFault}
+use Rattle.standby.proofs.Common.{◌≡◌, ⊎_elim, ◌∙◌, ap, subst, Err, line_bytes, FlatStore, Stands, stands, Leaves, held_of, IsEither, KeptBank, KeptStore, number_of, TracksStore, Steps, put_of, kept_line, next, record_of, DiskFault}
 use Rattle.redo_journal.specs.Appended.{CountsKept}
 use Rattle.redo_journal.specs.declared.keep.Kept.{Kept}
 use Rattle.redo_journal.specs.declared.keep.Kept.TheVariants.{Unwritten, Doubt}
-use Rattle.checkpoint.specs.Committed.{number_after}
+use Rattle.checkpoint.specs.Committed.{IsKeptAfter, number_after, roomy}
+use Rattle.redo_journal.specs.Kept.{with_record}
 use Rattle.standby.proofs.GoLemmas.{goes_on, goes_puts, goes_writes}
-use Rattle.standby.proofs.StepLemmas.{either_begun, more_begun, sized, step_kept, step_unkept, tracks_begun}
+use Rattle.standby.proofs.StepLemmas.{either_begun, more_begun, on_ok, sized, step_kept, step_unkept, tracks_begun}
 use Rattle.standby.proofs.following.keep.Given.{Over}
 use Rattle.standby.proofs.following.keep.Goals as goal
 use Rattle.standby.proofs.following.keep.Goals.{After-commit}
@@ -37,6 +38,7 @@ returns-in-Unwritten g c =
       stopped = tt;
       header = c.commit.ensures.header ∙ ap (λ (store : KeptStore). store.header) c.begin.ensures.now_is;
       number = tt;
+      kept = tt;
       steps = unkept g at;
     }
 
@@ -44,6 +46,11 @@ pub returns-clause-only : goal.returns-clause-only
 returns-clause-only g c =
     goes_on g.W.Outside g.met.W.Outside.fewer_later c.args.outside.now c.commit.new.outside c.put_line.new.outside (goes_writes g.W.Outside c.args.outside.now c.commit.new.outside c.commit.ensures.only)
     (goes_puts g.W.Outside c.as_slice.result.now c.commit.new.outside c.put_line.new.outside (put_of c.put_line.result) c.put_line.ensures.puts)
+
+pub returns-clause-kept : goal.returns-clause-kept
+returns-clause-kept g c =
+    on_ok c.put_line.result
+    (subst (λ (kept : Kept). IsKeptAfter kept (roomy c.begin.new.durable.bank) c.begin.new.durable.bank c.commit.new.self.bank) c.in-Done.is c.commit.ensures.kept ∙ ap (λ (bank : KeptBank). with_record (roomy bank)) c.begin.ensures.bank_is)
 
 pub returns-clause-steps : goal.returns-clause-steps
 returns-clause-steps g c store tracks stood =

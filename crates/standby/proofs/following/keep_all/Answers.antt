@@ -1,11 +1,15 @@
 use Rattle.standby.proofs.Common.{◌≡◌, length, map, sym, ◌∙◌, ap, length-map, line_bytes, number_of, end_line, later, record_of}
 use Rattle.standby.proofs.FollowLemmas.{ended, not_done, stopped_early}
+use Rattle.standby.proofs.StepLemmas.{on_ok}
 use Rattle.standby.proofs.following.keep_all.Goals as goal
 
 pub returns-in-Err-clause-follows : goal.returns-in-Err-clause-follows
 returns-in-Err-clause-follows g c store tracks stood =
     stopped_early g.W.Outside g.met.W.Outside.fewer_later g.met.W.Outside.printed_now (line_bytes c.args.durable.now.header.directory.page) (number_of c.args.durable.now) store (map (record_of (line_bytes c.args.durable.now.header.directory.page)) c.args.records.now) c.keep_each.new.durable c.args.outside.now c.keep_each.new.outside c.in-Err.why
     (not_done c.in-Err.why c.in-Err.ensures.stopped) (c.in-Err.ensures.keeps store tracks stood)
+
+pub returns-clause-kept : goal.returns-clause-kept
+returns-clause-kept g c = on_ok c.put_line.result c.in-Ok.ensures.kept
 
 pub returns-clause-follows : goal.returns-clause-follows
 returns-clause-follows g c store tracks stood =

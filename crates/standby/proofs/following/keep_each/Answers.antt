@@ -1,4 +1,4 @@
-use Rattle.standby.proofs.Common.{◌≡◌, ℕ, ◌<◌, List, [], length, map, take, get_or, refl, sym, subst, ◌∙◌, ap, arith, Result, Ok, Err, get_or-map, length-map, line_bytes, Header, FlatStore, Stands, Ghosts, KeptStore, number_of, laid_by, Steps, ShipLine, later, next, record_of, Followed, ShipRecord}
+use Rattle.standby.proofs.Common.{◌≡◌, ℕ, ◌+◌, ◌<◌, List, [], ◌∷◌, length, map, take, get_or, refl, sym, subst, ◌∙◌, ap, arith, Result, Ok, Err, fold-append, get_or-map, length-map, take_all, take_more, line_bytes, Header, FlatStore, Stands, Ghosts, KeptBank, KeptStore, number_of, bank_behind, bank_with, laid_by, Steps, ShipLine, later, next, record_of, Followed, ShipRecord}
 use Rattle.standby.proofs.FollowLemmas.{so_far_all, so_far_more, so_far_none, so_far_stopped}
 use Rattle.standby.proofs.GoLemmas.{goes_none, goes_on}
 use Rattle.standby.proofs.TellLemmas.{later_more}
@@ -16,6 +16,14 @@ step_at G bytes number numbered store lines those durable before after result ho
 lines_are : (bytes : ℕ) (records : List ShipRecord) (i : ℕ) (kept : ShipRecord) → i < length records → kept ≡ get_or records i kept → record_of bytes kept ≡ get_or (map (record_of bytes) records) i []
 lines_are bytes records i kept lt is = ap (record_of bytes) is ∙ sym (get_or-map (record_of bytes) records i kept [] lt)
 
+-- the bank with one record more
+bank_more : (bank now : KeptBank) (all : List (List ShipLine)) (i : ℕ) → i < length all → (lines : List ShipLine) → now ≡ bank_behind bank (take i all) → lines ≡ get_or all i [] → bank_with now lines ≡ bank_behind bank (take (i + 1) all)
+bank_more bank now all i lt lines is same =
+    ap (λ (those : KeptBank). bank_with those lines) is
+    ∙ ap (bank_with (bank_behind bank (take i all))) same
+    ∙ sym (fold-append bank_with bank (take i all) (get_or all i [] ∷ []))
+    ∙ ap (bank_behind bank) (sym (take_more all i [] lt))
+
 pub loop-record-init : goal.loop-record-init
 loop-record-init g c =
     let number : number_of c.args.durable.now ≡ later (number_of c.args.durable.now) 0 = omega arith in
@@ -25,6 +33,7 @@ loop-record-init g c =
       put = refl;
       header = refl;
       number = number;
+      bank = refl;
       so_far = λ store tracks stood.
           so_far_none g.W.Outside g.met.W.Outside.fewer_later g.met.W.Outside.printed_now (line_bytes c.args.durable.now.header.directory.page) (number_of c.args.durable.now) store (map (record_of (line_bytes c.args.durable.now.header.directory.page)) c.args.records.now) c.args.durable.now c.args.outside.now (sym number) tracks stood;
     }
@@ -53,6 +62,8 @@ loop-record-preserved g c =
       put = c.in-Ok.ensures.ends.1 ∙ c.loop-record.invariant.put;
       header = c.keep.ensures.header ∙ c.loop-record.invariant.header;
       number = c.in-Ok.ensures.number ∙ ap next c.loop-record.invariant.number ∙ later_more (number_of c.args.durable.now) i;
+      bank = c.in-Ok.ensures.kept ∙ bank_more c.args.durable.now.bank c.loop-record.durable.bank all i lt (record_of (line_bytes c.loop-record.durable.header.directory.page) c.record-item.result) c.loop-record.invariant.bank
+          (ap (λ (header : Header). record_of (line_bytes header.directory.page) c.record-item.result) c.loop-record.invariant.header ∙ lines_are (line_bytes c.args.durable.now.header.directory.page) c.args.records.now i c.record-item.result c.loop-record-test.true c.record-item.is);
       so_far = λ store tracks stood.
           let so_far = c.loop-record.invariant.so_far store tracks stood in
           let steps = subst (λ (header : Header). Steps g.W.Outside (line_bytes header.directory.page) (number_of c.loop-record.durable) (laid_by (line_bytes c.args.durable.now.header.directory.page) store (take i all)) (record_of (line_bytes header.directory.page) c.record-item.result) c.keep.new.durable c.loop-record.outside c.keep.new.outside c.keep.result) c.loop-record.invariant.header
@@ -62,6 +73,11 @@ loop-record-preserved g c =
           (step_at g.W.Outside (line_bytes c.args.durable.now.header.directory.page) (number_of c.loop-record.durable) (later (number_of c.args.durable.now) i) (laid_by (line_bytes c.args.durable.now.header.directory.page) store (take i all)) (record_of (line_bytes c.args.durable.now.header.directory.page) c.record-item.result) (get_or all i []) c.keep.new.durable c.loop-record.outside c.keep.new.outside c.keep.result (Ok tt)
           c.loop-record.invariant.number (lines_are (line_bytes c.args.durable.now.header.directory.page) c.args.records.now i c.record-item.result c.loop-record-test.true c.record-item.is) c.in-Ok.is steps);
     }
+
+pub returns-clause-kept : goal.returns-clause-kept
+returns-clause-kept g c =
+    let all = map (record_of (line_bytes c.args.durable.now.header.directory.page)) c.args.records.now in
+    c.loop-record.invariant.bank ∙ ap (bank_behind c.args.durable.now.bank) (take_all c.loop-record.record-index all (omega (arith, c.loop-record-test.false, length-map c.args.records.now (record_of (line_bytes c.args.durable.now.header.directory.page)))))
 
 pub returns-clause-keeps : goal.returns-clause-keeps
 returns-clause-keeps g c store tracks stood =

@@ -15,7 +15,7 @@ returns-in-Done-clause-on g c =
     let fits = c.in-Done.ensures.fits (inl refl) in (
       λ told. record { store = c.in-Ok.store; shows = c.in-Ok.ensures.shows told; due_on = fits },
       followed_done g.W.Outside g.met.W.Outside.fewer_later g.met.W.Outside.printed_now (content_of c.args.ship.now) c.args.outside.now c.open.new.outside c.in-Ok.ensures.asks
-          c.in-Ok.store c.follow.new.durable c.in-Ok.ensures.shows c.in-Ok.ensures.tracks c.follow.new.outside c.in-Done.ensures.only.time c.requires.content.number fits.1 c.in-Done.ensures.follows,
+          c.in-Ok.store c.follow.new.durable c.in-Ok.ensures.shows c.in-Ok.ensures.tracks c.follow.new.outside c.in-Done.ensures.only.time c.requires.content.number fits.1 c.in-Done.ensures.header (c.in-Done.ensures.kept refl) c.in-Done.ensures.follows,
     )
 
 pub returns-in-Done-clause-time : goal.returns-in-Done-clause-time
