@@ -127,7 +127,7 @@ struct Device {
     found: (u64, u64),
 }
 
-const DEVICES: [Device; 8] = [
+const DEVICES: [Device; 10] = [
     Device {
         running: Running::OneAdd,
         refusal: Some((Call::Length, 0, 0, 0)),
@@ -144,6 +144,25 @@ const DEVICES: [Device; 8] = [
         status: Status::DiskFault,
         commits: 0,
         printed: "",
+        found: (0, 0),
+    },
+    // the syncs of an opening and of a record's body
+    Device {
+        running: Running::OneAdd,
+        refusal: Some((Call::Sync, 0, 0, 0)),
+        put: None,
+        status: Status::DiskFault,
+        commits: 0,
+        printed: "",
+        found: (0, 0),
+    },
+    Device {
+        running: Running::OneAdd,
+        refusal: Some((Call::Sync, 0, 0, 1)),
+        put: None,
+        status: Status::DiskFault,
+        commits: 0,
+        printed: "open 0\nbegin 1 add\nturn 1 ran 4 page 1 lock 2\nclosed\n",
         found: (0, 0),
     },
     // the body of a record, and its gate

@@ -7,6 +7,4 @@ mod active_tests;
 #[cfg(test)]
 mod crash_tests;
 #[cfg(test)]
-mod ending_tests;
-#[cfg(test)]
 mod job_tests;
