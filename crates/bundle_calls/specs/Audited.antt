@@ -56,9 +56,10 @@ AuditedBy G bytes before after status.Done = TellsVerdict G bytes before after s
 AuditedBy G bytes before after status.PutFault = TellsVerdict G bytes before after status.PutFault
 AuditedBy G bytes before after other = IsUnchecked bytes other × (after ≡ before)
 
--- what an audit did; it has no order
+-- what an audit did; it has no order, and the source's count of faults rises with SourceFault alone
 pub record Audited {W : Type 0} (G : Ghosts W) (given : Given) (call : Call W) : Type 0 where
   pub no_order : call.order ≡ []
+  pub calm : (call.status ≡ Status.SourceFault → ⊥) → given.faults_now ≡ given.faults
   pub by_status : WithBundle given (call.after ≡ call.before) (λ text. AuditedBy G text call.before call.after call.status) call.status
 
 -- The source has what an audit needs: a bundle, whose closing store stands too.

@@ -72,9 +72,10 @@ TracedBy G bytes activation before after status.Done = TellsTrace G bytes activa
 TracedBy G bytes activation before after status.PutFault = TellsTrace G bytes activation before after status.PutFault
 TracedBy G bytes activation before after other = IsUntraced bytes activation other × (after ≡ before)
 
--- what a trace did; it has no order
+-- what a trace did; it has no order, and the source's count of faults rises with SourceFault alone
 pub record TracedFrom {W : Type 0} (G : Ghosts W) (activation : ℕ) (given : Given) (call : Call W) : Type 0 where
   pub no_order : call.order ≡ []
+  pub calm : (call.status ≡ Status.SourceFault → ⊥) → given.faults_now ≡ given.faults
   pub by_status : WithBundle given (call.after ≡ call.before) (λ text. TracedBy G text activation call.before call.after call.status) call.status
 
 -- the status of a trace that isn't had

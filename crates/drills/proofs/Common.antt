@@ -13,12 +13,13 @@ pub use Rattle.desk.specs.Seen.{commits_seen, whole_lines}
 pub use Rattle.desk.specs.declared.answers.Committed.{Committed}
 pub use Rattle.desk.specs.declared.event.Event.{Event}
 pub use Rattle.flat_machine.specs.declared.machine.Program.{Program}
-pub use Rattle.job_calls.specs.Headline.{ByOpening, HappenedTo, JobHasRun, HasRunFrom, Refused, StoodForNone, Untouched, job_desk, names_of}
+pub use Rattle.job_calls.specs.Headline.{ByOpening, DidBy, FoundNoStore, HappenedTo, JobHasRun, HasRunFrom, StoodForNone, Untouched, job_desk, names_of}
 pub use Rattle.job_text.specs.declared.job.Job.{Job}
 pub use Rattle.line_geometry.specs.FlatStore.{FlatStore}
 pub use Rattle.listing.proofs.PutsLemmas.{puts_on, puts_same, puts_stop, times_on}
 pub use Rattle.outside.specs.Causes.{Rose}
 pub use Rattle.outside.specs.MemoryDisk.{disk_calls, disk_faults, disk_first, disk_held, disk_images, disk_moment, disk_writes}
+pub use Rattle.outside.specs.Moments.{Elapses}
 pub use Rattle.outside.specs.Record.{images_at, is_write}
 pub use Rattle.outside.specs.Runs.{FewerLater, held_of}
 pub use Rattle.outside.specs.declared.world.Outside.{Ghosts}

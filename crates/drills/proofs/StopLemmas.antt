@@ -1,5 +1,5 @@
 -- What a run leaves on a disk that stops.
-use Rattle.drills.proofs.Common.{◌≡◌, ℕ, ◌+◌, ◌*◌, ◌%◌, ◌≤◌, ◌<◌, inl, inr, Bool, true, false, List, [], ◌∷◌, ◌++◌, length, map, take, rules, cond, refl, sym, ◌∙◌, ap, subst, arith, append-nil, append_assoc, Option, Some, None, ◌↔◌, ◌^◌, Result, Ok, IsSome, unwrap_or, count_by, not, nat_lt, if◌then◌else◌, length-map, length-append, length-filter, sum_by-append, Ghosts, Rose, FewerLater, held_of, disk_calls, disk_faults, disk_first, disk_held, disk_images, disk_moment, disk_writes, images_at, FlatStore, Program, Header, header_of, total, fields, first_fault, most_lines, Standing, Stands, NotAStore, stands, standing_by, standing_if, chosen, Event, Committed, order_told, commits_seen, Job, Status, Stop, IsLeft, IsStop, IsStoppedRun, IsTold, all_fine, fine_order, ByOpening, JobHasRun, HasRunFrom, HappenedTo, Refused, StoodForNone, Untouched, job_desk, names_of, call, StandsAt}
+use Rattle.drills.proofs.Common.{◌≡◌, ℕ, ◌+◌, ◌*◌, ◌%◌, ◌≤◌, ◌<◌, inl, inr, Bool, true, false, List, [], ◌∷◌, ◌++◌, length, map, take, rules, cond, refl, sym, ◌∙◌, ap, subst, arith, append-nil, append_assoc, Option, Some, None, ◌↔◌, ◌^◌, Result, Ok, IsSome, unwrap_or, count_by, not, nat_lt, if◌then◌else◌, length-map, length-append, length-filter, sum_by-append, Ghosts, Rose, Elapses, FewerLater, held_of, disk_calls, disk_faults, disk_first, disk_held, disk_images, disk_moment, disk_writes, images_at, FlatStore, Program, Header, header_of, total, fields, first_fault, most_lines, Standing, Stands, NotAStore, stands, standing_by, standing_if, chosen, Event, Committed, order_told, commits_seen, Job, Status, Stop, IsLeft, IsStop, IsStoppedRun, IsTold, all_fine, fine_order, ByOpening, DidBy, FoundNoStore, JobHasRun, HasRunFrom, HappenedTo, StoodForNone, Untouched, job_desk, names_of, call, StandsAt}
 use Rattle.std.proofs.lemmas.Bool.{cases_Bool}
 use Rattle.std.specs.List.{flat_map}
 use Rattle.std.specs.Option.{option_and_then}
@@ -105,15 +105,15 @@ module _ {W : Type 0} (G : Ghosts W) (job : Job) (number : ℕ) (store : FlatSto
   commits = begun job.programs.items job.events.items
 
   -- a run leaves the first commits
-  first-left : (status : Status) → FewerLater G → PrintedNow G → HeldNow G → JobHasRun G job number store (call before after order status) session
+  first-left : (status : Status) → Elapses G.moment G.left_since before after → FewerLater G → PrintedNow G → HeldNow G → JobHasRun G job number store (call before after order status) session
       → (image seen : List ℕ) → G.held after ≡ Some image → G.printed before ≡ Some [] → G.printed after ≡ Some seen → IsPrefix commits number store order [] image seen
-  first-left status fewer_later printed_now held_now ran image printed holds nothing prints =
+  first-left status time fewer_later printed_now held_now ran image printed holds nothing prints =
       let (seen, left) = held_now after image holds in
       let is : seen ≡ printed = subst (λ (told : Option (List ℕ)). AreTold told seen) prints (printed_now after image seen left) in
       let told : IsSome (G.printed before) = subst (λ (those : Option (List ℕ)). IsSome those) (sym nothing) (search rules) in
       subst (IsPrefix commits number store order [] image) is
       (subst (λ (those : Option (List ℕ)). IsPrefix commits number store order (unwrap_or those []) image seen) nothing
-      (ran.seen told image seen (fewer_later after (G.moment before) (G.moment after) image seen ran.time.later left)))
+      (ran.seen told image seen (fewer_later after (G.moment before) (G.moment after) image seen time.later left)))
 
   -- the commit lines that are seen are those of the run
   ran-left : (status : Status) → AreNames (names_of job) → (seen : List ℕ) → commits_seen seen ≤ length order → JobHasRun G job number store (call before after order status) session → G.printed before ≡ Some [] → G.printed after ≡ Some seen → (status ≡ Status.PutFault → ⊥)
@@ -158,11 +158,11 @@ module _ {W : Type 0} (G : Ghosts W) (job : Job) (number : ℕ) (store : FlatSto
       subst (λ (n : ℕ). WritesMore (G.writes before) (G.writes after) (2 * n)) (sym each) ran.ran.to.writes
 
   -- what ran
-  left-by : (status : Status) → AreNames (names_of job) → FewerLater G → PrintedNow G → HeldNow G → JobHasRun G job number store (call before after order status) session → IsLeft G job number store (call before after order status)
-  left-by status are fewer_later printed_now held_now ran = record {
-    first = first-left status fewer_later printed_now held_now ran;
+  left-by : (status : Status) → Elapses G.moment G.left_since before after → AreNames (names_of job) → FewerLater G → PrintedNow G → HeldNow G → JobHasRun G job number store (call before after order status) session → IsLeft G job number store (call before after order status)
+  left-by status time are fewer_later printed_now held_now ran = record {
+    first = first-left status time fewer_later printed_now held_now ran;
     ran = λ image seen holds nothing prints unfailed.
-        let left = first-left status fewer_later printed_now held_now ran image seen holds nothing prints in
+        let left = first-left status time fewer_later printed_now held_now ran image seen holds nothing prints in
         ran-left status are seen (omega (arith, left.told, left.few, ap commits_seen left.seen_is)) ran nothing prints unfailed;
     writes = writes-made status ran;
     fine = order-fine status ran;
@@ -201,18 +201,21 @@ module _ {W : Type 0} (G : Ghosts W) (job : Job) (number : ℕ) (store : FlatSto
   }
 
   -- whatever happened
-  pub happened-left : (status : Status) → AreNames (names_of job) → FewerLater G → PrintedNow G → HeldNow G → StandsAt G before number store → HappenedTo G job (call before after order status) session → IsLeft G job number store (call before after order status)
-  happened-left status.Done are fewer_later printed_now held_now standing ran = left-by status.Done are fewer_later printed_now held_now (ran number store standing)
-  happened-left status.PutFault are fewer_later printed_now held_now standing ran = left-by status.PutFault are fewer_later printed_now held_now (ran number store standing)
-  happened-left status.DiskFault are fewer_later printed_now held_now standing did =
+  did-left : (status : Status) → Elapses G.moment G.left_since before after → AreNames (names_of job) → FewerLater G → PrintedNow G → HeldNow G → StandsAt G before number store → DidBy G (HasRunFrom G job (call before after order status) session) (call before after order status) session status → IsLeft G job number store (call before after order status)
+  did-left status.Done time are fewer_later printed_now held_now standing ran = left-by status.Done time are fewer_later printed_now held_now (ran number store standing)
+  did-left status.PutFault time are fewer_later printed_now held_now standing ran = left-by status.PutFault time are fewer_later printed_now held_now (ran number store standing)
+  did-left status.DiskFault time are fewer_later printed_now held_now standing did =
       by-opening session
-      (λ (ran : HasRunFrom G job (call before after order status.DiskFault) session). left-by status.DiskFault are fewer_later printed_now held_now (ran number store standing))
+      (λ (ran : HasRunFrom G job (call before after order status.DiskFault) session). left-by status.DiskFault time are fewer_later printed_now held_now (ran number store standing))
       (λ (untouched : Untouched G (call before after order status.DiskFault)). untouched-left status.DiskFault (λ is. cc) untouched standing) did
-  happened-left (status.Store offset) are fewer_later printed_now held_now standing did =
+  did-left (status.Store offset) time are fewer_later printed_now held_now standing did =
       by-opening session
       (λ (none : StoodForNone G before). let that : IsLeft G job number store (call before after order (status.Store offset)) = absurd (none number store standing) in that)
-      (λ (refused : Refused G (call before after order (status.Store offset))). untouched-left (status.Store offset) (λ is. cc) refused.untouched standing) did
-  happened-left other are fewer_later printed_now held_now standing refused = untouched-left other (λ is. cc) refused.untouched standing
+      (λ (found : FoundNoStore G (call before after order (status.Store offset)) offset). untouched-left (status.Store offset) (λ is. cc) found.refused.untouched standing) did
+  did-left other time are fewer_later printed_now held_now standing refused = untouched-left other (λ is. cc) refused.untouched standing
+
+  pub happened-left : (status : Status) → AreNames (names_of job) → FewerLater G → PrintedNow G → HeldNow G → StandsAt G before number store → HappenedTo G job (call before after order status) session → IsLeft G job number store (call before after order status)
+  happened-left status are fewer_later printed_now held_now standing happened = did-left status happened.time are fewer_later printed_now held_now standing happened.by_status
 
 -- the same of a job that says as much
 record Parts : Type 0 where

@@ -1,5 +1,5 @@
 -- A load on the store that a disk stands for.
-use Rattle.job_calls.proofs.Common.{◌≡◌, ℕ, ◌≤◌, ⊎_elim, true, false, List, [], ◌∷◌, ◌++◌, length, refl, sym, ◌∙◌, ap, subst, arith, append-nil, append_assoc, Option, Ghosts, Failed, AreTold, Prints, IsSure, Elapses, CallsDisk, FewerLater, OnlyAsks, held_of, elapses-trans, FlatStore, Program, Activation, Event, begun, is_commit, commit_lines, serial_lines, IsSerial, Desk, Word, Line, printed, spaced, event_lines, run, faulted, Header, total, IsSessionOpened, activity, order_of, Session, ghosts, IsLasting, RunsQuietly, Tells, is_rollback, is_shut, out_after, InDoubt, PrintedNow, to_later, Job, Status, HasBigRun, IsToldBy, Loaded, LoadedBy, RanBig, big_line, last_out, line_for, Call, call, OpensBy, RunsFrom, IsStanding, StandsAt}
+use Rattle.job_calls.proofs.Common.{◌≡◌, ℕ, ◌≤◌, ⊎_elim, true, false, List, [], ◌∷◌, ◌++◌, length, refl, sym, ◌∙◌, ap, subst, arith, append-nil, append_assoc, Option, Ghosts, Failed, AreTold, Prints, IsSure, Elapses, CallsDisk, FewerLater, OnlyAsks, held_of, elapses-trans, FlatStore, Program, Activation, Event, begun, is_commit, commit_lines, serial_lines, IsSerial, Desk, Word, Line, printed, spaced, event_lines, run, faulted, Header, total, IsSessionOpened, activity, order_of, Session, ghosts, IsLasting, RunsQuietly, Tells, is_rollback, is_shut, out_after, InDoubt, PrintedNow, to_later, Job, Status, HasBigRun, IsToldBy, Loaded, LoadedBy, RanBig, big_line, last_out, line_for, Call, call, OpensBy, RunsFrom, IsStanding, StandsAt, StillTold}
 use Rattle.std.specs.Prelude.{codes, decimal, All, Bool, Some, Result, Ok, Err, IsSome, IsTrue, count_by}
 use Rattle.std.specs.List.{fold}
 use Rattle.std.specs.Option.{ForSome}
@@ -14,7 +14,7 @@ use Rattle.call_status.specs.Printed.{put_of, PrintsBy}
 use Rattle.desk.specs.Lines as line
 use Rattle.schedule_replay.specs.declared.quietly.Quiet.TheVariants as quiet
 use Rattle.call_status.specs.declared.status.Status.TheVariants as status
-use Rattle.job_calls.proofs.RunLemmas.{RanFrom, Facts, first_desk, has-opened, given, wanted, these, runs-from}
+use Rattle.job_calls.proofs.RunLemmas.{RanFrom, Facts, first_desk, has-opened, given, wanted, these, runs-from, told-since}
 
 -- only the commit lines tell what was printed last
 out_filtered : (last : List ℕ) (lines : List Line) → fold out_after last lines ≡ fold out_after last (commit_lines lines)
@@ -136,7 +136,7 @@ times_since G before start between after (Err failed) asks calls times = tt
 -- what a load did, by how its run ended
 module _ {W : Type 0} (G : Ghosts W) (fewer_later : FewerLater G) (printed_now : PrintedNow G) (transfers : ℕ) (job : Job) (is_load : IsBigJob transfers job) (before start between : W) (desk new : Session)
     (opens : IsTrue (G.is_honest before) → IsSome (G.held before) → IsSessionOpened G job.frames before start desk) (asks : OnlyAsks G before start) (programs_are : (activity desk).programs ≡ job.programs.items) (same_programs : (activity new).programs ≡ (activity desk).programs) (same_opened : new.opened ≡ desk.opened) (asks-calm : G.disk_faults start ≡ G.disk_faults before)
-    (stood : IsSome (G.held before) → IsStanding (held_of G before)) (last : List ℕ) (calls : CallsDisk G start between) where
+    (stood : IsSome (G.held before) → IsStanding (held_of G before)) (last : List ℕ) (calls : CallsDisk G start between) (still : StillTold G start between) where
   abbrev Ran : Quiet → Type 0
   Ran quiet = (first : Desk) → IsSure G start → ghosts.shows desk (held_of G start) first → RunsQuietly ghosts G (activity desk).programs desk.opened job.events.items first new start between last quiet
 
@@ -147,6 +147,7 @@ module _ {W : Type 0} (G : Ghosts W) (fewer_later : FewerLater G) (printed_now :
       record {
         honest = honest ∙ asks.calls.honest;
         time = elapses-trans G fewer_later before start after asks.calls.time later;
+        told = λ told. subst (λ (those : Option (List ℕ)). IsSome those) (sym puts.only.held) (still (told-since G before start asks told));
         opens = opens_past G before after now (λ offset is. subst IsPastOpening is past) (λ opened told. stood told);
         by_status = loaded_past G transfers (call before after (order_of new) now) (Some new) now past
             (record {
@@ -177,6 +178,7 @@ module _ {W : Type 0} (G : Ghosts W) (fewer_later : FewerLater G) (printed_now :
       (subst (λ (w : W). Loaded G transfers (call before w (order_of new) Status.DiskFault) (Some new)) (sym same) (record {
         honest = calls.honest ∙ asks.calls.honest;
         time = elapses-trans G fewer_later before start between asks.calls.time calls.time;
+        told = λ told. still (told-since G before start asks told);
         opens = opens_past G before between Status.DiskFault (λ offset is. cc) (λ opened told. stood told);
         by_status = (
           record {

@@ -11,6 +11,7 @@ pub use Rattle.desk.specs.Calls.{Fixed}
 pub use Rattle.desk.specs.Commits.{IsSerial, begun, commit_lines, is_commit, serial_lines}
 pub use Rattle.desk.specs.Desk.{Desk, opened}
 pub use Rattle.desk.specs.Instruction.{Doubt, Word}
+pub use Rattle.desk.specs.Kept.{StillTold}
 pub use Rattle.desk.specs.Lines.{Line, Open, line_text, printed, spaced}
 pub use Rattle.desk.specs.Report.{event_lines, number_after, report, report_lines}
 pub use Rattle.desk.specs.Run.{IsRunOf, faulted, run}

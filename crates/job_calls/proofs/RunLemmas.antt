@@ -1,5 +1,5 @@
 -- What runs on the store that a disk stands for.
-use Rattle.job_calls.proofs.Common.{Result, Ok, Err, IsErr, IsSome, IsTrue, unwrap_or, Ghosts, Failed, AreTold, Prints, Rose, Elapses, OnlyAsks, FewerLater, Leaves, held_of, elapses-trans, leaves_on, FlatStore, Program, Activation, serial, header_of, most_lines, Standing, Stands, stands, Event, Desk, opened, Word, Doubt, run, faulted, IsRunOf, Line, line_text, Open, report, report_lines, event_lines, number_after, begun, IsSerial, IsSessionOpened, activity, session_desk, order_of, Session, ghosts, Replayed, PrintsEarlier, HasOpened, InDoubt, text_of, Reports, Replays, PrintedNow, to_since, Job, Status, status_of_replay, Call, Given, call, StandsAt, DidBy, JobHasRun, HasRunFrom, DoubtStands, Happened, HappenedTo, RanJob, RunsFrom, put_by, names_of, job_desk}
+use Rattle.job_calls.proofs.Common.{Result, Ok, Err, IsErr, IsSome, IsTrue, unwrap_or, Ghosts, Failed, AreTold, Prints, Rose, Elapses, OnlyAsks, FewerLater, Leaves, held_of, elapses-trans, leaves_on, FlatStore, Program, Activation, serial, header_of, most_lines, Standing, Stands, stands, Event, Desk, opened, Word, Doubt, run, faulted, IsRunOf, Line, line_text, Open, report, report_lines, event_lines, number_after, begun, IsSerial, IsSessionOpened, activity, session_desk, order_of, Session, ghosts, Replayed, PrintsEarlier, HasOpened, InDoubt, text_of, Reports, Replays, PrintedNow, to_since, Job, Status, status_of_replay, Call, Given, call, StandsAt, StillTold, DidBy, JobHasRun, HasRunFrom, DoubtStands, Happened, HappenedTo, RanJob, RunsFrom, put_by, names_of, job_desk}
 use Rattle.std.proofs.Common.{◌≡◌, ℕ, ◌+◌, ◌%◌, ◌^◌, inl, inr, Bool, true, false, List, [], ◌∷◌, ◌++◌, length, take, refl, sym, ◌∙◌, ap, subst, arith, append-nil, Option, Some, None}
 use Rattle.std.proofs.lemmas.Bool.{cases_lt}
 use Rattle.outside.proofs.Prints.{prints_well, prints_broken}
@@ -255,33 +255,43 @@ module _ {W : Type 0} (G : Ghosts W) (fewer_later : FewerLater G) (printed_now :
           (subst (λ (f : Facts). PrintsEarlier (G.printed start) (G.printed after) (λ front. line_text (Open f.number) ++ text_of (names_of job) f.programs f.number front f.start) reports.taken) these reports.earlier);
       times = times-since put (on_ok_as _ result put fails (subst (λ (f : Facts). PutsTimes G (length (report_lines (names_of job) f.programs f.number reports.taken reports.rest f.start)) start after result) these reports.times));
       seen = crash-leaves;
-      honest = same_honest ∙ asks.calls.honest;
-      time = elapses-trans G fewer_later before start after asks.calls.time time;
     }
+
+-- bytes that were told are, after calls that only asked
+pub told-since : {W : Type 0} (G : Ghosts W) (before start : W) → OnlyAsks G before start → StillTold G before start
+told-since G before start asks told = subst (λ (those : Option (List ℕ)). IsSome those) (sym asks.held) told
 
 -- what was replayed on a desk that was opened, by how that ended
 module _ {W : Type 0} (G : Ghosts W) (fewer_later : FewerLater G) (printed_now : PrintedNow G) (job : Job) (before start after : W) (desk new : Session)
     (opens : IsTrue (G.is_honest before) → IsSome (G.held before) → IsSessionOpened G job.frames before start desk) (asks : OnlyAsks G before start) (programs_are : (activity desk).programs ≡ job.programs.items) (same_opened : new.opened ≡ desk.opened)
-    (same_honest : G.is_honest after ≡ G.is_honest start) (time : Elapses G.moment G.left_since start after) (asks-calm : G.disk_faults start ≡ G.disk_faults before)
+    (same_honest : G.is_honest after ≡ G.is_honest start) (time : Elapses G.moment G.left_since start after) (still : StillTold G start after) (asks-calm : G.disk_faults start ≡ G.disk_faults before)
     (result : Replayed) (replays : (first : Desk) → HasOpened ghosts G desk start first → Replays ghosts G (names_of job) (activity desk).programs desk.opened job.events.items first new start after result) where
   abbrev replayed-from : (number : ℕ) (store : FlatStore) (standing : StandsAt G before number store) → Replays ghosts G (names_of job) (activity desk).programs desk.opened job.events.items (first_desk G job.frames before start desk (opens standing.honest standing.told) asks) new start after result
   replayed-from number store standing = replays (first_desk G job.frames before start desk (opens standing.honest standing.told) asks) (has-opened G job.frames before start desk (opens standing.honest standing.told) asks)
 
-  pub happened-by : (that : Replayed) → result ≡ that → HappenedTo G job (call before after (order_of new) (status_of_replay that)) (Some new)
-  happened-by replayed.Ended is = λ number store standing.
+  did-by : (that : Replayed) → result ≡ that → DidBy G (HasRunFrom G job (call before after (order_of new) (status_of_replay that)) (Some new)) (call before after (order_of new) (status_of_replay that)) (Some new) (status_of_replay that)
+  did-by replayed.Ended is = λ number store standing.
       let reports = subst (λ (those : Replayed). Replays ghosts G (names_of job) (activity desk).programs desk.opened job.events.items (first_desk G job.frames before start desk (opens standing.honest standing.told) asks) new start after those) is (replayed-from number store standing) in
       has_run G fewer_later printed_now job before start after desk new number store standing (opens standing.honest standing.told) asks programs_are same_opened same_honest time asks-calm
       (Ok false) (Ok 0) status.Done reports refl (λ one two bytes prints. prints_well one two bytes false 0 prints) (λ is. is) (λ is. (reports.closed, reports.all refl)) (λ is. absurd (cc))
-  happened-by replayed.Closed is = λ number store standing.
+  did-by replayed.Closed is = λ number store standing.
       let reports = subst (λ (those : Replayed). Replays ghosts G (names_of job) (activity desk).programs desk.opened job.events.items (first_desk G job.frames before start desk (opens standing.honest standing.told) asks) new start after those) is (replayed-from number store standing) in
       has_run G fewer_later printed_now job before start after desk new number store standing (opens standing.honest standing.told) asks programs_are same_opened same_honest time asks-calm
       (Ok true) (Ok 0) status.DiskFault reports refl (λ one two bytes prints. prints_well one two bytes true 0 prints) (λ is. is) (λ is. absurd (cc)) (λ is. reports.closed)
-  happened-by (replayed.Damaged offset) is = λ number store standing.
+  did-by (replayed.Damaged offset) is = λ number store standing.
       subst (λ (those : Replayed). Replays ghosts G (names_of job) (activity desk).programs desk.opened job.events.items (first_desk G job.frames before start desk (opens standing.honest standing.told) asks) new start after those) is (replayed-from number store standing)
-  happened-by replayed.PutFault is = λ number store standing.
+  did-by replayed.PutFault is = λ number store standing.
       let (failed, reports) = subst (λ (those : Replayed). Replays ghosts G (names_of job) (activity desk).programs desk.opened job.events.items (first_desk G job.frames before start desk (opens standing.honest standing.told) asks) new start after those) is (replayed-from number store standing) in
       has_run G fewer_later printed_now job before start after desk new number store standing (opens standing.honest standing.told) asks programs_are same_opened same_honest time asks-calm
       (Err failed) (Err failed) status.PutFault reports (failed, refl) (λ one two bytes prints. prints_broken {T = Bool} {U = ℕ} (Err failed) (Err failed) refl refl one two bytes prints) (λ is. is) (λ is. absurd (cc)) (λ is. absurd (cc))
+
+  pub happened-by : (that : Replayed) → result ≡ that → HappenedTo G job (call before after (order_of new) (status_of_replay that)) (Some new)
+  happened-by that is = record {
+    honest = same_honest ∙ asks.calls.honest;
+    time = elapses-trans G fewer_later before start after asks.calls.time time;
+    told = λ told. still (told-since G before start asks told);
+    by_status = did-by that is;
+  }
 
 -- what running did, as something else that it did
 did-as : {W : Type 0} (G : Ghosts W) (ran other : Type 0) (c : Call W) (session : Option Session) (now : Status) → (ran → other) → DidBy G ran c session now → DidBy G other c session now
@@ -295,4 +305,9 @@ did-as G ran other c session _ turns did = did
 -- what happened to the job of a text
 pub happens : {W : Type 0} (G : Ghosts W) (text : List ℕ) (job : Job) (from : Given) (c : Call W) (session : Option Session) → IsWhole from.left from.left_now text → job_of text ≡ Ok (content_of job) → HappenedTo G job c session → HandedRuns job.programs.items session → Happened G from c session
 happens G text job from c session whole means did runs =
-    did-as G (HasRunFrom G job c session) (RanJob G from c session) c session c.status (λ ran. record { text = text; whole = whole; job = job; means = means; has_run = ran; runs = runs }) did
+    record {
+      honest = did.honest;
+      time = did.time;
+      told = did.told;
+      by_status = did-as G (HasRunFrom G job c session) (RanJob G from c session) c session c.status (λ ran. record { text = text; whole = whole; job = job; means = means; has_run = ran; runs = runs }) did.by_status;
+    }

@@ -4,6 +4,7 @@ use Rattle.std.specs.List.{fold}
 use Rattle.outside.specs.declared.world.Outside.{Ghosts}
 use Rattle.outside.specs.Moments.{Elapses}
 use Rattle.line_geometry.specs.FlatStore.{FlatStore}
+use Rattle.desk.specs.Kept.{StillTold}
 use Rattle.desk.specs.Lines.{Line, printed, spaced}
 use Rattle.desk.specs.Commits.{begun, is_commit, serial_lines}
 use Rattle.supervisor.specs.declared.session.Session.{Session}
@@ -19,7 +20,7 @@ use Rattle.call_status.specs.declared.status.Status.TheVariants as status
 use Rattle.call_status.specs.Statuses.{IsPastOpening}
 use Rattle.job_calls.specs.Causes.{OpensBy}
 use Rattle.job_calls.specs.Handed.{HandedRuns}
-use Rattle.job_calls.specs.Headline.{ByOpening, Refused, RunsFrom, Untouched}
+use Rattle.job_calls.specs.Headline.{ByOpening, FoundNoStore, Refused, RunsFrom, Untouched}
 use Rattle.call_status.specs.Printed.{put_of, PutsOnce, PrintsBy}
 use Rattle.call_status.specs.Opening.{StandsAt}
 
@@ -65,13 +66,14 @@ abbrev pub LoadedBy : {W : Type 0} → Ghosts W → ℕ → Call W → Option Se
 LoadedBy G transfers call session status.Done = RanBig G transfers call session × PutsOnce G call.before call.after
 LoadedBy G transfers call session status.PutFault = RanBig G transfers call session
 LoadedBy G transfers call session status.DiskFault = ByOpening session (RanBig G transfers call session) (Untouched G call) × (G.printed call.after ≡ G.printed call.before)
-LoadedBy G transfers call session (status.Store offset) = Refused G call
+LoadedBy G transfers call session (status.Store offset) = FoundNoStore G call offset
 LoadedBy G transfers call session status.NoMemory = Refused G call
 LoadedBy G transfers call session _ = ⊥
 
--- what a load did, and what the bytes of the disk tell of its status
+-- what a load did, whatever stands on the disk: it is as honest as it was and time elapsed, bytes that were told are told, and what they tell of its status
 pub record Loaded {W : Type 0} (G : Ghosts W) (transfers : ℕ) (call : Call W) (session : Option Session) : Type 0 where
   pub honest : G.is_honest call.after ≡ G.is_honest call.before
   pub time : Elapses G.moment G.left_since call.before call.after
+  pub told : StillTold G call.before call.after
   pub opens : OpensBy G call.before call.after call.status
   pub by_status : LoadedBy G transfers call session call.status

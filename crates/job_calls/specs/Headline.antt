@@ -12,6 +12,7 @@ use Rattle.store_format.specs.Header.{header_of, most_lines}
 use Rattle.store_format.specs.Stands.{Stands, stands}
 use Rattle.desk.specs.declared.event.Event.{Event}
 use Rattle.desk.specs.Desk.{Desk, opened}
+use Rattle.desk.specs.Kept.{StillTold}
 use Rattle.desk.specs.Instruction.{Word, Doubt}
 use Rattle.desk.specs.Run.{run, faulted, IsRunOf}
 use Rattle.desk.specs.Lines.{Line, line_text, Open}
@@ -29,7 +30,7 @@ use Rattle.call_status.specs.Call.{Call, Given}
 use Rattle.call_status.specs.declared.status.Status.{Status}
 use Rattle.call_status.specs.declared.status.Status.TheVariants as status
 use Rattle.call_status.specs.SourceText.{IsWhole}
-use Rattle.call_status.specs.Opening.{StandsAt}
+use Rattle.call_status.specs.Opening.{IsFaultAt, StandsAt}
 use Rattle.job_calls.specs.Handed.{HandedRuns}
 
 -- the names of a job's programs
@@ -95,8 +96,6 @@ pub record JobHasRun {W : Type 0} (G : Ghosts W) (job : Job) (number : ℕ) (sto
   pub earlier : PrintsEarlier (G.printed call.before) (G.printed call.after) (λ front. line_text (Open number) ++ text_of (names_of job) job.programs.items number front (job_desk job (held_of G call.before) store)) ran.taken
   -- a crash leaves no fewer commits than were printed by then, where the printed bytes are told
   pub seen : IsSome (G.printed call.before) → Leaves G (IsPrefix (begun job.programs.items job.events.items) number store call.order (shown_of G call.before)) call.before call.after
-  pub honest : G.is_honest call.after ≡ G.is_honest call.before
-  pub time : Elapses G.moment G.left_since call.before call.after
 
 -- the job was run, from whatever number and store the disk stood for
 abbrev pub HasRunFrom : {W : Type 0} → Ghosts W → Job → Call W → Option Session → Type 0
@@ -125,6 +124,11 @@ pub record Refused {W : Type 0} (G : Ghosts W) (call : Call W) : Type 0 where
   pub untouched : Untouched G call
   pub calm : G.disk_faults call.after ≡ G.disk_faults call.before
 
+-- no store was found: bytes that are told have this fault
+pub record FoundNoStore {W : Type 0} (G : Ghosts W) (call : Call W) (offset : ℕ) : Type 0 where
+  pub refused : Refused G call
+  pub fault : IsSome (G.held call.before) → IsFaultAt (held_of G call.before) offset
+
 -- the first where a session was opened, and the second where the call was refused before
 abbrev pub ByOpening : Option Session → Type 0 → Type 0 → Type 0
 ByOpening (Some session) opened refused = opened
@@ -135,13 +139,21 @@ abbrev pub DidBy : {W : Type 0} → Ghosts W → (ran : Type 0) → Call W → O
 DidBy G ran call session status.Done = ran
 DidBy G ran call session status.PutFault = ran
 DidBy G ran call session status.DiskFault = ByOpening session ran (Untouched G call)
-DidBy G ran call session (status.Store offset) = ByOpening session (StoodForNone G call.before) (Refused G call)
+DidBy G ran call session (status.Store offset) = ByOpening session (StoodForNone G call.before) (FoundNoStore G call offset)
 DidBy G ran call session _ = Refused G call
+
+-- What a call did on an outside, whatever stands on it, where this is what running its events did: the disk is as honest as it was and time elapsed, bytes
+-- that were told are told, and the rest is by its status.
+pub record DidOn {W : Type 0} (G : Ghosts W) (ran : Type 0) (call : Call W) (session : Option Session) : Type 0 where
+  pub honest : G.is_honest call.after ≡ G.is_honest call.before
+  pub time : Elapses G.moment G.left_since call.before call.after
+  pub told : StillTold G call.before call.after
+  pub by_status : DidBy G ran call session call.status
 
 -- what a call did with the job of its source
 abbrev pub Happened : {W : Type 0} → Ghosts W → Given → Call W → Option Session → Type 0
-Happened G given call session = DidBy G (RanJob G given call session) call session call.status
+Happened G given call session = DidOn G (RanJob G given call session) call session
 
 -- the same for a job that is given
 abbrev pub HappenedTo : {W : Type 0} → Ghosts W → Job → Call W → Option Session → Type 0
-HappenedTo G job call session = DidBy G (HasRunFrom G job call session) call session call.status
+HappenedTo G job call session = DidOn G (HasRunFrom G job call session) call session

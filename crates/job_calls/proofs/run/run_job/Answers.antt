@@ -84,7 +84,7 @@ returns-clause-happened g c =
     subst (λ (now : Status). HappenedTo G job (call before after (order_told c.filled.result.items) now) (Some new)) (sym c.status_of_replay.ensures)
     (subst (λ (order : List (ℕ × ℕ)). HappenedTo G job (call before after order (status_of_replay result)) (Some new)) (sym (ap order_told c.filled.ensures ∙ c.order.ensures))
     (happened-by G g.met.W.Outside.fewer_later g.met.W.Outside.printed_now job before start after desk new c.in-Ok.ensures.opened c.in-Ok.ensures.asks c.in-Ok.ensures.new.programs_are (ap (λ (fixed : Fixed). fixed.opened) c.replay-replayed.ensures.fixed)
-    c.replay-replayed.ensures.honest c.replay-replayed.ensures.time c.in-Ok.ensures.unfailed result did result refl))
+    c.replay-replayed.ensures.honest c.replay-replayed.ensures.time c.replay-replayed.ensures.told c.in-Ok.ensures.unfailed result did result refl))
 
 pub returns-clause-disk : goal.returns-clause-disk
 returns-clause-disk g c = λ is.
