@@ -117,6 +117,7 @@ pub(super) const NOTHING: &str = "frames 2\nschedule\nend\n";
 /// A call of the disk that fails, after so many that overlap the range; a put that fails after so many bytes; and what is left:
 /// the status, how many commits are in the order, what is printed, and the least and the greatest number with
 /// which the store may open then.
+#[derive(Clone, Copy)]
 struct Device {
     running: Running,
     refusal: Option<(Call, u64, u64, u32)>,
@@ -127,101 +128,82 @@ struct Device {
     found: (u64, u64),
 }
 
+/// The one program's run on a disk that can't be opened.
+const UNOPENED: Device = Device {
+    running: Running::OneAdd,
+    refusal: None,
+    put: None,
+    status: Status::DiskFault,
+    commits: 0,
+    printed: "",
+    found: (0, 0),
+};
+
 const DEVICES: [Device; 10] = [
     Device {
-        running: Running::OneAdd,
         refusal: Some((Call::Length, 0, 0, 0)),
-        put: None,
-        status: Status::DiskFault,
-        commits: 0,
-        printed: "",
-        found: (0, 0),
+        ..UNOPENED
     },
     Device {
-        running: Running::OneAdd,
         refusal: Some((Call::Read, 0, 128, 0)),
-        put: None,
-        status: Status::DiskFault,
-        commits: 0,
-        printed: "",
-        found: (0, 0),
+        ..UNOPENED
     },
     // the syncs of an opening and of a record's body
     Device {
-        running: Running::OneAdd,
         refusal: Some((Call::Sync, 0, 0, 0)),
-        put: None,
-        status: Status::DiskFault,
-        commits: 0,
-        printed: "",
-        found: (0, 0),
+        ..UNOPENED
     },
     Device {
-        running: Running::OneAdd,
         refusal: Some((Call::Sync, 0, 0, 1)),
-        put: None,
-        status: Status::DiskFault,
-        commits: 0,
         printed: "open 0\nbegin 1 add\nturn 1 ran 4 page 1 lock 2\nclosed\n",
-        found: (0, 0),
+        ..UNOPENED
     },
     // the body of a record, and its gate
     Device {
-        running: Running::OneAdd,
         refusal: Some((Call::Write, 265, 408, 0)),
-        put: None,
-        status: Status::DiskFault,
-        commits: 0,
         printed: "open 0\nbegin 1 add\nturn 1 ran 4 page 1 lock 2\nclosed\n",
-        found: (0, 0),
+        ..UNOPENED
     },
     Device {
-        running: Running::OneAdd,
         refusal: Some((Call::Write, 264, 265, 0)),
-        put: None,
-        status: Status::DiskFault,
         commits: 1,
         printed: "open 0\nbegin 1 add\nturn 1 ran 4 page 1 lock 2\ndoubt 1 number 1\nclosed\n",
         found: (0, 1),
+        ..UNOPENED
     },
     Device {
-        running: Running::OneAdd,
-        refusal: None,
         put: Some((1, 3)),
         status: Status::PutFault,
-        commits: 0,
         printed: "ope",
-        found: (0, 0),
+        ..UNOPENED
     },
     Device {
-        running: Running::OneAdd,
-        refusal: None,
         put: Some((4, 10)),
         status: Status::PutFault,
         commits: 1,
         printed: "open 0\nbegin 1 add\nturn 1 ran 5 page 1 lock 2\ncommit 1 n",
         found: (1, 1),
+        ..UNOPENED
     },
     // the sync of the gate, and the put of what it leaves
     Device {
-        running: Running::OneAdd,
         refusal: Some((Call::Sync, 0, 0, 2)),
         put: Some((5, 0)),
         status: Status::PutFault,
         commits: 1,
         printed: "open 0\nbegin 1 add\nturn 1 ran 4 page 1 lock 2\ndoubt 1 number 1\n",
         found: (0, 1),
+        ..UNOPENED
     },
     // a home line at a checkpoint
     Device {
         running: Running::Filled,
         refusal: Some((Call::Write, 8864, 8992, 0)),
-        put: None,
-        status: Status::DiskFault,
         commits: 1,
         printed: "open 0\nbegin 1 fill\nturn 1 ran 126 page 2 lock 31\ncommit 1 number 1 steps 126 out -\nbegin 2 null\n\
             turn 2 ran 0 page 0 lock 0\nclosed\n",
         found: (1, 1),
+        ..UNOPENED
     },
 ];
 
