@@ -24,16 +24,10 @@ has-wanted part (want ∷ wants) line of =
 in-page : (at page : ℕ) (set : List ℕ) → ((x : ℕ) → has set x ≡ true → x < 16) → list_any (λ line. page_of_line line == page) (flat_lines at set) ≡ ((at == page) && not (length set == 0))
 in-page at page [] few = sym (and-false (at == page))
 in-page at page (x ∷ set) few =
-    let small : x < 16 = few x (or_left (x == x) (has set x) (eq-eqb x x refl)) in
+    let small : x < 16 = few x (grind (arith, nat_tests)) in
     let lies : (at * 16 + x) / 16 ≡ at = omega (arith, small) in
-    let some : (length (x ∷ set) == 0) ≡ false = grind (arith, nat_tests) in
-    (λ i. (lies i == page) || in-page at page set (λ y inside. few y (or_right (x == y) (has set y) inside)) i)
-    ∙ absorbs (at == page) (not (length set == 0))
-    ∙ sym (ap (λ (b : Bool). (at == page) && not b) some)
-  where
-    absorbs : (a b : Bool) → (a || (a && b)) ≡ (a && true)
-    absorbs true b = refl
-    absorbs false b = refl
+    let rest = in-page at page set (λ y inside. few y (grind arith)) in
+    grind (arith, nat_tests, lies, rest)
 
 -- a page is written into where some line of it is wanted to write
 pub has-pages_wanted : (wants : List Want) (page : ℕ) → All (λ want. IsOfPage want.writes) wants
@@ -49,10 +43,7 @@ has-pages_wanted wants page of = has-pages_of (lines_wanted wants).writes page �
         || each wants (All-tail (λ (w : Want). IsOfPage w.writes) want wants of) i)
 
 all-has : (line : ℕ) → line < 16 → has (between 0 15) line ≡ true
-all-has line below =
-    let first : nat_le 0 line ≡ true = grind (arith, nat_tests) in
-    let last : nat_le line 15 ≡ true = grind (arith, nat_tests, below) in
-    is_in_where-below (λ x. nat_le 0 x && nat_le x 15) line below ∙ (λ i. first i && last i)
+all-has line below = is_in_where-below (λ x. nat_le 0 x && nat_le x 15) line below ∙ grind (arith, nat_tests)
 
 -- with its whole page where one is written, a want is of lines of a page too
 pub whole-of-page : (directory : Layout) (wants : List Want) → AreOfPage wants → AreOfPage (map (with_whole_page directory) wants)
@@ -77,15 +68,7 @@ whole-of-page directory wants sets = record { reads = reads wants sets.reads; wr
 
 -- how a want's lines to read, its lines to write and its page come together
 gathers : (a b c n d e f : Bool) → ((a || (b || (c && n))) || (d || (e || (f && n)))) ≡ ((a || d) || ((b || e) || ((c || f) && n)))
-gathers true b c n d e f = refl
-gathers false true c n true e f = refl
-gathers false true c n false e f = refl
-gathers false false true true true e f = refl
-gathers false false true true false true f = refl
-gathers false false true true false false f = refl
-gathers false false true false d e true = refl
-gathers false false true false d e false = refl
-gathers false false false n d e f = refl
+gathers a b c n d e f = grind arith
 
 -- What is asked for is what is touched, with each line that is written read, and the whole pages that are not fine and are written into.
 pub asked-alike : (directory : Layout) (wants : List Want) → AreOfPage wants
@@ -110,7 +93,7 @@ asked-alike directory wants sets = record {
   where
     no-writes : (set : List ℕ) (x : ℕ) → (length set == 0) ≡ true → has set x ≡ false
     no-writes [] x none = refl
-    no-writes (y ∷ set) x none = absurd (both_ways (length (y ∷ set) == 0) (grind (arith, nat_tests)) none)
+    no-writes (y ∷ set) x none = grind (arith, nat_tests)
 
     one : (line : ℕ) (want : Want) → ((want.page == page_of_line line) && has (with_whole_page directory want).reads (line % 16))
         ≡ (((want.page == page_of_line line) && has want.reads (line % 16))

@@ -1,15 +1,9 @@
 -- Pages that go out one after another, their lines forgotten.
-use Rattle.activations.proofs.Common.{or-false, and-true, ◌≡◌, refl, ℕ, ◌%◌, ◌<◌, ◌==◌, ◌&&◌, ◌||◌, not, if◌then◌else◌, Bool, true, false, List, [], ◌∷◌, ◌++◌, filter, length, slice_index, slice_index_or, slice_set, Option, Some, None, is_some, option_map_or, arith, ap, sym, ◌∙◌, get_or-set_same, get_or-set_other, eqb-true, eq-eqb, both_ways, or_left, or_right, Layout, byte_count, page_count, line_of, difference, is_in_where-below, has, page_of_line, taken_out, has-append, Pool, marks_at, frame_at, undone, settled, gone, is_line_marked, bytes_over, Fits, UndoForgets, is_among, is_of, WereUndone, AreAsCommitted}
+use Rattle.activations.proofs.Common.{or-false, and-true, ◌≡◌, refl, ℕ, ◌%◌, ◌<◌, ◌==◌, ◌&&◌, ◌||◌, not, if◌then◌else◌, Bool, true, false, List, [], ◌∷◌, ◌++◌, filter, length, slice_index, slice_index_or, slice_set, Option, Some, None, is_some, option_map_or, arith, ap, sym, ◌∙◌, get_or-set_same, get_or-set_other, eqb-true, eq-eqb, both_ways, or_left, or_right, Layout, byte_count, page_count, line_of, difference, is_in_where-below, has, page_of_line, taken_out, has-append, Pool, marks_at, frame_at, undone, settled, gone, is_line_marked, bytes_over, Fits, UndoForgets, is_among, is_of, WereUndone, AreAsCommitted, nat_tests}
 
 filter-then : (p q : ℕ → Bool) (xs : List ℕ) → filter p (filter q xs) ≡ filter (λ x. q x && p x) xs
 filter-then p q [] = refl
-filter-then p q (x ∷ xs) = by_test (q x) (p x) refl (filter-then p q xs)
-  where
-    by_test : (a b : Bool) → p x ≡ b → filter p (filter q xs) ≡ filter (λ x. q x && p x) xs
-        → filter p (if a then x ∷ filter q xs else filter q xs) ≡ (if a && p x then x ∷ filter (λ x. q x && p x) xs else filter (λ x. q x && p x) xs)
-    by_test true true e rest = ap (λ (c : Bool). if c then x ∷ filter p (filter q xs) else filter p (filter q xs)) e ∙ ap (λ (these : List ℕ). x ∷ these) rest ∙ sym (ap (λ (c : Bool). if c then x ∷ filter (λ x. q x && p x) xs else filter (λ x. q x && p x) xs) e)
-    by_test true false e rest = ap (λ (c : Bool). if c then x ∷ filter p (filter q xs) else filter p (filter q xs)) e ∙ rest ∙ sym (ap (λ (c : Bool). if c then x ∷ filter (λ x. q x && p x) xs else filter (λ x. q x && p x) xs) e)
-    by_test false b e rest = rest
+filter-then p q (x ∷ xs) = grind (arith, filter-then p q xs)
 
 pub filter-alike : (p q : ℕ → Bool) (xs : List ℕ) → ((x : ℕ) → has xs x ≡ true → p x ≡ q x) → filter p xs ≡ filter q xs
 filter-alike p q [] same = refl
@@ -21,9 +15,7 @@ filter-alike p q (x ∷ xs) same =
 
 -- what is in neither of two
 pub neither-of : (m a b : Bool) → ((m && not a) && not b) ≡ (m && not (a || b))
-neither-of true true b = refl
-neither-of true false b = refl
-neither-of false a b = refl
+neither-of m a b = grind arith
 
 -- a page more goes out
 taken-then : (pages : List ℕ) (page : ℕ) (resident : List ℕ) → taken_out (page ∷ []) (taken_out pages resident) ≡ taken_out (pages ++ page ∷ []) resident
@@ -38,32 +30,12 @@ filter-all (x ∷ xs) = ap (λ (these : List ℕ). x ∷ these) (filter-all xs)
 
 -- one that isn't resident takes none out
 taken-none : (page : ℕ) (resident : List ℕ) → has resident page ≡ false → resident ≡ taken_out (page ∷ []) resident
-taken-none page resident out = sym (filter-all resident) ∙ filter-alike (λ one. true) (λ one. not (has (page ∷ []) one)) resident (λ one inside. by_test one inside (page == one) refl)
-  where
-    by_test : (one : ℕ) → has resident one ≡ true → (same : Bool) → (page == one) ≡ same → true ≡ not (same || false)
-    by_test one inside true e = absurd (both_ways (has resident page) out (ap (has resident) (eqb-true page one e) ∙ inside))
-    by_test one inside false e = refl
+taken-none page resident out = sym (filter-all resident) ∙ filter-alike (λ one. true) (λ one. not (has (page ∷ []) one)) resident (λ one inside. grind (arith, nat_tests))
 
 -- a page more among these
 pub of-then : (lines : ℕ → List ℕ) (pages : List ℕ) (page line : ℕ)
     → is_of (pages ++ page ∷ []) lines line ≡ (is_of pages lines line || ((page == page_of_line line) && has (lines page) (line % 16)))
-of-then lines pages page line =
-    ap (λ (b : Bool). b && has (lines (page_of_line line)) (line % 16)) (has-append pages (page ∷ []) (page_of_line line))
-    ∙ by_test (has pages (page_of_line line)) (page == page_of_line line) refl
-  where
-    by_test : (a b : Bool) → (page == page_of_line line) ≡ b
-        → ((a || (b || false)) && has (lines (page_of_line line)) (line % 16)) ≡ ((a && has (lines (page_of_line line)) (line % 16)) || (b && has (lines page) (line % 16)))
-    by_test a true e =
-        let same : page ≡ page_of_line line = eqb-true page (page_of_line line) e in
-        either a (has (lines (page_of_line line)) (line % 16)) ∙ ap (λ (p : ℕ). (a && has (lines (page_of_line line)) (line % 16)) || has (lines p) (line % 16)) (sym same)
-      where
-        either : (a w : Bool) → ((a || true) && w) ≡ ((a && w) || w)
-        either true true = refl
-        either true false = refl
-        either false true = refl
-        either false false = refl
-    by_test true false e = sym (or-false (has (lines (page_of_line line)) (line % 16)))
-    by_test false false e = refl
+of-then lines pages page line = let more = has-append pages (page ∷ []) (page_of_line line) in grind (arith, nat_tests, more)
 
 by_frame : {A : Type 0} → (part : Pool → A) (in_frame : ℕ → Pool) (other : Pool) (value : A) (frame : Option ℕ)
     → ((x : ℕ) → part (in_frame x) ≡ value) → (frame ≡ None → part other ≡ value) → part (option_map_or in_frame frame other) ≡ value
@@ -141,7 +113,4 @@ module _ (directory : Layout) (lines : ℕ → List ℕ) (pages : List ℕ) (old
       }
     where
       chosen : (a b : Bool) (x y : ℕ) → (if b then x else if a then x else y) ≡ (if a || b then x else y)
-      chosen true true x y = refl
-      chosen true false x y = refl
-      chosen false true x y = refl
-      chosen false false x y = refl
+      chosen a b x y = grind arith

@@ -1,5 +1,5 @@
 -- Where waits lead.
-use Rattle.desk_law.proofs.Common.{◌≡◌, refl, ℕ, zero, suc, ◌<◌, ◌≤◌, ◌==◌, ◌&&◌, ◌||◌, ◌⊎◌, not, if◌then◌else◌, Bool, true, false, List, [], ◌∷◌, length, filter, list_any, arith, ap, sym, ◌∙◌, subst, inl, inr, eqb-true, eq-eqb, both_ways, and_parts, and_from, or_cases, or_left, or_right, cases_Bool, not_from_false, false_from_ne_true, has, leads, any-at, any-some, HasNoCycle, except}
+use Rattle.desk_law.proofs.Common.{◌≡◌, refl, ℕ, zero, suc, ◌<◌, ◌≤◌, ◌==◌, ◌&&◌, ◌||◌, ◌⊎◌, not, if◌then◌else◌, Bool, true, false, List, [], ◌∷◌, length, filter, list_any, arith, ap, sym, ◌∙◌, subst, inl, inr, eqb-true, eq-eqb, both_ways, and_parts, and_from, or_cases, or_left, or_right, cases_Bool, not_from_false, false_from_ne_true, has, leads, any-at, any-some, HasNoCycle, except, nat_tests}
 use Rattle.desk_law.proofs.Entries.{filter-short}
 
 -- the first step of a walk
@@ -12,25 +12,12 @@ pub record Steps (waits : ℕ → ℕ → Bool) (all : List ℕ) (steps from to 
 pub first-step : (waits : ℕ → ℕ → Bool) (all : List ℕ) (steps from to : ℕ) → leads waits all (suc steps) from to ≡ true → Steps waits all steps from to
 first-step waits all steps from to leads_there =
     let (next, there, passes) = any-some (λ next. waits from next && (next == to || leads waits all steps next to)) all leads_there in
-    let parts = and_parts (waits from next) (next == to || leads waits all steps next to) passes in
-    record {
-      next = next;
-      there = there;
-      step = parts.0;
-      rest = elim (or_cases (next == to) (leads waits all steps next to) parts.1) [
-        | inl same ↦ inl (eqb-true next to same)
-        | inr later ↦ inr later
-      ];
-    }
+    record { next = next; there = there; step = grind (arith, passes); rest = grind (arith, nat_tests, passes) }
 
 pub one-step : (waits : ℕ → ℕ → Bool) (all : List ℕ) (steps from to next : ℕ) → has all next ≡ true → waits from next ≡ true
     → (next ≡ to) ⊎ (leads waits all steps next to ≡ true) → leads waits all (suc steps) from to ≡ true
-one-step waits all steps from to next there step (inl same) =
-    any-at (λ next. waits from next && (next == to || leads waits all steps next to)) all next there
-    (and_from (waits from next) (next == to || leads waits all steps next to) step (or_left (next == to) (leads waits all steps next to) (eq-eqb next to same)))
-one-step waits all steps from to next there step (inr later) =
-    any-at (λ next. waits from next && (next == to || leads waits all steps next to)) all next there
-    (and_from (waits from next) (next == to || leads waits all steps next to) step (or_right (next == to) (leads waits all steps next to) later))
+one-step waits all steps from to next there step rest =
+    any-at (λ next. waits from next && (next == to || leads waits all steps next to)) all next there (grind (arith, nat_tests, step, rest))
 
 -- more waits among more numbers lead as far
 pub leads-wider : (waits wider : ℕ → ℕ → Bool) (all more : List ℕ)

@@ -1,5 +1,9 @@
 -- What a step of the places needs and leaves.
 use Rattle.frame_pool.proofs.Common.{◌≡◌, ℕ, zero, suc, ◌+◌, ◌<◌, ◌≤◌, Bool, true, false, List, [], ◌∷◌, ◌++◌, length, refl, sym, ◌∙◌, ap, arith, Some, None, vec_len, vec_capacity, ◌==◌, ◌||◌, not, cond, nat_lt, position, slice_index, slice_index_or, if◌then◌else◌, Option, unwrap_or, Result, Ok, Err, is_ok, IsOk, IsSome, option_to_list, prefix_len, range_with_len, ltb-true, ltb-false, eqb-true, get_or_read_under, has, place_of, index_out, IsSound, is_apart, places_of}
+use Rattle.std.proofs.lemmas.Bool.{cases_Bool, cases_lt}
+use Rattle.std.proofs.lemmas.Bool.Decides.{nat_tests}
+use Rattle.std.proofs.lemmas.List.Quantifiers.{position-Some}
+use Rattle.std.proofs.Common.{inl, inr}
 use Rattle.frame_pool.specs.declared.pages.StorePages.{StorePages}
 use Rattle.frame_pool.proofs.ApartLemmas.{has-push_last, first-apart, or_none}
 use Rattle.frame_pool.proofs.SoundLemmas.{resident-in_frame, page-within, frame-of_store}
@@ -67,70 +71,34 @@ free-within p frame free split =
 -- of two pages not both are to stay
 stays-one : (keep : Option ℕ) (x y : ℕ) → has (option_to_list keep) x ≡ true → has (option_to_list keep) y ≡ true → y ≡ x
 stays-one None x y first second = absurd (cc)
-stays-one (Some k) x y first second = sym (eqb-true k y (only (k == y) second)) ∙ eqb-true k x (only (k == x) first)
-  where
-    only : (b : Bool) → (b || false) ≡ true → b ≡ true
-    only true is = refl
-    only false is = absurd (cc)
+stays-one (Some k) x y first second = grind (arith, nat_tests)
 
 some-goes :
     (keep : Option ℕ) (x y : ℕ) (rest : List ℕ) → is_apart (x ∷ y ∷ rest) ≡ true
     → length (x ∷ y ∷ rest) ≤ prefix_len (λ page. not (not (has (option_to_list keep) page))) (x ∷ y ∷ rest) → ⊥
-some-goes keep x y rest apart all = by_test (has (option_to_list keep) x) (has (option_to_list keep) y) refl refl all
-  where
-    by_test :
-        (first second : Bool) → has (option_to_list keep) x ≡ first → has (option_to_list keep) y ≡ second
-        → length (x ∷ y ∷ rest) ≤ cond (not (not first)) (1 + cond (not (not second)) (1 + prefix_len (λ page. not (not (has (option_to_list keep) page))) rest) 0) 0
-        → ⊥
-    by_test true true first second all =
-        let none : ((y == x) ≡ false) × (has rest x ≡ false) = or_none (y == x) (has rest x) (first-apart x (y ∷ rest) apart).0 in
-        let same : y ≡ x = stays-one keep x y first second in
-        let test : (y == x) ≡ true = equal y x same in
-        (let clash : true ≡ false = sym test ∙ none.0 in cc)
-      where
-        equal : (a b : ℕ) → a ≡ b → (a == b) ≡ true
-        equal a b e = grind arith
-    by_test true false first second all = absurd (omega arith)
-    by_test false second first second_is all = absurd (omega arith)
+some-goes keep x y rest apart all =
+    let none = or_none (y == x) (has rest x) (first-apart x (y ∷ rest) apart).0 in
+    let same = stays-one keep x y in
+    grind (arith, nat_tests, none, same)
 
 not-all-stay : (keep : Option ℕ) (xs : List ℕ) → is_apart xs ≡ true → 2 ≤ length xs → position (λ page. not (has (option_to_list keep) page)) xs ≡ None → ⊥
 not-all-stay keep [] apart two none = omega arith
 not-all-stay keep (x ∷ []) apart two none = omega arith
-not-all-stay keep (x ∷ y ∷ rest) apart two none =
-    by_test (nat_lt (prefix_len (λ page. not (not (has (option_to_list keep) page))) (x ∷ y ∷ rest)) (length (x ∷ y ∷ rest))) refl none
-  where
-    by_test :
-        (b : Bool) → nat_lt (prefix_len (λ page. not (not (has (option_to_list keep) page))) (x ∷ y ∷ rest)) (length (x ∷ y ∷ rest)) ≡ b
-        → cond b (Some (prefix_len (λ page. not (not (has (option_to_list keep) page))) (x ∷ y ∷ rest))) None ≡ None → ⊥
-    by_test true is none = (let clash : Some (prefix_len (λ page. not (not (has (option_to_list keep) page))) (x ∷ y ∷ rest)) ≡ None = none in cc)
-    by_test false is none = some-goes keep x y rest apart (ltb-false _ _ is)
+not-all-stay keep (x ∷ y ∷ rest) apart two none = let all = some-goes keep x y rest apart in grind (arith, nat_tests, all)
 
 -- where no page goes out a frame is free
 pub none-room : (p : StorePages) (keep : Option ℕ) → index_out (places_of p) keep ≡ None → vec_len p.resident < p.frames
-none-room p keep none = by_test (nat_lt (length p.resident.items) p.frames) refl none
-  where
-    by_test :
-        (b : Bool) → nat_lt (length p.resident.items) p.frames ≡ b
-        → (if b then None else position (λ page. not (has (option_to_list keep) page)) p.resident.items) ≡ None → vec_len p.resident < p.frames
-    by_test true is none = omega (arith, ltb-true _ _ is, p.resident.ok.0)
-    by_test false is none =
-        absurd (not-all-stay keep p.resident.items p.sound.placed.pages_apart (omega (arith, ltb-false _ _ is, p.sound.sized.some)) none)
+none-room p keep none = elim (cases_lt (length p.resident.items) p.frames) [
+  | inl room ↦ omega (arith, room, p.resident.ok.0)
+  | inr full ↦ absurd (not-all-stay keep p.resident.items p.sound.placed.pages_apart (omega (arith, full, p.sound.sized.some)) (grind (arith, nat_tests, full)))
+]
 
 -- the place of the page that goes out is one of the resident ones
-position-below : (test : ℕ → Bool) (xs : List ℕ) (i : ℕ) → position test xs ≡ Some i → i < length xs
-position-below test xs i is = by_test (nat_lt (prefix_len (λ x. not (test x)) xs) (length xs)) refl is
-  where
-    by_test : (b : Bool) → nat_lt (prefix_len (λ x. not (test x)) xs) (length xs) ≡ b → cond b (Some (prefix_len (λ x. not (test x)) xs)) None ≡ Some i → i < length xs
-    by_test true below is = let at : prefix_len (λ x. not (test x)) xs ≡ i = cc in omega (arith, ltb-true _ _ below, at)
-    by_test false below is = absurd (cc)
-
 pub index-out_below : (p : StorePages) (keep : Option ℕ) (index : ℕ) → index_out (places_of p) keep ≡ Some index → index < length p.resident.items
-index-out_below p keep index is = by_test (nat_lt (length p.resident.items) p.frames) is
-  where
-    by_test :
-        (b : Bool) → (if b then None else position (λ page. not (has (option_to_list keep) page)) p.resident.items) ≡ Some index → index < length p.resident.items
-    by_test true is = absurd (cc)
-    by_test false is = position-below (λ page. not (has (option_to_list keep) page)) p.resident.items index is
+index-out_below p keep index is = elim (cases_Bool (nat_lt (length p.resident.items) p.frames)) [
+  | inl room ↦ absurd (grind (arith, room))
+  | inr full ↦ (position-Some (λ page. not (has (option_to_list keep) page)) p.resident.items index 0 (grind (arith, full))).0
+]
 
 -- one more number of a range
 pub range-push : (first count : ℕ) → range_with_len first count ++ (first + count) ∷ [] ≡ range_with_len first (count + 1)

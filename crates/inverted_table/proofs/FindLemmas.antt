@@ -1,5 +1,6 @@
 -- The look-up along a chain is the look-up in the list.
 use Rattle.inverted_table.proofs.Common.{◌≡◌, ℕ, zero, suc, ◌+◌, ◌<◌, ◌≤◌, ◌⊎◌, Bool, true, false, List, [], ◌∷◌, length, refl, sym, ◌∙◌, ap, arith, inl, inr, Some, None, prefix_len, option_map_or, and_parts, eqb-true, ltb-true, ltb-false, cases_lt, get_or-eq_default, has, Key, holds, key_in, look_up, chain_of, hash_of, IsChain, IsChained}
+use Rattle.std.proofs.lemmas.Bool.Decides.{nat_tests}
 use Rattle.std.specs.Prelude.{◌==◌, ◌&&◌, ◌||◌, not, cond, find, nat_lt, slice_index_or, Option}
 use Rattle.std.proofs.lemmas.List.Quantifiers.{position-Some}
 use Rattle.inverted_table.proofs.ApartLemmas.{equal}
@@ -26,18 +27,9 @@ is-held wanted o is = ap (holds wanted) is ∙ ap (λ (b : Bool). b && (wanted.p
 -- the first of a list that passes, and where none does
 find-here : (p : ℕ → Bool) (xs : List ℕ) (x : ℕ) → has xs x ≡ true → p x ≡ true → ((y : ℕ) → p y ≡ true → y ≡ x) → find p xs ≡ Some x
 find-here p [] x inside passes only = absurd (cc)
-find-here p (y ∷ ys) x inside passes only = by_test (p y) refl (λ (later : has ys x ≡ true). find-here p ys x later passes only)
-  where
-    later : p y ≡ false → has ys x ≡ true
-    later fails = by_case (y == x) refl inside
-      where
-        by_case : (b : Bool) → (y == x) ≡ b → (b || has ys x) ≡ true → has ys x ≡ true
-        by_case true same inside = let at : y ≡ x = eqb-true y x same in absurd (let clash : true ≡ false = sym passes ∙ ap p (sym at) ∙ fails in cc)
-        by_case false same inside = inside
-
-    by_test : (b : Bool) → p y ≡ b → (has ys x ≡ true → find p ys ≡ Some x) → cond b (Some y) (find p ys) ≡ Some x
-    by_test true is rest = ap (λ (n : ℕ). Some n) (only y is)
-    by_test false is rest = rest (later is)
+find-here p (y ∷ ys) x inside passes only =
+    let rest = λ (later : has ys x ≡ true). find-here p ys x later passes only in
+    grind (arith, nat_tests, only, rest)
 
 find-none : (p : ℕ → Bool) (xs : List ℕ) → ((x : ℕ) → p x ≡ false) → find p xs ≡ None
 find-none p [] none = refl
@@ -46,29 +38,12 @@ find-none p (x ∷ xs) none = ap (λ (b : Bool). cond b (Some x) (find p xs)) (n
 -- along the keys: the first that holds the page, or none does
 prefix-holds : (q : Option Key → Bool) (keys : List (Option Key)) → prefix_len (λ o. not (q o)) keys < length keys → q (slice_index_or keys (prefix_len (λ o. not (q o)) keys) None) ≡ true
 prefix-holds q [] below = absurd (omega arith)
-prefix-holds q (o ∷ keys) below = by_test (q o) refl below (λ inner. prefix-holds q keys inner)
-  where
-    by_test :
-        (b : Bool) → q o ≡ b → cond (not b) (1 + prefix_len (λ o. not (q o)) keys) 0 < suc (length keys)
-        → (prefix_len (λ o. not (q o)) keys < length keys → q (slice_index_or keys (prefix_len (λ o. not (q o)) keys) None) ≡ true)
-        → q (slice_index_or (o ∷ keys) (cond (not b) (1 + prefix_len (λ o. not (q o)) keys) 0) None) ≡ true
-    by_test true is below rest = is
-    by_test false is below rest =
-        let step : 1 + prefix_len (λ o. not (q o)) keys ≡ suc (prefix_len (λ o. not (q o)) keys) = omega arith in
-        ap (λ (n : ℕ). q (slice_index_or (o ∷ keys) n None)) step ∙ rest (omega arith)
+prefix-holds q (o ∷ keys) below = grind (arith, prefix-holds q keys)
 
 prefix-all : (q : Option Key → Bool) (keys : List (Option Key)) (i : ℕ) → length keys ≤ prefix_len (λ o. not (q o)) keys → i < length keys → q (slice_index_or keys i None) ≡ false
 prefix-all q [] i all below = absurd (omega arith)
-prefix-all q (o ∷ keys) zero all below = by_test (q o) refl all
-  where
-    by_test : (b : Bool) → q o ≡ b → suc (length keys) ≤ cond (not b) (1 + prefix_len (λ o. not (q o)) keys) 0 → q o ≡ false
-    by_test true is all = absurd (omega arith)
-    by_test false is all = is
-prefix-all q (o ∷ keys) (suc i) all below = prefix-all q keys i (by_test (q o) all) (omega arith)
-  where
-    by_test : (b : Bool) → suc (length keys) ≤ cond (not b) (1 + prefix_len (λ o. not (q o)) keys) 0 → length keys ≤ prefix_len (λ o. not (q o)) keys
-    by_test true all = absurd (omega arith)
-    by_test false all = omega arith
+prefix-all q (o ∷ keys) zero all below = grind arith
+prefix-all q (o ∷ keys) (suc i) all below = grind (arith, prefix-all q keys i)
 
 -- the look-up along the chain of a page's hash is the look-up in the list
 pub chain-look_up :

@@ -3,7 +3,6 @@ use Rattle.line_locks.proofs.Common.{flat_map, list_any, ◌⊎◌, inl, inr, ar
 use Rattle.std.specs.Prelude.{◌≡◌, ◌≢◌, refl, ℕ, ◌+◌, ◌*◌, ◌<◌, ◌==◌, ◌||◌, Bool, true, false, List, [], ◌∷◌, ◌++◌, length, All}
 use Rattle.lock_rules.specs.Lines.{Lines, both, conflicts}
 use Rattle.line_locks.specs.Flat.{flat_lines, lines_wanted, IsFlat}
-use Rattle.line_locks.proofs.MeetsLemmas.{or-parts}
 
 -- lines of a page meet flat lines as they meet what these are of the page
 meets-page :
@@ -31,8 +30,7 @@ meets-wants wanted held flat same (want ∷ wants) sets =
 
 any-or : (p q : Want → Bool) (wants : List Want) → (list_any p wants || list_any q wants) ≡ list_any (λ want. p want || q want) wants
 any-or p q [] = refl
-any-or p q (want ∷ wants) =
-    or-parts (p want) (list_any p wants) (q want) (list_any q wants) ∙ ap (λ c. (p want || q want) || c) (any-or p q wants)
+any-or p q (want ∷ wants) = grind (arith, any-or p q wants)
 
 -- a request conflicts with what a seat holds, page by page, exactly where its flat lines conflict with the seat's
 pub conflict-flat :
@@ -58,9 +56,7 @@ conflict-flat pages lines wants flat reads writes =
 -- a line of the page is among the flat lines
 pub has-page : (page line : ℕ) (wanted : List ℕ) → has (flat_lines page wanted) (page * 16 + line) ≡ has wanted line
 has-page page line [] = refl
-has-page page line (x ∷ xs) =
-    let first : (page * 16 + x == page * 16 + line) ≡ (x == line) = grind (arith, nat_tests) in
-    ap (λ c. c || has (flat_lines page xs) (page * 16 + line)) first ∙ ap (λ c. x == line || c) (has-page page line xs)
+has-page page line (x ∷ xs) = grind (arith, nat_tests, has-page page line xs)
 
 -- a line of another page isn't
 pub has-other_page :
@@ -68,34 +64,24 @@ pub has-other_page :
     → has (flat_lines page wanted) (other * 16 + line) ≡ false
 has-other_page page other line [] apart below few = refl
 has-other_page page other line (x ∷ xs) apart below few =
-    let small : x < 16 = few x (or_left (x == x) (has xs x) (grind (arith, nat_tests))) in
+    let small : x < 16 = few x (grind (arith, nat_tests)) in
     let first : (page * 16 + x == other * 16 + line) ≡ false = grind (arith, nat_tests) in
-    ap (λ c. c || has (flat_lines page xs) (other * 16 + line)) first
-    ∙ has-other_page page other line xs apart below (λ y inside. few y (or_right (x == y) (has xs y) inside))
-
-or-false : (p : Bool) → p ≡ (p || false)
-or-false true = refl
-or-false false = refl
+    let rest = has-other_page page other line xs apart below (λ y inside. few y (grind arith)) in
+    grind (arith, first, rest)
 
 -- the wanted page
 taken-here :
     (page line : ℕ) (held wanted flat : List ℕ) → line < 16 → has held line ≡ has flat (page * 16 + line)
     → has (union held wanted) line ≡ has (flat ++ flat_lines page wanted) (page * 16 + line)
 taken-here page line held wanted flat below same =
-    is_in_where-below (λ x. has held x || has wanted x) line below
-    ∙ ap (λ c. c || has wanted line) same
-    ∙ ap (λ c. has flat (page * 16 + line) || c) (sym (has-page page line wanted))
-    ∙ sym (has-append flat (flat_lines page wanted) (page * 16 + line))
+    grind (arith, is_in_where-below, has-page, has-append)
 
 -- the other pages
 taken-there :
     (page other line : ℕ) (held wanted flat : List ℕ) → line < 16 → other ≢ page → IsOfPage wanted → has held line ≡ has flat (other * 16 + line)
     → has held line ≡ has (flat ++ flat_lines page wanted) (other * 16 + line)
 taken-there page other line held wanted flat below apart set same =
-    same
-    ∙ or-false (has flat (other * 16 + line))
-    ∙ ap (λ c. has flat (other * 16 + line) || c) (sym (has-other_page page other line wanted apart below (of_page-below wanted set)))
-    ∙ sym (has-append flat (flat_lines page wanted) (other * 16 + line))
+    let none = has-other_page page other line wanted apart below (of_page-below wanted set) in grind (arith, has-append, none)
 
 -- a page of a seat that took something
 page-taken :

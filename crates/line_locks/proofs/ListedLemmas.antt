@@ -1,5 +1,5 @@
 -- The pages of which something is held, as they are listed.
-use Rattle.line_locks.proofs.Common.{range_with_len, arith, ap, sym, ◌∙◌, subst, inl, inr, get_or, get_or-set_same, get_or-set_other, eqb-true, eqb-false, eq-eqb, both_ways, or_cases, or_parts, or_left, or_right, not-true, not-false, cond-false, cases_lt, cases_Bool, get_or-replicate, length_push, nil_from_length, get_or_past, same_lists, get_or_default, length-replicate, has, distinct, meets, size, has-append, in_range, size-part, size-range, size-apart, IsOfPage, union, is_in_where-below, of_page-below, Want, nothing, of_page, holds_some, together, conflicts_in, conflicts_with, AreListed}
+use Rattle.line_locks.proofs.Common.{range_with_len, arith, ap, sym, ◌∙◌, subst, inl, inr, get_or, get_or-set_same, get_or-set_other, eqb-true, eqb-false, eq-eqb, both_ways, or_cases, or_parts, or_left, or_right, not-true, not-false, cond-false, cases_lt, cases_Bool, get_or-replicate, length_push, nil_from_length, get_or_past, same_lists, get_or_default, length-replicate, has, distinct, meets, size, has-append, in_range, size-part, size-range, size-apart, IsOfPage, union, is_in_where-below, of_page-below, Want, nothing, of_page, holds_some, together, conflicts_in, conflicts_with, AreListed, nat_tests}
 use Rattle.std.specs.Prelude.{◌≡◌, refl, ℕ, zero, suc, ◌+◌, ◌<◌, ◌==◌, ◌&&◌, ◌||◌, not, if◌then◌else◌, Bool, true, false, List, [], ◌∷◌, ◌++◌, length, replicate, slice_set}
 
 -- where nothing is held, no line is
@@ -15,9 +15,8 @@ none-held held none =
 some-union : (set other : List ℕ) → IsOfPage set → (length (union set other) == 0) ≡ true → (length set == 0) ≡ true
 some-union [] other of none = refl
 some-union (x ∷ xs) other of none =
-    let below : x < 16 = of_page-below (x ∷ xs) of x (or_left (x == x) (has xs x) (eq-eqb x x refl)) in
-    let there : has (union (x ∷ xs) other) x ≡ true =
-    is_in_where-below (λ line. has (x ∷ xs) line || has other line) x below ∙ or_left (has (x ∷ xs) x) (has other x) (or_left (x == x) (has xs x) (eq-eqb x x refl)) in
+    let below : x < 16 = of_page-below (x ∷ xs) of x (grind (arith, nat_tests)) in
+    let there : has (union (x ∷ xs) other) x ≡ true = grind (arith, nat_tests, is_in_where-below) in
     absurd (empty (union (x ∷ xs) other) x (eqb-true (length (union (x ∷ xs) other)) 0 none) there)
   where
     empty : (lines : List ℕ) (line : ℕ) → length lines ≡ 0 → has lines line ≡ true → ⊥
@@ -26,22 +25,15 @@ some-union (x ∷ xs) other of none =
 
 pub some-more : (held : List ℕ × List ℕ) (want : Want) → IsOfPage held.0 → IsOfPage held.1 → holds_some held ≡ true → holds_some (together held want) ≡ true
 some-more held want reads writes some =
-    elim (or_cases (not (length held.0 == 0)) (not (length held.1 == 0)) some) [
-      | inl first ↦ or_left (not (length (union held.0 want.reads) == 0)) (not (length (union held.1 want.writes) == 0)) (still held.0 want.reads reads first)
-      | inr second ↦ or_right (not (length (union held.0 want.reads) == 0)) (not (length (union held.1 want.writes) == 0)) (still held.1 want.writes writes second)
-    ]
-  where
-    still : (set other : List ℕ) → IsOfPage set → not (length set == 0) ≡ true → not (length (union set other) == 0) ≡ true
-    still set other of some = elim (cases_Bool (length (union set other) == 0)) [
-      | inl none ↦ absurd (both_ways (length set == 0) (not-true (length set == 0) some) (some-union set other of none))
-      | inr more ↦ ap not more
-    ]
+    let first = some-union held.0 want.reads reads in
+    let second = some-union held.1 want.writes writes in
+    grind (arith, first, second)
 
 -- what stands at a place is there
 pub has-at : (list : List ℕ) (k d : ℕ) → k < length list → has list (get_or list k d) ≡ true
 has-at [] k d within = absurd (omega (arith, within))
-has-at (x ∷ list) zero d within = or_left (x == x) (has list x) (eq-eqb x x refl)
-has-at (x ∷ list) (suc k) d within = or_right (x == get_or list k d) (has list (get_or list k d)) (has-at list k d (omega (arith, within)))
+has-at (x ∷ list) zero d within = grind (arith, nat_tests)
+has-at (x ∷ list) (suc k) d within = grind (arith, has-at list k d)
 
 module _ (pages : List (List ℕ × List ℕ)) (listed : List ℕ) (are : AreListed pages listed) where
   -- a listed page is one of the pages
@@ -58,12 +50,9 @@ module _ (pages : List (List ℕ × List ℕ)) (listed : List ℕ) (are : AreLis
   pub room : (page : ℕ) → page < length pages → holds_some (of_page pages page) ≡ false → length listed < length pages
   room page below none =
       let free : has listed page ≡ false = are.each page ∙ none in
-      let new : size (page ∷ listed) ≡ suc (size listed) = ap length (cond-false (has listed page) (distinct listed) (page ∷ distinct listed) free) in
+      let new : size (page ∷ listed) ≡ suc (size listed) = grind (arith, free) in
       let part = size-part (page ∷ listed) (range_with_len 0 (length pages)) (record {
-        among = λ x inside. elim (or_cases (page == x) (has listed x) inside) [
-          | inl same ↦ in_range 0 (length pages) x (omega arith) (omega (arith, below, eqb-true page x same))
-          | inr other ↦ let less = listed-below x other in in_range 0 (length pages) x (omega arith) (omega (arith, less))
-        ];
+        among = λ x inside. let less = listed-below x in in_range 0 (length pages) x (omega arith) (grind (arith, nat_tests, less));
       }) in
       omega (arith, part, new, are.once, size-range 0 (length pages))
 

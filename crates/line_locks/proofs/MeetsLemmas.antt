@@ -12,23 +12,9 @@ and-on p q small other = grind (arith, nat_tests)
 on-both : (a b x : ℕ) → is_on (bit_and a b) x ≡ (is_on a x && is_on b x)
 on-both a b x = ap (λ m. m == 1) (bit_at_and a b x) ∙ and-on (bit_at a x) (bit_at b x) (bit_at-lt a x) (bit_at-lt b x)
 
-and-twice : (p q r : Bool) → (p && (q && r)) ≡ ((p && q) && (p && r))
-and-twice true q r = refl
-and-twice false q r = refl
-
 -- the lines in both sets
 has-both : (a b x : ℕ) → has (lines_of_bits (bit_and a b)) x ≡ (has (lines_of_bits a) x && has (lines_of_bits b) x)
-has-both a b x =
-    is_in-where (is_on (bit_and a b)) x
-    ∙ ap (λ c. nat_lt x 16 && c) (on-both a b x)
-    ∙ and-twice (nat_lt x 16) (is_on a x) (is_on b x)
-    ∙ ap (λ c. c && (nat_lt x 16 && is_on b x)) (sym (is_in-where (is_on a) x))
-    ∙ ap (λ c. has (lines_of_bits a) x && c) (sym (is_in-where (is_on b) x))
-
-and-true : (p q : Bool) → (p && q) ≡ true → (p ≡ true) × (q ≡ true)
-and-true true true both = (refl, refl)
-and-true true false both = absurd (cc)
-and-true false q both = absurd (cc)
+has-both a b x = grind (arith, is_in-where, on-both)
 
 -- two sets meet exactly where some number is in both
 meets-some : (set other shared : List ℕ) → ((x : ℕ) → has shared x ≡ (has set x && has other x)) → not (length shared == 0) ≡ meets set other
@@ -40,8 +26,7 @@ meets-some set other [] same = by_meets (meets set other) refl
         let (x, inside, also) = any-some (has other) set met in
         same x ∙ ap (λ c. c && has other x) inside ∙ also
 meets-some set other (y ∷ ys) same =
-    let here : has (y ∷ ys) y ≡ true = or_left (y == y) (has ys y) (grind (arith, nat_tests)) in
-    let parts = and-true (has set y) (has other y) (sym (same y) ∙ here) in
+    let parts : (has set y ≡ true) × (has other y ≡ true) = let it = same y in grind (arith, nat_tests, it) in
     grind arith ∙ sym (any-at (has other) set y parts.0 parts.1)
 
 -- two sets of lines meet exactly where some bit is on in both
@@ -50,17 +35,7 @@ meets-bits a b small =
     ap not (none-bits (bit_and a b) small)
     ∙ meets-some (lines_of_bits a) (lines_of_bits b) (lines_of_bits (bit_and a b)) (has-both a b)
 
-pub or-parts : (p q r s : Bool) → ((p || q) || (r || s)) ≡ ((p || r) || (q || s))
-or-parts true q r s = refl
-or-parts false true true s = refl
-or-parts false true false s = refl
-or-parts false false true s = refl
-or-parts false false false s = refl
-
 -- a set meets two together exactly where it meets one of them
 pub meets_append : (set first second : List ℕ) → meets set (first ++ second) ≡ (meets set first || meets set second)
 meets_append [] first second = refl
-meets_append (x ∷ xs) first second =
-    ap (λ c. c || meets xs (first ++ second)) (has-append first second x)
-    ∙ ap (λ c. (has first x || has second x) || c) (meets_append xs first second)
-    ∙ or-parts (has first x) (has second x) (meets xs first) (meets xs second)
+meets_append (x ∷ xs) first second = grind (arith, has-append, meets_append xs first second)

@@ -1,37 +1,23 @@
 -- The members of a shown cycle; and where each number is given another name of its own, what leads where and the shown cycle are the same in
 -- these names.
-use Rattle.lock_rules.proofs.Common.{◌≡◌, refl, ℕ, zero, suc, ◌==◌, ◌&&◌, ◌||◌, if◌then◌else◌, Bool, true, false, List, [], ◌∷◌, length, map, find, Option, Some, None, list_any, ap, sym, ◌∙◌, eqb-true, eq-eqb, or_left, or_right, has, leads, next_shown, shown_after, shown_cycle}
+use Rattle.lock_rules.proofs.Common.{◌≡◌, refl, ℕ, zero, suc, ◌==◌, ◌&&◌, ◌||◌, if◌then◌else◌, Bool, true, false, List, [], ◌∷◌, length, map, find, Option, Some, None, list_any, ap, sym, ◌∙◌, eqb-true, eq-eqb, or_left, or_right, has, leads, next_shown, shown_after, shown_cycle, arith, nat_tests}
 use Rattle.std.specs.Option.{option_map, option_map_or}
 use Rattle.std.proofs.lemmas.List.{length-map}
 
 -- what is found is one of them
 pub found-has : (p : ℕ → Bool) (xs : List ℕ) (x : ℕ) → find p xs ≡ Some x → has xs x ≡ true
 found-has p [] x found = absurd (cc)
-found-has p (y ∷ ys) x found = by_test (p y) found (found-has p ys x)
-  where
-    by_test : (here : Bool) → (if here then Some y else find p ys) ≡ Some x → (find p ys ≡ Some x → has ys x ≡ true) → (y == x || has ys x) ≡ true
-    by_test true is later = let same : y ≡ x = cc in or_left (y == x) (has ys x) (eq-eqb y x same)
-    by_test false is later = or_right (y == x) (has ys x) (later is)
+found-has p (y ∷ ys) x found = grind (arith, nat_tests, found-has p ys x)
 
 -- and passes
 pub found-passes : (p : ℕ → Bool) (xs : List ℕ) (x : ℕ) → find p xs ≡ Some x → p x ≡ true
 found-passes p [] x found = absurd (cc)
-found-passes p (y ∷ ys) x found = by_test (p y) refl found (found-passes p ys x)
-  where
-    by_test : (here : Bool) → p y ≡ here → (if here then Some y else find p ys) ≡ Some x → (find p ys ≡ Some x → p x ≡ true) → p x ≡ true
-    by_test true passes is later = let same : y ≡ x = cc in ap p (sym same) ∙ passes
-    by_test false passes is later = later is
+found-passes p (y ∷ ys) x found = grind (arith, nat_tests, found-passes p ys x)
 
 -- where none is found, none passes
 pub none-passes : (p : ℕ → Bool) (xs : List ℕ) (x : ℕ) → find p xs ≡ None → has xs x ≡ true → p x ≡ false
 none-passes p [] x none inside = absurd (cc)
-none-passes p (y ∷ ys) x none inside = by_test (p y) (y == x) refl refl none inside (none-passes p ys x)
-  where
-    by_test : (here same : Bool) → p y ≡ here → (y == x) ≡ same → (if here then Some y else find p ys) ≡ None → (same || has ys x) ≡ true
-        → (find p ys ≡ None → has ys x ≡ true → p x ≡ false) → p x ≡ false
-    by_test true same passes e is inside later = absurd (cc)
-    by_test false true fails e is inside later = ap p (sym (eqb-true y x e)) ∙ fails
-    by_test false false fails e is inside later = later is inside
+none-passes p (y ∷ ys) x none inside = grind (arith, nat_tests, none-passes p ys x)
 
 -- the members of a shown cycle are among all
 pub after-among : (waits : ℕ → ℕ → Bool) (all : List ℕ) (steps first last member : ℕ) → has (shown_after waits all steps first last) member ≡ true → has all member ≡ true
@@ -80,15 +66,9 @@ module _ {A : Type 0} (name : ℕ → A) where
   pub find-named : (p : A → Bool) (q : ℕ → Bool) (xs : List ℕ) → ((x : ℕ) → has xs x ≡ true → p (name x) ≡ q x) → find p (map name xs) ≡ option_map name (find q xs)
   find-named p q [] same = refl
   find-named p q (x ∷ xs) same =
-      step (p (name x)) (q x) (same x (or_left (x == x) (has xs x) (eq-eqb x x refl)))
-      (find-named p q xs (λ y inside. same y (or_right (x == y) (has xs y) inside)))
-    where
-      step : (a b : Bool) → a ≡ b → find p (map name xs) ≡ option_map name (find q xs)
-          → (if a then Some (name x) else find p (map name xs)) ≡ option_map name (if b then Some x else find q xs)
-      step true true e rest = refl
-      step true false e rest = absurd (cc)
-      step false true e rest = absurd (cc)
-      step false false e rest = rest
+      let here = same x (grind (arith, nat_tests)) in
+      let rest = find-named p q xs (λ y inside. same y (grind arith)) in
+      grind (arith, here, rest)
 
 -- names of their own, and waits by these names
 pub record AreNamed (name : ℕ → ℕ) (waits named : ℕ → ℕ → Bool) (all : List ℕ) : Type 0 where

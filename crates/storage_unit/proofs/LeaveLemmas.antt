@@ -11,11 +11,10 @@ clean-of d pool committed shows = λ place frame below there unmarked. sym (over
 pub clean-shows :
     (d : Layout) (pool : Pool) (committed : List ℕ) (place : ℕ) → IsClean d pool committed → place < byte_count d → is_marked d pool place ≡ false
     → byte_over d pool committed place ≡ slice_index committed place
-clean-shows d pool committed place clean below unmarked = by_frame (frame_at pool (page_of d place)) refl
-  where
-    by_frame : (o : Option ℕ) → frame_at pool (page_of d place) ≡ o → byte_over d pool committed place ≡ slice_index committed place
-    by_frame (Some frame) is = over-some d pool committed place frame is ∙ clean place frame below is unmarked
-    by_frame None is = over-none d pool committed place is ∙ ap (λ (m : Bool). if m then slice_index pool.kept place else slice_index committed place) unmarked
+clean-shows d pool committed place clean below unmarked =
+    let there = λ (frame : ℕ) (is : frame_at pool (page_of d place) ≡ Some frame). over-some d pool committed place frame is ∙ clean place frame below is unmarked in
+    let none = over-none d pool committed place in
+    grind (arith, there, none)
 
 -- the marks stay where a page leaves
 pub gone-marked : (d : Layout) (pool : Pool) (page place : ℕ) → is_marked d (gone pool page) place ≡ is_marked d pool place
@@ -25,15 +24,9 @@ gone-marked d pool page place = ap (λ (list : List (List ℕ)). has (slice_inde
 fold-frame : (pages : List ℕ) (pool : Pool) (p : ℕ) → frame_at (fold gone pool pages) p ≡ (if has pages p then None else frame_at pool p)
 fold-frame [] pool p = refl
 fold-frame (page ∷ pages) pool p =
-    fold-frame pages (gone pool page) p
-    ∙ ap (λ (o : Option ℕ). if has pages p then None else o) (gone-frame pool page p)
-    ∙ by_tests (page == p) (has pages p)
-  where
-    by_tests : (here later : Bool) → (if later then None else (if here then None else frame_at pool p)) ≡ (if here || later then None else frame_at pool p)
-    by_tests true true = refl
-    by_tests true false = refl
-    by_tests false true = refl
-    by_tests false false = refl
+    let rest = fold-frame pages (gone pool page) p in
+    let here = gone-frame pool page p in
+    grind (arith, rest, here)
 
 fold-marked : (d : Layout) (pages : List ℕ) (pool : Pool) (place : ℕ) → is_marked d (fold gone pool pages) place ≡ is_marked d pool place
 fold-marked d [] pool place = refl
@@ -45,29 +38,16 @@ fold-over :
     ≡ (if has pages (page_of d place) && not (is_marked d pool place) then slice_index committed place else byte_over d pool committed place)
 fold-over d committed place [] pool seen size = refl
 fold-over d committed place (page ∷ pages) pool seen size =
-    fold-over d committed place pages (gone pool page) (seen-gone pool page seen) ((gone-stays pool page).page ∙ size)
-    ∙ ap (λ (m : Bool). if has pages (page_of d place) && not m then slice_index committed place else byte_over d (gone pool page) committed place) (gone-marked d pool page place)
-    ∙ ap (λ (n : ℕ). if has pages (page_of d place) && not (is_marked d pool place) then slice_index committed place else n) (gone-over d pool committed page place seen size)
-    ∙ by_tests (page == page_of d place) (has pages (page_of d place)) (is_marked d pool place)
-  where
-    by_tests : (here later marked : Bool)
-        → (if later && not marked then slice_index committed place else (if here && not marked then slice_index committed place else byte_over d pool committed place))
-        ≡ (if (here || later) && not marked then slice_index committed place else byte_over d pool committed place)
-    by_tests true true true = refl
-    by_tests true true false = refl
-    by_tests true false true = refl
-    by_tests true false false = refl
-    by_tests false true true = refl
-    by_tests false true false = refl
-    by_tests false false true = refl
-    by_tests false false false = refl
+    let rest = fold-over d committed place pages (gone pool page) (seen-gone pool page seen) ((gone-stays pool page).page ∙ size) in
+    let marks = gone-marked d pool page place in
+    let here = gone-over d pool committed page place seen size in
+    grind (arith, rest, marks, here)
 
 pub emptied-frame : (pool : Pool) (p : ℕ) → IsSeen pool → frame_at (emptied pool) p ≡ None
-emptied-frame pool p seen = fold-frame pool.resident pool p ∙ ap (λ (b : Bool). if b then None else frame_at pool p) (seen.resident p) ∙ by_frame (frame_at pool p)
-  where
-    by_frame : (o : Option ℕ) → (if is_some o then None else o) ≡ None
-    by_frame None = refl
-    by_frame (Some frame) = refl
+emptied-frame pool p seen =
+    let all = fold-frame pool.resident pool p in
+    let resident = seen.resident p in
+    grind (arith, all, resident)
 
 pub emptied-marked : (d : Layout) (pool : Pool) (place : ℕ) → is_marked d (emptied pool) place ≡ is_marked d pool place
 emptied-marked d pool place = fold-marked d pool.resident pool place
@@ -76,21 +56,10 @@ pub emptied-over :
     (d : Layout) (pool : Pool) (committed : List ℕ) (place : ℕ) → IsSeen pool → pool.page ≡ d.page
     → byte_over d (emptied pool) committed place ≡ (if is_marked d pool place then byte_over d pool committed place else slice_index committed place)
 emptied-over d pool committed place seen size =
-    by_mark (is_marked d pool place) refl (fold-over d committed place pool.resident pool seen size)
-  where
-    by_mark : (marked : Bool) → is_marked d pool place ≡ marked
-        → byte_over d (emptied pool) committed place ≡ (if has pool.resident (page_of d place) && not (is_marked d pool place) then slice_index committed place else byte_over d pool committed place)
-        → byte_over d (emptied pool) committed place ≡ (if marked then byte_over d pool committed place else slice_index committed place)
-    by_mark true is shows =
-        shows ∙ ap (λ (m : Bool). if has pool.resident (page_of d place) && not m then slice_index committed place else byte_over d pool committed place) is
-        ∙ never (has pool.resident (page_of d place))
-      where
-        never : (b : Bool) → (if b && false then slice_index committed place else byte_over d pool committed place) ≡ byte_over d pool committed place
-        never true = refl
-        never false = refl
-    by_mark false is shows =
-        over-none d (emptied pool) committed place (emptied-frame pool (page_of d place) seen)
-        ∙ ap (λ (m : Bool). if m then slice_index (emptied pool).kept place else slice_index committed place) (emptied-marked d pool place ∙ is)
+    let over = fold-over d committed place pool.resident pool seen size in
+    let none = over-none d (emptied pool) committed place (emptied-frame pool (page_of d place) seen) in
+    let marks = emptied-marked d pool place in
+    grind (arith, over, none, marks)
 
 pub emptied-clean : (d : Layout) (pool : Pool) (committed : List ℕ) → IsSeen pool → IsClean d (emptied pool) committed
 emptied-clean d pool committed seen = λ place frame below there unmarked. absurd (let clash : None ≡ Some frame = sym (emptied-frame pool (page_of d place) seen) ∙ there in cc)
@@ -117,20 +86,13 @@ room-fewer d pool committed keep seen size clean = by_out (page_out pool keep)
     by_out (Some page) = record {
       stays = gone-stays pool page;
       seen = seen-gone pool page seen;
-      frames = λ other none. gone-frame pool page other ∙ by_test (page == other) none;
-      over = λ place below. gone-over d pool committed page place seen size ∙ by_tests place below (page == page_of d place) (is_marked d pool place) refl;
+      frames = λ other none. let here = gone-frame pool page other in grind (arith, here);
+      over = λ place below.
+          let here = gone-over d pool committed page place seen size in
+          let shows = clean-shows d pool committed place clean below in
+          grind (arith, here, shows);
       marks = gone-marked d pool page;
     }
-      where
-        by_test : {o : Option ℕ} (b : Bool) → o ≡ None → (if b then None else o) ≡ None
-        by_test true none = refl
-        by_test false none = none
-
-        by_tests : (place : ℕ) → place < byte_count d → (here marked : Bool) → is_marked d pool place ≡ marked
-            → (if here && not marked then slice_index committed place else byte_over d pool committed place) ≡ byte_over d pool committed place
-        by_tests place below true false is = sym (clean-shows d pool committed place clean below is)
-        by_tests place below true true is = refl
-        by_tests place below false marked is = refl
 
 -- lines that are settled
 module _ (d : Layout) (pool : Pool) (committed : List ℕ) (page : ℕ) (lines : List ℕ) (seen : IsSeen pool) (within : page < length pool.frame_of) where
@@ -175,15 +137,12 @@ module _ (d : Layout) (pool : Pool) (committed : List ℕ) (page : ℕ) (lines :
       → byte_over d after committed place ≡ byte_over d pool committed place
   settled-over place below clean same = by_frame (frame_at pool (page_of d place)) refl
     where
-      by_tests : (marked among : Bool) → is_marked d pool place ≡ marked → is_among page lines (line_of d place) ≡ among → frame_at pool (page_of d place) ≡ None
-          → (if marked && not among then slice_index pool.kept place else slice_index committed place) ≡ byte_over d pool committed place
-      by_tests true true m a none = same a m none
-      by_tests true false m a none = sym (over-none d pool committed place none ∙ ap (λ (b : Bool). if b then slice_index pool.kept place else slice_index committed place) m)
-      by_tests false among m a none = sym (clean-shows d pool committed place clean below m)
-
       by_frame : (o : Option ℕ) → frame_at pool (page_of d place) ≡ o → byte_over d after committed place ≡ byte_over d pool committed place
       by_frame (Some frame) is = over-some d after committed place frame is ∙ sym (over-some d pool committed place frame is)
       by_frame None is =
-          over-none d after committed place is
-          ∙ ap (λ (b : Bool). if b then slice_index pool.kept place else slice_index committed place) (settled-line (line_of d place))
-          ∙ by_tests (is_marked d pool place) (is_among page lines (line_of d place)) refl refl is
+          let now = over-none d after committed place is in
+          let before = over-none d pool committed place is in
+          let line = settled-line (line_of d place) in
+          let shows = clean-shows d pool committed place clean below in
+          let settles = λ (among : is_among page lines (line_of d place) ≡ true) (marked : is_marked d pool place ≡ true). same among marked is in
+          grind (arith, now, before, line, shows, settles)

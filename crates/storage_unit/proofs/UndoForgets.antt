@@ -25,40 +25,21 @@ module _ (d : Layout) (pool : Pool) (committed : List ℕ) (page : ℕ) (lines :
   shows : (place : ℕ) → place < byte_count d
       → byte_over d (undone pool page lines) committed place ≡ (if is_among page lines (line_of d place) then slice_index committed place else byte_over d pool committed place)
   shows place below =
-      gone-over d after committed page place (seen-settled d pool committed page lines fits.seen room) fits.size
-      ∙ by_tests (page == page_of d place) (is_marked d after place) (is_among page lines (line_of d place)) (is_marked d pool place) refl refl refl refl (marked-is place)
-    where
-      by_tests : (here after_marked inside marked : Bool) → (page == page_of d place) ≡ here → is_marked d after place ≡ after_marked
-          → is_among page lines (line_of d place) ≡ inside → is_marked d pool place ≡ marked
-          → is_marked d after place ≡ (is_marked d pool place && not (is_among page lines (line_of d place)))
-          → (if here && not after_marked then slice_index committed place else byte_over d after committed place) ≡ (if inside then slice_index committed place else byte_over d pool committed place)
-      by_tests true false true marked h a i m both = refl
-      by_tests true false false true h a i m both =
-          absurd (let clash : false ≡ true = sym a ∙ both ∙ ap (λ (b : Bool). b && not (is_among page lines (line_of d place))) m ∙ ap (λ (b : Bool). not b) i in cc)
-      by_tests true false false false h a i m both = sym (clean-shows d pool committed place clean below m)
-      by_tests true true true marked h a i m both =
-          absurd (let clash : true ≡ false = sym a ∙ both ∙ ap (λ (b : Bool). is_marked d pool place && not b) i ∙ never (is_marked d pool place) in cc)
-        where
-          never : (b : Bool) → (b && false) ≡ false
-          never true = refl
-          never false = refl
-      by_tests true true false marked h a i m both = kept place below i
-      by_tests false after_marked true marked h a i m both = absurd (let clash : false ≡ true = sym (of-page place h) ∙ i in cc)
-      by_tests false after_marked false marked h a i m both = kept place below i
+      let here = gone-over d after committed page place (seen-settled d pool committed page lines fits.seen room) fits.size in
+      let marks = marked-is place in
+      let stays = kept place below in
+      let apart = of-page place in
+      let shown = clean-shows d pool committed place clean below in
+      grind (arith, here, marks, stays, apart, shown)
 
   clean-after : IsClean d (undone pool page lines) committed
   clean-after = clean-of d (undone pool page lines) committed
       (λ place below unmarked.
-      shows place below
-      ∙ by_tests place below (is_among page lines (line_of d place)) (is_marked d pool place) refl refl
-      (sym (marked-is place) ∙ sym (gone-marked d after page place) ∙ unmarked))
-    where
-      by_tests : (place : ℕ) → place < byte_count d → (inside marked : Bool) → is_among page lines (line_of d place) ≡ inside → is_marked d pool place ≡ marked
-          → (is_marked d pool place && not (is_among page lines (line_of d place))) ≡ false
-          → (if inside then slice_index committed place else byte_over d pool committed place) ≡ slice_index committed place
-      by_tests place below true marked i m none = refl
-      by_tests place below false true i m none = absurd (let clash : true ≡ false = sym (ap (λ (b : Bool). b && not (is_among page lines (line_of d place))) m ∙ ap (λ (b : Bool). not b) i) ∙ none in cc)
-      by_tests place below false false i m none = clean-shows d pool committed place clean below m
+      let is = shows place below in
+      let marks = marked-is place in
+      let still = gone-marked d after page place in
+      let shown = clean-shows d pool committed place clean below in
+      grind (arith, is, marks, still, shown))
 
 pub undo-forgets : UndoForgets
 undo-forgets = λ d pool committed page lines fits long clean within.

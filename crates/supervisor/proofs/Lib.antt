@@ -1,6 +1,7 @@
 pub mod Common
 pub mod BeginLemmas
 pub mod CommitLemmas
+pub mod DesertedLemmas
 pub mod CrashLemmas
 pub mod DidLemmas
 pub mod OpeningLemmas

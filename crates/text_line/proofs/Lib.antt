@@ -1,4 +1,3 @@
 pub mod Common
-mod HexLemmas
 pub mod Words
 pub mod Bytes

@@ -92,9 +92,10 @@ impl TextLine {
         ensures longer { length self.new ≡ length self.old + (2 * length bytes.now + 1) }
     {
         self.space();
-        for byte in bytes {
-            self.digits(*byte);
-        }
+        let mut digits = [0; ROOM];
+        let digits = &mut digits[..2 * bytes.len()];
+        let _ = hex::encode_to_slice(bytes, digits);
+        let _ = self.bytes.try_extend_from_slice(digits);
     }
 
     /// The line feed.
@@ -111,16 +112,5 @@ impl TextLine {
         ensures { self.new ≡ self.old ++ 32 ∷ [] }
     {
         self.bytes.push(b' ');
-    }
-
-    /// The two digits of a byte.
-    fn digits(&mut self, byte: u8)
-        requires { length self.old + 2 ≤ ROOM }
-        ensures value { self.new ≡ self.old ++ encode_lower (byte ∷ []) }
-        ensures longer { length self.new ≡ length self.old + 2 }
-    {
-        let mut digits = [0; 2];
-        let _ = hex::encode_to_slice(&[byte], &mut digits);
-        let _ = self.bytes.try_extend_from_slice(&digits);
     }
 }

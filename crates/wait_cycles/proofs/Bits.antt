@@ -1,56 +1,36 @@
 -- Rows of bits over the sixteen places.
 use Rattle.wait_cycles.proofs.Common.{◌≡◌, ℕ, zero, suc, ◌+◌, ◌*◌, ◌%◌, ◌^◌, ◌<◌, ◌≤◌, ◌==◌, ◌&&◌, ◌||◌, min, cond, Bool, true, false, refl, sym, ap, ◌∙◌, arith, inl, inr, bit_and, bit_or, w16, Option, Some, find, range_with_len, list_any, eq-eqb, ne_eqb, cases_eq, cases_lt, is_on, places}
+use Rattle.std.proofs.lemmas.Bool.Decides.{nat_tests}
 use Rattle.std.specs.Int.{bit_at, trailing_zeros}
 use Rattle.std.proofs.lemmas.Nat.Bits.{bit_at-lt, bit_at-zero, bit_at_and, bit_at-trailing_zeros, bit_at_set_same, bit_at_set_other}
 
 -- the first number of a range that passes a test
 pub find-first : (p : ℕ → Bool) (low n k : ℕ) → low ≤ k → k < low + n → p k ≡ true → ((i : ℕ) → low ≤ i → i < k → p i ≡ false) → find p (range_with_len low n) ≡ Some k
 find-first p low zero k from within passes before = absurd (omega arith)
-find-first p low (suc n) k from within passes before =
-    by_test (p low) refl (λ less. find-first p (low + 1) n k (omega (arith, less)) (omega (arith, within)) passes (λ i above below. before i (omega (arith, above)) below))
-  where
-    by_test : (here : Bool) → p low ≡ here → (low < k → find p (range_with_len (low + 1) n) ≡ Some k) → cond here (Some low) (find p (range_with_len (low + 1) n)) ≡ Some k
-    by_test true is later = elim (cases_lt low k) [
-      | inl less ↦ absurd (let no : true ≡ false = sym is ∙ before low (omega arith) less in let never : ⊥ = cc in never)
-      | inr not_less ↦ let same : low ≡ k = omega (arith, from, not_less) in ap (λ (x : ℕ). Some x) same
-    ]
-    by_test false is later = elim (cases_lt low k) [
-      | inl less ↦ later less
-      | inr not_less ↦ absurd (let same : low ≡ k = omega (arith, from, not_less) in let no : false ≡ true = sym is ∙ ap p same ∙ passes in let never : ⊥ = cc in never)
-    ]
+find-first p low (suc n) k from within passes before = elim (cases_lt low k) [
+  | inl less ↦
+      let rest = find-first p (low + 1) n k (omega (arith, less)) (omega (arith, within)) passes (λ i above below. before i (omega (arith, above)) below) in
+      let here = before low (omega arith) less in
+      grind (arith, here, rest)
+  | inr not_less ↦ grind (arith, nat_tests)
+]
 
 -- what is found in a range is in it
 pub find-within : (p : ℕ → Bool) (low n k : ℕ) → find p (range_with_len low n) ≡ Some k → k < low + n
 find-within p low zero k found = absurd (let no : ⊥ = cc in no)
-find-within p low (suc n) k found = by_test (p low) found (λ later. let within = find-within p (low + 1) n k later in omega (arith, within))
-  where
-    by_test : (here : Bool) → cond here (Some low) (find p (range_with_len (low + 1) n)) ≡ Some k → (find p (range_with_len (low + 1) n) ≡ Some k → k < low + suc n) → k < low + suc n
-    by_test true is later = let same : low ≡ k = cc in omega (arith, same)
-    by_test false is later = later is
+find-within p low (suc n) k found = grind (arith, find-within p (low + 1) n k)
 
 pub any-some : (p : ℕ → Bool) (low n k : ℕ) → low ≤ k → k < low + n → p k ≡ true → list_any p (range_with_len low n) ≡ true
 any-some p low zero k from within passes = absurd (omega arith)
-any-some p low (suc n) k from within passes =
-    by_test (p low) refl (λ less. any-some p (low + 1) n k (omega (arith, less)) (omega (arith, within)) passes)
-  where
-    by_test : (here : Bool) → p low ≡ here → (low < k → list_any p (range_with_len (low + 1) n) ≡ true) → (here || list_any p (range_with_len (low + 1) n)) ≡ true
-    by_test true is later = refl
-    by_test false is later = elim (cases_lt low k) [
-      | inl less ↦ later less
-      | inr not_less ↦ absurd (let same : low ≡ k = omega (arith, from, not_less) in let no : false ≡ true = sym is ∙ ap p same ∙ passes in let never : ⊥ = cc in never)
-    ]
+any-some p low (suc n) k from within passes = grind (arith, nat_tests, any-some p (low + 1) n k)
 
 pub any-none : (p : ℕ → Bool) (low n : ℕ) → ((i : ℕ) → p i ≡ false) → list_any p (range_with_len low n) ≡ false
 any-none p low zero none = refl
-any-none p low (suc n) none = ap (λ (here : Bool). here || list_any p (range_with_len (low + 1) n)) (none low) ∙ any-none p (low + 1) n none
+any-none p low (suc n) none = grind (arith, none, any-none p (low + 1) n none)
 
 -- a place is in both of two rows
 both-bits : (x y : ℕ) → x < 2 → y < 2 → (min x y == 1) ≡ ((x == 1) && (y == 1))
-both-bits zero y few less = ap (λ (least : ℕ). least == 1) (let none : min 0 y ≡ 0 = omega arith in none)
-both-bits (suc zero) zero few less = refl
-both-bits (suc zero) (suc zero) few less = refl
-both-bits (suc zero) (suc (suc y)) few less = absurd (omega (arith, less))
-both-bits (suc (suc x)) y few less = absurd (omega (arith, few))
+both-bits x y few less = grind (arith, nat_tests)
 
 pub on-both : (a b place : ℕ) → is_on (bit_and a b) place ≡ (is_on a place && is_on b place)
 on-both a b place = ap (λ (x : ℕ). x == 1) (bit_at_and a b place) ∙ both-bits (bit_at a place) (bit_at b place) (bit_at-lt a place) (bit_at-lt b place)
@@ -76,13 +56,8 @@ least-is bits some small =
 -- a place more in a row
 pub on-set : (bits place other : ℕ) → place < 16 → is_on (bit_or bits (1 * 2 ^ place % 2 ^ 16)) other ≡ ((other == place) || is_on bits other)
 on-set bits place other small = elim (cases_eq other place) [
-  | inl same ↦
-      ap (λ (n : ℕ). is_on (bit_or bits (1 * 2 ^ place % 2 ^ 16)) n) same
-      ∙ ap (λ (x : ℕ). x == 1) (bit_at_set_same w16 bits place small)
-      ∙ sym (ap (λ (here : Bool). here || is_on bits other) (eq-eqb other place same))
-  | inr differs ↦
-      ap (λ (x : ℕ). x == 1) (bit_at_set_other w16 bits place small other differs)
-      ∙ sym (ap (λ (here : Bool). here || is_on bits other) (ne_eqb other place differs))
+  | inl same ↦ grind (arith, nat_tests, bit_at_set_same w16 bits place small)
+  | inr differs ↦ grind (arith, nat_tests, bit_at_set_other w16 bits place small other differs)
 ]
 
 -- tests that answer alike up to an end, behind which nothing passes
@@ -90,12 +65,13 @@ pub any-cut : (p q : ℕ → Bool) (low n total : ℕ) → n ≤ total → ((i :
     → list_any p (range_with_len low total) ≡ list_any q (range_with_len low n)
 any-cut p q low zero zero le alike none = refl
 any-cut p q low zero (suc total) le alike none =
-    ap (λ (here : Bool). here || list_any p (range_with_len (low + 1) total)) (none low (omega arith) (omega arith))
-    ∙ any-cut p q (low + 1) zero total (omega arith) (λ i above below. alike i (omega (arith, above)) (omega (arith, below))) (λ i above below. none i (omega (arith, above)) (omega (arith, below)))
+    let rest = any-cut p q (low + 1) zero total (omega arith) (λ i above below. alike i (omega (arith, above)) (omega (arith, below))) (λ i above below. none i (omega (arith, above)) (omega (arith, below))) in
+    grind (arith, none, rest)
 any-cut p q low (suc n) zero le alike none = absurd (omega arith)
 any-cut p q low (suc n) (suc total) le alike none =
-    ap (λ (here : Bool). here || list_any p (range_with_len (low + 1) total)) (alike low (omega arith) (omega arith))
-    ∙ ap (λ (rest : Bool). q low || rest) (any-cut p q (low + 1) n total (omega arith) (λ i above below. alike i (omega (arith, above)) (omega (arith, below))) (λ i above below. none i (omega (arith, above)) (omega (arith, below))))
+    let rest = any-cut p q (low + 1) n total (omega arith) (λ i above below. alike i (omega (arith, above)) (omega (arith, below))) (λ i above below. none i (omega (arith, above)) (omega (arith, below))) in
+    let here = alike low (omega arith) (omega arith) in
+    grind (arith, here, rest)
 
 pub find-cut : (p q : ℕ → Bool) (low n total : ℕ) → n ≤ total → ((i : ℕ) → low ≤ i → i < low + n → p i ≡ q i) → ((i : ℕ) → low + n ≤ i → i < low + total → p i ≡ false)
     → find p (range_with_len low total) ≡ find q (range_with_len low n)

@@ -1,45 +1,24 @@
 -- The steps of a walk back to where it began, and the places that are marked on the way.
 use Rattle.wait_cycles.proofs.Common.{◌≡◌, ℕ, length, suc, ◌+◌, ◌-◌, ◌*◌, ◌%◌, ◌^◌, ◌<◌, ◌≤◌, ◌==◌, ◌&&◌, ◌||◌, nat_lt, Bool, true, false, List, [], ◌∷◌, refl, sym, ap, ◌∙◌, arith, inl, inr, ◌⊎◌, bit_and, bit_or, Option, Some, None, find, if◌then◌else◌, range_with_len, list_any, eq-eqb, ne_eqb, lt-ltb, le-ltb, cases_eq, cases_lt, and_right, leads, next_shown, shown_after, shown_cycle, is_on, places}
+use Rattle.std.proofs.lemmas.Bool.Decides.{nat_tests}
 use Rattle.std.specs.Option.{option_map_or}
 use Rattle.std.proofs.lemmas.List.FromFn.{length-range_with_len}
 use Rattle.wait_cycles.proofs.Bits.{find-cut, any-cut, on-both, on-set}
 
 -- a place that isn't another is below it where it is below the next
 lt-more : (p place : ℕ) → (p ≡ place → ⊥) → nat_lt p (place + 1) ≡ nat_lt p place
-lt-more p place differs = elim (cases_lt p place) [
-  | inl less ↦ lt-ltb p (place + 1) (omega (arith, less)) ∙ sym (lt-ltb p place less)
-  | inr not_less ↦ le-ltb p (place + 1) (above not_less (cases_eq p place)) ∙ sym (le-ltb p place not_less)
-]
-  where
-    above : place ≤ p → (p ≡ place) ⊎ (p ≡ place → ⊥) → place + 1 ≤ p
-    above le (inl same) = absurd (differs same)
-    above le (inr other) = elim (cases_lt place p) [
-      | inl less ↦ omega (arith, less)
-      | inr more ↦ absurd (differs (let same : p ≡ place = omega (arith, le, more) in same))
-    ]
+lt-more p place differs = grind (arith, nat_tests)
 
 -- the places below one are marked where they pass a test; the next one is marked or not by the same test
 module _ (f : ℕ → Bool) (bits place : ℕ) (small : place < 16) (so_far : (p : ℕ) → p < 16 → is_on bits p ≡ (nat_lt p place && f p)) where
   pub marked : f place ≡ true → (p : ℕ) → p < 16 → is_on (bit_or bits (1 * 2 ^ place % 2 ^ 16)) p ≡ (nat_lt p (place + 1) && f p)
-  marked passes p below = on-set bits place p small ∙ by_place (cases_eq p place)
-    where
-      by_place : (p ≡ place) ⊎ (p ≡ place → ⊥) → ((p == place) || is_on bits p) ≡ (nat_lt p (place + 1) && f p)
-      by_place (inl same) =
-          ap (λ (here : Bool). here || is_on bits p) (eq-eqb p place same)
-          ∙ sym (ap (λ (less : Bool). less && f p) (lt-ltb p (place + 1) (omega (arith, same))) ∙ ap f same ∙ passes)
-      by_place (inr differs) =
-          ap (λ (here : Bool). here || is_on bits p) (ne_eqb p place differs)
-          ∙ so_far p below
-          ∙ ap (λ (less : Bool). less && f p) (sym (lt-more p place differs))
+  marked passes p below =
+      let set = on-set bits place p small in
+      let old = so_far p below in
+      grind (arith, nat_tests, set, old)
 
   pub unmarked : f place ≡ false → (p : ℕ) → p < 16 → is_on bits p ≡ (nat_lt p (place + 1) && f p)
-  unmarked fails p below = so_far p below ∙ by_place (cases_eq p place)
-    where
-      by_place : (p ≡ place) ⊎ (p ≡ place → ⊥) → (nat_lt p place && f p) ≡ (nat_lt p (place + 1) && f p)
-      by_place (inl same) =
-          ap (λ (less : Bool). less && f p) (le-ltb p place (omega (arith, same)))
-          ∙ sym (ap (λ (less : Bool). less && f p) (lt-ltb p (place + 1) (omega (arith, same))) ∙ ap f same ∙ fails)
-      by_place (inr differs) = ap (λ (less : Bool). less && f p) (sym (lt-more p place differs))
+  unmarked fails p below = let old = so_far p below in grind (arith, nat_tests, old)
 
 -- among the first so many places
 module _ (waits : ℕ → ℕ → Bool) (n : ℕ) (few : n ≤ 16) (first : ℕ) where

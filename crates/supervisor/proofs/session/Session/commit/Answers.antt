@@ -4,6 +4,8 @@ use Rattle.redo_journal.specs.declared.keep.Kept.TheVariants.{Unwritten, Doubt}
 use Rattle.checkpoint.specs.Committed.{roomy, number_after, IsKeptAfter}
 use Rattle.supervisor.proofs.CauseLemmas.{closes-now}
 use Rattle.supervisor.proofs.CommitLemmas.{order-more, writes-more, gone, has_place, sound-left, sound-closed, out-is, tracked, went-done, went-doubt, went-unwritten}
+use Rattle.desk.specs.Kept.{HoldsStore}
+use Rattle.store_format.specs.Header.{Header}
 use Rattle.supervisor.proofs.session.Session.commit.Goals as goal
 
 pub returns-in-Err-clause-sound : goal.returns-in-Err-clause-sound
@@ -188,3 +190,9 @@ returns-in-Unwritten-clause-committing g c =
       crash = c.commit.ensures.crash;
       left = c.in-Unwritten.ensures.left;
     })
+
+pub swap_printed-requires-clause-seat : goal.swap_printed-requires-clause-seat
+swap_printed-requires-clause-seat g c = taken-below c.args.self.now.activations.seats c.requires.sound.running.seating c.args.seat c.requires.taken
+
+pub commit-requires-clause-room : goal.commit-requires-clause-room
+commit-requires-clause-room g c = subst (λ (header : Header). HoldsStore g.W.Outside header c.args.outside.now) (sym (ap (λ (store : KeptStore). store.header) c.in_default.ensures.begun)) c.requires.bytes

@@ -3,6 +3,7 @@ use Rattle.redo_journal.specs.declared.fault.ReopenFault.{ReopenFault}
 use Rattle.restart.specs.Faults.{IsStoreReopenFault}
 use Rattle.desk.specs.declared.event.Event.TheVariants as event
 use Rattle.supervisor.proofs.CrashLemmas.{did-crash, did-fail-crash, number-restarted, undamaged}
+use Rattle.supervisor.proofs.DesertedLemmas.{deserted-sound}
 use Rattle.supervisor.proofs.session.Session.forget.Goals as goal
 
 pub returns-in-Ok-clause-did : goal.returns-in-Ok-clause-did
@@ -59,3 +60,12 @@ returns-in-Err-Damaged-clause-undamaged g c = λ desk offset told shown same.
     let s = c.args.self.now in
     let fault = subst (λ (fault : ReopenFault). IsStoreReopenFault G c.args.outside.now c.reopen.new.outside s.store.header fault) c.in-Err-Damaged.field-0-is c.in-Err-Damaged.ensures.fault in
     undamaged s (held_of G c.args.outside.now) shown.over c.in-Err-Damaged.offset (fault told)
+
+pub returns-in-Ok-clause-sound : goal.returns-in-Ok-clause-sound
+returns-in-Ok-clause-sound g c = let s = c.args.self.now in deserted-sound s c.requires.sound c.reopen.new.self c.in-Ok.ensures.header c.forget.new.self c.forget.ensures.sound c.forget.ensures.deserted c.if-self.false s.closed
+
+pub returns-in-Err-Damaged-clause-sound : goal.returns-in-Err-Damaged-clause-sound
+returns-in-Err-Damaged-clause-sound g c = let s = c.args.self.now in deserted-sound s c.requires.sound c.reopen.new.self c.in-Err-Damaged.ensures.header c.forget.new.self c.forget.ensures.sound c.forget.ensures.deserted c.if-self.false true
+
+pub returns-in-Err-DiskFault-clause-sound : goal.returns-in-Err-DiskFault-clause-sound
+returns-in-Err-DiskFault-clause-sound g c = let s = c.args.self.now in deserted-sound s c.requires.sound c.reopen.new.self c.in-Err-DiskFault.ensures.header c.forget.new.self c.forget.ensures.sound c.forget.ensures.deserted c.if-self.false true
