@@ -46,6 +46,7 @@ impl Activations {
         requires tally { tally.old.ran + tally.old.pages + tally.old.locks ≡ 0 }
         ensures keeps { KeepsAll W.Outside (activity_of self.old) (activity_of self.new) limit outside.old outside.new }
         ensures ran { tally.new.ran ≤ limit }
+        ensures short { OnOk result (tally.new.ran < limit) }
         ensures on { OnOk result (StaysCalm W.Outside (activity_of self.old) (activity_of self.new) seat outside.old outside.new) }
         ensures over { IfErr result (EndsRows W.Outside (number_in (activity_of self.old).seating seat) (activity_of self.new) outside.old outside.new tally.old tally.new) }
         ensures limit { IfErr result (IfLimit limit tally.new.ran) }

@@ -48,3 +48,4 @@ pub mod MemoryLaw
 pub mod CyclesClose
 pub mod EndsCaused
 pub mod TurnCauses
+mod Unrefused

@@ -9,7 +9,10 @@ use Rattle.flat_machine.specs.declared.machine.Program.{Program}
 use Rattle.desk.specs.declared.event.Event.{Event}
 use Rattle.desk.specs.Desk.{Desk, Entry, Authority, nobody, opened, with_entry}
 use Rattle.desk.specs.Holdings.{wanted, request, held, conflicts_of, numbers, waits_for}
-use Rattle.desk.specs.Instruction.{Word, Counts, Idle, Turning, Over, turn, no_counts, Contest, Contested, Settled, Lost, breaks_cycle, breaks_cycles}
+use Rattle.flat_machine.specs.declared.machine.Plain.{Plain}
+use Rattle.flat_machine.specs.Row.{row}
+use Rattle.flat_machine.specs.After.{after}
+use Rattle.desk.specs.Instruction.{Word, Counts, Idle, Turning, Over, Attempt, turn, no_counts, refused_pages, counts_refused, gets, Contest, Contested, Settled, Lost, breaks_cycle, breaks_cycles}
 use Rattle.desk.specs.Run.{step, run}
 use Rattle.desk_law.specs.Consistent.{IsAmong, permitted, IsConsistent}
 
@@ -52,6 +55,20 @@ abbrev pub PermittedIsFree : Type 0
 PermittedIsFree =
     (desk : Desk) (entry : Entry) → IsConsistent desk → IsAmong desk.active entry
     → ArePermitted desk.authority entry.number (wanted desk entry) → conflicts_of desk entry ≡ []
+
+-- an entry's next row, at its state
+abbrev pub next_attempt : Desk → Entry → Plain → Attempt
+next_attempt desk entry now =
+    record { entry = entry; now = now; outcome = row entry.runs.program desk.committed.directory now; lines = wanted desk entry }
+
+-- The law: a row of which no entry refuses a line conflicts with nobody, and gets on without asking: the desk that asks at each row, and one that asks where
+-- an entry refuses alone, do the same.
+abbrev pub UnrefusedAsksNothing : Type 0
+UnrefusedAsksNothing =
+    (word : Word) (desk : Desk) (counts : Counts) (entry : Entry) (now : Plain) → IsConsistent desk → IsAmong desk.active entry
+    → after entry.runs.program entry.runs.args desk.committed entry.rows ≡ Some now
+    → refused_pages (next_attempt desk entry now) desk ≡ []
+    → (conflicts_of desk entry ≡ []) × (counts_refused word (next_attempt desk entry now) desk counts ≡ gets word (next_attempt desk entry now) [] desk counts)
 
 -- The law: a row that writes into fine pages alone asks for the lines that it touches, to read each that it writes, and for no others.
 abbrev pub FineRowsAskForTheirLines : Type 0

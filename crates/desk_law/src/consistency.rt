@@ -1,4 +1,4 @@
-ghost use Rattle.desk_law.specs.Laws.{FineRowsAskForTheirLines, WriteBitsHoldPages, BrokenCyclesWere, ContestedCyclesClose, IdleWhereInactive, PermittedIsFree, RunsStayConsistent, SomebodyCanGoOn, StaysConsistent};
+ghost use Rattle.desk_law.specs.Laws.{FineRowsAskForTheirLines, WriteBitsHoldPages, BrokenCyclesWere, ContestedCyclesClose, IdleWhereInactive, PermittedIsFree, RunsStayConsistent, SomebodyCanGoOn, StaysConsistent, UnrefusedAsksNothing};
 
 /// A desk that is consistent is so after every event with every word (docs/MODEL.md). It calls nothing.
 pub fn desks_stay_consistent()
@@ -18,6 +18,11 @@ pub fn idle_where_inactive()
 /// An entry whose next row touches permitted lines alone conflicts with nobody. It calls nothing.
 pub fn permitted_is_free()
     ensures { PermittedIsFree }
+{}
+
+/// A row of which no entry refuses a line conflicts with nobody, and gets on without asking. It calls nothing.
+pub fn unrefused_asks_nothing()
+    ensures { UnrefusedAsksNothing }
 {}
 
 /// A row that writes into fine pages alone asks for the lines that it touches and no others. It calls nothing.

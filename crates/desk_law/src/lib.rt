@@ -11,7 +11,7 @@ pub use causes::{ends_have_causes, turns_end_for_cause};
 pub use consistency::{
     broken_cycles_were, contested_cycles_close, desks_stay_consistent,
     fine_rows_ask_for_their_lines, idle_where_inactive, permitted_is_free, runs_stay_consistent,
-    somebody_can_go_on, write_bits_hold_pages,
+    somebody_can_go_on, unrefused_asks_nothing, write_bits_hold_pages,
 };
 pub use current::{
     commits_change_no_line, commits_leave_others, holders_see_current, one_list_is_current,

@@ -1,5 +1,5 @@
 -- A record that is to be added: what a line of it must be, what the answer says of the disk's count, what is kept then, and what a crash leaves.
-use Rattle.std.specs.Prelude.{◌≡◌, ◌↔◌, ℕ, ◌+◌, ◌≤◌, ◌<◌, List, All, length, slice_set, Option, None, Some, IsSome, IfSome}
+use Rattle.std.specs.Prelude.{◌≡◌, ◌↔◌, ℕ, ◌+◌, ◌≤◌, ◌<◌, List, All, length, take, drop, slice_set, Option, None, Some, IsSome, IfSome}
 use Rattle.std.specs.Option.{option_map}
 use Rattle.store_format.specs.Stands.{stands, one_more}
 use Rattle.outside.specs.declared.world.Outside.{Ghosts}
@@ -47,6 +47,12 @@ FailedLeaves G bank there before after Done = Unit {0}
 FailedLeaves G bank there before after Unwritten = Leaves G (λ image seen. stands image ≡ stands (held_of G before)) before after
 FailedLeaves G bank there before after Doubt = Leaves G (λ image seen. stands (slice_set image there.gate 165) ≡ one_more (begun_of bank) (stands (held_of G before))) after after
 
+-- The image is the old one but between two places.
+pub record IsApart (from to : ℕ) (old image : List ℕ) : Type 0 where
+  pub front : take from image ≡ take from old
+  pub behind : drop to image ≡ drop to old
+  pub long : length image ≡ length old
+
 -- What an append of the begun record does, where it is answered so: it only asks and writes, the sizes stay, and what is kept is told by the answer. It is full exactly
 -- where the record and the gate behind it don't fit the rest of the bank, and then nothing was done; else the disk's count is told, and a record that is kept took two
 -- writes. Of a bank that is tracked: whenever a crash comes, it leaves what stood, or that with the record.
@@ -59,6 +65,7 @@ pub record Appends {W : Type 0} (G : Ghosts W) (old new : KeptBank) (before afte
   pub counted : IfSome (kept_in answer) (CountsKept G before after)
   pub writes : answer ≡ appending.Done → G.writes after ≡ option_map (λ count. count + 2) (G.writes before)
   pub crash : TracksBank G old before → Leaves G (IsEither (begun_of old) (held_of G before)) before after
+  pub apart : TracksBank G old before → Leaves G (λ image seen. IsApart old.gate (needed_end old) (held_of G before) image) before after
   pub left : TracksBank G old before → IfSome (kept_in answer) (FailedLeaves G old old before after)
   pub records : (tracks : TracksBank G old before) → HoldsOneOf tracks.header old.which old.base tracks.records (begun_of old) (held_of G after)
   pub done : answer ≡ appending.Done → TracksBank G old before → IsAppended G old new before after

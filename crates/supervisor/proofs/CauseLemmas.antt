@@ -81,8 +81,8 @@ module _ {W : Type 0} (G : Ghosts W) (before after : W) (old new : Tally) (ends 
   rows-number activation number = grind arith
 
 -- the end of a commit has its cause
-pub commit-told : (activation limit most number : ℕ) (tally : Tally) (ends : TurnEnd) → IsCommitEnd ends → IfJournal most ends → TellsNumber activation number ends → IsTurnEnd activation limit most number (answer_of tally ends)
-commit-told activation limit most number tally ends is journal numbered = grind arith
+pub commit-told : (activation limit most number : ℕ) (tally : Tally) (ends : TurnEnd) → tally.ran ≤ limit → IsCommitEnd ends → IfJournal most ends → TellsNumber activation number ends → IsTurnEnd activation limit most number (answer_of tally ends)
+commit-told activation limit most number tally ends few is journal numbered = grind arith
 
 -- the commit of who sits in a seat failed, from this very moment on
 pub closes-now : {W : Type 0} (G : Ghosts W) (s n : Session) (seat : ℕ) (answer : Kept) (store : KeptStore) (before after : W) → has (activity s).seating.taken seat ≡ true → activity n ≡ activity s

@@ -60,7 +60,7 @@ pub use Rattle.store_format.specs.Bank.{Faulty, Holds, RecordLine, bank_of}
 pub use Rattle.store_format.specs.Header.{HasRanges, Header, header_of, most_lines, total}
 pub use Rattle.store_format.specs.Stands.{Standing, Stands, chosen, laid, one_more}
 unfoldable pub use Rattle.store_format.specs.Stands.{stands}
-pub use Rattle.supervisor.specs.Causes.{ClosesAsCommit, ClosesInCommit, HasPlace, IsFailedCommit, IsFull, IsTurnEnd, TellsNumber, answer_of, lacking}
+pub use Rattle.supervisor.specs.Causes.{ClosesAsCommit, ClosesInCommit, HasPlace, IsFailedCommit, IsFull, IsTurnEnd, KeepsStore, TellsNumber, answer_of, lacking}
 pub use Rattle.supervisor.specs.Laws.{CyclesWereMet, ShownIsConsistent, ShownIsIsolated, WasMet, WereMet}
 pub use Rattle.supervisor.specs.Session.{IsSound, activity, session_desk, order_of, records_told}
 pub use Rattle.supervisor.specs.Shown.{IsOpenOver, ShowsDesk}

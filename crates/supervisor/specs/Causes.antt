@@ -1,5 +1,5 @@
 -- Why the answers of a session come.
-use Rattle.std.specs.Prelude.{◌≡◌, ℕ, ◌+◌, ◌%◌, ◌<◌, ◌^◌, true, List, length, Option, Some, None}
+use Rattle.std.specs.Prelude.{◌≡◌, ℕ, ◌+◌, ◌%◌, ◌<◌, ◌≤◌, ◌^◌, true, List, length, Option, Some, None}
 use Rattle.lock_rules.specs.Sets.{has}
 use Rattle.outside.specs.declared.world.Outside.{Ghosts}
 use Rattle.outside.specs.Causes.{Rose}
@@ -9,7 +9,7 @@ use Rattle.redo_journal.specs.declared.keep.Kept.{Kept}
 use Rattle.redo_journal.specs.declared.keep.Kept.TheVariants as kept
 use Rattle.redo_journal.specs.Appended.{FailedLeaves}
 use Rattle.redo_journal.specs.Held.{OnlyWrites}
-use Rattle.redo_journal.specs.Kept.{begun_of}
+use Rattle.redo_journal.specs.Kept.{begun_of, with_record}
 use Rattle.redo_journal.specs.Tracks.{IsEither}
 use Rattle.checkpoint.specs.Committed.{roomy, IsKeptAfter}
 use Rattle.restart.specs.Kept.{KeptStore, with_begun}
@@ -55,6 +55,7 @@ answer_of tally end = record { ran = tally.ran; pages = tally.pages; locks = tal
 -- The answer to a turn of an activation gives the true cause of its end, where a record has at most so many lines and the store had this number: it
 -- waits for some, its record has too many lines, it ran to its limit, it was the victim of a cycle, or a page that was counted couldn't be read.
 pub record IsTurnEnd (activation limit most number : ℕ) (answer : Turn) : Type 0 where
+  pub ran : answer.ran ≤ limit
   pub waits : IfWaits activation answer.end
   pub journal : IfJournal most answer.end
   pub limited : IfLimit limit answer.ran answer.end
@@ -93,3 +94,14 @@ abbrev pub ClosesAsCommit : {W : Type 0} → Ghosts W → (activation : ℕ) →
 ClosesAsCommit G activation (end.Closed (Some doubted) told) store new before after = ClosesInCommit G activation kept.Doubt store new before after
 ClosesAsCommit G activation (end.Closed None told) store new before after = ClosesInCommit G activation kept.Unwritten store new before after
 ClosesAsCommit G activation _ store new before after = Unit {0}
+
+-- a bank with one record more than a store's, or where that doesn't fit the one after a checkpoint with just that record
+pub record HasItsRecord (store new : KeptStore) : Type 0 where
+  pub lines : List RecordLine
+  pub kept : new.bank ≡ with_record (roomy (with_begun store lines).bank)
+
+-- what a turn that ends so leaves of its store: a commit adds a record, and no other end touches it; of one that closes the commit tells
+abbrev pub KeepsStore : TurnEnd → (store new : KeptStore) → Type 0
+KeepsStore (end.Committed told steps) store new = HasItsRecord store new
+KeepsStore (end.Closed doubt told) store new = Unit {0}
+KeepsStore _ store new = new ≡ store

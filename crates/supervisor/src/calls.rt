@@ -37,7 +37,7 @@ fn told(tally: Tally, end: TurnEnd) -> Turn
 impl Session {
     ghost use Rattle.supervisor.specs.Session.{IsSound, activity, order_of, records_told, is_closed, fixed_of, turns_of, printed_of, number_told, store_told};
     ghost use Rattle.supervisor.specs.Shown.{ShowsDesk};
-    ghost use Rattle.supervisor.specs.Causes.{IsFull, HasPlace, lacking, IsTurnEnd, ReopenedNumber, ClosesAsCommit};
+    ghost use Rattle.supervisor.specs.Causes.{IsFull, HasPlace, lacking, IsTurnEnd, ReopenedNumber, ClosesAsCommit, KeepsStore};
     ghost use Rattle.store_format.specs.Header.{most_lines};
     ghost use Rattle.seats.specs.Seating.{seat_of, numbers as numbers_seated};
 
@@ -77,6 +77,7 @@ impl Session {
         ensures uncounted { is_closed self.old ≡ true → counts_told result ≡ no_counts }
         ensures idle { is_closed self.old ≡ false → (result.end ≡ TurnEnd.Idle) ↔ (seat_of (activity self.old).seating activation ≡ None) }
         ensures end { IsTurnEnd activation limit (most_lines (fixed_of self.old).header) (number_told self.old) result }
+        ensures stored { KeepsStore result.end (store_told self.old) (store_told self.new) }
         ensures ordered { EntersOrder activation result.end (order_of self.old) (order_of self.new) }
         ensures printed { KeepsPrinted result.end (printed_of self.old) (printed_of self.new) }
         ensures closed { is_closed self.new ≡ turn_closes result.end }

@@ -23,7 +23,7 @@ impl Session {
     ghost use Rattle.store_format.specs.Header.{most_lines};
     ghost use Rattle.supervisor.specs.Session.{IsSound, KeepsParts, activity, order_of, records_told};
     ghost use Rattle.supervisor.specs.Shown.{IsOpenOver};
-    ghost use Rattle.supervisor.specs.Causes.{TellsNumber, ClosesAsCommit};
+    ghost use Rattle.supervisor.specs.Causes.{TellsNumber, ClosesAsCommit, KeepsStore};
     ghost use Rattle.restart.specs.Kept.{number_of};
     ghost use Rattle.supervisor.specs.Went.{HasCommitted, IsCommitEnd, most_kept};
 
@@ -44,6 +44,8 @@ impl Session {
         ensures only { OnlyWrites W.Outside outside.old outside.new }
         ensures writes { WritesMore (W.writes outside.old) (W.writes outside.new) (writes_due result) }
         ensures end { IsCommitEnd result }
+        ensures ran { tally.new.ran ≤ tally.old.ran + 1 }
+        ensures stored { KeepsStore result self.old.store self.new.store }
         ensures journal { IfJournal (most_lines self.old.store.header) result }
         ensures numbered { TellsNumber (number_in (activity self.old).seating seat) (number_of self.old.store) result }
         ensures ordered { EntersOrder (number_in (activity self.old).seating seat) result (order_of self.old) (order_of self.new) }

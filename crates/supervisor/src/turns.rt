@@ -17,7 +17,7 @@ impl Session {
     ghost use Rattle.activations.specs.Kept.{AreRowsWithin};
     ghost use Rattle.supervisor.specs.Session.{IsSound, KeepsParts, activity, order_of, records_told};
     ghost use Rattle.supervisor.specs.Shown.{IsOpenOver};
-    ghost use Rattle.supervisor.specs.Causes.{IsTurnEnd, answer_of, ClosesAsCommit};
+    ghost use Rattle.supervisor.specs.Causes.{IsTurnEnd, answer_of, ClosesAsCommit, KeepsStore};
     ghost use Rattle.store_format.specs.Header.{most_lines};
     ghost use Rattle.restart.specs.Kept.{number_of};
     ghost use Rattle.seats.specs.Seating.{seat_of};
@@ -46,6 +46,7 @@ impl Session {
         ensures turned { IsTurned result }
         ensures idle { (result ≡ end.Idle) ↔ (seat_of (activity self.old).seating activation ≡ None) }
         ensures end { IsTurnEnd activation limit (most_lines self.old.store.header) (number_of self.old.store) (answer_of tally.new result) }
+        ensures stored { KeepsStore result self.old.store self.new.store }
         ensures ordered { EntersOrder activation result (order_of self.old) (order_of self.new) }
         ensures printed { KeepsPrinted result self.old.printed self.new.printed }
         ensures closed { self.new.closed ≡ turn_closes result }

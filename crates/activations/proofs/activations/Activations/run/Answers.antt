@@ -114,6 +114,10 @@ returns-in-AtCommit-clause-keeps g c =
     keeps-ran g.W.Outside g.met.W.Outside.fewer_later (activity_of c.args.self.now) (activity_of c.select.new.self) (activity_of c.loop-left.self) (activity_of c.come_back.new.self) (activity_of c.instruct.new.self) c.args.seat c.args.limit c.loop-left.left c.args.outside.now c.loop-left.outside c.come_back.new.outside c.instruct.new.outside
     c.select.ensures.shape c.loop-left.invariant.4 c.loop-left.invariant.6 c.come_back.ensures.keeps c.instruct.ensures.keeps
 
+pub returns-in-AtCommit-clause-short : goal.returns-in-AtCommit-clause-short
+returns-in-AtCommit-clause-short g c =
+    omega (arith, c.loop-left.invariant.8, c.loop-left-test.true, ap (λ (tally : Tally). tally.ran) c.come_back.ensures.counts.rest, c.instruct.ensures.counts.tally.ran)
+
 pub returns-in-AtCommit-clause-turned : goal.returns-in-AtCommit-clause-turned
 returns-in-AtCommit-clause-turned g c committed order store follows =
     let begins = turn_in (activity_of c.select.new.self) c.args.seat c.args.limit committed order (tally_counts c.args.tally.now) in

@@ -2,7 +2,9 @@ use Rattle.redo_journal.proofs.Common.{◌≡◌, inl, ℕ, ◌+◌, ◌*◌, Li
 use Rattle.redo_journal.proofs.AppendLemmas.{IsReadied, make_ready, shut, either, one_of, same, more, after, doubted, filled_lines, says_room, begun_is, fields_tracked, with_record_is, is_begun, unwrapped}
 use Rattle.redo_journal.proofs.Places.{below_in_order, newest_more}
 use Rattle.redo_journal.proofs.WriteLemmas.{held_left}
-use Rattle.redo_journal.specs.Appended.{Appends, CountsKept, FailedLeaves, bank_appended, kept_in}
+use Rattle.redo_journal.specs.Appended.{Appends, CountsKept, FailedLeaves, IsApart, bank_appended, kept_in}
+use Rattle.redo_journal.specs.Kept.{needed_end}
+use Rattle.std.specs.Prelude.{take}
 use Rattle.redo_journal.specs.declared.keep.Appended.{Appended}
 use Rattle.redo_journal.specs.declared.keep.Appended.TheVariants as appending
 use Rattle.redo_journal.specs.declared.keep.Kept.{Kept}
@@ -56,6 +58,7 @@ returns-then-end_of-self g c =
       counted = tt;
       writes = λ is. cc;
       crash = λ tracks image seen left. inl (ap stands (leaves_held g.W.Outside c.args.outside.now tracks.sure image seen left));
+      apart = λ tracks image seen left. subst (λ (those : List ℕ). IsApart c.args.self.now.gate (needed_end c.args.self.now) (held_of g.W.Outside c.args.outside.now) those) (sym (leaves_held g.W.Outside c.args.outside.now tracks.sure image seen left)) (record { front = refl; behind = refl; long = refl });
       left = λ tracks. tt;
       records = search rules;
       done = λ is. cc;
@@ -97,6 +100,18 @@ appends g c new answer told kept shape failed done =
       counted = subst (λ (those : Option Kept). IfSome those (CountsKept G before after)) (sym told) c.keep_body.ensures.counted;
       writes = λ is. let same : Some c.keep_body.result ≡ Some keeping.Done = sym told ∙ ap kept_in is in c.keep_body.ensures.writes cc;
       crash = λ tracks image seen was. subst (λ (lines : List RecordLine). IsEither lines (held_of G before) image seen) (begun g c) (either _ _ _ _ _ _ _ _ _ (ready g c tracks).ready image (c.keep_body.ensures.crash (shut_gate g c tracks) image seen was) seen);
+      apart = λ tracks image seen was.
+          let safe = c.keep_body.ensures.crash (shut_gate g c tracks) image seen was in
+          let n = count g c in
+          let at : bank.gate ≡ old.gate = ap (λ (those : KeptBank). those.gate) c.self.view_is in
+          let sized_by = ap (λ (k : ℕ). entry_bytes bank.page * k) n in
+          let long : length c.record_of.result.now ≡ 11 + c.from-bytes.result = omega (arith, sized g c, ap length c.record_of.ensures, length-take-le (record_bytes bank.page c.unwrap-begun.result) c.fill.new.body (omega (arith, c.fill.ensures.len, c.self.invariant.buffer, c.self.invariant.fits, sized_by)), sized_by) in
+          let end : bank.gate + 1 + length c.record_of.result.now ≡ needed_end old = omega (arith, long, sized g c, says.need) in
+          record {
+            front = subst (λ (k : ℕ). take k image ≡ take k (held_of G before)) at safe.front;
+            behind = subst (λ (k : ℕ). drop k image ≡ drop k (held_of G before)) end safe.behind;
+            long = safe.long;
+          };
       left = failed;
       records = λ tracks.
           let now = held_left G g.met.W.Outside.held_now after (c.keep_body.ensures.only.told tracks.sure.told) in

@@ -2,6 +2,7 @@ use Rattle.supervisor.proofs.Common.{◌≡◌, ◌+◌, ◌%◌, ◌^◌, ◌�
 use Rattle.flat_machine.specs.After.{after as after_rows}
 use Rattle.redo_journal.specs.declared.keep.Kept.TheVariants.{Unwritten, Doubt}
 use Rattle.checkpoint.specs.Committed.{roomy, number_after, IsKeptAfter}
+use Rattle.redo_journal.specs.Kept.{with_record}
 use Rattle.supervisor.proofs.CauseLemmas.{closes-now}
 use Rattle.supervisor.proofs.CommitLemmas.{order-more, writes-more, gone, has_place, sound-left, sound-closed, out-is, tracked, went-done, went-doubt, went-unwritten}
 use Rattle.desk.specs.Kept.{HoldsStore}
@@ -196,3 +197,12 @@ swap_printed-requires-clause-seat g c = taken-below c.args.self.now.activations.
 
 pub commit-requires-clause-room : goal.commit-requires-clause-room
 commit-requires-clause-room g c = subst (λ (header : Header). HoldsStore g.W.Outside header c.args.outside.now) (sym (ap (λ (store : KeptStore). store.header) c.in_default.ensures.begun)) c.requires.bytes
+
+pub returns-in-Done-clause-stored : goal.returns-in-Done-clause-stored
+returns-in-Done-clause-stored g c =
+    let there = c.record.new.store in
+    let others = c.enter_order.ensures.others in
+    record {
+      lines = begun_of there.bank;
+      kept = ap (λ (n : Session). n.store.bank) others ∙ c.in-Done.ensures.kept ∙ ap (λ (store : KeptStore). with_record (roomy store.bank)) c.in_default.ensures.begun;
+    }

@@ -68,6 +68,7 @@ returns-in-Err-clause-end g c =
     let found = (seat-found (activity s).seating c.requires.sound.running.seating c.args.activation c.in-Some.seat (sym c.seat_of.ensures ∙ c.in-Some.is)).1 in
     let ends = c.in-Err.ensures.over.disk in
     record {
+      ran = c.run.ensures.ran;
       waits = subst (λ (n : ℕ). IfWaits n c.in-Err.end) found c.in-Err.ensures.over.waits;
       journal = subst (λ (n : ℕ). IfJournal n c.in-Err.end) (c.run.ensures.keeps.parts.most_lines ∙ sym c.requires.sound.most) c.in-Err.ensures.over.journal;
       limited = c.in-Err.ensures.limit;
@@ -83,7 +84,7 @@ pub returns-in-Ok-clause-end : goal.returns-in-Ok-clause-end
 returns-in-Ok-clause-end g c =
     let s = c.args.self.now in
     let found = (seat-found (activity s).seating c.requires.sound.running.seating c.args.activation c.in-Some.seat (sym c.seat_of.ensures ∙ c.in-Some.is)).1 in
-    commit-told c.args.activation c.args.limit _ (number_of s.store) c.commit.new.tally c.commit.result c.commit.ensures.end c.commit.ensures.journal
+    commit-told c.args.activation c.args.limit _ (number_of s.store) c.commit.new.tally c.commit.result (omega (arith, c.in-Ok.ensures.short, c.commit.ensures.ran)) c.commit.ensures.end c.commit.ensures.journal
     (subst (λ (n : ℕ). TellsNumber n (number_of s.store) c.commit.result) (c.in-Ok.ensures.on.stays.number ∙ found) c.commit.ensures.numbered)
 
 pub returns-in-Ok-clause-failed : goal.returns-in-Ok-clause-failed

@@ -1,4 +1,4 @@
-use Rattle.supervisor.proofs.Common.{◌≡◌, ◌+◌, ap, sym, ◌∙◌, subst, held_of, most_lines, number_of, IsTurnEnd, FailsCounted, Fixed, turn_fails, TurnEnd, counts_told, turn_told, HasNumbers, Did, Desk, number_after, activity, order_of, records_told, IsOpenOver, ShowsDesk}
+use Rattle.supervisor.proofs.Common.{◌≡◌, ◌+◌, ap, sym, ◌∙◌, subst, held_of, most_lines, number_of, IsTurnEnd, KeepsStore, FailsCounted, Fixed, turn_fails, TurnEnd, counts_told, turn_told, HasNumbers, Did, Desk, number_after, activity, order_of, records_told, IsOpenOver, ShowsDesk}
 use Rattle.desk.specs.declared.answers.Turn.{Turn}
 use Rattle.desk.specs.declared.event.Event.TheVariants as event
 use Rattle.supervisor.proofs.CauseLemmas.{calls-store}
@@ -40,3 +40,6 @@ returns-clause-failed g c = subst (λ (answer : Turn). FailsCounted (turn_fails 
 
 pub returns-clause-calls : goal.returns-clause-calls
 returns-clause-calls g c = calls-store g.W.Outside c.args.self.now.store.header _ c.args.outside.now c.end_of_turn-end.new.outside (ap (λ (fixed : Fixed). fixed.header) c.end_of_turn-end.ensures.parts.fixed) c.end_of_turn-end.ensures.only c.requires.bytes
+
+pub returns-clause-stored : goal.returns-clause-stored
+returns-clause-stored g c = subst (λ (answer : Turn). KeepsStore answer.end c.args.self.now.store c.end_of_turn-end.new.self.store) (sym c.told-2.ensures) c.end_of_turn-end.ensures.stored

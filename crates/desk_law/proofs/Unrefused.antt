@@ -1,0 +1,34 @@
+-- A row of which no entry refuses a line.
+use Rattle.desk_law.proofs.Common.{◌≡◌, refl, ℕ, ◌+◌, ◌<◌, true, List, [], length, Option, Some, option_map_or, arith, ap, sym, ◌∙◌, subst, is_fine_page, line_count, has, Lines, no_lines, page_of_line, Plain, row, touched, after, all_of, touched-below, Desk, Entry, Authority, conflicts_of, Word, Counts, Attempt, wanted, gets, granted, refused_pages, counts_refused, asks, IsAmong, IsConsistent, ArePermitted}
+use Rattle.desk_law.specs.Laws.{next_attempt, UnrefusedAsksNothing}
+use Rattle.desk_law.proofs.Granted.{granted-permits}
+use Rattle.desk_law.proofs.Permitted.{permitted-is-free}
+
+module _ (desk : Desk) (entry : Entry) (now : Plain) (is : IsConsistent desk) (among : IsAmong desk.active entry)
+    (at : after entry.runs.program entry.runs.args desk.committed entry.rows ≡ Some now) (none : refused_pages (next_attempt desk entry now) desk ≡ []) where
+  below : (line : ℕ) → has (all_of (wanted desk entry)) line ≡ true → page_of_line line < length desk.authority
+  below line inside =
+      let lines : wanted desk entry ≡ touched entry.runs.program desk.committed.directory now =
+      ap (λ (state : Option Plain). option_map_or (touched entry.runs.program desk.committed.directory) state no_lines) at in
+      let few : line < line_count desk.committed.directory =
+      touched-below entry.runs.program desk.committed.directory now line (ap (λ (l : Lines). has (all_of l) line) (sym lines) ∙ inside) in
+      omega (arith, few, is.held.pages)
+
+  permitted_all : ArePermitted desk.authority entry.number (wanted desk entry)
+  permitted_all =
+      subst (λ (authority : List Authority). ArePermitted authority entry.number (wanted desk entry))
+      (ap (λ (pages : List ℕ). granted (is_fine_page desk.committed.directory) (next_attempt desk entry now) (wanted desk entry) pages desk.authority) none)
+      (granted-permits (is_fine_page desk.committed.directory) (next_attempt desk entry now) (wanted desk entry) desk.authority desk.authority (λ page same. refl) (λ line inside. inside) (λ line inside. inside) below)
+
+  free : conflicts_of desk entry ≡ []
+  free = permitted-is-free desk entry is among permitted_all
+
+pub unrefused-free : UnrefusedAsksNothing
+unrefused-free word desk counts entry now is among at none =
+    let no : conflicts_of desk entry ≡ [] = free desk entry now is among at none in
+    let attempt = next_attempt desk entry now in (
+      no,
+      ap (λ (holders : List ℕ). asks word attempt (refused_pages attempt desk) holders desk (record counts { locks = counts.locks + length (refused_pages attempt desk) })) no
+          ∙ ap (λ (refused : List ℕ). gets word attempt refused desk (record counts { locks = counts.locks + length refused })) none
+          ∙ ap (λ (n : ℕ). gets word attempt [] desk (record counts { locks = n })) (omega arith),
+    )
