@@ -10,6 +10,4 @@ pub use commands::console;
 pub use drills::{Stop, drill_stop};
 pub use job_calls::Ended;
 pub use store_calls::try_store;
-
-#[cfg(test)]
-mod tests;
+pub use words::{is_form, reads_source};

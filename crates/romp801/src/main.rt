@@ -1,10 +1,19 @@
 //! The program: it makes the real parts, calls the console once, and ends with the status's number.
 #![tactic(auto)]
 
-use console::{Ended, Status, console, status_text, try_store};
-use outside::{Disk, FileDisk, Joint, MemoryDisk, StdScreen, StdSource};
+ghost use Rattle.std.specs.Prelude.{◌≡◌};
+ghost use Rattle.std.specs.Process.{exit_status};
+ghost use Rattle.call_status.specs.Statuses.{number_of};
+
+use console::{Ended, Status, console, is_form, reads_source, status_text, try_store};
+use file_runs::console_on_file;
+use outside::{Disk, Joint, MemoryDisk};
+use real_files::{AbsentDisk, NotedScreen, ReadSource, StdFile, StdOut};
 use std::process::ExitCode;
 use std::{env, io};
+
+/// More than any word reads of the standard input.
+const MOST_BYTES: usize = 1 << 26;
 
 fn main(rt: HostRuntime) -> ExitCode {
     let status = match run(&rt) {
@@ -14,6 +23,13 @@ fn main(rt: HostRuntime) -> ExitCode {
     if status != Status::Done {
         let _ = eprintln!(rt; "{}", status_text(&status).as_str());
     }
+    code_of(&status)
+}
+
+/// How a call with this status ends the program: with its number.
+fn code_of(status: &Status) -> ExitCode
+    ensures { exit_status result ≡ number_of status.now }
+{
     ExitCode::from(status.number())
 }
 
@@ -23,24 +39,33 @@ fn run(rt: &HostRuntime) -> Result<Ended, Status> {
     let alloc = rt.alloc();
     let words = words_of(rt)?;
     match words.as_slice() {
-        [word, store, ..] if names_store(word.as_str()) => {
+        [word, store, ..] if names_store(word.as_str()) && is_form(&words) => {
             let path = String::from_str(alloc, store.as_str())?;
-            call(
-                rt,
-                &words,
-                FileDisk::new(rt.clone()?, path, makes_store(word.as_str())),
-            )
+            // The source comes first: until it ends, another may have the file.
+            let mut job = source_of(rt, &words);
+            match StdFile::open(rt.clone()?, path, makes_store(word.as_str())) {
+                Ok((file, bytes)) => {
+                    let screen = StdOut::new(rt.clone()?);
+                    let (ended, _, _) = console_on_file(
+                        alloc, &words, &mut job, file, bytes, screen,
+                    );
+                    Ok(ended)
+                }
+                Err(_) => call_on(rt, &words, &mut job, AbsentDisk::new()),
+            }
         }
         others if runs_in_memory(others) => {
-            call(
+            call_on(
                 rt,
                 &words,
+                &mut source_of(rt, &words),
                 MemoryDisk::new(alloc, try_store(alloc)?, Vec::new(alloc)),
             )
         }
-        _ => call(
+        _ => call_on(
             rt,
             &words,
+            &mut source_of(rt, &words),
             MemoryDisk::new(alloc, Vec::new(alloc), Vec::new(alloc)),
         ),
     }
@@ -65,12 +90,26 @@ fn makes_store(word: &str) -> bool {
     matches!(word, "new" | "new2" | "renew")
 }
 
-/// The console on this disk.
-fn call<D: Disk + Drop>(rt: &HostRuntime, words: &[String], disk: D) -> Result<Ended, Status> {
-    let screen = StdScreen::new(rt.clone()?);
+/// The console on this disk and the standard output.
+fn call_on<D: Disk + Drop>(
+    rt: &HostRuntime,
+    words: &[String],
+    job: &mut ReadSource,
+    disk: D,
+) -> Result<Ended, Status> {
+    let screen = NotedScreen::new(StdOut::new(rt.clone()?));
     let mut outside = Joint::new(disk, screen);
-    let mut job = StdSource::new(rt.stdin());
-    Ok(console(rt.alloc(), words, &mut job, &mut outside))
+    Ok(console(rt.alloc(), words, job, &mut outside))
+}
+
+/// The standard input, where the words read it: it is read first.
+fn source_of(rt: &HostRuntime, words: &[String]) -> ReadSource {
+    let alloc = rt.alloc();
+    if reads_source(words) {
+        ReadSource::read(alloc, rt.stdin(), MOST_BYTES)
+    } else {
+        ReadSource::new(Vec::new(alloc), false)
+    }
 }
 
 /// The words of the command line, without the program's name: no command line where one is not UTF-8.

@@ -2,6 +2,5 @@ pub mod Common
 mod UndoneLemmas
 pub mod WholeLemmas
 pub mod AttemptLemmas
-pub mod MemoryLemmas
 pub mod SegmentLemmas
 pub mod WindowLemmas

@@ -3,4 +3,3 @@ pub mod Answers
 pub mod Tried
 pub mod Attempts
 pub mod Segments
-pub mod Memory

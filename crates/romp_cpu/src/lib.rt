@@ -4,9 +4,6 @@
 mod cpu;
 mod segments;
 mod storage;
-#[cfg(test)]
-mod tests;
-
 pub use cpu::{Attempt, Cpu};
 pub use segments::registers_of;
 pub use storage::{Access, Fault, Probe, Storage};

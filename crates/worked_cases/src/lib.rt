@@ -1,9 +1,11 @@
-//! Worked cases: jobs that are written and read again, and runs that end early, of each part that fails and
-//! of disks that stop within a write. Tests alone; nothing stands on it.
+//! Worked cases: jobs that are written and read again, runs that end early, of each part that fails and of disks that stop within a
+//! write, and calls by their words. Tests alone; nothing stands on it.
 #![tactic(auto)]
 
 #[cfg(test)]
 mod active_tests;
+#[cfg(test)]
+mod console_tests;
 #[cfg(test)]
 mod crash_tests;
 #[cfg(test)]

@@ -1,0 +1,43 @@
+// A job on a file and a screen.
+ghost use Rattle.std.specs.Prelude.{◌≡◌, [], ℕ, List, Some};
+ghost use Rattle.desk.specs.Answers.{order_told};
+ghost use Rattle.call_status.specs.Call.{given};
+ghost use Rattle.supervisor.specs.declared.session.Session.{Session};
+ghost use Rattle.file_runs.specs.FileRun.{AreBehind, RanOnFile, RunsFrom};
+ghost use Rattle.real_files.specs.Deeds.{Deed};
+
+use call_status::Status;
+use job_calls::{Ended, run_source};
+use outside::{Outside, Source};
+use real_files::{RawFile, RawScreen, outside_of, raw_of};
+use std::alloc::Global;
+
+/// The job of a source on an outside, behind which there may be a file and a screen.
+fn job_behind<S: Source, W: Outside>(alloc: Global, job: &mut S, outside: &mut W) -> Ended
+    ensures done { result.status ≡ Status.Done → (first first_now : List ℕ) (deeds puts : List Deed) → AreBehind W.Outside outside.old outside.new first first_now deeds puts → RunsFrom first (λ number store. RanOnFile (given S.Source job.old job.new) number store first first_now deeds puts (order_told result.order.items) Status.Done) }
+    ensures failed { result.status ≡ Status.PutFault → (first first_now : List ℕ) (deeds puts : List Deed) → AreBehind W.Outside outside.old outside.new first first_now deeds puts → RunsFrom first (λ number store. RanOnFile (given S.Source job.old job.new) number store first first_now deeds puts (order_told result.order.items) Status.PutFault) }
+    ensures shut { result.status ≡ Status.DiskFault → (session : Session) → result.session ≡ Some session → (first first_now : List ℕ) (deeds puts : List Deed) → AreBehind W.Outside outside.old outside.new first first_now deeds puts → RunsFrom first (λ number store. RanOnFile (given S.Source job.old job.new) number store first first_now deeds puts (order_told result.order.items) Status.DiskFault) }
+{
+    run_source(alloc, job, outside)
+}
+
+/// The job of a source on a file that gave these bytes, and a screen: nothing was asked of them yet. They are handed back.
+pub fn job_on_file<S: Source, F: RawFile, R: RawScreen>(
+    alloc: Global,
+    job: &mut S,
+    file: F,
+    bytes: Vec<u8>,
+    screen: R,
+) -> (Ended, F, R)
+    requires first { F.first file ≡ bytes.items }
+    requires deeds { F.deeds file ≡ [] }
+    requires puts { R.puts screen ≡ [] }
+    ensures done { result.0.status ≡ Status.Done → RunsFrom bytes.items (λ number store. RanOnFile (given S.Source job.old job.new) number store bytes.items (F.first result.1) (F.deeds result.1) (R.puts result.2) (order_told result.0.order.items) Status.Done) }
+    ensures failed { result.0.status ≡ Status.PutFault → RunsFrom bytes.items (λ number store. RanOnFile (given S.Source job.old job.new) number store bytes.items (F.first result.1) (F.deeds result.1) (R.puts result.2) (order_told result.0.order.items) Status.PutFault) }
+    ensures shut { result.0.status ≡ Status.DiskFault → (session : Session) → result.0.session ≡ Some session → RunsFrom bytes.items (λ number store. RanOnFile (given S.Source job.old job.new) number store bytes.items (F.first result.1) (F.deeds result.1) (R.puts result.2) (order_told result.0.order.items) Status.DiskFault) }
+{
+    let mut outside = outside_of(file, bytes, screen);
+    let ended = job_behind(alloc, job, &mut outside);
+    let (file, screen) = raw_of(outside);
+    (ended, file, screen)
+}

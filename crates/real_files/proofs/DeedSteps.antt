@@ -1,0 +1,124 @@
+-- What one deed more adds to the crash images of a file.
+use Rattle.outside.proofs.Common.{◌≡◌, ◌⊎◌, inl, inr, ⊎_elim, ℕ, zero, suc, ◌+◌, ◌≤◌, List, [], ◌∷◌, ◌++◌, length, refl, sym, ◌∙◌, ap, subst, arith, length-append, written, Torn, Passes, ImagesFollow, AddsNoImage}
+use Rattle.std.specs.Prelude.{count_by, Bool, true, false, cond, Result, Ok, Err, OnOk, IsErr, is_err, Some}
+use Rattle.outside.specs.declared.failed.Failed.{Failed}
+use Rattle.outside.specs.Bytes.{Writes}
+use Rattle.std.proofs.lemmas.List.Sums.{sum_by-append}
+use Rattle.outside.proofs.Torn.{untouched, torn_by_written}
+use Rattle.real_files.specs.Deeds.{Deed, Wrote, Tore, Synced, Unsynced, held_by, images_by, held_after, images_at, is_write}
+use Rattle.real_files.specs.DeedLaws.{past, stays, newest, left_now, held_after-append}
+
+-- the bytes first, and the deeds since
+abbrev pub Told : Type 0
+Told = List ℕ × List Deed
+
+abbrev pub moment_of : Told → ℕ
+moment_of told = length told.1
+
+abbrev pub images_of : Told → ℕ → List ℕ → Type 0
+images_of told = images_at told.0 told.1
+
+-- a number is at most another, or more
+at_or_after : (a b : ℕ) → (a ≤ b) ⊎ (b + 1 ≤ a)
+at_or_after zero b = inl (omega arith)
+at_or_after (suc a) zero = inr (omega arith)
+at_or_after (suc a) (suc b) = ⊎_elim (λ le. inl (omega (arith, le))) (λ more. inr (omega (arith, more))) (at_or_after a b)
+
+-- where nothing was done
+pub passes_same : (first : List ℕ) (deeds : List Deed) (first' : List ℕ) (deeds' : List Deed) → first' ≡ first → deeds' ≡ deeds → Passes moment_of images_of (first, deeds) (first', deeds')
+passes_same first deeds first' deeds' is_first is_deeds = record {
+  later = omega (arith, ap length is_deeds);
+  nothing_else = λ t image before left. subst (λ (these : List ℕ). images_at these deeds t image) is_first (subst (λ (these : List Deed). images_at first' these t image) is_deeds left);
+  keeps = λ t image before left. subst (λ (these : List Deed). images_at first' these t image) (sym is_deeds) (subst (λ (these : List ℕ). images_at these deeds t image) (sym is_first) left);
+}
+
+pub adds_same : (first : List ℕ) (deeds : List Deed) (first' : List ℕ) (deeds' : List Deed) → first' ≡ first → deeds' ≡ deeds → AddsNoImage moment_of images_of (first, deeds) (first', deeds')
+adds_same first deeds first' deeds' is_first is_deeds t image since by_now left =
+    let is_now : t ≡ length deeds = omega (arith, since, by_now, ap length is_deeds) in
+    let was = subst (λ (these : List ℕ). images_at these deeds t image) is_first (subst (λ (these : List Deed). images_at first' these t image) is_deeds left) in
+    subst (λ (n : ℕ). images_at first deeds n image) is_now was
+
+module _ (first held : List ℕ) (deeds : List Deed) (replayed : held ≡ held_after first deeds) (first' : List ℕ) (deeds' : List Deed) (deed : Deed) (is_first : first' ≡ first) (is_deeds : deeds' ≡ deeds ++ deed ∷ []) where
+  held_now : images_at first deeds (length deeds) held
+  held_now = subst (λ (these : List ℕ). images_at first deeds (length deeds) these) (sym replayed) (left_now first deeds)
+
+  here : (t : ℕ) (image : List ℕ) → images_at first' deeds' t image → images_at first (deeds ++ deed ∷ []) t image
+  here t image left =
+      let with_first = subst (λ (these : List ℕ). images_at these deeds' t image) is_first left in
+      subst (λ (these : List Deed). images_at first these t image) is_deeds with_first
+
+  there : (t : ℕ) (image : List ℕ) → images_at first (deeds ++ deed ∷ []) t image → images_at first' deeds' t image
+  there t image left =
+      let with_deeds = subst (λ (these : List Deed). images_at first these t image) (sym is_deeds) left in
+      subst (λ (these : List ℕ). images_at these deeds' t image) (sym is_first) with_deeds
+
+  pub counted : length deeds' ≡ length deeds + 1
+  counted = omega (arith, ap length is_deeds, length-append deeds (deed ∷ []))
+
+  pub still_replayed : (held' : List ℕ) → held' ≡ held_by deed held → held' ≡ held_after first' deeds'
+  still_replayed held' is_held =
+      is_held ∙ ap (held_by deed) replayed ∙ sym (held_after-append deeds deed first) ∙ ap (λ (these : List Deed). held_after first these) (sym is_deeds) ∙ ap (λ (start : List ℕ). held_after start deeds') (sym is_first)
+
+  pub passes : Passes moment_of images_of (first, deeds) (first', deeds')
+  passes = record {
+    later = omega (arith, counted);
+    nothing_else = λ t image before left. past first deeds deed t image before (here t image left);
+    keeps = λ t image before left. there t image (stays first deeds deed t image before left);
+  }
+
+  -- since the call began: an image of its start, or what the deed makes of those
+  adds : (t : ℕ) (image : List ℕ) → length deeds ≤ t → t ≤ length deeds' → images_at first' deeds' t image → images_at first deeds (length deeds) image ⊎ images_by deed held (images_at first deeds (length deeds)) image
+  adds t image since by_now left = elim (at_or_after t (length deeds)) [
+    | inl now ↦
+        let is_now : t ≡ length deeds = omega (arith, now, since) in
+        inl (subst (λ (n : ℕ). images_at first deeds n image) is_now (past first deeds deed t image now (here t image left)))
+    | inr after ↦
+        let is_next : t ≡ length deeds + 1 = omega (arith, after, by_now, counted) in
+        let step = newest first deeds deed image (subst (λ (n : ℕ). images_at first (deeds ++ deed ∷ []) n image) is_next (here t image left)) in
+        inr (subst (λ (these : List ℕ). images_by deed these (images_at first deeds (length deeds)) image) (sym replayed) step)
+  ]
+
+  -- a sync adds no image, whether it succeeds or not
+  pub sync_adds : (deed ≡ Synced) ⊎ (deed ≡ Unsynced) → AddsNoImage moment_of images_of (first, deeds) (first', deeds')
+  sync_adds is t image since by_now left =
+      ⊎_elim (λ was. was) (λ step.
+      ⊎_elim (λ (synced : deed ≡ Synced).
+      let same : image ≡ held = subst (λ (that : Deed). images_by that held (images_at first deeds (length deeds)) image) synced step in
+      subst (λ (that : List ℕ). images_at first deeds (length deeds) that) (sym same) held_now)
+      (λ (unsynced : deed ≡ Unsynced). subst (λ (that : Deed). images_by that held (images_at first deeds (length deeds)) image) unsynced step) is) (adds t image since by_now left)
+
+  -- after one that succeeds a crash leaves what is held
+  pub synced_leaves : deed ≡ Synced → (image : List ℕ) → images_at first' deeds' (length deeds') image → image ≡ held
+  synced_leaves is image left =
+      let step = newest first deeds deed image (subst (λ (n : ℕ). images_at first (deeds ++ deed ∷ []) n image) counted (here (length deeds') image left)) in
+      let at_held = subst (λ (these : List ℕ). images_by deed these (images_at first deeds (length deeds)) image) (sym replayed) step in
+      subst (λ (that : Deed). images_by that held (images_at first deeds (length deeds)) image) is at_held
+
+  module _ (at : ℕ) (bytes : List ℕ) (within : at ≤ length held) where
+    torn_of : (image : List ℕ) → (image ≡ written held at bytes) ⊎ ((start : List ℕ) × images_at first deeds (length deeds) start × Torn at (length bytes) start image) → (start : List ℕ) × images_at first deeds (length deeds) start × Torn at (length bytes) start image
+    torn_of image (inl same) = (held, held_now, subst (λ (that : List ℕ). Torn at (length bytes) held that) (sym same) (torn_by_written held at bytes within (length bytes) (omega arith)))
+    torn_of image (inr torn) = torn
+
+    -- a write adds images that are torn in its range alone
+    pub write_follows : (deed ≡ Wrote at bytes) ⊎ (deed ≡ Tore at bytes) → ImagesFollow (Torn at (length bytes)) moment_of images_of (first, deeds) (first', deeds')
+    write_follows is t image since by_now left =
+        ⊎_elim (λ was. (image, was, untouched at (length bytes) image))
+        (λ step. torn_of image (⊎_elim (λ (wrote : deed ≡ Wrote at bytes). subst (λ (that : Deed). images_by that held (images_at first deeds (length deeds)) image) wrote step)
+        (λ (tore : deed ≡ Tore at bytes). subst (λ (that : Deed). images_by that held (images_at first deeds (length deeds)) image) tore step) is))
+        (adds t image since by_now left)
+
+-- how many of them wrote all their bytes
+pub count_more : (deeds deeds' : List Deed) (deed : Deed) → deeds' ≡ deeds ++ deed ∷ [] → count_by is_write deeds' ≡ count_by is_write deeds + cond (is_write deed) 1 0
+count_more deeds deeds' deed is =
+    let more : count_by is_write deeds' ≡ count_by is_write deeds + (0 + cond (is_write deed) 1 0) = ap (count_by is_write) is ∙ sum_by-append (λ deed. cond (is_write deed) 1 0) deeds (deed ∷ []) in
+    omega (arith, more)
+
+-- what holds of a result that is no error
+pub where_ok : {T E P : Type 0} (result : Result T E) → is_err result ≡ false → OnOk result P → P
+where_ok (Ok done) is holds = holds
+where_ok (Err failed) is holds = absurd (cc)
+
+-- a write that failed may have written
+pub wrote_some : {T : Type 0} (result : Result T Failed) (held held' : List ℕ) (at : ℕ) (bytes : List ℕ) → at ≤ length held → IsErr result → held' ≡ written held at bytes → Writes (Some held) (Some held') at bytes result
+wrote_some (Ok done) held held' at bytes within fails is = absurd (cc)
+wrote_some (Err failed) held held' at bytes within fails is = (held', refl, subst (λ (that : List ℕ). Torn at (length bytes) held that) (sym is) (torn_by_written held at bytes within (length bytes) (omega arith)))

@@ -1,0 +1,2 @@
+mod DeedSteps
+mod PutSteps

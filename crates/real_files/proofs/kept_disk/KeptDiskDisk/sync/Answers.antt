@@ -1,0 +1,40 @@
+use Rattle.outside.proofs.Common.{inl, inr, refl, arith}
+use Rattle.real_files.specs.Deeds.{Synced, Unsynced}
+use Rattle.real_files.proofs.DeedSteps.{still_replayed, counted, passes, sync_adds, synced_leaves}
+use Rattle.real_files.proofs.kept_disk.KeptDiskDisk.sync.Goals as goal
+
+pub invariant_of-self-in-Ok : goal.invariant_of-self-in-Ok
+invariant_of-self-in-Ok g c =
+    let disk = c.args.self.now in
+    let file = g.F.RawFile in
+    record {
+      replayed = still_replayed (file.first disk.file) disk.held.items (file.deeds disk.file) disk.replayed (file.first c.sync.new.self) (file.deeds c.sync.new.self) Synced c.in-Ok.ensures.first c.in-Ok.ensures.done disk.held.items refl;
+      counted = omega (arith, disk.counted, counted (file.first disk.file) disk.held.items (file.deeds disk.file) disk.replayed (file.first c.sync.new.self) (file.deeds c.sync.new.self) Synced c.in-Ok.ensures.first c.in-Ok.ensures.done);
+    }
+
+pub invariant_of-self-in-Err : goal.invariant_of-self-in-Err
+invariant_of-self-in-Err g c =
+    let disk = c.args.self.now in
+    let file = g.F.RawFile in
+    record {
+      replayed = still_replayed (file.first disk.file) disk.held.items (file.deeds disk.file) disk.replayed (file.first c.sync.new.self) (file.deeds c.sync.new.self) Unsynced c.in-Err.ensures.first c.in-Err.ensures.failed disk.held.items refl;
+      counted = omega (arith, disk.counted, counted (file.first disk.file) disk.held.items (file.deeds disk.file) disk.replayed (file.first c.sync.new.self) (file.deeds c.sync.new.self) Unsynced c.in-Err.ensures.first c.in-Err.ensures.failed);
+    }
+
+pub returns-in-Ok-clause-durable : goal.returns-in-Ok-clause-durable
+returns-in-Ok-clause-durable g c honest =
+    let disk = c.args.self.now in
+    let file = g.F.RawFile in
+    synced_leaves (file.first disk.file) disk.held.items (file.deeds disk.file) disk.replayed (file.first c.sync.new.self) (file.deeds c.sync.new.self) Synced c.in-Ok.ensures.first c.in-Ok.ensures.done refl
+
+pub returns-in-Ok-clause-crash : goal.returns-in-Ok-clause-crash
+returns-in-Ok-clause-crash g c told =
+    let disk = c.args.self.now in
+    let file = g.F.RawFile in
+    sync_adds (file.first disk.file) disk.held.items (file.deeds disk.file) disk.replayed (file.first c.sync.new.self) (file.deeds c.sync.new.self) Synced c.in-Ok.ensures.first c.in-Ok.ensures.done (inl refl)
+
+pub returns-in-Err-clause-crash : goal.returns-in-Err-clause-crash
+returns-in-Err-clause-crash g c told =
+    let disk = c.args.self.now in
+    let file = g.F.RawFile in
+    sync_adds (file.first disk.file) disk.held.items (file.deeds disk.file) disk.replayed (file.first c.sync.new.self) (file.deeds c.sync.new.self) Unsynced c.in-Err.ensures.first c.in-Err.ensures.failed (inr refl)

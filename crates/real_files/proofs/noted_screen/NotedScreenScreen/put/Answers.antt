@@ -1,0 +1,28 @@
+use Rattle.outside.proofs.Common.{inl, ap, Some, take}
+use Rattle.real_files.proofs.PutSteps.{printed_more, marks_more, count_more, prints_some}
+use Rattle.real_files.proofs.noted_screen.NotedScreenScreen.put.Goals as goal
+
+pub returns-in-Ok-clause-printed : goal.returns-in-Ok-clause-printed
+returns-in-Ok-clause-printed g c =
+    let puts = g.R.RawScreen.puts in
+    ap Some (printed_more (puts c.args.self.now.screen) (puts c.put.new.self) c.args.at c.args.bytes.now c.in-Ok.ensures.done)
+
+pub returns-in-Ok-clause-record : goal.returns-in-Ok-clause-record
+returns-in-Ok-clause-record g c =
+    let puts = g.R.RawScreen.puts in
+    inl (marks_more (puts c.args.self.now.screen) (puts c.put.new.self) c.args.at c.args.bytes.now c.in-Ok.ensures.done)
+
+pub returns-in-Ok-clause-once : goal.returns-in-Ok-clause-once
+returns-in-Ok-clause-once g c told =
+    let puts = g.R.RawScreen.puts in
+    count_more (puts c.args.self.now.screen) (puts c.put.new.self) c.args.at c.args.bytes.now c.in-Ok.ensures.done
+
+pub returns-in-Err-clause-printed : goal.returns-in-Err-clause-printed
+returns-in-Err-clause-printed g c =
+    let puts = g.R.RawScreen.puts in
+    prints_some c.fault.result (puts c.args.self.now.screen) (puts c.put.new.self) c.args.at c.in-Err.ensures.failed.0 c.args.bytes.now c.fault.ensures.fails c.in-Err.ensures.failed.1
+
+pub returns-in-Err-clause-record : goal.returns-in-Err-clause-record
+returns-in-Err-clause-record g c =
+    let puts = g.R.RawScreen.puts in
+    inl (marks_more (puts c.args.self.now.screen) (puts c.put.new.self) c.args.at (take c.in-Err.ensures.failed.0 c.args.bytes.now) c.in-Err.ensures.failed.1)

@@ -1,0 +1,32 @@
+-- What holds of what a list of puts printed.
+use Rattle.std.proofs.Common.{◌≡◌, ℕ, ◌+◌, ◌≤◌, List, [], ◌∷◌, ◌++◌, length, refl, sym, ◌∙◌, ap, arith, length-append, append_assoc, append-nil}
+use Rattle.std.specs.Prelude.{All, Some}
+use Rattle.std.proofs.lemmas.List.Elements.{All-nil, All-cons}
+use Rattle.outside.specs.Clock.{AreWithin, shown_of}
+use Rattle.outside.specs.declared.screen.PutMark.{PutMark}
+use Rattle.real_files.specs.Deeds.{Deed}
+use Rattle.real_files.specs.Shown.{bytes_of, number_of, printed_of, marks_of}
+
+-- one put more
+pub printed_of-more : (puts : List Deed) (put : Deed) → printed_of (puts ++ put ∷ []) ≡ printed_of puts ++ bytes_of put
+printed_of-more [] put = append-nil (bytes_of put)
+printed_of-more (first ∷ puts) put = ap (λ (rest : List ℕ). bytes_of first ++ rest) (printed_of-more puts put) ∙ sym (append_assoc (bytes_of first) (printed_of puts) (bytes_of put))
+
+pub marks_of-more : (before : ℕ) (puts : List Deed) (put : Deed) → marks_of before (puts ++ put ∷ []) ≡ marks_of before puts ++ record { at = number_of put; before = before + length (printed_of puts) } ∷ []
+marks_of-more before [] put =
+    let same : before ≡ before + length (printed_of []) = omega arith in
+    ap (λ (n : ℕ). record { at = number_of put; before = n } ∷ []) same
+marks_of-more before (first ∷ puts) put =
+    let same : before + length (bytes_of first) + length (printed_of puts) ≡ before + length (printed_of (first ∷ puts)) = omega (arith, length-append (bytes_of first) (printed_of puts)) in
+    ap (λ (rest : List PutMark). record { at = number_of first; before = before } ∷ rest) (marks_of-more (before + length (bytes_of first)) puts put)
+    ∙ ap (λ (n : ℕ). record { at = number_of first; before = before } ∷ (marks_of (before + length (bytes_of first)) puts ++ record { at = number_of put; before = n } ∷ [])) same
+
+-- each began with no more bytes than there are
+within_of : (total before : ℕ) (puts : List Deed) → before + length (printed_of puts) ≤ total → All (λ mark. mark.before ≤ total) (marks_of before puts)
+within_of total before [] few = All-nil (λ mark. mark.before ≤ total)
+within_of total before (first ∷ puts) few =
+    let all = length-append (bytes_of first) (printed_of puts) in
+    All-cons (λ mark. mark.before ≤ total) (record { at = number_of first; before = before }) (marks_of (before + length (bytes_of first)) puts) (omega (arith, few)) (within_of total (before + length (bytes_of first)) puts (omega (arith, few, all)))
+
+pub marks_within : (puts : List Deed) → AreWithin (shown_of (Some (printed_of puts))) (marks_of 0 puts)
+marks_within puts = within_of (length (printed_of puts)) 0 puts (omega arith)

@@ -1,0 +1,60 @@
+// A disk that isn't there.
+use crate::fault;
+use outside::{Disk, Failed};
+
+/// A disk that isn't there: it tells nothing, and each call fails.
+#[derive(Drop)]
+pub struct AbsentDisk {
+    faults: u64,
+}
+
+impl AbsentDisk {
+    ghost use Rattle.std.specs.Prelude.{◌≡◌};
+
+    /// No fault is counted yet.
+    pub fn new() -> Self
+        ensures { ⟦<AbsentDisk as Disk>⟧.faults result ≡ 0 }
+    {
+        AbsentDisk { faults: 0 }
+    }
+}
+
+impl Disk for AbsentDisk {
+    ghost use Rattle.std.specs.Prelude.{None, false};
+
+    ghost held = { λ disk. None };
+
+    ghost writes = { λ disk. None };
+
+    ghost moment = { λ disk. 0 };
+
+    ghost is_honest = { λ disk. false };
+
+    ghost images = { λ disk moment image. ⊥ };
+
+    ghost faults = { λ disk. disk.faults };
+
+    ghost use Rattle.real_files.specs.Untold.{none_told};
+
+    ghost held_now = { λ disk image is. none_told image is };
+
+    fn moment(&self) -> u64 {
+        0
+    }
+
+    fn length(&mut self) -> Result<u64, Failed> {
+        fault(&mut self.faults)
+    }
+
+    fn read_at(&mut self, _at: u64, _into: &mut [u8]) -> Result<(), Failed> {
+        fault(&mut self.faults)
+    }
+
+    fn write_at(&mut self, _at: u64, _bytes: &[u8]) -> Result<(), Failed> {
+        fault(&mut self.faults)
+    }
+
+    fn sync(&mut self) -> Result<(), Failed> {
+        fault(&mut self.faults)
+    }
+}

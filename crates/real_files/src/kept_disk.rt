@@ -1,0 +1,134 @@
+// A disk that is a file whose bytes are in memory.
+ghost use Rattle.std.specs.Prelude.{◌≡◌, ◌≤◌, [], length, OnOk, OnErr};
+ghost use Rattle.outside.specs.Bytes.{written};
+ghost use Rattle.real_files.specs.Deeds.{held_after};
+
+use crate::{RawFile, fault};
+use outside::{Disk, Failed};
+use std::alloc::AllocError;
+
+/// A disk that is a file, whose bytes are kept in memory as well: it was read once, at its opening, and each write goes into
+/// both. It is asked nothing of what it holds. After a write or a sync that fails it is stopped: each call fails.
+#[derive(Drop)]
+pub struct KeptDisk<F: RawFile> {
+    file: F,
+    held: Vec<u8>,
+    number: u64,
+    is_stopped: bool,
+    faults: u64,
+    ghost replayed: { held.items ≡ held_after (F.first file) (F.deeds file) },
+    ghost counted: { length (F.deeds file) ≡ number },
+}
+
+impl<F: RawFile> KeptDisk<F> {
+    ghost use Rattle.std.specs.Prelude.{◌≡◌, [], Some};
+
+    /// This file, of which nothing was asked since it gave these bytes.
+    pub fn new(file: F, bytes: Vec<u8>) -> Self
+        requires first { F.first file ≡ bytes.items }
+        requires deeds { F.deeds file ≡ [] }
+        ensures file { result.file ≡ file }
+        ensures held { ⟦<KeptDisk<F> as Disk>⟧.held result ≡ Some bytes.items }
+        ensures moment { ⟦<KeptDisk<F> as Disk>⟧.moment result ≡ 0 }
+        ensures faults { ⟦<KeptDisk<F> as Disk>⟧.faults result ≡ 0 }
+    {
+        KeptDisk {
+            file,
+            held: bytes,
+            number: 0,
+            is_stopped: false,
+            faults: 0,
+        }
+    }
+
+    /// The file.
+    pub fn into_file(self) -> F
+        ensures { result ≡ self.file }
+    {
+        self.file
+    }
+}
+
+// Writes over what is there, and past the end.
+fn overwrite(held: &mut Vec<u8>, at: usize, bytes: &[u8]) -> Result<(), AllocError>
+    requires { at ≤ length held.old.items }
+    ensures ok { OnOk result (held.new.items ≡ written held.old.items at bytes.now) }
+    ensures err { OnErr result (held.new.items ≡ held.old.items) }
+{
+    let inside = bytes.len().min(held.len() - at);
+    held.extend_from_slice(&bytes[inside..])?;
+    held[at..at + inside].copy_from_slice(&bytes[..inside]);
+    Ok(())
+}
+
+impl<F: RawFile> Disk for KeptDisk<F> {
+    ghost use Rattle.std.specs.Prelude.{Some, true, length, count_by};
+    ghost use Rattle.real_files.specs.Deeds.{images_at, is_write};
+
+    ghost held = { λ disk. Some disk.held.items };
+
+    ghost writes = { λ disk. Some (count_by is_write (F.deeds disk.file)) };
+
+    ghost moment = { λ disk. length (F.deeds disk.file) };
+
+    ghost is_honest = { λ disk. true };
+
+    ghost images = { λ disk. images_at (F.first disk.file) (F.deeds disk.file) };
+
+    ghost faults = { λ disk. disk.faults };
+
+    ghost use Rattle.real_files.specs.DeedLaws.{held_is_left};
+
+    ghost held_now = { λ disk image is. held_is_left (F.first disk.file) disk.held.items (F.deeds disk.file) image disk.replayed is };
+
+    fn moment(&self) -> u64 {
+        self.number
+    }
+
+    fn length(&mut self) -> Result<u64, Failed> {
+        if self.is_stopped {
+            return fault(&mut self.faults);
+        }
+        Ok(self.held.len() as u64)
+    }
+
+    fn read_at(&mut self, at: u64, into: &mut [u8]) -> Result<(), Failed> {
+        if self.is_stopped {
+            return fault(&mut self.faults);
+        }
+        let start = at as usize;
+        into.copy_from_slice(&self.held[start..start + into.len()]);
+        Ok(())
+    }
+
+    fn write_at(&mut self, at: u64, bytes: &[u8]) -> Result<(), Failed> {
+        if self.is_stopped || self.number == u64::MAX {
+            return fault(&mut self.faults);
+        }
+        if overwrite(&mut self.held, at as usize, bytes).is_err() {
+            return fault(&mut self.faults);
+        }
+        self.number += 1;
+        match self.file.write_at(at, bytes) {
+            Ok(()) => Ok(()),
+            Err(_) => {
+                self.is_stopped = true;
+                fault(&mut self.faults)
+            }
+        }
+    }
+
+    fn sync(&mut self) -> Result<(), Failed> {
+        if self.is_stopped || self.number == u64::MAX {
+            return fault(&mut self.faults);
+        }
+        self.number += 1;
+        match self.file.sync() {
+            Ok(()) => Ok(()),
+            Err(_) => {
+                self.is_stopped = true;
+                fault(&mut self.faults)
+            }
+        }
+    }
+}

@@ -1,0 +1,37 @@
+//! Real files, screens and sources that tell what they hold, print and give: each call that may change one is noted, at no cost.
+#![tactic(auto)]
+
+mod absent_disk;
+mod kept_disk;
+mod noted_screen;
+mod raw_file;
+mod raw_screen;
+mod read_source;
+mod std_file;
+mod std_out;
+mod trace;
+mod whole;
+
+ghost use Rattle.std.specs.Prelude.{IsErr};
+ghost use Rattle.outside.specs.Causes.{FailsOnlyCounted};
+
+pub use absent_disk::AbsentDisk;
+pub use kept_disk::KeptDisk;
+pub use noted_screen::NotedScreen;
+use outside::Failed;
+pub use raw_file::RawFile;
+pub use raw_screen::RawScreen;
+pub use read_source::ReadSource;
+pub use std_file::StdFile;
+pub use std_out::StdOut;
+pub use trace::Trace;
+pub use whole::{outside_of, raw_of};
+
+// Counts a fault.
+pub(crate) fn fault<T>(faults: &mut u64) -> Result<T, Failed>
+    ensures fails { IsErr result }
+    ensures cause { FailsOnlyCounted faults.old faults.new result }
+{
+    *faults = faults.saturating_add(1);
+    Err(Failed)
+}

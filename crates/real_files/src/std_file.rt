@@ -1,0 +1,193 @@
+// A file of the system.
+ghost use Rattle.std.specs.Prelude.{◌≡◌, pos, ◌≤ℤ◌, [], IfOk};
+ghost use Rattle.std.specs.Fd.{file_raw_fd};
+ghost use Rattle.real_files.specs.Found.{found_by};
+
+use crate::RawFile;
+use crate::trace::{SYNCED, TORE, Trace, UNSYNCED, WROTE};
+use outside::Failed;
+use std::alloc::Global;
+use std::fs::{File, OpenOptions};
+use std::io;
+use std::os::fd::AsRawFd;
+use std::os::unix::fs::FileExt;
+use std::rt::Files;
+
+// A longer file is none that can be kept.
+const MOST_BYTES: u64 = 1 << 26;
+
+// A file that is open and locked. Its place isn't one of the standard streams'.
+#[derive(Drop)]
+struct Store {
+    file: File,
+    folder: Option<File>,
+    ghost behind: { pos 3 ≤ℤ file_raw_fd file },
+}
+
+#[derive(Drop)]
+enum Place {
+    Open(Store),
+    // It is made when it is first written or synced.
+    ToBeMade,
+}
+
+/// A file of the system, which is open and locked, or will be made when it is first written. Each of its calls is noted.
+#[derive(Drop)]
+pub struct StdFile<R: Files<File = File> + AllocGlobal> {
+    rt: R,
+    path: String,
+    place: Place,
+    found: Trace,
+    trace: Trace,
+}
+
+impl<R: Files<File = File> + AllocGlobal + Drop> StdFile<R> {
+    /// The file at this path, and its bytes. It is opened to read and write and locked, what was written into it is put on the disk,
+    /// and then it is read. Where there is none, and `makes` says so, one is made when it is first written.
+    pub fn open(rt: R, path: String, makes: bool) -> io::Result<(StdFile<R>, Vec<u8>)>
+        ensures { IfOk result (λ opened. (⟦<StdFile<R> as RawFile>⟧.first opened.0 ≡ opened.1.items) × (⟦<StdFile<R> as RawFile>⟧.deeds opened.0 ≡ [])) }
+    {
+        let alloc = rt.alloc();
+        let (place, bytes) = match open_store(&rt, path.as_str(), makes, false) {
+            Ok(store) => {
+                store.sync()?;
+                let bytes = read_whole(alloc, &store.file)?;
+                (Place::Open(store), bytes)
+            }
+            Err(error) if makes && error.kind() == io::ErrorKind::NotFound => {
+                (Place::ToBeMade, Vec::new(alloc))
+            }
+            Err(error) => return Err(error),
+        };
+        let mut found = Trace::new();
+        found.note(&[WROTE, 0], &bytes);
+        let file = StdFile {
+            rt,
+            path,
+            place,
+            found,
+            trace: Trace::new(),
+        };
+        Ok((file, bytes))
+    }
+}
+
+// The file, which is made if it is to be.
+fn made<'a, R: Files<File = File> + AllocGlobal>(
+    rt: &R,
+    path: &str,
+    place: &'a mut Place,
+) -> io::Result<&'a Store> {
+    if matches!(place, Place::ToBeMade) {
+        let store = open_store(rt, path, true, true)?;
+        // Another may have made it meanwhile.
+        if store.file.metadata()?.len() > 0 {
+            return Err(io::Error::from(io::ErrorKind::AlreadyExists));
+        }
+        *place = Place::Open(store);
+    }
+    match place {
+        Place::Open(store) => Ok(store),
+        Place::ToBeMade => Err(io::Error::from(io::ErrorKind::NotFound)),
+    }
+}
+
+impl Store {
+    // Of a file that may be new the name is synced too.
+    fn sync(&self) -> io::Result<()> {
+        match &self.folder {
+            None => self.file.sync_data(),
+            Some(folder) => {
+                self.file.sync_all()?;
+                folder.sync_all()
+            }
+        }
+    }
+}
+
+// All bytes of a file.
+fn read_whole(alloc: Global, file: &File) -> io::Result<Vec<u8>> {
+    let length = file.metadata()?.len();
+    if length > MOST_BYTES {
+        return Err(io::Error::from(io::ErrorKind::FileTooLarge));
+    }
+    let mut bytes = Vec::from_elem(alloc, 0u8, length as usize)?;
+    file.read_exact_at(&mut bytes, 0)?;
+    Ok(bytes)
+}
+
+// The file with its lock, and the folder of its name where it may be new.
+fn open_store<R: Files<File = File> + AllocGlobal>(
+    rt: &R,
+    path: &str,
+    makes: bool,
+    is_new: bool,
+) -> io::Result<Store> {
+    let mut how = OpenOptions::new();
+    how.read(true).write(true).create(is_new);
+    let file = behind_streams(rt.open_file(&how, path)?)?;
+    file.try_lock()?;
+    let folder = if makes {
+        Some(open_folder(rt, path)?)
+    } else {
+        None
+    };
+    Ok(Store { file, folder })
+}
+
+// The same open file, in no place of a standard stream: what is put where that is closed would be written into it.
+fn behind_streams(file: File) -> io::Result<File>
+    ensures { IfOk result (λ file. pos 3 ≤ℤ file_raw_fd file) }
+{
+    if file.as_raw_fd() > 2 {
+        return Ok(file);
+    }
+    let behind = file.try_clone()?;
+    if behind.as_raw_fd() > 2 {
+        Ok(behind)
+    } else {
+        Err(io::Error::from(io::ErrorKind::Unsupported))
+    }
+}
+
+// The folder in which the file of this path lies, behind all links.
+fn open_folder<R: Files<File = File> + AllocGlobal>(rt: &R, path: &str) -> io::Result<File> {
+    let mut place = rt.canonicalize(rt.alloc(), path)?;
+    place.pop();
+    File::open(rt, place.as_str())
+}
+
+impl<R: Files<File = File> + AllocGlobal> RawFile for StdFile<R> {
+    ghost first = { λ file. found_by file.found.deeds };
+
+    ghost deeds = { λ file. file.trace.deeds };
+
+    fn write_at(&mut self, at: u64, bytes: &[u8]) -> Result<(), Failed> {
+        match made(&self.rt, self.path.as_str(), &mut self.place).and_then(|store| store
+            .file
+            .write_all_at(bytes, at))
+        {
+            Ok(()) => {
+                self.trace.note(&[WROTE, at], bytes);
+                Ok(())
+            }
+            Err(_) => {
+                self.trace.note(&[TORE, at], bytes);
+                Err(Failed)
+            }
+        }
+    }
+
+    fn sync(&mut self) -> Result<(), Failed> {
+        match made(&self.rt, self.path.as_str(), &mut self.place).and_then(Store::sync) {
+            Ok(()) => {
+                self.trace.note(&[SYNCED, 0], &[]);
+                Ok(())
+            }
+            Err(_) => {
+                self.trace.note(&[UNSYNCED, 0], &[]);
+                Err(Failed)
+            }
+        }
+    }
+}

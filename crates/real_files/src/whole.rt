@@ -1,0 +1,42 @@
+// A file and a screen as one outside.
+ghost use Rattle.std.specs.Prelude.{◌≡◌, ◌↔◌, ℕ, List, [], length, Some, IsTrue};
+ghost use Rattle.outside.specs.Runs.{Leaves};
+ghost use Rattle.outside.specs.Clock.{LeftAt};
+ghost use Rattle.outside.specs.Moments.{Moment};
+ghost use Rattle.real_files.specs.Deeds.{images_at};
+ghost use Rattle.real_files.specs.Shown.{printed_of, marks_of};
+
+use crate::{KeptDisk, NotedScreen, RawFile, RawScreen};
+use outside::{Joint, Outside};
+
+/// A file and a screen of which nothing was asked yet, as one outside. It is honest and tells its bytes, which are those that the file
+/// gave, and a crash leaves these and nothing printed: no premise is left but what they stand for.
+pub fn outside_of<F: RawFile, R: RawScreen>(
+    file: F,
+    bytes: Vec<u8>,
+    screen: R,
+) -> Joint<KeptDisk<F>, NotedScreen<R>>
+    requires first { F.first file ≡ bytes.items }
+    requires deeds { F.deeds file ≡ [] }
+    requires puts { R.puts screen ≡ [] }
+    ensures file { result.disk.file ≡ file }
+    ensures screen { result.screen.screen ≡ screen }
+    ensures honest { IsTrue (⟦<Joint<KeptDisk<F>, NotedScreen<R>> as Outside>⟧.is_honest result) }
+    ensures held { ⟦<Joint<KeptDisk<F>, NotedScreen<R>> as Outside>⟧.held result ≡ Some bytes.items }
+    ensures printed { ⟦<Joint<KeptDisk<F>, NotedScreen<R>> as Outside>⟧.printed result ≡ Some [] }
+    ensures moment { ⟦<Joint<KeptDisk<F>, NotedScreen<R>> as Outside>⟧.moment result ≡ record { calls = 0; puts = 0 } }
+    ensures left { Leaves ⟦<Joint<KeptDisk<F>, NotedScreen<R>> as Outside>⟧ (λ image seen. image ≡ bytes.items) result result }
+{
+    Joint::new(KeptDisk::new(file, bytes), NotedScreen::new(screen))
+}
+
+/// The file and the screen of an outside: what a crash may have left of it is what the deeds of the one and the puts of the other say.
+pub fn raw_of<F: RawFile, R: RawScreen>(outside: Joint<KeptDisk<F>, NotedScreen<R>>) -> (F, R)
+    ensures file { result.0 ≡ outside.disk.file }
+    ensures screen { result.1 ≡ outside.screen.screen }
+    ensures printed { ⟦<Joint<KeptDisk<F>, NotedScreen<R>> as Outside>⟧.printed outside ≡ Some (printed_of (R.puts result.1)) }
+    ensures left { (t : Moment) (image seen : List ℕ) → ⟦<Joint<KeptDisk<F>, NotedScreen<R>> as Outside>⟧.left_since outside t image seen ↔ LeftAt (length (F.deeds result.0)) (images_at (F.first result.0) (F.deeds result.0)) (marks_of 0 (R.puts result.1)) (printed_of (R.puts result.1)) t image seen }
+{
+    let (disk, screen) = outside.into_parts();
+    (disk.into_file(), screen.into_screen())
+}
