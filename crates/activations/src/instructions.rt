@@ -20,7 +20,7 @@ use restart::Durable;
 use romp_cpu::{Access, Attempt};
 
 /// How the next instruction of an activation went.
-#[derive(Debug, Clone, Copy, PartialEq, Eq)]
+#[derive(Clone, Copy)]
 pub enum Went {
     /// It took effect.
     On,

@@ -6,7 +6,7 @@ use desk::Cycle;
 
 /// What a turn has counted so far: rows that took effect, pages that were brought in, pages whose entries refused, and the
 /// cycles of waits whose victims were rolled back.
-#[derive(Debug, Drop)]
+#[derive(Drop)]
 pub struct Tally {
     pub ran: u32,
     pub pages: u32,

@@ -11,7 +11,7 @@ use line_geometry::{Directory, LineSet};
 use line_locks::{Request, Want};
 
 /// The lines of the store that one access touches, at most two, by their pages, ascending.
-#[derive(Debug, Clone, Copy, PartialEq, Eq)]
+#[derive(Clone, Copy)]
 pub enum Touch {
     Nothing,
     One(Want),

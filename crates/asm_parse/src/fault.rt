@@ -10,7 +10,7 @@ pub(crate) const MNEMONIC: u8 = 2;
 pub(crate) const OPERANDS: u8 = 3;
 
 /// Why a text is no program (docs/FORMATS.md, "Assembler").
-#[derive(Debug, Clone, Copy, PartialEq, Eq)]
+#[derive(Clone, Copy)]
 pub enum AsmFault {
     /// The line with the first fault, counted from 1, and its kind, 1 to 9.
     Fault { line: u32, kind: u8 },
@@ -19,7 +19,7 @@ pub enum AsmFault {
 }
 
 /// Why a line is no statement (docs/FORMATS.md, "Assembler").
-#[derive(Debug, Clone, Copy, PartialEq, Eq)]
+#[derive(Clone, Copy)]
 pub enum LineFault {
     /// The kind of the line's fault, 1 to 4.
     Kind(u8),

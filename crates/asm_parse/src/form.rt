@@ -4,7 +4,7 @@ ghost use Rattle.asm_parse.specs.Form.{form_of, sorts_of};
 use romp_table::Op;
 
 /// How the operands of an instruction are written, and which fields they are for (docs/FORMATS.md, "Assembler").
-#[derive(Debug, Clone, Copy, PartialEq, Eq)]
+#[derive(Clone, Copy)]
 pub enum Form {
     /// `cond, target`, with a displacement of eight bits.
     Jump,
@@ -39,7 +39,7 @@ pub enum Form {
 }
 
 /// What an operand is.
-#[derive(Debug, Clone, Copy, PartialEq, Eq)]
+#[derive(Clone, Copy)]
 pub enum Sort {
     Register,
     Condition,

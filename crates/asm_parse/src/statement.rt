@@ -3,7 +3,7 @@ use arrayvec::ArrayVec;
 use romp_table::Op;
 
 /// A line of the source that has a label or a statement (docs/FORMATS.md, "Assembler").
-#[derive(Debug, Drop)]
+#[derive(Drop)]
 pub struct Statement {
     /// The line of the text, counted from 1.
     pub line: u32,
@@ -12,7 +12,7 @@ pub struct Statement {
 }
 
 /// What a line says behind its label.
-#[derive(Debug, Drop)]
+#[derive(Drop)]
 pub enum Body {
     /// Nothing.
     Nothing,
@@ -31,7 +31,7 @@ pub enum Body {
 }
 
 /// An operand of an instruction.
-#[derive(Debug, Drop)]
+#[derive(Drop)]
 pub enum Operand {
     /// A register, 0 to 15.
     Register(u8),
@@ -54,7 +54,7 @@ impl Default for Operand {
 }
 
 /// A value of the source.
-#[derive(Debug, Drop)]
+#[derive(Drop)]
 pub enum Expr {
     Number(i64),
     /// The address of a label, and what is added to it.

@@ -11,7 +11,7 @@ use super::numbers::number_of;
 use super::word::Word;
 
 /// What a line is made of (docs/FORMATS.md, "Assembler").
-#[derive(Debug, Drop)]
+#[derive(Drop)]
 pub enum Token {
     /// A letter, `_` or `.`, and the letters, digits and `_` behind it.
     Word(Word),

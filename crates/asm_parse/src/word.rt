@@ -8,7 +8,7 @@ use std::marker::Model;
 const MOST: usize = 31;
 
 /// A word of the source: at most 31 bytes of ASCII. Contracts see it as the list of its bytes.
-#[derive(Debug, Drop)]
+#[derive(Drop)]
 pub struct Word {
     bytes: [u8; MOST],
     length: u8,

@@ -15,7 +15,7 @@ pub const MOST_OF_STORE: usize = 4_194_304;
 pub const MOST_OF_BUNDLE: usize = 33_554_432;
 
 /// Why a text could not be had.
-#[derive(Debug, Clone, Copy, PartialEq, Eq)]
+#[derive(Clone, Copy)]
 pub enum TextFault {
     /// The source failed.
     Source,

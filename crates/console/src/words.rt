@@ -16,7 +16,7 @@ const MOST_NUMBERS: usize = 31;
 const FINE: char = 'f';
 
 /// What the words ask for (docs/FORMATS.md, "Words").
-#[derive(Debug, Drop)]
+#[derive(Drop)]
 pub enum Command {
     /// The events of a job are run, on the disk that is handed in.
     Try,

@@ -1,7 +1,7 @@
 use arrayvec::ArrayVec;
 
 /// What a begin came to; each number is the activation's.
-#[derive(Debug, Clone, Copy, PartialEq, Eq)]
+#[derive(Clone, Copy)]
 pub enum Begun {
     /// It is active.
     Started(u32),
@@ -14,14 +14,14 @@ pub enum Begun {
 }
 
 /// The members of a shown cycle of waits; the first stands again at the end.
-#[derive(Debug, Default, Drop)]
+#[derive(Default, Drop)]
 pub struct Cycle {
     pub members: ArrayVec<u32, 17>,
 }
 
 /// What a turn came to: the rows that took effect, the pages brought in, the pages whose entry refused, the cycles
 /// whose victims were rolled back, and how it ended.
-#[derive(Debug, Drop)]
+#[derive(Drop)]
 pub struct Turn {
     pub ran: u32,
     pub pages: u32,
@@ -31,7 +31,7 @@ pub struct Turn {
 }
 
 /// How a turn ended.
-#[derive(Debug, Drop)]
+#[derive(Drop)]
 pub enum TurnEnd {
     /// The activation wasn't active.
     Idle,
@@ -56,14 +56,14 @@ pub enum TurnEnd {
 }
 
 /// A commit in the order: the activation and its number of rows.
-#[derive(Debug, Clone, Copy, PartialEq, Eq)]
+#[derive(Clone, Copy)]
 pub struct Committed {
     pub activation: u32,
     pub steps: u64,
 }
 
 /// What a checkpoint came to.
-#[derive(Debug, Clone, Copy, PartialEq, Eq)]
+#[derive(Clone, Copy)]
 pub enum Stored {
     /// The store is home: its number.
     Number(u64),
@@ -74,7 +74,7 @@ pub enum Stored {
 }
 
 /// What starting again after a crash came to.
-#[derive(Debug, Clone, Copy, PartialEq, Eq)]
+#[derive(Clone, Copy)]
 pub enum Reopened {
     /// The store is open: its number.
     Number(u64),

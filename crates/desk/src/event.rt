@@ -1,5 +1,5 @@
 /// An event of a schedule.
-#[derive(Debug, Clone, Copy, PartialEq, Eq)]
+#[derive(Clone, Copy, PartialEq, Eq)]
 pub enum Event {
     /// The program with this place in the job begins, with four values in registers 2 to 5.
     Begin { program: u16, args: [u32; 4] },

@@ -27,8 +27,7 @@ pub use Rattle.flat_machine.specs.Due.{due_locks, touched_next, touched_within}
 pub use Rattle.flat_machine.specs.Row.{Check, Commit, On, Outcome, plan_at, row}
 pub use Rattle.flat_machine.specs.Touched.{touched, touched_by}
 pub use Rattle.flat_machine.specs.declared.machine.Plain.{Plain}
-pub use Rattle.flat_machine.specs.declared.machine.Plan.{Plan}
-pub use Rattle.flat_machine.specs.declared.machine.Plan.TheVariants.{Does, Fails}
+pub use Rattle.flat_machine.specs.Plans.{Plan, Does, Fails}
 pub use Rattle.flat_machine.specs.declared.machine.Program.{Program}
 pub use Rattle.line_geometry.specs.Directory.{Layout, byte_count, is_fine_page, page_count}
 pub use Rattle.line_geometry.specs.FlatStore.{FlatStore, IsWhole}

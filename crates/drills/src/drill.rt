@@ -27,14 +27,14 @@ const MOST_STOPS: u32 = 256;
 const TORN: u8 = 0xA5;
 
 /// What a stop came to: how many commit lines were seen, and the number that restart finds.
-#[derive(Debug, Clone, Copy, PartialEq, Eq)]
+#[derive(Clone, Copy)]
 pub struct Found {
     pub seen: u64,
     pub number: u64,
 }
 
 /// What the two stops at a write came to: where the write left nothing, and where it left one byte.
-#[derive(Debug, Clone, Copy, PartialEq, Eq)]
+#[derive(Clone, Copy)]
 pub struct Pair {
     pub old: Found,
     pub torn: Found,

@@ -19,7 +19,7 @@ use outside::{Joint, MemoryDisk, MemoryScreen, Outside};
 use std::alloc::{AllocError, Global};
 
 /// What a job left on a disk that stops at a write.
-#[derive(Debug, Drop)]
+#[derive(Drop)]
 pub struct Stop {
     /// Whether the run came to that write.
     pub reached: bool,

@@ -31,6 +31,5 @@ pub use Rattle.flat_machine.specs.declared.machine.Cs.{Cs}
 pub use Rattle.flat_machine.specs.declared.machine.Located.{Located}
 pub use Rattle.flat_machine.specs.declared.machine.Located.TheVariants.{Private, Refused, Shared}
 pub use Rattle.flat_machine.specs.declared.machine.Plain.{Plain}
-pub use Rattle.flat_machine.specs.declared.machine.Plan.{Plan}
-pub use Rattle.flat_machine.specs.declared.machine.Plan.TheVariants.{Does, Fails}
+pub use Rattle.flat_machine.specs.Plans.{Plan, Does, Fails}
 pub use Rattle.flat_machine.specs.declared.machine.Program.{Program}

@@ -4,8 +4,7 @@ use Rattle.std.specs.Option.{ForSome}
 use Rattle.flat_machine.specs.declared.machine.Act.{Act}
 use Rattle.flat_machine.specs.declared.machine.Cs.{Cs}
 use Rattle.flat_machine.specs.declared.machine.Pending.{Pending}
-use Rattle.flat_machine.specs.declared.machine.Plan.{Plan}
-use Rattle.flat_machine.specs.declared.machine.Plan.TheVariants.{Does, Fails}
+use Rattle.flat_machine.specs.Plans.{Plan, Does, Fails}
 use Rattle.flat_machine.specs.Access.{IsAccess}
 
 -- the plan of a row: registers and status as it makes them, and what is left of it

@@ -5,8 +5,7 @@ use Rattle.romp_table.specs.declared.inst.Op.{Op}
 use Rattle.romp_table.specs.declared.inst.Inst.{Inst}
 use Rattle.flat_machine.specs.declared.machine.Cs.{Cs}
 use Rattle.flat_machine.specs.declared.machine.Act.{Act}
-use Rattle.flat_machine.specs.declared.work.Work.{Work}
-use Rattle.flat_machine.specs.declared.work.Work.TheVariants.{Put, Signed, Sum, Compare, Want}
+use Rattle.flat_machine.specs.Plans.{Work, Put, Signed, Sum, Compare, Want}
 use Rattle.flat_machine.specs.Words.{is_negative, extended, complement, biased, single_bit, shifted_left, shifted_right, shifted_signed, bit, sum_of, difference}
 
 -- the value of a base register, where field 0 means zero

@@ -1,6 +1,6 @@
 //! What each row does to registers and status, and what it wants beside them, format by format.
 ghost use Rattle.std.specs.Prelude.{◌≡◌, ◌<◌, ◌≤◌, ◌+◌, ◌*◌, slice_index, slice_set};
-ghost use Rattle.flat_machine.specs.declared.work.Work.TheVariants.{Want};
+ghost use Rattle.flat_machine.specs.Plans.{Want};
 ghost use Rattle.flat_machine.specs.declared.machine.Act.TheVariants.{Load, Store};
 ghost use Rattle.flat_machine.specs.declared.machine.Cs.{Cs};
 ghost use Rattle.flat_machine.specs.Access.{FitsFrom, IsAccess};

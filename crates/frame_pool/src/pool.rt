@@ -14,14 +14,14 @@ use owned_list::OwnedList;
 use std::alloc::{AllocError, Global};
 
 /// What bringing a page in came to: the frame that it is in, and the page that went out for it.
-#[derive(Debug, Clone, Copy, PartialEq, Eq)]
+#[derive(Clone, Copy)]
 pub struct Slot {
     pub frame: u16,
     pub out: Option<u16>,
 }
 
 /// A line of a frame.
-#[derive(Debug, Clone, Copy, PartialEq, Eq)]
+#[derive(Clone, Copy)]
 struct Spot {
     frame: u16,
     line: u8,

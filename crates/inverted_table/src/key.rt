@@ -1,5 +1,5 @@
 /// A page of a segment.
-#[derive(Debug, Clone, Copy, PartialEq, Eq)]
+#[derive(Clone, Copy)]
 pub struct Key {
     pub segment: u16,
     pub page: u32,

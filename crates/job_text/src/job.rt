@@ -22,7 +22,7 @@ pub struct Job {
 }
 
 /// Why a text is no job.
-#[derive(Debug, Clone, Copy, PartialEq, Eq)]
+#[derive(Debug, Clone, Copy)]
 pub enum JobFault {
     /// The line with the first fault, counted from 1, and its kind (docs/FORMATS.md, "Job").
     Fault { line: u32, kind: u8 },

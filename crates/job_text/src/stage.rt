@@ -1,5 +1,5 @@
 /// Which lines of a job are due (docs/FORMATS.md, "Job").
-#[derive(Clone, Copy, PartialEq, Eq)]
+#[derive(Clone, Copy)]
 pub(crate) enum Stage {
     /// `frames`.
     Frames,

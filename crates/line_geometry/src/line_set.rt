@@ -5,7 +5,7 @@ ghost use Rattle.line_geometry.specs.LineSets.{lines_of_bits, union, difference,
 use std::marker::Model;
 
 /// Some of the sixteen lines of a page, seen as the list of them, ascending (docs/MODEL.md). Line i is bit i.
-#[derive(Debug, Clone, Copy, PartialEq, Eq)]
+#[derive(Clone, Copy)]
 pub struct LineSet(u16);
 
 impl Model for LineSet {
@@ -119,7 +119,7 @@ impl LineSet {
 }
 
 /// The lines of a set that are left, one after another.
-#[derive(Debug, Drop)]
+#[derive(Drop)]
 pub struct LinesOf {
     pub left: LineSet,
 }

@@ -2,7 +2,7 @@ use arrayvec::ArrayVec;
 use line_geometry::LineSet;
 
 /// Lines of a page that are asked for, to read and to write.
-#[derive(Debug, Clone, Copy, PartialEq, Eq)]
+#[derive(Clone, Copy)]
 pub struct Want {
     pub page: u16,
     pub reads: LineSet,
@@ -21,7 +21,7 @@ impl Default for Want {
 }
 
 /// The lines that one access asks for: it touches at most two pages.
-#[derive(Debug, Drop)]
+#[derive(Drop)]
 pub struct Request {
     pub wants: ArrayVec<Want, 2>,
 }

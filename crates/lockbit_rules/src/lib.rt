@@ -6,7 +6,7 @@ ghost use Rattle.std.specs.Prelude.{◌≡◌, ◌<◌};
 use line_geometry::LineSet;
 
 /// The entry of a page: the identifier that owns it, or 0 for nobody; its write bit; and its lockbits, line i as bit i.
-#[derive(Debug, Clone, Copy, PartialEq, Eq)]
+#[derive(Clone, Copy)]
 pub struct Authority {
     pub tid: u8,
     pub write: bool,

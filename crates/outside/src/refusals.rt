@@ -3,7 +3,7 @@ ghost use Rattle.std.specs.Prelude.{◌≡◌, not};
 ghost use Rattle.outside.specs.Refusals as spec;
 
 /// The kinds of a disk's calls, for a `Refusal`.
-#[derive(Clone, Copy, Debug, PartialEq, Eq)]
+#[derive(Clone, Copy)]
 pub enum Call {
     Length,
     Read,
@@ -13,7 +13,7 @@ pub enum Call {
 
 /// Makes one call fail: the first of its kind that shares a byte with `from..to`, after `skip` such calls.
 /// For a length and a sync the range isn't looked at.
-#[derive(Clone, Copy, Debug, PartialEq, Eq)]
+#[derive(Clone, Copy)]
 pub struct Refusal {
     /// The kind of the call.
     pub call: Call,

@@ -13,7 +13,7 @@ use outside::{Failed, Outside};
 use store_format::entries_bytes;
 
 /// A record of a bank: where in the area its gate lies, how many lines it has, and where the gate behind it lies.
-#[derive(Debug, Clone, Copy, PartialEq, Eq)]
+#[derive(Clone, Copy)]
 pub struct Record {
     pub place: u32,
     pub count: u16,

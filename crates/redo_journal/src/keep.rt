@@ -15,7 +15,7 @@ use outside::{Failed, Outside};
 pub const OPEN: u8 = 0xa5;
 
 /// How far a record was kept (docs/FORMATS.md, "Protocols").
-#[derive(Debug, Clone, Copy, PartialEq, Eq)]
+#[derive(Debug, Clone, Copy)]
 pub enum Kept {
     /// It is on the disk.
     Done,
@@ -26,7 +26,7 @@ pub enum Kept {
 }
 
 /// What came of an append: it found no room, or how far the record was kept (docs/FORMATS.md, "Protocols").
-#[derive(Debug, Clone, Copy, PartialEq, Eq)]
+#[derive(Clone, Copy)]
 pub enum Appended {
     /// As [`Kept::Done`].
     Done,

@@ -16,7 +16,7 @@ use owned_list::OwnedList;
 use store_format::entries_bytes;
 
 /// What stands at a gate: nothing, a fault, or a record with a next gate.
-#[derive(Debug, Clone, Copy, PartialEq, Eq)]
+#[derive(Clone, Copy)]
 pub enum Gate {
     Closed,
     Wrong(u64),
@@ -24,7 +24,7 @@ pub enum Gate {
 }
 
 /// What a bank holds: its base, the place of its closed gate and the number of its records, or a fault.
-#[derive(Debug, Clone, Copy, PartialEq, Eq)]
+#[derive(Clone, Copy)]
 pub enum Found {
     Holds { base: u64, gate: u64, count: u32 },
     Faulty(u64),

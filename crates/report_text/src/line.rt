@@ -1,6 +1,6 @@
 /// A line of a report, by its parts in their order. A name is that of a program; a cycle that a run breaks has its first
 /// member again at its end. Activations are numbered from 1 by the begins.
-#[derive(Debug, Clone, Copy)]
+#[derive(Clone, Copy)]
 pub enum Line<'a> {
     /// The store's number, after an opening.
     Open(u64),

@@ -5,7 +5,7 @@ ghost use Rattle.report_text.specs.ReadLines.{owned_told};
 use super::line::Line;
 
 /// A line of a report that owns its names and lists. Its variants and their parts are those of [`Line`].
-#[derive(Debug, Drop)]
+#[derive(Drop)]
 pub enum OwnedLine {
     Open(u64),
     Begin(u32, Vec<u8>),

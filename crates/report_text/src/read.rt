@@ -17,7 +17,7 @@ use std::alloc::{AllocError, AllocFailed, Global};
 use text_line::{TextLine, place_of};
 
 /// Why a text is not made up of lines of a report.
-#[derive(Debug, Clone, Copy, PartialEq, Eq)]
+#[derive(Clone, Copy)]
 pub enum LinesFault {
     /// The first line that is none, counted from 1.
     Bad(u32),

@@ -13,8 +13,7 @@ pub use Rattle.flat_machine.specs.Row.{in_register, in_segment, in_window, plan,
 pub use Rattle.flat_machine.specs.declared.machine.Act.{Act}
 pub use Rattle.flat_machine.specs.declared.machine.Cs.{Cs}
 pub use Rattle.flat_machine.specs.declared.machine.Located.TheVariants.{Private, Refused, Shared}
-pub use Rattle.flat_machine.specs.declared.machine.Plan.{Plan}
-pub use Rattle.flat_machine.specs.declared.machine.Plan.TheVariants.{Does, Fails}
+pub use Rattle.flat_machine.specs.Plans.{Plan, Does, Fails}
 pub use Rattle.flat_machine.specs.declared.machine.Program.{Program}
 pub use Rattle.flat_machine.specs.declared.machine.Window.{Window}
 pub use Rattle.line_geometry.specs.Directory.{Layout, byte_count, length_of, start_of}

@@ -7,8 +7,7 @@ use Rattle.flat_machine.specs.declared.machine.Act.{Act}
 use Rattle.flat_machine.specs.declared.machine.Located.{Located}
 use Rattle.flat_machine.specs.declared.machine.Located.TheVariants.{Private, Shared, Refused}
 use Rattle.flat_machine.specs.declared.machine.Plain.{Plain}
-use Rattle.flat_machine.specs.declared.machine.Plan.{Plan}
-use Rattle.flat_machine.specs.declared.machine.Plan.TheVariants.{Does, Fails}
+use Rattle.flat_machine.specs.Plans.{Plan, Does, Fails}
 use Rattle.flat_machine.specs.declared.machine.Program.{Program}
 use Rattle.flat_machine.specs.Row.{Outcome, On, Commit, Check, plan_at, located, row_by, stored_bytes}
 use Rattle.flat_machine.specs.Touched.{lines_at, touched_by}

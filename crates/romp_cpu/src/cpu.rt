@@ -13,7 +13,7 @@ use flat_machine::{Act, Cs, Fetch, Pending, start_row};
 
 /// A processor: sixteen registers, the condition status, the address of the next instruction, and how many bytes were
 /// printed.
-#[derive(Debug, Clone, Copy, PartialEq, Eq)]
+#[derive(Clone, Copy)]
 pub struct Cpu {
     pub regs: [u32; 16],
     pub cs: Cs,

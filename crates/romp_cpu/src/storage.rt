@@ -29,7 +29,7 @@ pub enum Fault {
 }
 
 /// The answer to an access: it may be made, it is a program check with this code, or it can't be made now.
-#[derive(Debug, Clone, Copy, PartialEq, Eq)]
+#[derive(Clone, Copy, PartialEq, Eq)]
 pub enum Probe {
     Permitted,
     Check(u8),

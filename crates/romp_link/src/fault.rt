@@ -6,7 +6,7 @@ use asm_parse::AsmFault;
 use std::alloc::AllocError;
 
 /// Why sources make no program (docs/FORMATS.md, "Programs of several sources").
-#[derive(Debug, Clone, Copy, PartialEq, Eq)]
+#[derive(Clone, Copy)]
 pub enum LinkFault {
     /// The line with the first fault, counted from 1, and its kind: 5 to 9, 15 or 16.
     Fault { line: u32, kind: u8 },

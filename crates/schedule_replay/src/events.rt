@@ -20,7 +20,7 @@ use outside::{Failed, Outside};
 use report_text::{Line, Reporter};
 
 /// How the events went.
-#[derive(Debug, Clone, Copy, PartialEq, Eq)]
+#[derive(Clone, Copy)]
 pub enum Replayed {
     /// All of them.
     Ended,
@@ -33,7 +33,7 @@ pub enum Replayed {
 }
 
 /// Whether the desk goes on after an event.
-#[derive(Debug, Clone, Copy, PartialEq, Eq)]
+#[derive(Clone, Copy)]
 enum Going {
     On,
     Closed,

@@ -17,7 +17,7 @@ use outside::Outside;
 pub type Printed = ArrayVec<u8, 4096>;
 
 /// How events went without a report.
-#[derive(Debug, Clone, Copy, PartialEq, Eq)]
+#[derive(Clone, Copy)]
 pub enum Quiet {
     /// All of them, with so many commits and so many rollbacks.
     Ended { commits: u32, rollbacks: u32 },
@@ -26,7 +26,7 @@ pub enum Quiet {
 }
 
 /// How many commits and rollbacks there were.
-#[derive(Debug, Clone, Copy, PartialEq, Eq)]
+#[derive(Clone, Copy)]
 struct Tally {
     commits: u32,
     rollbacks: u32,

@@ -1,7 +1,7 @@
 use line_locks::Request;
 
 /// An activation in its seat.
-#[derive(Debug, Drop)]
+#[derive(Drop)]
 pub struct Seat {
     /// Its number.
     pub number: u32,

@@ -5,7 +5,7 @@ use line_geometry::PageSize;
 use std::marker::Model;
 
 /// What stands under a segment register: a segment, its bytes, and whether it is to write or only to read.
-#[derive(Debug, Clone, Copy, PartialEq, Eq)]
+#[derive(Clone, Copy)]
 pub struct SegmentRegister {
     pub segment: u16,
     pub bytes: u32,
@@ -21,12 +21,12 @@ pub struct Virtual {
 }
 
 /// The code of a program check (docs/FORMATS.md).
-#[derive(Debug, Clone, Copy, PartialEq, Eq)]
+#[derive(Clone, Copy)]
 pub struct Check(pub u8);
 
 /// Sixteen segment registers, seen as the size of their segments' pages and the list of what stands under each
 /// (docs/MODEL.md).
-#[derive(Debug, Clone, Copy)]
+#[derive(Clone, Copy)]
 pub struct SegmentRegs {
     page: PageSize,
     registers: [Option<SegmentRegister>; 16],

@@ -25,7 +25,7 @@ pub struct KeptStore {
 }
 
 /// The answer of an audit.
-#[derive(Debug, Clone, Copy, PartialEq, Eq)]
+#[derive(Clone, Copy)]
 pub enum Verdict {
     /// The report is serial.
     Serial,

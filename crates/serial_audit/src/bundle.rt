@@ -12,14 +12,14 @@ const MOST_JOB: u64 = 1_048_576;
 const MOST: u64 = 33_554_432;
 
 /// A part of a bundle: the place of its first byte, and the place behind its last.
-#[derive(Debug, Clone, Copy, PartialEq, Eq)]
+#[derive(Clone, Copy)]
 pub struct Span {
     pub from: u32,
     pub to: u32,
 }
 
 /// Where the parts of a bundle lie (docs/FORMATS.md, "Bundle").
-#[derive(Debug, Clone, Copy, PartialEq, Eq)]
+#[derive(Clone, Copy)]
 pub struct Bundle {
     pub job: Span,
     pub report: Span,

@@ -5,7 +5,7 @@ ghost use Rattle.standby.specs.declared.text.ShipFault.TheVariants.{Memory as me
 use std::alloc::{AllocError, AllocFailed};
 
 /// A record: the numbers of its lines, ascending, and their bytes, one line behind another.
-#[derive(Debug, Drop)]
+#[derive(Drop)]
 pub struct ShipRecord {
     pub lines: Vec<u32>,
     pub bytes: Vec<u8>,
@@ -13,7 +13,7 @@ pub struct ShipRecord {
 
 /// A ship text: the bytes of a line of the store and the number of its lines, the number from which the records go on,
 /// and the records (docs/FORMATS.md, "Ship text").
-#[derive(Debug, Drop)]
+#[derive(Drop)]
 pub struct Ship {
     pub line_bytes: u16,
     pub lines: u32,
@@ -22,7 +22,7 @@ pub struct Ship {
 }
 
 /// Why a text is no ship text.
-#[derive(Debug, Clone, Copy, PartialEq, Eq)]
+#[derive(Debug, Clone, Copy)]
 pub enum ShipFault {
     /// The first line, counted from 1, with which no ship text goes on from the lines before it; the one after the last
     /// where the text ends too early.

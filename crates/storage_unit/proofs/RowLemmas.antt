@@ -4,8 +4,7 @@ use Rattle.segment_regs.specs.declared.registers.Check.{Check as Wrong}
 use Rattle.flat_machine.specs.declared.machine.Act.{Act}
 use Rattle.flat_machine.specs.declared.machine.Cs.{Cs}
 use Rattle.flat_machine.specs.declared.machine.Plain.{Plain}
-use Rattle.flat_machine.specs.declared.machine.Plan.{Plan}
-use Rattle.flat_machine.specs.declared.machine.Plan.TheVariants.{Does, Fails}
+use Rattle.flat_machine.specs.Plans.{Plan, Does, Fails}
 use Rattle.flat_machine.specs.Row.{Outcome, On, Commit, Check, plan, plan_at, located, loads, stores, stored_bytes, moved, with_link, row_by, row}
 use Rattle.romp_cpu.specs.declared.cpu.Attempt.{Attempt}
 use Rattle.romp_cpu.specs.declared.cpu.Cpu.{Cpu}

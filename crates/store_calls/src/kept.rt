@@ -20,7 +20,7 @@ use std::alloc::{AllocError, Global};
 const LARGEST_PAGE: usize = 4096;
 
 /// Why bytes are no store.
-#[derive(Debug, Clone, Copy, PartialEq, Eq)]
+#[derive(Clone, Copy)]
 pub enum KeptFault {
     /// They stand for nothing, from this offset on.
     At(u64),

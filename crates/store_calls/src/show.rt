@@ -26,7 +26,7 @@ const PART: u32 = 2048;
 const LARGEST_PAGE: usize = 4096;
 
 /// So many bytes of a segment, from an offset on: what `show` is asked for.
-#[derive(Debug, Clone, Copy, PartialEq, Eq)]
+#[derive(Clone, Copy)]
 pub struct Range {
     pub segment: u32,
     pub from: u32,

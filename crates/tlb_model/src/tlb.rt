@@ -11,7 +11,7 @@ use segment_regs::Virtual;
 use std::marker::Model;
 
 /// A page of a segment and the frame that it is in.
-#[derive(Debug, Clone, Copy, Default, PartialEq, Eq)]
+#[derive(Clone, Copy, Default)]
 pub struct Pair {
     pub segment: u16,
     pub page: u32,
@@ -19,14 +19,14 @@ pub struct Pair {
 }
 
 /// The two ways of a class.
-#[derive(Debug, Clone, Copy)]
+#[derive(Clone, Copy)]
 struct Ways {
     older: Option<Pair>,
     newer: Option<Pair>,
 }
 
 /// The look-aside buffer, seen as sixteen lists of at most two pairs, the older first (docs/MODEL.md).
-#[derive(Debug, Drop)]
+#[derive(Drop)]
 pub struct Tlb {
     classes: [Ways; 16],
 }

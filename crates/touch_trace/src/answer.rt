@@ -7,14 +7,14 @@ use std::alloc::AllocError;
 
 /// What an activation touches up to its commit: how many steps it does, and each line that one of them touches, step by
 /// step; of a step first the lines that it reads and then those that it writes, both ascending.
-#[derive(Debug, Drop)]
+#[derive(Drop)]
 pub struct Trace {
     pub steps: u64,
     pub touches: Vec<Touch>,
 }
 
 /// Why there is no trace.
-#[derive(Debug, Clone, Copy, PartialEq, Eq)]
+#[derive(Clone, Copy)]
 pub enum TraceFault {
     /// No commit line is the activation's.
     NoCommit,

@@ -11,7 +11,7 @@ use line_geometry::Directory;
 use std::alloc::AllocError;
 
 /// A line that a step reads, or writes; steps are counted from 1.
-#[derive(Debug, Clone, Copy, PartialEq, Eq)]
+#[derive(Clone, Copy)]
 pub struct Touch {
     pub step: u64,
     pub line: u32,
