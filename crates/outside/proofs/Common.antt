@@ -7,6 +7,7 @@ pub use Rattle.outside.specs.Calls.{made_of}
 pub use Rattle.outside.specs.Clock.{AreMadeBy, AreWithin, LeftAt, Records, printed_before, shown_of}
 pub use Rattle.outside.specs.ClockLaws.{all_drop, head_of, printed_before-past, printed_before-within, tail_of, told_seen}
 pub use Rattle.outside.specs.Images.{AddsNoImage, Images, ImagesFollow, Passes}
+pub use Rattle.outside.specs.Origin.{Origin}
 pub use Rattle.outside.specs.Moments.{AddsNone, Elapses, LeavesStep, IsNotAfter, IsOneCall, Moment, Pairs, PrintsNothing, Shows}
 pub use Rattle.outside.specs.Record.{IsEntryOf, IsWriteOf, calls_of, first_of, held_after, held_by, images_at, images_by, is_try, is_write}
 pub use Rattle.outside.specs.RecordLaws.{held_after-append, left_now, newest, newest_back, past}

@@ -14,7 +14,7 @@ module _ {W : Type 0} (G : Ghosts W) where
     held = refl;
     writes = refl;
     honest = refl;
-    time = record { later = record { calls = omega arith; puts = omega arith }; nothing_else = λ t image seen earlier left. inl left; keeps = λ t image seen earlier left. left };
+    time = record { later = record { calls = omega arith; puts = omega arith; origin = refl }; nothing_else = λ t image seen earlier left. inl left; keeps = λ t image seen earlier left. left };
     disk = omega arith;
     put = omega arith;
     told = λ told. told;

@@ -20,13 +20,15 @@ impl AbsentDisk {
 }
 
 impl Disk for AbsentDisk {
-    ghost use Rattle.std.specs.Prelude.{None, false};
+    ghost use Rattle.std.specs.Prelude.{None, false, []};
 
     ghost held = { λ disk. None };
 
     ghost writes = { λ disk. None };
 
     ghost moment = { λ disk. 0 };
+
+    ghost origin = { λ disk. record { first = []; stop = None } };
 
     ghost is_honest = { λ disk. false };
 

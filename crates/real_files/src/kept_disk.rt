@@ -62,7 +62,7 @@ fn overwrite(held: &mut Vec<u8>, at: usize, bytes: &[u8]) -> Result<(), AllocErr
 }
 
 impl<F: RawFile> Disk for KeptDisk<F> {
-    ghost use Rattle.std.specs.Prelude.{Some, true, length, count_by};
+    ghost use Rattle.std.specs.Prelude.{Some, None, true, length, count_by};
     ghost use Rattle.real_files.specs.Deeds.{images_at, is_write};
 
     ghost held = { λ disk. Some disk.held.items };
@@ -70,6 +70,8 @@ impl<F: RawFile> Disk for KeptDisk<F> {
     ghost writes = { λ disk. Some (count_by is_write (F.deeds disk.file)) };
 
     ghost moment = { λ disk. length (F.deeds disk.file) };
+
+    ghost origin = { λ disk. record { first = F.first disk.file; stop = None } };
 
     ghost is_honest = { λ disk. true };
 

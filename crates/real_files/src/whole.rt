@@ -1,5 +1,5 @@
 // A file and a screen as one outside.
-ghost use Rattle.std.specs.Prelude.{◌≡◌, ◌↔◌, ℕ, List, [], length, Some, IsTrue};
+ghost use Rattle.std.specs.Prelude.{◌≡◌, ◌↔◌, ℕ, List, [], length, None, Some, IsTrue};
 ghost use Rattle.outside.specs.Runs.{Leaves};
 ghost use Rattle.outside.specs.Clock.{LeftAt};
 ghost use Rattle.outside.specs.Moments.{Moment};
@@ -24,7 +24,7 @@ pub fn outside_of<F: RawFile, R: RawScreen>(
     ensures honest { IsTrue (⟦<Joint<KeptDisk<F>, NotedScreen<R>> as Outside>⟧.is_honest result) }
     ensures held { ⟦<Joint<KeptDisk<F>, NotedScreen<R>> as Outside>⟧.held result ≡ Some bytes.items }
     ensures printed { ⟦<Joint<KeptDisk<F>, NotedScreen<R>> as Outside>⟧.printed result ≡ Some [] }
-    ensures moment { ⟦<Joint<KeptDisk<F>, NotedScreen<R>> as Outside>⟧.moment result ≡ record { calls = 0; puts = 0 } }
+    ensures moment { ⟦<Joint<KeptDisk<F>, NotedScreen<R>> as Outside>⟧.moment result ≡ record { calls = 0; puts = 0; origin = record { first = bytes.items; stop = None } } }
     ensures left { Leaves ⟦<Joint<KeptDisk<F>, NotedScreen<R>> as Outside>⟧ (λ image seen. image ≡ bytes.items) result result }
 {
     Joint::new(KeptDisk::new(file, bytes), NotedScreen::new(screen))
@@ -35,6 +35,7 @@ pub fn raw_of<F: RawFile, R: RawScreen>(outside: Joint<KeptDisk<F>, NotedScreen<
     ensures file { result.0 ≡ outside.disk.file }
     ensures screen { result.1 ≡ outside.screen.screen }
     ensures printed { ⟦<Joint<KeptDisk<F>, NotedScreen<R>> as Outside>⟧.printed outside ≡ Some (printed_of (R.puts result.1)) }
+    ensures origin { (⟦<Joint<KeptDisk<F>, NotedScreen<R>> as Outside>⟧.moment outside).origin ≡ record { first = F.first result.0; stop = None } }
     ensures left { (t : Moment) (image seen : List ℕ) → ⟦<Joint<KeptDisk<F>, NotedScreen<R>> as Outside>⟧.left_since outside t image seen ↔ LeftAt (length (F.deeds result.0)) (images_at (F.first result.0) (F.deeds result.0)) (marks_of 0 (R.puts result.1)) (printed_of (R.puts result.1)) t image seen }
 {
     let (disk, screen) = outside.into_parts();

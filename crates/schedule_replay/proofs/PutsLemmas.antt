@@ -89,7 +89,7 @@ module _ {W : Type 0} (G : Ghosts W) where
   -- no time goes by
   pub no_time : (w : W) → Elapses G.moment G.left_since w w
   no_time w = record {
-    later = record { calls = omega arith; puts = omega arith };
+    later = record { calls = omega arith; puts = omega arith; origin = refl };
     nothing_else = λ t image seen before left. inl left;
     keeps = λ t image seen before left. left;
   }

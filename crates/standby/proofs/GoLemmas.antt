@@ -17,7 +17,7 @@ module _ {W : Type 0} (G : Ghosts W) where
     told = λ told. told;
     longer = λ count room. room;
     honest = refl;
-    time = record { later = record { calls = omega arith; puts = omega arith }; nothing_else = λ t image seen earlier left. inl left; keeps = λ t image seen earlier left. left };
+    time = record { later = record { calls = omega arith; puts = omega arith; origin = refl }; nothing_else = λ t image seen earlier left. inl left; keeps = λ t image seen earlier left. left };
     writes = more_same (G.writes now) (G.writes now) refl;
     disk = omega arith;
     put = omega arith;
