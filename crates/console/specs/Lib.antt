@@ -2,3 +2,4 @@ pub mod Words
 pub mod Causes
 pub mod Listed
 pub mod Did
+pub mod Wants

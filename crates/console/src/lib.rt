@@ -3,6 +3,7 @@
 
 mod commands;
 mod list;
+mod wants;
 mod words;
 
 pub use call_status::{Status, status_text};
@@ -10,4 +11,4 @@ pub use commands::console;
 pub use drills::{Stop, drill_stop};
 pub use job_calls::Ended;
 pub use store_calls::try_store;
-pub use words::{is_form, reads_source};
+pub use wants::{DiskKind, disk_of, path_of, reads_source};

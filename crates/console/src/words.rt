@@ -1,5 +1,5 @@
 // The words of the command line.
-ghost use Rattle.std.specs.Prelude.{◌≡◌, ◌↔◌, ◌≢◌, ◌≤◌, ◌<◌, ◌+◌, ◌^◌, [], ◌∷◌, ◌++◌, Bool, List, ℕ, All, map, length, false, MatchOption, Some, string_bytes};
+ghost use Rattle.std.specs.Prelude.{◌≡◌, ◌≢◌, ◌≤◌, ◌<◌, ◌+◌, ◌^◌, [], ◌∷◌, ◌++◌, Bool, List, ℕ, All, map, length, false, MatchOption, Some, string_bytes};
 ghost use Rattle.line_geometry.specs.Legal.{IsLegal, IsInRange, AreFlags};
 ghost use Rattle.store_format.specs.Header.{Header as Layout, HasRanges};
 ghost use Rattle.console.specs.Words.{IsForm, IsNoForm, AreWithin, AreNumbers, IsAlone, IsLong, IsNumbered, IsOnStore, number_said, word_of, numbers_of, number_of, marked_of, plain, spread};
@@ -65,32 +65,6 @@ pub fn command_of(words: &[String]) -> Option<Command>
                 Some(numbers) => command_on(word.as_str(), numbers.as_slice()),
                 None => None,
             }
-        }
-    }
-}
-
-/// Whether the words are a command.
-pub fn is_form(words: &[String]) -> bool
-    ensures { result ≡ false ↔ IsNoForm words.now }
-{
-    command_of(words).is_some()
-}
-
-/// Whether the words are a command that reads the source.
-pub fn reads_source(words: &[String]) -> bool {
-    match command_of(words) {
-        Some(
-            Command::Try
-            | Command::Run
-            | Command::List
-            | Command::Drill
-            | Command::Renew(_)
-            | Command::Follow
-            | Command::Audit
-            | Command::Trace(_),
-        ) => true,
-        Some(Command::Show(_) | Command::New(_) | Command::Ship(_) | Command::Big(_)) | None => {
-            false
         }
     }
 }

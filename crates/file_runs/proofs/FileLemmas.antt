@@ -23,20 +23,17 @@ use Rattle.outside.specs.Runs.{held_of}
 use Rattle.job_calls.specs.Headline.{ByOpening, DidBy, Happened, Untouched, RanJob, job_desk, names_of}
 use Rattle.real_files.specs.Deeds.{Deed, images_at}
 use Rattle.real_files.specs.Shown.{printed_of, marks_of}
-use Rattle.file_runs.specs.FileRun.{IsSeenAt, RanOnFile}
+use Rattle.file_runs.specs.FileRun.{IsSeenAt, RanOnFile, begun_by}
 
 -- nothing was printed before the first put
 none_before : (puts : List Deed) → printed_before (marks_of 0 puts) (length (printed_of puts)) 0 ≡ 0
 none_before [] = refl
 none_before (put ∷ puts) = grind (arith, nat_tests)
 
-abbrev start : Moment
-start = record { calls = 0; puts = 0 }
-
-module _ {W : Type 0} (G : Ghosts W) (before after : W) (first first' : List ℕ) (deeds puts : List Deed)
+module _ {W : Type 0} (G : Ghosts W) (before after : W) (first : List ℕ) (deeds puts : List Deed)
     (honest : IsTrue (G.is_honest before)) (held : G.held before ≡ Some first) (none : G.printed before ≡ Some []) (shown : G.printed after ≡ Some (printed_of puts))
-    (left : Leaves G (λ image seen. image ≡ first) before before) (moment : G.moment before ≡ start)
-    (now : (t : Moment) (image seen : List ℕ) → LeftAt (length deeds) (images_at first' deeds) (marks_of 0 puts) (printed_of puts) t image seen → G.left_since after t image seen) where
+    (left : Leaves G (λ image seen. image ≡ first) before before) (moment : G.moment before ≡ begun_by first)
+    (now : (t : Moment) (image seen : List ℕ) → LeftAt (length deeds) (images_at first deeds) (marks_of 0 puts) (printed_of puts) t image seen → G.left_since after t image seen) where
   -- the premises on the disk
   stands_at : (number : ℕ) (store : FlatStore) → stands first ≡ Stands number store → StandsAt G before number store
   stands_at number store stood = record {
@@ -47,9 +44,9 @@ module _ {W : Type 0} (G : Ghosts W) (before after : W) (first first' : List ℕ
   }
 
   -- the file's images after so many deeds, and what may have been seen then, are a pair that a crash may have left since the start
-  since_start : (done : ℕ) (image seen : List ℕ) → done ≤ length deeds → images_at first' deeds done image → IsSeenAt puts done seen → G.left_since after (G.moment before) image seen
+  since_start : (done : ℕ) (image seen : List ℕ) → done ≤ length deeds → images_at first deeds done image → IsSeenAt puts done seen → G.left_since after (G.moment before) image seen
   since_start done image seen within is_image seen_at =
-      subst (λ (t : Moment). G.left_since after t image seen) (sym moment) (now start image seen (record {
+      subst (λ (t : Moment). G.left_since after t image seen) (sym moment) (now (begun_by first) image seen (record {
         at = done;
         count = seen_at.count;
         since = omega arith;
@@ -64,7 +61,7 @@ module _ {W : Type 0} (G : Ghosts W) (before after : W) (first first' : List ℕ
       }))
 
   pub ran_on_file : (given : Given) (order : List (ℕ × ℕ)) (status : Status) (session : Option Session) → RanJob G given (call before after order status) session
-      → (number : ℕ) (store : FlatStore) → stands first ≡ Stands number store → RanOnFile given number store first first' deeds puts order status
+      → (number : ℕ) (store : FlatStore) → stands first ≡ Stands number store → RanOnFile given number store first deeds puts order status
   ran_on_file given order status session ran number store stood =
       let did = ran.has_run number store (stands_at number store stood) in
       let acts = begun ran.job.programs.items ran.job.events.items in
@@ -100,20 +97,20 @@ module _ {W : Type 0} (G : Ghosts W) (before after : W) (first first' : List ℕ
       }
 
   pub from_done : (given : Given) (order : List (ℕ × ℕ)) (this : Status) (session : Option Session) → Happened G given (call before after order this) session → this ≡ status.Done
-      → (number : ℕ) (store : FlatStore) → stands first ≡ Stands number store → RanOnFile given number store first first' deeds puts order status.Done
+      → (number : ℕ) (store : FlatStore) → stands first ≡ Stands number store → RanOnFile given number store first deeds puts order status.Done
   from_done given order this session did is number store stood =
       let ran : RanJob G given (call before after order this) session = subst (λ (that : Status). DidBy G (RanJob G given (call before after order this) session) (call before after order this) session that) is did.by_status in
-      subst (λ (that : Status). RanOnFile given number store first first' deeds puts order that) is (ran_on_file given order this session ran number store stood)
+      subst (λ (that : Status). RanOnFile given number store first deeds puts order that) is (ran_on_file given order this session ran number store stood)
 
   pub from_put_fault : (given : Given) (order : List (ℕ × ℕ)) (this : Status) (session : Option Session) → Happened G given (call before after order this) session → this ≡ status.PutFault
-      → (number : ℕ) (store : FlatStore) → stands first ≡ Stands number store → RanOnFile given number store first first' deeds puts order status.PutFault
+      → (number : ℕ) (store : FlatStore) → stands first ≡ Stands number store → RanOnFile given number store first deeds puts order status.PutFault
   from_put_fault given order this session did is number store stood =
       let ran : RanJob G given (call before after order this) session = subst (λ (that : Status). DidBy G (RanJob G given (call before after order this) session) (call before after order this) session that) is did.by_status in
-      subst (λ (that : Status). RanOnFile given number store first first' deeds puts order that) is (ran_on_file given order this session ran number store stood)
+      subst (λ (that : Status). RanOnFile given number store first deeds puts order that) is (ran_on_file given order this session ran number store stood)
 
   pub from_disk_fault : (given : Given) (order : List (ℕ × ℕ)) (this : Status) (session : Option Session) (its : Session) → Happened G given (call before after order this) session → this ≡ status.DiskFault → session ≡ Some its
-      → (number : ℕ) (store : FlatStore) → stands first ≡ Stands number store → RanOnFile given number store first first' deeds puts order status.DiskFault
+      → (number : ℕ) (store : FlatStore) → stands first ≡ Stands number store → RanOnFile given number store first deeds puts order status.DiskFault
   from_disk_fault given order this session its did is opened number store stood =
       let at_fault = subst (λ (that : Status). DidBy G (RanJob G given (call before after order this) session) (call before after order this) session that) is did.by_status in
       let ran : RanJob G given (call before after order this) session = subst (λ (those : Option Session). ByOpening those (RanJob G given (call before after order this) session) (Untouched G (call before after order this))) opened at_fault in
-      subst (λ (that : Status). RanOnFile given number store first first' deeds puts order that) is (ran_on_file given order this session ran number store stood)
+      subst (λ (that : Status). RanOnFile given number store first deeds puts order that) is (ran_on_file given order this session ran number store stood)

@@ -1,5 +1,5 @@
 -- What a run left of a file and a screen, in the words of what was asked of them.
-use Rattle.std.specs.Prelude.{◌≡◌, ℕ, ◌+◌, ◌≤◌, List, [], length, take, Some, Result, Ok, IsTrue}
+use Rattle.std.specs.Prelude.{◌≡◌, ℕ, ◌+◌, ◌≤◌, List, [], length, take, None, Some, Result, Ok, IsTrue}
 use Rattle.outside.specs.declared.failed.Failed.{Failed}
 use Rattle.outside.specs.Bytes.{Prints}
 use Rattle.outside.specs.declared.world.Outside.{Ghosts}
@@ -31,8 +31,8 @@ pub record IsSeenAt (puts : List Deed) (deeds : ℕ) (seen : List ℕ) : Type 0 
   pub ended : printed_before (marks_of 0 puts) (length (printed_of puts)) deeds ≤ count
   pub not_begun : count ≤ printed_before (marks_of 0 puts) (length (printed_of puts)) (deeds + 1)
 
--- A job was run on a file that gave these bytes, which stood for this number and this store. The file that comes back says so of its own.
-pub record RanOnFile (given : Given) (number : ℕ) (store : FlatStore) (first first_now : List ℕ) (deeds puts : List Deed) (order : List (ℕ × ℕ)) (end : Status) : Type 0 where
+-- A job was run on a file that gave these bytes, which stood for this number and this store.
+pub record RanOnFile (given : Given) (number : ℕ) (store : FlatStore) (first : List ℕ) (deeds puts : List Deed) (order : List (ℕ × ℕ)) (end : Status) : Type 0 where
   -- the text that the source gave means a job
   pub text : List ℕ
   pub whole : IsWhole given.left given.left_now text
@@ -48,7 +48,7 @@ pub record RanOnFile (given : Given) (number : ℕ) (store : FlatStore) (first f
   pub serial_run : IsSerial (begun job.programs.items job.events.items) number store order (event_lines (names_of job) job.programs.items number taken (job_desk job first store))
       (run job.programs.items taken (job_desk job first store)).committed (run job.programs.items taken (job_desk job first store)).closed
   -- the machine may stop after any number of the deeds: each image that these may leave stands for the first commits, and no fewer than were seen
-  pub crash : (done : ℕ) (image seen : List ℕ) → done ≤ length deeds → images_at first_now deeds done image → IsSeenAt puts done seen → IsPrefix (begun job.programs.items job.events.items) number store order [] image seen
+  pub crash : (done : ℕ) (image seen : List ℕ) → done ≤ length deeds → images_at first deeds done image → IsSeenAt puts done seen → IsPrefix (begun job.programs.items job.events.items) number store order [] image seen
   -- what was handed to the screen is the report of that run, or after a failed put a first part of it
   pub put : Result ℕ Failed
   pub put_is : put_by end put
@@ -58,12 +58,16 @@ pub record RanOnFile (given : Given) (number : ℕ) (store : FlatStore) (first f
 abbrev pub RunsFrom : List ℕ → (ℕ → FlatStore → Type 0) → Type 0
 RunsFrom first P = (number : ℕ) (store : FlatStore) → stands first ≡ Stands number store → P number store
 
+-- the moment of a file that gave these bytes and of a screen, before anything was asked of them
+abbrev pub begun_by : List ℕ → Moment
+begun_by first = record { calls = 0; puts = 0; origin = record { first = first; stop = None } }
+
 -- An outside is a file that gave these bytes and a screen, of which nothing was asked yet, and after its calls these are the deeds and the puts.
-pub record AreBehind {W : Type 0} (G : Ghosts W) (before after : W) (first first_now : List ℕ) (deeds puts : List Deed) : Type 0 where
+pub record AreBehind {W : Type 0} (G : Ghosts W) (before after : W) (first : List ℕ) (deeds puts : List Deed) : Type 0 where
   pub honest : IsTrue (G.is_honest before)
   pub held : G.held before ≡ Some first
   pub none : G.printed before ≡ Some []
   pub shown : G.printed after ≡ Some (printed_of puts)
   pub left : Leaves G (λ image seen. image ≡ first) before before
-  pub moment : G.moment before ≡ record { calls = 0; puts = 0 }
-  pub now : (t : Moment) (image seen : List ℕ) → LeftAt (length deeds) (images_at first_now deeds) (marks_of 0 puts) (printed_of puts) t image seen → G.left_since after t image seen
+  pub moment : G.moment before ≡ begun_by first
+  pub now : (t : Moment) (image seen : List ℕ) → LeftAt (length deeds) (images_at first deeds) (marks_of 0 puts) (printed_of puts) t image seen → G.left_since after t image seen

@@ -20,9 +20,10 @@ fn console_behind<S: Source, W: Outside>(
     job: &mut S,
     outside: &mut W,
 ) -> Ended
-    ensures done { IsForm Command.Run words.now → result.status ≡ Status.Done → (first first_now : List ℕ) (deeds puts : List Deed) → AreBehind W.Outside outside.old outside.new first first_now deeds puts → RunsFrom first (λ number store. RanOnFile (given S.Source job.old job.new) number store first first_now deeds puts (order_told result.order.items) Status.Done) }
-    ensures failed { IsForm Command.Run words.now → result.status ≡ Status.PutFault → (first first_now : List ℕ) (deeds puts : List Deed) → AreBehind W.Outside outside.old outside.new first first_now deeds puts → RunsFrom first (λ number store. RanOnFile (given S.Source job.old job.new) number store first first_now deeds puts (order_told result.order.items) Status.PutFault) }
-    ensures shut { IsForm Command.Run words.now → result.status ≡ Status.DiskFault → (session : Session) → result.session ≡ Some session → (first first_now : List ℕ) (deeds puts : List Deed) → AreBehind W.Outside outside.old outside.new first first_now deeds puts → RunsFrom first (λ number store. RanOnFile (given S.Source job.old job.new) number store first first_now deeds puts (order_told result.order.items) Status.DiskFault) }
+    ensures same { IsForm Command.Run words.now → (W.moment outside.new).origin ≡ (W.moment outside.old).origin }
+    ensures done { IsForm Command.Run words.now → result.status ≡ Status.Done → (first : List ℕ) (deeds puts : List Deed) → AreBehind W.Outside outside.old outside.new first deeds puts → RunsFrom first (λ number store. RanOnFile (given S.Source job.old job.new) number store first deeds puts (order_told result.order.items) Status.Done) }
+    ensures failed { IsForm Command.Run words.now → result.status ≡ Status.PutFault → (first : List ℕ) (deeds puts : List Deed) → AreBehind W.Outside outside.old outside.new first deeds puts → RunsFrom first (λ number store. RanOnFile (given S.Source job.old job.new) number store first deeds puts (order_told result.order.items) Status.PutFault) }
+    ensures shut { IsForm Command.Run words.now → result.status ≡ Status.DiskFault → (session : Session) → result.session ≡ Some session → (first : List ℕ) (deeds puts : List Deed) → AreBehind W.Outside outside.old outside.new first deeds puts → RunsFrom first (λ number store. RanOnFile (given S.Source job.old job.new) number store first deeds puts (order_told result.order.items) Status.DiskFault) }
 {
     console(alloc, words, job, outside)
 }
@@ -39,9 +40,10 @@ pub fn console_on_file<S: Source, F: RawFile, R: RawScreen>(
     requires first { F.first file ≡ bytes.items }
     requires deeds { F.deeds file ≡ [] }
     requires puts { R.puts screen ≡ [] }
-    ensures done { IsForm Command.Run words.now → result.0.status ≡ Status.Done → RunsFrom bytes.items (λ number store. RanOnFile (given S.Source job.old job.new) number store bytes.items (F.first result.1) (F.deeds result.1) (R.puts result.2) (order_told result.0.order.items) Status.Done) }
-    ensures failed { IsForm Command.Run words.now → result.0.status ≡ Status.PutFault → RunsFrom bytes.items (λ number store. RanOnFile (given S.Source job.old job.new) number store bytes.items (F.first result.1) (F.deeds result.1) (R.puts result.2) (order_told result.0.order.items) Status.PutFault) }
-    ensures shut { IsForm Command.Run words.now → result.0.status ≡ Status.DiskFault → (session : Session) → result.0.session ≡ Some session → RunsFrom bytes.items (λ number store. RanOnFile (given S.Source job.old job.new) number store bytes.items (F.first result.1) (F.deeds result.1) (R.puts result.2) (order_told result.0.order.items) Status.DiskFault) }
+    ensures same { IsForm Command.Run words.now → F.first result.1 ≡ bytes.items }
+    ensures done { IsForm Command.Run words.now → result.0.status ≡ Status.Done → RunsFrom bytes.items (λ number store. RanOnFile (given S.Source job.old job.new) number store bytes.items (F.deeds result.1) (R.puts result.2) (order_told result.0.order.items) Status.Done) }
+    ensures failed { IsForm Command.Run words.now → result.0.status ≡ Status.PutFault → RunsFrom bytes.items (λ number store. RanOnFile (given S.Source job.old job.new) number store bytes.items (F.deeds result.1) (R.puts result.2) (order_told result.0.order.items) Status.PutFault) }
+    ensures shut { IsForm Command.Run words.now → result.0.status ≡ Status.DiskFault → (session : Session) → result.0.session ≡ Some session → RunsFrom bytes.items (λ number store. RanOnFile (given S.Source job.old job.new) number store bytes.items (F.deeds result.1) (R.puts result.2) (order_told result.0.order.items) Status.DiskFault) }
 {
     let mut outside = outside_of(file, bytes, screen);
     let ended = console_behind(alloc, words, job, &mut outside);

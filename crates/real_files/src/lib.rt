@@ -22,7 +22,7 @@ use outside::Failed;
 pub use raw_file::RawFile;
 pub use raw_screen::RawScreen;
 pub use read_source::ReadSource;
-pub use std_file::StdFile;
+pub use std_file::{FileUse, StdFile};
 pub use std_out::StdOut;
 pub use trace::Trace;
 pub use whole::{outside_of, raw_of};

@@ -7,14 +7,38 @@ use crate::RawFile;
 use crate::trace::{SYNCED, TORE, Trace, UNSYNCED, WROTE};
 use outside::Failed;
 use std::alloc::Global;
-use std::fs::{File, OpenOptions};
+use std::fs::{File, Metadata, OpenOptions};
 use std::io;
 use std::os::fd::AsRawFd;
-use std::os::unix::fs::FileExt;
+use std::os::unix::fs::{FileExt, MetadataExt};
 use std::rt::Files;
 
-// A longer file is none that can be kept.
+/// A longer file is none that can be kept in memory.
 const MOST_BYTES: u64 = 1 << 26;
+
+/// Where the system shows what standard output and error write to.
+const STREAMS: [&str; 2] = ["/proc/self/fd/1", "/proc/self/fd/2"];
+
+/// What a file is opened for (docs/OPERATION.md).
+#[derive(Clone, Copy)]
+pub enum FileUse {
+    /// To be looked at, also by others at the same time: it is opened to read, and locked together with these.
+    Look,
+    /// To be changed, by this process alone.
+    Change,
+    /// The same, and to be made where there is none.
+    Make,
+}
+
+impl FileUse {
+    fn makes(self) -> bool {
+        matches!(self, FileUse::Make)
+    }
+
+    fn looks(self) -> bool {
+        matches!(self, FileUse::Look)
+    }
+}
 
 // A file that is open and locked. Its place isn't one of the standard streams'.
 #[derive(Drop)]
@@ -42,19 +66,24 @@ pub struct StdFile<R: Files<File = File> + AllocGlobal> {
 }
 
 impl<R: Files<File = File> + AllocGlobal + Drop> StdFile<R> {
-    /// The file at this path, and its bytes. It is opened to read and write and locked, what was written into it is put on the disk,
-    /// and then it is read. Where there is none, and `makes` says so, one is made when it is first written.
-    pub fn open(rt: R, path: String, makes: bool) -> io::Result<(StdFile<R>, Vec<u8>)>
+    /// The file at this path, and its bytes. It is opened and locked, what was written into it is put on the disk, what memory keeps of it
+    /// is dropped, and then it is read: so these bytes are the medium's. Where there is none, and it is to be made, that comes with its
+    /// first write.
+    ///
+    /// # Errors
+    ///
+    /// Where it can't be opened, locked, synced or read; where it is too long; and where standard output or error writes into it.
+    pub fn open(rt: R, path: String, wanted: FileUse) -> io::Result<(StdFile<R>, Vec<u8>)>
         ensures { IfOk result (λ opened. (⟦<StdFile<R> as RawFile>⟧.first opened.0 ≡ opened.1.items) × (⟦<StdFile<R> as RawFile>⟧.deeds opened.0 ≡ [])) }
     {
         let alloc = rt.alloc();
-        let (place, bytes) = match open_store(&rt, path.as_str(), makes, false) {
+        let (place, bytes) = match open_store(&rt, path.as_str(), wanted, false) {
             Ok(store) => {
-                store.sync()?;
+                store.settle()?;
                 let bytes = read_whole(alloc, &store.file)?;
                 (Place::Open(store), bytes)
             }
-            Err(error) if makes && error.kind() == io::ErrorKind::NotFound => {
+            Err(error) if wanted.makes() && error.kind() == io::ErrorKind::NotFound => {
                 (Place::ToBeMade, Vec::new(alloc))
             }
             Err(error) => return Err(error),
@@ -79,7 +108,7 @@ fn made<'a, R: Files<File = File> + AllocGlobal>(
     place: &'a mut Place,
 ) -> io::Result<&'a Store> {
     if matches!(place, Place::ToBeMade) {
-        let store = open_store(rt, path, true, true)?;
+        let store = open_store(rt, path, FileUse::Make, true)?;
         // Another may have made it meanwhile.
         if store.file.metadata()?.len() > 0 {
             return Err(io::Error::from(io::ErrorKind::AlreadyExists));
@@ -103,6 +132,16 @@ impl Store {
             }
         }
     }
+
+    // A sync, behind which memory keeps nothing of the file. Pages that the system could not put on the disk it takes for clean, and tells
+    // so once: by a read of memory, somebody who comes later would find bytes that the disk does not hold.
+    fn settle(&self) -> io::Result<()> {
+        self.sync()?;
+        match libc::posix_fadvise(self.file.as_raw_fd(), 0, 0, libc::POSIX_FADV_DONTNEED) {
+            0 => Ok(()),
+            error => Err(io::Error::from_raw_os_error(error)),
+        }
+    }
 }
 
 // All bytes of a file.
@@ -116,22 +155,34 @@ fn read_whole(alloc: Global, file: &File) -> io::Result<Vec<u8>> {
     Ok(bytes)
 }
 
-// The file with its lock, and the folder of its name where it may be new.
+// The file with its lock, and the folder of its name where it may be new. A folder that can't be opened leaves no new file.
 fn open_store<R: Files<File = File> + AllocGlobal>(
     rt: &R,
     path: &str,
-    makes: bool,
+    wanted: FileUse,
     is_new: bool,
 ) -> io::Result<Store> {
+    let is_link = rt
+        .symlink_metadata(path)
+        .is_ok_and(|found| found.is_symlink());
+    let mut folder = None;
+    if wanted.makes() && !is_link {
+        folder = Some(File::open(rt, folder_in(path))?);
+    }
     let mut how = OpenOptions::new();
-    how.read(true).write(true).create(is_new);
+    how.read(true).write(!wanted.looks()).create(is_new);
     let file = behind_streams(rt.open_file(&how, path)?)?;
-    file.try_lock()?;
-    let folder = if makes {
-        Some(open_folder(rt, path)?)
+    if wanted.looks() {
+        file.try_lock_shared()?;
     } else {
-        None
-    };
+        file.try_lock()?;
+    }
+    if is_stream(rt, &file.metadata()?) {
+        return Err(io::Error::from(io::ErrorKind::InvalidInput));
+    }
+    if wanted.makes() && is_link {
+        folder = Some(folder_behind(rt, path)?);
+    }
     Ok(Store { file, folder })
 }
 
@@ -150,8 +201,25 @@ fn behind_streams(file: File) -> io::Result<File>
     }
 }
 
+// Whether standard output or error writes into this file.
+fn is_stream<R: Files<File = File>>(rt: &R, file: &Metadata) -> bool {
+    STREAMS.iter().any(|stream| {
+        rt.metadata(stream).is_ok_and(|found| found.dev() == file.dev()
+            && found.ino() == file.ino())
+    })
+}
+
+// The folder that a path names its file in.
+fn folder_in(path: &str) -> &str {
+    match path.rsplit_once('/') {
+        None => ".",
+        Some(("", _)) => "/",
+        Some((folder, _)) => folder,
+    }
+}
+
 // The folder in which the file of this path lies, behind all links.
-fn open_folder<R: Files<File = File> + AllocGlobal>(rt: &R, path: &str) -> io::Result<File> {
+fn folder_behind<R: Files<File = File> + AllocGlobal>(rt: &R, path: &str) -> io::Result<File> {
     let mut place = rt.canonicalize(rt.alloc(), path)?;
     place.pop();
     File::open(rt, place.as_str())

@@ -5,10 +5,12 @@ ghost use Rattle.std.specs.Prelude.{◌≡◌};
 ghost use Rattle.std.specs.Process.{exit_status};
 ghost use Rattle.call_status.specs.Statuses.{number_of};
 
-use console::{Ended, Status, console, is_form, reads_source, status_text, try_store};
+use console::{
+    DiskKind, Ended, Status, console, disk_of, path_of, reads_source, status_text, try_store,
+};
 use file_runs::console_on_file;
 use outside::{Disk, Joint, MemoryDisk};
-use real_files::{AbsentDisk, NotedScreen, ReadSource, StdFile, StdOut};
+use real_files::{AbsentDisk, FileUse, NotedScreen, ReadSource, StdFile, StdOut};
 use std::process::ExitCode;
 use std::{env, io};
 
@@ -33,61 +35,53 @@ fn code_of(status: &Status) -> ExitCode
     ExitCode::from(status.number())
 }
 
-/// The console on the real source and screen, and the disk that the words name: a file, which `new`, `new2` and `renew` alone make, or one
-/// in memory, which for `try` and `big` holds the store of `try`.
+/// The console on the real source and screen, and on the disk that the words want.
 fn run(rt: &HostRuntime) -> Result<Ended, Status> {
     let alloc = rt.alloc();
     let words = words_of(rt)?;
-    match words.as_slice() {
-        [word, store, ..] if names_store(word.as_str()) && is_form(&words) => {
-            let path = String::from_str(alloc, store.as_str())?;
-            // The source comes first: until it ends, another may have the file.
-            let mut job = source_of(rt, &words);
-            match StdFile::open(rt.clone()?, path, makes_store(word.as_str())) {
-                Ok((file, bytes)) => {
-                    let screen = StdOut::new(rt.clone()?);
-                    let (ended, _, _) = console_on_file(
-                        alloc, &words, &mut job, file, bytes, screen,
-                    );
-                    Ok(ended)
-                }
-                Err(_) => call_on(rt, &words, &mut job, AbsentDisk::new()),
-            }
-        }
-        others if runs_in_memory(others) => {
-            call_on(
-                rt,
-                &words,
-                &mut source_of(rt, &words),
-                MemoryDisk::new(alloc, try_store(alloc)?, Vec::new(alloc)),
-            )
-        }
-        _ => call_on(
-            rt,
-            &words,
-            &mut source_of(rt, &words),
-            MemoryDisk::new(alloc, Vec::new(alloc), Vec::new(alloc)),
-        ),
+    // The source comes first: until it ends, another may have the file.
+    let mut job = source_of(rt, &words);
+    match disk_of(&words) {
+        DiskKind::Looked => on_file(rt, &words, &mut job, FileUse::Look),
+        DiskKind::Changed => on_file(rt, &words, &mut job, FileUse::Change),
+        DiskKind::Made => on_file(rt, &words, &mut job, FileUse::Make),
+        DiskKind::OfTry => on_bytes(rt, &words, &mut job, try_store(alloc)?),
+        DiskKind::Empty => on_bytes(rt, &words, &mut job, Vec::new(alloc)),
     }
 }
 
-/// Whether these words run on the store of `try`: that word alone, or a load and its transfers.
-fn runs_in_memory(words: &[String]) -> bool {
-    match words {
-        [word] => word.as_str() == "try",
-        [word, _] => word.as_str() == "big",
-        _ => false,
+/// The console on the file that the words name.
+fn on_file(
+    rt: &HostRuntime,
+    words: &[String],
+    job: &mut ReadSource,
+    wanted: FileUse,
+) -> Result<Ended, Status> {
+    let path = String::from_str(rt.alloc(), path_of(words))?;
+    match StdFile::open(rt.clone()?, path, wanted) {
+        Ok((file, bytes)) => {
+            let screen = StdOut::new(rt.clone()?);
+            let (ended, _, _) = console_on_file(rt.alloc(), words, job, file, bytes, screen);
+            Ok(ended)
+        }
+        Err(_) => call_on(rt, words, job, AbsentDisk::new()),
     }
 }
 
-/// Whether a store stands behind this word.
-fn names_store(word: &str) -> bool {
-    matches!(word, "run" | "show" | "ship" | "follow") || makes_store(word)
-}
-
-/// Whether this word makes the store's file.
-fn makes_store(word: &str) -> bool {
-    matches!(word, "new" | "new2" | "renew")
+/// The console on a disk in memory that holds these bytes.
+fn on_bytes(
+    rt: &HostRuntime,
+    words: &[String],
+    job: &mut ReadSource,
+    bytes: Vec<u8>,
+) -> Result<Ended, Status> {
+    let alloc = rt.alloc();
+    call_on(
+        rt,
+        words,
+        job,
+        MemoryDisk::new(alloc, bytes, Vec::new(alloc)),
+    )
 }
 
 /// The console on this disk and the standard output.

@@ -1,6 +1,8 @@
 //! Real files and the standard streams: what no clause says of the calls that are noted.
-use real_files::{AbsentDisk, KeptDisk, NotedScreen, ReadSource, StdFile, StdOut, outside_of, raw_of};
 use outside::{Disk, Failed, Outside, Screen, Source};
+use real_files::{
+    AbsentDisk, KeptDisk, NotedScreen, ReadSource, StdFile, StdOut, outside_of, raw_of,
+};
 use std::fs;
 use std::io::ErrorKind;
 use std::test::Fail;

@@ -1,6 +1,7 @@
 //! Disks, screens and sources in memory, with ample memory: each call fails where it was told to, and nowhere else.
 use outside::{
-    Call, Disk, Failed, Joint, MemoryDisk, MemoryScreen, MemorySource, Outside, Refusal, Screen, Source,
+    Call, Disk, Failed, Joint, MemoryDisk, MemoryScreen, MemorySource, Outside, Refusal, Screen,
+    Source,
 };
 use std::alloc::{AllocError, Global};
 use std::test::Fail;

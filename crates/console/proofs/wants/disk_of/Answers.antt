@@ -1,0 +1,12 @@
+use Rattle.console.proofs.Common.{◌∙◌}
+use Rattle.console.proofs.WantLemmas.{one_disk}
+use Rattle.console.proofs.wants.disk_of.Goals as goal
+
+pub returns-in-Some-clause-asked : goal.returns-in-Some-clause-asked
+returns-in-Some-clause-asked c form says = c.kind_for.ensures ∙ one_disk c.args.words.now c.in-Some.command form c.in-Some.ensures says
+
+pub returns-in-None-clause-asked : goal.returns-in-None-clause-asked
+returns-in-None-clause-asked c form says = absurd (c.in-None.ensures form says)
+
+pub returns-in-Some-clause-none : goal.returns-in-Some-clause-none
+returns-in-Some-clause-none c none = absurd (none c.in-Some.command c.in-Some.ensures)
