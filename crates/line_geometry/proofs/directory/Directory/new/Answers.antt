@@ -1,8 +1,7 @@
-use Rattle.std.proofs.Common.{arith}
+use Rattle.std.proofs.Common.{arith, refl, sym}
 use Rattle.std.proofs.lemmas.Bool.Decides.{nat_tests}
 use Rattle.line_geometry.proofs.Legal.{legal-none, fault-not_legal}
 use Rattle.line_geometry.proofs.Kept.{kept-filled}
-use Rattle.std.proofs.Common.{refl, sym}
 use Rattle.line_geometry.proofs.directory.Directory.new.Goals as goal
 
 pub invariant_of-result : goal.invariant_of-result
