@@ -1,5 +1,5 @@
 -- What depends on sets of lines as sets alone: pages taken out, grants, and how many lines are written.
-use Rattle.desk_law.proofs.Common.{◌≡◌, refl, ℕ, ◌&&◌, ◌||◌, not, if◌then◌else◌, Bool, false, List, [], ◌∷◌, ◌++◌, filter, ap, sym, ◌∙◌, has, size, Lines, within_page, is_whole_page, lines_of_page, pages_of, has-append, size-alike, Authority, Attempt, authority_by, fine_authority_by, given, with_each, granted, to_read, lowered_pages, lowered, AreAlike}
+use Rattle.desk_law.proofs.Common.{◌≡◌, refl, ℕ, ◌&&◌, not, if◌then◌else◌, Bool, false, List, [], ◌∷◌, ◌++◌, filter, ap, ◌∙◌, has, size, Lines, within_page, is_whole_page, lines_of_page, pages_of, has-append, size-alike, Authority, Attempt, authority_by, fine_authority_by, given, with_each, granted, to_read, lowered_pages, lowered, AreAlike, nat_tests, arith}
 use Rattle.desk_law.proofs.EachPage.{each-same}
 
 pub filter-same : (p q : ℕ → Bool) (xs : List ℕ) → ((x : ℕ) → p x ≡ q x) → filter p xs ≡ filter q xs
@@ -12,12 +12,7 @@ within-alike page xs ys same = filter-same (has xs) (has ys) (lines_of_page page
 -- Grants by the kept locks are the desk's.
 pub granted-alike : (fine : ℕ → Bool) (attempt : Attempt) (locks due : Lines) (pages : List ℕ) (authority : List Authority) → AreAlike locks due
     → granted fine attempt locks pages authority ≡ granted fine attempt due pages authority
-granted-alike fine attempt locks due pages authority alike =
-    each-same (given fine attempt locks) (given fine attempt due) pages authority
-    (λ page i.
-    if fine page
-    then fine_authority_by attempt.entry.number (has (pages_of attempt.lines.writes) page) (within-alike page locks.reads due.reads alike.reads i) (within-alike page locks.writes due.writes alike.writes i)
-    else authority_by attempt.entry.number (within-alike page locks.reads due.reads alike.reads i) (within-alike page locks.writes due.writes alike.writes i))
+granted-alike fine attempt locks due pages authority alike = grind (arith, nat_tests, each-same (given fine attempt locks) (given fine attempt due) pages authority (λ page i. if fine page then fine_authority_by attempt.entry.number (has (pages_of attempt.lines.writes) page) (within-alike page locks.reads due.reads alike.reads i) (within-alike page locks.writes due.writes alike.writes i) else authority_by attempt.entry.number (within-alike page locks.reads due.reads alike.reads i) (within-alike page locks.writes due.writes alike.writes i)))
 
 -- And so are the write bits that go off by them.
 pub lowered-alike : (fine : ℕ → Bool) (attempt : Attempt) (locks due : Lines) (authority : List Authority) → AreAlike locks due
@@ -31,9 +26,4 @@ lowered-alike fine attempt locks due authority alike =
 
 -- The lines written with those of a row are so many by the kept locks.
 pub written-alike : (locks due more : Lines) → AreAlike locks due → size (locks.writes ++ more.writes) ≡ size (due.writes ++ more.writes)
-written-alike locks due more alike =
-    size-alike (locks.writes ++ more.writes) (due.writes ++ more.writes)
-    (record { among = λ x inside. sym (same x) ∙ inside }) (record { among = λ x inside. same x ∙ inside })
-  where
-    same : (x : ℕ) → has (locks.writes ++ more.writes) x ≡ has (due.writes ++ more.writes) x
-    same x = has-append locks.writes more.writes x ∙ ap (λ (b : Bool). b || has more.writes x) (alike.writes x) ∙ sym (has-append due.writes more.writes x)
+written-alike locks due more alike = grind (arith, nat_tests, size-alike, has-append)

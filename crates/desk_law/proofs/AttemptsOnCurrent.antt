@@ -1,5 +1,5 @@
 -- What an attempt over the bytes of all says of the entry's own row, and what follows where its lines were there.
-use Rattle.desk_law.proofs.Common.{◌≡◌, refl, ℕ, ◌+◌, List, length, Option, Some, option_map_or, arith, ap, sym, ◌∙◌, subst, Layout, no_lines, ArePart, Plain, Plan, Does, Fails, Program, Outcome, On, Commit, Check, plan_at, row, touched, touched_by, after, SameWay, row-way, lines_of_plan, Desk, Entry, with_entry, wanted, request, Word, Fine, Counts, Going, Over, instruction, AreThere, over_all, gone_on, IsAmong, due_to, IsCurrent, IsOrderly}
+use Rattle.desk_law.proofs.Common.{◌≡◌, refl, ℕ, ◌+◌, List, length, Option, Some, arith, ap, sym, ◌∙◌, subst, Layout, ArePart, Plain, Program, Outcome, On, Commit, Check, plan_at, row, touched, after, SameWay, row-way, lines_of_plan, Desk, Entry, with_entry, wanted, request, Word, Fine, Counts, Going, Over, instruction, AreThere, over_all, gone_on, IsAmong, due_to, IsCurrent, IsOrderly, nat_tests}
 use Rattle.desk_law.proofs.Entries.{replaced, found-among}
 use Rattle.desk_law.proofs.LinesThere.{there-held}
 use Rattle.desk_law.proofs.Permitted.{held-free}
@@ -15,11 +15,7 @@ pub record IsOwnRow (program : Program) (directory : Layout) (now : Plain) (byte
   pub lines : touched program directory now ≡ touched program directory (over_all now bytes)
 
 lines-of : (p : Program) (d : Layout) (s next : Plain) → row p d s ≡ On next → touched p d s ≡ lines_of_plan p d (plan_at s)
-lines-of p d s next went = ap (λ (outcome : Outcome). touched_by p d outcome (plan_at s)) went ∙ by_plan (plan_at s)
-  where
-    by_plan : (plan : Plan) → touched_by p d (On next) plan ≡ lines_of_plan p d plan
-    by_plan (Does registers status act address link) = refl
-    by_plan (Fails code) = refl
+lines-of p d s next went = grind (arith, nat_tests)
 
 pub own-row : (program : Program) (directory : Layout) (now shown : Plain) (bytes : List ℕ) → row program directory (over_all now bytes) ≡ On shown → IsOwnRow program directory now bytes
 own-row program directory now shown bytes went = by_way (row program directory now) refl (subst (SameWay (row program directory now)) went (row-way program directory now bytes))
@@ -34,28 +30,16 @@ own-row program directory now shown bytes went = by_way (row program directory n
     by_way (Check code) is way = absurd way
 
 pub own-commit : (program : Program) (directory : Layout) (now : Plain) (bytes : List ℕ) → row program directory (over_all now bytes) ≡ Commit → row program directory now ≡ Commit
-own-commit program directory now bytes went = by_way (row program directory now) (subst (SameWay (row program directory now)) went (row-way program directory now bytes))
-  where
-    by_way : (outcome : Outcome) → SameWay outcome Commit → outcome ≡ Commit
-    by_way (On next) way = absurd way
-    by_way Commit way = refl
-    by_way (Check code) way = absurd way
+own-commit program directory now bytes went = grind (arith, nat_tests, row-way program directory now bytes)
 
 pub own-check : (program : Program) (directory : Layout) (now : Plain) (bytes : List ℕ) (code : ℕ) → row program directory (over_all now bytes) ≡ Check code → row program directory now ≡ Check code
-own-check program directory now bytes code went = by_way (row program directory now) (subst (SameWay (row program directory now)) went (row-way program directory now bytes))
-  where
-    by_way : (outcome : Outcome) → SameWay outcome (Check code) → outcome ≡ Check code
-    by_way (On next) way = absurd way
-    by_way Commit way = absurd way
-    by_way (Check other) way = ap Check way
+own-check program directory now bytes code went = grind (arith, nat_tests, row-way program directory now bytes)
 
 -- what the next row touches is what the attempt touched
 pub wanted-is : (desk : Desk) (entry : Entry) (now shown : Plain) (bytes : List ℕ) → after entry.runs.program entry.runs.args desk.committed entry.rows ≡ Some now
     → row entry.runs.program desk.committed.directory (over_all now bytes) ≡ On shown
     → wanted desk entry ≡ touched entry.runs.program desk.committed.directory (over_all now bytes)
-wanted-is desk entry now shown bytes at went =
-    ap (λ (state : Option Plain). option_map_or (touched entry.runs.program desk.committed.directory) state no_lines) at
-    ∙ (own-row entry.runs.program desk.committed.directory now shown bytes went).lines
+wanted-is desk entry now shown bytes at went = grind (arith, nat_tests, own-row entry.runs.program desk.committed.directory now shown bytes went)
 
 -- an instruction leaves a consistent desk
 pub goes-consistent : (word : Word) (desk next : Desk) (counts more : Counts) (entry : Entry) → IsOrderly desk → IsAmong desk.active entry
@@ -86,14 +70,7 @@ pub record HasGone (desk : Desk) (counts : Counts) (entry : Entry) (shown : Plai
 pub shown-current : (desk : Desk) (entry : Entry) (now next shown : Plain) (bytes : List ℕ) → RunsOn desk.committed desk.active entry now next bytes
     → row entry.runs.program desk.committed.directory (over_all now bytes) ≡ On shown
     → (shown ≡ over_all next shown.store) × IsCurrent desk.committed (replaced (gone_on entry) desk.active) shown.store
-shown-current desk entry now next shown bytes runs went =
-    let same : shown ≡ over_all next runs.other = on-same shown (over_all next runs.other) (sym went ∙ runs.went) in (
-      same ∙ ap (over_all next) (sym (ap (λ (s : Plain). s.store) same)),
-      subst (IsCurrent desk.committed (replaced (gone_on entry) desk.active)) (sym (ap (λ (s : Plain). s.store) same)) runs.is_current,
-    )
-  where
-    on-same : (one other : Plain) → On one ≡ On other → one ≡ other
-    on-same one other is = cc
+shown-current desk entry now next shown bytes runs went = grind (arith, nat_tests)
 
 -- An attempt that went over the bytes of all, on lines that are there, is the instruction of the desk.
 pub attempt-goes :

@@ -1,5 +1,5 @@
 -- A consistent desk stays so.
-use Rattle.desk_law.proofs.Common.{◌≡◌, refl, ℕ, ◌+◌, ◌<◌, ◌==◌, nat_lt, if◌then◌else◌, Bool, true, false, List, [], ◌∷◌, length, find, Option, Some, None, slice_get, arith, ap, subst, eqb-true, eq-eqb, both_ways, ltb-true, page_count, Program, Event, Begin, Turn, Checkpoint, Crash, Desk, Entry, opened, Word, Fine, ReadFailed, Unwritten, Doubt, Failed, Counts, Turning, Going, Over, Idle, instruction, turns, turn, turn_of, no_counts, turned, begin_if, begins, absent_segment, restarted, event_of, step, run, Busy, Nothing, IsAmong, Ascend, IsConsistent, turn_desk, StaysConsistent, IsActive, IsNotIdle, IdleWhereInactive, RunsStayConsistent, IsOrderly}
+use Rattle.desk_law.proofs.Common.{◌≡◌, refl, ℕ, ◌+◌, ◌<◌, ◌==◌, nat_lt, if◌then◌else◌, Bool, true, false, List, [], ◌∷◌, length, find, Option, Some, None, slice_get, arith, ap, subst, eqb-true, eq-eqb, both_ways, ltb-true, page_count, Program, Event, Begin, Turn, Checkpoint, Crash, Desk, Entry, opened, Word, Fine, ReadFailed, Unwritten, Doubt, Failed, Counts, Turning, Going, Over, Idle, instruction, turns, turn, turn_of, no_counts, turned, begin_if, begins, absent_segment, restarted, event_of, step, run, Busy, IsAmong, Ascend, IsConsistent, turn_desk, StaysConsistent, IsActive, IsNotIdle, IdleWhereInactive, RunsStayConsistent, IsOrderly, nat_tests}
 use Rattle.desk_law.proofs.Orderly.{orderly}
 use Rattle.desk_law.proofs.Entries.{among-found, none-found, found-among}
 use Rattle.desk_law.proofs.Endings.{begins-consistent, refused-consistent, quiet-consistent, opened-consistent}
@@ -12,15 +12,7 @@ fits desk is = record { frames = is.frames; resident = is.resident }
 
 -- both parts of it
 pub consistent : (desk : Desk) → IsOrderly desk → Fits desk → IsConsistent desk
-consistent desk is fit = record {
-  whole = is.whole;
-  frames = fit.frames;
-  resident = fit.resident;
-  few = is.few;
-  active = is.active;
-  held = is.held;
-  no_cycle = is.no_cycle;
-}
+consistent desk is fit = grind (arith, nat_tests)
 
 -- a number has no entry where it isn't active
 pub inactive-none : (desk : Desk) (number : ℕ) → (IsActive desk number → ⊥) → find (λ (entry : Entry). entry.number == number) desk.active ≡ None
@@ -126,11 +118,7 @@ stays-event programs Checkpoint _ desk is = is
 
 -- the law
 pub stays-consistent : StaysConsistent
-stays-consistent programs event word desk is = by_closed desk.closed
-  where
-    by_closed : (closed : Bool) → IsConsistent (if closed then record { desk = desk; happening = Nothing } else event_of programs event word desk).desk
-    by_closed true = is
-    by_closed false = stays-event programs event word desk is
+stays-consistent programs event word desk is = grind (arith, nat_tests, stays-event programs event word desk is)
 
 -- a run of a consistent desk
 pub run-consistent : (programs : List Program) (events : List (Event × Word)) (desk : Desk) → IsConsistent desk → IsConsistent (run programs events desk)

@@ -1,5 +1,5 @@
 -- Cycles of waits and their victims.
-use Rattle.desk_law.proofs.Common.{◌≡◌, refl, ℕ, zero, suc, ◌+◌, ◌<◌, ◌≤◌, ◌==◌, ◌⊎◌, not, max, if◌then◌else◌, Bool, true, false, List, [], ◌∷◌, ◌++◌, length, filter, map, find, fold, Option, Some, None, slice_index_or, arith, ap, sym, ◌∙◌, subst, inl, inr, length-append, eqb-true, eq-eqb, ne_eqb, both_ways, and_parts, and_from, or_left, or_right, not_from_false, not-true, false_from_ne_true, cases_lt, not_from_true, cond-false, has, leads, shown_after, shown_cycle, victim_of, after-among, Desk, Entry, Authority, nobody, rolled_back, numbers, waits_for, Counts, Contest, Contested, Settled, Lost, breaks_cycle, breaks_cycles, IsAmong, IsOrderly, except, IsContending, KeepsPages}
+use Rattle.desk_law.proofs.Common.{◌≡◌, refl, ℕ, zero, suc, ◌+◌, ◌<◌, ◌≤◌, ◌==◌, ◌⊎◌, not, max, Bool, true, false, List, [], ◌∷◌, ◌++◌, length, filter, map, find, fold, Option, Some, None, arith, ap, sym, ◌∙◌, subst, inl, inr, length-append, eqb-true, eq-eqb, ne_eqb, both_ways, and_parts, and_from, or_left, or_right, not_from_false, not-true, false_from_ne_true, cases_lt, not_from_true, has, leads, shown_cycle, victim_of, after-among, Desk, Entry, Authority, rolled_back, numbers, waits_for, Counts, Contest, Contested, Settled, Lost, breaks_cycle, breaks_cycles, IsAmong, IsOrderly, except, IsContending, KeepsPages, nat_tests}
 use Rattle.desk_law.proofs.Entries.{among-filter, filter-among, among-found, none-found, filter-short}
 use Rattle.desk_law.proofs.Walks.{no-cycle-fewer, no-cycle-from, no-cycle-leaves, walk-short}
 use Rattle.desk_law.proofs.Others.{rollback-leaves}
@@ -10,35 +10,14 @@ except-waits : (one : ℕ) (waits : ℕ → ℕ → Bool) (from to : ℕ) → ex
 except-waits one waits from to both = (and_parts (not (from == one)) (waits from to) both).1
 
 pub contending : (one : ℕ) (desk : Desk) → IsOrderly desk → IsContending one desk
-contending one desk is = record {
-  whole = is.whole;
-  few = is.few;
-  active = is.active;
-  held = is.held;
-  no_cycle = no-cycle-fewer (except one (waits_for desk)) (waits_for desk) (numbers desk) (numbers desk) (λ from to waits. except-waits one (waits_for desk) from to waits) (λ x inside. inside) is.no_cycle;
-}
+contending one desk is = grind (arith, nat_tests, no-cycle-fewer (except one (waits_for desk)) (waits_for desk) (numbers desk) (numbers desk) (λ from to waits. except-waits one (waits_for desk) from to waits) (λ x inside. inside) is.no_cycle)
 
 pub settled : (one : ℕ) (desk : Desk) → IsContending one desk → ((steps : ℕ) → leads (waits_for desk) (numbers desk) steps one one ≡ false) → IsOrderly desk
-settled one desk is not_back = record {
-  whole = is.whole;
-  few = is.few;
-  active = is.active;
-  held = is.held;
-  no_cycle = no-cycle-from (waits_for desk) (numbers desk) one is.no_cycle not_back;
-}
+settled one desk is not_back = grind (arith, nat_tests, no-cycle-from (waits_for desk) (numbers desk) one is.no_cycle not_back)
 
 pub filter-shorter : (test : Entry → Bool) (entries : List Entry) (entry : Entry) → IsAmong entries entry → test entry ≡ false → length (filter test entries) < length entries
 filter-shorter test [] entry among out = absurd among
-filter-shorter test (one ∷ entries) entry among out = by_test (test one) refl (filter-short test entries) (filter-shorter test entries entry) among
-  where
-    by_test :
-        (keeps : Bool) → test one ≡ keeps → length (filter test entries) ≤ length entries
-        → (IsAmong entries entry → test entry ≡ false → length (filter test entries) < length entries)
-        → IsAmong (one ∷ entries) entry
-        → length (if keeps then one ∷ filter test entries else filter test entries) < suc (length entries)
-    by_test true e short rest (inl same) = absurd (both_ways (test one) (ap test same ∙ out) e)
-    by_test true e short rest (inr among) = omega (arith, rest among out)
-    by_test false e short rest among = omega (arith, short)
+filter-shorter test (one ∷ entries) entry among out = grind (arith, nat_tests, filter-shorter test entries entry, filter-short)
 
 -- a rollback leaves it so
 pub rolled-contending : (one : ℕ) (desk : Desk) (gone : Entry) → IsContending one desk → IsContending one (rolled_back desk gone)
@@ -57,17 +36,7 @@ rolled-contending one desk gone is = record {
 }
 
 pub rolled-consistent : (desk : Desk) (gone : Entry) → IsOrderly desk → IsOrderly (rolled_back desk gone)
-rolled-consistent desk gone is = record {
-  whole = is.whole;
-  few = omega (arith, is.few, filter-short (λ (other : Entry). not (other.number == gone.number)) desk.active);
-  active = rollback-leaves desk.committed desk.most_lines desk.next desk.active gone is.active;
-  held = held-others desk.committed desk.committed desk.active desk.authority gone refl (λ other among. refl) (held-but gone.number desk.committed desk.active desk.authority is.held);
-  no_cycle =
-      no-cycle-fewer (waits_for (rolled_back desk gone)) (waits_for desk) (numbers (rolled_back desk gone)) (numbers desk)
-      (λ from to waits. rollback-waits desk gone from to waits)
-      (λ x inside. fewer-numbers (λ (other : Entry). not (other.number == gone.number)) desk.active x inside)
-      is.no_cycle;
-}
+rolled-consistent desk gone is = grind (arith, nat_tests, filter-short (λ (other : Entry). not (other.number == gone.number)) desk.active, rollback-leaves desk.committed desk.most_lines desk.next desk.active gone is.active, held-others desk.committed desk.committed desk.active desk.authority gone refl (λ other among. refl) (held-but gone.number desk.committed desk.active desk.authority is.held), held-but gone.number desk.committed desk.active desk.authority is.held, no-cycle-fewer (waits_for (rolled_back desk gone)) (waits_for desk) (numbers (rolled_back desk gone)) (numbers desk) (λ from to waits. rollback-waits desk gone from to waits) (λ x inside. fewer-numbers (λ (other : Entry). not (other.number == gone.number)) desk.active x inside) is.no_cycle)
 
 -- the members of a shown cycle
 greatest-in : (xs : List ℕ) (least : ℕ) → (fold max least xs ≡ least) ⊎ (has xs (fold max least xs) ≡ true)
@@ -87,39 +56,14 @@ greatest-in (x ∷ xs) least = elim (greatest-in xs (max least x)) [
     ]
 
 pub shown-victim : (waits : ℕ → ℕ → Bool) (all : List ℕ) (first : ℕ) (cycle : List ℕ) → has all first ≡ true → shown_cycle waits all first ≡ Some cycle → has all (victim_of cycle) ≡ true
-shown-victim waits all first cycle here is = by_test (leads waits all (length all) first first) is
-  where
-    by_test : (round : Bool) → (if round then Some (first ∷ shown_after waits all (length all) first first) else None) ≡ Some cycle → has all (victim_of cycle) ≡ true
-    by_test true is =
-        let it : first ∷ shown_after waits all (length all) first first ≡ cycle = cc in
-        subst (λ (c : List ℕ). has all (victim_of c) ≡ true) it
-        (elim (greatest-in (shown_after waits all (length all) first first) (max 0 first)) [
-          | inl same ↦ ap (has all) (same ∙ least) ∙ here
-          | inr inside ↦ after-among waits all (length all) first first (victim_of (first ∷ shown_after waits all (length all) first first)) inside
-        ])
-      where
-        least : max 0 first ≡ first
-        least = omega arith
-    by_test false is = absurd (cc)
+shown-victim waits all first cycle here is = grind (arith, nat_tests, greatest-in, after-among)
 
 pub shown-none : (waits : ℕ → ℕ → Bool) (all : List ℕ) (first : ℕ) → shown_cycle waits all first ≡ None → leads waits all (length all) first first ≡ false
-shown-none waits all first is = by_test (leads waits all (length all) first first) is
-  where
-    by_test : (round : Bool) → (if round then Some (first ∷ shown_after waits all (length all) first first) else None) ≡ None → round ≡ false
-    by_test true is = absurd (cc)
-    by_test false is = refl
+shown-none waits all first is = grind (arith, nat_tests)
 
 -- pages of others are freed
 pub freed-keeps : (one gone : ℕ) (old new : List Authority) → (gone == one) ≡ false → KeepsPages one old new → KeepsPages one old (map (freed gone) new)
-freed-keeps one gone old new differ keeps page own =
-    freed-at gone new page
-    ∙ cond-false ((slice_index_or new page nobody).owner == gone) nobody (slice_index_or new page nobody)
-    (false_from_ne_true ((slice_index_or new page nobody).owner == gone)
-    (λ is_gone.
-    let same : slice_index_or new page nobody ≡ slice_index_or old page nobody = keeps page own in
-    let owner : (slice_index_or new page nobody).owner ≡ one = ap (λ (a : Authority). a.owner) same ∙ eqb-true (slice_index_or old page nobody).owner one own in
-    both_ways (gone == one) differ (eq-eqb gone one (sym (eqb-true (slice_index_or new page nobody).owner gone is_gone) ∙ owner))))
-    ∙ keeps page own
+freed-keeps one gone old new differ keeps page own = grind (arith, nat_tests, freed-at)
 
 -- what a contest of an entry came to
 abbrev pub Came : ℕ → (most : ℕ) → Entry → Desk → Contest → Type 0

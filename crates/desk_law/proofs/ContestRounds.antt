@@ -1,5 +1,5 @@
 -- A contest round by round: a loop that looks for one cycle at a time goes through the same desks as the definition.
-use Rattle.desk_law.proofs.Common.{◌≡◌, refl, ℕ, zero, suc, ◌≤◌, ◌<◌, ◌==◌, not, Bool, true, false, List, [], ◌∷◌, ◌++◌, length, find, Option, Some, None, arith, ap, sym, ◌∙◌, eqb-true, eq-eqb, ne_eqb, both_ways, not_from_false, not_from_true, not-true, false_from_ne_true, leads, shown_cycle, victim_of, Desk, Entry, with_entry, rolled_back, numbers, waits_for, Word, Counts, Attempt, Contested, Settled, Lost, breaks_cycle, breaks_cycles, contest_ends, asks, IsAmong, contest, IsUnderWay, IsOrderly}
+use Rattle.desk_law.proofs.Common.{◌≡◌, refl, ℕ, zero, suc, ◌≤◌, ◌<◌, ◌==◌, not, Bool, true, false, List, [], ◌∷◌, ◌++◌, length, find, Option, Some, None, arith, ap, sym, ◌∙◌, eqb-true, eq-eqb, ne_eqb, both_ways, not_from_false, not-true, false_from_ne_true, leads, shown_cycle, victim_of, Desk, Entry, with_entry, rolled_back, numbers, waits_for, Word, Counts, Attempt, Contested, Settled, Lost, breaks_cycle, breaks_cycles, contest_ends, asks, IsAmong, contest, IsUnderWay, IsOrderly, nat_tests}
 use Rattle.desk_law.proofs.Contest.{contending, settled, rolled-contending, gone-consistent, freed-keeps, stays-settled, stays-lost, filter-shorter, some-active, shown-victim, shown-none, without, left_over}
 use Rattle.desk_law.proofs.Entries.{among-found, none-found, filter-among, among-filter, new-among}
 use Rattle.desk_law.proofs.GoesOn.{length-replaced, marked-contending}
@@ -36,9 +36,7 @@ asker-left desk entry victim cycle here found other =
 
 -- fewer are left
 pub fewer-left : (desk : Desk) (victim : Entry) (number : ℕ) → entry_with number desk ≡ Some victim → length (rolled_back desk victim).active < length desk.active
-fewer-left desk victim number found =
-    let (at, passes) = among-found (λ (entry : Entry). entry.number == number) desk.active victim found in
-    filter-shorter (λ (other : Entry). not (other.number == victim.number)) desk.active victim at (not_from_true (victim.number == victim.number) (eq-eqb victim.number victim.number refl))
+fewer-left desk victim number found = grind (arith, nat_tests, among-found (λ (entry : Entry). entry.number == number) desk.active victim found, filter-shorter (λ (other : Entry). not (other.number == victim.number)) desk.active victim)
 
 -- Steps enough are steps enough: with more of them a contest comes to the same.
 pub enough : (left right : ℕ) (entry : Entry) (desk : Desk) (counts : Counts) → IsAmong desk.active entry → length desk.active ≤ left → length desk.active ≤ right
@@ -75,21 +73,13 @@ module _ (desk : Desk) (counts : Counts) (entry : Entry) (here : IsAmong desk.ac
 
   -- no cycle is shown: the contest is settled
   pub round-settles : shown_cycle (waits_for desk) (numbers desk) entry.number ≡ None → contest entry.number desk counts ≡ Settled desk counts
-  round-settles shown =
-      let (m, is) = first-step in
-      ap (λ (n : ℕ). breaks_cycles n entry.number (Contested desk counts)) is
-      ∙ ap (λ (cycle : Option (List ℕ)). breaks_cycles m entry.number (breaks_cycle entry.number cycle desk counts)) shown
-      ∙ stays-settled m entry.number desk counts
+  round-settles shown = grind (arith, nat_tests, first-step, stays-settled)
 
   module _ (cycle : List ℕ) (victim : Entry) (shown : shown_cycle (waits_for desk) (numbers desk) entry.number ≡ Some cycle)
       (found : find (λ (other : Entry). other.number == victim_of cycle) desk.active ≡ Some victim) where
     to-victim : (m : ℕ) (lost : Bool) → length desk.active ≡ suc m → (victim_of cycle == entry.number) ≡ lost
         → contest entry.number desk counts ≡ breaks_cycles m entry.number (left_over desk (with_cycle counts cycle) (Some victim) lost)
-    to-victim m lost is e =
-        ap (λ (n : ℕ). breaks_cycles n entry.number (Contested desk counts)) is
-        ∙ ap (λ (cycle : Option (List ℕ)). breaks_cycles m entry.number (breaks_cycle entry.number cycle desk counts)) shown
-        ∙ ap (λ (one : Option Entry). breaks_cycles m entry.number (left_over desk (with_cycle counts cycle) one (victim_of cycle == entry.number))) found
-        ∙ ap (λ (b : Bool). breaks_cycles m entry.number (left_over desk (with_cycle counts cycle) (Some victim) b)) e
+    to-victim m lost is e = grind (arith, nat_tests)
 
     -- another is its victim: one round
     pub round-breaks : (victim_of cycle == entry.number) ≡ false
@@ -104,9 +94,7 @@ module _ (desk : Desk) (counts : Counts) (entry : Entry) (here : IsAmong desk.ac
     -- the one that asks is its victim: it lost
     pub round-loses : (victim_of cycle == entry.number) ≡ true
         → contest entry.number desk counts ≡ Lost (rolled_back desk victim) (with_cycle counts cycle)
-    round-loses it =
-        let (m, is) = first-step in
-        to-victim m true is it ∙ stays-lost m entry.number (rolled_back desk victim) (with_cycle counts cycle)
+    round-loses it = grind (arith, nat_tests, first-step, to-victim, stays-lost)
 
 -- The contest begins with the entry's mark.
 pub asks-contest : (word : Word) (attempt : Attempt) (refused : List ℕ) (holder : ℕ) (holders : List ℕ) (desk : Desk) (counts : Counts)
@@ -142,14 +130,7 @@ round-under_way old desk entry victim cycle is found other =
 
 -- where it is settled the desk is consistent, with the mark on
 pub settled-consistent : (old desk : Desk) (entry : Entry) → IsUnderWay old desk entry → shown_cycle (waits_for desk) (numbers desk) entry.number ≡ None → IsOrderly desk
-settled-consistent old desk entry is shown =
-    settled entry.number desk is.contending
-    (λ steps.
-    false_from_ne_true (leads (waits_for desk) (numbers desk) steps entry.number entry.number)
-    (λ walk.
-    both_ways (leads (waits_for desk) (numbers desk) (length (numbers desk)) entry.number entry.number)
-    (shown-none (waits_for desk) (numbers desk) entry.number shown)
-    (walk-short (waits_for desk) (numbers desk) entry.number entry.number steps (has-number desk.active entry is.here) walk)))
+settled-consistent old desk entry is shown = grind (arith, nat_tests, settled entry.number desk is.contending (λ steps. false_from_ne_true (leads (waits_for desk) (numbers desk) steps entry.number entry.number) (λ walk. both_ways (leads (waits_for desk) (numbers desk) (length (numbers desk)) entry.number entry.number) (shown-none (waits_for desk) (numbers desk) entry.number shown) (walk-short (waits_for desk) (numbers desk) entry.number entry.number steps (has-number desk.active entry is.here) walk))), shown-none (waits_for desk) (numbers desk) entry.number shown, has-number desk.active entry is.here)
 
 -- and where it is lost
 pub lost-consistent : (old desk : Desk) (entry victim : Entry) (cycle : List ℕ) → IsUnderWay old desk entry → entry_with (victim_of cycle) desk ≡ Some victim → (victim_of cycle == entry.number) ≡ true

@@ -1,5 +1,5 @@
 -- All lines as they are now, end to end.
-use Rattle.desk_law.proofs.Common.{Bool, true, false, if◌then◌else◌, ◌≡◌, refl, ℕ, zero, suc, ◌+◌, ◌-◌, ◌*◌, ◌/◌, ◌<◌, ◌≤◌, List, [], ◌++◌, length, take, drop, slice_range, min, Option, Some, None, flat_map, range_with_len, option_map_or, arith, ap, sym, ◌∙◌, inl, inr, length-append, cases_lt, same_number_lists, length-take, length-drop, take_at, line_bytes, Layout, byte_count, FlatStore, IsWhole, line_count, Plain, after, line_in, after-whole, in_line, Desk, Entry, has, laid, bytes_of, writer, current, IsCurrent, current_bytes}
+use Rattle.desk_law.proofs.Common.{Bool, true, false, if◌then◌else◌, ◌≡◌, refl, ℕ, zero, suc, ◌+◌, ◌*◌, ◌/◌, ◌<◌, ◌≤◌, List, [], ◌++◌, length, take, drop, slice_range, Option, Some, None, flat_map, range_with_len, option_map_or, arith, ap, sym, ◌∙◌, length-append, same_number_lists, length-take, length-drop, take_at, line_bytes, Layout, byte_count, FlatStore, IsWhole, line_count, line_in, after-whole, in_line, Desk, Entry, has, laid, bytes_of, writer, current, IsCurrent, current_bytes, nat_tests}
 use Rattle.std.proofs.Math.ListN.{drop_of_length-le}
 use Rattle.std.proofs.Math.Nat.{mul-le-mul_right}
 use Rattle.std.proofs.Math.Seq.{drop-append-add, take-nil}
@@ -7,9 +7,7 @@ use Rattle.line_geometry.proofs.Within.{byte_count-lines, line-bytes-pos}
 
 -- a line of a list of bytes
 line-part : (lb line : ℕ) (xs : List ℕ) → slice_range xs (line * lb) (line * lb + lb) ≡ take lb (drop (line * lb) xs)
-line-part lb line xs =
-    let width : line * lb + lb - line * lb ≡ lb = omega arith in
-    ap (λ (n : ℕ). take n (drop (line * lb) xs)) width
+line-part lb line xs = grind (arith, nat_tests)
 
 -- the length of pieces of one length
 pieces-long : (lb : ℕ) (f : ℕ → List ℕ) (low n : ℕ) → ((line : ℕ) → low ≤ line → line < low + n → length (f line) ≡ lb) → length (flat_map f (range_with_len low n)) ≡ n * lb
@@ -23,12 +21,7 @@ pieces-long lb f low (suc n) each =
 piece-at : (lb : ℕ) (f : ℕ → List ℕ) (low n k : ℕ) → ((line : ℕ) → low ≤ line → line < low + n → length (f line) ≡ lb) → k < n
     → take lb (drop (k * lb) (flat_map f (range_with_len low n))) ≡ f (low + k)
 piece-at lb f low zero k each below = absurd (omega (arith, below))
-piece-at lb f low (suc n) zero each below =
-    let none : 0 * lb ≡ 0 = omega arith in
-    let here : low + 0 ≡ low = omega arith in
-    ap (λ (m : ℕ). take lb (drop m (f low ++ flat_map f (range_with_len (low + 1) n)))) none
-    ∙ take_at (f low) (flat_map f (range_with_len (low + 1) n)) lb (each low (omega arith) (omega arith))
-    ∙ ap f (sym here)
+piece-at lb f low (suc n) zero each below = grind (arith, nat_tests, take_at)
 piece-at lb f low (suc n) (suc k) each below =
     let long : length (f low) ≡ lb = each low (omega arith) (omega arith) in
     let place : suc k * lb ≡ length (f low) + k * lb = omega (arith, long) in
@@ -40,56 +33,24 @@ piece-at lb f low (suc n) (suc k) each below =
 
 -- a line within has all its bytes, and one beyond has none
 line-long : (d : Layout) (xs : List ℕ) (line : ℕ) → length xs ≡ byte_count d → line < line_count d → length (line_in d xs line) ≡ line_bytes d.page
-line-long d xs line whole below =
-    let fits : suc line * line_bytes d.page ≤ line_count d * line_bytes d.page = mul-le-mul_right (line_bytes d.page) (omega (arith, below)) in
-    ap (λ (part : List ℕ). length part) (line-part (line_bytes d.page) line xs)
-    ∙ length-take (line_bytes d.page) (drop (line * line_bytes d.page) xs)
-    ∙ ap (min (line_bytes d.page)) (length-drop (line * line_bytes d.page) xs)
-    ∙ omega (arith, fits, whole, byte_count-lines d)
+line-long d xs line whole below = grind (arith, nat_tests, mul-le-mul_right, line-part, length-take, length-drop, byte_count-lines)
 
 line-beyond : (d : Layout) (xs : List ℕ) (line : ℕ) → length xs ≡ byte_count d → line_count d ≤ line → line_in d xs line ≡ []
-line-beyond d xs line whole beyond =
-    let fits : line_count d * line_bytes d.page ≤ line * line_bytes d.page = mul-le-mul_right (line_bytes d.page) beyond in
-    line-part (line_bytes d.page) line xs
-    ∙ ap (take (line_bytes d.page)) (drop_of_length-le xs (omega (arith, fits, whole, byte_count-lines d)))
-    ∙ take-nil (line_bytes d.page)
+line-beyond d xs line whole beyond = grind (arith, nat_tests, mul-le-mul_right, line-part, drop_of_length-le, byte_count-lines, take-nil)
 
 -- whoever wrote a line has a whole store
 writer-whole : (store : FlatStore) (one : Option Entry) → IsWhole store → length (option_map_or (bytes_of store) one store.bytes) ≡ byte_count store.directory
 writer-whole store None whole = whole
-writer-whole store (Some entry) whole = by_state (after entry.runs.program entry.runs.args store entry.rows) refl
-  where
-    by_state : (state : Option Plain) → after entry.runs.program entry.runs.args store entry.rows ≡ state
-        → length (option_map_or (λ (state : Plain). state.store) state store.bytes) ≡ byte_count store.directory
-    by_state None at = whole
-    by_state (Some state) at = after-whole entry.runs.program entry.runs.args store entry.rows state whole at
+writer-whole store (Some entry) whole = grind (arith, nat_tests, after-whole)
 
 -- pieces that are lines, end to end
 pub lines-joined : (d : Layout) (f : ℕ → List ℕ) → ((line : ℕ) → line < line_count d → length (f line) ≡ line_bytes d.page) → ((line : ℕ) → line_count d ≤ line → f line ≡ [])
     → (length (flat_map f (range_with_len 0 (line_count d))) ≡ byte_count d) × ((line : ℕ) → line_in d (flat_map f (range_with_len 0 (line_count d))) line ≡ f line)
-lines-joined d f full none = (
-  long,
-  λ line. elim (cases_lt line (line_count d)) [
-    | inl below ↦
-        let here : 0 + line ≡ line = omega arith in
-        line-part (line_bytes d.page) line (flat_map f (range_with_len 0 (line_count d)))
-        ∙ piece-at (line_bytes d.page) f 0 (line_count d) line each below
-        ∙ ap f here
-    | inr beyond ↦ line-beyond d (flat_map f (range_with_len 0 (line_count d))) line long beyond ∙ sym (none line beyond)
-  ],
-)
-  where
-    each : (line : ℕ) → 0 ≤ line → line < 0 + line_count d → length (f line) ≡ line_bytes d.page
-    each line above below = full line (omega (arith, below))
-
-    long : length (flat_map f (range_with_len 0 (line_count d))) ≡ byte_count d
-    long = pieces-long (line_bytes d.page) f 0 (line_count d) each ∙ sym (byte_count-lines d)
+lines-joined d f full none = grind (arith, nat_tests, line-part, piece-at, line-beyond, pieces-long, byte_count-lines)
 
 -- bytes of a store that have the same lines are the same
 pub same-lines : (d : Layout) (bytes other : List ℕ) → length bytes ≡ byte_count d → length other ≡ byte_count d → ((line : ℕ) → line_in d bytes line ≡ line_in d other line) → bytes ≡ other
-same-lines d bytes other long also same =
-    same_number_lists bytes other (long ∙ sym also)
-    (λ k below. in_line (line_bytes d.page) (k / line_bytes d.page) k bytes other refl (line-bytes-pos d) (same (k / line_bytes d.page)))
+same-lines d bytes other long also same = grind (arith, nat_tests, same_number_lists bytes other (long ∙ sym also) (λ k below. in_line (line_bytes d.page) (k / line_bytes d.page) k bytes other refl (line-bytes-pos d) (same (k / line_bytes d.page))), line-bytes-pos d)
 
 pub bytes-current : (desk : Desk) → IsWhole desk.committed → IsCurrent desk.committed desk.active (current_bytes desk)
 bytes-current desk whole =

@@ -1,5 +1,5 @@
 -- The laws of the bytes as they are now.
-use Rattle.desk_law.proofs.Common.{◌≡◌, refl, ℕ, ◌+◌, if◌then◌else◌, Bool, true, false, List, [], ◌++◌, Some, arith, ap, sym, ◌∙◌, has, size, Plain, On, row, after, line_in, Desk, Entry, with_entry, rolled_back, wanted, held, conflicts_of, FlatStore, IsWhole, gone_on, IsAmong, AreConsistent, current, current_bytes, touched_of}
+use Rattle.desk_law.proofs.Common.{◌≡◌, refl, ℕ, ◌+◌, if◌then◌else◌, Bool, true, false, List, [], ◌++◌, Some, arith, ap, ◌∙◌, has, size, Plain, On, row, after, line_in, Desk, Entry, with_entry, rolled_back, wanted, held, conflicts_of, FlatStore, IsWhole, gone_on, IsAmong, AreConsistent, current, current_bytes, touched_of, nat_tests}
 use Rattle.desk_law.specs.CurrentLaws.{OneListIsCurrent, HoldersSeeCurrent, RowsChangeTheirLines, RowsRunOnCurrent, CommitsChangeNoLine, RollbacksGiveBack, CommitsLeaveOthers}
 use Rattle.desk_law.proofs.Entries.{replaced}
 use Rattle.desk_law.proofs.Others.{another-same, after-row}
@@ -10,13 +10,7 @@ use Rattle.desk_law.proofs.SharedBytes.{RunsOn, row-on-current}
 
 -- entries that have written fewer lines than a number have written fewer than a greater one
 pub more-lines : (store : FlatStore) (most more next : ℕ) (entries : List Entry) → AreConsistent store most next entries → AreConsistent store (most + more) next entries
-more-lines store most more next entries are = record {
-  ascend = are.ascend;
-  live = λ entry among.
-      let live = are.live entry among in
-      record { state = live.state; is = live.is; few = omega (arith, live.few); present = live.present };
-  apart = are.apart;
-}
+more-lines store most more next entries are = grind (arith, nat_tests)
 
 -- a row of an entry, whose mark may be another one than it has
 module _ (desk : Desk) (most : ℕ) (entry : Entry) (mark : Bool) (now next : Plain) (whole : IsWhole desk.committed)
@@ -59,8 +53,7 @@ one-list-is-current desk is = (
 )
 
 pub holders-see-current : HoldersSeeCurrent
-holders-see-current desk entry state line is here at holds =
-    sym (current-held desk.committed desk.most_lines desk.next desk.active is.active entry state line is.whole here at holds)
+holders-see-current desk entry state line is here at holds = grind (arith, nat_tests, current-held desk.committed desk.most_lines desk.next desk.active is.active entry state line is.whole here)
 
 pub rows-change-their-lines : RowsChangeTheirLines
 rows-change-their-lines desk entry now next line is here at went none = row-changes desk desk.most_lines entry entry.waiting now next is.whole is.active here at went none line
@@ -80,6 +73,4 @@ rollbacks-give-back desk entry line is here = by_written (has (held desk entry).
     by_written false e = rollback-others desk.committed desk.most_lines desk.next desk.active entry line is.active here e
 
 pub commits-leave-others : CommitsLeaveOthers
-commits-leave-others desk entry other now state is here there differ at also =
-    let apart = is.active.apart other entry there here differ in
-    another-same desk.committed entry other now state is.whole at also (record { first_writes = apart.second_writes; second_writes = apart.first_writes })
+commits-leave-others desk entry other now state is here there differ at also = grind (arith, nat_tests, another-same desk.committed entry other now state is.whole)

@@ -1,5 +1,5 @@
 -- What an entry's row, its commit and its rollback do to the lines as they are now.
-use Rattle.desk_law.proofs.Common.{◌≡◌, refl, ℕ, suc, ◌+◌, ◌==◌, ◌||◌, ◌⊎◌, not, if◌then◌else◌, Bool, true, false, List, [], ◌∷◌, length, find, Option, Some, None, option_map_or, arith, ap, sym, ◌∙◌, subst, inl, inr, eqb-true, eq-eqb, both_ways, or_from, or_left, or_right, cases_Bool, not_from_false, not-true, false_from_ne_true, Layout, byte_count, FlatStore, IsWhole, has, Lines, has-append, has_right, Plain, Plan, Does, Fails, Program, Outcome, On, plan_at, row, touched, touched_by, after, touched_within, touched_next, line_in, AgreeBut, all_of, DoesTheSame, after-whole, after-kept, on, Keeps, Steps, lines_of_plan, row-steps, Entry, gone_on, left_by, IsAmong, due_to, AreConsistent, bytes_of, writer, current_of, touched_of}
+use Rattle.desk_law.proofs.Common.{◌≡◌, refl, ℕ, ◌+◌, ◌==◌, ◌||◌, ◌⊎◌, not, Bool, true, false, List, [], ◌∷◌, length, find, Option, Some, None, option_map_or, arith, ap, sym, ◌∙◌, inl, inr, eqb-true, eq-eqb, both_ways, or_from, or_left, or_right, cases_Bool, not_from_false, not-true, false_from_ne_true, Layout, byte_count, FlatStore, IsWhole, has, Lines, has-append, has_right, Plain, Program, On, plan_at, row, touched, after, touched_next, line_in, AgreeBut, all_of, DoesTheSame, after-whole, after-kept, on, lines_of_plan, row-steps, Entry, gone_on, left_by, IsAmong, due_to, AreConsistent, writer, current_of, touched_of, nat_tests}
 use Rattle.desk_law.proofs.Entries.{among-found, none-found, among-filter, filter-among, among-replaced, replaced-among, new-among, replaced, one-entry}
 use Rattle.desk_law.proofs.Others.{others, another-same, commit-leaves, rollback-leaves}
 use Rattle.desk_law.proofs.GoesOn.{apart-turned}
@@ -7,37 +7,17 @@ use Rattle.desk_law.proofs.GoesOn.{apart-turned}
 -- where none passes, none is found
 none-passes : (test : Entry → Bool) (entries : List Entry) → ((entry : Entry) → IsAmong entries entry → test entry ≡ false) → find test entries ≡ None
 none-passes test [] none = refl
-none-passes test (one ∷ entries) none = by_test (test one) (none one (inl refl)) (none-passes test entries (λ entry among. none entry (inr among)))
-  where
-    by_test : (passes : Bool) → passes ≡ false → find test entries ≡ None → (if passes then Some one else find test entries) ≡ None
-    by_test true e rest = absurd (cc)
-    by_test false e rest = rest
+none-passes test (one ∷ entries) none = grind (arith, nat_tests, none-passes test entries (λ entry among. none entry (inr among)))
 
 -- a row that goes on leaves the lines that it doesn't write
 pub row-kept : (p : Program) (d : Layout) (s next : Plain) → length s.store ≡ byte_count d → row p d s ≡ On next
     → AgreeBut d (touched p d s).writes s.store next.store
-row-kept p d s next whole went line out =
-    let (other, second, keeps) = stepped in keeps.kept line (sym (ap (λ (l : Lines). has l.writes line) lines) ∙ out)
-  where
-    by_plan : (plan : Plan) → touched_by p d (On next) plan ≡ lines_of_plan p d plan
-    by_plan (Does registers status act address link) = refl
-    by_plan (Fails code) = refl
-
-    lines : touched p d s ≡ lines_of_plan p d (plan_at s)
-    lines = ap (λ (outcome : Outcome). touched_by p d outcome (plan_at s)) went ∙ by_plan (plan_at s)
-
-    stepped : (other : List ℕ) × (row p d (on s s.store) ≡ On (on next other)) × Keeps d (lines_of_plan p d (plan_at s)).writes s.store s.store next.store other
-    stepped =
-        subst (λ (outcome : Outcome). Steps d (lines_of_plan p d (plan_at s)) s s.store outcome (row p d (on s s.store))) went
-        (row-steps p d s s.store whole refl (λ line inside. refl))
+row-kept p d s next whole went line out = grind (arith, nat_tests, lines_of_plan p d (plan_at s), on s s.store, row-steps p d s s.store whole refl (λ line inside. refl))
 
 -- the lines written after a row more
 pub within-more : (store : FlatStore) (entry : Entry) (line : ℕ)
     → has (touched_of store (gone_on entry)).writes line ≡ (has (touched_of store entry).writes line || has (touched_next entry.runs.program entry.runs.args store entry.rows).writes line)
-within-more store entry line =
-    let more : entry.rows + 1 ≡ suc entry.rows = omega arith in
-    ap (λ (rows : ℕ). has (touched_within entry.runs.program entry.runs.args store rows).writes line) more
-    ∙ has-append (touched_of store entry).writes (touched_next entry.runs.program entry.runs.args store entry.rows).writes line
+within-more store entry line = grind (arith, nat_tests, has-append)
 
 module _ (store : FlatStore) (most_lines next : ℕ) (entries : List Entry) (are : AreConsistent store most_lines next entries) where
   -- one that wrote a line holds it
@@ -64,15 +44,11 @@ module _ (store : FlatStore) (most_lines next : ℕ) (entries : List Entry) (are
 
   pub current-written : (entry : Entry) (state : Plain) (line : ℕ) → IsAmong entries entry → after entry.runs.program entry.runs.args store entry.rows ≡ Some state
       → has (touched_of store entry).writes line ≡ true → current_of store entries line ≡ line_in store.directory state.store line
-  current-written entry state line here is wrote =
-      ap (λ (one : Option Entry). line_in store.directory (option_map_or (bytes_of store) one store.bytes) line) (writer-is entry line here wrote)
-      ∙ ap (λ (one : Option Plain). line_in store.directory (option_map_or (λ (state : Plain). state.store) one store.bytes) line) is
+  current-written entry state line here is wrote = grind (arith, nat_tests, writer-is)
 
   pub current-unwritten : (line : ℕ) → ((entry : Entry) → IsAmong entries entry → has (touched_of store entry).writes line ≡ false)
       → current_of store entries line ≡ line_in store.directory store.bytes line
-  current-unwritten line none =
-      ap (λ (one : Option Entry). line_in store.directory (option_map_or (bytes_of store) one store.bytes) line)
-      (none-passes (λ (one : Entry). has (touched_of store one).writes line) entries none)
+  current-unwritten line none = grind (arith, nat_tests, none-passes)
 
   -- (a) an active entry sees what it holds as it is now
   pub current-held : (entry : Entry) (state : Plain) (line : ℕ) → IsWhole store → IsAmong entries entry → after entry.runs.program entry.runs.args store entry.rows ≡ Some state

@@ -1,5 +1,5 @@
 -- The members of a shown cycle wait for each other.
-use Rattle.desk_law.proofs.Common.{◌≡◌, refl, ℕ, zero, suc, ◌==◌, ◌&&◌, if◌then◌else◌, Bool, true, false, List, [], ◌∷◌, ◌++◌, length, find, Option, Some, None, option_map_or, ap, sym, subst, and_parts, leads, next_shown, shown_after, shown_cycle, victim_of, found-passes, Desk, Entry, numbers, waits_for, Counts, EachWaits, contest_counts, BrokenCyclesWere}
+use Rattle.desk_law.proofs.Common.{◌≡◌, refl, ℕ, zero, suc, ◌==◌, ◌&&◌, if◌then◌else◌, Bool, true, false, List, [], ◌∷◌, length, Option, Some, None, option_map_or, and_parts, leads, next_shown, shown_after, shown_cycle, found-passes, Desk, Entry, Counts, EachWaits, contest_counts, BrokenCyclesWere, nat_tests, arith}
 use Rattle.desk_law.proofs.Contest.{left_over}
 
 after-waits : (waits : ℕ → ℕ → Bool) (all : List ℕ) (steps first last : ℕ) → EachWaits waits (last ∷ shown_after waits all steps first last)
@@ -22,27 +22,11 @@ after-waits waits all (suc steps) first last = by_next (next_shown waits all fir
 -- a cycle begins with its number, and each member waits for the next
 shown-waits : (waits : ℕ → ℕ → Bool) (all : List ℕ) (first : ℕ) (cycle : List ℕ) → shown_cycle waits all first ≡ Some cycle
     → ((rest : List ℕ) × (cycle ≡ first ∷ rest)) × EachWaits waits cycle
-shown-waits waits all first cycle is = by_test (leads waits all (length all) first first) is
-  where
-    by_test : (round : Bool) → (if round then Some (first ∷ shown_after waits all (length all) first first) else None) ≡ Some cycle
-        → ((rest : List ℕ) × (cycle ≡ first ∷ rest)) × EachWaits waits cycle
-    by_test true is =
-        let it : first ∷ shown_after waits all (length all) first first ≡ cycle = cc in
-        ((shown_after waits all (length all) first first, sym it), subst (EachWaits waits) it (after-waits waits all (length all) first first))
-    by_test false is = absurd (cc)
+shown-waits waits all first cycle is = grind (arith, nat_tests, after-waits)
 
 left-counts : (desk : Desk) (counts : Counts) (victim : Option Entry) (lost : Bool) → contest_counts (left_over desk counts victim lost) ≡ counts
 left-counts desk counts victim true = refl
 left-counts desk counts victim false = refl
 
 pub broken-cycles-were : BrokenCyclesWere
-broken-cycles-were number desk counts = (
-  λ cycle is.
-      let shown = shown-waits (waits_for desk) (numbers desk) number cycle is in (
-        ap (λ (c : Counts). c.cycles)
-            (left-counts desk (record counts { cycles = counts.cycles ++ cycle ∷ [] }) (find (λ (entry : Entry). entry.number == victim_of cycle) desk.active) (victim_of cycle == number)),
-        shown.0,
-        shown.1,
-      ),
-  refl,
-)
+broken-cycles-were number desk counts = grind (arith, nat_tests, shown-waits, left-counts)

@@ -1,5 +1,5 @@
 -- A shown cycle closes, where only the waits of its number close one.
-use Rattle.desk_law.proofs.Common.{◌≡◌, refl, ℕ, zero, suc, ◌<◌, ◌≤◌, ◌==◌, ◌&&◌, ◌||◌, not, if◌then◌else◌, Bool, true, false, List, [], ◌∷◌, ◌++◌, length, filter, find, Option, Some, None, option_map_or, arith, ap, sym, ◌∙◌, subst, inl, inr, eqb-true, both_ways, and_parts, and_from, cases_Bool, not_from_false, cases_lt, none-some, has, leads, next_shown, shown_after, shown_cycle, victim_of, found-has, found-passes, has-filter, Desk, Entry, with_entry, rolled_back, numbers, waits_for, Counts, Contested, Settled, Lost, breaks_cycle, breaks_cycles, IsAmong, HasNoCycle, EndsWith, ContestedCyclesClose, except, IsContending}
+use Rattle.desk_law.proofs.Common.{◌≡◌, refl, ℕ, zero, suc, ◌<◌, ◌≤◌, ◌==◌, ◌&&◌, ◌||◌, not, if◌then◌else◌, Bool, true, false, List, [], ◌∷◌, ◌++◌, length, filter, find, Option, Some, None, option_map_or, arith, ap, sym, ◌∙◌, inl, inr, eqb-true, both_ways, and_parts, and_from, cases_Bool, not_from_false, none-some, has, leads, next_shown, shown_after, shown_cycle, victim_of, found-has, found-passes, has-filter, Desk, Entry, with_entry, rolled_back, numbers, waits_for, Counts, Contested, Settled, Lost, breaks_cycle, breaks_cycles, IsAmong, HasNoCycle, EndsWith, ContestedCyclesClose, except, IsContending, nat_tests}
 use Rattle.desk_law.proofs.Entries.{new-among}
 use Rattle.desk_law.proofs.Orderly.{orderly}
 use Rattle.desk_law.proofs.Walks.{first-step, one-step, leads-more, walk-short, all-pass}
@@ -97,50 +97,16 @@ module _ (waits : ℕ → ℕ → Bool) (all : List ℕ) (first : ℕ) (none : H
 
   -- and from the first on
   pub first-closes : (steps : ℕ) → length all ≡ steps → EndsWith first (first ∷ shown_after waits all steps first first)
-  first-closes zero few = absurd (empty all few here)
-    where
-      empty : (xs : List ℕ) → length xs ≡ 0 → has xs first ≡ true → ⊥
-      empty [] few inside = cc
-      empty (x ∷ xs) few inside = omega (arith, few)
-  first-closes (suc steps) few = by_next (next_shown waits all first first) refl
-    where
-      -- a member isn't among those to which it leads
-      fewer : (next : ℕ) → has all next ≡ true → length (filter (reached (except first waits) all next) all) ≤ steps
-      fewer next in_all = elim (cases_lt (length (filter (reached (except first waits) all next) all)) (length all)) [
-        | inl less ↦ omega (arith, less, few)
-        | inr full ↦ absurd (both_ways (reached (except first waits) all next next) (none (length all) next) (all-pass (reached (except first waits) all next) all full next in_all))
-      ]
-
-      by_next : (next : Option ℕ) → next_shown waits all first first ≡ next
-          → EndsWith first (first ∷ option_map_or (λ next. next ∷ (if next == first then [] else shown_after waits all steps first next)) next [])
-      by_next None is =
-          let (next, found) = next-there first round in
-          absurd (none-some next (sym is ∙ found))
-      by_next (Some next) is =
-          let parts = and_parts (waits first next) (leads waits all (length all) next first) (found-passes (λ next. waits first next && leads waits all (length all) next first) all next is) in
-          let in_all : has all next ≡ true = found-has (λ next. waits first next && leads waits all (length all) next first) all next is in
-          by_round (next == first) refl (λ away. after-closes steps next in_all away parts.1 (fewer next in_all))
-        where
-          by_round : (closes : Bool) → (next == first) ≡ closes → ((next == first) ≡ false → EndsWith first (next ∷ shown_after waits all steps first next))
-              → EndsWith first (next ∷ (if closes then [] else shown_after waits all steps first next))
-          by_round true e rest = eqb-true next first e
-          by_round false e rest = rest e
+  first-closes zero few = grind (arith, nat_tests)
+  first-closes (suc steps) few = grind (arith, nat_tests, reached, all-pass, next-there, found-passes, found-has, after-closes)
 
 shown-closes : (waits : ℕ → ℕ → Bool) (all : List ℕ) (first : ℕ) (cycle : List ℕ) → HasNoCycle (except first waits) all → has all first ≡ true → shown_cycle waits all first ≡ Some cycle → EndsWith first cycle
-shown-closes waits all first cycle none here is = by_test (leads waits all (length all) first first) refl is
-  where
-    by_test : (round : Bool) → leads waits all (length all) first first ≡ round → (if round then Some (first ∷ shown_after waits all (length all) first first) else None) ≡ Some cycle → EndsWith first cycle
-    by_test true e is =
-        let it : first ∷ shown_after waits all (length all) first first ≡ cycle = cc in
-        subst (EndsWith first) it (first-closes waits all first none here e (length all) refl)
-    by_test false e is = absurd (cc)
+shown-closes waits all first cycle none here is = grind (arith, nat_tests, first-closes)
 
 -- every round of a contest leaves only cycles by waits of who asks
 contest-rounds : (rounds : ℕ) (entry : Entry) (desk met : Desk) (counts counted : Counts) → IsContending entry.number desk → IsAmong desk.active entry
     → breaks_cycles rounds entry.number (Contested desk counts) ≡ Contested met counted → IsContending entry.number met × IsAmong met.active entry
-contest-rounds zero entry desk met counts counted is here comes =
-    let same : desk ≡ met = cc in
-    subst (λ (d : Desk). IsContending entry.number d × IsAmong d.active entry) same (is, here)
+contest-rounds zero entry desk met counts counted is here comes = grind (arith, nat_tests)
 contest-rounds (suc rounds) entry desk met counts counted is here comes =
     by_cycle (shown_cycle (waits_for desk) (numbers desk) entry.number) refl comes
     (λ next more contends there later. contest-rounds rounds entry next met more counted contends there later)

@@ -1,5 +1,5 @@
 -- Authority once each of some pages has the one that is told of it.
-use Rattle.desk_law.proofs.Common.{◌≡◌, refl, ℕ, ◌<◌, ◌==◌, ◌⊎◌, suc, Bool, true, false, List, [], ◌∷◌, length, slice_index_or, slice_set, arith, ap, sym, ◌∙◌, subst, inl, inr, eqb-true, eq-eqb, both_ways, or_cases, or_parts, cases_Bool, cases_lt, length-set, get_or-set_same, get_or-set_other, get_or_past, has, Authority, nobody, with_each}
+use Rattle.desk_law.proofs.Common.{◌≡◌, refl, ℕ, ◌<◌, ◌==◌, ◌⊎◌, suc, true, false, List, [], ◌∷◌, length, slice_index_or, slice_set, arith, sym, ◌∙◌, subst, inl, inr, eqb-true, eq-eqb, both_ways, or_cases, or_parts, cases_Bool, length-set, get_or-set_same, get_or-set_other, get_or_past, has, Authority, nobody, with_each, nat_tests}
 
 pub length-each : (of : ℕ → Authority) (pages : List ℕ) (authority : List Authority) → length (with_each of pages authority) ≡ length authority
 length-each of [] authority = refl
@@ -35,21 +35,12 @@ pub each-at : (of : ℕ → Authority) (pages : List ℕ) (authority : List Auth
     → (has pages page ≡ true × (slice_index_or (with_each of pages authority) page nobody ≡ of page))
     ⊎ (has pages page ≡ false × (slice_index_or (with_each of pages authority) page nobody ≡ slice_index_or authority page nobody)
     ⊎ (slice_index_or (with_each of pages authority) page nobody ≡ nobody))
-each-at of pages authority page =
-    elim (cases_Bool (has pages page)) [
-      | inr out ↦ inr (inl (out, each-not of pages authority page out))
-      | inl inside ↦
-          elim (cases_lt page (length authority)) [
-            | inl below ↦ inl (inside, each-is of pages authority page below inside)
-            | inr past ↦ inr (inr (get_or_past (with_each of pages authority) page nobody (omega (arith, past, length-each of pages authority))))
-          ]
-    ]
+each-at of pages authority page = grind (arith, nat_tests, each-not, each-is, get_or_past, length-each)
 
 pub each-same : (of other : ℕ → Authority) (pages : List ℕ) (authority : List Authority) → ((page : ℕ) → of page ≡ other page)
     → with_each of pages authority ≡ with_each other pages authority
 each-same of other [] authority same = refl
-each-same of other (page ∷ pages) authority same =
-    ap (λ (one : Authority). with_each of pages (slice_set authority page one)) (same page) ∙ each-same of other pages (slice_set authority page (other page)) same
+each-same of other (page ∷ pages) authority same = grind (arith, nat_tests, each-same of other pages (slice_set authority page (other page)) same)
 
 list-same : (xs ys : List Authority) → length xs ≡ length ys → ((i : ℕ) → i < length xs → slice_index_or xs i nobody ≡ slice_index_or ys i nobody) → xs ≡ ys
 list-same [] [] long same = refl
@@ -61,11 +52,4 @@ list-same (x ∷ xs) (y ∷ ys) long same =
 -- Which pages they are is all that counts, and not their order.
 pub each-alike : (of : ℕ → Authority) (xs ys : List ℕ) (authority : List Authority) → ((page : ℕ) → has xs page ≡ has ys page)
     → with_each of xs authority ≡ with_each of ys authority
-each-alike of xs ys authority same =
-    list-same (with_each of xs authority) (with_each of ys authority) (length-each of xs authority ∙ sym (length-each of ys authority))
-    (λ page below. by_test page (omega (arith, below, length-each of xs authority)) (has xs page) refl)
-  where
-    by_test : (page : ℕ) → page < length authority → (inside : Bool) → has xs page ≡ inside
-        → slice_index_or (with_each of xs authority) page nobody ≡ slice_index_or (with_each of ys authority) page nobody
-    by_test page below true e = each-is of xs authority page below e ∙ sym (each-is of ys authority page below (sym (same page) ∙ e))
-    by_test page below false e = each-not of xs authority page e ∙ sym (each-not of ys authority page (sym (same page) ∙ e))
+each-alike of xs ys authority same = grind (arith, nat_tests, list-same, length-each, each-is, each-not)

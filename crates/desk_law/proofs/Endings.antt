@@ -1,5 +1,5 @@
 -- A commit, a begin and a crash leave the desk consistent.
-use Rattle.desk_law.proofs.Common.{Some, ◌≡◌, refl, ℕ, zero, suc, ◌+◌, ◌<◌, ◌==◌, not, Bool, true, false, List, [], ◌∷◌, ◌++◌, length, map, replicate, slice_index_or, Option, None, option_map_or, arith, ap, sym, ◌∙◌, subst, inl, inr, eqb-true, ne_eqb, both_ways, and_parts, and_from, or_from, and_right, not-true, false_from_ne_true, page_count, is_fine_page, FlatStore, IsWhole, has, meets, Lines, no_lines, conflicts, both, with_whole_pages, append-nil, leads, Plain, start, after, Outcome, Commit, plan_at, row, touched, touched_by, after-whole, Desk, Entry, Authority, nobody, opened, rolled_back, wanted, request, conflicts_with, numbers, waits_for, Attempt, lowered, locks_with, absent_segment, committed_at, gone_on, left_by, IsAmong, Ascend, due_to, IsLive, AreApart, AreConsistent, IsCovered, IsOwned, IsHeld, IsOrderly, except, touched_of}
+use Rattle.desk_law.proofs.Common.{Some, ◌≡◌, refl, ℕ, zero, suc, ◌+◌, ◌<◌, ◌==◌, not, Bool, true, false, List, [], ◌∷◌, ◌++◌, length, map, replicate, slice_index_or, None, arith, ap, sym, ◌∙◌, subst, inl, inr, eqb-true, ne_eqb, both_ways, and_parts, and_from, or_from, and_right, not-true, false_from_ne_true, page_count, is_fine_page, FlatStore, IsWhole, has, meets, Lines, no_lines, conflicts, both, with_whole_pages, append-nil, leads, Plain, start, after, Commit, row, after-whole, Desk, Entry, Authority, nobody, opened, rolled_back, wanted, request, conflicts_with, numbers, waits_for, Attempt, lowered, locks_with, absent_segment, committed_at, gone_on, left_by, IsAmong, Ascend, due_to, IsLive, AreApart, AreConsistent, IsCovered, IsOwned, IsHeld, IsOrderly, except, touched_of, nat_tests}
 use Rattle.flat_machine.specs.Serial.{Activation}
 use Rattle.desk_law.proofs.Entries.{among-filter, among-push, push-among, ascend-push, between, one-entry, among-replaced, replaced-among, new-among, replaced, filter-short}
 use Rattle.desk_law.proofs.Walks.{no-cycle-fewer, no-cycle-leaves, first-step, one-step}
@@ -62,9 +62,7 @@ granted-commits desk attempt is =
 -- the commit call touches nothing
 pub wanted-commit : (desk : Desk) (entry : Entry) (now : Plain) → after entry.runs.program entry.runs.args desk.committed entry.rows ≡ Some now
     → row entry.runs.program desk.committed.directory now ≡ Commit → wanted desk entry ≡ no_lines
-wanted-commit desk entry now at is =
-    ap (λ (state : Option Plain). option_map_or (touched entry.runs.program desk.committed.directory) state no_lines) at
-    ∙ ap (λ (outcome : Outcome). touched_by entry.runs.program desk.committed.directory outcome (plan_at now)) is
+wanted-commit desk entry now at is = grind (arith, nat_tests)
 
 -- a commit that isn't done leaves entries and authority
 pub granted-closes : (desk : Desk) (attempt : Attempt) → IsGranted attempt desk → attempt.outcome ≡ Commit → IsOrderly desk

@@ -1,5 +1,5 @@
 -- Who ends in a turn: victims, and the turn's own activation.
-use Rattle.desk_law.proofs.Common.{◌≡◌, refl, ℕ, zero, suc, ◌+◌, ◌==◌, ◌⊎◌, not, Bool, true, false, List, [], ◌∷◌, ◌++◌, length, map, filter, find, Option, Some, None, ap, sym, ◌∙◌, subst, inl, inr, eqb-true, eq-eqb, or_cases, or_left, or_right, not_from_false, cases_Bool, has, shown_cycle, victim_of, Plain, Outcome, On, Commit, Check, row, after, Desk, Entry, with_entry, wanted, conflicts_of, numbers, waits_for, Word, Fine, ReadFailed, Unwritten, Doubt, Failed, Counts, Turning, Going, Over, Limit, Attempt, Fetching, Fetched, Broken, Contest, Contested, Settled, Lost, attempts, attempts_at, instruction, turns, turn_of, no_counts, limited, is_over_limit, fetched_first, fetches_touched, asks, gets, goes_on, takes_effect, commits, contest_ends, waits_or_gets, with_grants, refused_pages, breaks_cycle, breaks_cycles, gone_on, turn_desk, turn_counts, ends_own, IsAccounted, EndsHaveCauses}
+use Rattle.desk_law.proofs.Common.{◌≡◌, refl, ℕ, zero, suc, ◌+◌, ◌==◌, ◌⊎◌, not, Bool, true, false, List, [], ◌∷◌, ◌++◌, length, map, filter, find, Option, Some, None, ap, sym, ◌∙◌, subst, inl, inr, eqb-true, eq-eqb, or_cases, or_left, or_right, not_from_false, cases_Bool, has, shown_cycle, victim_of, Plain, Outcome, On, Commit, Check, row, after, Desk, Entry, with_entry, wanted, conflicts_of, numbers, waits_for, Word, Fine, ReadFailed, Unwritten, Doubt, Failed, Counts, Turning, Going, Over, Attempt, Fetching, Fetched, Broken, Contest, Contested, Settled, Lost, attempts, attempts_at, instruction, turns, limited, is_over_limit, fetched_first, fetches_touched, asks, gets, goes_on, takes_effect, commits, contest_ends, waits_or_gets, with_grants, refused_pages, breaks_cycle, breaks_cycles, gone_on, turn_desk, turn_counts, ends_own, IsAccounted, EndsHaveCauses, nat_tests, arith}
 use Rattle.desk_law.proofs.Entries.{among-found, filter-among, numbers-replaced}
 use Rattle.desk_law.proofs.Waiting.{number-of, has-number}
 use Rattle.desk_law.proofs.Contest.{breaks-keep, left_over, without}
@@ -101,10 +101,7 @@ module _ (word : Word) (attempt : Attempt) (before : List ℕ) where
   acc-commit Failed desk counts kept = own-ended before attempt.entry.number desk counts (commits Failed attempt desk counts) kept refl refl refl
 
   acc-effect : (desk : Desk) (counts : Counts) (outcome : Outcome) → AreKept before desk counts → AreAccounted before attempt.entry.number (takes_effect word attempt outcome desk counts)
-  acc-effect desk counts (On next) kept = λ other inside. elim (kept other inside) [
-    | inl there ↦ inl (ap (λ (these : List ℕ). has these other) (numbers-replaced (gone_on attempt.entry) desk.active) ∙ there)
-    | inr lost ↦ inr (inl lost)
-  ]
+  acc-effect desk counts (On next) kept = grind (arith, nat_tests, numbers-replaced (gone_on attempt.entry) desk.active)
   acc-effect desk counts Commit kept = acc-commit word desk counts kept
   acc-effect desk counts (Check code) kept = own-ended before attempt.entry.number desk counts (takes_effect word attempt (Check code) desk counts) kept refl refl refl
 
@@ -155,10 +152,7 @@ module _ (word : Word) (attempt : Attempt) (before : List ℕ) where
 acc-instruction : (word : Word) (before : List ℕ) (number : ℕ) (one : Option Entry) (desk : Desk) (counts : Counts) → find (λ (entry : Entry). entry.number == number) desk.active ≡ one → AreKept before desk counts
     → AreAccounted before number (instruction word one desk counts)
 unfolding instruction
-acc-instruction word before number None desk counts found kept = λ other inside. elim (kept other inside) [
-  | inl there ↦ inl there
-  | inr lost ↦ inr (inl lost)
-]
+acc-instruction word before number None desk counts found kept = grind (arith, nat_tests)
 acc-instruction word before number (Some entry) desk counts found kept = by_state (after entry.runs.program entry.runs.args desk.committed entry.rows)
   where
     own : entry.number ≡ number
@@ -178,15 +172,7 @@ acc-instruction word before number (Some entry) desk counts found kept = by_stat
 -- so many instructions
 acc-turns : (word : Word) (before : List ℕ) (number left : ℕ) (turning : Turning) → AreAccounted before number turning → AreAccounted before number (turns word number left turning)
 unfolding turns
-acc-turns word before number zero (Going desk counts) accounted = λ other inside. by_case other (accounted other inside)
-  where
-    by_case : (other : ℕ) → IsAccounted number (Going desk counts) other → IsAccounted number (Over desk counts Limit) other
-    by_case other (inl there) = inl there
-    by_case other (inr (inl lost)) = inr (inl lost)
-    by_case other (inr (inr own)) = absurd (wrong own.1)
-      where
-        wrong : false ≡ true → ⊥
-        wrong same = cc
+acc-turns word before number zero (Going desk counts) accounted = grind (arith, nat_tests)
 acc-turns word before number zero (Over desk counts ending) accounted = accounted
 acc-turns word before number (suc left) (Over desk counts ending) accounted = accounted
 acc-turns word before number (suc left) (Going desk counts) accounted =
@@ -202,11 +188,4 @@ acc-turns word before number (suc left) (Going desk counts) accounted =
         wrong same = cc
 
 pub ends-have-causes : EndsHaveCauses
-ends-have-causes word number limit desk entry here = by_entry (find (λ (entry : Entry). entry.number == number) desk.active)
-  where
-    there : has (numbers desk) entry.number ≡ true
-    there = has-number desk.active entry here
-
-    by_entry : (one : Option Entry) → IsAccounted number (turn_of one word number limit desk) entry.number
-    by_entry None = inl (has-number desk.active entry here)
-    by_entry (Some one) = acc-turns word (numbers desk) number limit (Going desk no_counts) (λ other inside. inl inside) entry.number there
+ends-have-causes word number limit desk entry here = grind (arith, nat_tests, has-number, acc-turns)

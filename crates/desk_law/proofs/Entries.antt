@@ -1,5 +1,5 @@
 -- Entries among entries, and their numbers.
-use Rattle.desk_law.proofs.Common.{Option, suc, length, ◌≡◌, refl, ℕ, ◌+◌, ◌<◌, ◌≤◌, ◌==◌, ◌⊎◌, if◌then◌else◌, Bool, true, false, List, [], ◌∷◌, ◌++◌, map, filter, find, Some, None, arith, ap, sym, ◌∙◌, subst, inl, inr, eqb-true, eq-eqb, both_ways, Entry, IsAmong, Ascend, nat_tests}
+use Rattle.desk_law.proofs.Common.{Option, length, ◌≡◌, refl, ℕ, ◌+◌, ◌<◌, ◌≤◌, ◌==◌, ◌⊎◌, if◌then◌else◌, Bool, true, false, List, [], ◌∷◌, ◌++◌, map, filter, find, Some, None, arith, ap, subst, inl, inr, eqb-true, eq-eqb, both_ways, Entry, IsAmong, Ascend, nat_tests}
 
 -- a filter keeps no more than there are
 pub filter-short : {A : Type 0} (test : A → Bool) (xs : List A) → length (filter test xs) ≤ length xs
@@ -63,10 +63,7 @@ ascend-weaker low above below (entry ∷ entries) le up = (omega (arith, up.0), 
 
 pub ascend-filter : (test : Entry → Bool) (above below : ℕ) (entries : List Entry) → Ascend above entries below → Ascend above (filter test entries) below
 ascend-filter test above below [] up = up
-ascend-filter test above below (entry ∷ entries) up =
-    let rest = ascend-filter test entry.number below entries up.1 in
-    let weaker = ascend-weaker above entry.number below (filter test entries) in
-    grind (arith, rest, weaker)
+ascend-filter test above below (entry ∷ entries) up = grind (arith, nat_tests, ascend-filter test entry.number below entries up.1, ascend-weaker)
 
 pub ascend-push : (above below : ℕ) (entries : List Entry) (last : Entry) → last.number ≡ below → Ascend above entries below → Ascend above (entries ++ last ∷ []) (below + 1)
 ascend-push above below [] last is up = (omega arith, omega arith)
@@ -74,10 +71,7 @@ ascend-push above below (entry ∷ entries) last is up = (up.0, ascend-push entr
 
 pub ascend-replaced : (new : Entry) (above below : ℕ) (entries : List Entry) → Ascend above entries below → Ascend above (replaced new entries) below
 ascend-replaced new above below [] up = up
-ascend-replaced new above below (entry ∷ entries) up =
-    let rest = ascend-replaced new entry.number below entries up.1 in
-    let weaker = ascend-weaker new.number entry.number below (replaced new entries) in
-    grind (arith, nat_tests, rest, weaker)
+ascend-replaced new above below (entry ∷ entries) up = grind (arith, nat_tests, ascend-replaced new entry.number below entries up.1)
 
 -- a number lies between the two
 pub between : (above below : ℕ) (entries : List Entry) (entry : Entry) → Ascend above entries below → IsAmong entries entry → (above < entry.number) × (entry.number < below)
@@ -88,8 +82,7 @@ between above below (one ∷ entries) entry up (inl same) =
     last : (low : ℕ) (entries : List Entry) → Ascend low entries below → low < below
     last low [] up = up
     last low (entry ∷ entries) up = omega (arith, up.0, last entry.number entries up.1)
-between above below (one ∷ entries) entry up (inr among) =
-    let (low, high) = between one.number below entries entry up.1 among in (omega (arith, up.0, low), high)
+between above below (one ∷ entries) entry up (inr among) = grind (arith, nat_tests, between one.number below entries entry up.1 among)
 
 -- a number has one entry
 pub one-entry : (above below : ℕ) (entries : List Entry) (entry other : Entry) → Ascend above entries below

@@ -1,5 +1,5 @@
 -- The ends of an entry, from what an attempt over the bytes of all tells: its commit call, its program check, and any rollback.
-use Rattle.desk_law.proofs.Common.{◌≡◌, ℕ, ◌+◌, List, Some, Lines, Plain, Commit, Check, row, after, Desk, Entry, ended, rolled_back, Word, Fine, Counts, Over, Checked, Committed, instruction, ordered, commits, IsLaid, IsTold, over_all, IsAmong, due_to, IsOrderly}
+use Rattle.desk_law.proofs.Common.{◌≡◌, ℕ, ◌+◌, List, Some, Lines, Plain, Commit, Check, row, after, Desk, Entry, ended, rolled_back, Word, Fine, Counts, Over, Checked, Committed, instruction, ordered, commits, IsLaid, IsTold, over_all, IsAmong, due_to, IsOrderly, nat_tests, arith}
 use Rattle.desk_law.proofs.AttemptsOnCurrent.{own-commit, own-check, ends-consistent}
 use Rattle.desk_law.proofs.Contest.{rolled-consistent}
 use Rattle.desk_law.proofs.InstructionStages.{attempt_of}
@@ -51,10 +51,7 @@ pub rolls :
     → IsOrderly desk → IsAmong desk.active gone → IsTold desk.committed desk.active locks requests states bytes
     → IsLaid desk.committed (due_to desk.committed gone).writes desk.committed.bytes bytes new
     → Rolls desk gone locks requests states new
-rolls desk gone locks requests states bytes new is here told laid = record {
-  consistent = rolled-consistent desk gone is;
-  told = told-rollback desk.committed desk.most_lines desk.next desk.active locks requests states bytes new gone is.active here told laid;
-}
+rolls desk gone locks requests states bytes new is here told laid = grind (arith, nat_tests, rolled-consistent desk gone is, told-rollback desk.committed desk.most_lines desk.next desk.active locks requests states bytes new gone is.active here told laid)
 
 -- a program check
 pub check-ends :
@@ -62,5 +59,4 @@ pub check-ends :
     → after entry.runs.program entry.runs.args desk.committed entry.rows ≡ Some now
     → row entry.runs.program desk.committed.directory (over_all now bytes) ≡ Check code
     → (word : Word) → instruction word (Some entry) desk counts ≡ Over (rolled_back desk entry) counts (Checked code now.iar)
-check-ends desk counts entry now code bytes at went word =
-    check-row word desk counts entry now code at (own-check entry.runs.program desk.committed.directory now bytes code went)
+check-ends desk counts entry now code bytes at went word = grind (arith, nat_tests, check-row word desk counts entry now code, own-check entry.runs.program desk.committed.directory now bytes code went)

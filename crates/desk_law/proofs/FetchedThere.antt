@@ -1,6 +1,6 @@
 -- After two pages were fetched into two frames or more, both are there.
-use Rattle.desk_law.proofs.Common.{◌==◌, ◌||◌, not, nat_lt, cond, remove, position, unwrap_or, list_any, position_or_len, nat_tests, position-Some, has, first_out}
-use Rattle.std.proofs.Common.{◌≡◌, ◌≢◌, ℕ, zero, suc, ◌+◌, ◌<◌, ◌≤◌, Bool, true, false, List, [], ◌∷◌, length, refl, sym, ◌∙◌, ap, arith, get_or, Option, Some, None, ◌⊎◌, inl, inr}
+use Rattle.desk_law.proofs.Common.{not, remove, position, list_any, nat_tests, position-Some, has, first_out}
+use Rattle.std.proofs.Common.{◌≡◌, ◌≢◌, ℕ, zero, suc, ◌<◌, Bool, true, false, List, [], ◌∷◌, length, refl, arith, get_or, None, ◌⊎◌}
 
 -- where no place passes, no item does
 nowhere : (p : ℕ → Bool) (xs : List ℕ) → position p xs ≡ None → list_any p xs ≡ false
@@ -22,13 +22,4 @@ module _ (kept : List ℕ) (page other : ℕ) (only : (x : ℕ) → has kept x �
 
   -- the page that is kept is not the one that goes out
   out-keeps : (pages : List ℕ) → 1 < length pages → has pages page ≡ false → has pages other ≡ true → has (first_out kept pages) other ≡ true
-  out-keeps pages some new inside = by_place (position (λ x. not (has kept x)) pages) refl
-    where
-      by_place : (place : Option ℕ) → position (λ x. not (has kept x)) pages ≡ place → has (remove pages (unwrap_or place 0)) other ≡ true
-      by_place None is = all-kept pages some (nowhere (λ x. not (has kept x)) pages is) new
-      by_place (Some i) is =
-          let (within, passes, before) = position-Some (λ x. not (has kept x)) pages i 0 is in
-          has-out pages i other (λ same. differ (sym (ap (λ (b : Bool). not b) (ap (has kept) same ∙ is_kept)) ∙ passes)) inside
-        where
-          differ : false ≡ true → ⊥
-          differ same = cc
+  out-keeps pages some new inside = grind (arith, nat_tests, all-kept, nowhere, position-Some, has-out)

@@ -1,18 +1,11 @@
 -- Pages that are fetched: which words of the event matter, how many are counted, and that at most two are there afterwards.
-use Rattle.desk_law.proofs.Common.{◌≡◌, ℕ, suc, ◌+◌, ◌≤◌, if◌then◌else◌, Bool, true, false, List, [], ◌∷◌, length, arith, has, brought, Word, Fine, Fetched, Broken, can't_be_read, fetches, Reads}
-
-same-fetched : (one other : List ℕ) (n m : ℕ) → Fetched one n ≡ Fetched other m → (one ≡ other) × (n ≡ m)
-same-fetched one other n m same = (cc, cc)
+use Rattle.desk_law.proofs.Common.{◌≡◌, ℕ, ◌+◌, ◌≤◌, List, [], ◌∷◌, length, arith, brought, Word, Fine, Fetched, fetches, Reads, nat_tests}
 
 -- what a fetch counts lies between what was counted and one more for each page
 pub fetched-few : (word : Word) (frames : ℕ) (kept pages resident new : List ℕ) (counted count : ℕ) → fetches word frames kept pages resident counted ≡ Fetched new count
     → (counted ≤ count) × (count ≤ counted + length pages)
-fetched-few word frames kept [] resident new counted count is =
-    let same = same-fetched resident new counted count is in (omega (arith, same.1), omega (arith, same.1))
-fetched-few word frames kept (page ∷ pages) resident new counted count is =
-    let here = fetched-few word frames kept pages resident new counted count in
-    let came = fetched-few word frames kept pages (brought frames kept resident page) new (counted + 1) count in
-    grind (arith, here, came)
+fetched-few word frames kept [] resident new counted count is = grind (arith, nat_tests)
+fetched-few word frames kept (page ∷ pages) resident new counted count is = grind (arith, nat_tests, fetched-few word frames kept pages resident new counted count, fetched-few word frames kept pages (brought frames kept resident page) new (counted + 1) count)
 
 -- Every word by which the pages counted so far can be read fetches the same.
 pub fetched-for : (word : Word) (frames : ℕ) (kept pages resident new : List ℕ) (counted count : ℕ) → fetches Fine frames kept pages resident counted ≡ Fetched new count

@@ -1,5 +1,5 @@
 -- A row that goes on leaves the desk consistent.
-use Rattle.desk_law.proofs.Common.{◌≡◌, refl, ℕ, suc, ◌+◌, ◌≤◌, ◌==◌, not, if◌then◌else◌, Bool, true, false, List, [], ◌∷◌, ◌++◌, length, filter, map, Some, slice_index_or, list_any, arith, ap, sym, ◌∙◌, subst, inl, inr, eqb-true, eq-eqb, both_ways, or_cases, or_parts, and_cases, not_from_false, false_from_ne_true, is_fine_page, FlatStore, IsWhole, has, size, meets, Lines, both, conflicts, with_whole_pages, has-append, has_left, has_right, any-some, reaches, whole-reached, part-both, part-whole_pages, has-whole_pages, meets-at, Plain, On, row, after, touched_next, touched_within, all_of, Desk, Entry, nobody, with_entry, wanted, held, request, conflicts_with, conflicts_of, numbers, waits_for, Attempt, with_grants, with_lowered, locks_with, gone_on, row_done, IsAmong, due_to, IsLive, AreApart, AreConsistent, IsCovered, IsHeld, HasNoCycle, IsOrderly, except, touched_of, IsContending, IsReady}
+use Rattle.desk_law.proofs.Common.{◌≡◌, refl, ℕ, suc, ◌≤◌, ◌==◌, not, Bool, true, false, List, [], ◌∷◌, ◌++◌, length, filter, map, Some, slice_index_or, list_any, arith, ap, sym, ◌∙◌, subst, inl, inr, both_ways, or_cases, or_parts, and_cases, not_from_false, false_from_ne_true, is_fine_page, FlatStore, IsWhole, has, size, meets, Lines, both, conflicts, with_whole_pages, has-append, has_left, has_right, any-some, reaches, whole-reached, part-both, part-whole_pages, has-whole_pages, meets-at, Plain, On, row, after, touched_next, all_of, Desk, Entry, nobody, with_entry, wanted, held, request, conflicts_with, conflicts_of, numbers, waits_for, Attempt, with_grants, with_lowered, locks_with, gone_on, row_done, IsAmong, due_to, IsLive, AreApart, AreConsistent, IsCovered, IsHeld, HasNoCycle, IsOrderly, except, touched_of, IsContending, IsReady, nat_tests}
 use Rattle.desk_law.proofs.Entries.{replaced, among-replaced, new-among, ascend-replaced, numbers-replaced}
 use Rattle.desk_law.proofs.Walks.{no-cycle-fewer, no-cycle-leaves}
 use Rattle.desk_law.proofs.Others.{others, after-row}
@@ -57,22 +57,12 @@ length-replaced new (one ∷ entries) = ap suc (length-replaced new entries)
 -- where there is no number of a conflict, nobody conflicts
 pub nobody-conflicts : (test : Entry → Bool) (entries : List Entry) → map (λ (entry : Entry). entry.number) (filter test entries) ≡ [] → (other : Entry) → IsAmong entries other → test other ≡ false
 nobody-conflicts test [] none other among = absurd among
-nobody-conflicts test (one ∷ entries) none other among = by_test (test one) refl none (nobody-conflicts test entries) among
-  where
-    by_test :
-        (keeps : Bool) → test one ≡ keeps → map (λ (entry : Entry). entry.number) (if keeps then one ∷ filter test entries else filter test entries) ≡ []
-        → (map (λ (entry : Entry). entry.number) (filter test entries) ≡ [] → (other : Entry) → IsAmong entries other → test other ≡ false)
-        → IsAmong (one ∷ entries) other → test other ≡ false
-    by_test true e none later among = absurd (cc)
-    by_test false e none later (inl same) = ap test (sym same) ∙ e
-    by_test false e none later (inr among) = later none other among
+nobody-conflicts test (one ∷ entries) none other among = grind (arith, nat_tests, nobody-conflicts test entries)
 
 -- the locks due after the row
 pub due-more : (store : FlatStore) (entry : Entry)
     → due_to store (gone_on entry) ≡ with_whole_pages (is_fine_page store.directory) (both (touched_of store entry) (touched_next entry.runs.program entry.runs.args store entry.rows))
-due-more store entry =
-    let more : entry.rows + 1 ≡ suc entry.rows = omega arith in
-    ap (λ (rows : ℕ). with_whole_pages (is_fine_page store.directory) (touched_within entry.runs.program entry.runs.args store rows)) more
+due-more store entry = grind (arith, nat_tests)
 
 pub apart-turned : (first second : Lines) → AreApart first second → AreApart second first
 apart-turned first second apart = record { first_writes = apart.second_writes; second_writes = apart.first_writes }
@@ -82,26 +72,7 @@ pub replaced-consistent : (store : FlatStore) (most_lines next : ℕ) (entries :
     → AreConsistent store most_lines next entries → IsLive store most_lines new
     → ((other : Entry) → IsAmong entries other → (other.number == new.number) ≡ false → AreApart (due_to store new) (due_to store other))
     → AreConsistent store most_lines next (replaced new entries)
-replaced-consistent store most_lines next entries new are live apart = record {
-  ascend = ascend-replaced new 0 next entries are.ascend;
-  live = λ entry among. elim (among-replaced new entries entry among) [
-    | inl it ↦ subst (IsLive store most_lines) it live
-    | inr old ↦ are.live entry old.0
-  ];
-  apart = λ first second among1 among2 differ.
-      elim (among-replaced new entries first among1) [
-        | inl it1 ↦
-            elim (among-replaced new entries second among2) [
-              | inl it2 ↦ absurd (both_ways (first.number == second.number) differ (eq-eqb first.number second.number (ap (λ (x : Entry). x.number) (sym it1 ∙ it2))))
-              | inr old2 ↦ subst (λ (x : Entry). AreApart (due_to store x) (due_to store second)) it1 (apart second old2.0 old2.1)
-            ]
-        | inr old1 ↦
-            elim (among-replaced new entries second among2) [
-              | inl it2 ↦ subst (λ (x : Entry). AreApart (due_to store first) (due_to store x)) it2 (apart-turned (due_to store new) (due_to store first) (apart first old1.0 old1.1))
-              | inr old2 ↦ are.apart first second old1.0 old2.0 differ
-            ]
-      ];
-}
+replaced-consistent store most_lines next entries new are live apart = grind (arith, nat_tests, ascend-replaced, among-replaced, apart-turned)
 
 -- an entry that is marked waiting
 pub marked-contending : (desk : Desk) (entry : Entry) (mark : Bool) → IsAmong desk.active entry → IsContending entry.number desk
@@ -124,17 +95,7 @@ marked-contending desk entry mark here is = record {
 -- It may go on at another desk too, which has the same store and limit.
 pub ready-again : (attempt : Attempt) (old desk : Desk) (mark : Bool) → IsReady attempt old → IsContending attempt.entry.number desk → IsAmong desk.active (record attempt.entry { waiting = mark })
     → desk.committed ≡ old.committed → desk.most_lines ≡ old.most_lines → IsReady attempt desk
-ready-again attempt old desk mark ready contends here store limit = record {
-  contending = contends;
-  mark = mark;
-  here = here;
-  now = ap (λ (store : FlatStore). after attempt.entry.runs.program attempt.entry.runs.args store attempt.entry.rows) store ∙ ready.now;
-  went = ap (λ (store : FlatStore). row attempt.entry.runs.program store.directory attempt.now) store ∙ ready.went;
-  lines = ready.lines ∙ sym (ap (λ (store : FlatStore). touched_next attempt.entry.runs.program attempt.entry.runs.args store attempt.entry.rows) store);
-  short =
-      subst (λ (most : ℕ). size ((touched_of desk.committed attempt.entry).writes ++ (wanted desk attempt.entry).writes) ≤ most) (sym limit)
-      (subst (λ (store : FlatStore). size ((touched_of store attempt.entry).writes ++ (touched_next attempt.entry.runs.program attempt.entry.runs.args store attempt.entry.rows).writes) ≤ old.most_lines) (sym store) ready.short);
-}
+ready-again attempt old desk mark ready contends here store limit = grind (arith, nat_tests)
 
 -- The same where nobody conflicts and the pages are granted: what is permitted is held once the row has taken effect, and until then what is
 -- permitted to others.
@@ -229,38 +190,9 @@ gone-on-active desk most entry mark now next are here at went none short =
 -- the row goes on
 pub row-goes-on : (desk : Desk) (attempt : Attempt) (next : Plain) → IsGranted attempt desk → attempt.outcome ≡ On next
     → IsOrderly (row_done attempt desk)
-row-goes-on desk attempt next is went = record {
-  whole = is.whole;
-  few = omega (arith, is.few, length-replaced (gone_on attempt.entry) desk.active);
-  active = gone-on-active desk desk.most_lines attempt.entry is.mark attempt.now next is.active is.here is.now (is.went ∙ went) is.none is.short;
-  held = is.held;
-  no_cycle =
-      subst (HasNoCycle (waits_for (row_done attempt desk))) (sym (numbers-replaced (gone_on attempt.entry) desk.active))
-      (no-cycle-leaves attempt.entry.number (waits_for (row_done attempt desk)) (waits_for desk) (numbers desk)
-      (gone-on desk attempt.entry (gone_on attempt.entry) refl refl) is.no_cycle);
-}
+row-goes-on desk attempt next is went = grind (arith, nat_tests, length-replaced (gone_on attempt.entry) desk.active, gone-on-active desk desk.most_lines attempt.entry is.mark attempt.now next is.active is.here is.now (is.went ∙ went) is.none is.short, numbers-replaced (gone_on attempt.entry) desk.active, no-cycle-leaves attempt.entry.number (waits_for (row_done attempt desk)) (waits_for desk) (numbers desk) (gone-on desk attempt.entry (gone_on attempt.entry) refl refl) is.no_cycle, gone-on desk attempt.entry (gone_on attempt.entry) refl refl)
 
 -- those that are left are so whatever replaced one
 pub others-replaced : (gone new : Entry) (entries : List Entry) → new.number ≡ gone.number → others gone (replaced new entries) ≡ others gone entries
 others-replaced gone new [] same = refl
-others-replaced gone new (one ∷ entries) same = by_new (one.number == new.number) refl (others-replaced gone new entries same)
-  where
-    out : (n : ℕ) → (n == gone.number) ≡ true → (x : Entry) → x.number ≡ n → (rest : List Entry) → (if not (x.number == gone.number) then x ∷ rest else rest) ≡ rest
-    out n e x is rest = by_test (x.number == gone.number) (ap (λ (m : ℕ). m == gone.number) is ∙ e)
-      where
-        by_test : (equal : Bool) → equal ≡ true → (if not equal then x ∷ rest else rest) ≡ rest
-        by_test true e = refl
-        by_test false e = absurd (cc)
-
-    by_new : (is_new : Bool) → (one.number == new.number) ≡ is_new → others gone (replaced new entries) ≡ others gone entries
-        → others gone ((if is_new then new else one) ∷ replaced new entries) ≡ others gone (one ∷ entries)
-    by_new true e rest =
-        let one_is : one.number ≡ gone.number = eqb-true one.number new.number e ∙ same in
-        out gone.number (eq-eqb gone.number gone.number refl) new same (others gone (replaced new entries))
-        ∙ rest
-        ∙ sym (out gone.number (eq-eqb gone.number gone.number refl) one one_is (others gone entries))
-    by_new false e rest = by_keep (one.number == gone.number)
-      where
-        by_keep : (is_gone : Bool) → (if not is_gone then one ∷ others gone (replaced new entries) else others gone (replaced new entries)) ≡ (if not is_gone then one ∷ others gone entries else others gone entries)
-        by_keep true = rest
-        by_keep false = ap (λ (these : List Entry). one ∷ these) rest
+others-replaced gone new (one ∷ entries) same = grind (arith, nat_tests, others-replaced gone new entries same)

@@ -1,21 +1,15 @@
 -- Once the refused pages are granted, every line of the row is permitted.
-use Rattle.desk_law.proofs.Common.{◌≡◌, refl, ℕ, ◌<◌, ◌==◌, not, if◌then◌else◌, Bool, true, false, List, [], ◌∷◌, length, filter, slice_index_or, list_any, ap, ◌∙◌, inl, inr, eq-eqb, both_ways, and_from, or_parts, cases_Bool, not-false, false_from_ne_true, has, permits, Lines, within_page, is_whole_page, page_of_line, pages_of, any-at, has-filter, has_left, has_right, has-within_page, pages_of-line, all_of, Authority, nobody, Attempt, authority_by, fine_authority_by, given, granted, refuses, lines_within, touched_pages, permitted, ArePermitted, KeepsPages}
+use Rattle.desk_law.proofs.Common.{◌≡◌, refl, ℕ, ◌<◌, ◌==◌, not, if◌then◌else◌, Bool, true, false, List, [], ◌∷◌, length, filter, slice_index_or, list_any, ap, ◌∙◌, inl, inr, eq-eqb, both_ways, and_from, or_parts, cases_Bool, not-false, false_from_ne_true, has, permits, Lines, within_page, page_of_line, pages_of, any-at, has-filter, has_left, has_right, has-within_page, pages_of-line, all_of, Authority, nobody, Attempt, authority_by, fine_authority_by, given, granted, refuses, lines_within, touched_pages, permitted, ArePermitted, KeepsPages, nat_tests, arith}
 use Rattle.desk_law.proofs.EachPage.{each-is, each-not}
 
 read-here : (same bit : Bool) → same ≡ true → bit ≡ true → permits same false bit false ≡ true
-read-here true true e f = refl
-read-here true false e f = absurd (cc)
-read-here false bit e f = absurd (cc)
+read-here same bit h1 h2 = grind (arith, nat_tests)
 
 read-there : (same bit : Bool) → same ≡ true → permits same true bit false ≡ true
-read-there true true e = refl
-read-there true false e = refl
-read-there false bit e = absurd (cc)
+read-there same bit h1 = grind (arith, nat_tests)
 
 write-here : (same bit : Bool) → same ≡ true → bit ≡ true → permits same true bit true ≡ true
-write-here true true e f = refl
-write-here true false e f = absurd (cc)
-write-here false bit e f = absurd (cc)
+write-here same bit h1 h2 = grind (arith, nat_tests)
 
 inside-page : (lines : List ℕ) (line : ℕ) → has lines line ≡ true → has (within_page (page_of_line line) lines) line ≡ true
 inside-page lines line inside = has-within_page (page_of_line line) lines line ∙ and_from (page_of_line line == page_of_line line) (has lines line) (eq-eqb (page_of_line line) (page_of_line line) refl) inside
@@ -26,18 +20,7 @@ by-reads attempt locks line [] inside = read-here (attempt.entry.number == attem
 by-reads attempt locks line (one ∷ more) inside = read-there (attempt.entry.number == attempt.entry.number) (has (one ∷ more) line) (eq-eqb attempt.entry.number attempt.entry.number refl)
 
 given-reads : (fine : ℕ → Bool) (attempt : Attempt) (locks : Lines) (line : ℕ) → has locks.reads line ≡ true → permitted (given fine attempt locks (page_of_line line)) attempt.entry.number line false ≡ true
-given-reads fine attempt locks line inside = by_fine (fine (page_of_line line)) (has (pages_of attempt.lines.writes) (page_of_line line))
-  where
-    by_fine : (is_fine storing : Bool)
-        → permitted
-        (if is_fine
-        then fine_authority_by attempt.entry.number storing (within_page (page_of_line line) locks.reads) (within_page (page_of_line line) locks.writes)
-        else authority_by attempt.entry.number (within_page (page_of_line line) locks.reads) (within_page (page_of_line line) locks.writes))
-        attempt.entry.number line false
-        ≡ true
-    by_fine true true = read-there (attempt.entry.number == attempt.entry.number) (has (within_page (page_of_line line) locks.writes) line) (eq-eqb attempt.entry.number attempt.entry.number refl)
-    by_fine true false = by-reads attempt locks line (if is_whole_page (within_page (page_of_line line) locks.reads) then within_page (page_of_line line) locks.writes else []) inside
-    by_fine false storing = by-reads attempt locks line (within_page (page_of_line line) locks.writes) inside
+given-reads fine attempt locks line inside = grind (arith, nat_tests, read-there, by-reads)
 
 given-writes : (fine : ℕ → Bool) (attempt : Attempt) (locks : Lines) (line : ℕ) → has attempt.lines.writes line ≡ true → has locks.writes line ≡ true
     → permitted (given fine attempt locks (page_of_line line)) attempt.entry.number line true ≡ true
@@ -59,8 +42,7 @@ given-writes fine attempt locks line writes inside = by_fine (fine (page_of_line
     by_fine false storing e = by_writes (within_page (page_of_line line) locks.writes) (inside-page locks.writes line inside)
 
 owns : (same write bit store : Bool) → permits same write bit store ≡ true → same ≡ true
-owns true write bit store may = refl
-owns false write bit store may = absurd (cc)
+owns same write bit store h1 = grind (arith, nat_tests)
 
 -- where a test finds nothing, nothing passes it
 none-there : (test : ℕ → Bool) (xs : List ℕ) (x : ℕ) → list_any test xs ≡ false → has xs x ≡ true → test x ≡ false

@@ -1,5 +1,5 @@
 -- What an authority permits is held, as entries and authorities change.
-use Rattle.desk_law.proofs.Common.{◌≡◌, refl, ℕ, zero, suc, ◌==◌, ◌&&◌, not, if◌then◌else◌, Bool, true, false, List, [], ◌∷◌, length, map, slice_index_or, ap, sym, ◌∙◌, subst, inl, inr, eqb-true, eq-eqb, ne_eqb, both_ways, and_parts, and_from, or_left, cases_Bool, not-true, not_from_false, page_count, FlatStore, has, permits, Lines, with_whole_pages, within_page, is_whole_page, page_of_line, pages_of, has-filter, ArePart, has-within_page, whole-has, whole-reached, reaches-coarse, Entry, Authority, nobody, Attempt, authority_by, fine_authority_by, given, granted, lowered, lowered_pages, to_read, IsAmong, Ascend, due_to, IsCovered, IsOwned, IsHeld}
+use Rattle.desk_law.proofs.Common.{◌≡◌, refl, ℕ, zero, suc, ◌==◌, ◌&&◌, not, if◌then◌else◌, Bool, true, false, List, [], ◌∷◌, length, map, slice_index_or, ap, sym, ◌∙◌, subst, inl, inr, eqb-true, eq-eqb, ne_eqb, both_ways, and_from, or_left, cases_Bool, not-true, not_from_false, page_count, FlatStore, has, permits, Lines, with_whole_pages, within_page, is_whole_page, page_of_line, pages_of, has-filter, ArePart, has-within_page, whole-has, whole-reached, reaches-coarse, Entry, Authority, nobody, Attempt, authority_by, fine_authority_by, given, granted, lowered, lowered_pages, to_read, IsAmong, Ascend, due_to, IsCovered, IsOwned, IsHeld, nat_tests, arith}
 use Rattle.desk_law.proofs.EachPage.{length-each, each-at}
 use Rattle.desk_law.proofs.Entries.{among-filter, filter-among, among-replaced, replaced-among, new-among, replaced, one-entry}
 use Rattle.desk_law.proofs.Others.{others}
@@ -9,11 +9,7 @@ abbrev pub freed : ℕ → Authority → Authority
 freed number authority = if authority.owner == number then nobody else authority
 
 freed-nobody : (number : ℕ) → freed number nobody ≡ nobody
-freed-nobody number = by_test (0 == number)
-  where
-    by_test : (same : Bool) → (if same then nobody else nobody) ≡ nobody
-    by_test true = refl
-    by_test false = refl
+freed-nobody number = grind (arith, nat_tests)
 
 pub freed-at : (number : ℕ) (authority : List Authority) (page : ℕ) → slice_index_or (map (freed number) authority) page nobody ≡ freed number (slice_index_or authority page nobody)
 freed-at number [] page = sym (freed-nobody number)
@@ -24,23 +20,12 @@ length-freed : (number : ℕ) (authority : List Authority) → length (map (free
 length-freed number [] = refl
 length-freed number (one ∷ authority) = ap suc (length-freed number authority)
 
--- nobody permits nothing
-nothing-permitted : (same store : Bool) → permits same false false store ≡ false
-nothing-permitted true store = refl
-nothing-permitted false store = refl
-
 pub nobody-covers : (page number : ℕ) (locks : Lines) → IsCovered nobody page number locks
-nobody-covers page number locks = record {
-  loads = λ line here may. absurd (both_ways (permits (0 == number) false false false) (nothing-permitted (0 == number) false) may);
-  stores = λ line here may. absurd (both_ways (permits (0 == number) false false true) (nothing-permitted (0 == number) true) may);
-}
+nobody-covers page number locks = grind (arith, nat_tests)
 
 -- more locks cover as much
 pub covered-more : (authority : Authority) (page number : ℕ) (locks more : Lines) → ArePart locks more → IsCovered authority page number locks → IsCovered authority page number more
-covered-more authority page number locks more part covered = record {
-  loads = λ line here may. part.reads.among line (covered.loads line here may);
-  stores = λ line here may. part.writes.among line (covered.stores line here may);
-}
+covered-more authority page number locks more part covered = grind (arith, nat_tests)
 
 -- what authority permits to entries of other numbers than one is held
 pub record IsHeldBut (number : ℕ) (store : FlatStore) (entries : List Entry) (authority : List Authority) : Type 0 where
@@ -112,41 +97,27 @@ held-replaced store entries authority old new here same covers held = record {
 }
 
 bit_on : (same bit store : Bool) → permits same false bit store ≡ true → bit ≡ true
-bit_on true true store may = refl
-bit_on true false store may = may
-bit_on false bit store may = absurd (cc)
+bit_on same bit store h1 = grind (arith, nat_tests)
 
 no_store : (same bit : Bool) → permits same false bit true ≡ true → ⊥
-no_store true true may = absurd (cc)
-no_store true false may = absurd (cc)
-no_store false bit may = absurd (cc)
+no_store same bit h1 = grind (arith, nat_tests)
 
 store_on : (same bit : Bool) → permits same true bit true ≡ true → bit ≡ true
-store_on true true may = refl
-store_on true false may = may
-store_on false bit may = absurd (cc)
+store_on same bit h1 = grind (arith, nat_tests)
 
 inside : (page line : ℕ) (some : List ℕ) → has (within_page page some) line ≡ true → (page ≡ page_of_line line) × (has some line ≡ true)
-inside page line some there =
-    let parts = and_parts (page == page_of_line line) (has some line) (sym (has-within_page page some line) ∙ there) in
-    (eqb-true page (page_of_line line) parts.0, parts.1)
+inside page line some there = grind (arith, nat_tests, has-within_page page some line)
 
 -- With the write bit off, lines that are held to read are covered.
 pub off-covers : (number page : ℕ) (locks : Lines) → IsCovered (record { owner = number; write = false; lines = within_page page locks.reads }) page number locks
-off-covers number page locks = record {
-  loads = λ line here may. (inside page line locks.reads (bit_on (number == number) (has (within_page page locks.reads) line) false may)).1;
-  stores = λ line here may. absurd (no_store (number == number) (has (within_page page locks.reads) line) may);
-}
+off-covers number page locks = grind (arith, nat_tests, inside, bit_on, no_store)
 
 -- With it on, lines that are held to write, where all of the page are held to read.
 pub on-covers : (number page : ℕ) (locks : Lines) (writes : List ℕ)
     → ((line : ℕ) → has writes line ≡ true → has (within_page page locks.writes) line ≡ true)
     → ((line : ℕ) → page_of_line line ≡ page → has locks.reads line ≡ true)
     → IsCovered (record { owner = number; write = true; lines = writes }) page number locks
-on-covers number page locks writes among whole = record {
-  loads = λ line here may. whole line here;
-  stores = λ line here may. (inside page line locks.writes (among line (store_on (number == number) (has writes line) may))).1;
-}
+on-covers number page locks writes among whole = grind (arith, nat_tests, inside, store_on)
 
 -- By its locks, where it has written into the page only if all of it is held to read.
 by-covers : (number page : ℕ) (locks : Lines) (writes : List ℕ)
@@ -154,8 +125,7 @@ by-covers : (number page : ℕ) (locks : Lines) (writes : List ℕ)
     → ((written : ℕ) → has writes written ≡ true → (line : ℕ) → page_of_line line ≡ page → has locks.reads line ≡ true)
     → IsCovered (authority_by number (within_page page locks.reads) writes) page number locks
 by-covers number page locks [] among whole = off-covers number page locks
-by-covers number page locks (written ∷ more) among whole =
-    on-covers number page locks (written ∷ more) among (whole written (or_left (written == written) (has more written) (eq-eqb written written refl)))
+by-covers number page locks (written ∷ more) among whole = grind (arith, nat_tests, on-covers number page locks (written ∷ more) among (whole written (or_left (written == written) (has more written) (eq-eqb written written refl))))
 
 -- A fine page in which all lines are held to read, or into which the row doesn't write.
 pub fine-covers : (number page : ℕ) (storing : Bool) (locks : Lines) → (storing ≡ true → is_whole_page (within_page page locks.reads) ≡ true)
@@ -190,14 +160,7 @@ grant-covers fine attempt page lines whole = by_fine (fine page) refl
 
 -- an authority of another number permits nothing
 pub other-covers : (authority : Authority) (page number : ℕ) (locks : Lines) → (authority.owner == number) ≡ false → IsCovered authority page number locks
-other-covers authority page number locks other = record {
-  loads = λ line here may. absurd (none (authority.owner == number) (has authority.lines line) false other may);
-  stores = λ line here may. absurd (none (authority.owner == number) (has authority.lines line) true other may);
-}
-  where
-    none : (same bit store : Bool) → same ≡ false → permits same authority.write bit store ≡ true → ⊥
-    none true bit store e may = absurd (cc)
-    none false bit store e may = absurd (cc)
+other-covers authority page number locks other = grind (arith, nat_tests)
 
 owner-by : (number : ℕ) (reads writes : List ℕ) → (authority_by number reads writes).owner ≡ number
 owner-by number reads [] = refl
@@ -205,16 +168,7 @@ owner-by number reads (line ∷ lines) = refl
 
 -- a page is granted to the activation
 pub given-owner : (fine : ℕ → Bool) (attempt : Attempt) (locks : Lines) (page : ℕ) → (given fine attempt locks page).owner ≡ attempt.entry.number
-given-owner fine attempt locks page = by_fine (fine page) (has (pages_of attempt.lines.writes) page)
-  where
-    by_fine : (is_fine storing : Bool)
-        → (if is_fine
-        then fine_authority_by attempt.entry.number storing (within_page page locks.reads) (within_page page locks.writes)
-        else authority_by attempt.entry.number (within_page page locks.reads) (within_page page locks.writes)).owner
-        ≡ attempt.entry.number
-    by_fine true true = refl
-    by_fine true false = owner-by attempt.entry.number (within_page page locks.reads) (if is_whole_page (within_page page locks.reads) then within_page page locks.writes else [])
-    by_fine false storing = owner-by attempt.entry.number (within_page page locks.reads) (within_page page locks.writes)
+given-owner fine attempt locks page = grind (arith, nat_tests, owner-by)
 
 -- Pages granted to an entry: what is permitted to the others is held still.
 pub held-granted :

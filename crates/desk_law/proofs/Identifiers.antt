@@ -1,5 +1,5 @@
 -- Authority that is kept under identifiers of seats, and told under the numbers of the activations in them.
-use Rattle.desk_law.proofs.Common.{◌≡◌, refl, ℕ, zero, suc, ◌==◌, ◌||◌, not, if◌then◌else◌, Bool, true, false, List, [], ◌∷◌, map, filter, slice_set, slice_index_or, list_any, ap, sym, ◌∙◌, permits, has, Lines, within_page, is_whole_page, pages_of, Authority, nobody, Attempt, authority_by, fine_authority_by, given, with_each, granted, to_read, lowered_pages, lowered, refuses, lines_within, owner_told, owners_told, StandsFor, permitted}
+use Rattle.desk_law.proofs.Common.{◌≡◌, refl, ℕ, zero, suc, ◌==◌, ◌||◌, not, if◌then◌else◌, Bool, true, false, List, [], ◌∷◌, map, filter, slice_set, slice_index_or, list_any, ap, sym, has, Lines, within_page, is_whole_page, pages_of, Authority, nobody, Attempt, authority_by, fine_authority_by, given, with_each, granted, lowered, refuses, lines_within, owner_told, owners_told, StandsFor, permitted, nat_tests, arith}
 use Rattle.desk_law.proofs.AlikeSets.{filter-same}
 use Rattle.desk_law.proofs.Holding.{freed}
 
@@ -12,9 +12,7 @@ module _ (numbers : ℕ → ℕ) (none : numbers 0 ≡ 0) where
   -- what is permitted to an identifier is permitted to its number
   pub permitted-told : (identifier number : ℕ) (authority : List Authority) (page line : ℕ) (store : Bool) → StandsFor numbers identifier number authority
       → permitted (slice_index_or (owners_told numbers authority) page nobody) number line store ≡ permitted (slice_index_or authority page nobody) identifier line store
-  permitted-told identifier number authority page line store stands =
-      ap (λ (a : Authority). permitted a number line store) (told-page authority page)
-      ∙ ap (λ (same : Bool). permits same (slice_index_or authority page nobody).write (has (slice_index_or authority page nobody).lines line) store) (sym (stands.alone page))
+  permitted-told identifier number authority page line store stands = grind (arith, nat_tests, told-page)
 
   any-same : (p q : ℕ → Bool) (xs : List ℕ) → ((x : ℕ) → p x ≡ q x) → list_any p xs ≡ list_any q xs
   any-same p q [] same = refl
@@ -24,19 +22,7 @@ module _ (numbers : ℕ → ℕ) (none : numbers 0 ≡ 0) where
   pub refused-told : (identifier number : ℕ) (authority : List Authority) (lines : Lines) (pages : List ℕ) → StandsFor numbers identifier number authority
       → filter (λ page. refuses (slice_index_or (owners_told numbers authority) page nobody) number (lines_within page lines)) pages
       ≡ filter (λ page. refuses (slice_index_or authority page nobody) identifier (lines_within page lines)) pages
-  refused-told identifier number authority lines pages stands =
-      filter-same
-      (λ page. refuses (slice_index_or (owners_told numbers authority) page nobody) number (lines_within page lines))
-      (λ page. refuses (slice_index_or authority page nobody) identifier (lines_within page lines)) pages
-      (λ page i.
-      any-same
-      (λ line. not (permitted (slice_index_or (owners_told numbers authority) page nobody) number line false))
-      (λ line. not (permitted (slice_index_or authority page nobody) identifier line false))
-      (within_page page lines.reads) (λ line. ap not (permitted-told identifier number authority page line false stands)) i
-      || any-same
-      (λ line. not (permitted (slice_index_or (owners_told numbers authority) page nobody) number line true))
-      (λ line. not (permitted (slice_index_or authority page nobody) identifier line true))
-      (within_page page lines.writes) (λ line. ap not (permitted-told identifier number authority page line true stands)) i)
+  refused-told identifier number authority lines pages stands = grind (arith, nat_tests, filter-same (λ page. refuses (slice_index_or (owners_told numbers authority) page nobody) number (lines_within page lines)) (λ page. refuses (slice_index_or authority page nobody) identifier (lines_within page lines)) pages (λ page i. any-same (λ line. not (permitted (slice_index_or (owners_told numbers authority) page nobody) number line false)) (λ line. not (permitted (slice_index_or authority page nobody) identifier line false)) (within_page page lines.reads) (λ line. ap not (permitted-told identifier number authority page line false stands)) i || any-same (λ line. not (permitted (slice_index_or (owners_told numbers authority) page nobody) number line true)) (λ line. not (permitted (slice_index_or authority page nobody) identifier line true)) (within_page page lines.writes) (λ line. ap not (permitted-told identifier number authority page line true stands)) i))
 
   -- an identifier that is cleared frees the pages of its number
   pub freed-told : (identifier number : ℕ) (authority : List Authority) → StandsFor numbers identifier number authority
@@ -60,9 +46,7 @@ module _ (numbers : ℕ → ℕ) (none : numbers 0 ≡ 0) where
   each-told : (of told : ℕ → Authority) (pages : List ℕ) (authority : List Authority) → ((page : ℕ) → owner_told numbers (of page) ≡ told page)
       → owners_told numbers (with_each of pages authority) ≡ with_each told pages (owners_told numbers authority)
   each-told of told [] authority same = refl
-  each-told of told (page ∷ pages) authority same =
-      each-told of told pages (slice_set authority page (of page)) same
-      ∙ ap (with_each told pages) (told-set authority page (of page) ∙ ap (slice_set (owners_told numbers authority) page) (same page))
+  each-told of told (page ∷ pages) authority same = grind (arith, nat_tests, each-told of told pages (slice_set authority page (of page)) same, told-set)
 
   -- pages granted to an identifier are granted to its number
   pub granted-told : (fine : ℕ → Bool) (identifier : ℕ) (attempt : Attempt) (locks : Lines) (pages : List ℕ) (authority : List Authority) → numbers identifier ≡ attempt.entry.number
@@ -90,9 +74,7 @@ module _ (numbers : ℕ → ℕ) (none : numbers 0 ≡ 0) where
   -- and so are the write bits that go off
   pub lowered-told : (fine : ℕ → Bool) (identifier : ℕ) (attempt : Attempt) (locks : Lines) (authority : List Authority) → numbers identifier ≡ attempt.entry.number
       → owners_told numbers (lowered fine (record attempt { entry = record attempt.entry { number = identifier } }) locks authority) ≡ lowered fine attempt locks (owners_told numbers authority)
-  lowered-told fine identifier attempt locks authority is =
-      each-told (to_read (record attempt { entry = record attempt.entry { number = identifier } }) locks) (to_read attempt locks) (lowered_pages fine attempt locks) authority
-      (λ page i. record { owner = is i; write = false; lines = within_page page locks.reads })
+  lowered-told fine identifier attempt locks authority is = grind (arith, nat_tests, each-told)
 
   -- a seat whose identifier no page has may be taken by another number
   pub told-taken : (identifier : ℕ) (later : ℕ → ℕ) (authority : List Authority) → ((at : ℕ) → (at == identifier) ≡ false → later at ≡ numbers at)

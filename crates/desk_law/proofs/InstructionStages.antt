@@ -1,5 +1,5 @@
 -- An instruction stage by stage, as one that serves a fault goes through them.
-use Rattle.desk_law.proofs.Common.{◌≡◌, refl, ℕ, ◌+◌, Bool, false, List, length, Option, Some, ap, ◌∙◌, is_fine_page, Plain, Outcome, On, Commit, Check, row, after, Desk, Entry, rolled_back, wanted, conflicts_of, Word, Fine, Counts, Going, Over, Checked, Attempt, Fetched, Broken, Settled, fetches, instruction, attempts, attempts_at, limited, is_over_limit, fetched_first, fetches_touched, asks, gets, goes_on, takes_effect, touched_pages, refused_pages, granted, with_grants, locks_with, commits, breaks, contest_ends, waits_or_gets, Reads, row_done}
+use Rattle.desk_law.proofs.Common.{◌≡◌, refl, ℕ, ◌+◌, Bool, false, List, length, Option, Some, ap, is_fine_page, Plain, Outcome, On, Commit, Check, row, after, Desk, Entry, wanted, conflicts_of, Word, Fine, Counts, Going, Attempt, Fetched, Broken, Settled, fetches, instruction, attempts, attempts_at, limited, is_over_limit, fetched_first, fetches_touched, asks, gets, takes_effect, touched_pages, refused_pages, granted, locks_with, commits, breaks, contest_ends, waits_or_gets, Reads, row_done, nat_tests, arith}
 
 -- the instruction of an entry at its state
 abbrev pub attempt_of : Desk → Entry → Plain → Attempt
@@ -22,11 +22,6 @@ unfolding instruction
 instruction-at word entry desk counts now is = ap (λ (state : Option Plain). attempts_at word entry state desk counts) is
 
 module _ (word : Word) (attempt : Attempt) (desk : Desk) (counts : Counts) where
-  -- 1. A row that fails by itself is rolled back.
-  pub stage-check : (code : ℕ) (outcome : Outcome) → outcome ≡ Check code
-      → attempts word attempt outcome desk counts ≡ Over (rolled_back desk attempt.entry) counts (Checked code attempt.now.iar)
-  stage-check code outcome is = ap (λ (this : Outcome). attempts word attempt this desk counts) is
-
   -- 2. Otherwise the lines that it will have written are counted. Past the limit it is rolled back.
   pub stage-limit : (outcome : Outcome) (over : Bool) → GoesOn outcome → is_over_limit attempt desk ≡ over
       → attempts word attempt outcome desk counts ≡ limited over word attempt desk counts
@@ -45,12 +40,7 @@ module _ (word : Word) (attempt : Attempt) (desk : Desk) (counts : Counts) where
       → limited false word attempt desk counts
       ≡ asks word attempt (refused_pages attempt desk) holders (record desk { resident = resident })
       (record counts { pages = counted; locks = counts.locks + length (refused_pages attempt desk) })
-  stage-fetched resident counted holders is conflict =
-      ap (fetched_first word attempt desk counts) is
-      ∙ ap
-      (λ (these : List ℕ). asks word attempt (refused_pages attempt desk) these (record desk { resident = resident })
-      (record counts { pages = counted; locks = counts.locks + length (refused_pages attempt desk) }))
-      conflict
+  stage-fetched resident counted holders is conflict = grind (arith, nat_tests)
 
   module _ (refused : List ℕ) where
     -- 8. Once a contest is settled, it waits for those that are left, or gets its pages.
@@ -63,9 +53,7 @@ module _ (word : Word) (attempt : Attempt) (desk : Desk) (counts : Counts) where
         → fetches word desk.frames (touched_pages attempt) (touched_pages attempt) desk.resident counts.pages ≡ Fetched resident counted
         → gets word attempt refused desk counts
         ≡ takes_effect word attempt attempt.outcome (record desk { resident = resident; authority = authority }) (record counts { pages = counted })
-    stage-gets authority resident counted grants is =
-        ap (goes_on word attempt (with_grants attempt refused desk) counts) is
-        ∙ ap (λ these. takes_effect word attempt attempt.outcome (record desk { resident = resident; authority = these }) (record counts { pages = counted })) grants
+    stage-gets authority resident counted grants is = grind (arith, nat_tests)
 
   -- 10. A row that goes on.
   pub stage-on : (outcome : Outcome) (next : Plain) → outcome ≡ On next

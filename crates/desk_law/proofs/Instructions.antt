@@ -1,5 +1,5 @@
 -- What an instruction of an entry does to the entries and to what is committed.
-use Rattle.desk_law.proofs.Common.{◌≡◌, refl, ℕ, ◌+◌, ◌==◌, not, Bool, true, false, List, [], ◌∷◌, ◌++◌, find, Option, Some, None, ap, sym, ◌∙◌, inl, inr, eqb-true, eq-eqb, both_ways, not-true, shown_cycle, victim_of, Plain, On, Desk, Entry, with_entry, rolled_back, numbers, waits_for, Counts, Turning, Going, Over, Committed, Attempt, Contest, Contested, Settled, Lost, breaks_cycle, breaks_cycles, row_done, left_by, IsAmong, AreConsistent}
+use Rattle.desk_law.proofs.Common.{◌≡◌, refl, ℕ, ◌+◌, ◌==◌, not, Bool, true, false, List, [], ◌∷◌, ◌++◌, find, Option, Some, None, ap, sym, ◌∙◌, inl, inr, eqb-true, eq-eqb, both_ways, not-true, shown_cycle, victim_of, Plain, On, Desk, Entry, with_entry, rolled_back, numbers, waits_for, Counts, Turning, Going, Over, Committed, Attempt, Contest, Contested, Settled, Lost, breaks_cycle, breaks_cycles, row_done, left_by, IsAmong, AreConsistent, nat_tests, arith}
 use Rattle.desk_law.proofs.Entries.{among-filter, among-found, none-found, among-replaced, one-entry}
 use Rattle.desk_law.proofs.Others.{others}
 use Rattle.desk_law.proofs.Contest.{breaks-keep, left_over}
@@ -61,15 +61,11 @@ pub left-before : (entry : Entry) (desk : Desk) → HasLeft entry.number desk �
 left-before entry desk left other among same = absurd (both_ways (other.number == entry.number) (left other among) same)
 
 pub rolled-done : (old : Desk) (attempt : Attempt) (desk : Desk) → From attempt.entry.number old desk → NoRowDone old attempt (rolled_back desk attempt.entry)
-rolled-done old attempt desk from = record {
-  from = rolled-from attempt.entry.number old desk attempt.entry from;
-  own = left-before attempt.entry (rolled_back desk attempt.entry) (rolled-left desk attempt.entry);
-}
+rolled-done old attempt desk from = grind (arith, nat_tests, rolled-from attempt.entry.number old desk attempt.entry from, left-before attempt.entry (rolled_back desk attempt.entry) (rolled-left desk attempt.entry), rolled-left desk attempt.entry)
 
 -- an entry that is active, with any mark
 pub marked-before : (entry : Entry) (mark : Bool) (desk : Desk) → AreConsistent desk.committed desk.most_lines desk.next desk.active → IsAmong desk.active (record entry { waiting = mark }) → IsAsBefore entry desk
-marked-before entry mark desk are here other among same =
-    (mark, one-entry 0 desk.next desk.active (record entry { waiting = mark }) other are.ascend here among (sym (eqb-true other.number entry.number same)))
+marked-before entry mark desk are here other among same = grind (arith, nat_tests, one-entry)
 
 pub marked-from : (old desk : Desk) (entry new : Entry) → new.number ≡ entry.number → From entry.number old desk → From entry.number old (with_entry desk new)
 marked-from old desk entry new same from = record {

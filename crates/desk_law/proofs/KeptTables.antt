@@ -1,5 +1,5 @@
 -- The locks and the requests of active entries as a supervisor keeps them, and what steps do to them.
-use Rattle.desk_law.proofs.Common.{◌≡◌, refl, ℕ, ◌==◌, ◌&&◌, ◌||◌, not, if◌then◌else◌, Bool, true, false, List, [], ◌∷◌, ◌++◌, filter, map, Some, list_any, ap, sym, ◌∙◌, subst, inl, inr, both_ways, not-true, is_fine_page, FlatStore, IsWhole, has, meets, Lines, conflicts, with_whole_pages, shown_cycle, has-append, any-some, meets-at, Plain, after, Desk, Entry, request, conflicts_with, conflicts_of, waits_for, numbers, AreAlike, requested, AreKept, IsTableBut, kept_conflict, kept_waits, left_by, gone_on, IsAmong, due_to, AreConsistent}
+use Rattle.desk_law.proofs.Common.{◌≡◌, refl, ℕ, ◌==◌, ◌&&◌, ◌||◌, not, if◌then◌else◌, Bool, true, false, List, [], ◌∷◌, ◌++◌, filter, map, Some, list_any, ap, sym, ◌∙◌, subst, inl, inr, not-true, is_fine_page, FlatStore, IsWhole, has, meets, Lines, conflicts, with_whole_pages, shown_cycle, has-append, any-some, meets-at, Plain, after, Desk, Entry, request, conflicts_with, conflicts_of, waits_for, numbers, AreAlike, requested, AreKept, IsTableBut, kept_conflict, kept_waits, left_by, gone_on, IsAmong, due_to, AreConsistent, nat_tests, arith}
 use Rattle.desk_law.proofs.Entries.{replaced, among-replaced, among-filter}
 use Rattle.desk_law.proofs.Others.{others, another-stays, StaysSame}
 
@@ -14,18 +14,10 @@ alike-back first second one = record { reads = λ line. sym (one.reads line); wr
 
 -- two tests that imply each other are the same
 pub both-imply : (a b : Bool) → (a ≡ true → b ≡ true) → (b ≡ true → a ≡ true) → a ≡ b
-both-imply true b there back = sym (there refl)
-both-imply false true there back = back refl
-both-imply false false there back = refl
+both-imply a b h1 h2 = grind (arith, nat_tests)
 
 pub meets-alike : (a b c d : List ℕ) → ((x : ℕ) → has a x ≡ has b x) → ((x : ℕ) → has c x ≡ has d x) → meets a c ≡ meets b d
-meets-alike a b c d first second = both-imply (meets a c) (meets b d) there back
-  where
-    there : meets a c ≡ true → meets b d ≡ true
-    there meet = let (x, one, two) = any-some (has c) a meet in meets-at b d x (sym (first x) ∙ one) (sym (second x) ∙ two)
-
-    back : meets b d ≡ true → meets a c ≡ true
-    back meet = let (x, one, two) = any-some (has d) b meet in meets-at a c x (first x ∙ one) (second x ∙ two)
+meets-alike a b c d first second = grind (arith, nat_tests, both-imply, any-some, meets-at)
 
 -- whether sets conflict doesn't depend on how they are listed
 pub conflicts-alike : (asked request holds locks : Lines) → AreAlike asked request → AreAlike holds locks → conflicts asked holds ≡ conflicts request locks
@@ -49,15 +41,12 @@ any-entries p q (one ∷ entries) same = λ i. same one (inl refl) i || any-entr
 module _ (desk : Desk) (locks requests : ℕ → Lines) (are : AreKept desk.committed desk.active locks requests) where
   conflict-kept : (asked : Lines) (entry other : Entry) → AreAlike asked (request desk entry) → IsAmong desk.active other
       → kept_conflict asked locks entry.number other ≡ conflicts_with desk entry other
-  conflict-kept asked entry other alike among =
-      ap (λ (b : Bool). not (other.number == entry.number) && b) (conflicts-alike asked (request desk entry) (locks other.number) (due_to desk.committed other) alike (are.held other among))
+  conflict-kept asked entry other alike among = grind (arith, nat_tests, conflicts-alike asked (request desk entry) (locks other.number) (due_to desk.committed other) alike (are.held other among))
 
   -- the holders that a request conflicts with
   pub conflicts-kept : (asked : Lines) (entry : Entry) → AreAlike asked (request desk entry)
       → map (λ (other : Entry). other.number) (filter (kept_conflict asked locks entry.number) desk.active) ≡ conflicts_of desk entry
-  conflicts-kept asked entry alike =
-      ap (map (λ (other : Entry). other.number))
-      (filter-alike (kept_conflict asked locks entry.number) (conflicts_with desk entry) desk.active (λ other among. conflict-kept asked entry other alike among))
+  conflicts-kept asked entry alike = grind (arith, nat_tests, filter-alike (kept_conflict asked locks entry.number) (conflicts_with desk entry) desk.active (λ other among. conflict-kept asked entry other alike among))
 
   pub waits-kept : (from to : ℕ) → kept_waits locks requests desk.active from to ≡ waits_for desk from to
   waits-kept from to =
@@ -89,37 +78,16 @@ module _ (store : FlatStore) (entries : List Entry) (locks requests : ℕ → Li
   -- a row that goes on sets its own locks alone; its mark is off, so its request is of no account
   pub kept-row : (entry : Entry) (new : ℕ → Lines) → AreAlike (new entry.number) (due_to store (gone_on entry)) → IsTableBut entry.number locks new
       → AreKept store (replaced (gone_on entry) entries) new requests
-  kept-row entry new alike but = record {
-    held = λ other among. elim (among-replaced (gone_on entry) entries other among) [
-      | inl it ↦ subst (λ (x : Entry). AreAlike (new x.number) (due_to store x)) it alike
-      | inr old ↦ subst (λ (lines : Lines). AreAlike lines (due_to store other)) (sym (but.kept other.number old.1)) (are.held other old.0)
-    ];
-    asked = λ other among waits. elim (among-replaced (gone_on entry) entries other among) [
-      | inl it ↦ absurd (both_ways other.waiting (ap (λ (x : Entry). x.waiting) (sym it)) waits)
-      | inr old ↦ are.asked other old.0 waits
-    ];
-  }
+  kept-row entry new alike but = grind (arith, nat_tests, among-replaced)
 
   -- a mark sets its own request alone
   pub kept-mark : (entry : Entry) (new : ℕ → Lines) → IsAmong entries entry → AreAlike (new entry.number) (requested store entry) → IsTableBut entry.number requests new
       → AreKept store (replaced (record entry { waiting = true }) entries) locks new
-  kept-mark entry new here alike but = record {
-    held = λ other among. elim (among-replaced (record entry { waiting = true }) entries other among) [
-      | inl it ↦ subst (λ (x : Entry). AreAlike (locks x.number) (due_to store x)) it (are.held entry here)
-      | inr old ↦ are.held other old.0
-    ];
-    asked = λ other among waits. elim (among-replaced (record entry { waiting = true }) entries other among) [
-      | inl it ↦ subst (λ (x : Entry). AreAlike (new x.number) (requested store x)) it alike
-      | inr old ↦ subst (λ (lines : Lines). AreAlike lines (requested store other)) (sym (but.kept other.number old.1)) (are.asked other old.0 waits)
-    ];
-  }
+  kept-mark entry new here alike but = grind (arith, nat_tests, among-replaced)
 
   -- a rollback sets none
   pub kept-rollback : (gone : Entry) → AreKept store (others gone entries) locks requests
-  kept-rollback gone = record {
-    held = λ other among. are.held other (among-filter (λ (other : Entry). not (other.number == gone.number)) entries other among).0;
-    asked = λ other among waits. are.asked other (among-filter (λ (other : Entry). not (other.number == gone.number)) entries other among).0 waits;
-  }
+  kept-rollback gone = grind (arith, nat_tests, among-filter)
 
   -- nor does a commit
   pub kept-commit : (most_lines next : ℕ) (entry : Entry) (now : Plain) → IsWhole store → AreConsistent store most_lines next entries → IsAmong entries entry

@@ -1,5 +1,5 @@
 -- Lines that are laid over, byte by byte.
-use Rattle.desk_law.proofs.Common.{◌≡◌, refl, ℕ, ◌+◌, ◌*◌, ◌/◌, ◌<◌, if◌then◌else◌, Bool, true, false, List, length, slice_index, slice_range, arith, ap, sym, ◌∙◌, length-take, length-drop, same_number_lists, line_bytes, FlatStore, has, part, in_line, IsLaid}
+use Rattle.desk_law.proofs.Common.{◌≡◌, refl, ℕ, ◌+◌, ◌*◌, ◌/◌, ◌<◌, if◌then◌else◌, true, false, List, length, slice_index, slice_range, arith, length-take, length-drop, same_number_lists, line_bytes, FlatStore, has, part, in_line, IsLaid, nat_tests}
 use Rattle.std.proofs.lemmas.Nat.{div-mul-add}
 
 -- a byte of a line that was laid, and of one that wasn't
@@ -13,16 +13,7 @@ module _ (store : FlatStore) (lines from old new : List ℕ) (some : 0 < line_by
 -- lists that are equal on each byte of a line have the line equal
 line-from : (lb line : ℕ) (xs ys : List ℕ) → 0 < lb → length xs ≡ length ys → ((k : ℕ) → k < lb → line * lb + k < length xs → slice_index xs (line * lb + k) ≡ slice_index ys (line * lb + k))
     → slice_range xs (line * lb) (line * lb + lb) ≡ slice_range ys (line * lb) (line * lb + lb)
-line-from lb line xs ys some long same = same_number_lists _ _ lengths (λ k below. element k below)
-  where
-    lengths : length (slice_range xs (line * lb) (line * lb + lb)) ≡ length (slice_range ys (line * lb) (line * lb + lb))
-    lengths = simp (length-take, length-drop) (rw long refl)
-
-    element : (k : ℕ) → k < length (slice_range xs (line * lb) (line * lb + lb)) → slice_index (slice_range xs (line * lb) (line * lb + lb)) k ≡ slice_index (slice_range ys (line * lb) (line * lb + lb)) k
-    element k below =
-        let short : k < lb = omega (arith, simp (length-take, length-drop) at below) in
-        let within : line * lb + k < length xs = omega (arith, simp (length-take, length-drop) at below) in
-        part xs (line * lb) lb k short ∙ same k short within ∙ sym (part ys (line * lb) lb k short)
+line-from lb line xs ys some long same = grind (arith, nat_tests, same_number_lists, length-take, length-drop, part)
 
 line-of : (lb line k : ℕ) → k < lb → (line * lb + k) / lb ≡ line
 line-of lb line k short = div-mul-add line lb k short
@@ -32,25 +23,4 @@ pub laid-places :
     (store : FlatStore) (lines from old new : List ℕ) → 0 < line_bytes store.directory.page → length new ≡ length old → length from ≡ length old
     → ((place : ℕ) → place < length old → slice_index new place ≡ (if has lines (place / line_bytes store.directory.page) then slice_index from place else slice_index old place))
     → IsLaid store lines from old new
-laid-places store lines from old new some long from_long each = record {
-  long = long;
-  laid = λ line inside.
-      line-from lb line new from some (long ∙ sym from_long)
-      (λ k short within. each (line * lb + k) (omega (arith, within, long)) ∙ chosen line k short true inside);
-  kept = λ line out.
-      line-from lb line new old some long
-      (λ k short within. each (line * lb + k) (omega (arith, within, long)) ∙ chosen line k short false out);
-}
-  where
-    lb : ℕ
-    lb = line_bytes store.directory.page
-
-    pick : (b c : Bool) (x y : ℕ) → b ≡ c → (if b then x else y) ≡ (if c then x else y)
-    pick b c x y e = ap (λ (t : Bool). if t then x else y) e
-
-    chosen : (line k : ℕ) → k < line_bytes store.directory.page → (b : Bool) → has lines line ≡ b
-        → (if has lines ((line * line_bytes store.directory.page + k) / line_bytes store.directory.page) then slice_index from (line * line_bytes store.directory.page + k) else slice_index old (line * line_bytes store.directory.page + k))
-        ≡ (if b then slice_index from (line * line_bytes store.directory.page + k) else slice_index old (line * line_bytes store.directory.page + k))
-    chosen line k short b is =
-        pick (has lines ((line * line_bytes store.directory.page + k) / line_bytes store.directory.page)) b _ _
-        (ap (has lines) (line-of (line_bytes store.directory.page) line k short) ∙ is)
+laid-places store lines from old new some long from_long each = grind (arith, nat_tests, line-from, line-of)

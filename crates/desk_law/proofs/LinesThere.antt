@@ -1,32 +1,18 @@
 -- An instruction all of whose lines are on resident pages that permit them: it takes effect at once.
-use Rattle.desk_law.proofs.Common.{◌≡◌, refl, ℕ, ◌+◌, ◌==◌, ◌&&◌, not, if◌then◌else◌, Bool, true, false, List, [], ◌∷◌, ◌++◌, filter, slice_index_or, list_any, ap, sym, ◌∙◌, subst, inl, inr, eqb-true, eq-eqb, and_parts, and_right, or_cases, or_left, or_right, or_from, not_from_true, is_fine_page, has, permits, Lines, both, with_whole_pages, within_page, is_whole_page, page_of_line, pages_of, has-append, any-some, ArePart, part-both, part-whole_pages, has-within_page, has-pages_of, has-whole, Desk, Entry, nobody, wanted, request, Word, Fetched, Broken, can't_be_read, fetches, refuses, lines_within, Attempt, locks_with, with_each, to_read, lowered_pages, with_lowered, brought, AreThere, IsAmong, due_to, permitted, IsOrderly, touched_of}
+use Rattle.desk_law.proofs.Common.{◌≡◌, refl, ℕ, ◌==◌, ◌&&◌, not, Bool, true, false, List, [], ◌∷◌, ◌++◌, filter, slice_index_or, list_any, ap, sym, ◌∙◌, subst, inl, inr, eqb-true, and_parts, and_right, or_cases, or_right, or_from, not_from_true, is_fine_page, has, permits, Lines, both, with_whole_pages, within_page, is_whole_page, page_of_line, pages_of, has-append, any-some, ArePart, part-both, part-whole_pages, has-within_page, has-pages_of, has-whole, Desk, Entry, nobody, wanted, request, Word, Fetched, fetches, refuses, lines_within, Attempt, locks_with, with_each, to_read, lowered_pages, with_lowered, AreThere, IsAmong, due_to, permitted, IsOrderly, touched_of, nat_tests, arith}
 use Rattle.desk_law.proofs.Permitted.{any-none, permitted-held}
 
 -- where none passes
 pub filter-none : (test : ℕ → Bool) (xs : List ℕ) → ((x : ℕ) → test x ≡ false) → filter test xs ≡ []
 filter-none test [] none = refl
-filter-none test (x ∷ xs) none = by_test (test x) (none x) (filter-none test xs none)
-  where
-    by_test : (keeps : Bool) → keeps ≡ false → filter test xs ≡ [] → (if keeps then x ∷ filter test xs else filter test xs) ≡ []
-    by_test true e rest = absurd (cc)
-    by_test false e rest = rest
+filter-none test (x ∷ xs) none = grind (arith, nat_tests, filter-none test xs none)
 
 -- pages that are all resident are fetched as they are
 pub fetches-none :
     (word : Word) (frames : ℕ) (kept pages resident : List ℕ) (counted : ℕ) → ((page : ℕ) → has pages page ≡ true → has resident page ≡ true)
     → fetches word frames kept pages resident counted ≡ Fetched resident counted
 fetches-none word frames kept [] resident counted there = refl
-fetches-none word frames kept (page ∷ pages) resident counted there =
-    by_test (has resident page) (there page (or_left (page == page) (has pages page) (eq-eqb page page refl)))
-    (fetches-none word frames kept pages resident counted (λ p inside. there p (or_right (page == p) (has pages p) inside)))
-  where
-    by_test : (here : Bool) → here ≡ true → fetches word frames kept pages resident counted ≡ Fetched resident counted
-        → (if here then fetches word frames kept pages resident counted
-        else if can't_be_read word (counted + 1) then Broken (counted + 1)
-        else fetches word frames kept pages (brought frames kept resident page) (counted + 1))
-        ≡ Fetched resident counted
-    by_test true e rest = rest
-    by_test false e rest = absurd (cc)
+fetches-none word frames kept (page ∷ pages) resident counted there = grind (arith, nat_tests, fetches-none word frames kept pages resident counted (λ p inside. there p (or_right (page == p) (has pages p) inside)))
 
 module _ (desk : Desk) (number : ℕ) (lines : Lines) (are : AreThere desk number lines) where
   pub there-resident : (page : ℕ) → has (pages_of (lines.reads ++ lines.writes)) page ≡ true → has desk.resident page ≡ true
@@ -62,20 +48,11 @@ there-held desk entry is here are =
 
 filter-none-here : (test : ℕ → Bool) (xs : List ℕ) → ((x : ℕ) → has xs x ≡ true → test x ≡ false) → filter test xs ≡ []
 filter-none-here test [] none = refl
-filter-none-here test (x ∷ xs) none =
-    by_test (test x) (none x (or_left (x == x) (has xs x) (eq-eqb x x refl))) (filter-none-here test xs (λ y inside. none y (or_right (x == y) (has xs y) inside)))
-  where
-    by_test : (keeps : Bool) → keeps ≡ false → filter test xs ≡ [] → (if keeps then x ∷ filter test xs else filter test xs) ≡ []
-    by_test true e rest = absurd (cc)
-    by_test false e rest = rest
+filter-none-here test (x ∷ xs) none = grind (arith, nat_tests, filter-none-here test xs (λ y inside. none y (or_right (x == y) (has xs y) inside)))
 
 -- who may store to a line of a page may load all its lines
 stores-loads : (same write bit other : Bool) → permits same write bit true ≡ true → permits same write other false ≡ true
-stores-loads true true bit true may = refl
-stores-loads true true bit false may = refl
-stores-loads true false true other may = absurd (cc)
-stores-loads true false false other may = absurd (cc)
-stores-loads false write bit other may = absurd (cc)
+stores-loads same write bit other h1 = grind (arith, nat_tests)
 
 -- No write bit goes off: of a fine page into which it may store all lines are held to read already.
 pub there-lowered : (desk : Desk) (entry : Entry) (attempt : Attempt) → attempt.entry ≡ entry → attempt.lines ≡ wanted desk entry

@@ -1,5 +1,5 @@
 -- The law of isolation.
-use Rattle.desk_law.proofs.Common.{◌≤◌, ◌≡◌, refl, ℕ, zero, suc, ◌+◌, ◌<◌, ◌==◌, ◌||◌, nat_lt, not, if◌then◌else◌, Bool, true, false, List, [], ◌∷◌, ◌++◌, length, map, find, Option, Some, None, slice_get, flat_map, range_with_len, arith, ap, sym, ◌∙◌, subst, inl, inr, eqb-true, eq-eqb, ne_eqb, ltb-true, or_cases, or_left, or_right, not_from_false, cond-false, FlatStore, IsWhole, line_count, has, Plain, Program, start, after, Event, Begin, Turn, Checkpoint, Crash, Desk, Entry, opened, numbers, Word, Fine, ReadFailed, Unwritten, Doubt, Failed, Counts, Turning, Going, Over, Idle, Committed, Attempt, instruction, turns, turn_of, no_counts, Turned, Busy, Nothing, turned, begin_if, begins, absent_segment, restarted, event_of, step, run, gone_on, row_done, IsAmong, IsConsistent, current_of, current_bytes, turn_desk, Machine, Memory, first_machine, with_machine, given_back, row_of, after_instruction, after_turns, after_event, memory_after, memory_of, IsAlone, IsMemory, FindTheirOwn, RunsAreIsolated, CommitsTellTheMachine, SideBySideIsSerial, IsOrderly}
+use Rattle.desk_law.proofs.Common.{◌≤◌, ◌≡◌, refl, ℕ, zero, suc, ◌+◌, ◌<◌, ◌==◌, ◌||◌, nat_lt, not, if◌then◌else◌, Bool, true, false, List, [], ◌∷◌, ◌++◌, length, map, find, Option, Some, None, slice_get, arith, ap, sym, ◌∙◌, subst, inl, inr, eqb-true, eq-eqb, ne_eqb, ltb-true, or_cases, or_left, or_right, not_from_false, cond-false, FlatStore, IsWhole, has, Program, start, after, Event, Begin, Turn, Checkpoint, Crash, Desk, Entry, opened, numbers, Word, Fine, ReadFailed, Unwritten, Doubt, Failed, Counts, Turning, Going, Over, Idle, Committed, Attempt, instruction, turns, turn_of, no_counts, Turned, Busy, Nothing, turned, begin_if, begins, absent_segment, restarted, event_of, step, run, gone_on, row_done, IsAmong, IsConsistent, current_bytes, turn_desk, Machine, Memory, first_machine, with_machine, given_back, row_of, after_instruction, after_turns, after_event, memory_after, memory_of, IsAlone, IsMemory, FindTheirOwn, RunsAreIsolated, CommitsTellTheMachine, SideBySideIsSerial, IsOrderly, nat_tests}
 use Rattle.flat_machine.proofs.Whole.{serial-whole}
 use Rattle.desk.specs.Commits.{begun, IsSerial}
 use Rattle.desk.specs.Report.{event_lines}
@@ -112,13 +112,7 @@ module _ (old : Desk) (attempt : Attempt) (is : IsOrderly old) (here : IsAmong o
   -- what the machine printed
   told : (memory : Memory) (printed : List ℕ) → IsMemory old memory → printed ≡ attempt.now.out
       → (machine : Machine) × (memory.machines attempt.entry.number ≡ Some machine) × (machine.state.out ≡ printed)
-  told memory printed of is_out =
-      let alone = of.alone attempt.entry here in
-      (alone.it, alone.is, ap (λ (state : Option Plain). out_of state) (sym alone.at ∙ at) ∙ sym is_out)
-    where
-      out_of : Option Plain → List ℕ
-      out_of None = []
-      out_of (Some state) = state.out
+  told memory printed of is_out = grind (arith, nat_tests)
 
 -- the memory after a turn's instruction; where it committed, the machine printed what is told
 abbrev pub TurnMemory : ℕ → Turning → Memory → Type 0
@@ -178,17 +172,7 @@ idle-turns word number (suc left) desk memory is none of =
 -- a begin
 begun-memory : (desk later : Desk) (number : ℕ) (machine : Option Machine) (memory : Memory) → later.committed ≡ desk.committed → later.active ≡ desk.active
     → ((entry : Entry) → IsAmong desk.active entry → (entry.number == number) ≡ false) → IsMemory desk memory → IsMemory later (with_machine number machine memory)
-begun-memory desk later number machine memory store_is active_is other of = record {
-  committed = of.committed ∙ ap (λ (store : FlatStore). store.bytes) (sym store_is);
-  bytes = of.bytes ∙ sym (λ i. bytes_over (store_is i) (active_is i));
-  alone = λ entry among.
-      let there = subst (λ (these : List Entry). IsAmong these entry) active_is among in
-      subst (λ (store : FlatStore). IsAlone store entry (if entry.number == number then machine else memory.machines entry.number)) (sym store_is)
-      (subst (IsAlone desk.committed entry) (sym (cond-false (entry.number == number) machine (memory.machines entry.number) (other entry there))) (of.alone entry there));
-}
-  where
-    bytes_over : FlatStore → List Entry → List ℕ
-    bytes_over store entries = flat_map (current_of store entries) (range_with_len 0 (line_count store.directory))
+begun-memory desk later number machine memory store_is active_is other of = grind (arith, nat_tests)
 
 memory-begin : (programs : List Program) (program : ℕ) (args : List ℕ) (word : Word) (desk : Desk) (memory : Memory) → IsConsistent desk → IsMemory desk memory
     → IsMemory (begin_if program args (slice_get programs program) desk).desk (after_event programs (Begin program args) word desk memory)
@@ -250,18 +234,11 @@ memory-turn : (word : Word) (activation limit : ℕ) (desk : Desk) (memory : Mem
     → (one : Option Entry) → find (λ (entry : Entry). entry.number == activation) desk.active ≡ one
     → IsMemory (turned activation (turn_of one word activation limit desk)).desk (after_turns word activation limit (Going desk no_counts) memory)
 memory-turn word activation limit desk memory is of None found = idle-turns word activation limit desk memory (orderly desk is) found of
-memory-turn word activation limit desk memory is of (Some entry) found =
-    subst (λ (d : Desk). IsMemory d (after_turns word activation limit (Going desk no_counts) memory)) (sym (turned-desk activation (turns word activation limit (Going desk no_counts))))
-    (memory-of-turn activation (turns word activation limit (Going desk no_counts)) (after_turns word activation limit (Going desk no_counts) memory)
-    (own-turn word activation limit desk memory entry is found of))
+memory-turn word activation limit desk memory is of (Some entry) found = grind (arith, nat_tests, turned-desk activation (turns word activation limit (Going desk no_counts)), memory-of-turn activation (turns word activation limit (Going desk no_counts)) (after_turns word activation limit (Going desk no_counts) memory) (own-turn word activation limit desk memory entry is found of), own-turn word activation limit desk memory entry is found of)
 
 -- a crash
 crash-memory : (desk : Desk) (memory : Memory) → IsConsistent desk → IsMemory desk memory → IsMemory (restarted desk) (record memory { bytes = memory.committed })
-crash-memory desk memory is of = record {
-  committed = of.committed;
-  bytes = of.committed ∙ one-current desk.committed [] desk.committed.bytes (current_bytes (restarted desk)) (current-quiet desk.committed is.whole) (bytes-current (restarted desk) is.whole);
-  alone = λ entry among. absurd among;
-}
+crash-memory desk memory is of = grind (arith, nat_tests, one-current desk.committed [] desk.committed.bytes (current_bytes (restarted desk)) (current-quiet desk.committed is.whole) (bytes-current (restarted desk) is.whole), current-quiet desk.committed is.whole, bytes-current (restarted desk) is.whole)
 
 shut-memory : (desk : Desk) (memory : Memory) → IsMemory desk memory → IsMemory (record desk { closed = true }) memory
 shut-memory desk memory of = record { committed = of.committed; bytes = of.bytes; alone = of.alone }
@@ -270,8 +247,7 @@ shut-memory desk memory of = record { committed = of.committed; bytes = of.bytes
 memory-event : (programs : List Program) (event : Event) (word : Word) (desk : Desk) (memory : Memory) → IsConsistent desk → IsMemory desk memory
     → IsMemory (event_of programs event word desk).desk (after_event programs event word desk memory)
 memory-event programs (Begin program args) word desk memory is of = memory-begin programs program args word desk memory is of
-memory-event programs (Turn activation limit) word desk memory is of =
-    memory-turn word activation limit desk memory is of (find (λ (entry : Entry). entry.number == activation) desk.active) refl
+memory-event programs (Turn activation limit) word desk memory is of = grind (arith, nat_tests, memory-turn word activation limit desk memory is of (find (λ (entry : Entry). entry.number == activation) desk.active) refl)
 memory-event programs Checkpoint Failed desk memory is of = shut-memory desk memory of
 memory-event programs Crash Failed desk memory is of = shut-memory (restarted desk) (record memory { bytes = memory.committed }) (crash-memory desk memory is of)
 memory-event programs Crash Fine desk memory is of = crash-memory desk memory is of
@@ -282,12 +258,7 @@ memory-event programs Checkpoint _ desk memory is of = of
 
 memory-step : (programs : List Program) (event : Event) (word : Word) (desk : Desk) (memory : Memory) → IsConsistent desk → IsMemory desk memory
     → IsMemory (step programs event word desk).desk (if desk.closed then memory else after_event programs event word desk memory)
-memory-step programs event word desk memory is of = by_closed desk.closed
-  where
-    by_closed : (closed : Bool)
-        → IsMemory (if closed then record { desk = desk; happening = Nothing } else event_of programs event word desk).desk (if closed then memory else after_event programs event word desk memory)
-    by_closed true = of
-    by_closed false = memory-event programs event word desk memory is of
+memory-step programs event word desk memory is of = grind (arith, nat_tests, memory-event)
 
 -- a run
 memory-run : (programs : List Program) (events : List (Event × Word)) (desk : Desk) (memory : Memory) → IsConsistent desk → IsMemory desk memory
@@ -298,29 +269,18 @@ memory-run programs (event ∷ events) desk memory is of =
     (stays-consistent programs event.0 event.1 desk is) (memory-step programs event.0 event.1 desk memory is of)
 
 opened-memory : (frames most_active most_lines : ℕ) (store : FlatStore) → IsWhole store → IsMemory (opened frames most_active most_lines store) (memory_of store)
-opened-memory frames most_active most_lines store whole = record {
-  committed = refl;
-  bytes =
-      one-current store [] store.bytes (current_bytes (opened frames most_active most_lines store)) (current-quiet store whole)
-      (bytes-current (opened frames most_active most_lines store) whole);
-  alone = λ entry among. absurd among;
-}
+opened-memory frames most_active most_lines store whole = grind (arith, nat_tests, one-current store [] store.bytes (current_bytes (opened frames most_active most_lines store)) (current-quiet store whole) (bytes-current (opened frames most_active most_lines store) whole), current-quiet store whole, bytes-current (opened frames most_active most_lines store) whole)
 
 memory-runs : (programs : List Program) (frames most_active most_lines : ℕ) (store : FlatStore) (events : List (Event × Word)) → IsWhole store → 2 ≤ frames
     → IsMemory (run programs events (opened frames most_active most_lines store)) (memory_after programs events (opened frames most_active most_lines store) (memory_of store))
-memory-runs programs frames most_active most_lines store events whole two =
-    memory-run programs events (opened frames most_active most_lines store) (memory_of store)
-    (runs-consistent programs frames most_active most_lines store [] whole two) (opened-memory frames most_active most_lines store whole)
+memory-runs programs frames most_active most_lines store events whole two = grind (arith, nat_tests, memory-run programs events (opened frames most_active most_lines store) (memory_of store) (runs-consistent programs frames most_active most_lines store [] whole two) (opened-memory frames most_active most_lines store whole), runs-consistent programs frames most_active most_lines store [] whole two, opened-memory frames most_active most_lines store whole)
 
 -- an entry's own lines are in the bytes of all
 own-found : (desk : Desk) (memory : Memory) → IsConsistent desk → IsMemory desk memory → FindTheirOwn desk memory
-own-found desk memory is of entry state here at line holds =
-    (memory-current desk memory is.whole of).lines line ∙ sym (holders-see-current desk entry state line is here at holds)
+own-found desk memory is of entry state here at line holds = grind (arith, nat_tests, memory-current desk memory is.whole of, holders-see-current desk entry state line is here)
 
 pub runs-are-isolated : RunsAreIsolated
-runs-are-isolated programs frames most_active most_lines store events whole two =
-    let is = memory-runs programs frames most_active most_lines store events whole two in
-    (is, own-found _ _ (runs-consistent programs frames most_active most_lines store events whole two) is)
+runs-are-isolated programs frames most_active most_lines store events whole two = grind (arith, nat_tests, memory-runs, own-found, runs-consistent)
 
 -- one event more
 memory-more : (programs : List Program) (events : List (Event × Word)) (event : Event × Word) (desk : Desk) (memory : Memory)

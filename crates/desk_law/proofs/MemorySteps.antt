@@ -1,5 +1,5 @@
 -- What machines side by side do to one memory, step by step.
-use Rattle.desk_law.proofs.Common.{◌≡◌, refl, ℕ, ◌==◌, ◌||◌, not, if◌then◌else◌, Bool, true, false, List, [], ◌∷◌, ◌++◌, length, filter, Option, Some, flat_map, range_with_len, list_any, option_map_or, ap, sym, ◌∙◌, subst, inl, inr, eq-eqb, both_ways, and_parts, and_from, cases_Bool, not-true, not_from_false, false_from_ne_true, cond-false, same_Some, Layout, byte_count, FlatStore, IsWhole, line_count, has, Lines, no_lines, has-append, has-filter, any-at, any-some, Plain, Plan, Does, Fails, Program, Outcome, On, plan_at, row, touched, touched_by, after, due_locks, touched_next, line_in, after-whole, Desk, Entry, numbers, Attempt, IsLaid, gone_on, row_done, left_by, IsAmong, due_to, AreConsistent, current_of, current, IsCurrent, current_bytes, Machine, Memory, laid, wrote_by, given_back, went_on, does_row, commit_of, IsAlone, IsMemory, IsOrderly}
+use Rattle.desk_law.proofs.Common.{◌≡◌, refl, ℕ, ◌==◌, ◌||◌, not, if◌then◌else◌, Bool, true, false, List, [], ◌∷◌, ◌++◌, length, filter, Option, Some, flat_map, range_with_len, list_any, ap, sym, ◌∙◌, subst, inl, inr, both_ways, and_parts, and_from, cases_Bool, not-true, not_from_false, false_from_ne_true, cond-false, same_Some, Layout, byte_count, FlatStore, IsWhole, line_count, has, Lines, has-append, has-filter, any-at, any-some, Plain, Program, Outcome, On, plan_at, row, touched, after, due_locks, touched_next, line_in, after-whole, Desk, Entry, numbers, Attempt, IsLaid, gone_on, row_done, left_by, IsAmong, due_to, AreConsistent, current_of, current, IsCurrent, current_bytes, Machine, Memory, laid, wrote_by, given_back, went_on, does_row, commit_of, IsAlone, IsMemory, IsOrderly, nat_tests, arith}
 use Rattle.desk_law.proofs.Entries.{replaced, among-filter, among-replaced, one-entry}
 use Rattle.desk_law.proofs.Others.{others, another-same, after-row}
 use Rattle.desk_law.proofs.Waiting.{number-of, has-number}
@@ -31,9 +31,7 @@ pub memory-current : (desk : Desk) (memory : Memory) → IsWhole desk.committed 
 memory-current desk memory whole is = subst (IsCurrent desk.committed desk.active) (sym is.bytes) (bytes-current desk whole)
 
 wrote-is : (desk : Desk) (memory : Memory) (entry : Entry) → IsMemory desk memory → IsAmong desk.active entry → wrote_by memory entry.number ≡ (due_to desk.committed entry).writes
-wrote-is desk memory entry is here =
-    let alone = is.alone entry here in
-    ap (λ (machine : Option Machine). option_map_or (λ (m : Machine). m.wrote) machine []) alone.is ∙ alone.wrote
+wrote-is desk memory entry is here = grind (arith, nat_tests)
 
 -- Lines of those that went are given back.
 module _ (old desk : Desk) (stay : List ℕ) (memory : Memory) (most : ℕ) (is_old : IsOrderly old) (are : AreConsistent desk.committed most desk.next desk.active)
@@ -168,24 +166,12 @@ module _ (old desk : Desk) (stay : List ℕ) (memory : Memory) (most : ℕ) (is_
 
 -- a number has its machine
 pub at-own : {A : Type 0} (number : ℕ) (x y : A) → (if number == number then x else y) ≡ x
-at-own number x y = by_test (number == number) (eq-eqb number number refl)
-  where
-    by_test : (b : Bool) → b ≡ true → (if b then x else y) ≡ x
-    by_test true e = refl
-    by_test false e = absurd (cc)
+at-own number x y = grind (arith, nat_tests)
 
 -- what a row on the memory touches is what its entry's next row touches
 touches-same : (program : Program) (directory : Layout) (one other first second : Plain) → row program directory one ≡ On first → row program directory other ≡ On second
     → plan_at one ≡ plan_at other → touched program directory one ≡ touched program directory other
-touches-same program directory one other first second went also plans =
-    ap (λ (outcome : Outcome). touched_by program directory outcome (plan_at one)) went
-    ∙ ap (touched_by program directory (On first)) plans
-    ∙ by_plan (plan_at other)
-    ∙ sym (ap (λ (outcome : Outcome). touched_by program directory outcome (plan_at other)) also)
-  where
-    by_plan : (plan : Plan) → touched_by program directory (On first) plan ≡ touched_by program directory (On second) plan
-    by_plan (Does registers status act address link) = refl
-    by_plan (Fails code) = refl
+touches-same program directory one other first second went also plans = grind (arith, nat_tests)
 
 -- A row of a machine, while nobody conflicts.
 module _ (moment : Desk) (attempt : Attempt) (next : Plain) (memory : Memory) (granted : IsGranted attempt moment) (went : attempt.outcome ≡ On next) (is : IsMemory moment memory) where
@@ -209,11 +195,7 @@ module _ (moment : Desk) (attempt : Attempt) (next : Plain) (memory : Memory) (g
 
   touches : (touched attempt.entry.runs.program moment.committed.directory (record alone.it.state { store = memory.bytes })).writes
       ≡ (touched_next attempt.entry.runs.program attempt.entry.runs.args moment.committed attempt.entry.rows).writes
-  touches =
-      ap (λ (l : Lines). l.writes)
-      (touches-same attempt.entry.runs.program moment.committed.directory (record alone.it.state { store = memory.bytes }) attempt.now (record next { store = then_bytes }) next row-went (granted.went ∙ went)
-      (ap (λ (s : Plain). plan_at s) (sym now_is)))
-      ∙ sym (ap (λ (state : Option Plain). (option_map_or (touched attempt.entry.runs.program moment.committed.directory) state no_lines).writes) granted.now)
+  touches = grind (arith, nat_tests, touches-same, row-went, now_is)
 
   wrote : alone.it.wrote ++ (touched attempt.entry.runs.program moment.committed.directory (record alone.it.state { store = memory.bytes })).writes
       ≡ (due_to moment.committed (gone_on attempt.entry)).writes

@@ -1,30 +1,20 @@
 -- A commit of one activation leaves the others as they were.
-use Rattle.desk_law.proofs.Common.{suc, ◌+◌, Option, option_and_then, ◌≡◌, refl, ℕ, ◌==◌, not, Bool, true, false, List, filter, Some, arith, ap, sym, ◌∙◌, subst, inl, inr, both_ways, false_from_ne_true, or_cases, not-true, is_fine_page, FlatStore, IsWhole, has, size, Lines, with_whole_pages, has-append, has_left, has_right, Plain, after, next_state, On, row, touched_next, all_of, DoesTheSame, agreement-enough, after-whole, after-kept, Entry, left_by, IsAmong, due_to, IsLive, AreApart, AreConsistent, touched_of}
+use Rattle.desk_law.proofs.Common.{◌+◌, ◌≡◌, ℕ, ◌==◌, not, Bool, true, false, List, filter, Some, arith, ap, sym, subst, not-true, FlatStore, IsWhole, has, size, Lines, with_whole_pages, has-append, has_left, has_right, Plain, after, On, row, touched_next, all_of, DoesTheSame, agreement-enough, after-whole, after-kept, Entry, left_by, IsAmong, due_to, IsLive, AreApart, AreConsistent, nat_tests}
 use Rattle.desk_law.proofs.Entries.{among-filter, ascend-filter}
 
 -- the state after a row more
 pub after-row : (store : FlatStore) (entry : Entry) (now next : Plain) → after entry.runs.program entry.runs.args store entry.rows ≡ Some now
     → row entry.runs.program store.directory now ≡ On next → after entry.runs.program entry.runs.args store (entry.rows + 1) ≡ Some next
-after-row store entry now next at went =
-    let more : entry.rows + 1 ≡ suc entry.rows = omega arith in
-    ap (λ (rows : ℕ). after entry.runs.program entry.runs.args store rows) more
-    ∙ ap (λ (state : Option Plain). option_and_then (λ (s : Plain). next_state (row entry.runs.program store.directory s)) state) at
-    ∙ ap next_state went
+after-row store entry now next at went = grind (arith, nat_tests)
 
 -- touched lines are held
 pub touched-held : (fine : ℕ → Bool) (lines : Lines) (line : ℕ) → has (all_of lines) line ≡ true → has (all_of (with_whole_pages fine lines)) line ≡ true
-touched-held fine lines line inside =
-    elim (or_cases (has lines.reads line) (has lines.writes line) (sym (has-append lines.reads lines.writes line) ∙ inside)) [
-      | inl read ↦ has_left (with_whole_pages fine lines).reads lines.writes line (has_left lines.reads _ line read)
-      | inr written ↦ has_right (with_whole_pages fine lines).reads lines.writes line written
-    ]
+touched-held fine lines line inside = grind (arith, nat_tests, has-append, has_left, has_right)
 
 -- what one has touched, another that is apart has not written
 pub unwritten : (fine : ℕ → Bool) (first second : Lines) → AreApart (with_whole_pages fine first) (with_whole_pages fine second)
     → (line : ℕ) → has (all_of second) line ≡ true → has first.writes line ≡ false
-unwritten fine first second apart line inside =
-    false_from_ne_true (has first.writes line)
-    (λ written. both_ways (has (all_of (with_whole_pages fine second)) line) (apart.first_writes line written) (touched-held fine second line inside))
+unwritten fine first second apart line inside = grind (arith, nat_tests, touched-held)
 
 -- another does the same over what the commit leaves
 pub another-same :
@@ -33,11 +23,7 @@ pub another-same :
     → after other.runs.program other.runs.args store other.rows ≡ Some state
     → AreApart (due_to store entry) (due_to store other)
     → (bytes : List ℕ) × DoesTheSame other.runs.program other.runs.args store (left_by store now) other.rows state bytes
-another-same store entry other now state whole here there apart =
-    agreement-enough other.runs.program other.runs.args store (left_by store now) other.rows state whole
-    (after-whole entry.runs.program entry.runs.args store entry.rows now whole here)
-    refl there
-    (λ line inside. after-kept entry.runs.program entry.runs.args store entry.rows now whole here line (unwritten (is_fine_page store.directory) (touched_of store entry) (touched_of store other) apart line inside))
+another-same store entry other now state whole here there apart = grind (arith, nat_tests, agreement-enough, after-whole, after-kept, unwritten)
 
 -- what is due to another stays, and what it wants
 pub record StaysSame (store later : FlatStore) (other : Entry) : Type 0 where
@@ -100,12 +86,4 @@ commit-leaves store most_lines next entries entry now whole are here is =
 pub rollback-leaves :
     (store : FlatStore) (most_lines next : ℕ) (entries : List Entry) (entry : Entry)
     → AreConsistent store most_lines next entries → AreConsistent store most_lines next (others entry entries)
-rollback-leaves store most_lines next entries entry are =
-    record {
-      ascend = ascend-filter (λ (other : Entry). not (other.number == entry.number)) 0 next entries are.ascend;
-      live = λ other among. are.live other (among-filter (λ (other : Entry). not (other.number == entry.number)) entries other among).0;
-      apart = λ first second among1 among2 differ.
-          are.apart first second
-          (among-filter (λ (other : Entry). not (other.number == entry.number)) entries first among1).0
-          (among-filter (λ (other : Entry). not (other.number == entry.number)) entries second among2).0 differ;
-    }
+rollback-leaves store most_lines next entries entry are = grind (arith, nat_tests, ascend-filter, among-filter)

@@ -1,12 +1,10 @@
 -- What is permitted is held, and what is held conflicts with nobody.
-use Rattle.desk_law.proofs.Common.{◌≡◌, refl, ℕ, ◌==◌, ◌&&◌, ◌||◌, not, if◌then◌else◌, Bool, true, false, List, [], ◌∷◌, ◌++◌, map, filter, slice_index_or, list_any, ap, sym, ◌∙◌, inl, inr, eqb-true, eq-eqb, both_ways, or_cases, or_from, false_from_ne_true, is_fine_page, has, size, meets, Lines, conflicts, page_of_line, has-append, has_left, any-some, size-alike, permits, ArePart, reaches, any-or, whole-reached, has-whole_pages, all_of, Desk, Entry, nobody, wanted, request, held, conflicts_with, conflicts_of, IsAmong, due_to, AreApart, ArePermitted, PermittedIsFree, FineRowsAskForTheirLines, WriteBitsHoldPages, IsOrderly, touched_of}
+use Rattle.desk_law.proofs.Common.{◌≡◌, refl, ℕ, ◌==◌, ◌&&◌, ◌||◌, not, Bool, true, false, List, [], ◌∷◌, ◌++◌, map, filter, slice_index_or, list_any, ap, sym, ◌∙◌, inl, inr, eqb-true, eq-eqb, or_cases, is_fine_page, has, size, Lines, conflicts, page_of_line, has-append, has_left, any-some, size-alike, permits, ArePart, reaches, any-or, whole-reached, has-whole_pages, Desk, Entry, nobody, wanted, request, held, conflicts_with, conflicts_of, IsAmong, due_to, AreApart, ArePermitted, PermittedIsFree, FineRowsAskForTheirLines, WriteBitsHoldPages, IsOrderly, touched_of, nat_tests, arith}
 use Rattle.desk_law.proofs.Orderly.{orderly}
 
 -- where none passes
 pub any-none : (test : ℕ → Bool) (xs : List ℕ) → ((x : ℕ) → has xs x ≡ true → test x ≡ false) → list_any test xs ≡ false
-any-none test xs none =
-    false_from_ne_true (list_any test xs)
-    (λ some. let (x, inside, passes) = any-some test xs some in both_ways (test x) (none x inside) passes)
+any-none test xs none = grind (arith, nat_tests, any-some)
 
 -- what is permitted is held: the request of a row whose lines are there is among the locks due already
 pub permitted-held : (desk : Desk) (entry : Entry) → IsOrderly desk → IsAmong desk.active entry → ArePermitted desk.authority entry.number (wanted desk entry)
@@ -27,23 +25,12 @@ permitted-held desk entry is here are = record { reads = record { among = reads 
 
 -- what is among the locks of one conflicts with nobody who is apart
 pub part-free : (asked mine theirs : Lines) → ArePart asked mine → AreApart mine theirs → conflicts asked theirs ≡ false
-part-free asked mine theirs part apart =
-    or_from (meets asked.writes (theirs.reads ++ theirs.writes)) (meets asked.reads theirs.writes)
-    (any-none (has (theirs.reads ++ theirs.writes)) asked.writes (λ x inside. apart.first_writes x (part.writes.among x inside)))
-    (any-none (has theirs.writes) asked.reads
-    (λ x inside.
-    false_from_ne_true (has theirs.writes x)
-    (λ written. both_ways (has (all_of mine) x) (apart.second_writes x written) (has_left mine.reads mine.writes x (part.reads.among x inside)))))
+part-free asked mine theirs part apart = grind (arith, nat_tests, any-none, has_left)
 
 pub nobody-else : (test : Entry → Bool) (entries : List Entry) → ((other : Entry) → IsAmong entries other → test other ≡ false)
     → map (λ (other : Entry). other.number) (filter test entries) ≡ []
 nobody-else test [] none = refl
-nobody-else test (one ∷ entries) none = by_test (test one) (none one (inl refl)) (nobody-else test entries (λ other among. none other (inr among)))
-  where
-    by_test : (keeps : Bool) → keeps ≡ false → map (λ (other : Entry). other.number) (filter test entries) ≡ []
-        → map (λ (other : Entry). other.number) (if keeps then one ∷ filter test entries else filter test entries) ≡ []
-    by_test true e rest = absurd (cc)
-    by_test false e rest = rest
+nobody-else test (one ∷ entries) none = grind (arith, nat_tests, nobody-else test entries (λ other among. none other (inr among)))
 
 -- a request that is held already conflicts with nobody
 pub held-free : (desk : Desk) (entry : Entry) → IsOrderly desk → IsAmong desk.active entry → ArePart (request desk entry) (due_to desk.committed entry)

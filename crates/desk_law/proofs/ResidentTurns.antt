@@ -1,5 +1,5 @@
 -- A turn leaves resident pages that fit.
-use Rattle.desk_law.proofs.Common.{◌≡◌, refl, ℕ, zero, suc, ◌+◌, ◌<◌, ◌≤◌, ◌==◌, Bool, true, false, List, [], ◌∷◌, ◌++◌, length, find, Option, Some, None, option_map_or, arith, ap, sym, ◌∙◌, eqb-true, Layout, page_count, line_count, has, no_lines, page_of_line, shown_cycle, victim_of, any-some, has-pages_of, Plain, Program, Outcome, On, Commit, Check, row, after, touched, all_of, touched-below, Desk, Entry, with_entry, rolled_back, wanted, conflicts_of, numbers, waits_for, Word, Unwritten, Counts, Turning, Going, Over, Attempt, Fetching, Fetched, Broken, Contest, Contested, Settled, Lost, attempts, attempts_at, instruction, turns, touched_pages, limited, is_over_limit, fetched_first, fetches_touched, asks, gets, goes_on, takes_effect, commits, contest_ends, waits_or_gets, with_grants, refused_pages, breaks_cycle, breaks_cycles, AreResident}
+use Rattle.desk_law.proofs.Common.{◌≡◌, refl, ℕ, zero, suc, ◌<◌, ◌≤◌, ◌==◌, Bool, true, false, List, [], ◌∷◌, ◌++◌, length, find, Option, Some, None, option_map_or, arith, ap, sym, ◌∙◌, eqb-true, Layout, page_count, line_count, has, no_lines, page_of_line, shown_cycle, victim_of, any-some, has-pages_of, Plain, Program, Outcome, On, Commit, Check, row, after, touched, all_of, touched-below, Desk, Entry, with_entry, rolled_back, wanted, conflicts_of, numbers, waits_for, Word, Unwritten, Counts, Turning, Going, Over, Attempt, Fetching, Fetched, Broken, Contest, Contested, Settled, Lost, attempts, attempts_at, instruction, turns, touched_pages, limited, is_over_limit, fetched_first, fetches_touched, asks, gets, goes_on, takes_effect, commits, contest_ends, waits_or_gets, with_grants, breaks_cycle, breaks_cycles, AreResident, nat_tests}
 use Rattle.desk_law.proofs.Contest.{breaks-keep, left_over}
 use Rattle.desk_law.proofs.ResidentPages.{FetchFits, fetches-resident, taken-resident, none-resident}
 
@@ -99,11 +99,7 @@ module _ (word : Word) (attempt : Attempt) (directory : Layout) (below : (page :
 
   fits-first : (desk : Desk) (counts : Counts) (fetching : Fetching) → desk.committed.directory ≡ directory → Fits desk → FetchFits desk.frames (page_count desk.committed.directory) fetching
       → TurnFits (fetched_first word attempt desk counts fetching)
-  fits-first desk counts (Fetched resident counted) same is are =
-      let there = record desk { resident = resident } in
-      fits-ask (refused_pages attempt there) (conflicts_of there attempt.entry) there
-      (record { ran = counts.ran; pages = counted; locks = counts.locks + length (refused_pages attempt there); cycles = counts.cycles })
-      same (resident-fits desk resident is are)
+  fits-first desk counts (Fetched resident counted) same is are = grind (arith, nat_tests, fits-ask, resident-fits)
   fits-first desk counts (Broken counted) same is are = record { frames = is.frames; resident = none-resident desk.frames (page_count desk.committed.directory) }
 
   fits-limit : (over : Bool) (desk : Desk) (counts : Counts) → desk.committed.directory ≡ directory → Fits desk → TurnFits (limited over word attempt desk counts)

@@ -1,7 +1,7 @@
 -- An instruction of a consistent desk whose lines are all there: nothing is counted but the row, and nothing else changes.
 use Rattle.desk_law.proofs.Common.{nat_lt, ◌≡◌, refl, ℕ, ◌+◌, Bool, true, false, List, [], ◌++◌, length, filter, Some, slice_index_or, arith, ap, sym, ◌∙◌, subst, inl, inr, list_any, or_cases, is_fine_page, has, size, Lines, both, with_whole_pages, pages_of, has-append, has_left, any-some, ArePart, reaches, whole-reached, part-both, part-whole_pages, has-whole_pages, Plain, On, Commit, Check, row, after, Desk, Entry, nobody, with_entry, rolled_back, wanted, request, conflicts_of, Word, Counts, Going, Over, Checked, Attempt, Fetched, fetches, instruction, lines_written, refuses, lines_within, gets, takes_effect, commits, nat_tests, AreThere, AreAlike, gone_on, IsAmong, due_to, IsOrderly, touched_of}
 use Rattle.desk_law.proofs.GoesOn.{due-more}
-use Rattle.desk_law.proofs.InstructionStages.{attempt_of, GoesOn, instruction-at, stage-check, stage-limit, stage-fetched, stage-gets, stage-on, stage-commit}
+use Rattle.desk_law.proofs.InstructionStages.{attempt_of, GoesOn, instruction-at, stage-limit, stage-fetched, stage-gets, stage-on, stage-commit}
 use Rattle.desk_law.proofs.LinesThere.{filter-none, fetches-none, there-resident, there-unrefused, there-held, there-lowered}
 use Rattle.desk_law.proofs.Permitted.{held-free, held-written}
 use Rattle.desk_law.proofs.Endings.{wanted-commit}
@@ -124,5 +124,4 @@ pub check-row :
     → after entry.runs.program entry.runs.args desk.committed entry.rows ≡ Some now
     → row entry.runs.program desk.committed.directory now ≡ Check code
     → instruction word (Some entry) desk counts ≡ Over (rolled_back desk entry) counts (Checked code now.iar)
-check-row word desk counts entry now code at went =
-    instruction-at word entry desk counts now at ∙ stage-check word (attempt_of desk entry now) desk counts code (attempt_of desk entry now).outcome went
+check-row word desk counts entry now code at went = grind (arith, nat_tests, instruction-at word entry desk counts now, attempt_of desk entry now)

@@ -1,5 +1,5 @@
 -- The end of an instruction that was served: its pages are granted and there, and its row goes on over the bytes of all.
-use Rattle.desk_law.proofs.Common.{◌≡◌, refl, ℕ, ◌+◌, ◌<◌, true, List, [], ◌++◌, length, filter, slice_index_or, Option, option_map_or, arith, ap, sym, ◌∙◌, is_fine_page, line_count, has, Lines, no_lines, both, with_whole_pages, page_of_line, has_left, has_right, pages_of-line, Plain, On, row, touched, all_of, touched-below, Desk, Authority, nobody, conflicts_of, Word, Counts, Going, Attempt, Fetched, fetches, touched_pages, refuses, lines_within, granted, locks_with, with_grants, gets, AreThere, over_all, gone_on, row_done, IsCurrent, ArePermitted, KeepsPages, touched_of, IsUnderWay, IsReady, IsOrderly}
+use Rattle.desk_law.proofs.Common.{◌≡◌, refl, ℕ, ◌+◌, ◌<◌, true, List, [], ◌++◌, length, filter, slice_index_or, arith, ap, sym, ◌∙◌, is_fine_page, has, Lines, both, with_whole_pages, page_of_line, has_left, has_right, pages_of-line, Plain, On, row, all_of, touched-below, Desk, Authority, nobody, conflicts_of, Word, Counts, Going, Attempt, Fetched, fetches, touched_pages, refuses, lines_within, granted, locks_with, with_grants, gets, AreThere, over_all, gone_on, row_done, IsCurrent, ArePermitted, KeepsPages, touched_of, IsUnderWay, IsReady, IsOrderly, nat_tests}
 use Rattle.desk_law.proofs.AttemptsOnCurrent.{shown-current}
 use Rattle.desk_law.proofs.Entries.{replaced}
 use Rattle.desk_law.proofs.GoesOn.{ready-again, grants-held, row-goes-on}
@@ -20,12 +20,7 @@ got attempt refused resident desk =
 
 -- A touched line lies on a page of the store.
 pub touched-page : (attempt : Attempt) (desk : Desk) → IsReady attempt desk → (line : ℕ) → has (all_of attempt.lines) line ≡ true → page_of_line line < length desk.authority
-touched-page attempt desk ready line inside =
-    let lines : attempt.lines ≡ touched attempt.entry.runs.program desk.committed.directory attempt.now =
-    ready.lines ∙ ap (λ (state : Option Plain). option_map_or (touched attempt.entry.runs.program desk.committed.directory) state no_lines) ready.now in
-    let below : line < line_count desk.committed.directory =
-    touched-below attempt.entry.runs.program desk.committed.directory attempt.now line (ap (λ (l : Lines). has (all_of l) line) (sym lines) ∙ inside) in
-    omega (arith, below, ready.contending.held.pages)
+touched-page attempt desk ready line inside = grind (arith, nat_tests, touched-below)
 
 -- Once the refused pages are granted and all are there, the second attempt isn't refused.
 pub served-there :

@@ -1,6 +1,6 @@
 -- The stages put together: a fault that meets no conflict, and one whose contest left none, go on; and the second attempt of
 -- each finds its lines there.
-use Rattle.desk_law.proofs.Common.{false, nat_lt, ◌≡◌, refl, ℕ, ◌+◌, true, List, [], ◌∷◌, length, filter, map, Some, ap, sym, ◌∙◌, subst, is_fine_page, Lines, with_whole_pages, Plain, On, row, after, Desk, Entry, with_entry, conflicts_of, Word, Fine, Counts, Turning, Going, Attempt, Fetched, fetches, instruction, lines_written, touched_pages, refused_pages, gets, asks, AreAlike, over_all, requested, IsTableBut, kept_conflict, AreStatesBut, IsTold, Reads, gone_on, row_done, IsAmong, due_to, IsReady, served_attempt, IsOrderly}
+use Rattle.desk_law.proofs.Common.{false, nat_lt, ◌≡◌, ℕ, ◌+◌, true, List, [], ◌∷◌, length, filter, map, Some, ap, sym, ◌∙◌, subst, Lines, Plain, On, row, after, Desk, Entry, with_entry, conflicts_of, Word, Fine, Counts, Turning, Going, Attempt, Fetched, fetches, instruction, lines_written, touched_pages, refused_pages, gets, asks, AreAlike, over_all, requested, IsTableBut, kept_conflict, AreStatesBut, IsTold, Reads, gone_on, row_done, IsAmong, due_to, IsReady, served_attempt, IsOrderly, nat_tests, arith}
 use Rattle.desk_law.proofs.AttemptsOnCurrent.{wanted-is}
 use Rattle.desk_law.proofs.KeptTables.{conflicts-kept}
 use Rattle.desk_law.proofs.ServedEffect.{got}
@@ -47,17 +47,10 @@ module _ (desk : Desk) (counts : Counts) (entry : Entry) (now shown : Plain) (by
       → instruction word (Some entry) desk counts
       ≡ gets word (served_attempt desk entry now bytes) (refused_pages (served_attempt desk entry now bytes) desk) (record desk { resident = first })
       (record counts { pages = counted; locks = counts.locks + length (refused_pages (served_attempt desk entry now bytes) desk) })
-  free-gets none word reads =
-      serve-asks desk counts entry now shown bytes is here at went within locks requests first counted told.kept fetched word reads
-      ∙ ap
-      (λ (holders : List ℕ). asks word (served_attempt desk entry now bytes) (refused_pages (served_attempt desk entry now bytes) desk) holders (record desk { resident = first })
-      (record counts { pages = counted; locks = counts.locks + length (refused_pages (served_attempt desk entry now bytes) desk) }))
-      none
+  free-gets none word reads = grind (arith, nat_tests, serve-asks desk counts entry now shown bytes is here)
 
   alike-asked : AreAlike (asked_for desk.committed.directory (served_attempt desk entry now bytes)) (requested desk.committed entry)
-  alike-asked =
-      subst (λ (l : Lines). AreAlike (with_whole_pages (is_fine_page desk.committed.directory) l) (requested desk.committed entry)) (wanted-is desk entry now shown bytes at went)
-      (record { reads = λ line. refl; writes = λ line. refl })
+  alike-asked = grind (arith, nat_tests, wanted-is desk entry now shown bytes)
 
   pub free-none : map (λ (other : Entry). other.number) (filter (kept_conflict (asked_for desk.committed.directory (served_attempt desk entry now bytes)) locks entry.number) desk.active) ≡ []
       → conflicts_of (record desk { resident = first }) entry ≡ []

@@ -1,6 +1,6 @@
 -- The first half of serving a fault: the limit, the pages, the refused pages and the conflicts, from what an attempt over the
 -- bytes of all tells.
-use Rattle.desk_law.proofs.Common.{Bool, true, false, nat_lt, ◌≡◌, refl, ℕ, ◌+◌, ◌≤◌, List, [], ◌++◌, length, filter, map, Some, ltb-false, arith, ap, sym, ◌∙◌, subst, Layout, is_fine_page, size, Lines, with_whole_pages, Plain, On, row, touched, after, Desk, Entry, rolled_back, wanted, request, conflicts_of, Word, Fine, Counts, Turning, Going, Over, Journal, Disk, Attempt, Fetched, Broken, fetches, instruction, attempts, limited, is_over_limit, lines_written, touched_pages, refused_pages, asks, gets, AreAlike, over_all, AreKept, kept_conflict, Reads, row_done, IsAmong, due_to, IsReady, touched_of, served_attempt, IsOrderly}
+use Rattle.desk_law.proofs.Common.{Bool, true, false, nat_lt, ◌≡◌, refl, ℕ, ◌+◌, ◌≤◌, List, [], ◌++◌, length, filter, map, Some, ltb-false, arith, ap, sym, ◌∙◌, subst, Layout, is_fine_page, size, Lines, with_whole_pages, Plain, On, row, touched, after, Desk, Entry, rolled_back, wanted, request, conflicts_of, Word, Fine, Counts, Turning, Going, Over, Journal, Disk, Attempt, Fetched, Broken, fetches, instruction, attempts, limited, is_over_limit, lines_written, touched_pages, refused_pages, asks, gets, AreAlike, over_all, AreKept, kept_conflict, Reads, row_done, IsAmong, due_to, IsReady, touched_of, served_attempt, IsOrderly, nat_tests}
 use Rattle.desk_law.proofs.AlikeSets.{written-alike}
 use Rattle.desk_law.proofs.AttemptsOnCurrent.{IsOwnRow, own-row, wanted-is}
 use Rattle.desk_law.proofs.Contest.{contending}
@@ -101,6 +101,4 @@ pub serve-ends :
     → fetches Fine desk.frames (touched_pages attempt) (touched_pages attempt) desk.resident counts.pages ≡ Fetched resident counted
     → (word : Word) → Reads word counted
     → begins word ≡ Going (row_done attempt (got attempt refused resident desk)) (record counts { pages = counted; ran = counts.ran + 1 })
-serve-ends begins attempt refused resident desk counts counted locks requests states shown comes served fetched word reads =
-    comes word (λ page few. reads page (omega (arith, few, (fetched-few Fine desk.frames (touched_pages attempt) (touched_pages attempt) desk.resident resident counts.pages counted fetched).0)))
-    ∙ served.comes word (fetched-for word desk.frames (touched_pages attempt) (touched_pages attempt) desk.resident resident counts.pages counted fetched reads)
+serve-ends begins attempt refused resident desk counts counted locks requests states shown comes served fetched word reads = grind (arith, nat_tests, fetched-few Fine desk.frames (touched_pages attempt) (touched_pages attempt) desk.resident resident counts.pages counted fetched, fetched-for word desk.frames (touched_pages attempt) (touched_pages attempt) desk.resident resident counts.pages counted fetched reads)

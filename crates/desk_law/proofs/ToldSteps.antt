@@ -1,6 +1,6 @@
 -- What a supervisor keeps beside a desk: locks and requests by number, states but for their store, and one list of bytes for
 -- all; and what steps do to it.
-use Rattle.desk_law.proofs.Common.{◌≡◌, ℕ, ◌+◌, ◌==◌, not, Bool, true, List, [], Some, ap, sym, ◌∙◌, subst, inl, inr, not-true, FlatStore, IsWhole, Lines, Plain, On, row, after, after-whole, Desk, Entry, conflicts_of, Word, Counts, Going, Attempt, Fetched, fetches, touched_pages, gets, IsLaid, AreAlike, over_all, requested, IsTableBut, IsState, AreStates, AreStatesBut, IsTold, left_by, gone_on, row_done, IsAmong, due_to, AreConsistent, IsReady, IsOrderly}
+use Rattle.desk_law.proofs.Common.{◌≡◌, ℕ, ◌+◌, ◌==◌, not, Bool, true, List, [], Some, ap, sym, ◌∙◌, subst, inl, inr, not-true, FlatStore, IsWhole, Lines, Plain, On, row, after, after-whole, Desk, Entry, conflicts_of, Word, Counts, Going, Attempt, Fetched, fetches, touched_pages, gets, IsLaid, AreAlike, over_all, requested, IsTableBut, IsState, AreStates, AreStatesBut, IsTold, left_by, gone_on, row_done, IsAmong, due_to, AreConsistent, IsReady, IsOrderly, nat_tests, arith}
 use Rattle.desk_law.proofs.CurrentSteps.{current-rolled, current-committed, commit-laid, current-marked}
 use Rattle.desk_law.proofs.Entries.{replaced, among-replaced, among-filter}
 use Rattle.desk_law.proofs.GoesOn.{apart-turned}
@@ -44,11 +44,7 @@ pub told-mark :
     → IsAmong entries entry → IsTold store entries locks requests states bytes
     → AreAlike (new entry.number) (requested store entry) → IsTableBut entry.number requests new
     → IsTold store (replaced (record entry { waiting = true }) entries) locks new states bytes
-told-mark store most_lines next entries locks requests new states bytes entry are later here told alike but = record {
-  kept = kept-mark store entries locks requests told.kept entry new here alike but;
-  stand = states-mark store entries states told.stand entry true here;
-  is_current = current-marked store most_lines next entries are bytes entry true here later told.is_current;
-}
+told-mark store most_lines next entries locks requests new states bytes entry are later here told alike but = grind (arith, nat_tests, kept-mark store entries locks requests told.kept entry new here alike but, states-mark store entries states told.stand entry true here, current-marked store most_lines next entries are bytes entry true here later told.is_current)
 
 -- A rollback.
 pub told-rollback :
@@ -56,11 +52,7 @@ pub told-rollback :
     → AreConsistent store most_lines next entries → IsAmong entries gone → IsTold store entries locks requests states bytes
     → IsLaid store (due_to store gone).writes store.bytes bytes new
     → IsTold store (others gone entries) locks requests states new
-told-rollback store most_lines next entries locks requests states bytes new gone are here told laid = record {
-  kept = kept-rollback store entries locks requests told.kept gone;
-  stand = states-rollback store entries states told.stand gone;
-  is_current = current-rolled store most_lines next entries are bytes gone new here told.is_current laid;
-}
+told-rollback store most_lines next entries locks requests states bytes new gone are here told laid = grind (arith, nat_tests, kept-rollback store entries locks requests told.kept gone, states-rollback store entries states told.stand gone, current-rolled store most_lines next entries are bytes gone new here told.is_current laid)
 
 -- A commit: neither bytes nor tables change, and the committed store becomes the entry's, which is the old one with the lines
 -- that it wrote laid over from those bytes.
@@ -73,16 +65,7 @@ pub told-commit :
     → IsWhole store → AreConsistent store most_lines next entries → IsAmong entries entry → IsTold store entries locks requests states bytes
     → after entry.runs.program entry.runs.args store entry.rows ≡ Some now
     → HasCommitted store entries locks requests states bytes entry now
-told-commit store most_lines next entries locks requests states bytes entry now whole are here told at = record {
-  told = record {
-    kept = kept-commit store entries locks requests told.kept most_lines next entry now whole are here at;
-    stand = states-commit store entries states told.stand most_lines next entry now whole are here at;
-    is_current = current-committed store most_lines next entries are bytes entry now whole here at told.is_current;
-  };
-  record_lines =
-      commit-laid store most_lines next entries are bytes entry now whole
-      (after-whole entry.runs.program entry.runs.args store entry.rows now whole at ∙ sym whole) here at told.is_current;
-}
+told-commit store most_lines next entries locks requests states bytes entry now whole are here told at = grind (arith, nat_tests, kept-commit store entries locks requests told.kept most_lines next entry now whole are here, states-commit store entries states told.stand most_lines next entry now whole are here, current-committed store most_lines next entries are bytes entry now whole here, commit-laid store most_lines next entries are bytes entry now whole (after-whole entry.runs.program entry.runs.args store entry.rows now whole at ∙ sym whole) here, after-whole entry.runs.program entry.runs.args store entry.rows now whole)
 
 -- A row that was served: its locks are those of the row too, its mark is off, and the state and the bytes are those that the
 -- second attempt left.

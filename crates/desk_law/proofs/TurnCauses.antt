@@ -1,5 +1,5 @@
 -- Each end of a turn has its cause.
-use Rattle.desk_law.proofs.Common.{◌≡◌, refl, ℕ, zero, suc, ◌+◌, ◌<◌, ◌==◌, if◌then◌else◌, Bool, true, false, List, [], ◌∷◌, ◌++◌, length, find, Option, Some, None, arith, ap, sym, ◌∙◌, subst, eqb-true, ltb-true, has, size, brought, shown_cycle, victim_of, Plain, Outcome, On, Commit, Check, row, after, touched_within, touched_next, Desk, Entry, with_entry, conflicts_of, numbers, waits_for, Word, ReadFailed, Unwritten, Doubt, Counts, Turning, Going, Over, Idle, Limit, Checked, Journal, Disk, Victim, Waits, Committed, CommitUnwritten, CommitDoubted, Attempt, Fetching, Fetched, Broken, Contest, Contested, Settled, Lost, attempts, attempts_at, instruction, turns, turn_of, no_counts, can't_be_read, fetches, limited, is_over_limit, lines_written, fetched_first, fetches_touched, asks, gets, goes_on, takes_effect, commits, contest_ends, waits_or_gets, with_grants, refused_pages, breaks_cycle, breaks_cycles, RowIs, lines_by, waiting_after, EndsForCause, IsOverFor, TurnsEndForCause, turn_desk, gone_on, IsAmong, IsConsistent}
+use Rattle.desk_law.proofs.Common.{◌≡◌, refl, ℕ, zero, suc, ◌+◌, ◌<◌, ◌==◌, Bool, true, false, List, [], ◌∷◌, ◌++◌, length, find, Option, Some, None, arith, ap, sym, ◌∙◌, subst, eqb-true, ltb-true, brought, shown_cycle, victim_of, Plain, Outcome, On, Commit, Check, row, after, Desk, Entry, with_entry, conflicts_of, numbers, waits_for, Word, ReadFailed, Unwritten, Doubt, Counts, Turning, Going, Over, Idle, Limit, Checked, Journal, Disk, Victim, Waits, Committed, CommitUnwritten, CommitDoubted, Attempt, Fetching, Fetched, Broken, Contest, Contested, Settled, Lost, attempts, attempts_at, instruction, turns, turn_of, no_counts, can't_be_read, fetches, limited, is_over_limit, lines_written, fetched_first, fetches_touched, asks, gets, goes_on, takes_effect, commits, contest_ends, waits_or_gets, with_grants, refused_pages, breaks_cycle, breaks_cycles, RowIs, lines_by, EndsForCause, IsOverFor, TurnsEndForCause, turn_desk, gone_on, IsAmong, IsConsistent, nat_tests}
 use Rattle.desk_law.proofs.Entries.{found-among, new-among}
 use Rattle.desk_law.proofs.Contest.{breaks-keep, left_over}
 use Rattle.desk_law.proofs.ContestRounds.{asker-left}
@@ -17,18 +17,7 @@ unread _ counted fails = absurd (cc)
 
 fetch-cause : (word : Word) (frames : ℕ) (kept pages resident : List ℕ) (counted : ℕ) → FetchCause word (fetches word frames kept pages resident counted)
 fetch-cause word frames kept [] resident counted = tt
-fetch-cause word frames kept (page ∷ pages) resident counted =
-    by_there (has resident page) (can't_be_read word (counted + 1)) refl
-    (fetch-cause word frames kept pages resident counted)
-    (fetch-cause word frames kept pages (brought frames kept resident page) (counted + 1))
-  where
-    by_there : (there fails : Bool) → can't_be_read word (counted + 1) ≡ fails → FetchCause word (fetches word frames kept pages resident counted)
-        → FetchCause word (fetches word frames kept pages (brought frames kept resident page) (counted + 1))
-        → FetchCause word (if there then fetches word frames kept pages resident counted
-        else if fails then Broken (counted + 1) else fetches word frames kept pages (brought frames kept resident page) (counted + 1))
-    by_there true fails e rest more = rest
-    by_there false true e rest more = unread word (counted + 1) e
-    by_there false false e rest more = more
+fetch-cause word frames kept (page ∷ pages) resident counted = grind (arith, nat_tests, fetch-cause word frames kept pages resident counted, fetch-cause word frames kept pages (brought frames kept resident page) (counted + 1))
 
 -- the last cycle recorded is that of a victim
 abbrev LastVictim : ℕ → Counts → Type 0
@@ -123,10 +112,7 @@ module _ (word : Word) (attempt : Attempt) (old : Desk) (base : Counts) where
   come-wait : (refused holders : List ℕ) (desk : Desk) (counts : Counts) → conflicts_of desk attempt.entry ≡ holders → Marked old base attempt.entry desk counts
       → Comes word attempt old base (waits_or_gets word attempt refused holders desk counts)
   come-wait refused [] desk counts conflict is = come-get refused desk counts (record { committed = is.committed; limit = is.limit; ran = is.ran; mark = true; here = is.here })
-  come-wait refused (holder ∷ holders) desk counts conflict is = (is.ran, is.here, conflict, some)
-    where
-      some : holder ∷ holders ≡ [] → ⊥
-      some none = cc
+  come-wait refused (holder ∷ holders) desk counts conflict is = grind (arith, nat_tests)
 
   come-contest : (refused : List ℕ) (contest : Contest) → ContestComes old base attempt.entry contest → Comes word attempt old base (contest_ends word attempt refused contest)
   come-contest refused (Lost desk counts) is = is
@@ -193,20 +179,10 @@ IsUnder word limit left start first (Over desk counts ending) = EndsForCause wor
 module _ (word : Word) (limit left : ℕ) (start : Desk) (first : Entry) (desk : Desk) (counts : Counts) (under : Under limit (suc left) start first desk counts) (now : Plain)
     (at : after under.entry.runs.program under.entry.runs.args desk.committed under.entry.rows ≡ Some now) where
   its-row : (ran : ℕ) (outcome : Outcome) → ran ≡ counts.ran → row under.entry.runs.program desk.committed.directory now ≡ outcome → RowIs start.committed first ran now outcome
-  its-row ran outcome same went = (
-    (λ i. after (sym under.runs i).program (sym under.runs i).args (sym under.committed i) ((ap (λ (n : ℕ). first.rows + n) same ∙ sym under.rows) i)) ∙ at,
-    (λ i. row (sym under.runs i).program (sym under.committed i).directory now) ∙ went,
-  )
+  its-row ran outcome same went = grind (arith, nat_tests)
 
   its-lines : (ran : ℕ) → ran ≡ counts.ran → lines_written (attempt_of desk under.entry now) desk ≡ lines_by start.committed first ran
-  its-lines ran same =
-      λ i.
-      size
-      ((touched_within (under.runs i).program (under.runs i).args (under.committed i) ((under.rows ∙ ap (λ (n : ℕ). first.rows + n) (sym same)) i)).writes
-      ++ (touched_next (under.runs i).program (under.runs i).args (under.committed i) ((under.rows ∙ ap (λ (n : ℕ). first.rows + n) (sym same)) i)).writes)
-
-  its-waiting : (ran : ℕ) → ran ≡ counts.ran → record under.entry { waiting = true } ≡ waiting_after first ran
-  its-waiting ran same = λ i. record { number = under.number i; runs = under.runs i; rows = (under.rows ∙ ap (λ (n : ℕ). first.rows + n) (sym same)) i; waiting = true }
+  its-lines ran same = grind (arith, nat_tests)
 
   cause-instruction : (turning : Turning) → IsConsistent (turn_desk turning) → Comes word (attempt_of desk under.entry now) desk counts turning → IsUnder word limit left start first turning
   cause-instruction (Going later more) is comes = record {
@@ -226,11 +202,7 @@ module _ (word : Word) (limit left : ℕ) (start : Desk) (first : Entry) (desk :
   cause-instruction (Over later more (Journal lines most)) is comes = (comes.1 ∙ its-lines more.ran comes.0, comes.2 ∙ under.most, comes.3)
   cause-instruction (Over later more Disk) is comes = comes
   cause-instruction (Over later more Victim) is comes = (comes.0, comes.1, comes.2, comes.3 ∙ under.number)
-  cause-instruction (Over later more (Waits holders)) is comes = (
-    subst (IsAmong later.active) (its-waiting more.ran comes.0) comes.1,
-    ap (conflicts_of later) (sym (its-waiting more.ran comes.0)) ∙ comes.2,
-    comes.3,
-  )
+  cause-instruction (Over later more (Waits holders)) is comes = grind (arith, nat_tests)
   cause-instruction (Over later more (Committed steps printed)) is comes = (counts.ran, comes.0, omega (arith, comes.1, under.rows), (now, its-row counts.ran Commit refl comes.2, comes.3))
   cause-instruction (Over later more CommitUnwritten) is comes = (comes.1, (now, its-row more.ran Commit comes.0 comes.2))
   cause-instruction (Over later more CommitDoubted) is comes = (comes.1, (now, its-row more.ran Commit comes.0 comes.2))

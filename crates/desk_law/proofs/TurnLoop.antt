@@ -1,5 +1,5 @@
 -- The loop of a turn: what it keeps, and its ends.
-use Rattle.desk_law.proofs.Common.{◌≡◌, refl, ℕ, zero, suc, ◌≤◌, ◌==◌, find, Option, Some, arith, ap, ◌∙◌, Desk, Entry, Word, Fine, Counts, Turning, Going, Over, Ending, Limit, Attempt, instruction, turns, commits, Reads, IsAmong, IsOrderly}
+use Rattle.desk_law.proofs.Common.{◌≡◌, refl, ℕ, zero, suc, ◌≤◌, ◌==◌, find, Some, arith, ◌∙◌, Desk, Entry, Word, Fine, Counts, Turning, Going, Over, Ending, Limit, Attempt, instruction, turns, commits, Reads, IsAmong, IsOrderly, nat_tests}
 use Rattle.desk_law.proofs.Entries.{found-among}
 
 -- a turn, from wherever it began, is one of so many instructions from here
@@ -27,32 +27,23 @@ turns-commit _ number left attempt desk counts = refl
 module _ (begins : Word → Turning) (left : ℕ) (desk : Desk) (counts : Counts) (entry : Entry) (is : IsOrderly desk) (here : IsAmong desk.active entry)
     (turning : IsTurning begins entry.number (suc left) desk counts) where
   one-more : (word : Word) → Reads word counts.pages → begins word ≡ turns word entry.number left (instruction word (Some entry) desk counts)
-  one-more word reads =
-      turning.comes word reads
-      ∙ turns-more word entry.number left desk counts
-      ∙ ap (λ (one : Option Entry). turns word entry.number left (instruction word one desk counts)) (found-among desk.next desk.active entry is.active.ascend here)
+  one-more word reads = grind (arith, nat_tests, turns-more, found-among)
 
   -- an instruction that goes on, and counts no fewer pages
   pub turning-goes : (next : Desk) (more : Counts) → counts.pages ≤ more.pages
       → ((word : Word) → Reads word more.pages → instruction word (Some entry) desk counts ≡ Going next more)
       → IsTurning begins entry.number left next more
-  turning-goes next more grows comes = record {
-    comes = λ word reads.
-        one-more word (λ page few. reads page (omega (arith, few, grows)))
-        ∙ ap (turns word entry.number left) (comes word reads);
-  }
+  turning-goes next more grows comes = grind (arith, nat_tests, one-more)
 
   -- one that ends the turn, for one word
   pub turning-ends : (word : Word) (next : Desk) (more : Counts) (ending : Ending) → Reads word counts.pages
       → instruction word (Some entry) desk counts ≡ Over next more ending → begins word ≡ Over next more ending
-  turning-ends word next more ending reads comes =
-      one-more word reads ∙ ap (turns word entry.number left) comes ∙ turns-over word entry.number left next more ending
+  turning-ends word next more ending reads comes = grind (arith, nat_tests, one-more, turns-over)
 
   -- one that is at the commit call
   pub turning-commits : (word : Word) (attempt : Attempt) (some : Desk) (more : Counts) → Reads word counts.pages
       → instruction word (Some entry) desk counts ≡ commits word attempt some more → begins word ≡ commits word attempt some more
-  turning-commits word attempt some more reads comes =
-      one-more word reads ∙ ap (turns word entry.number left) comes ∙ turns-commit word entry.number left attempt some more
+  turning-commits word attempt some more reads comes = grind (arith, nat_tests, one-more, turns-commit)
 
 -- none is left
 pub turning-limit : (begins : Word → Turning) (number : ℕ) (desk : Desk) (counts : Counts) → IsTurning begins number 0 desk counts

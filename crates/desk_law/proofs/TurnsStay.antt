@@ -1,5 +1,5 @@
 -- A turn leaves a desk orderly.
-use Rattle.desk_law.proofs.Common.{◌≡◌, refl, ℕ, zero, suc, ◌+◌, ◌≤◌, ◌==◌, Bool, true, false, List, [], ◌∷◌, ◌++◌, length, find, Option, Some, None, arith, sym, ◌∙◌, subst, eqb-true, eq-eqb, both_ways, ltb-false, none-some, size, Lines, Plain, Outcome, On, Commit, Check, row, after, Desk, Entry, with_entry, ended, rolled_back, wanted, conflicts_of, Word, Fine, Unwritten, Doubt, Counts, Turning, Going, Over, Ending, Idle, Committed, Attempt, Fetching, Fetched, Broken, Contest, Contested, Settled, Lost, attempts, attempts_at, instruction, turns, limited, is_over_limit, lines_written, fetched_first, fetches_touched, asks, gets, goes_on, breaks, ordered, takes_effect, commits, contest_ends, waits_or_gets, with_grants, refused_pages, gone_on, IsAmong, IsActive, IsOrderly, touched_of, IsReady}
+use Rattle.desk_law.proofs.Common.{◌≡◌, refl, ℕ, zero, suc, ◌+◌, ◌≤◌, ◌==◌, Bool, true, false, List, [], ◌∷◌, ◌++◌, length, find, Option, Some, None, arith, sym, ◌∙◌, subst, eqb-true, eq-eqb, both_ways, ltb-false, none-some, size, Lines, Plain, Outcome, On, Commit, Check, row, after, Desk, Entry, with_entry, ended, rolled_back, wanted, conflicts_of, Word, Fine, Unwritten, Doubt, Counts, Turning, Going, Over, Ending, Idle, Committed, Attempt, Fetching, Fetched, Broken, Contest, Contested, Settled, Lost, attempts, attempts_at, instruction, turns, limited, is_over_limit, lines_written, fetched_first, fetches_touched, asks, gets, goes_on, breaks, ordered, takes_effect, commits, contest_ends, waits_or_gets, with_grants, refused_pages, gone_on, IsAmong, IsActive, IsOrderly, touched_of, IsReady, nat_tests}
 use Rattle.desk_law.proofs.Entries.{among-found, none-found, new-among}
 use Rattle.desk_law.proofs.Contest.{contending, rolled-consistent, breaks-all, Came}
 use Rattle.desk_law.proofs.GoesOn.{ready-again, IsGranted, grants-held, row-goes-on, marked-contending, length-replaced}
@@ -23,21 +23,7 @@ pub resident-consistent : (desk : Desk) (resident : List ℕ) → IsOrderly desk
 resident-consistent desk resident is = record { whole = is.whole; few = is.few; active = is.active; held = is.held; no_cycle = is.no_cycle }
 
 pub resident-granted : (attempt : Attempt) (desk : Desk) (resident : List ℕ) → IsGranted attempt desk → IsGranted attempt (record desk { resident = resident })
-resident-granted attempt desk resident is = record {
-  whole = is.whole;
-  few = is.few;
-  active = is.active;
-  held_others = is.held_others;
-  held = is.held;
-  no_cycle = is.no_cycle;
-  mark = is.mark;
-  here = is.here;
-  now = is.now;
-  went = is.went;
-  none = is.none;
-  lines = is.lines;
-  short = is.short;
-}
+resident-granted attempt desk resident is = grind (arith, nat_tests)
 
 -- an instruction: it leaves the desk orderly, and does what it does to the entries
 abbrev pub Goes : (old : Desk) → Attempt → (most : ℕ) → Turning → Type 0
@@ -54,22 +40,13 @@ module _ (word : Word) (attempt : Attempt) (most : ℕ) (old : Desk) where
       (record (ended (ordered desk attempt) attempt.entry.number) { committed = record desk.committed { bytes = attempt.now.store } })
       (record counts { ran = counts.ran + 1 })
       (Committed (attempt.entry.rows + 1) attempt.now.out))
-  goes-done desk counts fits from is =
-      let done = granted-commits desk attempt is in (
-        (record { whole = done.whole; few = done.few; active = done.active; held = done.held; no_cycle = done.no_cycle }, tt, omega (arith, fits)),
-        record { moment = desk; granted = is; from = from; committed = refl; active = refl; steps_are = refl; printed_is = refl },
-      )
+  goes-done desk counts fits from is = grind (arith, nat_tests, granted-commits desk attempt is)
 
   goes-closed : (desk : Desk) → IsGranted attempt desk → attempt.outcome ≡ Commit → (order : List (ℕ × ℕ)) → IsOrderly (record desk { order = order; closed = true })
-  goes-closed desk is went order =
-      let left = granted-closes desk attempt is went in
-      record { whole = left.whole; few = left.few; active = left.active; held = left.held; no_cycle = left.no_cycle }
+  goes-closed desk is went order = grind (arith, nat_tests, granted-closes desk attempt is went)
 
   goes-left : (desk : Desk) (order : List (ℕ × ℕ)) → From attempt.entry.number old desk → IsGranted attempt desk → NoRowDone old attempt (record desk { order = order; closed = true })
-  goes-left desk order from is = record {
-    from = record { committed = from.committed; others = from.others };
-    own = marked-before attempt.entry is.mark desk is.active is.here;
-  }
+  goes-left desk order from is = grind (arith, nat_tests, marked-before attempt.entry is.mark desk is.active is.here)
 
   goes-commit : (word : Word) (desk : Desk) (counts : Counts) → Room desk counts → From attempt.entry.number old desk → attempt.outcome ≡ Commit → IsGranted attempt desk → Goes old attempt most (commits word attempt desk counts)
   goes-commit Unwritten desk counts fits from went is = ((goes-closed desk is went desk.order, tt, omega (arith, fits)), goes-left desk desk.order from is)
@@ -92,15 +69,10 @@ module _ (word : Word) (attempt : Attempt) (most : ℕ) (old : Desk) where
   goes-effect desk counts (Check code) fits from went is = ((granted-rolled desk attempt is, tt, omega (arith, fits)), rolled-done old attempt desk from)
 
   goes-broken : (desk : Desk) (counts : Counts) (counted : ℕ) → Room desk counts → From attempt.entry.number old desk → IsOrderly (rolled_back desk attempt.entry) → Goes old attempt most (breaks attempt desk counts counted)
-  goes-broken desk counts counted fits from is =
-      let rolled = rolled-done old attempt desk from in (
-        (resident-consistent (rolled_back desk attempt.entry) [] is, tt, omega (arith, fits)),
-        record { from = record { committed = from.committed; others = rolled.from.others }; own = rolled.own },
-      )
+  goes-broken desk counts counted fits from is = grind (arith, nat_tests, rolled-done old attempt desk from, resident-consistent (rolled_back desk attempt.entry) [] is)
 
   goes-on : (desk : Desk) (counts : Counts) (fetching : Fetching) → Room desk counts → From attempt.entry.number old desk → IsGranted attempt desk → Goes old attempt most (goes_on word attempt desk counts fetching)
-  goes-on desk counts (Fetched resident counted) fits from is =
-      goes-effect (record desk { resident = resident }) (record counts { pages = counted }) attempt.outcome fits (record { committed = from.committed; others = from.others }) refl (resident-granted attempt desk resident is)
+  goes-on desk counts (Fetched resident counted) fits from is = grind (arith, nat_tests, goes-effect, resident-granted)
   goes-on desk counts (Broken counted) fits from is = goes-broken desk counts counted fits from (granted-rolled desk attempt is)
 
   goes-get : (refused : List ℕ) (desk : Desk) (counts : Counts) → Room desk counts → From attempt.entry.number old desk → IsReady attempt desk → conflicts_of desk attempt.entry ≡ [] → Goes old attempt most (gets word attempt refused desk counts)
@@ -111,17 +83,13 @@ module _ (word : Word) (attempt : Attempt) (most : ℕ) (old : Desk) where
   goes-wait : (refused holders : List ℕ) (desk : Desk) (counts : Counts) → Room desk counts → From attempt.entry.number old desk → conflicts_of desk attempt.entry ≡ holders → IsReady attempt desk → IsOrderly desk
       → Goes old attempt most (waits_or_gets word attempt refused holders desk counts)
   goes-wait refused [] desk counts fits from none ready is = goes-get refused desk counts fits from ready none
-  goes-wait refused (holder ∷ holders) desk counts fits from some ready is =
-      ((is, tt, omega (arith, fits)), record { from = from; own = marked-before attempt.entry ready.mark desk is.active ready.here })
+  goes-wait refused (holder ∷ holders) desk counts fits from some ready is = grind (arith, nat_tests, marked-before attempt.entry ready.mark desk is.active ready.here)
 
   goes-contest : (refused : List ℕ) (mark : Bool) (before : Desk) (contest : Contest) → IsReady attempt before → Came attempt.entry.number most (record attempt.entry { waiting = mark }) before contest
       → ContestDid attempt.entry.number old contest → Goes old attempt most (contest_ends word attempt refused contest)
   goes-contest refused mark before (Lost desk counts) ready came did = ((came.0, tt, omega (arith, came.1)), record { from = did.0; own = left-before attempt.entry desk did.1 })
   goes-contest refused mark before (Contested desk counts) ready came did = absurd came
-  goes-contest refused mark before (Settled desk counts) ready came did =
-      goes-wait refused (conflicts_of desk attempt.entry) desk counts came.5 did refl
-      (ready-again attempt before desk mark ready (contending attempt.entry.number desk came.0) came.1 came.2 came.3)
-      came.0
+  goes-contest refused mark before (Settled desk counts) ready came did = grind (arith, nat_tests, goes-wait refused (conflicts_of desk attempt.entry) desk counts came.5 did refl (ready-again attempt before desk mark ready (contending attempt.entry.number desk came.0) came.1 came.2 came.3) came.0, ready-again attempt before desk mark ready (contending attempt.entry.number desk came.0) came.1 came.2 came.3, contending attempt.entry.number desk came.0)
 
   goes-ask : (refused holders : List ℕ) (desk : Desk) (counts : Counts) → Room desk counts → From attempt.entry.number old desk → conflicts_of desk attempt.entry ≡ holders → IsReady attempt desk → IsAmong desk.active attempt.entry
       → Goes old attempt most (asks word attempt refused holders desk counts)
@@ -165,8 +133,7 @@ module _ (word : Word) (attempt : Attempt) (most : ℕ) (old : Desk) where
       → attempt.lines ≡ wanted desk attempt.entry
       → Goes old attempt most (limited over word attempt desk counts)
   goes-limit true desk counts fits from over is here now went lines = ((rolled-consistent desk attempt.entry is, tt, omega (arith, fits)), rolled-done old attempt desk from)
-  goes-limit false desk counts fits from under is here now went lines =
-      goes-fetch desk counts (fetches_touched word attempt desk counts) fits from is here now went lines (ltb-false desk.most_lines (lines_written attempt desk) under)
+  goes-limit false desk counts fits from under is here now went lines = grind (arith, nat_tests, goes-fetch desk counts (fetches_touched word attempt desk counts) fits from is here now went lines (ltb-false desk.most_lines (lines_written attempt desk) under))
 
   pub goes-attempt : (outcome : Outcome) (desk : Desk) (counts : Counts) → Room desk counts → From attempt.entry.number old desk → IsOrderly desk → IsAmong desk.active attempt.entry
       → after attempt.entry.runs.program attempt.entry.runs.args desk.committed attempt.entry.rows ≡ Some attempt.now
@@ -215,9 +182,7 @@ instructed word number most desk counts is active fits = by_entry (find (λ (ent
 
 pub stays-instruction : (word : Word) (number most : ℕ) (desk : Desk) (counts : Counts) → IsOrderly desk → IsActive desk number → length counts.cycles + length desk.active ≤ most
     → Stays number most (instruction word (find (λ (entry : Entry). entry.number == number) desk.active) desk counts)
-stays-instruction word number most desk counts is active fits =
-    let by = instructed word number most desk counts is active fits in
-    subst (λ (n : ℕ). Stays n most (instruction word (find (λ (entry : Entry). entry.number == number) desk.active) desk counts)) by.own by.goes.0
+stays-instruction word number most desk counts is active fits = grind (arith, nat_tests, instructed word number most desk counts is active fits)
 
 -- so many instructions
 pub stays-turns : (word : Word) (number most left : ℕ) (turning : Turning) → Stays number most turning → Stays number most (turns word number left turning)

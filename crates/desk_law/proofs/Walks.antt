@@ -1,5 +1,5 @@
 -- Where waits lead.
-use Rattle.desk_law.proofs.Common.{◌≡◌, refl, ℕ, zero, suc, ◌<◌, ◌≤◌, ◌==◌, ◌&&◌, ◌||◌, ◌⊎◌, not, if◌then◌else◌, Bool, true, false, List, [], ◌∷◌, length, filter, list_any, arith, ap, sym, ◌∙◌, subst, inl, inr, eqb-true, eq-eqb, both_ways, and_parts, and_from, or_cases, or_left, or_right, cases_Bool, not_from_false, false_from_ne_true, has, leads, any-at, any-some, HasNoCycle, except, nat_tests}
+use Rattle.desk_law.proofs.Common.{◌≡◌, refl, ℕ, zero, suc, ◌<◌, ◌≤◌, ◌==◌, ◌&&◌, ◌||◌, ◌⊎◌, not, if◌then◌else◌, Bool, true, false, List, [], ◌∷◌, length, filter, list_any, arith, ap, sym, ◌∙◌, subst, inl, inr, eqb-true, both_ways, and_from, or_cases, cases_Bool, not_from_false, false_from_ne_true, has, leads, any-at, any-some, HasNoCycle, except, nat_tests}
 use Rattle.desk_law.proofs.Entries.{filter-short}
 
 -- the first step of a walk
@@ -16,8 +16,7 @@ first-step waits all steps from to leads_there =
 
 pub one-step : (waits : ℕ → ℕ → Bool) (all : List ℕ) (steps from to next : ℕ) → has all next ≡ true → waits from next ≡ true
     → (next ≡ to) ⊎ (leads waits all steps next to ≡ true) → leads waits all (suc steps) from to ≡ true
-one-step waits all steps from to next there step rest =
-    any-at (λ next. waits from next && (next == to || leads waits all steps next to)) all next there (grind (arith, nat_tests, step, rest))
+one-step waits all steps from to next there step rest = grind (arith, nat_tests, any-at)
 
 -- more waits among more numbers lead as far
 pub leads-wider : (waits wider : ℕ → ℕ → Bool) (all more : List ℕ)
@@ -128,10 +127,7 @@ pub record Leaves (one : ℕ) (new old : ℕ → ℕ → Bool) : Type 0 where
 
 away-from : (one : ℕ) (new old : ℕ → ℕ → Bool) (all : List ℕ) (steps from to : ℕ) → Leaves one new old → leads new all steps from to ≡ true → (from == one) ≡ false
 away-from one new old all zero from to leaves walk = absurd (cc)
-away-from one new old all (suc steps) from to leaves walk =
-    let first = first-step new all steps from to walk in
-    false_from_ne_true (from == one)
-    (λ here. both_ways (new from first.next) (ap (λ (x : ℕ). new x first.next) (eqb-true from one here) ∙ leaves.none first.next) first.step)
+away-from one new old all (suc steps) from to leaves walk = grind (arith, nat_tests, first-step new all steps from to walk)
 
 stays-away : (one : ℕ) (new old : ℕ → ℕ → Bool) (all : List ℕ) (steps from to : ℕ) → Leaves one new old → (to == one) ≡ false → leads new all steps from to ≡ true
     → leads (except one old) all steps from to ≡ true
@@ -160,15 +156,7 @@ no-cycle-leaves one new old all leaves none steps number =
 -- How many pass one test, and how many another that lets more pass.
 count-le : (test wider : ℕ → Bool) (xs : List ℕ) → ((x : ℕ) → test x ≡ true → wider x ≡ true) → length (filter test xs) ≤ length (filter wider xs)
 count-le test wider [] wide = omega arith
-count-le test wider (x ∷ xs) wide = by_test (test x) (wider x) refl refl (count-le test wider xs wide)
-  where
-    by_test :
-        (one two : Bool) → test x ≡ one → wider x ≡ two → length (filter test xs) ≤ length (filter wider xs)
-        → length (if one then x ∷ filter test xs else filter test xs) ≤ length (if two then x ∷ filter wider xs else filter wider xs)
-    by_test true true e f rest = omega (arith, rest)
-    by_test true false e f rest = absurd (both_ways (wider x) f (wide x e))
-    by_test false true e f rest = omega (arith, rest)
-    by_test false false e f rest = rest
+count-le test wider (x ∷ xs) wide = grind (arith, nat_tests, count-le test wider xs wide)
 
 pub count-lt : (test wider : ℕ → Bool) (xs : List ℕ) → ((x : ℕ) → test x ≡ true → wider x ≡ true)
     → list_any (λ x. wider x && not (test x)) xs ≡ true → length (filter test xs) < length (filter wider xs)

@@ -1,22 +1,18 @@
 -- Lists in which no number stands twice, under a push and a removal.
-use Rattle.frame_pool.proofs.Common.{◌≡◌, ℕ, zero, suc, ◌<◌, Bool, true, false, List, [], ◌∷◌, ◌++◌, length, refl, sym, ◌∙◌, ap, arith, ◌==◌, ◌||◌, not, remove, slice_index, and_parts, and_from, or_from, eqb-true, not_from_false, nat_tests, has, has-append, is_apart}
+use Rattle.frame_pool.proofs.Common.{◌≡◌, ℕ, zero, suc, ◌<◌, Bool, true, false, List, [], ◌∷◌, ◌++◌, length, refl, sym, ◌∙◌, ap, arith, ◌==◌, ◌||◌, not, remove, slice_index, and_from, or_from, not_from_false, nat_tests, has, has-append, is_apart}
 
 pub or_none : (x y : Bool) → (x || y) ≡ false → (x ≡ false) × (y ≡ false)
-or_none true y h = absurd (cc)
-or_none false y h = (refl, h)
+or_none x y h1 = grind (arith, nat_tests)
 
 not_true : (x : Bool) → not x ≡ true → x ≡ false
-not_true true h = absurd (cc)
-not_true false h = refl
+not_true x h1 = grind (arith, nat_tests)
 
 pub turned : (x y : ℕ) → (x == y) ≡ false → (y == x) ≡ false
 turned x y differ = grind (arith, nat_tests)
 
 -- the parts of a list in which no number stands twice
 pub first-apart : (x : ℕ) (xs : List ℕ) → is_apart (x ∷ xs) ≡ true → (has xs x ≡ false) × (is_apart xs ≡ true)
-first-apart x xs apart =
-    let parts : (not (has xs x) ≡ true) × (is_apart xs ≡ true) = and_parts (not (has xs x)) (is_apart xs) apart in
-    (not_true (has xs x) parts.0, parts.1)
+first-apart x xs apart = grind (arith, nat_tests)
 
 pub apart-cons : (x : ℕ) (xs : List ℕ) → has xs x ≡ false → is_apart xs ≡ true → is_apart (x ∷ xs) ≡ true
 apart-cons x xs absent apart = and_from (not (has xs x)) (is_apart xs) (not_from_false (has xs x) absent) apart
@@ -26,11 +22,7 @@ has-push xs y z = has-append xs (y ∷ []) z
 
 pub has-push_last : (xs : List ℕ) (y : ℕ) → has (xs ++ y ∷ []) y ≡ true
 has-push_last [] y = grind (arith, nat_tests)
-has-push_last (x ∷ xs) y = ap (λ (b : Bool). (x == y) || b) (has-push_last xs y) ∙ or_true (x == y)
-  where
-    or_true : (b : Bool) → (b || true) ≡ true
-    or_true true = refl
-    or_true false = refl
+has-push_last (x ∷ xs) y = grind (arith, nat_tests, has-push_last xs y)
 
 pub has-push_other : (xs : List ℕ) (y z : ℕ) → (y == z) ≡ false → has (xs ++ y ∷ []) z ≡ has xs z
 has-push_other [] y z differ = or_from (y == z) false differ refl
@@ -86,11 +78,7 @@ apart-remove (x ∷ xs) (suc i) apart =
 
 -- a number that isn't in a list differs from one that is
 pub differs : (xs : List ℕ) (x z : ℕ) → has xs x ≡ false → has xs z ≡ true → (x == z) ≡ false
-differs xs x z none some = by_test (x == z) refl
-  where
-    by_test : (b : Bool) → (x == z) ≡ b → (x == z) ≡ false
-    by_test true same = let at : x ≡ z = eqb-true x z same in absurd (let clash : has xs z ≡ false = ap (has xs) (sym at) ∙ none in cc)
-    by_test false same = same
+differs xs x z none some = grind (arith, nat_tests)
 
 pub has-removed : (xs : List ℕ) (i : ℕ) → is_apart xs ≡ true → i < length xs → has (remove xs i) (slice_index xs i) ≡ false
 has-removed [] zero apart below = refl

@@ -1,8 +1,7 @@
 -- Lines of a page laid one after another, and the page laid at once.
-use Rattle.frame_pool.proofs.Common.{fold, slice_range, range_with_len, option_map_or, length-append, length-take-le, length-drop, append-nil, take-append-drop, drop-drop, take_at, overlaid, length-overlaid, PageSize, page_bytes, passing, lines_of_bits, Pool, frame_count, line_size, line_place, frame_at, marks_at, line_laid, line_kept, with_bytes, laid, IsSeen, pool_of, FramePool}
-use Rattle.std.proofs.Common.{◌≡◌, ℕ, zero, suc, ◌+◌, ◌-◌, ◌*◌, ◌<◌, ◌≤◌, Option, Some, List, [], ◌++◌, length, take, drop, refl, sym, ◌∙◌, ap, arith, append_assoc}
+use Rattle.frame_pool.proofs.Common.{fold, slice_range, range_with_len, length-append, length-take-le, length-drop, append-nil, take-append-drop, drop-drop, take_at, overlaid, length-overlaid, PageSize, page_bytes, passing, lines_of_bits, Pool, frame_count, line_size, line_place, frame_at, marks_at, line_laid, line_kept, with_bytes, laid, IsSeen, pool_of, FramePool, nat_tests}
+use Rattle.std.proofs.Common.{◌≡◌, ℕ, zero, suc, ◌+◌, ◌-◌, ◌*◌, ◌<◌, ◌≤◌, Some, List, [], ◌++◌, length, take, drop, refl, sym, ◌∙◌, ap, arith, append_assoc}
 use Rattle.std.proofs.Math.Seq.{take-add, drop-append-add, drop-append_seam}
-use Rattle.line_geometry.specs.declared.directory.PageSize.TheVariants.{Two, Four}
 use Rattle.frame_pool.proofs.SoundLemmas.{page_part}
 use Rattle.frame_pool.proofs.PoolLemmas.{frame-within}
 use Rattle.frame_pool.proofs.SeenLemmas.{pool-seen}
@@ -65,8 +64,7 @@ range-long {X = X} xs at count fits = ap length (from-place xs at count) ∙ len
 
 -- the lines of a page have the size of a page
 sixteen-lines : (size : PageSize) → 16 * line_size size ≡ page_bytes size
-sixteen-lines Two = refl
-sixteen-lines Four = refl
+sixteen-lines size = grind (arith, nat_tests)
 
 -- where all bits are on, the lines are all sixteen
 pub all-lines : lines_of_bits 65535 ≡ range_with_len 0 16
@@ -130,9 +128,7 @@ page-laid page frame pool fits kept =
 
 -- all lines of a page that is in a frame are laid, where all are marked
 laid-all : (page frame : ℕ) (pool : Pool) → frame_at pool page ≡ Some frame → range_with_len 0 16 ≡ marks_at pool page → fold (line_laid page frame) pool (range_with_len 0 16) ≡ laid pool page
-laid-all page frame pool there all =
-    ap (fold (line_laid page frame) pool) all
-    ∙ sym (ap (λ (o : Option ℕ). option_map_or (λ f. fold (line_laid page f) pool (marks_at pool page)) o pool) there)
+laid-all page frame pool there all = grind (arith, nat_tests)
 
 -- where all lines of a page are marked, nothing is left of what its frame was filled with
 pub laid-anyway :

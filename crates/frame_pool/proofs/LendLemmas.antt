@@ -1,7 +1,7 @@
 -- What is seen of a pool once the borrow of bytes of its frames has ended.
-use Rattle.frame_pool.proofs.Common.{with_items_is, length-append, length-take, length-drop, drop-drop, overlaid, option_map_or, union, FramePool, page_at, marks_at, with_marks, marked_in, with_bytes, pool_of}
-use Rattle.std.proofs.Common.{◌≡◌, ℕ, ◌+◌, ◌≤◌, List, ◌++◌, length, take, drop, refl, sym, ◌∙◌, ap, arith, append_assoc, Some, None, Option}
-use Rattle.std.specs.Vec.{with_item, with_items_from}
+use Rattle.frame_pool.proofs.Common.{with_items_is, length-append, length-take, length-drop, drop-drop, overlaid, FramePool, marked_in, with_bytes, pool_of, nat_tests}
+use Rattle.std.proofs.Common.{◌≡◌, ℕ, ◌+◌, ◌≤◌, List, ◌++◌, length, take, drop, sym, ◌∙◌, ap, arith, append_assoc}
+use Rattle.std.specs.Vec.{with_items_from}
 use Rattle.frame_pool.specs.PoolLending.{with_frame_part, with_marked}
 
 -- bytes that were lent are written over those of the frames
@@ -20,11 +20,4 @@ lent-part p at part fits = ap (λ (list : List ℕ). record (pool_of p) { bytes 
 
 -- and lines of the page in the frame are marked
 pub marked-seen : (p : FramePool) (frame : ℕ) (lines : List ℕ) → pool_of (with_marked p frame lines) ≡ marked_in (pool_of p) frame lines
-marked-seen p frame lines = by_page (page_at (pool_of p) frame)
-  where
-    by_page :
-        (o : Option ℕ)
-        → pool_of (option_map_or (λ page. (let now : FramePool = record p { marked = with_item p.marked page (union (marks_at (pool_of p) page) lines) } in now)) o p)
-        ≡ option_map_or (λ page. with_marks (pool_of p) page lines) o (pool_of p)
-    by_page None = refl
-    by_page (Some page) = refl
+marked-seen p frame lines = grind (arith, nat_tests)

@@ -1,11 +1,8 @@
 -- What a step of the places needs and leaves.
-use Rattle.frame_pool.proofs.Common.{◌≡◌, ℕ, zero, suc, ◌+◌, ◌<◌, ◌≤◌, Bool, true, false, List, [], ◌∷◌, ◌++◌, length, refl, sym, ◌∙◌, ap, arith, Some, None, vec_len, vec_capacity, ◌==◌, ◌||◌, not, cond, nat_lt, position, slice_index, slice_index_or, if◌then◌else◌, Option, unwrap_or, Result, Ok, Err, is_ok, IsOk, IsSome, option_to_list, prefix_len, range_with_len, ltb-true, ltb-false, eqb-true, get_or_read_under, has, place_of, index_out, IsSound, is_apart, places_of}
-use Rattle.std.proofs.lemmas.Bool.{cases_Bool, cases_lt}
+use Rattle.frame_pool.proofs.Common.{◌≡◌, ℕ, zero, suc, ◌+◌, ◌<◌, ◌≤◌, true, List, [], ◌∷◌, ◌++◌, length, sym, ◌∙◌, ap, arith, Some, None, vec_len, vec_capacity, not, position, slice_index, slice_index_or, if◌then◌else◌, Option, unwrap_or, Result, Ok, Err, is_ok, IsOk, IsSome, option_to_list, prefix_len, range_with_len, get_or_read_under, has, place_of, index_out, IsSound, is_apart, places_of}
 use Rattle.std.proofs.lemmas.Bool.Decides.{nat_tests}
-use Rattle.std.proofs.lemmas.List.Quantifiers.{position-Some}
-use Rattle.std.proofs.Common.{inl, inr}
 use Rattle.frame_pool.specs.declared.pages.StorePages.{StorePages}
-use Rattle.frame_pool.proofs.ApartLemmas.{has-push_last, first-apart, or_none}
+use Rattle.frame_pool.proofs.ApartLemmas.{has-push_last}
 use Rattle.frame_pool.proofs.SoundLemmas.{resident-in_frame, page-within, frame-of_store}
 
 -- what holds of a page at a place of the resident ones
@@ -64,22 +61,12 @@ pub some-free : (p : StorePages) → vec_len p.resident < p.frames → 0 < vec_l
 some-free p room = omega (arith, p.sound.placed.used, p.resident.ok.0, p.free.ok.0)
 
 pub free-within : (p : StorePages) (frame : ℕ) (free : List ℕ) → p.free.items ≡ free ++ frame ∷ [] → frame < vec_len p.page_in
-free-within p frame free split =
-    let facts = p.sound.placed.is_free frame (ap (λ (xs : List ℕ). has xs frame) split ∙ has-push_last free frame) in
-    omega (arith, facts.1.below, p.sound.sized.page_in, p.page_in.ok.0)
-
--- of two pages not both are to stay
-stays-one : (keep : Option ℕ) (x y : ℕ) → has (option_to_list keep) x ≡ true → has (option_to_list keep) y ≡ true → y ≡ x
-stays-one None x y first second = absurd (cc)
-stays-one (Some k) x y first second = grind (arith, nat_tests)
+free-within p frame free split = grind (arith, nat_tests, List ℕ, has-push_last free frame)
 
 some-goes :
     (keep : Option ℕ) (x y : ℕ) (rest : List ℕ) → is_apart (x ∷ y ∷ rest) ≡ true
     → length (x ∷ y ∷ rest) ≤ prefix_len (λ page. not (not (has (option_to_list keep) page))) (x ∷ y ∷ rest) → ⊥
-some-goes keep x y rest apart all =
-    let none = or_none (y == x) (has rest x) (first-apart x (y ∷ rest) apart).0 in
-    let same = stays-one keep x y in
-    grind (arith, nat_tests, none, same)
+some-goes keep x y rest apart all = grind (arith, nat_tests)
 
 not-all-stay : (keep : Option ℕ) (xs : List ℕ) → is_apart xs ≡ true → 2 ≤ length xs → position (λ page. not (has (option_to_list keep) page)) xs ≡ None → ⊥
 not-all-stay keep [] apart two none = omega arith
@@ -88,22 +75,13 @@ not-all-stay keep (x ∷ y ∷ rest) apart two none = let all = some-goes keep x
 
 -- where no page goes out a frame is free
 pub none-room : (p : StorePages) (keep : Option ℕ) → index_out (places_of p) keep ≡ None → vec_len p.resident < p.frames
-none-room p keep none = elim (cases_lt (length p.resident.items) p.frames) [
-  | inl room ↦ omega (arith, room, p.resident.ok.0)
-  | inr full ↦ absurd (not-all-stay keep p.resident.items p.sound.placed.pages_apart (omega (arith, full, p.sound.sized.some)) (grind (arith, nat_tests, full)))
-]
+none-room p keep none = grind (arith, nat_tests, not-all-stay)
 
 -- the place of the page that goes out is one of the resident ones
 pub index-out_below : (p : StorePages) (keep : Option ℕ) (index : ℕ) → index_out (places_of p) keep ≡ Some index → index < length p.resident.items
-index-out_below p keep index is = elim (cases_Bool (nat_lt (length p.resident.items) p.frames)) [
-  | inl room ↦ absurd (grind (arith, room))
-  | inr full ↦ (position-Some (λ page. not (has (option_to_list keep) page)) p.resident.items index 0 (grind (arith, full))).0
-]
+index-out_below p keep index is = grind (arith, nat_tests)
 
 -- one more number of a range
 pub range-push : (first count : ℕ) → range_with_len first count ++ (first + count) ∷ [] ≡ range_with_len first (count + 1)
 range-push first zero = let at : first + 0 ≡ first = omega arith in ap (λ (x : ℕ). x ∷ []) at
-range-push first (suc count) =
-    let at : first + suc count ≡ first + 1 + count = omega arith in
-    ap (λ (x : ℕ). first ∷ (range_with_len (first + 1) count ++ x ∷ [])) at ∙ ap (λ (xs : List ℕ). first ∷ xs) (range-push (first + 1) count)
-    ∙ ap (λ (n : ℕ). range_with_len first n) (let next : suc (count + 1) ≡ suc count + 1 = omega arith in next)
+range-push first (suc count) = grind (arith, nat_tests, range-push (first + 1) count)

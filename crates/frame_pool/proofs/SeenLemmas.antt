@@ -1,45 +1,19 @@
 -- What holds of every pool, and stays where a page leaves.
-use Rattle.frame_pool.proofs.Common.{◌==◌, ◌&&◌, ◌||◌, not, if◌then◌else◌, slice_index_or, slice_set, is_some, option_map_or, cases_lt, cases_eq, eq-eqb, ne_eqb, length-set, get_or-set_same, get_or-set_other, get_or_past, length-take, length-drop, overlaid, length-overlaid, page_bytes, has, taken_out, has-filter, IsSeen, frame_count, pool_of, frame_at, page_at, marks_at, frame_bytes, paging_after, gone, Pool, FramePool}
-use Rattle.std.proofs.Common.{◌≡◌, ◌≢◌, ℕ, ◌*◌, ◌<◌, ◌≤◌, Bool, true, false, List, [], ◌∷◌, length, refl, sym, ◌∙◌, ap, subst, arith, Option, Some, None, ◌⊎◌, inl, inr}
+use Rattle.frame_pool.proofs.Common.{◌==◌, if◌then◌else◌, slice_index_or, slice_set, is_some, option_map_or, cases_eq, eq-eqb, ne_eqb, length-set, get_or-set_same, get_or-set_other, get_or_past, length-take, length-drop, overlaid, length-overlaid, page_bytes, has, taken_out, has-filter, IsSeen, frame_count, pool_of, frame_at, page_at, marks_at, frame_bytes, paging_after, gone, Pool, FramePool, nat_tests}
+use Rattle.std.proofs.Common.{◌≡◌, ◌≢◌, ℕ, ◌*◌, ◌<◌, Bool, true, false, List, [], ◌∷◌, length, refl, sym, ◌∙◌, ap, subst, arith, Option, Some, None, ◌⊎◌, inl, inr}
 use Rattle.frame_pool.proofs.SoundLemmas.{page_part}
 use Rattle.frame_pool.proofs.PoolLemmas.{gone-from}
 
 pub pool-seen : (p : FramePool) → IsSeen (pool_of p)
-pool-seen p =
-    let sound = p.places.sound in
-    record {
-      bytes = omega (arith, p.bytes_sized, p.bytes.items.ok.0);
-      page_in = sound.sized.page_in;
-      marked = omega (arith, p.marked_sized, p.marked.ok.0, p.places.frame_of.ok.0);
-      kept = p.kept_sized ∙ ap (λ n. n * page_bytes p.places.page) (omega (arith, p.places.frame_of.ok.0));
-      resident = sound.placed.resident;
-      there = sound.placed.there;
-      back = sound.placed.back;
-      above = λ page frame is. (sound.placed.in_use page frame is).above;
-      below = λ page frame is. (sound.placed.in_use page frame is).below;
-    }
+pool-seen p = grind (arith, nat_tests)
 
 -- what stands somewhere in a list of options stands within it
 pub some-within : (xs : List (Option ℕ)) (at value : ℕ) → slice_index_or xs at None ≡ Some value → at < length xs
-some-within xs at value is = elim (cases_lt at (length xs)) [
-  | inl below ↦ below
-  | inr past ↦ absurd (let clash : None ≡ Some value = sym (get_or_past xs at None past) ∙ is in cc)
-]
+some-within xs at value is = grind (arith, nat_tests, get_or_past)
 
 -- a place of a list after another was set to nothing
 pub none-set : (xs : List (Option ℕ)) (at other : ℕ) → slice_index_or (slice_set xs at None) other None ≡ (if at == other then None else slice_index_or xs other None)
-none-set xs at other = elim (cases_eq at other) [
-  | inl same ↦ at-same (cases_lt at (length xs)) same ∙ sym (ap (λ (b : Bool). if b then None else slice_index_or xs other None) (eq-eqb at other same))
-  | inr apart ↦
-      get_or-set_other xs at other None None (λ e. apart (sym e))
-      ∙ sym (ap (λ (b : Bool). if b then None else slice_index_or xs other None) (ne_eqb at other apart))
-]
-  where
-    at-same : (at < length xs) ⊎ (length xs ≤ at) → at ≡ other → slice_index_or (slice_set xs at None) other None ≡ None
-    at-same (inl below) same = ap (λ (n : ℕ). slice_index_or (slice_set xs at None) n None) (sym same) ∙ get_or-set_same xs at None None below
-    at-same (inr past) same =
-        ap (λ (n : ℕ). slice_index_or (slice_set xs at None) n None) (sym same)
-        ∙ get_or_past (slice_set xs at None) at None (omega (arith, length-set xs at (let none : Option ℕ = None in none), past))
+none-set xs at other = grind (arith, nat_tests, get_or-set_other xs, get_or-set_same xs, get_or_past (slice_set xs at None), length-set xs)
 
 -- the frame of each page after one left
 pub gone-frame : (pool : Pool) (page other : ℕ) → frame_at (gone pool page) other ≡ (if page == other then None else frame_at pool other)
@@ -69,18 +43,7 @@ pub record Stays (old new : Pool) : Type 0 where
   pub frame_of : length new.frame_of ≡ length old.frame_of
 
 pub gone-stays : (pool : Pool) (page : ℕ) → Stays pool (gone pool page)
-gone-stays pool page = by_frame (frame_at pool page)
-  where
-    by_frame :
-        (o : Option ℕ)
-        → Stays pool (option_map_or (λ frame. record pool {
-          resident = taken_out (page ∷ []) pool.resident;
-          frame_of = slice_set pool.frame_of page None;
-          page_in = slice_set pool.page_in frame None;
-          kept = paging_after pool page frame;
-        }) o pool)
-    by_frame None = record { page = refl; frames = refl; bytes = refl; marked = refl; frame_of = refl }
-    by_frame (Some frame) = record { page = refl; frames = refl; bytes = refl; marked = refl; frame_of = length-set pool.frame_of page None }
+gone-stays pool page = grind (arith, nat_tests, length-set pool.frame_of page None)
 
 module _ (pool : Pool) (seen : IsSeen pool) (page frame : ℕ) (there : frame_at pool page ≡ Some frame) where
   abbrev left : Pool
@@ -112,29 +75,11 @@ module _ (pool : Pool) (seen : IsSeen pool) (page frame : ℕ) (there : frame_at
           (omega (arith, frame-long, page_part page (length pool.frame_of) (page_bytes pool.page) inside, seen.kept))
 
   resident-left : (p : ℕ) → has (taken_out (page ∷ []) pool.resident) p ≡ is_some (slice_index_or (slice_set pool.frame_of page None) p None)
-  resident-left p =
-      has-filter (λ y. not (has (page ∷ []) y)) pool.resident p
-      ∙ by_test (page == p)
-      ∙ sym (ap (λ (o : Option ℕ). is_some o) (none-set pool.frame_of page p))
-    where
-      by_test : (b : Bool) → (has pool.resident p && not (b || false)) ≡ is_some (if b then None else frame_at pool p)
-      by_test true = none (has pool.resident p)
-        where
-          none : (b : Bool) → (b && false) ≡ false
-          none true = refl
-          none false = refl
-      by_test false = all (has pool.resident p) ∙ seen.resident p
-        where
-          all : (b : Bool) → (b && true) ≡ b
-          all true = refl
-          all false = refl
+  resident-left p = grind (arith, nat_tests, has-filter, none-set, Bool)
 
   -- what stands somewhere after it stood there before
   before : (xs : List (Option ℕ)) (at other value : ℕ) → slice_index_or (slice_set xs at None) other None ≡ Some value → (at ≢ other) × (slice_index_or xs other None ≡ Some value)
-  before xs at other value is = elim (cases_eq at other) [
-    | inl same ↦ absurd (let clash : None ≡ Some value = sym (ap (λ (b : Bool). if b then None else slice_index_or xs other None) (eq-eqb at other same)) ∙ sym (none-set xs at other) ∙ is in cc)
-    | inr apart ↦ (apart, sym (ap (λ (b : Bool). if b then None else slice_index_or xs other None) (ne_eqb at other apart)) ∙ sym (none-set xs at other) ∙ is)
-  ]
+  before xs at other value is = grind (arith, nat_tests, none-set xs)
 
   after : (xs : List (Option ℕ)) (at other value : ℕ) → at ≢ other → slice_index_or xs other None ≡ Some value → slice_index_or (slice_set xs at None) other None ≡ Some value
   after xs at other value apart is = none-set xs at other ∙ ap (λ (b : Bool). if b then None else slice_index_or xs other None) (ne_eqb at other apart) ∙ is
@@ -176,10 +121,4 @@ seen-gone pool page seen = by_frame (frame_at pool page) refl
 
 -- a page that is in no frame leaves none
 pub gone-absent : (pool : Pool) (page : ℕ) → frame_at pool page ≡ None → gone pool page ≡ pool
-gone-absent pool page none =
-    ap (λ (o : Option ℕ). option_map_or (λ frame. record pool {
-      resident = taken_out (page ∷ []) pool.resident;
-      frame_of = slice_set pool.frame_of page None;
-      page_in = slice_set pool.page_in frame None;
-      kept = paging_after pool page frame;
-    }) o pool) none
+gone-absent pool page none = grind (arith, nat_tests)

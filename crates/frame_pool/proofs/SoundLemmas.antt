@@ -1,5 +1,5 @@
 -- A pool's pages agree after a page left its frame, and after one came into a frame.
-use Rattle.frame_pool.proofs.Common.{◌≡◌, ℕ, zero, suc, ◌+◌, ◌*◌, ◌<◌, ◌≤◌, ◌⊎◌, Bool, true, false, List, [], ◌∷◌, ◌++◌, length, refl, sym, ◌∙◌, ap, arith, inl, inr, Some, None, ◌==◌, nat_le, nat_lt, remove, replicate, slice_index, slice_index_or, slice_set, Option, is_some, unwrap_or, range_with_len, cases_eq, cases_lt, eqb-true, and_parts, ltb-true, nat_tests, length-set, length-append, get_or-set_same, get_or-set_other, length-replicate, get_or-replicate, PageSize, has-range, has, private_frames, frame_count, IsSound, IsSized, IsPlaced, IsOfStore, is_apart}
+use Rattle.frame_pool.proofs.Common.{◌≡◌, ℕ, zero, suc, ◌+◌, ◌*◌, ◌<◌, ◌≤◌, ◌⊎◌, Bool, true, false, List, [], ◌∷◌, ◌++◌, length, refl, sym, ◌∙◌, ap, arith, inl, inr, Some, None, ◌==◌, remove, replicate, slice_index, slice_index_or, slice_set, Option, is_some, unwrap_or, range_with_len, cases_eq, nat_tests, length-set, length-append, get_or-set_same, get_or-set_other, length-replicate, get_or-replicate, PageSize, has-range, has, private_frames, frame_count, IsSound, IsSized, IsPlaced, IsOfStore, is_apart}
 use Rattle.std.proofs.lemmas.List.Edits.{length-remove}
 use Rattle.std.proofs.Math.ListN.{get_or-eq_default}
 use Rattle.std.proofs.lemmas.List.FromFn.{length-range_with_len}
@@ -8,31 +8,20 @@ use Rattle.frame_pool.proofs.ApartLemmas.{apart-cons, has-at, has-removed, has-r
 
 -- a page that is somewhere is one of the pages, and a frame one of the frames
 within : (X : Type 0) → (xs : List (Option X)) (i : ℕ) (x : X) → slice_index_or xs i None ≡ Some x → i < length xs
-within X xs i x there = by_case (cases_lt i (length xs))
-  where
-    by_case : (i < length xs) ⊎ (length xs ≤ i) → i < length xs
-    by_case (inl below) = below
-    by_case (inr above) = absurd (let none : slice_index_or xs i None ≡ None = get_or-eq_default xs None above in cc)
+within X xs i x there = grind (arith, nat_tests, get_or-eq_default)
 
 pub page-within : (pages : Places) (page frame : ℕ) → place_of pages page ≡ Some frame → page < length pages.frame_of
 page-within pages page frame there = within ℕ pages.frame_of page frame there
 
 differ : (x y : ℕ) → (x ≡ y → ⊥) → (x == y) ≡ false
-differ x y apart = by_test (x == y) refl
-  where
-    by_test : (b : Bool) → (x == y) ≡ b → (x == y) ≡ false
-    by_test true same = absurd (apart (eqb-true x y same))
-    by_test false same = same
+differ x y apart = grind (arith, nat_tests)
 
 -- the page at a place of the resident ones is in a frame
 is_some-unwrapped : (o : Option ℕ) → is_some o ≡ true → o ≡ Some (unwrap_or o 0)
-is_some-unwrapped None some = absurd (cc)
-is_some-unwrapped (Some x) some = refl
+is_some-unwrapped o h1 = grind (arith, nat_tests)
 
 pub resident-in_frame : (pages : Places) (index : ℕ) → IsSound pages → index < length pages.resident → place_of pages (resident_at pages index) ≡ Some (frame_of_index pages index)
-resident-in_frame pages index sound below =
-    is_some-unwrapped (place_of pages (resident_at pages index))
-    (sym (sound.placed.resident (resident_at pages index)) ∙ has-at pages.resident index below)
+resident-in_frame pages index sound below = grind (arith, nat_tests, is_some-unwrapped, has-at)
 
 pub frame-of_store : (pages : Places) (page frame : ℕ) → IsSound pages → place_of pages page ≡ Some frame → IsOfStore pages frame
 frame-of_store pages page frame sound there = sound.placed.in_use page frame (sound.placed.there page frame there)
@@ -44,33 +33,13 @@ page_part page count size below = grind arith
 pair-left : (to from : List (Option ℕ)) (x y : ℕ) → x < length to → slice_index_or from y None ≡ Some x
     → ((p f : ℕ) → slice_index_or to p None ≡ Some f → slice_index_or from f None ≡ Some p)
     → (p f : ℕ) → slice_index_or (slice_set to x None) p None ≡ Some f → slice_index_or (slice_set from y None) f None ≡ Some p
-pair-left to from x y inside back each p f is = by_case (cases_eq p x)
-  where
-    by_case : (p ≡ x) ⊎ (p ≡ x → ⊥) → slice_index_or (slice_set from y None) f None ≡ Some p
-    by_case (inl same) =
-        absurd (let none : slice_index_or (slice_set to x None) p None ≡ None =
-        ap (λ (q : ℕ). slice_index_or (slice_set to x None) q None) same ∙ get_or-set_same to x None None inside in cc)
-    by_case (inr apart) =
-        let held : slice_index_or from f None ≡ Some p = each p f (sym (get_or-set_other to x p None None apart) ∙ is) in
-        let other : (f ≡ y → ⊥) = λ (same : f ≡ y). apart (let clash : Some p ≡ Some x = sym held ∙ ap (λ (q : ℕ). slice_index_or from q None) same ∙ back in cc) in
-        get_or-set_other from y f None None other ∙ held
+pair-left to from x y inside back each p f is = grind (arith, nat_tests, cases_eq, ℕ, get_or-set_same, get_or-set_other)
 
 -- and once one came
 pair-came : (to from : List (Option ℕ)) (x y : ℕ) → x < length to → y < length from → slice_index_or from y None ≡ None
     → ((p f : ℕ) → slice_index_or to p None ≡ Some f → slice_index_or from f None ≡ Some p)
     → (p f : ℕ) → slice_index_or (slice_set to x (Some y)) p None ≡ Some f → slice_index_or (slice_set from y (Some x)) f None ≡ Some p
-pair-came to from x y inside also free each p f is = by_case (cases_eq p x)
-  where
-    by_case : (p ≡ x) ⊎ (p ≡ x → ⊥) → slice_index_or (slice_set from y (Some x)) f None ≡ Some p
-    by_case (inl same) =
-        let some : slice_index_or (slice_set to x (Some y)) p None ≡ Some y =
-        ap (λ (q : ℕ). slice_index_or (slice_set to x (Some y)) q None) same ∙ get_or-set_same to x (Some y) None inside in
-        let at : f ≡ y = cc in
-        ap (λ (q : ℕ). slice_index_or (slice_set from y (Some x)) q None) at ∙ get_or-set_same from y (Some x) None also ∙ ap (λ (q : ℕ). Some q) (sym same)
-    by_case (inr apart) =
-        let held : slice_index_or from f None ≡ Some p = each p f (sym (get_or-set_other to x p (Some y) None apart) ∙ is) in
-        let other : (f ≡ y → ⊥) = λ (same : f ≡ y). (let clash : Some p ≡ None = sym held ∙ ap (λ (q : ℕ). slice_index_or from q None) same ∙ free in cc) in
-        get_or-set_other from y f (Some x) None other ∙ held
+pair-came to from x y inside also free each p f is = grind (arith, nat_tests, cases_eq, ℕ, get_or-set_same, get_or-set_other)
 
 -- a page left: its frame is free
 pub sound-left :
@@ -277,11 +246,7 @@ sound-came_by pages page frame resident free frame_of page_in sound absent insid
 
 -- a list of nothings has nothing
 nothing : (X : Type 0) → (count i : ℕ) → slice_index_or (replicate {A = Option X} count None) i None ≡ None
-nothing X count i = by_case (cases_lt i count)
-  where
-    by_case : (i < count) ⊎ (count ≤ i) → slice_index_or (replicate {A = Option X} count None) i None ≡ None
-    by_case (inl below) = get_or-replicate count i None None below
-    by_case (inr above) = get_or-eq_default (replicate {A = Option X} count None) None (let short : length (replicate {A = Option X} count None) ≤ i = omega (arith, length-replicate {A = Option X} count None) in short)
+nothing X count i = grind (arith, nat_tests, get_or-replicate, get_or-eq_default, length-replicate)
 
 not-in_range : (low count x : ℕ) → x < low → has (range_with_len low count) x ≡ false
 not-in_range low zero x below = refl
@@ -292,9 +257,7 @@ range-apart low zero = refl
 range-apart low (suc count) = apart-cons low (range_with_len (low + 1) count) (not-in_range (low + 1) count low (omega arith)) (range-apart (low + 1) count)
 
 in-range : (low count x : ℕ) → has (range_with_len low count) x ≡ true → (low ≤ x) × (x < low + count)
-in-range low count x inside =
-    let parts : (nat_le low x ≡ true) × (nat_lt x (low + count) ≡ true) = and_parts (nat_le low x) (nat_lt x (low + count)) (sym (has-range low count x) ∙ inside) in
-    (grind (arith, nat_tests), ltb-true x (low + count) parts.1)
+in-range low count x inside = grind (arith, nat_tests, has-range)
 
 pub sound-fresh : (size : PageSize) (frames pages : ℕ) → 2 ≤ frames → frames ≤ 1024 → IsSound (fresh_places size frames pages)
 sound-fresh size frames pages some few =

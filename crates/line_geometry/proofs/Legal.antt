@@ -1,8 +1,8 @@
 -- Segments have no fault exactly where they are a directory's.
-use Rattle.line_geometry.proofs.Common.{arith, refl, ap, sym, ◌∙◌, add-one, sum_by-cons, nat_tests, Order, Range, TooMany, PageSize, Two, Four, page_bytes, Layout, page_count, byte_count, fault_of, fault_after, is_strange, IsInRange, IsLegal}
+use Rattle.line_geometry.proofs.Common.{arith, refl, ap, add-one, sum_by-cons, nat_tests, Order, Range, TooMany, PageSize, Two, Four, page_bytes, Layout, byte_count, fault_of, fault_after, is_strange, IsInRange, IsLegal}
 use Rattle.std.specs.Prelude.{◌≡◌, ℕ, zero, suc, ◌+◌, ◌*◌, ◌<◌, ◌≤◌, ◌==◌, nat_lt, nat_le, Bool, true, false, List, [], ◌∷◌, length, map, sum_by, slice_index, All, Option, Some, None, cond}
 use Rattle.std.specs.List.Sorted.{IsStrictlyIncreasing}
-use Rattle.std.proofs.lemmas.List.Elements.{All-nil, All-cons, All-head, All-tail}
+use Rattle.std.proofs.lemmas.List.Elements.{All-cons, All-head, All-tail}
 use Rattle.line_geometry.specs.declared.directory.DirectoryFault.{DirectoryFault}
 use Rattle.line_geometry.proofs.Within.{byte_count-pages}
 
@@ -20,13 +20,9 @@ record IsLegalAfter (last pages : ℕ) (segments : List (ℕ × ℕ)) : Type 0 w
 behind : (x : ℕ) (xs : List ℕ) (k : ℕ) → slice_index (x ∷ xs) (k + 1) ≡ slice_index xs k
 behind x xs k = ap (slice_index (x ∷ xs)) (add-one k)
 
-increasing-one : (x : ℕ) → IsStrictlyIncreasing (x ∷ [])
-increasing-one x k inside = absurd (omega arith)
-
 increasing-cons : (x y : ℕ) (ys : List ℕ) → x < y → IsStrictlyIncreasing (y ∷ ys) → IsStrictlyIncreasing (x ∷ y ∷ ys)
 increasing-cons x y ys low rest zero inside = low
-increasing-cons x y ys low rest (suc k) inside =
-    omega (arith, rest k (omega arith), behind x (y ∷ ys) (suc k), behind y ys k, behind x (y ∷ ys) k)
+increasing-cons x y ys low rest (suc k) inside = grind (arith, nat_tests, behind x (y ∷ ys) (suc k), behind y ys k, behind x (y ∷ ys) k)
 
 increasing-head : (x y : ℕ) (ys : List ℕ) → IsStrictlyIncreasing (x ∷ y ∷ ys) → x < y
 increasing-head x y ys all = all 0 (omega arith)
@@ -42,27 +38,12 @@ fault_by strange low many later = cond strange (Some Range) (cond low (Some Orde
 pub first-fine :
     (last pages : ℕ) (segment : ℕ × ℕ) (rest : List (ℕ × ℕ)) → fault_after last pages (segment ∷ rest) ≡ None
     → IsInRange segment × (last < segment.0) × (pages + segment.1 ≤ 1024) × (fault_after segment.0 (pages + segment.1) rest ≡ None)
-first-fine last pages segment rest fine = by_tests (is_strange segment) (nat_le segment.0 last) (nat_lt 1024 (pages + segment.1)) refl refl refl fine
-  where
-    by_tests :
-        (strange low many : Bool) → is_strange segment ≡ strange → nat_le segment.0 last ≡ low → nat_lt 1024 (pages + segment.1) ≡ many
-        → fault_by strange low many (fault_after segment.0 (pages + segment.1) rest) ≡ None
-        → IsInRange segment × (last < segment.0) × (pages + segment.1 ≤ 1024) × (fault_after segment.0 (pages + segment.1) rest ≡ None)
-    by_tests false false false is is' is'' fine =
-        let least : 1 ≤ segment.0 = grind (arith, nat_tests) in
-        let most : segment.0 ≤ 3839 = grind (arith, nat_tests) in
-        let fewest : 1 ≤ segment.1 = grind (arith, nat_tests) in
-        let largest : segment.1 ≤ 128 = grind (arith, nat_tests) in
-        let above : last < segment.0 = grind (arith, nat_tests) in
-        let fits : pages + segment.1 ≤ 1024 = grind (arith, nat_tests) in
-        ((least, most, fewest, largest), above, fits, fine)
-    by_tests _ _ _ is is' is'' fine = absurd (cc)
+first-fine last pages segment rest fine = grind (arith, nat_tests)
 
 -- without a fault they are legal
 legal-after :
     (last pages : ℕ) (segments : List (ℕ × ℕ)) → pages ≤ 1024 → fault_after last pages segments ≡ None → IsLegalAfter last pages segments
-legal-after last pages [] few fine =
-    record { in_range = All-nil IsInRange; ascending = increasing-one last; few_pages = omega (arith, few) }
+legal-after last pages [] few fine = grind (arith, nat_tests)
 legal-after last pages (segment ∷ rest) few fine =
     let (here, above, fits, inner) = first-fine last pages segment rest fine in
     let later = legal-after segment.0 (pages + segment.1) rest fits inner in
@@ -168,9 +149,7 @@ none-legal (segment ∷ rest) legal =
 
 -- a list with a fault isn't
 pub fault-not_legal : (segments : List (ℕ × ℕ)) (fault : DirectoryFault) → fault_of segments ≡ Some fault → IsLegal segments → ⊥
-fault-not_legal segments fault found legal =
-    let none : None ≡ Some fault = sym (none-legal segments legal) ∙ found in
-    absurd (cc)
+fault-not_legal segments fault found legal = grind (arith, nat_tests, none-legal segments legal)
 
 page-bound : (page : PageSize) (n : ℕ) → n ≤ 1024 → n * page_bytes page ≤ 4194304
 page-bound Two n few = omega (arith, few)
@@ -178,7 +157,4 @@ page-bound Four n few = omega (arith, few)
 
 -- a legal store has at most 4 MiB
 pub legal-bytes : (directory : Layout) → IsLegal directory.segments → byte_count directory ≤ 4194304
-legal-bytes directory legal =
-    let bound : page_count directory * page_bytes directory.page ≤ 4194304 =
-    page-bound directory.page (page_count directory) legal.pages in
-    omega (arith, bound, byte_count-pages directory)
+legal-bytes directory legal = grind (arith, nat_tests, page-bound, byte_count-pages)

@@ -27,32 +27,10 @@ is_in set line = list_any (λ x. x == line) set
 in_none : (low x : ℕ) (b : Bool) → false ≡ (nat_le low x && nat_lt x (low + 0) && b)
 in_none low x b = grind (arith, nat_tests)
 
-in_later : (low n x : ℕ) (b : Bool) → low ≢ x → (nat_le (low + 1) x && nat_lt x ((low + 1) + n) && b) ≡ (nat_le low x && nat_lt x (low + suc n) && b)
-in_later low n x b other = grind (arith, nat_tests)
-
-in_here : (low n x : ℕ) (b : Bool) → low ≡ x → b ≡ true → true ≡ (nat_le low x && nat_lt x (low + suc n) && b)
-in_here low n x b here passes = grind (arith, nat_tests)
-
-in_neither : (low n x : ℕ) (b : Bool) → b ≡ false → (nat_le (low + 1) x && nat_lt x ((low + 1) + n) && b) ≡ (nat_le low x && nat_lt x (low + suc n) && b)
-in_neither low n x b fails = grind (arith, nat_tests)
-
 -- the numbers of a range that pass
 is_in-filter : (p : ℕ → Bool) (low n x : ℕ) → is_in (filter p (range_with_len low n)) x ≡ (nat_le low x && nat_lt x (low + n) && p x)
 is_in-filter p low zero x = in_none low x (p x)
-is_in-filter p low (suc n) x = by_test (p low) (low == x) refl refl (is_in-filter p (low + 1) n x)
-  where
-    by_test :
-        (passes equal : Bool) → p low ≡ passes → (low == x) ≡ equal
-        → is_in (filter p (range_with_len (low + 1) n)) x ≡ (nat_le (low + 1) x && nat_lt x ((low + 1) + n) && p x)
-        → is_in (cond passes (low ∷ filter p (range_with_len (low + 1) n)) (filter p (range_with_len (low + 1) n))) x
-        ≡ (nat_le low x && nat_lt x (low + suc n) && p x)
-    by_test true true is same inner =
-        let here : low ≡ x = eqb-true low x same in
-        ap (λ b. b || is_in (filter p (range_with_len (low + 1) n)) x) same ∙ in_here low n x (p x) here (ap p (sym here) ∙ is)
-    by_test true false is same inner =
-        ap (λ b. b || is_in (filter p (range_with_len (low + 1) n)) x) same ∙ inner ∙ in_later low n x (p x) (eqb-false low x same)
-    by_test false true is same inner = inner ∙ in_neither low n x (p x) (ap p (sym (eqb-true low x same)) ∙ is)
-    by_test false false is same inner = inner ∙ in_later low n x (p x) (eqb-false low x same)
+is_in-filter p low (suc n) x = grind (arith, nat_tests, is_in-filter p (low + 1) n x)
 
 range-bounds : (n x : ℕ) (b : Bool) → (nat_le 0 x && nat_lt x (0 + n) && b) ≡ (nat_lt x n && b)
 range-bounds n x b = grind (arith, nat_tests)
@@ -77,9 +55,7 @@ of_page-where p = where-alike (is_in (lines_where p)) p (λ x below. is_in_where
 
 -- the lines of a page alone are in a set of lines
 pub of_page-below : (set : List ℕ) → IsOfPage set → (x : ℕ) → is_in set x ≡ true → x < 16
-of_page-below set is x inside =
-    let both : (nat_lt x 16 && is_in set x) ≡ true = sym (is_in-where (is_in set) x) ∙ ap (λ (s : List ℕ). is_in s x) is ∙ inside in
-    grind (arith, nat_tests)
+of_page-below set is x inside = grind (arith, nat_tests, is_in-where)
 
 counted-step : (k m : ℕ) → count_ones (m / 2) ≡ length (passing k (is_on (m / 2))) → count_ones m ≡ length (passing (suc k) (is_on m))
 unfolding passing
@@ -108,13 +84,7 @@ count-bits n small = counted 16 n small
 
 few-filter : (p : ℕ → Bool) (low n : ℕ) → length (filter p (range_with_len low n)) ≤ n
 few-filter p low zero = omega arith
-few-filter p low (suc n) = by_test (p low) (few-filter p (low + 1) n)
-  where
-    by_test :
-        (b : Bool) → length (filter p (range_with_len (low + 1) n)) ≤ n
-        → length (cond b (low ∷ filter p (range_with_len (low + 1) n)) (filter p (range_with_len (low + 1) n))) ≤ suc n
-    by_test true few = omega arith
-    by_test false few = omega arith
+few-filter p low (suc n) = grind (arith, nat_tests, few-filter p (low + 1) n)
 
 few-passing : (n : ℕ) (p : ℕ → Bool) → length (passing n p) ≤ n
 unfolding passing
@@ -124,17 +94,7 @@ pub few-lines : (p : ℕ → Bool) → length (lines_where p) ≤ 16
 few-lines p = few-passing 16 p
 
 zero-count : (n : ℕ) → (n == 0) ≡ (count_ones n == 0)
-zero-count n = by_count (n == 0) (count_ones n == 0) refl refl
-  where
-    by_count : (b c : Bool) → (n == 0) ≡ b → (count_ones n == 0) ≡ c → b ≡ c
-    by_count true true is counts = refl
-    by_count false false is counts = refl
-    by_count true false is counts =
-        let none : n ≡ 0 = eqb-true n 0 is in
-        let some : count_ones n ≢ 0 = eqb-false (count_ones n) 0 counts in absurd (omega (arith, ones_le_self n))
-    by_count false true is counts =
-        let some : n ≢ 0 = eqb-false n 0 is in
-        absurd (some (zero_from_ones n (eqb-true (count_ones n) 0 counts)))
+zero-count n = grind (arith, nat_tests, eqb-false, ones_le_self, zero_from_ones)
 
 -- whether there is none
 pub none-bits : (n : ℕ) → n < 65536 → (n == 0) ≡ (length (lines_of_bits n) == 0)
@@ -200,8 +160,7 @@ passing-first :
     (n : ℕ) (p q : ℕ → Bool) (at : ℕ) → at < n → p at ≡ true → q at ≡ false → ((x : ℕ) → x < at → p x ≡ false)
     → ((x : ℕ) → x < n → x ≢ at → p x ≡ q x) → passing n p ≡ at ∷ passing n q
 unfolding passing
-passing-first n p q at within passes fails before others =
-    filter-first p q 0 n at (omega arith) (omega arith) passes fails before (λ x inside other. others x (omega arith) other)
+passing-first n p q at within passes fails before others = grind (arith, nat_tests, filter-first p q 0 n)
 
 pub first-bits :
     (n : ℕ) → n ≢ 0 → n < 65536
@@ -217,9 +176,7 @@ first-bits n some small =
 
 filter-none : (p : ℕ → Bool) (low n : ℕ) → ((x : ℕ) → p x ≡ false) → filter p (range_with_len low n) ≡ []
 filter-none p low zero fails = refl
-filter-none p low (suc n) fails =
-    ap (λ b. cond b (low ∷ filter p (range_with_len (low + 1) n)) (filter p (range_with_len (low + 1) n))) (fails low)
-    ∙ filter-none p (low + 1) n fails
+filter-none p low (suc n) fails = grind (arith, nat_tests, filter-none p (low + 1) n fails)
 
 passing-none : (n : ℕ) (p : ℕ → Bool) → ((x : ℕ) → p x ≡ false) → passing n p ≡ []
 unfolding passing

@@ -1,6 +1,6 @@
 -- The members of a shown cycle; and where each number is given another name of its own, what leads where and the shown cycle are the same in
 -- these names.
-use Rattle.lock_rules.proofs.Common.{◌≡◌, refl, ℕ, zero, suc, ◌==◌, ◌&&◌, ◌||◌, if◌then◌else◌, Bool, true, false, List, [], ◌∷◌, length, map, find, Option, Some, None, list_any, ap, sym, ◌∙◌, eqb-true, eq-eqb, or_left, or_right, has, leads, next_shown, shown_after, shown_cycle, arith, nat_tests}
+use Rattle.lock_rules.proofs.Common.{◌≡◌, refl, ℕ, zero, suc, ◌==◌, ◌&&◌, ◌||◌, if◌then◌else◌, Bool, true, false, List, [], ◌∷◌, length, map, find, Option, Some, None, list_any, ap, sym, ◌∙◌, eqb-true, or_right, has, leads, next_shown, shown_after, shown_cycle, arith, nat_tests}
 use Rattle.std.specs.Option.{option_map, option_map_or}
 use Rattle.std.proofs.lemmas.List.{length-map}
 
@@ -57,10 +57,7 @@ module _ {A : Type 0} (name : ℕ → A) where
   -- some one passes by its name, where it passes
   pub any-named : (p : A → Bool) (q : ℕ → Bool) (xs : List ℕ) → ((x : ℕ) → has xs x ≡ true → p (name x) ≡ q x) → list_any p (map name xs) ≡ list_any q xs
   any-named p q [] same = refl
-  any-named p q (x ∷ xs) same =
-      λ i.
-      same x (or_left (x == x) (has xs x) (eq-eqb x x refl)) i
-      || any-named p q xs (λ y inside. same y (or_right (x == y) (has xs y) inside)) i
+  any-named p q (x ∷ xs) same = grind (arith, nat_tests, any-named p q xs (λ y inside. same y (or_right (x == y) (has xs y) inside)))
 
   -- the first that passes by its name
   pub find-named : (p : A → Bool) (q : ℕ → Bool) (xs : List ℕ) → ((x : ℕ) → has xs x ≡ true → p (name x) ≡ q x) → find p (map name xs) ≡ option_map name (find q xs)
@@ -116,14 +113,4 @@ module _ (name : ℕ → ℕ) (waits named : ℕ → ℕ → Bool) (all : List �
 
   -- the shown cycle in these names
   pub cycle-named : (first : ℕ) → has all first ≡ true → shown_cycle named (map name all) (name first) ≡ option_map (map name) (shown_cycle waits all first)
-  cycle-named first here =
-      ap (λ (steps : ℕ). if leads named (map name all) steps (name first) (name first) then Some (name first ∷ shown_after named (map name all) steps (name first) (name first)) else None) (length-map all name)
-      ∙ by_test (leads named (map name all) (length all) (name first) (name first)) (leads waits all (length all) first first) (leads-named (length all) first first here here) (after-named (length all) first first here here)
-    where
-      by_test : (a b : Bool) → a ≡ b → shown_after named (map name all) (length all) (name first) (name first) ≡ map name (shown_after waits all (length all) first first)
-          → (if a then Some (name first ∷ shown_after named (map name all) (length all) (name first) (name first)) else None)
-          ≡ option_map (map name) (if b then Some (first ∷ shown_after waits all (length all) first first) else None)
-      by_test true true e rest = ap (λ (these : List ℕ). Some (name first ∷ these)) rest
-      by_test true false e rest = absurd (cc)
-      by_test false true e rest = absurd (cc)
-      by_test false false e rest = refl
+  cycle-named first here = grind (arith, nat_tests, length-map, leads-named, after-named)

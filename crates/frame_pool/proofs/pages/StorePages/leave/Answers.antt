@@ -1,24 +1,17 @@
-use Rattle.frame_pool.proofs.Common.{◌≡◌, ℕ, [], ◌∷◌, ◌++◌, sym, ◌∙◌, ap, arith, place_of, places_of}
+use Rattle.frame_pool.proofs.Common.{◌≡◌, ℕ, [], ◌∷◌, ◌++◌, sym, ◌∙◌, ap, arith, place_of, places_of, nat_tests}
 use Rattle.std.specs.Prelude.{slice_set, None, unwrap_or}
 use Rattle.frame_pool.proofs.SoundLemmas.{sound-left_by}
 use Rattle.frame_pool.proofs.PlaceLemmas.{Leaves, leaves, read_frame, pushed}
 use Rattle.frame_pool.proofs.pages.StorePages.leave.Goals as goal
 
 pub index-requires : goal.index-requires
-index-requires c =
-    let facts : Leaves c.args.self.now c.args.index c.remove-page.result = leaves c.args.self.now c.args.index c.remove-page.result c.requires c.remove-page.ensures.value in
-    omega (arith, facts.inside, c.from-place.ensures)
+index-requires c = grind (arith, nat_tests, Leaves, leaves)
 
 pub index_mut-requires : goal.index_mut-requires
-index_mut-requires c =
-    let facts : Leaves c.args.self.now c.args.index c.remove-page.result = leaves c.args.self.now c.args.index c.remove-page.result c.requires c.remove-page.ensures.value in
-    omega (arith, facts.inside, c.from-place.ensures)
+index_mut-requires c = grind (arith, nat_tests, Leaves, leaves)
 
 pub index_mut-requires-2 : goal.index_mut-requires-2
-index_mut-requires-2 c =
-    let facts : Leaves c.args.self.now c.args.index c.remove-page.result = leaves c.args.self.now c.args.index c.remove-page.result c.requires c.remove-page.ensures.value in
-    let frame : c.from.result ≡ unwrap_or (place_of (places_of c.args.self.now) c.remove-page.result) 0 = c.from.ensures ∙ read_frame c.args.self.now c.from-place.result c.remove-page.result c.unwrap_or-frame.result c.index.result.now c.from-place.ensures facts.inside c.index.ensures c.unwrap_or-frame.ensures in
-    omega (arith, facts.frame, frame)
+index_mut-requires-2 c = grind (arith, nat_tests, Leaves, leaves, read_frame)
 
 pub invariant_of-self-clause-sound : goal.invariant_of-self-clause-sound
 invariant_of-self-clause-sound c =

@@ -1,19 +1,9 @@
-use Rattle.frame_pool.proofs.Common.{◌≡◌, ◌<◌, ℕ, List, length, sym, ◌∙◌, ap, subst, refl, All, fold, All-head, All-tail, Pool, line_laid, pool_of}
-use Rattle.line_geometry.specs.declared.line_set.LinesOf.{LinesOf}
+use Rattle.frame_pool.proofs.Common.{◌<◌, ℕ, List, length, sym, ◌∙◌, ap, subst, All, fold, All-head, All-tail, Pool, line_laid, pool_of, nat_tests, arith}
 use Rattle.frame_pool.proofs.PoolLemmas.{lines-below}
 use Rattle.frame_pool.proofs.pool.FramePool.lay_lines.Goals as goal
 
 pub loop-line-init : goal.loop-line-init
-loop-line-init c =
-    let is : c.into_iter-line-iterator.result.left ≡ c.args.lines =
-    ap (λ (lines : LinesOf). lines.left) c.into_iter-line-iterator.ensures.into_iter_gives ∙ c.lines-line-items.ensures.value in
-    record {
-      same = refl;
-      below = subst (λ (set : List ℕ). All (λ (line : ℕ). line < 16) set) (sym is) (lines-below c.args.lines c.lines-line-items.ensures.of_page);
-      pages = refl;
-      size = refl;
-      frames = refl;
-    }
+loop-line-init c = grind (arith, nat_tests, List ℕ, lines-below c.args.lines c.lines-line-items.ensures.of_page)
 
 pub lay_line-requires-clause-frame : goal.lay_line-requires-clause-frame
 lay_line-requires-clause-frame c =

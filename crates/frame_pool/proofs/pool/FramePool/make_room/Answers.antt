@@ -1,4 +1,4 @@
-use Rattle.frame_pool.proofs.Common.{ℕ, sym, ◌∙◌, ap, Some, pool_of}
+use Rattle.frame_pool.proofs.Common.{ℕ, sym, ◌∙◌, ap, Some, pool_of, nat_tests, arith}
 use Rattle.frame_pool.proofs.PlaceLemmas.{none-room}
 use Rattle.frame_pool.proofs.PoolLemmas.{out-some, out-none, room-some, room-none}
 use Rattle.frame_pool.proofs.pool.FramePool.make_room.Goals as goal
@@ -8,9 +8,7 @@ returns-in-Some-clause-out c =
     ap (λ (n : ℕ). Some n) c.leave.ensures.page ∙ sym (out-some c.args.self.now c.args.keep c.in-Some.index (sym c.index_out.ensures ∙ c.in-Some.is))
 
 pub returns-in-Some-clause-value : goal.returns-in-Some-clause-value
-returns-in-Some-clause-value c =
-    c.leave.ensures.value
-    ∙ room-some (pool_of c.args.self.now) c.args.keep _ (out-some c.args.self.now c.args.keep c.in-Some.index (sym c.index_out.ensures ∙ c.in-Some.is))
+returns-in-Some-clause-value c = grind (arith, nat_tests, room-some, out-some)
 
 pub returns-in-None-clause-out : goal.returns-in-None-clause-out
 returns-in-None-clause-out c = sym (out-none c.args.self.now c.args.keep (sym c.index_out.ensures ∙ c.in-None.is))

@@ -1,5 +1,5 @@
-use Rattle.frame_pool.proofs.Common.{slice_index, eqb-true, position-Some, Pool, gone, pool_of}
-use Rattle.std.proofs.Common.{◌==◌, ℕ, sym, ◌∙◌, ap}
+use Rattle.frame_pool.proofs.Common.{slice_index, eqb-true, position-Some, Pool, gone, pool_of, nat_tests}
+use Rattle.std.proofs.Common.{◌==◌, ℕ, sym, ◌∙◌, ap, arith}
 use Rattle.frame_pool.proofs.PoolLemmas.{gone-none, not-resident}
 use Rattle.frame_pool.proofs.pool.FramePool.undo.Goals as goal
 
@@ -12,7 +12,4 @@ returns-in-Some c =
     ∙ ap (λ (pool : Pool). gone pool c.args.page) c.settle.ensures
 
 pub returns-in_default : goal.returns-in_default
-returns-in_default c =
-    let mid = c.settle.new.self in
-    sym (gone-none mid c.args.page (not-resident mid.places.resident.items c.args.page (sym c.index_of.ensures ∙ c.in_default.is)))
-    ∙ ap (λ (pool : Pool). gone pool c.args.page) c.settle.ensures
+returns-in_default c = grind (arith, nat_tests, gone-none, not-resident)

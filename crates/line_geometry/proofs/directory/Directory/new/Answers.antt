@@ -1,14 +1,14 @@
+use Rattle.std.proofs.Common.{arith, refl, sym}
+use Rattle.std.proofs.lemmas.Bool.Decides.{nat_tests}
 use Rattle.line_geometry.proofs.Legal.{legal-none, fault-not_legal}
 use Rattle.line_geometry.proofs.Kept.{kept-filled}
-use Rattle.std.proofs.Common.{refl, sym}
 use Rattle.line_geometry.proofs.directory.Directory.new.Goals as goal
 
 pub invariant_of-result : goal.invariant_of-result
 invariant_of-result c = rw c.filled_up.ensures (kept-filled c.args.page c.args.segments.now (legal-none c.args.segments.now (sym c.in-None.ensures)))
 
 pub returns-in-Some-clause-legal : goal.returns-in-Some-clause-legal
-returns-in-Some-clause-legal c =
-    (λ ok. absurd (cc), λ legal. absurd (fault-not_legal c.args.segments.now c.in-Some.fault (sym c.in-Some.ensures) legal))
+returns-in-Some-clause-legal c = grind (arith, nat_tests, fault-not_legal)
 
 pub returns-in-None-clause-legal : goal.returns-in-None-clause-legal
 returns-in-None-clause-legal c = (λ ok. legal-none c.args.segments.now (sym c.in-None.ensures), λ legal. refl)
