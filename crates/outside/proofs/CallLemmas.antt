@@ -1,6 +1,7 @@
 -- The calls of runs, and of one call more.
 use Rattle.outside.proofs.Common.{◌≡◌, ℕ, zero, suc, ◌+◌, List, [], ◌∷◌, ◌++◌, length, refl, sym, ◌∙◌, ap, append_assoc, append-nil, arith, ◌≤◌, length-append, replicate-append-replicate, length-replicate, replicate, count_by, if◌then◌else◌, cond, Result, Ok, Err, is_ok, IsOk, Run, Entry, Asked, calls_of, is_write}
 use Rattle.std.proofs.lemmas.List.Sums.{sum_by-cons}
+use Rattle.std.proofs.lemmas.Bool.Decides.{nat_tests}
 
 -- one more that asked alone
 pub calls_of-asked : (runs : List Run) (asked : ℕ) → calls_of runs (asked + 1) ≡ calls_of runs asked ++ Asked ∷ []
@@ -11,9 +12,7 @@ calls_of-asked (run ∷ runs) asked =
 -- one more that did more
 pub calls_of-run : (runs : List Run) (last : Run) → calls_of (runs ++ last ∷ []) 0 ≡ calls_of runs last.asked ++ last.call ∷ []
 calls_of-run [] last = refl
-calls_of-run (run ∷ runs) last =
-    ap (λ (rest : List Entry). replicate run.asked Asked ++ run.call ∷ rest) (calls_of-run runs last)
-    ∙ sym (append_assoc (replicate run.asked Asked) (run.call ∷ calls_of runs last.asked) (last.call ∷ []))
+calls_of-run (run ∷ runs) last = grind (arith, nat_tests, calls_of-run runs last, append_assoc)
 
 -- as many asked alone at the end as there are calls, or fewer
 pub asked-le : (runs : List Run) (asked : ℕ) → asked ≤ length (calls_of runs asked)

@@ -1,7 +1,8 @@
 -- What a crash leaves of bytes that were sure.
 use Rattle.outside.proofs.Common.{Option, None, Some, unwrap_or, Ghosts, AreTold, Torn, LeavesStep, Leaves, held_of}
-use Rattle.std.proofs.Common.{◌≡◌, ℕ, List, [], refl, subst, IsSome}
+use Rattle.std.proofs.Common.{◌≡◌, ℕ, List, [], refl, IsSome, arith}
 use Rattle.outside.specs.Durable.{IsSure}
+use Rattle.std.proofs.lemmas.Bool.Decides.{nat_tests}
 
 pub told_is : (told : Option (List ℕ)) (bytes : List ℕ) → IsSome told → AreTold told bytes → bytes ≡ unwrap_or told []
 told_is None bytes some is = cc
@@ -17,6 +18,4 @@ leaves_held G now sure image seen left = told_is (G.held now) image sure.told (s
 
 -- a crash in the first write leaves them, but for any bytes in its range
 pub torn_first : {W : Type 0} (G : Ghosts W) (old mid : W) (at count : ℕ) → IsSure G old → LeavesStep (Torn at count) G.moment G.left_since old mid → Leaves G (λ image seen. Torn at count (held_of G old) image) old mid
-torn_first G old mid at count sure follows image seen left =
-    let from = follows image seen left in
-    subst (λ (these : List ℕ). Torn at count these image) (leaves_held G old sure from.0 seen from.1) from.2
+torn_first G old mid at count sure follows image seen left = grind (arith, nat_tests, follows, leaves_held)

@@ -3,6 +3,7 @@ use Rattle.outside.proofs.Common.{◌≡◌, ℕ, ◌+◌, ◌<◌, List, [], �
 use Rattle.std.proofs.Math.Seq.{take-append-add}
 use Rattle.outside.proofs.Counts.{cause_since}
 use Rattle.outside.proofs.Runs.{elapses-trans}
+use Rattle.std.proofs.lemmas.Bool.Decides.{nat_tests}
 
 -- the same bytes
 pub prints_same : {T : Type 0} (old new : Option (List ℕ)) (first second : List ℕ) (result : Result T Failed) → first ≡ second → Prints old new first result → Prints old new second result
@@ -15,9 +16,7 @@ prints_none (Some bytes) value = ap (λ (these : List ℕ). Some these) (sym (ap
 
 -- none of some
 pub prints_unput : {T : Type 0} (old new : Option (List ℕ)) (bytes : List ℕ) (result : Result T Failed) → IsErr result → new ≡ old → Prints old new bytes result
-prints_unput None new bytes result err same = same
-prints_unput (Some old) new bytes (Ok value) err same = absurd (search (rules, err))
-prints_unput (Some old) new bytes (Err why) err same = (0, same ∙ ap (λ (these : List ℕ). Some these) (sym (append-nil old)))
+prints_unput old new bytes result err same = grind (arith, nat_tests, append-nil)
 
 -- another value
 pub prints_well : {T U : Type 0} (old new : Option (List ℕ)) (bytes : List ℕ) (first : T) (second : U) → Prints old new bytes (Ok first) → Prints old new bytes (Ok second)

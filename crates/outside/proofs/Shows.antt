@@ -1,50 +1,22 @@
 -- Calls that ask the disk, and puts, one after another.
-use Rattle.outside.proofs.Common.{◌≡◌, inl, ⊎_elim, ℕ, List, [], ◌++◌, take, refl, sym, ◌∙◌, ap, subst, arith, Option, None, Some, IsSome, Result, Ok, Err, unwrap_or, Failed, Ghosts, Prints, AsksAndPuts, FewerLater, OnlyAsks, OnlyPuts, held_of}
+use Rattle.outside.proofs.Common.{◌≡◌, ⊎_elim, ℕ, List, [], sym, ◌∙◌, ap, subst, arith, Option, IsSome, Result, unwrap_or, Failed, Ghosts, Prints, AsksAndPuts, FewerLater, OnlyAsks, OnlyPuts, held_of}
 use Rattle.outside.proofs.Runs.{elapses-trans}
+use Rattle.std.proofs.lemmas.Bool.Decides.{nat_tests}
 
 -- a put leaves printed bytes told
 still_told : {T : Type 0} (old new : Option (List ℕ)) (bytes : List ℕ) (result : Result T Failed) → Prints old new bytes result → IsSome old → IsSome new
-still_told None new bytes result prints told = cc
-still_told (Some old) new bytes (Ok value) prints told = cc
-still_told (Some old) new bytes (Err failed) prints told = let is : new ≡ Some (old ++ take prints.0 bytes) = prints.1 in cc
+still_told old new bytes result prints told = grind (arith, nat_tests)
 
 module _ {W : Type 0} (G : Ghosts W) where
   pub shows_none : (now : W) → AsksAndPuts G now now
-  shows_none now = record {
-    held = refl;
-    writes = refl;
-    honest = refl;
-    time = record { later = record { calls = omega arith; puts = omega arith; origin = refl }; nothing_else = λ t image seen earlier left. inl left; keeps = λ t image seen earlier left. left };
-    disk = omega arith;
-    put = omega arith;
-    told = λ told. told;
-    images = λ told image seen left. (seen, left);
-  }
+  shows_none now = grind (arith, nat_tests)
 
   pub shows_asks : (old new : W) → OnlyAsks G old new → AsksAndPuts G old new
-  shows_asks old new asks = record {
-    held = asks.held;
-    writes = asks.writes;
-    honest = asks.calls.honest;
-    time = asks.calls.time;
-    disk = asks.calls.disk;
-    put = omega (arith, asks.calls.put);
-    told = λ told. subst (λ (these : Option (List ℕ)). IsSome these) (sym asks.calls.quiet.same) told;
-    images = λ told image seen left. (seen, asks.crash told image seen left);
-  }
+  shows_asks old new asks = grind (arith, nat_tests)
 
   pub shows_puts : {T : Type 0} (bytes : List ℕ) (old new : W) (result : Result T Failed) → OnlyPuts G old new result → Prints (G.printed old) (G.printed new) bytes result
       → ((image seen : List ℕ) → G.left_since new (G.moment old) image seen → (start : List ℕ) × G.left_since old (G.moment old) image start) → AsksAndPuts G old new
-  shows_puts bytes old new result only printed images = record {
-    held = only.held;
-    writes = only.writes;
-    honest = only.honest;
-    time = only.time;
-    disk = omega (arith, only.disk);
-    put = only.cause.later;
-    told = λ told. still_told (G.printed old) (G.printed new) bytes result printed told;
-    images = λ told. images;
-  }
+  shows_puts bytes old new result only printed images = grind (arith, nat_tests, still_told)
 
   pub shows_on : (fewer_later : FewerLater G) (old mid new : W) → AsksAndPuts G old mid → AsksAndPuts G mid new → AsksAndPuts G old new
   shows_on fewer_later old mid new first second = record {

@@ -4,6 +4,7 @@ use Rattle.std.specs.Prelude.{Option, None, Some, unwrap_or, IsSome, ◌==◌}
 use Rattle.store_format.specs.declared.header.Which.TheVariants.{A, B}
 use Rattle.store_format.specs.Body.{IsBody}
 use Rattle.store_format.proofs.Stores as stores
+use Rattle.std.proofs.lemmas.Bool.Decides.{nat_tests}
 
 -- a store, and a body that adds these lines to it
 pub record Ready (held : List ℕ) (header : Header) (which : Which) (base gate : ℕ) (records : List (List RecordLine)) (count : ℕ) (lines : List RecordLine) (body : List ℕ) : Type 0 where
@@ -121,9 +122,7 @@ module _ (held : List ℕ) (header : Header) (which : Which) (base gate : ℕ) (
 -- the lines that were filled in around are those that were begun
 pub filled_lines : (bank : Inside) (filled those : List ℕ) → take (entry_bytes bank.page * begun_count bank) (drop 10 filled) ≡ take (entry_bytes bank.page * begun_count bank) (drop 10 bank.body) → those ≡ filled
     → lines_from bank.page (begun_count bank) (bank.gate + 11) (drop 10 those) ≡ begun_lines bank
-filled_lines bank filled those lines is =
-    ap (λ (these : List ℕ). lines_from bank.page (begun_count bank) (bank.gate + 11) (drop 10 these)) is
-    ∙ same_lines bank.page (begun_count bank) (bank.gate + 11) (entry_bytes bank.page * begun_count bank) (drop 10 filled) (drop 10 bank.body) lines (omega arith)
+filled_lines bank filled those lines is = grind (arith, nat_tests, same_lines, filled)
 
 pub length-lines_from : (page : PageSize) (count at : ℕ) (bytes : List ℕ) → length (lines_from page count at bytes) ≡ count
 length-lines_from page zero at bytes = refl
@@ -157,10 +156,7 @@ pub record SaysRoom (bank : Inside) (kept : KeptBank) : Type 0 where
   pub need : needed_end kept ≡ bank.gate + record_bytes bank.page (begun_count bank) + 1
 
 pub says_room : (bank : Inside) (kept : KeptBank) → kept_of bank ≡ kept → SaysRoom bank kept
-says_room bank kept is = record {
-  end = ap area_end (sym is);
-  need = ap needed_end (sym is) ∙ ap (λ (n : ℕ). bank.gate + record_bytes bank.page n + 1) (length-begun bank (kept_of bank) refl);
-}
+says_room bank kept is = grind (arith, nat_tests, length-begun)
 
 -- the fields are tracked as the bank is
 abbrev pub fields_tracked : {W : Type 0} (G : Ghosts W) (bank : Inside) (kept : KeptBank) (outside : W) → kept_of bank ≡ kept → TracksBank G kept outside → TracksBank G (kept_of bank) outside
@@ -179,12 +175,7 @@ fields_tracked G bank kept outside is tracks = record {
 -- the bank with its begun record is what the fields say then
 pub with_record_is : (bank : Inside) (kept : KeptBank) (gate : ℕ) (newest : List (Option ℕ)) → kept_of bank ≡ kept → gate ≡ bank.gate + record_bytes bank.page (begun_count bank) → newest ≡ noted bank.newest (begun_lines bank)
     → record (kept_of bank) { count = bank.count + 1; gate = gate; newest = newest; begun = None } ≡ with_record kept
-with_record_is bank kept gate newest is gate_is newest_is =
-    let lines = begun_is bank (kept_of bank) refl in
-    let place : gate ≡ bank.gate + record_bytes bank.page (length (begun_of (kept_of bank))) = gate_is ∙ ap (λ (n : ℕ). bank.gate + record_bytes bank.page n) (sym (length-begun bank (kept_of bank) refl)) in
-    ap (λ (n : ℕ). record (kept_of bank) { count = bank.count + 1; gate = n; newest = newest; begun = None }) place
-    ∙ ap (λ (these : List (Option ℕ)). record (kept_of bank) { count = bank.count + 1; gate = bank.gate + record_bytes bank.page (length (begun_of (kept_of bank))); newest = these; begun = None }) (newest_is ∙ ap (noted bank.newest) lines)
-    ∙ ap with_record is
+with_record_is bank kept gate newest is gate_is newest_is = grind (arith, nat_tests, begun_is, length-begun)
 
 -- a bank that is tracked, and a body that adds its begun record
 pub record IsReadied {W : Type 0} (G : Ghosts W) (bank : Inside) (outside : W) (body : List ℕ) : Type 0 where

@@ -18,9 +18,7 @@ module _ (page : PageSize) (body piece : List ℕ) (count gate line : ℕ) (whol
 
   front : take at written ≡ take at body
   unfolding numbered written
-  front =
-      shorter_front at (at + 4) written numbered (take-overlaid numbered (at + 4) piece (omega (arith, length-numbered, room))) (omega arith)
-      ∙ take-overlaid body at (big_bytes 4 line) (omega (arith, room))
+  front = cc (shorter_front at (at + 4) written numbered (take-overlaid numbered (at + 4) piece (omega (arith, length-numbered, room))) (omega arith), take-overlaid body at (big_bytes 4 line) (omega (arith, room)))
 
   -- the number and the bytes of the line stand there
   number_there : take 4 (drop at written) ≡ big_bytes 4 line
@@ -46,20 +44,13 @@ module _ (page : PageSize) (body piece : List ℕ) (count gate line : ℕ) (whol
       let those : drop (entry_bytes page * count) (drop 10 written) ≡ drop at written = drop-drop (entry_bytes page * count) 10 written in
       let number : big_number 4 (drop at written) ≡ line =
       sym (big_from-take 0 4 4 (drop at written) (omega arith)) ∙ ap (λ (these : List ℕ). big_number 4 these) number_there ∙ big_number-reads_back 4 line [] small in
-      ap (line_at page (gate + 11 + entry_bytes page * count)) those
-      ∙ ap (λ (n : ℕ). record { line = n; at = gate + 11 + entry_bytes page * count; bytes = take (line_bytes page) (drop 4 (drop at written)) }) number
-      ∙ ap (λ (n : ℕ). record { line = line; at = n; bytes = take (line_bytes page) (drop 4 (drop at written)) }) place
-      ∙ ap (λ (these : List ℕ). record { line = line; at = gate + record_bytes page count; bytes = these }) piece_there
+      cc (those, number, place, piece_there)
 
   pub line_added : lines_from page (count + 1) (gate + 11) (drop 10 (overlaid (overlaid body (10 + entry_bytes page * count) (big_bytes 4 line)) (10 + entry_bytes page * count + 4) piece)) ≡ lines_from page count (gate + 11) (drop 10 body) ++ record { line = line; at = gate + record_bytes page count; bytes = piece } ∷ []
   unfolding numbered written
   line_added =
       let more : count + 1 ≡ suc count = omega arith in
-      ap (λ (n : ℕ). lines_from page n (gate + 11) (drop 10 written)) more
-      ∙ lines_more page count (gate + 11) (drop 10 written)
-      ∙ ap (λ (these : List RecordLine). these ++ line_at page (gate + 11 + entry_bytes page * count) (drop (entry_bytes page * count) (drop 10 written)) ∷ [])
-      (same_lines page count (gate + 11) (entry_bytes page * count) (drop 10 written) (drop 10 body) (later_front 10 (entry_bytes page * count) written body front) (omega arith))
-      ∙ ap (λ (last : RecordLine). lines_from page count (gate + 11) (drop 10 body) ++ last ∷ []) here
+      cc (more, lines_more page count (gate + 11) (drop 10 written), same_lines page count (gate + 11) (entry_bytes page * count) (drop 10 written) (drop 10 body) (later_front 10 (entry_bytes page * count) written body front) (omega arith), here)
 
 -- a line above all others comes next
 pub least_low : (least line : ℕ) (lines : List RecordLine) → least ≤ line → All (λ begun. begun.line < line) lines → least_after least lines ≤ line

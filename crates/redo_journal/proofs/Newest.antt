@@ -10,9 +10,7 @@ abbrev pub bytes_of_line : PageSize → ℕ → List ℕ → List ℕ
 bytes_of_line page k bytes = take (line_bytes page) (drop (k * line_bytes page) bytes)
 
 pub same_line : (page : PageSize) (bytes part : List ℕ) (j : ℕ) → length part ≡ line_bytes page → j * line_bytes page + line_bytes page ≤ length bytes → bytes_of_line page j (overlaid bytes (j * line_bytes page) part) ≡ part
-same_line page bytes part j long within =
-    ap (λ (these : List ℕ). take (line_bytes page) these) (drop-overlaid bytes (j * line_bytes page) part (omega (arith, long)))
-    ∙ take_at part (drop (j * line_bytes page + length part) bytes) (line_bytes page) long
+same_line page bytes part j long within = grind (arith, nat_tests, drop-overlaid, take_at)
 
 pub other_line : (page : PageSize) (bytes part : List ℕ) (j k : ℕ) → length part ≡ line_bytes page → j * line_bytes page + line_bytes page ≤ length bytes → (k ≡ j → ⊥) → bytes_of_line page k (overlaid bytes (j * line_bytes page) part) ≡ bytes_of_line page k bytes
 other_line page bytes part j k long within other = elim (cases_lt k j) [

@@ -9,9 +9,7 @@ use Rattle.redo_journal.proofs.NoteLemmas.{first_in_order}
 pub same_place : (newest : List (Option ℕ)) (j place : ℕ) → j < length newest → get_or (overlaid newest j (Some place ∷ [])) j None ≡ Some place
 same_place newest j place within =
     let here : j + 0 ≡ j = omega arith in
-    ap (λ (n : ℕ). get_or (overlaid newest j (Some place ∷ [])) n None) (sym here)
-    ∙ sym (get_or-drop j (overlaid newest j (Some place ∷ [])) 0 None)
-    ∙ ap (λ (these : List (Option ℕ)). get_or these 0 None) (drop-overlaid newest j (Some place ∷ []) (omega arith))
+    cc (here, get_or-drop j (overlaid newest j (Some place ∷ [])) 0 None, drop-overlaid newest j (Some place ∷ []) (omega arith))
 
 pub other_place : (newest : List (Option ℕ)) (j place k : ℕ) → j < length newest → (k ≡ j → ⊥) → get_or (overlaid newest j (Some place ∷ [])) k None ≡ get_or newest k None
 other_place newest j place k within other = elim (cases_lt k j) [
@@ -71,9 +69,7 @@ pub noted_place : (newest : List (Option ℕ)) (lines : List RecordLine) (k : �
 noted_place newest [] k below within = refl
 noted_place newest (line ∷ lines) k below within =
     let long : length (overlaid newest line.line (Some (line.at + 4) ∷ [])) ≡ length newest = length-overlaid newest line.line (Some (line.at + 4) ∷ []) (omega (arith, below.0)) in
-    noted_place (overlaid newest line.line (Some (line.at + 4) ∷ [])) lines k (subst (λ (n : ℕ). AreBelow n lines) (sym long) below.1) (omega (arith, long))
-    ∙ ap (option_or (place_in k lines)) here
-    ∙ or_assoc (place_in k lines) (if line.line == k then Some (line.at + 4) else None) (get_or newest k None)
+    cc (noted_place (overlaid newest line.line (Some (line.at + 4) ∷ [])) lines k (subst (λ (n : ℕ). AreBelow n lines) (sym long) below.1) (omega (arith, long)), here, or_assoc (place_in k lines) (if line.line == k then Some (line.at + 4) else None) (get_or newest k None))
   where
     here : get_or (overlaid newest line.line (Some (line.at + 4) ∷ [])) k None ≡ option_or (if line.line == k then Some (line.at + 4) else None) (get_or newest k None)
     here = elim (cases_eq k line.line) [
@@ -87,20 +83,11 @@ noted_place newest (line ∷ lines) k below within =
 
 pub noted_places : (newest : List (Option ℕ)) (records : List (List RecordLine)) (k : ℕ) → AllBelow (length newest) records → k < length newest → get_or (fold noted newest records) k None ≡ option_or (newest_place k records) (get_or newest k None)
 noted_places newest [] k below within = refl
-noted_places newest (lines ∷ records) k below within =
-    let long = length-noted newest lines below.0 in
-    noted_places (noted newest lines) records k (subst (λ (n : ℕ). AllBelow n records) (sym long) below.1) (omega (arith, long))
-    ∙ ap (option_or (newest_place k records)) (noted_place newest lines k below.0 within)
-    ∙ or_assoc (newest_place k records) (place_in k lines) (get_or newest k None)
+noted_places newest (lines ∷ records) k below within = grind (arith, nat_tests, noted_places (noted newest lines) records k, length-noted, noted_place, or_assoc)
 
 -- from nothing noted
 pub are_newest : (bound : ℕ) (newest : List (Option ℕ)) (records : List (List RecordLine)) → AllBelow bound records → newest ≡ fold noted (replicate bound None) records → length newest ≡ bound → AreNewest newest records
-are_newest bound newest records below is long k within =
-    let few : length (replicate {A = Option ℕ} bound None) ≡ bound = length-replicate {A = Option ℕ} bound None in
-    ap (λ (these : List (Option ℕ)). get_or these k None) is
-    ∙ noted_places (replicate bound None) records k (subst (λ (n : ℕ). AllBelow n records) (sym few) below) (omega (arith, few, long))
-    ∙ ap (option_or (newest_place k records)) (get_or-replicate bound k None None (omega (arith, long)))
-    ∙ or_none (newest_place k records)
+are_newest bound newest records below is long k within = grind (arith, nat_tests, length-replicate, noted_places, get_or-replicate, or_none)
 
 -- with one record more
 place_more : (k : ℕ) (records : List (List RecordLine)) (lines : List RecordLine) → newest_place k (records ++ lines ∷ []) ≡ option_or (place_in k lines) (newest_place k records)
@@ -108,9 +95,7 @@ place_more k [] lines = sym (or_none (place_in k lines))
 place_more k (first ∷ records) lines = ap (λ (place : Option ℕ). option_or place (place_in k first)) (place_more k records lines) ∙ sym (or_assoc (place_in k lines) (newest_place k records) (place_in k first))
 
 pub newest_more : (newest : List (Option ℕ)) (records : List (List RecordLine)) (lines : List RecordLine) → AreNewest newest records → AreBelow (length newest) lines → AreNewest (noted newest lines) (records ++ lines ∷ [])
-newest_more newest records lines are below k within =
-    let inside : k < length newest = omega (arith, length-noted newest lines below) in
-    noted_place newest lines k below inside ∙ ap (option_or (place_in k lines)) (are k inside) ∙ sym (place_more k records lines)
+newest_more newest records lines are below k within = grind (arith, nat_tests, length-noted, noted_place, place_more)
 
 -- no place is noted of a line exactly where no record has it
 or_left : (a b : Option ℕ) → option_or a b ≡ None → a ≡ None
@@ -123,10 +108,7 @@ or_right (Some x) b none = let no : Some x ≡ None = none in cc
 
 no_place : (k : ℕ) (lines : List RecordLine) → place_in k lines ≡ None → All (λ one. one.line ≢ k) lines
 no_place k [] none = All-nil (λ (one : RecordLine). one.line ≢ k)
-no_place k (line ∷ lines) none =
-    All-cons (λ (one : RecordLine). one.line ≢ k) line lines
-    (λ same. let is : (line.line == k) ≡ true = grind (arith, nat_tests) in let no : Some (line.at + 4) ≡ None = rw is at (or_right (place_in k lines) (if line.line == k then Some (line.at + 4) else None) none) in cc)
-    (no_place k lines (or_left (place_in k lines) (if line.line == k then Some (line.at + 4) else None) none))
+no_place k (line ∷ lines) none = grind (arith, nat_tests, no_place k lines, All-cons, or_right, or_left)
 
 has_no_place : (k : ℕ) (lines : List RecordLine) → All (λ one. one.line ≢ k) lines → place_in k lines ≡ None
 has_no_place k [] none = refl
@@ -142,9 +124,7 @@ nowhere k (lines ∷ records) none =
 
 pub is_nowhere : (k : ℕ) (records : List (List RecordLine)) → IsNowhere k records → newest_place k records ≡ None
 is_nowhere k [] none = refl
-is_nowhere k (lines ∷ records) none =
-    ap (λ (place : Option ℕ). option_or place (place_in k lines)) (is_nowhere k records (All-tail (λ (lines : List RecordLine). All (λ one. one.line ≢ k) lines) lines records none))
-    ∙ has_no_place k lines (All-head (λ (lines : List RecordLine). All (λ one. one.line ≢ k) lines) lines records none)
+is_nowhere k (lines ∷ records) none = cc (is_nowhere k records (All-tail (λ (lines : List RecordLine). All (λ one. one.line ≢ k) lines) lines records none), has_no_place k lines (All-head (λ (lines : List RecordLine). All (λ one. one.line ≢ k) lines) lines records none))
 
 pub newest_law : NewestLaw
 newest_law held bank read k within = (

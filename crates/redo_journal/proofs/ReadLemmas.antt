@@ -1,5 +1,5 @@
 -- Records that are read.
-use Rattle.redo_journal.proofs.Common.{◌≡◌, ℕ, suc, ◌+◌, ◌*◌, ◌-◌, ◌<◌, ◌≤◌, Bool, true, false, List, [], ◌∷◌, take, drop, refl, sym, subst, ◌∙◌, ap, arith, slice_index, nat_tests, drop-drop, take-take, get_or-take, get_or-drop, big_number, big_from-take, overlaid, PageSize, line_bytes, entry_bytes, RecordLine, lines_from, wrong_line, count_of, number_of, lines_of, record_bytes, head_fault, lined_gate, headed_gate, gate_if, Wrong, same_number_at, fault_none, not_less, ForSome, bytes_at, noted, read_is}
+use Rattle.redo_journal.proofs.Common.{◌≡◌, ℕ, suc, ◌+◌, ◌*◌, ◌-◌, ◌<◌, ◌≤◌, true, false, List, [], ◌∷◌, take, drop, refl, sym, subst, ◌∙◌, ap, arith, slice_index, nat_tests, drop-drop, take-take, get_or-take, get_or-drop, big_number, big_from-take, overlaid, PageSize, line_bytes, entry_bytes, RecordLine, lines_from, wrong_line, count_of, number_of, lines_of, record_bytes, head_fault, lined_gate, gate_if, Wrong, same_number_at, fault_none, ForSome, bytes_at, noted, read_is}
 use Rattle.std.specs.Prelude.{Option, None, Some, IsSome, IfSome, unwrap_or, ◌&&◌, nat_le, nat_lt, ◌==◌, length}
 
 -- the lines from one on
@@ -16,10 +16,7 @@ module _ (page : PageSize) (count i at : ℕ) (held number : List ℕ) (line : �
       let place : at + entry_bytes page * i + entry_bytes page ≡ at + entry_bytes page * (i + 1) = omega arith in
       let rest : drop (entry_bytes page) (drop (at + entry_bytes page * i) held) ≡ drop (at + entry_bytes page * (i + 1)) held = drop-drop (entry_bytes page) (at + entry_bytes page * i) held ∙ ap (λ (n : ℕ). drop n held) place in
       let line_is : big_number 4 (drop (at + entry_bytes page * i) held) ≡ line = sym (is ∙ ap (λ (these : List ℕ). big_number 4 these) read ∙ big_from-take 0 4 4 (drop (at + entry_bytes page * i) held) (omega arith)) in
-      ap (λ (n : ℕ). lines_from page n (at + entry_bytes page * i) (drop (at + entry_bytes page * i) held)) fuel
-      ∙ ap (λ (n : ℕ). line_here page i at held n ∷ lines_from page (count - (i + 1)) (at + entry_bytes page * i + entry_bytes page) (drop (entry_bytes page) (drop (at + entry_bytes page * i) held))) line_is
-      ∙ ap (λ (n : ℕ). line_here page i at held line ∷ lines_from page (count - (i + 1)) n (drop (entry_bytes page) (drop (at + entry_bytes page * i) held))) place
-      ∙ ap (λ (these : List ℕ). line_here page i at held line ∷ lines_from page (count - (i + 1)) (at + entry_bytes page * (i + 1)) these) rest
+      cc (fuel, line_is, place, rest)
 
   pub wrong_here : (bound least : ℕ) → nat_le least line && nat_lt line bound ≡ false → wrong_line bound least (lines_after page count i at held) ≡ Some (at + entry_bytes page * i)
   wrong_here bound least wrong = ap (wrong_line bound least) begins ∙ rw wrong refl
@@ -53,17 +50,7 @@ head_read held head gate count number read counted numbered =
 -- a record with another number than is due
 pub gate_misnumbered : (page : PageSize) (held head : List ℕ) (bound end due gate count number : ℕ) → head ≡ bytes_at held (gate + 1) 10 → count ≡ big_number 2 head → number ≡ big_number 8 (take 8 (drop 2 head)) → (number ≡ due → ⊥)
     → (slice_index held gate == 0xA5) ≡ true → gate + 11 + entry_bytes page * count + 1 ≤ end → gate_if page (slice_index held gate == 0xA5) bound end due gate (drop gate held) ≡ Wrong (gate + 3)
-gate_misnumbered page held head bound end due gate count number read counted numbered other shown fits =
-    let bytes = drop gate held in
-    let is = head_read held head gate count number read counted numbered in
-    let sized : record_bytes page (count_of bytes) ≡ 11 + entry_bytes page * count = ap (record_bytes page) is.0 in
-    let wrong : (number_of bytes == due) ≡ false = ap (λ (n : ℕ). n == due) is.1 ∙ apart number due other in
-    let fault : head_fault page end due gate bytes ≡ Some (gate + 3) =
-    rw (not_less end (gate + 11) (omega (arith, fits)), not_less end (gate + record_bytes page (count_of bytes) + 1) (omega (arith, sized, fits)), wrong) refl in
-    ap (λ (b : Bool). gate_if page b bound end due gate bytes) shown ∙ ap (λ (those : Option ℕ). headed_gate page those bound gate bytes) fault
-  where
-    apart : (n m : ℕ) → (n ≡ m → ⊥) → (n == m) ≡ false
-    apart n m other = grind (arith, nat_tests)
+gate_misnumbered page held head bound end due gate count number read counted numbered other shown fits = grind (arith, nat_tests, head_read, counted, numbered)
 
 -- a record whose head was read
 pub gate_read : (page : PageSize) (held head : List ℕ) (bound end due gate count number : ℕ) → head ≡ bytes_at held (gate + 1) 10 → count ≡ big_number 2 head → number ≡ big_number 8 (take 8 (drop 2 head)) → number ≡ due
@@ -80,10 +67,7 @@ gate_read page held head bound end due gate count number read counted numbered d
     let lines : lines_of page gate bytes ≡ lines_from page count (gate + 11) (drop (gate + 11) held) =
     ap (λ (n : ℕ). lines_from page n (gate + 11) (drop 11 bytes)) count_is ∙ ap (λ (these : List ℕ). lines_from page count (gate + 11) these) (drop-drop 11 gate held) in
     let next : gate + record_bytes page (count_of bytes) ≡ gate + 11 + entry_bytes page * count = omega (arith, sized) in
-    ap (λ (b : Bool). gate_if page b bound end due gate bytes) shown
-    ∙ ap (λ (fault : Option ℕ). headed_gate page fault bound gate bytes) none
-    ∙ ap (λ (these : List RecordLine). lined_gate (wrong_line bound 0 these) these (gate + record_bytes page (count_of bytes))) lines
-    ∙ ap (λ (n : ℕ). lined_gate (wrong_line bound 0 (lines_from page count (gate + 11) (drop (gate + 11) held))) (lines_from page count (gate + 11) (drop (gate + 11) held)) n) next
+    cc (shown, none, lines, next)
 
 -- the byte at a gate that was read
 pub first_read : (held first : List ℕ) (gate : ℕ) → first ≡ bytes_at held gate 1 → slice_index first 0 ≡ 0xA5 → (slice_index held gate == 0xA5) ≡ true

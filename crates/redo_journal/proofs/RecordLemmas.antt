@@ -3,6 +3,7 @@ use Rattle.redo_journal.proofs.Common.{drop-drop, big_number, line_bytes, PageSi
 use Rattle.std.proofs.Common.{None, ◌≡◌, ℕ, zero, suc, ◌+◌, ◌*◌, ◌<◌, List, [], ◌∷◌, ◌++◌, length, take, drop, refl, sym, subst, ◌∙◌, ap, arith, slice_index}
 use Rattle.std.specs.Prelude.{◌%◌, ◌^◌, ◌==◌, Some, slice_get, Result, Ok, Err, IfOk}
 use Rattle.redo_journal.proofs.AppendLemmas.{length-lines_from}
+use Rattle.std.proofs.lemmas.Bool.Decides.{nat_tests}
 
 -- where a record with these lines stands, in an area with this end, of a store with so many lines
 pub record StandsAt (page : PageSize) (image : List ℕ) (bound end at : ℕ) (lines : List RecordLine) : Type 0 where
@@ -60,13 +61,7 @@ line_there page (suc count) at bytes zero below =
     let place : at ≡ at + entry_bytes page * 0 = omega arith in
     ap (λ (n : ℕ). Some (record { line = big_number 4 bytes; at = n; bytes = take (line_bytes page) (drop 4 bytes) })) place
     ∙ ap (λ (n : ℕ). Some (record { line = big_number 4 (drop n bytes); at = at + entry_bytes page * 0; bytes = take (line_bytes page) (drop 4 (drop n bytes)) })) none
-line_there page (suc count) at bytes (suc index) below =
-    let place : at + entry_bytes page + entry_bytes page * index ≡ at + entry_bytes page * suc index = omega arith in
-    let from : entry_bytes page + entry_bytes page * index ≡ entry_bytes page * suc index = omega arith in
-    let rest : drop (entry_bytes page * index) (drop (entry_bytes page) bytes) ≡ drop (entry_bytes page * suc index) bytes = drop-drop (entry_bytes page * index) (entry_bytes page) bytes ∙ ap (λ (n : ℕ). drop n bytes) from in
-    line_there page count (at + entry_bytes page) (drop (entry_bytes page) bytes) index (omega (arith, below))
-    ∙ ap (λ (these : List ℕ). Some (record { line = big_number 4 these; at = at + entry_bytes page + entry_bytes page * index; bytes = take (line_bytes page) (drop 4 these) })) rest
-    ∙ ap (λ (n : ℕ). Some (record { line = big_number 4 (drop (entry_bytes page * suc index) bytes); at = n; bytes = take (line_bytes page) (drop 4 (drop (entry_bytes page * suc index) bytes)) })) place
+line_there page (suc count) at bytes (suc index) below = grind (arith, nat_tests, line_there page count (at + entry_bytes page) (drop (entry_bytes page) bytes) index, drop-drop)
 
 -- what a value of one sort is, where it is of another
 pub if_ok : {T E : Type 0} (P Q : T → Type 0) (result : Result T E) → ((value : T) → P value → Q value) → IfOk result P → IfOk result Q
@@ -84,11 +79,7 @@ module _ (held : List ℕ) (bank : KeptBank) (place area : ℕ) (at : IsRecordAt
   -- a head that was read counts its lines
   pub counted : (found : Record) → (place + 11 + entry_bytes bank.page * number_at held (area + place + 1) 2 < bank.bank_bytes → found.count ≡ number_at held (area + place + 1) 2)
       → (place + 11 + entry_bytes bank.page * number_at held (area + place + 1) 2 < bank.bank_bytes → found.next ≡ place + 11 + entry_bytes bank.page * found.count) → IsCounted bank.page place at.lines found
-  counted found read fits =
-      let within : place + 11 + entry_bytes bank.page * number_at held (area + place + 1) 2 < bank.bank_bytes = omega (arith, there.fits, ap (λ (n : ℕ). entry_bytes bank.page * n) number-there) in
-      let many : found.count ≡ length at.lines = read within ∙ number-there in
-      let behind = fits within in
-      record { count = many; next = omega (arith, behind, ap (λ (n : ℕ). entry_bytes bank.page * n) many) }
+  counted found read fits = grind (arith, nat_tests, there, number-there)
 
   -- and a line that was read is the record's
   pub lined : (index line : ℕ) (into : List ℕ) → index < length at.lines → IsLine bank.page (drop (area + place + 11 + entry_bytes bank.page * index) held) line into → IsLineOf at.lines index line into

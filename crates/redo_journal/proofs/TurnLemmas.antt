@@ -1,8 +1,8 @@
 -- Lines that are placed anew.
-use Rattle.redo_journal.proofs.Common.{◌≡◌, ℕ, zero, suc, ◌+◌, ◌*◌, List, [], ◌∷◌, length, take, drop, refl, ◌∙◌, ap, arith, replicate, option_map, All-replicate, big_number, overlaid, PageSize, Which, line_bytes, entry_bytes, in_order, RecordLine, lines_from, wrong_line, Standing, Stands, NotAStore, Damaged, laid, one_more, Inside, buffered, kept_of, KeptBank, place_of, AreWithin, placed, turned}
-use Rattle.std.specs.Prelude.{Option, None, Some, IfSome, ◌%◌, ◌^◌, ◌≤◌}
-use Rattle.line_geometry.specs.FlatStore.{FlatStore}
+use Rattle.redo_journal.proofs.Common.{◌≡◌, ℕ, zero, suc, ◌+◌, ◌*◌, List, [], ◌∷◌, length, take, drop, refl, ◌∙◌, ap, arith, replicate, option_map, All-replicate, big_number, overlaid, PageSize, Which, line_bytes, entry_bytes, in_order, RecordLine, lines_from, wrong_line, Standing, laid, one_more, Inside, buffered, kept_of, KeptBank, place_of, AreWithin, placed, turned}
+use Rattle.std.specs.Prelude.{Option, None, IfSome, ◌%◌, ◌^◌, ◌≤◌}
 use Rattle.redo_journal.proofs.NoteLemmas.{first_in_order, low_of}
+use Rattle.std.proofs.lemmas.Bool.Decides.{nat_tests}
 
 -- the same bytes read from another offset are the lines placed there
 pub lines_placed : (page : PageSize) (count at from : ℕ) (bytes : List ℕ) → lines_from page count at bytes ≡ placed page at (lines_from page count from bytes)
@@ -23,9 +23,7 @@ laid_placed page size at [] bytes = refl
 laid_placed page size at (line ∷ lines) bytes = laid_placed page size (at + entry_bytes page) lines (overlaid bytes (line.line * line_bytes size) line.bytes)
 
 pub one_more_placed : (page : PageSize) (at : ℕ) (lines : List RecordLine) (standing : Standing) → one_more (placed page at lines) standing ≡ one_more lines standing
-one_more_placed page at lines (Stands number store) = ap (λ (bytes : List ℕ). Stands ((number + 1) % 2 ^ 64) (let flat : FlatStore = record { directory = store.directory; bytes = bytes } in flat)) (laid_placed page store.directory.page at lines store.bytes)
-one_more_placed page at lines (NotAStore offset) = refl
-one_more_placed page at lines (Damaged offset) = refl
+one_more_placed page at lines standing = grind (arith, nat_tests, laid_placed)
 
 -- no place lies behind an end
 pub none_within : (page : PageSize) (end count : ℕ) → AreWithin page end (replicate count None)
@@ -33,10 +31,7 @@ none_within page end count = All-replicate (λ (place : Option ℕ). IfSome plac
 
 -- the begun lines behind another gate
 begun_placed : (begun : Option ℕ) (bank : Inside) (at : ℕ) → option_map (λ count. lines_from bank.page count (at + 8 + 11) (drop 10 bank.body)) begun ≡ option_map (placed bank.page (at + 19)) (option_map (buffered bank) begun)
-begun_placed None bank at = refl
-begun_placed (Some count) bank at =
-    let from : at + 8 + 11 ≡ at + 19 = omega arith in
-    ap (λ (these : List RecordLine). Some these) (lines_placed bank.page count (at + 8 + 11) (bank.gate + 11) (drop 10 bank.body) ∙ ap (λ (n : ℕ). placed bank.page n (buffered bank count)) from)
+begun_placed begun bank at = grind (arith, nat_tests, lines_placed)
 
 -- the fields of a bank that was turned to
 abbrev pub turned_fields : Which → Inside → (base at : ℕ) → List (Option ℕ) → Inside

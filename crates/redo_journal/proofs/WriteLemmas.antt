@@ -1,15 +1,13 @@
 -- Calls that write, one after another.
-use Rattle.redo_journal.proofs.Common.{◌≡◌, ℕ, ◌+◌, ◌≤◌, List, ◌++◌, length, take, drop, refl, sym, ◌∙◌, ap, subst, arith, length-append, ForSome, option_map, length-take, length-drop, Ghosts, Failed, Torn, Writes, CountsWrite, written, OnlyAsks, FewerLater, held_of, told_some, calls_none, calls_on, still_told}
-use Rattle.std.specs.Prelude.{Option, None, Some, IsSome, IsTrue, Result, Ok, Err}
+use Rattle.redo_journal.proofs.Common.{◌≡◌, ℕ, ◌+◌, ◌≤◌, List, length, refl, sym, ◌∙◌, ap, subst, arith, length-append, ForSome, option_map, length-take, length-drop, Ghosts, Failed, Torn, Writes, CountsWrite, written, OnlyAsks, FewerLater, held_of, told_some, calls_none, calls_on, still_told}
+use Rattle.std.specs.Prelude.{Option, Some, IsSome, IsTrue, Result, Ok, Err}
 use Rattle.outside.specs.Causes.{FailsOnlyCounted}
 use Rattle.outside.specs.Moments.{IsOneCall, Elapses, PrintsNothing, LeavesStep}
 use Rattle.redo_journal.specs.Held.{IsMoreBy, OnlyWrites, WritesOnce}
+use Rattle.std.proofs.lemmas.Bool.Decides.{nat_tests}
 
 pub more_on : (a b : ℕ) (old mid new : Option ℕ) → IsMoreBy a old mid → IsMoreBy b mid new → IsMoreBy (a + b) old new
-more_on a b old mid new first second before is =
-    let one = first before is in
-    let two = second one.0 one.1 in
-    (two.0, two.1, omega (arith, one.2, two.2))
+more_on a b old mid new first second before is = grind (arith, nat_tests, first)
 
 same_fewer : (old new : Option ℕ) → new ≡ old → IsMoreBy 0 old new
 same_fewer old new same before is = (before, same ∙ is, omega arith)
@@ -21,13 +19,7 @@ counted_fewer old new (Err failed) counts before is = same_fewer old new counts 
 
 -- the bytes that a write leaves are no fewer
 written_longer : {T : Type 0} (old new : Option (List ℕ)) (at : ℕ) (bytes : List ℕ) (result : Result T Failed) (count : ℕ) → Writes old new at bytes result → ForSome old (λ held. count ≤ length held) → ForSome new (λ held. count ≤ length held)
-written_longer None new at bytes result count writes room held is = let no : None ≡ Some held = sym writes ∙ is in cc
-written_longer (Some was) new at bytes (Ok done) count writes room held is =
-    let same : held ≡ written was at bytes = let both : Some (written was at bytes) ≡ Some held = sym writes ∙ is in cc in
-    omega (arith, room was refl, ap length same, length-append (take at was ++ bytes) (drop (at + length bytes) was), length-append (take at was) bytes, length-take at was, length-drop (at + length bytes) was)
-written_longer (Some was) new at bytes (Err failed) count writes room held is =
-    let same : held ≡ writes.0 = let both : Some writes.0 ≡ Some held = sym writes.1 ∙ is in cc in
-    omega (arith, room was refl, ap length same, writes.2.no_shorter)
+written_longer old new at bytes result count writes room held is = grind (arith, nat_tests, written, room, length-append, length-take, length-drop)
 
 module _ {W : Type 0} (G : Ghosts W) (fewer_later : FewerLater G) (old mid new : W) where
   pub writes_on : OnlyWrites G old mid → OnlyWrites G mid new → OnlyWrites G old new

@@ -2,9 +2,7 @@
 use Rattle.store_format.proofs.Common.{◌≡◌, ℕ, zero, suc, ◌+◌, ◌*◌, ◌-◌, ◌<◌, ◌≤◌, Bool, true, false, List, [], ◌∷◌, ◌++◌, length, refl, sym, ◌∙◌, ap, arith, slice_index, Option, None, Some, nat_lt, nat_le, not, ◌&&◌, min, if◌then◌else◌, is_some, option_or, nat_tests, Field, number_at, within, segments_at, segment_fields, zeros, last_zeros, first_fault}
 
 option_or-if : (b c : Bool) (n m : ℕ) (later : Option ℕ) → (if b then Some n else if c then Some m else later) ≡ option_or (if b then Some n else if c then Some m else None) later
-option_or-if true c n m later = refl
-option_or-if false true n m later = refl
-option_or-if false false n m later = refl
+option_or-if b c n m later = grind (arith, nat_tests)
 
 -- one field in front
 pub first_fault-cons : (bytes : ℕ) (field : Field) (fields : List Field) → first_fault bytes (field ∷ fields) ≡ option_or (first_fault bytes (field ∷ [])) (first_fault bytes fields)
@@ -24,11 +22,7 @@ option_or-assoc (Some x) b c = refl
 
 pub first_fault-append : (bytes : ℕ) (front back : List Field) → first_fault bytes (front ++ back) ≡ option_or (first_fault bytes front) (first_fault bytes back)
 first_fault-append bytes [] back = refl
-first_fault-append bytes (field ∷ front) back =
-    first_fault-cons bytes field (front ++ back)
-    ∙ ap (option_or (first_fault bytes (field ∷ []))) (first_fault-append bytes front back)
-    ∙ option_or-assoc (first_fault bytes (field ∷ [])) (first_fault bytes front) (first_fault bytes back)
-    ∙ ap (λ (fault : Option ℕ). option_or fault (first_fault bytes back)) (sym (first_fault-cons bytes field front))
+first_fault-append bytes (field ∷ front) back = grind (arith, nat_tests, first_fault-append bytes front back, first_fault-cons, option_or-assoc)
 
 -- what a number's field without a fault says
 pub right_number : (length at bytes number least most : ℕ) → is_some (first_fault length (within at bytes number least most ∷ [])) ≡ false → (at + bytes ≤ length) × (least ≤ number) × (number ≤ most)
@@ -45,30 +39,16 @@ segments_left head count i = segments_at head (16 + 4 * i) (count - i)
 
 module _ (head : List ℕ) (length count i least room identifier pages at : ℕ) (more : i < count) (place : at ≡ 16 + 4 * i) (first : identifier ≡ number_at head at 2) (second : pages ≡ number_at head (at + 2) 2) where
   begins : segments_left head count i ≡ (identifier, pages) ∷ segments_left head count (i + 1)
-  begins =
-      let fuel : count - i ≡ suc (count - (i + 1)) = omega arith in
-      let next : at + 4 ≡ 16 + 4 * (i + 1) = omega arith in
-      ap (λ (n : ℕ). segments_at head n (count - i)) (sym place)
-      ∙ ap (segments_at head at) fuel
-      ∙ ap (λ (n : ℕ). (n, number_at head (at + 2) 2) ∷ segments_at head (at + 4) (count - (i + 1))) (sym first)
-      ∙ ap (λ (n : ℕ). (identifier, n) ∷ segments_at head (at + 4) (count - (i + 1))) (sym second)
-      ∙ ap (λ (n : ℕ). (identifier, pages) ∷ segments_at head n (count - (i + 1))) next
+  begins = grind (arith, nat_tests, head)
 
   abbrev later : List Field
   later = segment_fields (16 + 4 * (i + 1)) (identifier + 1) (room - pages) (segments_left head count (i + 1))
 
   listed : segment_fields (16 + 4 * i) least room (segments_left head count i) ≡ within at 2 identifier least 3839 ∷ within (at + 2) 2 pages 1 (min room 128) ∷ later
-  listed =
-      let next : at + 4 ≡ 16 + 4 * (i + 1) = omega arith in
-      ap (λ (n : ℕ). segment_fields n least room (segments_left head count i)) (sym place)
-      ∙ ap (segment_fields at least room) begins
-      ∙ ap (λ (n : ℕ). within at 2 identifier least 3839 ∷ within (at + 2) 2 pages 1 (min room 128) ∷ segment_fields n (identifier + 1) (room - pages) (segments_left head count (i + 1))) next
+  listed = grind (arith, nat_tests, head, begins)
 
   whole : first_fault length (segment_fields (16 + 4 * i) least room (segments_left head count i)) ≡ option_or (first_fault length (within at 2 identifier least 3839 ∷ [])) (option_or (first_fault length (within (at + 2) 2 pages 1 (min room 128) ∷ [])) (first_fault length later))
-  whole =
-      ap (first_fault length) listed
-      ∙ first_fault-cons length (within at 2 identifier least 3839) (within (at + 2) 2 pages 1 (min room 128) ∷ later)
-      ∙ ap (option_or (first_fault length (within at 2 identifier least 3839 ∷ []))) (first_fault-cons length (within (at + 2) 2 pages 1 (min room 128)) later)
+  whole = grind (arith, nat_tests, listed, first_fault-cons)
 
   -- the first field of an entry is wrong, or the second, or neither
   pub wrong_identifier : is_some (first_fault length (within at 2 identifier least 3839 ∷ [])) ≡ true → first_fault length (within at 2 identifier least 3839 ∷ []) ≡ first_fault length (segment_fields (16 + 4 * i) least room (segments_left head count i))
@@ -82,25 +62,13 @@ module _ (head : List ℕ) (length count i least room identifier pages at : ℕ)
 
 -- one zero more
 pub zeros_more : (head : List ℕ) (length at to : ℕ) → at < to → first_fault length (zeros head at (to - at)) ≡ option_or (first_fault length (within at 1 (slice_index head at) 0 0 ∷ [])) (first_fault length (zeros head (at + 1) (to - (at + 1))))
-zeros_more head length at to more =
-    let fuel : to - at ≡ suc (to - (at + 1)) = omega arith in
-    ap (λ (n : ℕ). first_fault length (zeros head at n)) fuel
-    ∙ first_fault-cons length (within at 1 (slice_index head at) 0 0) (zeros head (at + 1) (to - (at + 1)))
+zeros_more head length at to more = grind (arith, nat_tests, head, first_fault-cons)
 
 -- a header's four first fields, its segments and its zeros
 pub six_faults : (length : ℕ) (a b c d : Field) (listed zeros : List Field)
     → option_or (option_or (option_or (option_or (option_or (first_fault length (a ∷ [])) (first_fault length (b ∷ []))) (first_fault length (c ∷ []))) (first_fault length (d ∷ []))) (first_fault length listed)) (first_fault length zeros)
     ≡ first_fault length (a ∷ b ∷ c ∷ d ∷ (listed ++ zeros))
-six_faults length a b c d listed zeros = sym (
-    first_fault-append length (a ∷ b ∷ c ∷ d ∷ listed) zeros
-    ∙ ap (λ (fault : Option ℕ). option_or fault (first_fault length zeros))
-    (first_fault-append length (a ∷ b ∷ c ∷ d ∷ []) listed
-    ∙ ap (λ (fault : Option ℕ). option_or fault (first_fault length listed))
-    (first_fault-append length (a ∷ b ∷ c ∷ []) (d ∷ [])
-    ∙ ap (λ (fault : Option ℕ). option_or fault (first_fault length (d ∷ [])))
-    (first_fault-append length (a ∷ b ∷ []) (c ∷ [])
-    ∙ ap (λ (fault : Option ℕ). option_or fault (first_fault length (c ∷ [])))
-    (first_fault-append length (a ∷ []) (b ∷ []))))))
+six_faults length a b c d listed zeros = grind (arith, nat_tests, first_fault-append, listed)
 
 pub or_is : {result first second was is : Option ℕ} → result ≡ option_or first second → first ≡ was → second ≡ is → result ≡ option_or was is
 or_is result first second = cc

@@ -1,6 +1,5 @@
 -- A header that is cut, with zeros behind it.
-use Rattle.store_format.proofs.Common.{◌≡◌, ℕ, zero, suc, ◌+◌, ◌*◌, ◌-◌, ◌^◌, ◌≤◌, true, List, [], ◌∷◌, ◌++◌, length, take, drop, refl, sym, ◌∙◌, ap, arith, slice_index, replicate, codes, inl, inr, Option, None, Some, nat_lt, nat_eq, not, min, if◌then◌else◌, unwrap_or, IsSome, IfSome, cases_lt, nat_tests, get_or-drop, get_or_append_left, get_or-append_right, get_or_past, take-append-le, take_all, drop-replicate, length-take, big_from, PageSize, Two, Four, Header, page_of, last_zeros, spare_fields, Field, number_at, within, name_field, segments_at, segments_of, segment_fields, zeros, fields, first_fault, header_of}
-use lib.Pointwise.{pointwise}
+use Rattle.store_format.proofs.Common.{◌≡◌, ℕ, zero, suc, ◌+◌, ◌*◌, ◌-◌, ◌^◌, ◌≤◌, List, [], ◌∷◌, ◌++◌, length, take, drop, refl, sym, ◌∙◌, ap, arith, slice_index, replicate, inl, inr, Option, None, Some, min, unwrap_or, IsSome, IfSome, cases_lt, nat_tests, get_or-drop, get_or_append_left, get_or-append_right, get_or_past, take-append-le, take_all, drop-replicate, length-take, big_from, PageSize, Two, Four, Header, page_of, last_zeros, spare_fields, Field, number_at, within, name_field, segments_at, segments_of, segment_fields, zeros, fields, first_fault, header_of}
 use Rattle.outside.specs.Bytes.{bytes_at}
 use Rattle.store_format.proofs.Checks.{last_zeros_are}
 
@@ -14,16 +13,11 @@ zero_byte (suc count) zero = refl
 zero_byte (suc count) (suc i) = zero_byte count i
 
 pub zeros_same : (xs : List ℕ) (count : ℕ) → Same (xs ++ replicate count 0) xs
-zeros_same xs count i = elim (cases_lt i (length xs)) [
-  | inl within ↦ get_or_append_left xs (replicate count 0) 0 i within
-  | inr past ↦ get_or-append_right xs (replicate count 0) (length xs) i 0 refl past ∙ zero_byte count (i - length xs) ∙ sym (get_or_past xs i 0 past)
-]
+zeros_same xs count i = grind (arith, nat_tests, cases_lt, get_or_append_left, get_or-append_right, zero_byte, get_or_past)
 
 same_from : (xs ys : List ℕ) (i n : ℕ) → Same xs ys → big_from i n xs ≡ big_from i n ys
 same_from xs ys i zero same = refl
-same_from xs ys i (suc n) same =
-    ap (λ (byte : ℕ). byte * 256 ^ n + big_from (suc i) n xs) (same i)
-    ∙ ap (λ (rest : ℕ). slice_index ys i * 256 ^ n + rest) (same_from xs ys (suc i) n same)
+same_from xs ys i (suc n) same = grind (arith, nat_tests, same_from xs ys (suc i) n)
 
 same_number : (xs ys : List ℕ) (at n : ℕ) → Same xs ys → number_at xs at n ≡ number_at ys at n
 same_number xs ys at n same = same_from (drop at xs) (drop at ys) 0 n (λ i. get_or-drop at xs i 0 ∙ same (at + i) ∙ sym (get_or-drop at ys i 0))
@@ -40,9 +34,7 @@ same_listed xs ys same = ap (λ (n : ℕ). segments_at xs 16 (min n 15)) (same_n
 
 same_zeros : (xs ys : List ℕ) (at count : ℕ) → Same xs ys → zeros xs at count ≡ zeros ys at count
 same_zeros xs ys at zero same = refl
-same_zeros xs ys at (suc count) same =
-    ap (λ (n : ℕ). within at 1 n 0 0 ∷ zeros xs (at + 1) count) (same at)
-    ∙ ap (λ (rest : List Field). within at 1 (slice_index ys at) 0 0 ∷ rest) (same_zeros xs ys (at + 1) count same)
+same_zeros xs ys at (suc count) same = grind (arith, nat_tests, same_zeros xs ys (at + 1) count)
 
 -- a header by what its fields say
 abbrev pub made : ℕ → List (ℕ × ℕ) → ℕ → ℕ → Header
@@ -85,10 +77,7 @@ same_behind xs ys same =
 
 -- of a name that isn't whole the bytes don't matter
 same_name : (xs ys : List ℕ) (bytes : ℕ) (later : List Field) → (8 ≤ bytes → take 8 xs ≡ take 8 ys) → first_fault bytes (name_field xs ∷ later) ≡ first_fault bytes (name_field ys ∷ later)
-same_name xs ys bytes later whole = elim (cases_lt bytes 8) [
-  | inl cut ↦ let is : nat_lt bytes (0 + 8) ≡ true = grind (arith, nat_tests) in rw is refl
-  | inr enough ↦ ap (λ (front : List ℕ). if nat_lt bytes (0 + 8) then Some bytes else if not (pointwise nat_eq (codes "801STORE") front) then Some 0 else first_fault bytes later) (whole enough)
-]
+same_name xs ys bytes later whole = grind (arith, nat_tests, cases_lt, whole)
 
 pub same_fields : (xs ys : List ℕ) (bytes : ℕ) → Same xs ys → (8 ≤ bytes → take 8 xs ≡ take 8 ys) → first_fault bytes (fields xs) ≡ first_fault bytes (fields ys)
 same_fields xs ys bytes same whole =

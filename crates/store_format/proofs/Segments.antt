@@ -1,5 +1,5 @@
 -- The fields of segments are right exactly where the segments are a directory's.
-use Rattle.store_format.proofs.Common.{◌≡◌, ℕ, ◌+◌, ◌-◌, ◌<◌, ◌≤◌, Bool, true, false, List, [], ◌∷◌, length, refl, subst, arith, None, Some, All, nat_lt, nat_le, ◌==◌, not, ◌&&◌, min, cond, nat_tests, All-nil, All-cons, All-head, All-tail, fault_of, fault_after, is_strange, IsLegal, Field, within, segment_fields, first_fault}
+use Rattle.store_format.proofs.Common.{◌≡◌, ℕ, ◌+◌, ◌-◌, ◌<◌, ◌≤◌, false, List, [], ◌∷◌, length, refl, subst, arith, None, All, nat_lt, nat_le, ◌==◌, not, ◌&&◌, min, nat_tests, All-nil, All-cons, All-head, All-tail, fault_of, fault_after, is_strange, IsLegal, Field, within, segment_fields, first_fault}
 use Rattle.line_geometry.proofs.Legal.{first-fine, legal-none, none-legal}
 use Rattle.store_format.proofs.Checks.{none-append}
 
@@ -73,11 +73,4 @@ legal_segments segments legal =
 -- fields without a fault are right
 pub stays_all : (length : ℕ) (fields : List Field) → first_fault length fields ≡ None → All Stays fields
 stays_all length [] none = All-nil Stays
-stays_all length (field ∷ fields) none =
-    let parts = none-append length (field ∷ []) fields none in
-    All-cons Stays field fields (stays_one (nat_lt length (field.at + field.bytes)) field.wrong length field.at parts.0) (stays_all length fields parts.1)
-  where
-    stays_one : (cut wrong : Bool) (length at : ℕ) → cond cut (Some length) (cond wrong (Some at) None) ≡ None → wrong ≡ false
-    stays_one true wrong length at none = absurd (cc)
-    stays_one false true length at none = absurd (cc)
-    stays_one false false length at none = refl
+stays_all length (field ∷ fields) none = grind (arith, nat_tests, stays_all length fields, none-append, All-cons)

@@ -1,4 +1,4 @@
-use Rattle.redo_journal.proofs.Common.{◌≡◌, ◌+◌, List, ℕ, take, drop, ap, sym, subst, ◌∙◌, arith, drop-drop, big_number, big_from-take, line_bytes, bytes_at, held_of, read_is}
+use Rattle.redo_journal.proofs.Common.{asks_one, asks_on, ◌≡◌, ◌+◌, List, ℕ, take, drop, ap, sym, subst, ◌∙◌, arith, drop-drop, big_number, big_from-take, line_bytes, bytes_at, held_of, read_is}
 use Rattle.std.specs.Prelude.{IfSome}
 use Rattle.redo_journal.proofs.ReadLemmas.{read_on}
 use Rattle.redo_journal.proofs.find.read_line.Goals as goal
@@ -15,3 +15,15 @@ returns-clause-read g c some =
       number = c.read_u32.ensures ∙ ap (λ (these : List ℕ). big_number 4 these) head ∙ big_from-take 0 4 4 (drop c.args.at held) (omega arith);
       bytes_are = bytes ∙ ap (λ (these : List ℕ). take line these) (sym (drop-drop 4 c.args.at held));
     }
+
+pub returns-clause-asks : goal.returns-clause-asks
+returns-clause-asks g c =
+    asks_on g.W.Outside g.met.W.Outside.fewer_later c.args.outside.now c.read_at.new.self c.read_at-2.new.self
+    (asks_one g.W.Outside c.args.outside.now c.read_at.new.self c.read_at.ensures.held c.read_at.ensures.writes c.read_at.ensures.honest c.read_at.ensures.time c.read_at.ensures.once c.read_at.ensures.quiet c.read_at.ensures.crash c.read_at.ensures.cause.later c.read_at.ensures.puts)
+    (asks_one g.W.Outside c.read_at.new.self c.read_at-2.new.self c.read_at-2.ensures.held c.read_at-2.ensures.writes c.read_at-2.ensures.honest c.read_at-2.ensures.time c.read_at-2.ensures.once c.read_at-2.ensures.quiet c.read_at-2.ensures.crash c.read_at-2.ensures.cause.later c.read_at-2.ensures.puts)
+
+pub returns-in_err-read_at-2-clause-asks : goal.returns-in_err-read_at-2-clause-asks
+returns-in_err-read_at-2-clause-asks g c =
+    asks_on g.W.Outside g.met.W.Outside.fewer_later c.args.outside.now c.read_at.new.self c.read_at-2.new.self
+    (asks_one g.W.Outside c.args.outside.now c.read_at.new.self c.read_at.ensures.held c.read_at.ensures.writes c.read_at.ensures.honest c.read_at.ensures.time c.read_at.ensures.once c.read_at.ensures.quiet c.read_at.ensures.crash c.read_at.ensures.cause.later c.read_at.ensures.puts)
+    (asks_one g.W.Outside c.read_at.new.self c.read_at-2.new.self c.read_at-2.ensures.held c.read_at-2.ensures.writes c.read_at-2.ensures.honest c.read_at-2.ensures.time c.read_at-2.ensures.once c.read_at-2.ensures.quiet c.read_at-2.ensures.crash c.read_at-2.ensures.cause.later c.read_at-2.ensures.puts)

@@ -1,3 +1,5 @@
+use Rattle.std.proofs.lemmas.Grind.{common_steps}
+use Rattle.std.proofs.Common.{arith}
 use Rattle.redo_journal.proofs.Common.{◌≡◌, List, ℕ, ◌+◌, ◌≤◌, ◌∷◌, [], length, sym, subst, ap, ◌∙◌, Torn, written, held_of, Leaves, told_some, leaves_on, IsSafe, IsShut, is_open}
 use Rattle.outside.specs.Durable.{IsWritten}
 use Rattle.redo_journal.proofs.WriteLemmas.{writes_on}
@@ -58,3 +60,6 @@ returns-in-Ok-write_sure-clause-done g c is shut =
       safe = subst (λ (these : List ℕ). IsSafe c.args.gate c.args.body.now held these) (sym image) (safe_at c.args.gate c.args.body.now held fits _ (opened_torn c.args.gate c.args.body.now held fits));
       shown = ap (is_open c.args.gate) image ∙ opened c.args.gate c.args.body.now held fits;
     }
+
+pub returns-in-Err-clause-unwritten : goal.returns-in-Err-clause-unwritten
+returns-in-Err-clause-unwritten g c = grind (arith, common_steps)

@@ -99,3 +99,12 @@ loop-count-preserved g c =
           read_sound c.args.page (held_of g.W.Outside c.args.outside.now) (length c.args.newest.now) (c.args.at + 8 + c.args.bank_bytes) c.args.bank_bytes c.read_u64-base.result (c.args.at + 8) c.loop-count.count c.loop-count.gate (due g at) c.args.newest.now c.loop-count.newest (c.loop-count.invariant.reaches some) (due_is g at)
           c.read_gate.new.newest found.0 c.in-Sound.next c.loop-count-test.true (sym (same_gate g at) ∙ found.1) found.2;
     }
+
+pub returns-in-Wrong-clause-placed : goal.returns-in-Wrong-clause-placed
+returns-in-Wrong-clause-placed g c = grind arith
+
+pub returns-in-Closed-clause-placed : goal.returns-in-Closed-clause-placed
+returns-in-Closed-clause-placed g c = grind arith
+
+pub read_gate-requires-clause-room : goal.read_gate-requires-clause-room
+read_gate-requires-clause-room g c = grind arith

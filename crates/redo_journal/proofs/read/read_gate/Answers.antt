@@ -1,3 +1,4 @@
+use Rattle.std.proofs.lemmas.Grind.{common_steps}
 use Rattle.redo_journal.proofs.Common.{◌≡◌, ℕ, ◌+◌, ◌*◌, List, [], length, drop, sym, subst, ◌∙◌, ap, arith, IsSome, entry_bytes, RecordLine, lines_from, wrong_line, gate_if, lined_gate, held_of, OnlyAsks, noted, read_is, asks_on, asks_one}
 use Rattle.std.specs.Prelude.{Option, None, Some, unwrap_or, slice_index, ◌==◌}
 use Rattle.redo_journal.proofs.ReadLemmas.{first_read, gate_read, gate_misnumbered, read_on}
@@ -70,3 +71,33 @@ returns-then-read_u64-due-clause-found g c some =
     gate_misnumbered c.args.page (held_of g.W.Outside c.args.outside.now) c.read_at-2.new.into (length c.args.newest.now) c.args.end c.args.due c.args.gate c.read_u16-count.result c.read_u64.result head c.read_u16-count.ensures c.read_u64.ensures c.if-read_u64-due.true
     (first_read (held_of g.W.Outside c.args.outside.now) c.read_at.new.into c.args.gate (read_is (g.W.Outside.held c.args.outside.now) c.read_at.new.into c.args.gate 1 some c.in_ok-read_at.ensures.read) c.if-first.false)
     (omega (arith, c.if-end-next.false, c.from.ensures, c.entries_bytes.ensures.value))
+
+pub returns-then-end-next-clause-found : goal.returns-then-end-next-clause-found
+returns-then-end-next-clause-found g c = grind (arith, common_steps)
+
+pub read_lines-requires-clause-room : goal.read_lines-requires-clause-room
+read_lines-requires-clause-room g c = grind arith
+
+pub returns-in-Some-clause-placed : goal.returns-in-Some-clause-placed
+returns-in-Some-clause-placed g c = grind arith
+
+pub returns-in-None-clause-placed : goal.returns-in-None-clause-placed
+returns-in-None-clause-placed g c = grind arith
+
+pub returns-then-first-clause-found : goal.returns-then-first-clause-found
+returns-then-first-clause-found g c = grind (arith, common_steps)
+
+pub returns-then-end-gate-clause-found : goal.returns-then-end-gate-clause-found
+returns-then-end-gate-clause-found g c = grind (arith, common_steps)
+
+pub returns-then-end-next-clause-asks : goal.returns-then-end-next-clause-asks
+returns-then-end-next-clause-asks g c =
+    asks_on g.W.Outside g.met.W.Outside.fewer_later c.args.outside.now c.read_at.new.self c.read_at-2.new.self
+    (asks_one g.W.Outside c.args.outside.now c.read_at.new.self c.read_at.ensures.held c.read_at.ensures.writes c.read_at.ensures.honest c.read_at.ensures.time c.read_at.ensures.once c.read_at.ensures.quiet c.read_at.ensures.crash c.read_at.ensures.cause.later c.read_at.ensures.puts)
+    (asks_one g.W.Outside c.read_at.new.self c.read_at-2.new.self c.read_at-2.ensures.held c.read_at-2.ensures.writes c.read_at-2.ensures.honest c.read_at-2.ensures.time c.read_at-2.ensures.once c.read_at-2.ensures.quiet c.read_at-2.ensures.crash c.read_at-2.ensures.cause.later c.read_at-2.ensures.puts)
+
+pub returns-in_err-read_at-2-clause-asks : goal.returns-in_err-read_at-2-clause-asks
+returns-in_err-read_at-2-clause-asks g c =
+    asks_on g.W.Outside g.met.W.Outside.fewer_later c.args.outside.now c.read_at.new.self c.read_at-2.new.self
+    (asks_one g.W.Outside c.args.outside.now c.read_at.new.self c.read_at.ensures.held c.read_at.ensures.writes c.read_at.ensures.honest c.read_at.ensures.time c.read_at.ensures.once c.read_at.ensures.quiet c.read_at.ensures.crash c.read_at.ensures.cause.later c.read_at.ensures.puts)
+    (asks_one g.W.Outside c.read_at.new.self c.read_at-2.new.self c.read_at-2.ensures.held c.read_at-2.ensures.writes c.read_at-2.ensures.honest c.read_at-2.ensures.time c.read_at-2.ensures.once c.read_at-2.ensures.quiet c.read_at-2.ensures.crash c.read_at-2.ensures.cause.later c.read_at-2.ensures.puts)

@@ -66,3 +66,7 @@ pub read_at-requires : goal.read_at-requires
 read_at-requires g c =
     reads_within (g.W.Outside.held c.loop-i.outside) (c.args.at + c.from.result + 4) (c.args.at + entry_bytes c.args.page * c.args.count) (omega (arith, c.from.ensures, c.entries_bytes.ensures.value, entries-below c.args.page c.loop-i.i c.args.count c.loop-i-test.true))
     (subst (λ (those : Option (List ℕ)). ForSome those (λ bytes. c.args.at + entry_bytes c.args.page * c.args.count ≤ length bytes)) (sym c.loop-i.invariant.asks.held) c.requires.room)
+
+pub returns-in_err-read_at-clause-asks : goal.returns-in_err-read_at-clause-asks
+returns-in_err-read_at-clause-asks g c =
+    asks_on g.W.Outside g.met.W.Outside.fewer_later c.args.outside.now c.loop-i.outside c.read_at.new.self c.loop-i.invariant.asks (asks_one g.W.Outside c.loop-i.outside c.read_at.new.self c.read_at.ensures.held c.read_at.ensures.writes c.read_at.ensures.honest c.read_at.ensures.time c.read_at.ensures.once c.read_at.ensures.quiet c.read_at.ensures.crash c.read_at.ensures.cause.later c.read_at.ensures.puts)

@@ -1,3 +1,5 @@
+use Rattle.std.proofs.lemmas.Grind.{common_steps}
+use Rattle.std.proofs.Common.{arith}
 use Rattle.store_format.proofs.Common.{◌≡◌, ℕ, [], ◌∙◌, sym, ap, subst, length, List, take, drop, Option, IsSome, unwrap_or, min, held_of}
 use Rattle.store_format.proofs.Padded.{padded_is, read_is, number_is}
 use Rattle.store_format.proofs.read.read_head.Goals as goal
@@ -13,3 +15,9 @@ returns-clause-head g c told =
     ap (λ (those : Option (List ℕ)). take (length front) (drop 0 (unwrap_or those []))) c.length.ensures.held ∙ ap (λ (n : ℕ). take n (drop 0 held)) c.split_at_mut-front.ensures.front_len in
     let whole : c.min-whole.result ≡ min (length held) 128 = c.min-whole.ensures ∙ ap (λ (n : ℕ). min n 128) (number_is (G.held c.args.outside.now) c.in_ok-length.length told c.in_ok-length.ensures.number) in
     padded_is held c.read_at.new.into c.split_at_mut-front.result.1.now c.min-whole.result whole (read ∙ same) c.split_at_mut-front.ensures.back
+
+pub returns-clause-number : goal.returns-clause-number
+returns-clause-number g c = grind (arith, common_steps)
+
+pub read_at-requires : goal.read_at-requires
+read_at-requires g c = grind (arith, common_steps)

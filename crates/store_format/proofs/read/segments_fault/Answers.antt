@@ -1,3 +1,4 @@
+use Rattle.std.proofs.lemmas.Grind.{common_steps}
 use Rattle.store_format.proofs.Common.{◌≡◌, ℕ, ◌+◌, ◌*◌, ◌∷◌, [], ◌∙◌, sym, ap, arith, is_some, min, Option, within, first_fault}
 use Rattle.store_format.proofs.Checks.{wrong_identifier, wrong_pages, right_segment}
 use Rattle.store_format.proofs.read.segments_fault.Goals as goal
@@ -51,3 +52,9 @@ loop-i-preserved c =
           ∙ c.loop-i.invariant.fault;
       room = omega arith;
     }
+
+pub overflow_sub-room : goal.overflow_sub-room
+overflow_sub-room c = grind (arith, common_steps)
+
+pub overflow_add-least : goal.overflow_add-least
+overflow_add-least c = grind (arith, common_steps)

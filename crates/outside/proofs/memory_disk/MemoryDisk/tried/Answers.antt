@@ -1,4 +1,5 @@
-use Rattle.std.proofs.Common.{rules}
+use Rattle.std.proofs.lemmas.Grind.{common_steps}
+use Rattle.std.proofs.Common.{arith, rules}
 use Rattle.outside.proofs.DiskRecord.{tears_either, entry_is_write}
 use Rattle.outside.proofs.memory_disk.MemoryDisk.tried.Goals as goal
 
@@ -9,3 +10,9 @@ pub returns-in-Ok-clause-tears : goal.returns-in-Ok-clause-tears
 returns-in-Ok-clause-tears c =
     let is = entry_is_write c.args.fate _ c.args.at c.args.bytes.now c.in-Ok.entry c.in-Ok.ensures in
     tears_either c.recorded.result c.args.at c.args.bytes.now c.args.self.now.held.items c.recorded.new.self.held.items c.in-Ok.entry c.requires is c.recorded.ensures.held (search rules)
+
+pub returns-in-Ok-clause-held : goal.returns-in-Ok-clause-held
+returns-in-Ok-clause-held c = grind (arith, common_steps)
+
+pub returns-in-Ok-clause-writes : goal.returns-in-Ok-clause-writes
+returns-in-Ok-clause-writes c = grind (arith, common_steps)

@@ -193,3 +193,15 @@ invariant_of-self g c =
       fits = omega (arith, old.some_bytes);
       ordered = refl;
     }
+
+pub invariant_of-self-in-Unwritten : goal.invariant_of-self-in-Unwritten
+invariant_of-self-in-Unwritten g c = grind arith
+
+pub invariant_of-self-in-Doubt : goal.invariant_of-self-in-Doubt
+invariant_of-self-in-Doubt g c = grind arith
+
+pub note-requires-clause-body : goal.note-requires-clause-body
+note-requires-clause-body g c = grind arith
+
+pub record_of-requires : goal.record_of-requires
+record_of-requires g c = grind arith

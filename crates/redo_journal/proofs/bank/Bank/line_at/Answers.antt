@@ -24,3 +24,6 @@ returns g c =
           c.read_line.ensures.read;
       cause = c.read_line.ensures.cause;
     }
+
+pub read_line-requires-clause-whole : goal.read_line-requires-clause-whole
+read_line-requires-clause-whole g c = grind arith

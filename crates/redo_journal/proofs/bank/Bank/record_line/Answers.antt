@@ -3,6 +3,7 @@ use Rattle.redo_journal.proofs.AppendLemmas.{begun_is, length-begun, is_begun, u
 use Rattle.redo_journal.proofs.LineLemmas.{line_added, least_low}
 use Rattle.redo_journal.proofs.bank.Bank.record_line.Goals as goal
 use Rattle.redo_journal.proofs.bank.Bank.record_line.Goals.{After-write-2}
+use Rattle.std.proofs.lemmas.Bool.Decides.{nat_tests}
 
 pub unwrap-begun-requires : goal.unwrap-begun-requires
 unwrap-begun-requires c = is_begun c.self.inside c.args.self.now c.self.view_is c.requires.begun
@@ -10,10 +11,7 @@ unwrap-begun-requires c = is_begun c.self.inside c.args.self.now c.self.view_is 
 -- the buffer has room for one line more
 has_room : (bank : Inside) (kept : KeptBank) (begun : ℕ) → kept_of bank ≡ kept → begun_count bank ≡ begun → record_bytes_of kept (length (begun_of kept) + 1) + 1 ≤ kept.bank_bytes
     → 12 + entry_bytes bank.page * (begun + 1) ≤ bank.bank_bytes
-has_room bank kept begun is count fits =
-    let these : record_bytes_of (kept_of bank) (length (begun_of (kept_of bank)) + 1) + 1 ≤ bank.bank_bytes =
-    subst (λ (those : KeptBank). record_bytes_of those (length (begun_of those) + 1) + 1 ≤ those.bank_bytes) (sym is) fits in
-    omega (arith, these, ap (λ (n : ℕ). entry_bytes bank.page * n) (length-begun bank (kept_of bank) refl ∙ count))
+has_room bank kept begun is count fits = grind (arith, nat_tests, length-begun)
 
 pub write-requires : goal.write-requires
 write-requires c =

@@ -1,3 +1,4 @@
+use Rattle.std.proofs.lemmas.Grind.{common_steps}
 use Rattle.redo_journal.proofs.Common.{◌≡◌, ℕ, ◌+◌, List, length, sym, ◌∙◌, ap, subst, arith, replicate, length-replicate, Option, None, fold, number_at, Holds, bank_held, held_of, told_some, noted, KeptBank, place_of, end_of, IsBank}
 use Rattle.redo_journal.specs.declared.read.Found.{Found}
 use Rattle.redo_journal.proofs.Newest.{held_records, all_below}
@@ -26,3 +27,15 @@ returns-in-Ok-Holds-clause-read g c told =
           (found.1.noted ∙ ap (λ (these : List (Option ℕ)). fold noted these found.1.records) (c.forget.ensures ∙ ap (λ (n : ℕ). replicate {A = Option ℕ} n None) few))
           c.read_bank.ensures.len;
     }
+
+pub returns-in-Err-clause-shape : goal.returns-in-Err-clause-shape
+returns-in-Err-clause-shape g c = grind (arith, common_steps)
+
+pub invariant_of-self : goal.invariant_of-self
+invariant_of-self g c = grind (arith, common_steps)
+
+pub returns-in-Ok-Faulty-clause-shape : goal.returns-in-Ok-Faulty-clause-shape
+returns-in-Ok-Faulty-clause-shape g c = grind (arith, common_steps)
+
+pub returns-in-Ok-Holds-clause-shape : goal.returns-in-Ok-Holds-clause-shape
+returns-in-Ok-Holds-clause-shape g c = grind (arith, common_steps)

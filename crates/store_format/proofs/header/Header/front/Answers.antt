@@ -1,14 +1,12 @@
 use Rattle.store_format.proofs.Common.{◌≡◌, ℕ, ◌-◌, ◌+◌, ◌*◌, List, ◌++◌, replicate, ◌∙◌, ap, arith, vec_len, big_bytes, Header, header_bytes, front, stands}
 use Rattle.store_format.proofs.Fresh.{stored_stands}
 use Rattle.store_format.proofs.header.Header.front.Goals as goal
+use Rattle.std.proofs.lemmas.Bool.Decides.{nat_tests}
 
 -- the header, zeros up to the bank, its base and zeros up to the home lines
 pieces : (header : Header) (number first last : ℕ) (head one two three base : List ℕ) → head ≡ header_bytes header → one ≡ head ++ replicate first 0 → base ≡ big_bytes 8 number → two ≡ one ++ base
     → three ≡ two ++ replicate last 0 → first ≡ 128 → last ≡ 2 * header.bank_bytes + 8 → three ≡ front header number
-pieces header number first last head one two three base is begins says goes ends early late =
-    ends
-    ∙ ap (λ (n : ℕ). two ++ replicate n 0) late
-    ∙ ap (λ (these : List ℕ). these ++ replicate (2 * header.bank_bytes + 8) 0) (goes ∙ ap (λ (these : List ℕ). one ++ these) says ∙ ap (λ (these : List ℕ). these ++ big_bytes 8 number) (begins ∙ ap (λ (these : List ℕ). these ++ replicate first 0) is ∙ ap (λ (n : ℕ). header_bytes header ++ replicate n 0) early))
+pieces header number first last head one two three base is begins says goes ends early late = grind (arith, nat_tests, ends, says, begins)
 
 pub returns-clause-bytes : goal.returns-clause-bytes
 returns-clause-bytes c =

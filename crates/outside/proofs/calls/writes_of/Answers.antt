@@ -1,0 +1,5 @@
+use Rattle.std.proofs.Common.{arith}
+use Rattle.outside.proofs.calls.writes_of.Goals as goal
+
+pub returns : goal.returns
+returns c = grind arith

@@ -1,0 +1,12 @@
+use Rattle.std.proofs.lemmas.Grind.{common_steps}
+use Rattle.std.proofs.Common.{arith}
+use Rattle.outside.proofs.record.overwrite.Goals as goal
+
+pub returns-clause-ok : goal.returns-clause-ok
+returns-clause-ok c = grind (arith, common_steps)
+
+pub slice_bounds-copy_from_slice-end-2 : goal.slice_bounds-copy_from_slice-end-2
+slice_bounds-copy_from_slice-end-2 c = grind (arith, common_steps)
+
+pub copy_from_slice-requires : goal.copy_from_slice-requires
+copy_from_slice-requires c = grind (arith, common_steps)

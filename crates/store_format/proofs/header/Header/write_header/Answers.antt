@@ -1,0 +1,24 @@
+use Rattle.std.proofs.lemmas.Grind.{common_steps}
+use Rattle.std.proofs.Common.{arith}
+use Rattle.store_format.proofs.header.Header.write_header.Goals as goal
+
+pub returns-clause-ranges : goal.returns-clause-ranges
+returns-clause-ranges c = grind (arith, common_steps)
+
+pub returns-clause-legal : goal.returns-clause-legal
+returns-clause-legal c = grind (arith, common_steps)
+
+pub add_zeros-requires : goal.add_zeros-requires
+add_zeros-requires c = grind (arith, common_steps)
+
+pub overflow_cast-segments : goal.overflow_cast-segments
+overflow_cast-segments c = grind (arith, common_steps)
+
+pub slice_bounds-extend_from_slice-end-5 : goal.slice_bounds-extend_from_slice-end-5
+slice_bounds-extend_from_slice-end-5 c = grind (arith, common_steps)
+
+pub returns-clause-len : goal.returns-clause-len
+returns-clause-len c = grind (arith, common_steps)
+
+pub slice_bounds-extend_from_slice-end-4 : goal.slice_bounds-extend_from_slice-end-4
+slice_bounds-extend_from_slice-end-4 c = grind (arith, common_steps)
