@@ -77,7 +77,13 @@ still-classes classes after frame now are = record {
 pub remembered-of :
     (classes : List (List Pair)) (keys : List (Option Key)) (wanted : Key) (pair : Pair) → IsOfTable classes keys
     → find (is_pair_of wanted) (pairs_in classes (class_of wanted)) ≡ Some pair → look_up keys wanted ≡ Some pair.frame
-remembered-of classes keys wanted pair all is = grind (arith, nat_tests, found-pair (λ p. look_up keys (page_of p) ≡ Some p.frame) wanted (pairs_in classes (class_of wanted)) pair (class-all (λ p. look_up keys (page_of p) ≡ Some p.frame) classes (class_of wanted) all) is, class-all (λ p. look_up keys (page_of p) ≡ Some p.frame) classes (class_of wanted) all)
+remembered-of classes keys wanted pair all is =
+    grind (
+      arith,
+      nat_tests,
+      found-pair (λ p. look_up keys (page_of p) ≡ Some p.frame) wanted (pairs_in classes (class_of wanted)) pair (class-all (λ p. look_up keys (page_of p) ≡ Some p.frame) classes (class_of wanted) all) is,
+      class-all (λ p. look_up keys (page_of p) ≡ Some p.frame) classes (class_of wanted) all,
+    )
 
 -- the pairs of a class with a new one: what holds of all before and of the new one holds of all
 newest-all : (P : Pair → Type 0) (pairs : List Pair) (pair : Pair) → All P pairs → P pair → All P (with_newest pairs pair)
