@@ -12,7 +12,12 @@ within-alike page xs ys same = filter-same (has xs) (has ys) (lines_of_page page
 -- Grants by the kept locks are the desk's.
 pub granted-alike : (fine : ℕ → Bool) (attempt : Attempt) (locks due : Lines) (pages : List ℕ) (authority : List Authority) → AreAlike locks due
     → granted fine attempt locks pages authority ≡ granted fine attempt due pages authority
-granted-alike fine attempt locks due pages authority alike = grind (arith, nat_tests, each-same (given fine attempt locks) (given fine attempt due) pages authority (λ page i. if fine page then fine_authority_by attempt.entry.number (has (pages_of attempt.lines.writes) page) (within-alike page locks.reads due.reads alike.reads i) (within-alike page locks.writes due.writes alike.writes i) else authority_by attempt.entry.number (within-alike page locks.reads due.reads alike.reads i) (within-alike page locks.writes due.writes alike.writes i)))
+granted-alike fine attempt locks due pages authority alike =
+    grind (
+      arith,
+      nat_tests,
+      each-same (given fine attempt locks) (given fine attempt due) pages authority (λ page i. if fine page then fine_authority_by attempt.entry.number (has (pages_of attempt.lines.writes) page) (within-alike page locks.reads due.reads alike.reads i) (within-alike page locks.writes due.writes alike.writes i) else authority_by attempt.entry.number (within-alike page locks.reads due.reads alike.reads i) (within-alike page locks.writes due.writes alike.writes i)),
+    )
 
 -- And so are the write bits that go off by them.
 pub lowered-alike : (fine : ℕ → Bool) (attempt : Attempt) (locks due : Lines) (authority : List Authority) → AreAlike locks due

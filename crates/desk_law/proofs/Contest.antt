@@ -36,7 +36,16 @@ rolled-contending one desk gone is = record {
 }
 
 pub rolled-consistent : (desk : Desk) (gone : Entry) → IsOrderly desk → IsOrderly (rolled_back desk gone)
-rolled-consistent desk gone is = grind (arith, nat_tests, filter-short (λ (other : Entry). not (other.number == gone.number)) desk.active, rollback-leaves desk.committed desk.most_lines desk.next desk.active gone is.active, held-others desk.committed desk.committed desk.active desk.authority gone refl (λ other among. refl) (held-but gone.number desk.committed desk.active desk.authority is.held), held-but gone.number desk.committed desk.active desk.authority is.held, no-cycle-fewer (waits_for (rolled_back desk gone)) (waits_for desk) (numbers (rolled_back desk gone)) (numbers desk) (λ from to waits. rollback-waits desk gone from to waits) (λ x inside. fewer-numbers (λ (other : Entry). not (other.number == gone.number)) desk.active x inside) is.no_cycle)
+rolled-consistent desk gone is =
+    grind (
+      arith,
+      nat_tests,
+      filter-short (λ (other : Entry). not (other.number == gone.number)) desk.active,
+      rollback-leaves desk.committed desk.most_lines desk.next desk.active gone is.active,
+      held-others desk.committed desk.committed desk.active desk.authority gone refl (λ other among. refl) (held-but gone.number desk.committed desk.active desk.authority is.held),
+      held-but gone.number desk.committed desk.active desk.authority is.held,
+      no-cycle-fewer (waits_for (rolled_back desk gone)) (waits_for desk) (numbers (rolled_back desk gone)) (numbers desk) (λ from to waits. rollback-waits desk gone from to waits) (λ x inside. fewer-numbers (λ (other : Entry). not (other.number == gone.number)) desk.active x inside) is.no_cycle,
+    )
 
 -- the members of a shown cycle
 greatest-in : (xs : List ℕ) (least : ℕ) → (fold max least xs ≡ least) ⊎ (has xs (fold max least xs) ≡ true)

@@ -130,7 +130,14 @@ round-under_way old desk entry victim cycle is found other =
 
 -- where it is settled the desk is consistent, with the mark on
 pub settled-consistent : (old desk : Desk) (entry : Entry) → IsUnderWay old desk entry → shown_cycle (waits_for desk) (numbers desk) entry.number ≡ None → IsOrderly desk
-settled-consistent old desk entry is shown = grind (arith, nat_tests, settled entry.number desk is.contending (λ steps. false_from_ne_true (leads (waits_for desk) (numbers desk) steps entry.number entry.number) (λ walk. both_ways (leads (waits_for desk) (numbers desk) (length (numbers desk)) entry.number entry.number) (shown-none (waits_for desk) (numbers desk) entry.number shown) (walk-short (waits_for desk) (numbers desk) entry.number entry.number steps (has-number desk.active entry is.here) walk))), shown-none (waits_for desk) (numbers desk) entry.number shown, has-number desk.active entry is.here)
+settled-consistent old desk entry is shown =
+    grind (
+      arith,
+      nat_tests,
+      settled entry.number desk is.contending (λ steps. false_from_ne_true (leads (waits_for desk) (numbers desk) steps entry.number entry.number) (λ walk. both_ways (leads (waits_for desk) (numbers desk) (length (numbers desk)) entry.number entry.number) (shown-none (waits_for desk) (numbers desk) entry.number shown) (walk-short (waits_for desk) (numbers desk) entry.number entry.number steps (has-number desk.active entry is.here) walk))),
+      shown-none (waits_for desk) (numbers desk) entry.number shown,
+      has-number desk.active entry is.here,
+    )
 
 -- and where it is lost
 pub lost-consistent : (old desk : Desk) (entry victim : Entry) (cycle : List ℕ) → IsUnderWay old desk entry → entry_with (victim_of cycle) desk ≡ Some victim → (victim_of cycle == entry.number) ≡ true

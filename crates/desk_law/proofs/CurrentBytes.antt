@@ -50,7 +50,13 @@ lines-joined d f full none = grind (arith, nat_tests, line-part, piece-at, line-
 
 -- bytes of a store that have the same lines are the same
 pub same-lines : (d : Layout) (bytes other : List ℕ) → length bytes ≡ byte_count d → length other ≡ byte_count d → ((line : ℕ) → line_in d bytes line ≡ line_in d other line) → bytes ≡ other
-same-lines d bytes other long also same = grind (arith, nat_tests, same_number_lists bytes other (long ∙ sym also) (λ k below. in_line (line_bytes d.page) (k / line_bytes d.page) k bytes other refl (line-bytes-pos d) (same (k / line_bytes d.page))), line-bytes-pos d)
+same-lines d bytes other long also same =
+    grind (
+      arith,
+      nat_tests,
+      same_number_lists bytes other (long ∙ sym also) (λ k below. in_line (line_bytes d.page) (k / line_bytes d.page) k bytes other refl (line-bytes-pos d) (same (k / line_bytes d.page))),
+      line-bytes-pos d,
+    )
 
 pub bytes-current : (desk : Desk) → IsWhole desk.committed → IsCurrent desk.committed desk.active (current_bytes desk)
 bytes-current desk whole =

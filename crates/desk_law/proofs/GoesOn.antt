@@ -190,7 +190,16 @@ gone-on-active desk most entry mark now next are here at went none short =
 -- the row goes on
 pub row-goes-on : (desk : Desk) (attempt : Attempt) (next : Plain) → IsGranted attempt desk → attempt.outcome ≡ On next
     → IsOrderly (row_done attempt desk)
-row-goes-on desk attempt next is went = grind (arith, nat_tests, length-replaced (gone_on attempt.entry) desk.active, gone-on-active desk desk.most_lines attempt.entry is.mark attempt.now next is.active is.here is.now (is.went ∙ went) is.none is.short, numbers-replaced (gone_on attempt.entry) desk.active, no-cycle-leaves attempt.entry.number (waits_for (row_done attempt desk)) (waits_for desk) (numbers desk) (gone-on desk attempt.entry (gone_on attempt.entry) refl refl) is.no_cycle, gone-on desk attempt.entry (gone_on attempt.entry) refl refl)
+row-goes-on desk attempt next is went =
+    grind (
+      arith,
+      nat_tests,
+      length-replaced (gone_on attempt.entry) desk.active,
+      gone-on-active desk desk.most_lines attempt.entry is.mark attempt.now next is.active is.here is.now (is.went ∙ went) is.none is.short,
+      numbers-replaced (gone_on attempt.entry) desk.active,
+      no-cycle-leaves attempt.entry.number (waits_for (row_done attempt desk)) (waits_for desk) (numbers desk) (gone-on desk attempt.entry (gone_on attempt.entry) refl refl) is.no_cycle,
+      gone-on desk attempt.entry (gone_on attempt.entry) refl refl,
+    )
 
 -- those that are left are so whatever replaced one
 pub others-replaced : (gone new : Entry) (entries : List Entry) → new.number ≡ gone.number → others gone (replaced new entries) ≡ others gone entries

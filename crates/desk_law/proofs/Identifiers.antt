@@ -22,7 +22,12 @@ module _ (numbers : ℕ → ℕ) (none : numbers 0 ≡ 0) where
   pub refused-told : (identifier number : ℕ) (authority : List Authority) (lines : Lines) (pages : List ℕ) → StandsFor numbers identifier number authority
       → filter (λ page. refuses (slice_index_or (owners_told numbers authority) page nobody) number (lines_within page lines)) pages
       ≡ filter (λ page. refuses (slice_index_or authority page nobody) identifier (lines_within page lines)) pages
-  refused-told identifier number authority lines pages stands = grind (arith, nat_tests, filter-same (λ page. refuses (slice_index_or (owners_told numbers authority) page nobody) number (lines_within page lines)) (λ page. refuses (slice_index_or authority page nobody) identifier (lines_within page lines)) pages (λ page i. any-same (λ line. not (permitted (slice_index_or (owners_told numbers authority) page nobody) number line false)) (λ line. not (permitted (slice_index_or authority page nobody) identifier line false)) (within_page page lines.reads) (λ line. ap not (permitted-told identifier number authority page line false stands)) i || any-same (λ line. not (permitted (slice_index_or (owners_told numbers authority) page nobody) number line true)) (λ line. not (permitted (slice_index_or authority page nobody) identifier line true)) (within_page page lines.writes) (λ line. ap not (permitted-told identifier number authority page line true stands)) i))
+  refused-told identifier number authority lines pages stands =
+      grind (
+        arith,
+        nat_tests,
+        filter-same (λ page. refuses (slice_index_or (owners_told numbers authority) page nobody) number (lines_within page lines)) (λ page. refuses (slice_index_or authority page nobody) identifier (lines_within page lines)) pages (λ page i. any-same (λ line. not (permitted (slice_index_or (owners_told numbers authority) page nobody) number line false)) (λ line. not (permitted (slice_index_or authority page nobody) identifier line false)) (within_page page lines.reads) (λ line. ap not (permitted-told identifier number authority page line false stands)) i || any-same (λ line. not (permitted (slice_index_or (owners_told numbers authority) page nobody) number line true)) (λ line. not (permitted (slice_index_or authority page nobody) identifier line true)) (within_page page lines.writes) (λ line. ap not (permitted-told identifier number authority page line true stands)) i),
+      )
 
   -- an identifier that is cleared frees the pages of its number
   pub freed-told : (identifier number : ℕ) (authority : List Authority) → StandsFor numbers identifier number authority

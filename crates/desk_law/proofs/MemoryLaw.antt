@@ -234,11 +234,25 @@ memory-turn : (word : Word) (activation limit : ℕ) (desk : Desk) (memory : Mem
     → (one : Option Entry) → find (λ (entry : Entry). entry.number == activation) desk.active ≡ one
     → IsMemory (turned activation (turn_of one word activation limit desk)).desk (after_turns word activation limit (Going desk no_counts) memory)
 memory-turn word activation limit desk memory is of None found = idle-turns word activation limit desk memory (orderly desk is) found of
-memory-turn word activation limit desk memory is of (Some entry) found = grind (arith, nat_tests, turned-desk activation (turns word activation limit (Going desk no_counts)), memory-of-turn activation (turns word activation limit (Going desk no_counts)) (after_turns word activation limit (Going desk no_counts) memory) (own-turn word activation limit desk memory entry is found of), own-turn word activation limit desk memory entry is found of)
+memory-turn word activation limit desk memory is of (Some entry) found =
+    grind (
+      arith,
+      nat_tests,
+      turned-desk activation (turns word activation limit (Going desk no_counts)),
+      memory-of-turn activation (turns word activation limit (Going desk no_counts)) (after_turns word activation limit (Going desk no_counts) memory) (own-turn word activation limit desk memory entry is found of),
+      own-turn word activation limit desk memory entry is found of,
+    )
 
 -- a crash
 crash-memory : (desk : Desk) (memory : Memory) → IsConsistent desk → IsMemory desk memory → IsMemory (restarted desk) (record memory { bytes = memory.committed })
-crash-memory desk memory is of = grind (arith, nat_tests, one-current desk.committed [] desk.committed.bytes (current_bytes (restarted desk)) (current-quiet desk.committed is.whole) (bytes-current (restarted desk) is.whole), current-quiet desk.committed is.whole, bytes-current (restarted desk) is.whole)
+crash-memory desk memory is of =
+    grind (
+      arith,
+      nat_tests,
+      one-current desk.committed [] desk.committed.bytes (current_bytes (restarted desk)) (current-quiet desk.committed is.whole) (bytes-current (restarted desk) is.whole),
+      current-quiet desk.committed is.whole,
+      bytes-current (restarted desk) is.whole,
+    )
 
 shut-memory : (desk : Desk) (memory : Memory) → IsMemory desk memory → IsMemory (record desk { closed = true }) memory
 shut-memory desk memory of = record { committed = of.committed; bytes = of.bytes; alone = of.alone }
@@ -269,11 +283,25 @@ memory-run programs (event ∷ events) desk memory is of =
     (stays-consistent programs event.0 event.1 desk is) (memory-step programs event.0 event.1 desk memory is of)
 
 opened-memory : (frames most_active most_lines : ℕ) (store : FlatStore) → IsWhole store → IsMemory (opened frames most_active most_lines store) (memory_of store)
-opened-memory frames most_active most_lines store whole = grind (arith, nat_tests, one-current store [] store.bytes (current_bytes (opened frames most_active most_lines store)) (current-quiet store whole) (bytes-current (opened frames most_active most_lines store) whole), current-quiet store whole, bytes-current (opened frames most_active most_lines store) whole)
+opened-memory frames most_active most_lines store whole =
+    grind (
+      arith,
+      nat_tests,
+      one-current store [] store.bytes (current_bytes (opened frames most_active most_lines store)) (current-quiet store whole) (bytes-current (opened frames most_active most_lines store) whole),
+      current-quiet store whole,
+      bytes-current (opened frames most_active most_lines store) whole,
+    )
 
 memory-runs : (programs : List Program) (frames most_active most_lines : ℕ) (store : FlatStore) (events : List (Event × Word)) → IsWhole store → 2 ≤ frames
     → IsMemory (run programs events (opened frames most_active most_lines store)) (memory_after programs events (opened frames most_active most_lines store) (memory_of store))
-memory-runs programs frames most_active most_lines store events whole two = grind (arith, nat_tests, memory-run programs events (opened frames most_active most_lines store) (memory_of store) (runs-consistent programs frames most_active most_lines store [] whole two) (opened-memory frames most_active most_lines store whole), runs-consistent programs frames most_active most_lines store [] whole two, opened-memory frames most_active most_lines store whole)
+memory-runs programs frames most_active most_lines store events whole two =
+    grind (
+      arith,
+      nat_tests,
+      memory-run programs events (opened frames most_active most_lines store) (memory_of store) (runs-consistent programs frames most_active most_lines store [] whole two) (opened-memory frames most_active most_lines store whole),
+      runs-consistent programs frames most_active most_lines store [] whole two,
+      opened-memory frames most_active most_lines store whole,
+    )
 
 -- an entry's own lines are in the bytes of all
 own-found : (desk : Desk) (memory : Memory) → IsConsistent desk → IsMemory desk memory → FindTheirOwn desk memory

@@ -10,7 +10,15 @@ reached waits all from to = leads waits all (length all) from to
 -- one that is waited for leads to fewer
 pub leads-to-fewer : (waits : ℕ → ℕ → Bool) (all : List ℕ) → HasNoCycle waits all → (from next : ℕ) → has all from ≡ true → has all next ≡ true → waits from next ≡ true
     → length (filter (reached waits all next) all) < length (filter (reached waits all from) all)
-leads-to-fewer waits all none from next inside there step = grind (arith, nat_tests, count-lt (reached waits all next) (reached waits all from) all (λ to walk. walk-short waits all to from (suc (length all)) inside (one-step waits all (length all) from to next there step (inr walk))) (any-at (λ x. reached waits all from x && not (reached waits all next x)) all next there (and_from (reached waits all from next) (not (reached waits all next next)) (walk-short waits all next from 1 inside (one-step waits all 0 from next next there step (inl refl))) (not_from_false (reached waits all next next) (none (length all) next)))), walk-short waits all next from 1 inside (one-step waits all 0 from next next there step (inl refl)), one-step waits all 0 from next next there step (inl refl), any-at (λ x. reached waits all from x && not (reached waits all next x)) all next there (and_from (reached waits all from next) (not (reached waits all next next)) (walk-short waits all next from 1 inside (one-step waits all 0 from next next there step (inl refl))) (not_from_false (reached waits all next next) (none (length all) next))))
+leads-to-fewer waits all none from next inside there step =
+    grind (
+      arith,
+      nat_tests,
+      count-lt (reached waits all next) (reached waits all from) all (λ to walk. walk-short waits all to from (suc (length all)) inside (one-step waits all (length all) from to next there step (inr walk))) (any-at (λ x. reached waits all from x && not (reached waits all next x)) all next there (and_from (reached waits all from next) (not (reached waits all next next)) (walk-short waits all next from 1 inside (one-step waits all 0 from next next there step (inl refl))) (not_from_false (reached waits all next next) (none (length all) next)))),
+      walk-short waits all next from 1 inside (one-step waits all 0 from next next there step (inl refl)),
+      one-step waits all 0 from next next there step (inl refl),
+      any-at (λ x. reached waits all from x && not (reached waits all next x)) all next there (and_from (reached waits all from next) (not (reached waits all next next)) (walk-short waits all next from 1 inside (one-step waits all 0 from next next there step (inl refl))) (not_from_false (reached waits all next next) (none (length all) next))),
+    )
 
 -- one among some that waits for none of them
 abbrev WaitsForNone : (ℕ → ℕ → Bool) → List ℕ → Type 0

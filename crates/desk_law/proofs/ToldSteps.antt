@@ -44,7 +44,14 @@ pub told-mark :
     → IsAmong entries entry → IsTold store entries locks requests states bytes
     → AreAlike (new entry.number) (requested store entry) → IsTableBut entry.number requests new
     → IsTold store (replaced (record entry { waiting = true }) entries) locks new states bytes
-told-mark store most_lines next entries locks requests new states bytes entry are later here told alike but = grind (arith, nat_tests, kept-mark store entries locks requests told.kept entry new here alike but, states-mark store entries states told.stand entry true here, current-marked store most_lines next entries are bytes entry true here later told.is_current)
+told-mark store most_lines next entries locks requests new states bytes entry are later here told alike but =
+    grind (
+      arith,
+      nat_tests,
+      kept-mark store entries locks requests told.kept entry new here alike but,
+      states-mark store entries states told.stand entry true here,
+      current-marked store most_lines next entries are bytes entry true here later told.is_current,
+    )
 
 -- A rollback.
 pub told-rollback :
@@ -52,7 +59,14 @@ pub told-rollback :
     → AreConsistent store most_lines next entries → IsAmong entries gone → IsTold store entries locks requests states bytes
     → IsLaid store (due_to store gone).writes store.bytes bytes new
     → IsTold store (others gone entries) locks requests states new
-told-rollback store most_lines next entries locks requests states bytes new gone are here told laid = grind (arith, nat_tests, kept-rollback store entries locks requests told.kept gone, states-rollback store entries states told.stand gone, current-rolled store most_lines next entries are bytes gone new here told.is_current laid)
+told-rollback store most_lines next entries locks requests states bytes new gone are here told laid =
+    grind (
+      arith,
+      nat_tests,
+      kept-rollback store entries locks requests told.kept gone,
+      states-rollback store entries states told.stand gone,
+      current-rolled store most_lines next entries are bytes gone new here told.is_current laid,
+    )
 
 -- A commit: neither bytes nor tables change, and the committed store becomes the entry's, which is the old one with the lines
 -- that it wrote laid over from those bytes.
@@ -65,7 +79,16 @@ pub told-commit :
     → IsWhole store → AreConsistent store most_lines next entries → IsAmong entries entry → IsTold store entries locks requests states bytes
     → after entry.runs.program entry.runs.args store entry.rows ≡ Some now
     → HasCommitted store entries locks requests states bytes entry now
-told-commit store most_lines next entries locks requests states bytes entry now whole are here told at = grind (arith, nat_tests, kept-commit store entries locks requests told.kept most_lines next entry now whole are here, states-commit store entries states told.stand most_lines next entry now whole are here, current-committed store most_lines next entries are bytes entry now whole here, commit-laid store most_lines next entries are bytes entry now whole (after-whole entry.runs.program entry.runs.args store entry.rows now whole at ∙ sym whole) here, after-whole entry.runs.program entry.runs.args store entry.rows now whole)
+told-commit store most_lines next entries locks requests states bytes entry now whole are here told at =
+    grind (
+      arith,
+      nat_tests,
+      kept-commit store entries locks requests told.kept most_lines next entry now whole are here,
+      states-commit store entries states told.stand most_lines next entry now whole are here,
+      current-committed store most_lines next entries are bytes entry now whole here,
+      commit-laid store most_lines next entries are bytes entry now whole (after-whole entry.runs.program entry.runs.args store entry.rows now whole at ∙ sym whole) here,
+      after-whole entry.runs.program entry.runs.args store entry.rows now whole,
+    )
 
 -- A row that was served: its locks are those of the row too, its mark is off, and the state and the bytes are those that the
 -- second attempt left.

@@ -89,7 +89,14 @@ module _ (word : Word) (attempt : Attempt) (most : ℕ) (old : Desk) where
       → ContestDid attempt.entry.number old contest → Goes old attempt most (contest_ends word attempt refused contest)
   goes-contest refused mark before (Lost desk counts) ready came did = ((came.0, tt, omega (arith, came.1)), record { from = did.0; own = left-before attempt.entry desk did.1 })
   goes-contest refused mark before (Contested desk counts) ready came did = absurd came
-  goes-contest refused mark before (Settled desk counts) ready came did = grind (arith, nat_tests, goes-wait refused (conflicts_of desk attempt.entry) desk counts came.5 did refl (ready-again attempt before desk mark ready (contending attempt.entry.number desk came.0) came.1 came.2 came.3) came.0, ready-again attempt before desk mark ready (contending attempt.entry.number desk came.0) came.1 came.2 came.3, contending attempt.entry.number desk came.0)
+  goes-contest refused mark before (Settled desk counts) ready came did =
+      grind (
+        arith,
+        nat_tests,
+        goes-wait refused (conflicts_of desk attempt.entry) desk counts came.5 did refl (ready-again attempt before desk mark ready (contending attempt.entry.number desk came.0) came.1 came.2 came.3) came.0,
+        ready-again attempt before desk mark ready (contending attempt.entry.number desk came.0) came.1 came.2 came.3,
+        contending attempt.entry.number desk came.0,
+      )
 
   goes-ask : (refused holders : List ℕ) (desk : Desk) (counts : Counts) → Room desk counts → From attempt.entry.number old desk → conflicts_of desk attempt.entry ≡ holders → IsReady attempt desk → IsAmong desk.active attempt.entry
       → Goes old attempt most (asks word attempt refused holders desk counts)

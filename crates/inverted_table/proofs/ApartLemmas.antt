@@ -1,8 +1,8 @@
 -- Lists in which no number stands twice.
-use Rattle.inverted_table.proofs.Common.{range_with_len, ◌⊎◌, arith, refl, ap, sym, ◌∙◌, inl, inr, eqb-true, eqb-false, ne_eqb, or_left, or_right, has, distinct, size, has-filter, in_range, before_in}
+use Rattle.inverted_table.proofs.Common.{range_with_len, ◌⊎◌, arith, refl, ap, sym, ◌∙◌, inl, inr, has, distinct, size, has-filter, in_range, before_in}
 use Rattle.std.proofs.lemmas.Bool.Decides.{nat_tests}
 use Rattle.std.proofs.lemmas.Bool.{cases_Bool}
-use Rattle.std.specs.Prelude.{◌≡◌, ◌≢◌, ℕ, suc, ◌<◌, ◌≤◌, ◌==◌, ◌&&◌, ◌||◌, not, cond, Bool, true, false, List, [], ◌∷◌, length, filter, Some, None}
+use Rattle.std.specs.Prelude.{◌≡◌, ◌≢◌, ℕ, ◌<◌, ◌≤◌, ◌==◌, not, Bool, true, false, List, [], ◌∷◌, length, filter, Some, None}
 use Rattle.lock_rules.proofs.Sizes.{size-part, size-range}
 
 pub equal : (n : ℕ) → (n == n) ≡ true
@@ -14,10 +14,7 @@ length-distinct (x ∷ xs) = grind (arith, length-distinct xs)
 
 -- the first isn't among the others, and these have none twice
 pub apart-parts : (x : ℕ) (xs : List ℕ) → distinct (x ∷ xs) ≡ x ∷ xs → (has xs x ≡ false) × (distinct xs ≡ xs)
-apart-parts x xs apart = elim (cases_Bool (has xs x)) [
-  | inl seen ↦ absurd (let few = length-distinct xs in let long = ap length apart in grind (arith, seen, few, long))
-  | inr new ↦ (new, grind (arith, new))
-]
+apart-parts x xs apart = grind (arith, nat_tests, length-distinct xs)
 
 pub apart-cons : (x : ℕ) (xs : List ℕ) → has xs x ≡ false → distinct xs ≡ xs → distinct (x ∷ xs) ≡ x ∷ xs
 apart-cons x xs new apart = grind arith

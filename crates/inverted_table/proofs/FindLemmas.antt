@@ -1,7 +1,7 @@
 -- The look-up along a chain is the look-up in the list.
-use Rattle.inverted_table.proofs.Common.{◌≡◌, ℕ, zero, suc, ◌+◌, ◌<◌, ◌≤◌, ◌⊎◌, Bool, true, false, List, [], ◌∷◌, length, refl, sym, ◌∙◌, ap, arith, inl, inr, Some, None, prefix_len, option_map_or, and_parts, eqb-true, ltb-true, ltb-false, cases_lt, get_or-eq_default, has, Key, holds, key_in, look_up, chain_of, hash_of, IsChain, IsChained}
+use Rattle.inverted_table.proofs.Common.{◌≡◌, ℕ, zero, suc, ◌<◌, ◌≤◌, ◌⊎◌, Bool, true, false, List, [], ◌∷◌, length, refl, sym, ◌∙◌, ap, arith, inl, inr, Some, None, prefix_len, option_map_or, ltb-true, ltb-false, cases_lt, get_or-eq_default, has, Key, holds, key_in, look_up, chain_of, hash_of, IsChain, IsChained}
 use Rattle.std.proofs.lemmas.Bool.Decides.{nat_tests}
-use Rattle.std.specs.Prelude.{◌==◌, ◌&&◌, ◌||◌, not, cond, find, nat_lt, slice_index_or, Option}
+use Rattle.std.specs.Prelude.{◌==◌, ◌&&◌, not, cond, find, nat_lt, slice_index_or, Option}
 use Rattle.std.proofs.lemmas.List.Quantifiers.{position-Some}
 use Rattle.inverted_table.proofs.ApartLemmas.{equal}
 
@@ -12,14 +12,7 @@ holds_it keys wanted frame = holds wanted (key_in keys frame)
 -- what holds a page is that page
 pub held-is : (wanted : Key) (o : Option Key) → holds wanted o ≡ true → o ≡ Some wanted
 held-is wanted None held = absurd (cc)
-held-is wanted (Some key) held =
-    let parts : ((key.segment == wanted.segment) ≡ true) × ((key.page == wanted.page) ≡ true) = and_parts (key.segment == wanted.segment) (key.page == wanted.page) held in
-    let segments : key.segment ≡ wanted.segment = eqb-true key.segment wanted.segment parts.0 in
-    let pages : key.page ≡ wanted.page = eqb-true key.page wanted.page parts.1 in
-    ap (λ (k : Key). Some k) (same key.segment key.page wanted.segment wanted.page segments pages)
-  where
-    same : (a b c d : ℕ) → a ≡ c → b ≡ d → (let k : Key = record { segment = a; page = b } in k) ≡ record { segment = c; page = d }
-    same a b c d e f = rw (e, f) refl
+held-is wanted (Some key) held = grind (arith, nat_tests)
 
 pub is-held : (wanted : Key) (o : Option Key) → o ≡ Some wanted → holds wanted o ≡ true
 is-held wanted o is = ap (holds wanted) is ∙ ap (λ (b : Bool). b && (wanted.page == wanted.page)) (equal wanted.segment) ∙ equal wanted.page
@@ -75,23 +68,11 @@ chain-look_up anchors next keys wanted chained below =
 
 -- where no frame holds a page, none does
 pub look_up-none : (keys : List (Option Key)) (wanted : Key) → look_up keys wanted ≡ None → (frame : ℕ) → holds wanted (key_in keys frame) ≡ false
-look_up-none keys wanted absent frame = by_test (nat_lt (prefix_len (λ o. not (holds wanted o)) keys) (length keys)) refl absent
-  where
-    by_test :
-        (b : Bool) → nat_lt (prefix_len (λ o. not (holds wanted o)) keys) (length keys) ≡ b
-        → cond b (Some (prefix_len (λ o. not (holds wanted o)) keys)) None ≡ None → holds wanted (key_in keys frame) ≡ false
-    by_test true is absent = absurd (cc)
-    by_test false is absent = by_place (cases_lt frame (length keys))
-      where
-        by_place : (frame < length keys) ⊎ (length keys ≤ frame) → holds wanted (key_in keys frame) ≡ false
-        by_place (inl inside) = prefix-all (holds wanted) keys frame (ltb-false _ _ is) inside
-        by_place (inr past) = ap (holds wanted) (get_or-eq_default keys None past)
+look_up-none keys wanted absent frame = grind (arith, nat_tests, prefix-all, get_or-eq_default)
 
 -- the frame that is found holds the page
 pub look_up-held : (keys : List (Option Key)) (wanted : Key) (frame : ℕ) → look_up keys wanted ≡ Some frame → (frame < length keys) × (key_in keys frame ≡ Some wanted)
-look_up-held keys wanted frame is =
-    let told = position-Some (holds wanted) keys frame None is in
-    (told.0, held-is wanted (key_in keys frame) told.1)
+look_up-held keys wanted frame is = grind (arith, nat_tests, position-Some, held-is)
 
 -- a look-up answers the one frame that holds the page, or none
 pub look_up-is :

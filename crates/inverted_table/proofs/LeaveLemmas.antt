@@ -1,5 +1,6 @@
 -- The table stays chained where a frame leaves.
-use Rattle.inverted_table.proofs.Common.{◌≡◌, ◌≢◌, ℕ, zero, suc, ◌<◌, Bool, true, false, List, length, refl, sym, ◌∙◌, ap, arith, Some, None, Option, ◌==◌, ◌&&◌, not, filter, slice_set, get_or-set_same, get_or-set_other, length-set, eqb-true, eqb-false, ne_eqb, and_right, has, distinct, has-filter, Key, key_in, hash_of, following, chain_from, chain_end, chain_of, before_in, IsChain, IsChained}
+use Rattle.std.proofs.lemmas.Bool.Decides.{nat_tests}
+use Rattle.inverted_table.proofs.Common.{◌≡◌, ◌≢◌, ℕ, zero, suc, ◌<◌, Bool, true, false, List, length, refl, sym, ◌∙◌, ap, arith, Some, None, Option, ◌==◌, filter, slice_set, get_or-set_same, get_or-set_other, length-set, eqb-true, eqb-false, ne_eqb, has, distinct, has-filter, Key, key_in, hash_of, following, chain_from, chain_end, chain_of, before_in, IsChain, IsChained}
 use Rattle.inverted_table.proofs.ApartLemmas.{equal, is_other, apart-filter, filter-absent, before-none, before-in}
 use Rattle.inverted_table.proofs.EnterLemmas.{is_hashed, frame-below, held-same, held-other, chain-by, end-by}
 use Rattle.inverted_table.proofs.WalkLemmas.{chain-untouched, chain-headless, chain-unlinked}
@@ -9,27 +10,7 @@ left-chain :
     (anchors next moved changed : List (Option ℕ)) (keys : List (Option Key)) (hash frame : ℕ) → IsChain anchors next keys hash
     → length moved ≡ length anchors → frame < length keys → chain_end changed (length changed) (following moved hash) ≡ None
     → chain_of moved changed hash ≡ filter (is_other frame) (chain_of anchors next hash) → IsChain moved changed (slice_set keys frame None) hash
-left-chain anchors next moved changed keys hash frame chain sized inside ends same =
-    record {
-      ends = ends;
-      apart = ap distinct same ∙ apart-filter (is_other frame) (chain_of anchors next hash) chain.apart ∙ sym same;
-      has_its = λ x. ap (λ (xs : List ℕ). has xs x) same ∙ has-filter (is_other frame) (chain_of anchors next hash) x ∙ its x (x == frame) refl (chain.has_its x);
-    }
-  where
-    its :
-        (x : ℕ) (b : Bool) → (x == frame) ≡ b → has (chain_of anchors next hash) x ≡ is_hashed (length anchors) hash (key_in keys x)
-        → (has (chain_of anchors next hash) x && is_other frame x) ≡ is_hashed (length moved) hash (key_in (slice_set keys frame None) x)
-    its x true is old =
-        and_right (has (chain_of anchors next hash) x) (is_other frame x) (ap not is)
-        ∙ sym (ap (is_hashed (length moved) hash) (held-same keys frame x None inside (sym (eqb-true x frame is))))
-    its x false is old =
-        ap (λ b. has (chain_of anchors next hash) x && not b) is ∙ kept (has (chain_of anchors next hash) x) ∙ old
-        ∙ sym (ap (λ (n : ℕ). is_hashed n hash (key_in (slice_set keys frame None) x)) sized
-        ∙ ap (is_hashed (length anchors) hash) (held-other keys frame x None (λ e. eqb-false x frame is (sym e))))
-      where
-        kept : (b : Bool) → (b && true) ≡ b
-        kept true = refl
-        kept false = refl
+left-chain anchors next moved changed keys hash frame chain sized inside ends same = grind (arith, nat_tests, apart-filter, is_other, has-filter, is_hashed, held-same, held-other, eqb-false)
 
 -- a page has one hash
 hashed-once : (anchors own hash : ℕ) (held : Option Key) → is_hashed anchors own held ≡ true → own ≢ hash → is_hashed anchors hash held ≡ false
@@ -55,11 +36,7 @@ left-once :
     (keys : List (Option Key)) (frame : ℕ) → frame < length keys
     → ((x y : ℕ) (held : Key) → key_in keys x ≡ Some held → key_in keys y ≡ Some held → x ≡ y)
     → (x y : ℕ) (held : Key) → key_in (slice_set keys frame None) x ≡ Some held → key_in (slice_set keys frame None) y ≡ Some held → x ≡ y
-left-once keys frame inside once x y held first second = once x y held (before x first (frame == x) refl) (before y second (frame == y) refl)
-  where
-    before : (z : ℕ) → key_in (slice_set keys frame None) z ≡ Some held → (b : Bool) → (frame == z) ≡ b → key_in keys z ≡ Some held
-    before z there true is = absurd (let clash : None ≡ Some held = sym (held-same keys frame z None inside (eqb-true frame z is)) ∙ there in cc)
-    before z there false is = sym (held-other keys frame z None (eqb-false frame z is)) ∙ there
+left-once keys frame inside once x y held first second = grind (arith, nat_tests, held-same, held-other, eqb-false)
 
 -- a table of which a frame left that led its chain
 pub leave-first :
@@ -148,9 +125,7 @@ leave-behind anchors next keys frame own other key chained inside holds within i
 pub found-before :
     (anchors next list : List (Option ℕ)) (own frame : ℕ) (first answer : Option ℕ) → answer ≡ before_in (chain_from list (length list) first) frame
     → list ≡ next → first ≡ following anchors own → answer ≡ before_in (chain_of anchors next own) frame
-found-before anchors next list own frame first answer is same anchor =
-    is ∙ ap (λ (xs : List (Option ℕ)). before_in (chain_from xs (length xs) first) frame) same
-    ∙ ap (λ (o : Option ℕ). before_in (chain_from next (length next) o) frame) anchor
+found-before anchors next list own frame first answer is same anchor = grind (arith, nat_tests)
 
 -- a frame that is in front of another is one of the frames
 pub before-below :

@@ -1,5 +1,6 @@
 -- Walks along a chain, frame by frame.
-use Rattle.inverted_table.proofs.Common.{◌≡◌, ℕ, zero, suc, ◌+◌, ◌-◌, ◌<◌, ◌≤◌, ◌≢◌, ◌⊎◌, inl, inr, Bool, true, false, List, [], ◌∷◌, length, refl, sym, ◌∙◌, ap, arith, Some, None, Option, ◌==◌, ◌||◌, ◌&&◌, nat_eq, cond, filter, slice_set, option_eq, get_or-set_same, get_or-set_other, eqb-true, eqb-false, has, distinct, has-filter, following, chain_from, chain_end, before_in}
+use Rattle.std.proofs.lemmas.Bool.Decides.{nat_tests}
+use Rattle.inverted_table.proofs.Common.{◌≡◌, ℕ, zero, suc, ◌+◌, ◌-◌, ◌<◌, ◌≤◌, ◌≢◌, ◌⊎◌, inl, inr, Bool, true, false, List, [], ◌∷◌, length, refl, sym, ◌∙◌, ap, arith, Some, None, Option, ◌==◌, ◌||◌, ◌&&◌, nat_eq, filter, slice_set, option_eq, get_or-set_same, get_or-set_other, eqb-true, eqb-false, has, distinct, has-filter, following, chain_from, chain_end, before_in}
 use Rattle.inverted_table.proofs.ApartLemmas.{equal, is_other, apart-parts, filter-absent, filter-same, filter-other, other-than, before-cases, before-in}
 
 -- nothing follows on nothing
@@ -23,40 +24,26 @@ walked-none next count place at = ap (chain_from next count) at ∙ chain-none n
 pub walked-one :
     (next : List (Option ℕ)) (end counter frame : ℕ) (place after : Option ℕ) → place ≡ Some frame → counter < end → after ≡ following next frame
     → chain_from next (end - counter) place ≡ frame ∷ chain_from next (end - (counter + 1)) after
-walked-one next end counter frame place after at more is =
-    ap (λ (n : ℕ). chain_from next n place) (left_one end counter more)
-    ∙ ap (chain_from next (suc (end - (counter + 1)))) at
-    ∙ ap (λ (o : Option ℕ). frame ∷ chain_from next (end - (counter + 1)) o) (sym is)
+walked-one next end counter frame place after at more is = grind (arith, nat_tests, left_one)
 
 pub ends-one :
     (next : List (Option ℕ)) (end counter frame : ℕ) (place after : Option ℕ) → place ≡ Some frame → counter < end → after ≡ following next frame
     → chain_end next (end - counter) place ≡ chain_end next (end - (counter + 1)) after
-ends-one next end counter frame place after at more is =
-    ap (λ (n : ℕ). chain_end next n place) (left_one end counter more)
-    ∙ ap (chain_end next (suc (end - (counter + 1)))) at
-    ∙ ap (λ (o : Option ℕ). chain_end next (end - (counter + 1)) o) (sym is)
+ends-one next end counter frame place after at more is = grind (arith, nat_tests, left_one)
 
 -- what follows on a frame along a chain that ends is behind it
 pub before-here :
     (next : List (Option ℕ)) (count at frame : ℕ) (after : Option ℕ) → after ≡ Some frame → chain_end next count after ≡ None
     → before_in (at ∷ chain_from next count after) frame ≡ Some at
 before-here next zero at frame after is ends = absurd (let clash : Some frame ≡ None = sym is ∙ ends in cc)
-before-here next (suc count) at frame after is ends =
-    ap (λ (o : Option ℕ). before_in (at ∷ chain_from next (suc count) o) frame) is
-    ∙ ap (λ b. cond b (Some at) (before_in (frame ∷ chain_from next count (following next frame)) frame)) (equal frame)
+before-here next (suc count) at frame after is ends = grind (arith, nat_tests, equal)
 
 pub before-later :
     (next : List (Option ℕ)) (count at frame : ℕ) (after : Option ℕ) → after ≢ Some frame
     → before_in (at ∷ chain_from next count after) frame ≡ before_in (chain_from next count after) frame
 before-later next zero at frame after other = refl
 before-later next (suc count) at frame None other = refl
-before-later next (suc count) at frame (Some y) other = by_test (y == frame) refl
-  where
-    by_test :
-        (b : Bool) → (y == frame) ≡ b
-        → cond b (Some at) (before_in (y ∷ chain_from next count (following next y)) frame) ≡ before_in (y ∷ chain_from next count (following next y)) frame
-    by_test true is = absurd (other (ap (λ (n : ℕ). Some n) (eqb-true y frame is)))
-    by_test false is = refl
+before-later next (suc count) at frame (Some y) other = grind (arith, nat_tests)
 
 -- what a comparison with a frame tells
 pub same-option : (place : Option ℕ) (frame : ℕ) → option_eq nat_eq place (Some frame) ≡ true → place ≡ Some frame
@@ -64,9 +51,7 @@ same-option None frame same = absurd (cc)
 same-option (Some x) frame same = ap (λ (n : ℕ). Some n) (eqb-true x frame same)
 
 pub other-option : (place : Option ℕ) (frame : ℕ) → option_eq nat_eq place (Some frame) ≡ false → place ≢ Some frame
-other-option place frame other is =
-    let same : option_eq nat_eq place (Some frame) ≡ true = ap (λ (o : Option ℕ). option_eq nat_eq o (Some frame)) is ∙ equal frame in
-    absurd (let clash : true ≡ false = sym same ∙ other in cc)
+other-option place frame other is = grind (arith, nat_tests, equal frame)
 
 -- a walk that ends goes on as long as there are frames: one with fewer steps is the same, if it has enough
 pub chain-shorter :
@@ -93,8 +78,7 @@ chain-longer next (suc few) (suc many) (Some frame) less ends =
     (ap (λ (rest : List ℕ). frame ∷ rest) inner.0, inner.1)
 
 or_false : (a b : Bool) → (a || b) ≡ false → (a ≡ false) × (b ≡ false)
-or_false true b none = absurd (cc)
-or_false false b none = (refl, none)
+or_false a b h1 = grind (arith, nat_tests)
 
 -- a chain without a frame doesn't see what follows on that frame
 pub chain-untouched :
@@ -116,10 +100,7 @@ pub chain-first :
     → (less : ℕ) × (count ≡ suc less) × (at ≡ Some frame) × (tail ≡ chain_from next less (following next frame))
 chain-first next zero frame at tail is = absurd (cc)
 chain-first next (suc count) frame None tail is = absurd (cc)
-chain-first next (suc count) frame (Some x) tail is =
-    let same : x ≡ frame = cc in
-    let rest : tail ≡ chain_from next count (following next x) = cc in
-    (count, refl, ap (λ (n : ℕ). Some n) same, rest ∙ ap (λ (n : ℕ). chain_from next count (following next n)) same)
+chain-first next (suc count) frame (Some x) tail is = grind (arith, nat_tests)
 
 -- a frame that comes in front of a chain that ends, and doesn't have it
 pub chain-in_front :

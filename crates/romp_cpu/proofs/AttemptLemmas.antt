@@ -1,6 +1,6 @@
 -- An attempt gives the row of every plain state that agrees, by the kinds of act.
-use Rattle.romp_cpu.proofs.Common.{option_map_or, arith, ap, sym, ◌∙◌, subst, leb-true, get_or-drop, length-append, get_or-map-range_with_len, length-map-range_with_len, big_number, overlaid, Layout, Act, Cs, Private, Shared, Refused, Plan, Does, Fails, Program, Attempt, Cpu, Access, Probe, bytes_from, halfword_of, access_to, Seen, seen_in, linked, undone, refused_by, unless_refused, tried, access_of, access_of_plan, place_of, bytes_in, ChecksAlike, ShowsSame, IsCpuOf, left_by, GivesAll, GivesBy, GivesOver, lines_of_access, TouchesAccess, GivesPlan, GivesEveryRow}
-use Rattle.std.specs.Prelude.{◌≡◌, refl, ℕ, ◌+◌, ◌≤◌, nat_le, nat_lt, cond, Bool, true, false, List, [], ◌∷◌, ◌++◌, length, drop, slice_index, slice_range, Option, Some, None}
+use Rattle.romp_cpu.proofs.Common.{option_map_or, arith, ap, sym, ◌∙◌, subst, leb-true, get_or-drop, length-append, get_or-map-range_with_len, length-map-range_with_len, big_number, overlaid, Layout, Act, Cs, Private, Shared, Refused, Plan, Does, Fails, Program, Attempt, Cpu, Access, Probe, bytes_from, halfword_of, access_to, Seen, seen_in, linked, undone, refused_by, unless_refused, tried, access_of, access_of_plan, place_of, bytes_in, ChecksAlike, ShowsSame, IsCpuOf, left_by, GivesAll, GivesBy, GivesOver, lines_of_access, TouchesAccess, GivesPlan, GivesEveryRow, nat_tests}
+use Rattle.std.specs.Prelude.{◌≡◌, refl, ℕ, ◌+◌, nat_le, nat_lt, cond, Bool, true, false, List, [], ◌∷◌, ◌++◌, length, slice_range, Option, Some, None}
 use mathlib.Core.Path.{fun_ext}
 use Rattle.lock_rules.specs.Lines.{no_lines}
 use Rattle.flat_machine.specs.declared.machine.Located.{Located}
@@ -12,21 +12,7 @@ use Rattle.flat_machine.specs.Touched.{lines_of_act, touched_by}
 -- a halfword of the private bytes that are shown is the halfword shown
 halfword-shown :
     (f : ℕ → ℕ) (n a : ℕ) → halfword (bytes_from f 0 n) a ≡ cond (nat_le (a + 2) n) (Some (big_number 2 (bytes_from f a 2))) None
-halfword-shown f n a =
-    ap (λ l. cond (nat_le (a + 2) l) (Some (big_number 2 (drop a (bytes_from f 0 n)))) None) (length-map-range_with_len f 0 n)
-    ∙ by_test (nat_le (a + 2) n) refl
-  where
-    by_test :
-        (inside : Bool) → nat_le (a + 2) n ≡ inside
-        → cond inside (Some (big_number 2 (drop a (bytes_from f 0 n)))) None ≡ cond inside (Some (big_number 2 (bytes_from f a 2))) None
-    by_test false inside = refl
-    by_test true inside =
-        let fits : a + 2 ≤ n = leb-true (a + 2) n inside in
-        let first : slice_index (drop a (bytes_from f 0 n)) 0 ≡ f a =
-        get_or-drop a (bytes_from f 0 n) 0 0 ∙ get_or-map-range_with_len f 0 n (a + 0) a 0 (omega arith) (omega arith) in
-        let second : slice_index (drop a (bytes_from f 0 n)) 1 ≡ f (a + 1) =
-        get_or-drop a (bytes_from f 0 n) 1 0 ∙ get_or-map-range_with_len f 0 n (a + 1) (a + 1) 0 (omega arith) (omega arith) in
-        rw (first, second) refl
+halfword-shown f n a = grind (arith, nat_tests, length-map-range_with_len, leb-true, get_or-drop, get_or-map-range_with_len)
 
 -- so the plan is the same
 pub plan-same :
@@ -93,17 +79,7 @@ module _ {S : Type 0} (plain : Plain) (cpu : Cpu) (seen : Seen S) (same : IsCpuO
         cpu = record { regs = linked link (filled to sign (seen.shown address bytes) regs); cs = cs; iar = next; printed = cpu.printed };
         state = seen.state;
       })
-  loaded-gives link regs cs next address bytes to sign part shown =
-      subst
-      (λ (bytes' : List ℕ). GivesAll (with_link link (On (record (moved plain regs cs next) { regs = filled to sign bytes' regs })))
-      (Does regs cs (Act.Load address bytes to sign) next link) plain cpu seen (record {
-        attempt = Attempt.Went;
-        cpu = record { regs = linked link (filled to sign (seen.shown address bytes) regs); cs = cs; iar = next; printed = cpu.printed };
-        state = seen.state;
-      }))
-      (sym shown)
-      (on-gives link (record (moved plain regs cs next) { regs = filled to sign (seen.shown address bytes) regs })
-      (Does regs cs (Act.Load address bytes to sign) next link) seen.state refl refl)
+  loaded-gives link regs cs next address bytes to sign part shown = grind (arith, nat_tests)
 
   -- a load by the answer of its access
   load-gives :
@@ -121,9 +97,7 @@ module _ {S : Type 0} (plain : Plain) (cpu : Cpu) (seen : Seen S) (same : IsCpuO
   load-gives link regs cs next address bytes to sign Probe.Permitted (Shared at) alike shown =
       loaded-gives link regs cs next address bytes to sign (slice_range plain.store at (at + bytes)) (shown refl)
   load-gives link regs cs next address bytes to sign Probe.Permitted (Refused code) alike shown = absurd alike
-  load-gives link regs cs next address bytes to sign (Probe.Check code) (Refused other) alike shown =
-      let is = check-linked link other ∙ ap Check (sym alike) in
-      (is, check-gives (with_link link (Check other)) (Does regs cs (Act.Load address bytes to sign) next link) code is)
+  load-gives link regs cs next address bytes to sign (Probe.Check code) (Refused other) alike shown = grind (arith, nat_tests, check-linked link other)
   load-gives link regs cs next address bytes to sign (Probe.Check code) (Private at) alike shown = absurd alike
   load-gives link regs cs next address bytes to sign (Probe.Check code) (Shared at) alike shown = absurd alike
   load-gives link regs cs next address bytes to sign (Probe.Fault fault) at alike shown = (refl, refl, refl)
@@ -146,9 +120,7 @@ module _ {S : Type 0} (plain : Plain) (cpu : Cpu) (seen : Seen S) (same : IsCpuO
       on-gives link (record (moved plain regs cs next) { store = overlaid plain.store at (stored_bytes regs bytes from) })
       (Does regs cs (Act.Store address bytes from) next link) (seen.stored address (stored_bytes regs bytes from)) refl refl
   store-gives link regs cs next address bytes from Probe.Permitted (Refused code) alike = absurd alike
-  store-gives link regs cs next address bytes from (Probe.Check code) (Refused other) alike =
-      let is = check-linked link other ∙ ap Check (sym alike) in
-      (is, check-gives (with_link link (Check other)) (Does regs cs (Act.Store address bytes from) next link) code is)
+  store-gives link regs cs next address bytes from (Probe.Check code) (Refused other) alike = grind (arith, nat_tests, check-linked link other)
   store-gives link regs cs next address bytes from (Probe.Check code) (Private at) alike = absurd alike
   store-gives link regs cs next address bytes from (Probe.Check code) (Shared at) alike = absurd alike
   store-gives link regs cs next address bytes from (Probe.Fault fault) at alike = (refl, refl, refl)
@@ -180,15 +152,8 @@ module _ {S : Type 0} (plain : Plain) (cpu : Cpu) (seen : Seen S) (same : IsCpuO
     act-gives (Act.Load address bytes to sign) regs cs next link shown =
         load-gives link regs cs next address bytes to sign (seen.answer (access_to address bytes false)) (located p d address bytes false)
         (alike (access_to address bytes false)) (shown (access_to address bytes false) refl)
-    act-gives (Act.Store address bytes from) regs cs next link shown =
-        store-gives link regs cs next address bytes from (seen.answer (access_to address bytes true)) (located p d address bytes true)
-        (alike (access_to address bytes true))
-    act-gives (Act.Print byte) regs cs next link shown =
-        subst
-        (λ (n : ℕ). GivesAll (with_link link (cond (nat_lt n 4096) (On (record (moved plain regs cs next) { out = plain.out ++ byte ∷ [] })) (Check 5)))
-        (Does regs cs (Act.Print byte) next link) plain cpu seen (tried seen cpu (Does regs cs (Act.Print byte) next link)))
-        (sym same.printed)
-        (print-gives link regs cs next byte (nat_lt cpu.printed 4096))
+    act-gives (Act.Store address bytes from) regs cs next link shown = grind (arith, nat_tests, store-gives)
+    act-gives (Act.Print byte) regs cs next link shown = grind (arith, nat_tests, print-gives link regs cs next byte (nat_lt cpu.printed 4096))
     act-gives Act.Commit regs cs next None shown = (refl, refl)
     act-gives Act.Commit regs cs next (Some link) shown = (refl, refl)
     act-gives (Act.Check code) regs cs next link shown = check-gives (with_link link (Check code)) (Does regs cs (Act.Check code) next link) code (check-linked link code)

@@ -1,5 +1,5 @@
 -- A storage with a program's segment registers checks accesses as the plain machine does.
-use Rattle.romp_cpu.proofs.Common.{refl, ℕ, zero, suc, ◌+◌, ◌/◌, ◌%◌, ◌^◌, nat_le, ◌&&◌, not, cond, Bool, true, false, slice_index_or, Option, Some, None, option_map, Result, Ok, Err, sym, subst, get_or-map, PageSize, Layout, length_of, start_of, Check, SegmentRegister, Virtual, virtual_at, located_under, Private, Shared, Refused, Program, Window, in_segment, in_window, in_register, Access, unless_absent_at, answered_at, answered, ChecksAlike, place_of, register_of_window, registers_of_program}
+use Rattle.romp_cpu.proofs.Common.{refl, ℕ, zero, suc, ◌+◌, ◌/◌, ◌%◌, ◌^◌, nat_le, ◌&&◌, not, cond, Bool, true, false, slice_index_or, Option, Some, None, option_map, Result, Ok, Err, get_or-map, PageSize, Layout, length_of, start_of, Check, Virtual, virtual_at, located_under, Private, Shared, Refused, Program, Window, in_segment, in_window, in_register, Access, unless_absent_at, answered_at, answered, ChecksAlike, place_of, register_of_window, registers_of_program, nat_tests, arith}
 
 -- an access that lies somewhere gets no check
 no-check : (absent refused : Option Virtual) (at : ℕ) → ChecksAlike (unless_absent_at absent refused) (Private at) × ChecksAlike (unless_absent_at absent refused) (Shared at)
@@ -54,11 +54,7 @@ module _ (page : PageSize) (is_in_frame : Virtual → Bool) (refuses : Virtual �
       (answered_at page is_in_frame refuses access (located_under page (slice_index_or (registers_of_program p d private).list i None) offset bytes store))
       (in_register p d i offset bytes store)
   register-alike p d private zero offset bytes store = private-alike private offset (nat_le (offset + bytes) 16384) store
-  register-alike p d private (suc i) offset bytes store =
-      subst
-      (λ (r : Option SegmentRegister). ChecksAlike (answered_at page is_in_frame refuses access (located_under page r offset bytes store)) (in_register p d (suc i) offset bytes store))
-      (sym (get_or-map (register_of_window d) p.windows i None))
-      (window-alike d (slice_index_or p.windows i None) offset bytes store)
+  register-alike p d private (suc i) offset bytes store = grind (arith, nat_tests, get_or-map (register_of_window d) p.windows i None, window-alike d (slice_index_or p.windows i None) offset bytes store)
 
 -- whatever its frames and entries are
 pub checks-alike :

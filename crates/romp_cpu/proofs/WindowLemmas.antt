@@ -11,23 +11,14 @@ window-segment :
     (directory : Layout) (window : Option Window) (r : SegmentRegister)
     → register_of_window directory window ≡ Some r → length_of directory r.segment ≡ Some r.bytes
 window-segment directory None r stands = absurd (cc)
-window-segment directory (Some window) r stands = by_length (length_of directory window.segment) refl stands
-  where
-    by_length :
-        (length : Option ℕ) → length_of directory window.segment ≡ length
-        → option_map (λ length. record { segment = window.segment; bytes = length; write = window.write }) length ≡ Some r
-        → length_of directory r.segment ≡ Some r.bytes
-    by_length None is stands = absurd (cc)
-    by_length (Some bytes) is stands = cc
+window-segment directory (Some window) r stands = grind (arith, nat_tests)
 
 -- so is what stands under each register of a program from 1 on
 pub register-window :
     (program : Program) (directory : Layout) (private i : ℕ) (r : SegmentRegister)
     → slice_index_or (registers_of_program program directory private).list (suc i) None ≡ Some r
     → length_of directory r.segment ≡ Some r.bytes
-register-window program directory private i r stands =
-    window-segment directory (slice_index_or program.windows i None) r
-    (sym (get_or-map (register_of_window directory) program.windows i None) ∙ stands)
+register-window program directory private i r stands = grind (arith, nat_tests, window-segment directory (slice_index_or program.windows i None) r (sym (get_or-map (register_of_window directory) program.windows i None) ∙ stands), get_or-map (register_of_window directory) program.windows i None)
 
 -- what is found by its identifier has it, and is in range where all are
 found-low :

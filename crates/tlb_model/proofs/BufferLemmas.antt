@@ -1,5 +1,6 @@
 -- The buffer after a pair came in, and after the pairs of a frame went.
-use Rattle.tlb_model.proofs.Common.{same_lists, get_or_default, All-filter, eq-eqb, ◌≡◌, ◌≢◌, ◌%◌, inl, inr, subst, ℕ, suc, ◌<◌, Bool, true, false, List, [], ◌∷◌, ◌++◌, length, drop, map, refl, sym, ◌∙◌, ap, arith, Some, None, All, ◌==◌, ◌&&◌, not, cond, filter, find, slice_index_or, slice_set, Option, option_map, option_to_list, get_or-map, map-set, length-map, All-push, All-drop, All-set, All-same, All-get_or, All-nil, All-cons, All-head, All-tail, and_parts, eqb-true, cases_lt, all_pairs_push, Key, holds, key_in, look_up, position-Some, cases_eq, get_or-set_same, get_or-set_other, length-set, Pair, Ways, class_of, page_of, pair_to, is_pair_of, pairs_in, remembered, after_table, after_found, with_newest, forgotten, AreApart, ArePlaced, IsOfTable, pairs_of, unless_of, ways_without, AreClasses}
+use Rattle.std.proofs.lemmas.Bool.Decides.{nat_tests}
+use Rattle.tlb_model.proofs.Common.{same_lists, get_or_default, All-filter, ◌≡◌, ◌≢◌, ◌%◌, inl, inr, subst, ℕ, suc, ◌<◌, Bool, true, false, List, [], ◌∷◌, ◌++◌, length, drop, map, refl, sym, ◌∙◌, ap, arith, Some, None, All, ◌==◌, not, cond, filter, find, slice_index_or, slice_set, Option, option_to_list, get_or-map, map-set, length-map, All-push, All-drop, All-set, All-same, All-get_or, All-nil, All-cons, All-head, All-tail, eqb-true, all_pairs_push, Key, holds, look_up, position-Some, cases_eq, get_or-set_same, get_or-set_other, length-set, Pair, Ways, class_of, page_of, pair_to, is_pair_of, pairs_in, remembered, after_table, after_found, with_newest, forgotten, AreApart, ArePlaced, IsOfTable, pairs_of, unless_of, ways_without, AreClasses}
 use Rattle.std.specs.Option.{option_map_or}
 use Rattle.std.proofs.Math.ListN.{get_or-eq_default}
 use Rattle.std.proofs.lemmas.List.Kept.{AllPairs-filter}
@@ -7,32 +8,18 @@ use Rattle.std.proofs.lemmas.List.Kept.{AllPairs-filter}
 -- what is left of a class
 without-pair : (frame : ℕ) (o : Option Pair) (rest : List Pair) → option_to_list (unless_of frame o) ++ filter (λ pair. not (pair.frame == frame)) rest ≡ filter (λ pair. not (pair.frame == frame)) (option_to_list o ++ rest)
 without-pair frame None rest = refl
-without-pair frame (Some pair) rest = by_test (pair.frame == frame)
-  where
-    by_test :
-        (b : Bool) → option_to_list (cond b None (Some pair)) ++ filter (λ p. not (p.frame == frame)) rest
-        ≡ cond (not b) (pair ∷ filter (λ p. not (p.frame == frame)) rest) (filter (λ p. not (p.frame == frame)) rest)
-    by_test true = refl
-    by_test false = refl
+without-pair frame (Some pair) rest = grind (arith, nat_tests)
 
 last-pair : (frame : ℕ) (o : Option Pair) → option_to_list (unless_of frame o) ≡ filter (λ pair. not (pair.frame == frame)) (option_to_list o)
 last-pair frame None = refl
-last-pair frame (Some pair) = by_test (pair.frame == frame)
-  where
-    by_test : (b : Bool) → option_to_list (cond b None (Some pair)) ≡ cond (not b) (pair ∷ []) []
-    by_test true = refl
-    by_test false = refl
+last-pair frame (Some pair) = grind (arith, nat_tests)
 
 pairs-without : (frame : ℕ) (ways : Ways) → pairs_of (ways_without frame ways) ≡ filter (λ pair. not (pair.frame == frame)) (pairs_of ways)
-pairs-without frame ways =
-    ap (λ (rest : List Pair). option_to_list (unless_of frame ways.older) ++ rest) (last-pair frame ways.newer)
-    ∙ without-pair frame ways.older (option_to_list ways.newer)
+pairs-without frame ways = grind (arith, nat_tests, last-pair, without-pair)
 
 pub classes-without : (frame : ℕ) (classes : List Ways) → map pairs_of (map (ways_without frame) classes) ≡ forgotten (map pairs_of classes) frame
 classes-without frame [] = refl
-classes-without frame (ways ∷ classes) =
-    ap (λ (pairs : List Pair). pairs ∷ map pairs_of (map (ways_without frame) classes)) (pairs-without frame ways)
-    ∙ ap (λ (rest : List (List Pair)). filter (λ pair. not (pair.frame == frame)) (pairs_of ways) ∷ rest) (classes-without frame classes)
+classes-without frame (ways ∷ classes) = grind (arith, nat_tests, classes-without frame classes, pairs-without)
 
 -- classes whose pairs are apart stay so without the pairs of a frame
 forgotten-apart : (classes : List (List Pair)) (frame : ℕ) → All AreApart classes → All AreApart (forgotten classes frame)
@@ -42,32 +29,13 @@ forgotten-apart (pairs ∷ classes) frame apart =
     (AllPairs-filter (λ pair other. page_of pair ≢ page_of other) (λ pair. not (pair.frame == frame)) pairs (All-head AreApart pairs classes apart))
     (forgotten-apart classes frame (All-tail AreApart pairs classes apart))
 
--- a pair is of its page, and of no other
-pair-is : (wanted : Key) (pair : Pair) → page_of pair ≡ wanted → is_pair_of wanted pair ≡ true
-pair-is wanted pair is =
-    ap (λ (key : Key). key.segment == wanted.segment && key.page == wanted.page) is
-    ∙ ap (λ b. b && wanted.page == wanted.page) (eq-eqb wanted.segment wanted.segment refl) ∙ eq-eqb wanted.page wanted.page refl
-
 page-is : (wanted : Key) (pair : Pair) → is_pair_of wanted pair ≡ true → page_of pair ≡ wanted
-page-is wanted pair is =
-    let parts = and_parts (pair.segment == wanted.segment) (pair.page == wanted.page) is in
-    same pair.segment pair.page wanted.segment wanted.page (eqb-true pair.segment wanted.segment parts.0) (eqb-true pair.page wanted.page parts.1)
-  where
-    same : (a b c d : ℕ) → a ≡ c → b ≡ d → (let key : Key = record { segment = a; page = b } in key) ≡ record { segment = c; page = d }
-    same a b c d first second = rw (first, second) refl
+page-is wanted pair is = grind (arith, nat_tests)
 
 -- where no pair of a class is of a page, each is of another
 others : (wanted : Key) (pairs : List Pair) → find (is_pair_of wanted) pairs ≡ None → All (λ pair. page_of pair ≢ wanted) pairs
 others wanted [] none = All-nil (λ pair. page_of pair ≢ wanted)
-others wanted (pair ∷ pairs) none = by_test (is_pair_of wanted pair) refl none (others wanted pairs)
-  where
-    by_test :
-        (b : Bool) → is_pair_of wanted pair ≡ b → cond b (Some pair) (find (is_pair_of wanted) pairs) ≡ None
-        → (find (is_pair_of wanted) pairs ≡ None → All (λ other. page_of other ≢ wanted) pairs) → All (λ other. page_of other ≢ wanted) (pair ∷ pairs)
-    by_test true is none rest = absurd (cc)
-    by_test false is none rest =
-        All-cons (λ other. page_of other ≢ wanted) pair pairs
-        (λ e. absurd (let clash : true ≡ false = sym (pair-is wanted pair e) ∙ is in cc)) (rest none)
+others wanted (pair ∷ pairs) none = grind (arith, nat_tests, others wanted pairs)
 
 -- what holds of each pair holds of the one that is found, which is of the page
 found-pair : (P : Pair → Type 0) (wanted : Key) (pairs : List Pair) (pair : Pair) → All P pairs → find (is_pair_of wanted) pairs ≡ Some pair → P pair × (page_of pair ≡ wanted)
@@ -85,10 +53,7 @@ found-pair P wanted (first ∷ pairs) pair all is =
 
 -- what holds of each pair of the classes holds of each pair of one
 inside-all : (P : Pair → Type 0) (classes : List (List Pair)) (class : ℕ) → (class < length classes → All P (pairs_in classes class)) → All P (pairs_in classes class)
-inside-all P classes class all = elim (cases_lt class (length classes)) [
-  | inl below ↦ all below
-  | inr past ↦ All-same P (pairs_in classes class) [] (get_or-eq_default classes [] past) (All-nil P)
-]
+inside-all P classes class all = grind (arith, nat_tests, get_or-eq_default)
 
 pub class-all : (P : Pair → Type 0) (classes : List (List Pair)) (class : ℕ) → All (All P) classes → All P (pairs_in classes class)
 class-all P classes class all = inside-all P classes class (λ below. All-get_or (All P) classes class [] below all)
@@ -113,9 +78,12 @@ pub remembered-of :
     (classes : List (List Pair)) (keys : List (Option Key)) (wanted : Key) (pair : Pair) → IsOfTable classes keys
     → find (is_pair_of wanted) (pairs_in classes (class_of wanted)) ≡ Some pair → look_up keys wanted ≡ Some pair.frame
 remembered-of classes keys wanted pair all is =
-    let told = found-pair (λ p. look_up keys (page_of p) ≡ Some p.frame) wanted (pairs_in classes (class_of wanted)) pair
-    (class-all (λ p. look_up keys (page_of p) ≡ Some p.frame) classes (class_of wanted) all) is in
-    sym (ap (look_up keys) told.1) ∙ told.0
+    grind (
+      arith,
+      nat_tests,
+      found-pair (λ p. look_up keys (page_of p) ≡ Some p.frame) wanted (pairs_in classes (class_of wanted)) pair (class-all (λ p. look_up keys (page_of p) ≡ Some p.frame) classes (class_of wanted) all) is,
+      class-all (λ p. look_up keys (page_of p) ≡ Some p.frame) classes (class_of wanted) all,
+    )
 
 -- the pairs of a class with a new one: what holds of all before and of the new one holds of all
 newest-all : (P : Pair → Type 0) (pairs : List Pair) (pair : Pair) → All P pairs → P pair → All P (with_newest pairs pair)
@@ -137,13 +105,7 @@ apart-pushed pairs pair apart different =
 -- a class stays apart, if the new pair is of a page of which it had none
 pub newest-apart :
     (pairs : List Pair) (wanted : Key) (frame : ℕ) → AreApart pairs → find (is_pair_of wanted) pairs ≡ None → AreApart (with_newest pairs (pair_to wanted frame))
-newest-apart pairs wanted frame apart none = by_test (length pairs == 2)
-  where
-    by_test : (b : Bool) → AreApart ((cond b (drop 1 pairs) pairs) ++ pair_to wanted frame ∷ [])
-    by_test true =
-        apart-pushed (drop 1 pairs) (pair_to wanted frame) (apart-rest pairs apart)
-        (All-drop (λ other. page_of other ≢ wanted) 1 pairs (others wanted pairs none))
-    by_test false = apart-pushed pairs (pair_to wanted frame) apart (others wanted pairs none)
+newest-apart pairs wanted frame apart none = grind (arith, nat_tests, drop, apart-pushed, apart-rest, others)
 
 -- the pairs of a class by its ways
 pub class-pairs : (classes : List Ways) (class : ℕ) (other : Ways) → class < length classes → pairs_in (map pairs_of classes) class ≡ pairs_of (slice_index_or classes class other)
@@ -151,28 +113,20 @@ class-pairs classes class other below = get_or-map pairs_of classes class other 
 
 -- the pairs of a class are of different pages
 pub class-apart : (classes : List Ways) (class : ℕ) (other : Ways) → class < length classes → AreClasses classes → AreApart (pairs_of (slice_index_or classes class other))
-class-apart classes class other below are =
-    subst AreApart (class-pairs classes class other below)
-    (All-get_or AreApart (map pairs_of classes) class [] (omega (arith, length-map classes pairs_of)) are.apart)
+class-apart classes class other below are = grind (arith, nat_tests, class-pairs, length-map)
 
 -- a pair came in for a page that the buffer didn't remember
 added-pairs : (classes : List Ways) (wanted : Key) (frame : ℕ) (other new : Ways) → class_of wanted < length classes
     → pairs_of new ≡ with_newest (pairs_of (slice_index_or classes (class_of wanted) other)) (pair_to wanted frame)
     → map pairs_of (slice_set classes (class_of wanted) new) ≡ after_table (map pairs_of classes) wanted (Some frame)
-added-pairs classes wanted frame other new below added =
-    map-set pairs_of classes (class_of wanted) new
-    ∙ ap (slice_set (map pairs_of classes) (class_of wanted)) (added ∙ ap (λ (pairs : List Pair). with_newest pairs (pair_to wanted frame)) (sym (class-pairs classes (class_of wanted) other below)))
+added-pairs classes wanted frame other new below added = grind (arith, nat_tests, map-set, class-pairs)
 
 pub after-added :
     (classes : List Ways) (wanted : Key) (frame : ℕ) (other new : Ways) → class_of wanted < length classes
     → find (is_pair_of wanted) (pairs_of (slice_index_or classes (class_of wanted) other)) ≡ None
     → pairs_of new ≡ with_newest (pairs_of (slice_index_or classes (class_of wanted) other)) (pair_to wanted frame)
     → map pairs_of (slice_set classes (class_of wanted) new) ≡ after_found (map pairs_of classes) (Some frame) wanted
-after-added classes wanted frame other new below none added =
-    added-pairs classes wanted frame other new below added
-    ∙ sym
-    (ap (λ (o : Option Pair). option_map_or (λ _. map pairs_of classes) (option_map (λ pair. pair.frame) o) (after_table (map pairs_of classes) wanted (Some frame)))
-    (ap (find (is_pair_of wanted)) (class-pairs classes (class_of wanted) other below) ∙ none))
+after-added classes wanted frame other new below none added = grind (arith, nat_tests, added-pairs, class-pairs)
 
 -- the pairs of the classes stand where they are to
 added-placed : (classes : List (List Pair)) (wanted : Key) (frame : ℕ) → class_of wanted < length classes → ArePlaced classes
@@ -219,13 +173,7 @@ after-of classes keys wanted all = by_memory (remembered classes wanted)
 
 -- pages that a table finds in one frame have one number
 one-page : (keys : List (Option Key)) (one other : Key) (frame : ℕ) → look_up keys one ≡ Some frame → look_up keys other ≡ Some frame → one.page ≡ other.page
-one-page keys one other frame here there = by_key (key_in keys frame) (position-Some (holds one) keys frame None here).1 (position-Some (holds other) keys frame None there).1
-  where
-    by_key : (held : Option Key) → holds one held ≡ true → holds other held ≡ true → one.page ≡ other.page
-    by_key None first second = absurd (cc)
-    by_key (Some key) first second =
-        sym (eqb-true key.page one.page (and_parts (key.segment == one.segment) (key.page == one.page) first).1)
-        ∙ eqb-true key.page other.page (and_parts (key.segment == other.segment) (key.page == other.page) second).1
+one-page keys one other frame here there = grind (arith, nat_tests, position-Some (holds one) keys frame None here, position-Some (holds other) keys frame None there)
 
 -- a class that isn't that of a page has no pair of the frame in which the table has the page
 no-pair : (keys : List (Option Key)) (key : Key) (frame class : ℕ) (pairs : List Pair) → look_up keys key ≡ Some frame → class ≢ class_of key

@@ -1,5 +1,5 @@
 -- Each pair of the buffer stays in the table where a frame enters, and where one leaves that the buffer forgot.
-use Rattle.tlb_model.proofs.Common.{◌≡◌, ◌≢◌, ◌⊎◌, inl, inr, ℕ, zero, suc, ◌+◌, ◌<◌, Bool, true, false, List, [], ◌∷◌, length, refl, sym, ◌∙◌, ap, arith, Some, None, All, ◌==◌, not, cond, filter, nat_lt, position, slice_index_or, slice_set, Option, and_parts, eqb-true, eqb-false, cases_eq, length-set, get_or-set_same, get_or-set_other, All-nil, All-cons, All-head, All-tail, All-weaker, position-Some, Key, holds, key_in, look_up, Pair, page_of, forgotten, IsOfTable}
+use Rattle.tlb_model.proofs.Common.{◌≡◌, ◌≢◌, ◌⊎◌, inl, inr, ℕ, zero, suc, ◌+◌, ◌<◌, Bool, true, false, List, [], ◌∷◌, length, refl, sym, ◌∙◌, ap, arith, Some, None, All, ◌==◌, not, cond, filter, nat_lt, position, slice_index_or, slice_set, Option, eqb-false, cases_eq, length-set, get_or-set_same, get_or-set_other, All-nil, All-cons, All-head, All-tail, All-weaker, position-Some, Key, holds, key_in, look_up, Pair, page_of, forgotten, IsOfTable}
 use Rattle.std.specs.List.{prefix_len}
 use Rattle.std.proofs.lemmas.Bool.Decides.{nat_tests}
 
@@ -19,9 +19,7 @@ below-is a b below = grind (arith, nat_tests)
 position-is :
     (p : Option Key → Bool) (xs : List (Option Key)) (at : ℕ) → at < length xs → p (slice_index_or xs at None) ≡ true
     → ((k : ℕ) → k < at → p (slice_index_or xs k None) ≡ false) → position p xs ≡ Some at
-position-is p xs at inside passes before =
-    ap (λ (n : ℕ). cond (nat_lt n (length xs)) (Some n) None) (prefix-is p xs at inside passes before)
-    ∙ ap (λ b. cond b (Some at) None) (below-is at (length xs) inside)
+position-is p xs at inside passes before = grind (arith, nat_tests, prefix-is, below-is)
 
 -- it stays where another place changes to what doesn't pass
 position-kept :
@@ -68,21 +66,7 @@ of_table-left (pairs ∷ classes) keys frame inside all =
 entered-pair :
     (keys : List (Option Key)) (frame : ℕ) (key : Key) → frame < length keys → key_in keys frame ≡ None → look_up keys key ≡ None
     → (pair : Pair) → look_up keys (page_of pair) ≡ Some pair.frame → look_up (slice_set keys frame (Some key)) (page_of pair) ≡ Some pair.frame
-entered-pair keys frame key inside free absent pair is =
-    position-kept (holds (page_of pair)) keys frame pair.frame (Some key) inside is (fails (holds (page_of pair) (Some key)) refl) other
-  where
-    same : (a b c d : ℕ) → a ≡ c → b ≡ d → (let one : Key = record { segment = a; page = b } in one) ≡ record { segment = c; page = d }
-    same a b c d first second = rw (first, second) refl
-
-    fails : (b : Bool) → holds (page_of pair) (Some key) ≡ b → holds (page_of pair) (Some key) ≡ false
-    fails false told = told
-    fails true told =
-        let parts = and_parts (key.segment == pair.segment) (key.page == pair.page) told in
-        let one = same key.segment key.page pair.segment pair.page (eqb-true key.segment pair.segment parts.0) (eqb-true key.page pair.page parts.1) in
-        absurd (let clash : None ≡ Some pair.frame = sym absent ∙ ap (look_up keys) one ∙ is in cc)
-
-    other : frame ≢ pair.frame
-    other = λ e. (let clash : true ≡ false = sym (position-Some (holds (page_of pair)) keys pair.frame None is).1 ∙ ap (λ (n : ℕ). holds (page_of pair) (key_in keys n)) (sym e) ∙ ap (holds (page_of pair)) free in cc)
+entered-pair keys frame key inside free absent pair is = grind (arith, nat_tests, position-kept, position-Some)
 
 pub of_table-entered :
     (classes : List (List Pair)) (keys : List (Option Key)) (frame : ℕ) (key : Key) → frame < length keys → key_in keys frame ≡ None → look_up keys key ≡ None

@@ -1,12 +1,10 @@
-use Rattle.inverted_table.proofs.Common.{ℕ, ◌-◌, ◌+◌, List, length, sym, ◌∙◌, ap, before_in}
+use Rattle.std.proofs.lemmas.Bool.Decides.{nat_tests}
+use Rattle.inverted_table.proofs.Common.{ℕ, ◌-◌, ◌+◌, List, length, sym, ◌∙◌, ap, before_in, arith}
 use Rattle.inverted_table.proofs.WalkLemmas.{walked-none, walked-one, ends-one, before-here, before-later, same-option, other-option}
 use Rattle.inverted_table.proofs.chain.before.Goals as goal
 
 pub returns-in_err-at : goal.returns-in_err-at
-returns-in_err-at c =
-    c.from_residual.ensures
-    ∙ sym (ap (λ (frames : List ℕ). before_in frames c.args.frame) (walked-none c.args.next.now (length c.args.next.now - c.loop.counter) c.loop.place c.in_err-at.was))
-    ∙ c.loop.invariant.same
+returns-in_err-at c = grind (arith, nat_tests, walked-none)
 
 pub returns-then-eq : goal.returns-then-eq
 returns-then-eq c =

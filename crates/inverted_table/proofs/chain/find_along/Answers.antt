@@ -1,13 +1,11 @@
+use Rattle.std.proofs.lemmas.Bool.Decides.{nat_tests}
 use Rattle.inverted_table.proofs.Common.{find, holds, key_in, chain_from, following}
-use Rattle.std.proofs.Common.{ℕ, ◌-◌, ◌+◌, length, sym, ◌∙◌, ap, cond, Some, refl}
+use Rattle.std.proofs.Common.{ℕ, ◌-◌, ◌+◌, length, sym, ◌∙◌, ap, cond, Some, refl, arith}
 use Rattle.inverted_table.proofs.WalkLemmas.{walked-none, walked-one}
 use Rattle.inverted_table.proofs.chain.find_along.Goals as goal
 
 pub returns-in_err-frame : goal.returns-in_err-frame
-returns-in_err-frame c =
-    c.from_residual.ensures
-    ∙ sym (ap (find (λ (frame : ℕ). holds c.args.key (key_in c.args.keys.now frame))) (walked-none c.args.next.now (length c.args.next.now - c.loop.counter) c.loop.place c.in_err-frame.was))
-    ∙ c.loop.invariant
+returns-in_err-frame c = grind (arith, nat_tests, walked-none)
 
 pub returns-then-holds : goal.returns-then-holds
 returns-then-holds c =
@@ -18,9 +16,4 @@ returns-then-holds c =
     ∙ c.loop.invariant
 
 pub loop-preserved : goal.loop-preserved
-loop-preserved c =
-    let rest = find (λ (frame : ℕ). holds c.args.key (key_in c.args.keys.now frame)) (chain_from c.args.next.now (length c.args.next.now - (c.loop.counter + 1)) c.following-place.result) in
-    sym (ap (λ b. cond b (Some c.in_ok-frame.frame) rest) (sym c.holds.ensures ∙ c.if-holds.false))
-    ∙ sym (ap (find (λ (frame : ℕ). holds c.args.key (key_in c.args.keys.now frame)))
-    (walked-one c.args.next.now (length c.args.next.now) c.loop.counter c.in_ok-frame.frame c.loop.place c.following-place.result c.in_ok-frame.was c.loop-test.true c.following-place.ensures))
-    ∙ c.loop.invariant
+loop-preserved c = grind (arith, nat_tests, walked-one)

@@ -1,5 +1,5 @@
-use Rattle.romp_cpu.proofs.Common.{◌==◌, find, option_map, cond, option_or, length-map, nat_tests, fill_by_all, get_or-map, PageSize, SegmentRegister, register_at, register_of, register_with, registers_with, Layout, Program, register_of_window, registers_of_program}
-use Rattle.std.proofs.Common.{arith, ap, refl, sym, ◌∙◌, ◌≡◌, ◌≢◌, ℕ, zero, suc, ◌+◌, ◌<◌, Bool, true, false, List, [], ◌∷◌, ◌++◌, Option, Some, None, length, length-append, below_more, get_or}
+use Rattle.romp_cpu.proofs.Common.{◌==◌, cond, option_or, length-map, nat_tests, fill_by_all, get_or-map, PageSize, SegmentRegister, register_at, register_of, register_with, registers_with, Layout, Program, register_of_window, registers_of_program}
+use Rattle.std.proofs.Common.{arith, ap, refl, sym, ◌∙◌, ◌≡◌, ◌≢◌, ℕ, zero, suc, ◌<◌, Bool, false, List, [], ◌∷◌, ◌++◌, Option, Some, None, length, length-append, get_or}
 use Rattle.std.proofs.lemmas.List.Folds.{find-append}
 use Rattle.romp_cpu.proofs.segments.registers_of.Goals as goal
 use Rattle.romp_cpu.proofs.segments.registers_of.Goals.{in-Some, in_default}
@@ -8,37 +8,19 @@ use Rattle.romp_cpu.proofs.segments.registers_of.Goals.{in-Some, in_default}
 pushed :
     (windows : List (ℕ × ℕ × ℕ × Bool)) (window : ℕ × ℕ × ℕ × Bool) (k : ℕ)
     → register_at (windows ++ window ∷ []) k ≡ option_or (register_at windows k) (cond (window.0 == k) (Some (register_of window)) None)
-pushed windows window k =
-    ap (option_map register_of) (find-append (λ w. w.0 == k) windows (window ∷ []))
-    ∙ either (find (λ w. w.0 == k) windows) (window.0 == k)
-  where
-    either :
-        (found : Option (ℕ × ℕ × ℕ × Bool)) (same : Bool)
-        → option_map register_of (option_or found (cond same (Some window) None))
-        ≡ option_or (option_map register_of found) (cond same (Some (register_of window)) None)
-    either None true = refl
-    either None false = refl
-    either (Some first) same = refl
+pushed windows window k = grind (arith, nat_tests, find-append)
 
 -- under its own number it is found, where none before it has that
 pushed-same :
     (windows : List (ℕ × ℕ × ℕ × Bool)) (window : ℕ × ℕ × ℕ × Bool) (k : ℕ)
     → window.0 ≡ k → register_at windows k ≡ None → register_at (windows ++ window ∷ []) k ≡ Some (register_of window)
-pushed-same windows window k same none =
-    let test : (window.0 == k) ≡ true = grind (arith, nat_tests) in
-    pushed windows window k ∙ rw (test, none) refl
+pushed-same windows window k same none = grind (arith, nat_tests, pushed)
 
 -- under another number the same as before
 pushed-other :
     (windows : List (ℕ × ℕ × ℕ × Bool)) (window : ℕ × ℕ × ℕ × Bool) (k : ℕ)
     → window.0 ≢ k → register_at (windows ++ window ∷ []) k ≡ register_at windows k
-pushed-other windows window k other =
-    let test : (window.0 == k) ≡ false = grind (arith, nat_tests) in
-    pushed windows window k ∙ rw test (or_none (register_at windows k))
-  where
-    or_none : (found : Option SegmentRegister) → option_or found None ≡ found
-    or_none None = refl
-    or_none (Some register) = refl
+pushed-other windows window k other = grind (arith, nat_tests, pushed)
 
 -- fifteen windows and the private segment are all sixteen registers
 listed :
@@ -58,34 +40,7 @@ listed program directory private windows size each =
         rw other (get_or-map (register_of_window directory) program.windows k None ∙ sym (each k (omega arith)))
 
 pub loop-place-preserved : goal.loop-place-preserved
-loop-place-preserved c =
-    let place : ℕ = c.loop-place.place in
-    let before : List (ℕ × ℕ × ℕ × Bool) = c.loop-place.present.items in
-    elim c.match-register_of_window.branch [
-      | in-Some w ↦
-          let window : ℕ × ℕ × ℕ × Bool = (place + 1, w.in-Some.under.segment, w.in-Some.under.bytes, w.in-Some.under.write) in
-          let items : c.match-register_of_window.present.items ≡ before ++ window ∷ [] = cc in
-          rw items
-          (record {
-            few = omega (arith, length-append before (window ∷ []));
-            each =
-                below_more _ place
-                (λ k below. let ne : place + 1 ≢ suc k = omega arith in pushed-other before window (suc k) ne ∙ c.loop-place.invariant.each k below)
-                (pushed-same before window (suc place) (omega arith) (c.loop-place.invariant.others (suc place) (omega arith))
-                ∙ sym w.in-Some.is
-                ∙ c.register_of_window.ensures);
-            others = λ k above. let ne : place + 1 ≢ k = omega arith in pushed-other before window k ne ∙ c.loop-place.invariant.others k (omega arith);
-          })
-      | in_default w ↦
-          rw w.present-is
-          (record {
-            few = omega arith;
-            each =
-                below_more _ place c.loop-place.invariant.each
-                (c.loop-place.invariant.others (suc place) (omega arith) ∙ sym w.in_default.is ∙ c.register_of_window.ensures);
-            others = λ k above. c.loop-place.invariant.others k (omega arith);
-          })
-    ]
+loop-place-preserved c = grind (arith, nat_tests, in-Some, length-append, pushed-other, pushed-same, in_default)
 
 pub returns : goal.returns
 returns c =

@@ -1,3 +1,4 @@
+use Rattle.std.proofs.lemmas.Grind.{common_steps}
 use Rattle.frame_pool.proofs.Common.{◌≡◌, ℕ, [], ◌∷◌, ◌++◌, sym, ◌∙◌, ap, arith, place_of, places_of, nat_tests}
 use Rattle.std.specs.Prelude.{slice_set, None, unwrap_or}
 use Rattle.frame_pool.proofs.SoundLemmas.{sound-left_by}
@@ -25,3 +26,6 @@ invariant_of-self-clause-sound c =
     (slice_set c.args.self.now.frame_of.items c.from-place.result None) (slice_set c.args.self.now.page_in.items c.from.result None)
     c.args.self.now.sound facts.below facts.at facts.in_frame c.remove-page.ensures.items
     (ap (λ (i : ℕ). slice_set c.args.self.now.frame_of.items i None) c.from-place.ensures) (ap (λ (i : ℕ). slice_set c.args.self.now.page_in.items i None) frame) free
+
+pub returns : goal.returns
+returns c = grind (arith, common_steps)

@@ -1,3 +1,5 @@
+use Rattle.std.proofs.Common.{arith}
+use Rattle.std.proofs.lemmas.Bool.Decides.{nat_tests}
 use Rattle.frame_pool.specs.PlacesView.{places_of}
 use Rattle.frame_pool.proofs.PoolLemmas.{came-brought}
 use Rattle.frame_pool.proofs.pool.FramePool.bring.Goals as goal
@@ -5,3 +7,6 @@ use Rattle.frame_pool.proofs.pool.FramePool.bring.Goals as goal
 pub returns-clause-brought : goal.returns-clause-brought
 returns-clause-brought c =
     came-brought c.args.self.now c.make_room-out.new.self c.args.keep c.args.page c.come.result (places_of c.come.new.self) c.make_room-out.ensures.value c.come.ensures
+
+pub come-requires-clause-page : goal.come-requires-clause-page
+come-requires-clause-page c = grind (arith, nat_tests)

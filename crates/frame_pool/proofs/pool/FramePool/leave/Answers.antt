@@ -1,3 +1,4 @@
+use Rattle.std.proofs.lemmas.Grind.{common_steps}
 use Rattle.frame_pool.proofs.Common.{◌≡◌, ℕ, ◌+◌, ◌*◌, sym, ◌∙◌, ap, arith, vec_len, slice_range, slice_index, unwrap_or, Option, get_or_read_under, page_bytes, left, frame_of_index, places_of, frame_at, gone, paging_after, pool_of, nat_tests}
 use Rattle.frame_pool.proofs.PoolLemmas.{frame-at_index, frame-within, frame-part, kept-after_by, left-gone}
 use Rattle.frame_pool.proofs.pool.FramePool.leave.Goals.{After-unwrap_or-frame}
@@ -33,3 +34,18 @@ returns-clause-value c =
     let kept : c.keep_over.new.kept ≡ paging_after (pool_of p) page frame =
     kept-after_by p page frame c.page_place.result c.written-marks.result c.part.result.now c.keep_over.new.kept c.written-marks.ensures c.page_place.ensures.value part c.keep_over.ensures.value in
     left-gone p c.args.index page frame (places_of c.leave.new.self) c.keep_over.new.kept c.requires is there after kept ∙ ap (gone (pool_of p)) is
+
+pub written-marks-requires : goal.written-marks-requires
+written-marks-requires c = grind (arith, common_steps)
+
+pub returns-clause-fewer : goal.returns-clause-fewer
+returns-clause-fewer c = grind (arith, common_steps)
+
+pub keep_over-requires : goal.keep_over-requires
+keep_over-requires c = grind (arith, common_steps)
+
+pub returns-clause-page : goal.returns-clause-page
+returns-clause-page c = grind (arith, common_steps)
+
+pub invariant_of-self-2 : goal.invariant_of-self-2
+invariant_of-self-2 c = grind (arith, common_steps)

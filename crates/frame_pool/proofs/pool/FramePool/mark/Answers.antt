@@ -8,3 +8,6 @@ index-requires c = grind (arith, nat_tests, page-in_frame)
 
 pub index_mut-requires : goal.index_mut-requires
 index_mut-requires c = grind (arith, nat_tests, page-in_frame)
+
+pub returns-in_default-clause-value : goal.returns-in_default-clause-value
+returns-in_default-clause-value c = grind (arith, nat_tests)

@@ -1,19 +1,11 @@
+use Rattle.std.proofs.lemmas.Bool.Decides.{nat_tests}
 use Rattle.inverted_table.proofs.Common.{◌≡◌, ℕ, ◌<◌, List, length, sym, ◌∙◌, ap, arith, vec_len, Some, Option, None, slice_set, get_or_read_under, Placed, key_in, hash_of, following, chain_of, before_in, IsChained, Key}
 use Rattle.inverted_table.proofs.LeaveLemmas.{found-before, before-below, leave-first, leave-behind}
 use Rattle.inverted_table.proofs.table.Table.leave.Goals as goal
 use Rattle.inverted_table.proofs.table.Table.leave.Goals.{in-Some-before, in-None}
 
 pub index_mut-requires : goal.index_mut-requires
-index_mut-requires c =
-    let anchors : List (Option ℕ) = c.self.inside.anchors.items in
-    let next : List (Option ℕ) = c.self.inside.next.items in
-    let own : ℕ = c.hash-hash.result in
-    let below : own < vec_len c.self.inside.anchors = omega (arith, c.hash-hash.ensures.below, c.len.ensures) in
-    let within : own < length anchors = omega (arith, below, c.self.inside.anchors.ok.0) in
-    let first = get_or_read_under anchors own (vec_len c.self.inside.anchors) c.index-2.result.now None c.index-2.ensures below c.self.inside.anchors.ok.0 in
-    let found = found-before anchors next c.deref.result.now own c.args.frame c.index-2.result.now c.before-2.result c.before-2.ensures c.deref.ensures.value first in
-    let inside = before-below anchors next c.self.inside.keys.items own c.args.frame c.in-Some-before.other c.self.invariant within (sym found ∙ c.in-Some-before.is) in
-    omega (arith, inside, c.from.ensures, c.self.inside.next.ok.0)
+index_mut-requires c = grind (arith, nat_tests, vec_len, get_or_read_under, found-before, before-below)
 
 pub invariant_of-self : goal.invariant_of-self
 invariant_of-self c =

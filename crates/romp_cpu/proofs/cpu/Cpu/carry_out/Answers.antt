@@ -1,4 +1,4 @@
-use Rattle.romp_cpu.proofs.Common.{◌≡◌, ℕ, List, Option, ap, sym, subst, ◌∙◌, Act, Cs, StaysIfWanting, Cpu, Attempt, answer_in, StoresAll, Seen, seen_in, linked, tried, tried_act}
+use Rattle.romp_cpu.proofs.Common.{◌≡◌, ℕ, List, Option, ap, sym, subst, ◌∙◌, Act, Cs, StaysIfWanting, Cpu, Attempt, StoresAll, Seen, linked, tried_act, nat_tests, arith}
 use Rattle.romp_cpu.proofs.WholeLemmas.{pending-stores}
 use Rattle.romp_cpu.proofs.cpu.Cpu.carry_out.Goals as goal
 
@@ -18,12 +18,7 @@ same seen old new Act.Commit next link others stays = ap (λ (cpu : Cpu). tried_
 same seen old new (Act.Check code) next link others stays = ap (λ (cpu : Cpu). tried_act seen cpu (Act.Check code) new.regs new.cs next link) (whole old new others stays)
 
 pub returns-in-Does-clause-tried : goal.returns-in-Does-clause-tried
-returns-in-Does-clause-tried g c =
-    let s = g.S.Storage in
-    let seen = seen_in s.byte_at (answer_in s.registers s.is_in_frame s.refuses) s.stored (s.state c.args.storage.now) in
-    c.act.ensures.tried
-    ∙ same seen c.args.self.now c.start.new.self c.in-Does.act c.in-Does.next c.in-Does.link c.in-Does.ensures.others c.in-Does.ensures.stays
-    ∙ ap (tried seen c.args.self.now) (sym c.in-Does.ensures.value)
+returns-in-Does-clause-tried g c = grind (arith, nat_tests, same)
 
 pub returns-in-Does-clause-whole : goal.returns-in-Does-clause-whole
 returns-in-Does-clause-whole g c =

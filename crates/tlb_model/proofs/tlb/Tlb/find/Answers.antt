@@ -1,14 +1,10 @@
+use Rattle.std.proofs.lemmas.Bool.Decides.{nat_tests}
 use Rattle.tlb_model.proofs.Common.{◌<◌, length, List, sym, ◌∙◌, ap, arith, find, key_of, Pair, is_pair_of, pairs_in, class_of}
 use Rattle.tlb_model.proofs.BufferLemmas.{remembered-of, class-pairs}
 use Rattle.tlb_model.proofs.tlb.Tlb.find.Goals as goal
 
 pub find_anew-requires : goal.find_anew-requires
-find_anew-requires c =
-    let wanted = key_of c.args.at in
-    let there : class_of wanted < length c.self.inside.classes = omega arith in
-    ap (λ (list : List (List Pair)). find (is_pair_of wanted) (pairs_in list (class_of wanted))) (sym c.self.view_is)
-    ∙ ap (find (is_pair_of wanted)) (class-pairs c.self.inside.classes (class_of wanted) _ there)
-    ∙ sym c.find.ensures ∙ c.in-None.is
+find_anew-requires c = grind (arith, nat_tests, class-pairs)
 
 pub returns-in-Some-clause-same : goal.returns-in-Some-clause-same
 returns-in-Some-clause-same c =

@@ -1,3 +1,4 @@
+use Rattle.std.proofs.lemmas.Bool.Decides.{nat_tests}
 use Rattle.tlb_model.proofs.Common.{◌≡◌, ℕ, ◌<◌, length, List, Some, None, sym, ◌∙◌, ap, arith, subst, Key, key_to, Pair, Ways, after_found, is_pair_of, pairs_in, class_of, IsOfTable, pairs_of}
 use Rattle.std.specs.Prelude.{find, Option, slice_index_or, map}
 use Rattle.tlb_model.proofs.BufferLemmas.{after-added, added-apart, after-of, class-pairs}
@@ -6,10 +7,7 @@ use Rattle.tlb_model.proofs.tlb.Tlb.find_anew.Goals as goal
 -- the class has no pair of the page
 none-in : (classes : List Ways) (seen : List (List Pair)) (wanted : Key) (other : Ways) → class_of wanted < length classes → map pairs_of classes ≡ seen
     → find (is_pair_of wanted) (pairs_in seen (class_of wanted)) ≡ None → find (is_pair_of wanted) (pairs_of (slice_index_or classes (class_of wanted) other)) ≡ None
-none-in classes seen wanted other there view none =
-    sym (ap (find (is_pair_of wanted)) (class-pairs classes (class_of wanted) other there))
-    ∙ ap (λ (list : List (List Pair)). find (is_pair_of wanted) (pairs_in list (class_of wanted))) view
-    ∙ none
+none-in classes seen wanted other there view none = grind (arith, nat_tests, class-pairs)
 
 pub invariant_of-self : goal.invariant_of-self
 invariant_of-self c =
