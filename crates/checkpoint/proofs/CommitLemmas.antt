@@ -1,6 +1,6 @@
 -- A record that is added behind a checkpoint.
-use Rattle.checkpoint.proofs.Common.{Option, None, Some, unwrap_or, nat_lt, if◌then◌else◌, Which, RecordLine, Standing, stands, one_more, KeptBank, area_end, needed_end, begun_of, number_of, with_record, IsEither, placed, turned, PageSize, emptied, roomy, other, slice_set, number_after, IsKeptAfter, IsMoreBy, SameShape, CountsKept, FailedLeaves, bank_appended, Elapses, FewerLater, Leaves, held_of, leaves_on}
-use Rattle.std.proofs.Common.{◌≡◌, inl, inr, ⊎_elim, ℕ, ◌+◌, ◌%◌, ◌^◌, ◌<◌, ◌≤◌, Bool, true, false, List, [], ◌∷◌, length, refl, sym, subst, ◌∙◌, ap, arith}
+use Rattle.checkpoint.proofs.Common.{Option, None, Some, unwrap_or, nat_lt, if◌then◌else◌, Which, RecordLine, Standing, stands, one_more, KeptBank, area_end, needed_end, begun_of, number_of, IsEither, placed, turned, PageSize, emptied, roomy, other, slice_set, number_after, IsKeptAfter, IsMoreBy, SameShape, CountsKept, FailedLeaves, bank_appended, Elapses, FewerLater, Leaves, held_of, leaves_on}
+use Rattle.std.proofs.Common.{◌≡◌, inl, inr, ⊎_elim, ℕ, ◌+◌, ◌<◌, ◌≤◌, Bool, true, false, List, [], ◌∷◌, length, refl, sym, subst, ◌∙◌, ap, arith}
 use Rattle.std.specs.Option.{option_map}
 use Rattle.std.proofs.lemmas.Bool.Decides.{nat_tests}
 use Rattle.redo_journal.proofs.TurnLemmas.{one_more_placed}
@@ -35,14 +35,10 @@ answered_by (Some told) kept fits is = ap Some (sym is)
 
 -- what is kept then, and how the disk's count stands behind calls that left it alone
 pub kept_after : (kept : Kept) (there old new : KeptBank) → new ≡ bank_appended (Some kept) there → IsKeptAfter kept there old new
-kept_after keeping.Done there old new is = is
-kept_after keeping.Unwritten there old new is = inl is
-kept_after keeping.Doubt there old new is = is
+kept_after kept there old new is = grind (arith, nat_tests)
 
 pub counts_on : {W : Type 0} (G : Ghosts W) (before mid after : W) (kept : Kept) → G.disk_faults mid ≡ G.disk_faults before → CountsKept G mid after kept → CountsKept G before after kept
-counts_on G before mid after keeping.Done same is = is ∙ same
-counts_on G before mid after keeping.Unwritten same is = omega (arith, is, same)
-counts_on G before mid after keeping.Doubt same is = omega (arith, is, same)
+counts_on G before mid after kept same is = grind (arith, nat_tests)
 
 pub shape_on : (old mid new : KeptBank) → SameShape old mid → SameShape mid new → SameShape old new
 shape_on old mid new first later = record { page = later.page ∙ first.page; bank_bytes = later.bank_bytes ∙ first.bank_bytes; lines = later.lines ∙ first.lines }
@@ -75,23 +71,13 @@ roomy_by P bank true there here = there
 roomy_by P bank false there here = here
 
 roomy_number : (bank : KeptBank) → number_of (roomy bank) ≡ number_of bank
-roomy_number bank =
-    let there : number_of (emptied bank) ≡ number_of bank = omega arith in
-    roomy_by (λ those. number_of those ≡ number_of bank) bank (nat_lt (area_end bank) (needed_end bank)) there refl
+roomy_number bank = grind (arith, nat_tests, roomy_by)
 
 roomy_count : (bank : KeptBank) → (roomy bank).count ≤ bank.count
 roomy_count bank = roomy_by (λ those. those.count ≤ bank.count) bank (nat_lt (area_end bank) (needed_end bank)) (omega arith) (omega arith)
 
 pub number_kept : (kept : Kept) (old new : KeptBank) → IsKeptAfter kept (roomy old) old new → number_of new ≡ number_after kept (number_of old)
-number_kept keeping.Done old new is =
-    let same = ap number_of is in
-    let more : number_of (with_record (roomy old)) ≡ (number_of (roomy old) + 1) % 2 ^ 64 = omega arith in
-    same ∙ more ∙ ap (λ (n : ℕ). (n + 1) % 2 ^ 64) (roomy_number old)
-number_kept keeping.Unwritten old new is = ⊎_elim (λ there. ap number_of there ∙ roomy_number old) (λ here. ap number_of here) is
-number_kept keeping.Doubt old new is = ap number_of is ∙ roomy_number old
+number_kept kept old new is = grind (arith, nat_tests, roomy_number)
 
 pub count_kept : (kept : Kept) (old new : KeptBank) → IsKeptAfter kept (roomy old) old new → new.count ≤ old.count + 1
-count_kept keeping.Done old new is = omega (arith, ap (λ (bank : KeptBank). bank.count) is, roomy_count old)
-count_kept keeping.Unwritten old new is =
-    ⊎_elim (λ there. let same : new.count ≡ (roomy old).count = ap (λ (bank : KeptBank). bank.count) there in omega (arith, same, roomy_count old)) (λ here. let same : new.count ≡ old.count = ap (λ (bank : KeptBank). bank.count) here in omega (arith, same)) is
-count_kept keeping.Doubt old new is = let same : new.count ≡ (roomy old).count = ap (λ (bank : KeptBank). bank.count) is in omega (arith, same, roomy_count old)
+count_kept kept old new is = grind (arith, nat_tests, roomy_count)

@@ -5,12 +5,11 @@ use Rattle.line_geometry.specs.Segments.{line_bytes}
 use Rattle.store_format.proofs.Widths.{lines-below}
 use Rattle.redo_journal.specs.Noted.{newest_place}
 use Rattle.redo_journal.proofs.Newest.{bytes_of_line, newest_bytes, store_agrees, held_records, newest_within, same_lines}
+use Rattle.std.proofs.lemmas.Bool.Decides.{nat_tests}
 
 -- a line of the home lines
 home_is : (header : Header) (image : List ℕ) (line : ℕ) → bytes_of_line header.directory.page line (home_of image header) ≡ home_line header image line
-home_is header image line =
-    let place : home_at header 0 + line * line_bytes header.directory.page ≡ home_at header line = omega arith in
-    ap (λ (these : List ℕ). take (line_bytes header.directory.page) these) (drop-drop (line * line_bytes header.directory.page) (home_at header 0) image) ∙ ap (λ (n : ℕ). take (line_bytes header.directory.page) (drop n image)) place
+home_is header image line = grind (arith, nat_tests, drop-drop)
 
 -- both banks lie in front of the home lines
 pub end_within : (which : Which) (bank : KeptBank) (lines : ℕ) → end_of which bank.bank_bytes ≤ home_place bank lines

@@ -2,6 +2,7 @@
 use Rattle.checkpoint.proofs.Common.{◌≡◌, inl, inr, ◌⊎◌, ℕ, ◌+◌, ◌%◌, ◌^◌, ◌<◌, ◌≤◌, List, [], ◌∷◌, length, drop, refl, sym, ◌∙◌, ap, arith, slice_index, ◌==◌, if◌then◌else◌, fold, get_or-drop, Which, A, B, Header, home_at, bank_at, RecordLine, area_at, IsStore, HasHeader, laid, home_of, chosen, stands, shorter_front, same_byte, area_within, same_header, header_held, base_behind, store_behind, store_front, store_empty, store_big, stands_alike, behind_bytes, line_count, written, Torn, torn_by_written, KeptBank, number_of, head_bytes, drop-written, other, selector_of, IsCovered, IsHomed, IsSame}
 use Rattle.redo_journal.proofs.HeadLemmas.{IsEmpty, head_empty, head_long}
 use Rattle.checkpoint.proofs.HomeLemmas.{covered_store, covered_bytes, homed_bytes}
+use Rattle.std.proofs.lemmas.Bool.Decides.{nat_tests}
 
 -- an image of the same store, with the same home lines
 pub record Alike (header : Header) (which : Which) (base gate : ℕ) (records : List (List RecordLine)) (old new : List ℕ) : Type 0 where
@@ -56,10 +57,7 @@ module _ (header : Header) (which : Which) (base gate : ℕ) (records : List (Li
 
 -- a selector chooses the one bank or the other
 pub one_of_two : (which those : Which) → (those ≡ which) ⊎ (those ≡ other which)
-one_of_two A A = inl refl
-one_of_two A B = inr refl
-one_of_two B A = inr refl
-one_of_two B B = inl refl
+one_of_two which those = grind (arith, nat_tests)
 
 -- the byte that was written chooses its bank
 pub selected : (old : List ℕ) (which : Which) → 129 ≤ length old → chosen (written old 128 (selector_of which ∷ [])) ≡ which

@@ -1,16 +1,15 @@
 -- What a crash leaves of calls that write, one after another, from images on that weren't sure.
-use Rattle.checkpoint.proofs.Common.{◌≡◌, ⊎_elim, ℕ, List, [], sym, ap, subst, Elapses, LeavesStep, IsDurable, Leaves, OnlyAsks, FewerLater, held_of, Writes, written, IsSure}
+use Rattle.checkpoint.proofs.Common.{◌≡◌, ⊎_elim, ℕ, List, [], ap, Elapses, LeavesStep, IsDurable, Leaves, OnlyAsks, FewerLater, held_of, Writes, written, IsSure}
 use Rattle.std.specs.Prelude.{Option, None, Some, Result, Ok, Err, OnOk, IsSome, IsTrue, unwrap_or}
 use Rattle.outside.specs.declared.world.Outside.{Ghosts}
+use Rattle.std.proofs.lemmas.Bool.Decides.{nat_tests}
+use Rattle.std.proofs.Common.{arith}
 
 module _ {W : Type 0} (G : Ghosts W) (fewer_later : FewerLater G) (old mid new : W) (before : Elapses G.moment G.left_since old mid) (time : Elapses G.moment G.left_since mid new) where
   -- each image after a step is one of those before it
   pub leaves_step : (P Q : List ℕ → List ℕ → Type 0) (step : List ℕ → List ℕ → Type 0) → Leaves G P old mid → LeavesStep step G.moment G.left_since mid new
       → ((image seen : List ℕ) → P image seen → Q image seen) → ((start image seen : List ℕ) → P start seen → step start image → Q image seen) → Leaves G Q old new
-  leaves_step P Q step so_far follows same goes image seen left =
-      ⊎_elim (λ past. same image seen (so_far image seen past))
-      (λ since. let from = follows image seen since in goes from.0 image seen (so_far from.0 seen (fewer_later mid (G.moment old) (G.moment mid) from.0 seen before.later from.1)) from.2)
-      (time.nothing_else (G.moment old) image seen before.later left)
+  leaves_step P Q step so_far follows same goes image seen left = grind (arith, nat_tests)
 
   -- a step after calls that only ask
   pub follows_asked : (step : List ℕ → List ℕ → Type 0) → ((image : List ℕ) → step image image) → IsSome (G.held old) → OnlyAsks G old mid → LeavesStep step G.moment G.left_since mid new → LeavesStep step G.moment G.left_since old new
@@ -30,11 +29,7 @@ written_held (Some held) new at bytes done told writes = ap (λ (those : Option 
 
 -- bytes are sure after a sync that succeeded
 pub synced_sure : {W : Type 0} (G : Ghosts W) (old new : W) → OnlyAsks G old new → IsTrue (G.is_honest old) → IsSome (G.held old) → IsDurable G.moment G.left_since G.held new → IsSure G new
-synced_sure G old new asks honest told durable = record {
-  honest = subst (λ b. IsTrue b) (sym asks.calls.honest) honest;
-  told = subst (λ (those : Option (List ℕ)). IsSome those) (sym asks.held) told;
-  durable = durable;
-}
+synced_sure G old new asks honest told durable = grind (arith, nat_tests)
 
 -- a fact on success that leads to another
 pub map_ok : {T E P Q : Type 0} (result : Result T E) → OnOk result P → (P → Q) → OnOk result Q

@@ -1,11 +1,12 @@
 -- A page whose home lines have the newest lines over them.
-use Rattle.restart.proofs.Common.{◌≡◌, inl, inr, ℕ, ◌+◌, ◌*◌, ◌-◌, ◌<◌, ◌≤◌, List, length, take, drop, get_or, refl, sym, ◌∙◌, ap, arith, Option, None, Some, IfSome, fold, slice_range, is_some, true, false, drop-drop, drop-take, take-take, length-drop, length-take-le, places, page_count, line_count, PageSize, page-lines, line_bytes, Header, home_at, Standing, laid, home_of, stands, stands_is, bytes_at, bytes_of_line, newest_bytes, same_line, other_line, same_lines, Agree, store_agrees, KeptStore, Shows, page_in, newest_over}
+use Rattle.restart.proofs.Common.{◌≡◌, inl, inr, ℕ, ◌+◌, ◌*◌, ◌-◌, ◌<◌, ◌≤◌, List, length, take, drop, get_or, refl, sym, ◌∙◌, ap, arith, Option, None, Some, IfSome, fold, slice_range, is_some, true, false, drop-drop, drop-take, take-take, length-drop, length-take-le, places, page_count, line_count, PageSize, page-lines, line_bytes, Header, home_at, laid, home_of, stands, stands_is, bytes_at, bytes_of_line, newest_bytes, same_line, other_line, same_lines, Agree, store_agrees, KeptStore, Shows, page_in, newest_over}
 use Rattle.std.specs.List.{list_any}
 use Rattle.std.proofs.lemmas.List.Folds.{list_any_at}
 use Rattle.std.proofs.lemmas.Bool.{cases_eq}
 use Rattle.store_format.proofs.Widths.{lines-below, lines-within}
 use Rattle.redo_journal.specs.Noted.{newest_place}
 use Rattle.restart.proofs.ShowLemmas.{shown_store}
+use Rattle.std.proofs.lemmas.Bool.Decides.{nat_tests}
 
 -- the lines up to one are the newest, and those from it on are at home
 pub record Composed (size : PageSize) (image home : List ℕ) (newest : List (Option ℕ)) (first i : ℕ) (page : List ℕ) : Type 0 where
@@ -16,21 +17,10 @@ pub record Composed (size : PageSize) (image home : List ℕ) (newest : List (Op
 line_of_part : (size : PageSize) (bytes : List ℕ) (at k : ℕ) → k < 16 → bytes_of_line size k (take (16 * line_bytes size) (drop at bytes)) ≡ take (line_bytes size) (drop (at + k * line_bytes size) bytes)
 line_of_part size bytes at k few =
     let whole : (16 * line_bytes size) ≡ k * line_bytes size + ((16 * line_bytes size) - k * line_bytes size) = omega (arith, lines-below size k 16 few) in
-    ap (λ (n : ℕ). take (line_bytes size) (drop (k * line_bytes size) (take n (drop at bytes)))) whole
-    ∙ ap (λ (these : List ℕ). take (line_bytes size) these) (drop-take (k * line_bytes size) ((16 * line_bytes size) - k * line_bytes size) (drop at bytes))
-    ∙ take-take (line_bytes size) ((16 * line_bytes size) - k * line_bytes size) (drop (k * line_bytes size) (drop at bytes)) (omega (arith, lines-below size k 16 few))
-    ∙ ap (λ (these : List ℕ). take (line_bytes size) these) (drop-drop (k * line_bytes size) at bytes)
+    cc (whole, drop-take (k * line_bytes size) ((16 * line_bytes size) - k * line_bytes size) (drop at bytes), take-take (line_bytes size) ((16 * line_bytes size) - k * line_bytes size) (drop (k * line_bytes size) (drop at bytes)) (omega (arith, lines-below size k 16 few)), drop-drop (k * line_bytes size) at bytes)
 
 pub composed_none : (image : List ℕ) (header : Header) (newest : List (Option ℕ)) (first : ℕ) (page : List ℕ) → page ≡ bytes_at image (home_at header first) (16 * line_bytes header.directory.page) → Composed header.directory.page image (home_of image header) newest first 0 page
-composed_none image header newest first page is = record {
-  done = λ k few. absurd (omega arith);
-  left = λ k more few.
-      let place : home_at header first + k * line_bytes header.directory.page ≡ home_at header 0 + (first + k) * line_bytes header.directory.page = omega arith in
-      ap (bytes_of_line header.directory.page k) is
-      ∙ line_of_part header.directory.page image (home_at header first) k few
-      ∙ ap (λ (n : ℕ). take (line_bytes header.directory.page) (drop n image)) place
-      ∙ ap (λ (these : List ℕ). take (line_bytes header.directory.page) these) (sym (drop-drop ((first + k) * line_bytes header.directory.page) (home_at header 0) image));
-}
+composed_none image header newest first page is = grind (arith, nat_tests, line_of_part, drop-drop)
 
 pub composed_more : (size : PageSize) (image home : List ℕ) (newest : List (Option ℕ)) (first i : ℕ) (page new : List ℕ) (place : Option ℕ) → i < 16 → length page ≡ (16 * line_bytes size) → place ≡ get_or newest (first + i) None
     → ((at : ℕ) → place ≡ Some at → at + line_bytes size ≤ length image) → new ≡ newest_over (line_bytes size) image place page (i * line_bytes size) → Composed size image home newest first i page → Composed size image home newest first (i + 1) new
@@ -91,10 +81,7 @@ nowhere newest first k long none few = by_place (get_or newest (first + k) None)
 
 -- where none of the sixteen lines is in the bank, the page at home is that of the store
 pub composed_at_home : (size : PageSize) (image home : List ℕ) (newest : List (Option ℕ)) (first : ℕ) (page : List ℕ) → first + 16 ≤ length newest → list_any is_some (slice_range newest first (first + 16)) ≡ false → Composed size image home newest first 0 page → Composed size image home newest first 16 page
-composed_at_home size image home newest first page long none composed = record {
-  done = λ k few. composed.left k (omega arith) few ∙ ap (newest_bytes size image home (first + k)) (sym (nowhere newest first k long none few));
-  left = λ k past few. absurd (omega (arith, past, few));
-}
+composed_at_home size image home newest first page long none composed = grind (arith, nat_tests, nowhere)
 
 -- with all sixteen lines the page is that of the store
 pub composed_all : (size : PageSize) (image home bytes : List ℕ) (newest : List (Option ℕ)) (places : ℕ → Option ℕ) (bound page_number : ℕ) (page : List ℕ) → Agree size bound image home bytes places → ((k : ℕ) → k < bound → get_or newest k None ≡ places k) → page_number * 16 + 16 ≤ bound → length page ≡ (16 * line_bytes size)
@@ -115,10 +102,7 @@ pub shown_page : (held : List ℕ) (store : KeptStore) (shows : Shows held store
 shown_page held store shows page page_number within long composed =
     let is = shown_store held store shows in
     let bytes = fold (laid store.header.directory.page) (home_of held store.header) shows.read.records in
-    composed_all store.header.directory.page held (home_of held store.header) bytes store.bank.newest (λ k. newest_place k shows.read.records) (line_count store.header.directory) page_number page (store_agrees held store.header store.bank.which store.bank.base store.bank.gate shows.read.records is)
-    (λ k below. shows.read.newest k (omega (arith, below, shows.fits.lines))) (omega (arith, within)) long composed
-    ∙ ap (λ (n : ℕ). take n (drop (page_number * n) bytes)) (sym (page-lines store.header.directory.page))
-    ∙ ap (λ (standing : Standing). page_in standing page_number) (sym (stands_is held store.header store.bank.which store.bank.base store.bank.gate shows.read.records is))
+    cc (composed_all store.header.directory.page held (home_of held store.header) bytes store.bank.newest (λ k. newest_place k shows.read.records) (line_count store.header.directory) page_number page (store_agrees held store.header store.bank.which store.bank.base store.bank.gate shows.read.records is) (λ k below. shows.read.newest k (omega (arith, below, shows.fits.lines))) (omega (arith, within)) long composed, page-lines store.header.directory.page, stands_is held store.header store.bank.which store.bank.base store.bank.gate shows.read.records is)
 
 pub placed_at : (size : PageSize) (place : Option ℕ) (at end : ℕ) → place ≡ Some at → IfSome place (λ those. those + line_bytes size ≤ end) → at + line_bytes size ≤ end
 placed_at size None at end is within = cc

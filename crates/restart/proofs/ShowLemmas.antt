@@ -1,5 +1,5 @@
 -- What a store shows of bytes, and what these stand for.
-use Rattle.restart.proofs.Common.{◌≡◌, ⊎_elim, ℕ, ◌+◌, ◌*◌, ◌%◌, ◌^◌, ◌≤◌, List, [], ◌∷◌, ◌++◌, length, take, refl, sym, ◌∙◌, ap, subst, arith, IsSome, IsTrue, Option, None, fold, unwrap_or, Result, Ok, Err, IfErr, line_count, line_bytes, Header, bank_at, number_at, header_of, total, PageSize, Stands, Damaged, stands, standing_if, standing_by, HasHeader, IsStore, chosen, laid, home_of, stands_is, not_less, OnlyAsks, FewerLater, held_of, AreTold, IsChosen, other, emptied, HoldsCommitted, ReopenFault, IsStoreOpenFault, IsStoreReopenFault, KeptStore, Fits, number_of, with_begun, Shows, IsStoreWith, IsReopened, TracksStore, ShownStands}
+use Rattle.restart.proofs.Common.{◌≡◌, ⊎_elim, ℕ, ◌+◌, ◌%◌, ◌^◌, ◌≤◌, List, [], ◌∷◌, ◌++◌, length, take, refl, sym, ◌∙◌, ap, subst, arith, IsSome, Option, None, fold, unwrap_or, Result, Ok, Err, IfErr, line_count, Header, bank_at, number_at, header_of, total, PageSize, Stands, Damaged, stands, standing_if, standing_by, HasHeader, IsStore, chosen, laid, home_of, stands_is, not_less, OnlyAsks, FewerLater, held_of, IsChosen, other, emptied, HoldsCommitted, ReopenFault, IsStoreOpenFault, IsStoreReopenFault, KeptStore, Fits, number_of, with_begun, Shows, IsStoreWith, IsReopened, TracksStore, ShownStands}
 use Rattle.store_format.specs.declared.header.Which.{Which}
 use Rattle.store_format.specs.declared.header.Which.TheVariants.{A, B}
 use Rattle.store_format.specs.Bank.{RecordLine, Holds, Faulty, base_of, bank_of, bank_held}
@@ -15,6 +15,7 @@ use Rattle.checkpoint.specs.Chosen as opened
 use Rattle.redo_journal.specs.declared.fault.ReopenFault.TheVariants as reopening
 use Rattle.redo_journal.specs.declared.fault.OpenFault.TheVariants as opening
 use Rattle.redo_journal.specs.Tracks as journal
+use Rattle.std.proofs.lemmas.Bool.Decides.{nat_tests}
 
 -- the bank of a header is the one that such a bank's size says
 pub bank_is : (held : List ℕ) (header : Header) (which : Which) (page : PageSize) (bytes bound : ℕ) → header.directory.page ≡ page → header.bank_bytes ≡ bytes → line_count header.directory ≡ bound → bank_of held header which ≡ bank_in held page which bytes bound
@@ -58,10 +59,7 @@ bank_tracked G store outside tracks = record {
 
 -- a store whose bank is as the header says is as long as the bank thinks
 pub total_is : (header : Header) (bank : KeptBank) → Fits header bank → total header ≡ store_bytes bank
-total_is header bank fits =
-    ap (λ (page : PageSize). 272 + 2 * header.bank_bytes + line_bytes page * line_count header.directory) fits.page
-    ∙ ap (λ (n : ℕ). 272 + 2 * n + line_bytes bank.page * line_count header.directory) fits.bank_bytes
-    ∙ ap (λ (n : ℕ). 272 + 2 * bank.bank_bytes + line_bytes bank.page * n) fits.lines
+total_is header bank fits = grind (arith, nat_tests)
 
 -- a bank that is tracked under a header is the store's
 pub store_tracked : {W : Type 0} (G : Ghosts W) (header : Header) (bank : KeptBank) (outside : W) → Fits header bank → header_of (take 128 (held_of G outside)) ≡ header → journal.TracksBank G bank outside
@@ -103,13 +101,7 @@ damaged_is held header which offset has chooses faulty =
 
 -- bytes that are sure stay sure while the disk is only asked
 pub sure_on : {W : Type 0} (G : Ghosts W) (fewer_later : FewerLater G) (old new : W) → IsSure G old → OnlyAsks G old new → IsSure G new
-sure_on G fewer_later old new sure asks = record {
-  honest = subst (λ b. IsTrue b) (sym asks.calls.honest) sure.honest;
-  told = subst (λ (those : Option (List ℕ)). IsSome those) (sym asks.held) sure.told;
-  durable = λ image seen left.
-      subst (λ (those : Option (List ℕ)). AreTold those image) (sym asks.held)
-      (sure.durable image seen (asks.crash sure.told image seen (fewer_later new (G.moment old) (G.moment new) image seen asks.calls.time.later left)));
-}
+sure_on G fewer_later old new sure asks = grind (arith, nat_tests)
 
 -- what is wrong with the chosen bank is wrong with the store
 pub opening_fault : {W : Type 0} (G : Ghosts W) (old mid new : W) (header : Header) (fault : OpenFault) → OnlyAsks G old mid → (IsSome (G.held old) → HasHeader (held_of G old) header) → opened.IsChosenOpenFault G mid new header fault → IsStoreOpenFault G old new fault
@@ -124,14 +116,7 @@ opening_fault G old mid new header opening.Memory asks has is = tt
 
 -- the same of a store that is reopened
 pub reopening_fault : {W : Type 0} (G : Ghosts W) (old mid new : W) (header : Header) (bank : KeptBank) (fault : ReopenFault) → Fits header bank → OnlyAsks G old mid → opened.IsChosenReopenFault G mid new bank fault → IsStoreReopenFault G old new header fault
-reopening_fault G old mid new header bank (reopening.Damaged offset) fits asks is =
-    λ told.
-    let still : IsSome (G.held mid) = subst (λ (those : Option (List ℕ)). IsSome those) (sym asks.held) told in
-    let same : held_of G mid ≡ held_of G old = ap (λ (those : Option (List ℕ)). unwrap_or those []) asks.held in
-    bank_is (held_of G old) header (chosen (held_of G old)) bank.page bank.bank_bytes (length bank.newest) fits.page fits.bank_bytes fits.lines
-    ∙ ap (λ (held : List ℕ). bank_in held bank.page (chosen held) bank.bank_bytes (length bank.newest)) (sym same)
-    ∙ is still
-reopening_fault G old mid new header bank reopening.DiskFault fits asks is = omega (arith, is, asks.calls.disk)
+reopening_fault G old mid new header bank fault fits asks is = grind (arith, nat_tests, bank_is)
 
 -- a store that is intact under a header has no fault in its bank
 pub intact_fault : {W : Type 0} (G : Ghosts W) (old new : W) (header : Header) (fault : ReopenFault) → IsSome (G.held old) → IsStoreWith header (held_of G old) → IsStoreReopenFault G old new header fault → fault ≡ reopening.DiskFault
@@ -188,9 +173,4 @@ committed_intact header bank records held one =
 
 -- a store with a record begun shows what it did
 pub shows_begun : (store : KeptStore) (lines : List RecordLine) (held : List ℕ) → Shows held store → Shows held (with_begun store lines)
-shows_begun store lines held shows = record {
-  header = shows.header;
-  chosen_is = shows.chosen_is;
-  read = record { base = shows.read.base; records = shows.read.records; holds = shows.read.holds; count = shows.read.count; newest = shows.read.newest };
-  fits = record { page = shows.fits.page; bank_bytes = shows.fits.bank_bytes; lines = shows.fits.lines };
-}
+shows_begun store lines held shows = grind (arith, nat_tests)

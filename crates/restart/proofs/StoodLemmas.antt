@@ -1,5 +1,5 @@
 -- The committed bytes of a store that bytes show.
-use Rattle.restart.proofs.Common.{◌≡◌, ℕ, ◌+◌, ◌%◌, ◌^◌, List, length, sym, ◌∙◌, ap, fold, byte_count, byte_count-lines, Stands, stands, laid, home_of, stands_is, store_agrees, KeptStore, number_of, Shows}
+use Rattle.restart.proofs.Common.{◌≡◌, ℕ, List, length, sym, ◌∙◌, fold, byte_count, byte_count-lines, Stands, stands, laid, home_of, stands_is, store_agrees, KeptStore, number_of, Shows}
 use Rattle.line_geometry.specs.FlatStore.{FlatStore}
 use Rattle.restart.proofs.ShowLemmas.{shown_store}
 
@@ -13,8 +13,7 @@ pub stood-store : (held : List ℕ) (store : KeptStore) (shows : Shows held stor
 unfolding committed_in
 stood-store held store shows =
     let flat : FlatStore = record { directory = store.header.directory; bytes = fold (laid store.header.directory.page) (home_of held store.header) shows.read.records } in
-    stands_is held store.header store.bank.which store.bank.base store.bank.gate shows.read.records (shown_store held store shows)
-    ∙ ap (λ (n : ℕ). Stands ((store.bank.base + n) % 2 ^ 64) flat) shows.read.count
+    cc (stands_is held store.header store.bank.which store.bank.base store.bank.gate shows.read.records (shown_store held store shows), shows.read.count)
 
 -- and they are as many as its directory says
 pub committed-long : (held : List ℕ) (store : KeptStore) (shows : Shows held store) → length (committed_in held store shows) ≡ byte_count store.header.directory

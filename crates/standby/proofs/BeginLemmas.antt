@@ -1,6 +1,7 @@
 -- The lines of a record of a text.
-use Rattle.standby.proofs.Common.{◌≡◌, ℕ, zero, suc, ◌+◌, ◌-◌, ◌*◌, ◌/◌, ◌<◌, ◌≤◌, List, [], ◌∷◌, length, take, drop, get_or, refl, sym, ◌∙◌, ap, arith, All, drop-drop, PageSize, RecordLine, record_bytes, entry_bytes, ShipLine, AreLines, parted, told}
+use Rattle.standby.proofs.Common.{◌≡◌, ℕ, zero, suc, ◌+◌, ◌-◌, ◌*◌, ◌/◌, ◌<◌, ◌≤◌, List, [], ◌∷◌, length, take, drop, get_or, refl, sym, ap, arith, All, drop-drop, PageSize, RecordLine, record_bytes, entry_bytes, ShipLine, AreLines, parted, told}
 use Rattle.line_geometry.specs.declared.directory.PageSize.TheVariants.{Two, Four}
+use Rattle.std.proofs.lemmas.Bool.Decides.{nat_tests}
 
 pub length-parted : (bytes : ℕ) (lines all : List ℕ) → length (parted bytes lines all) ≡ length lines
 length-parted bytes [] all = refl
@@ -18,10 +19,7 @@ get_or-parted bytes [] all i lt = absurd (omega (arith, lt))
 get_or-parted bytes (line ∷ lines) all zero lt =
     let none : bytes * 0 ≡ 0 = omega arith in
     ap (λ (n : ℕ). let it : ShipLine = record { line = line; bytes = take bytes (drop n all) } in it) (sym none)
-get_or-parted bytes (line ∷ lines) all (suc i) lt =
-    let step : bytes + bytes * i ≡ bytes * suc i = omega arith in
-    get_or-parted bytes lines (drop bytes all) i (omega (arith, lt))
-    ∙ ap (λ (these : List ℕ). let it : ShipLine = record { line = get_or lines i 0; bytes = take bytes these } in it) (drop-drop (bytes * i) bytes all ∙ ap (λ (n : ℕ). drop n all) step)
+get_or-parted bytes (line ∷ lines) all (suc i) lt = grind (arith, nat_tests, get_or-parted bytes lines (drop bytes all) i, drop-drop)
 
 -- each lies below the bound, and above those before it
 pub line_below : (bytes bound least : ℕ) (lines : List ShipLine) (i : ℕ) → AreLines bytes bound least lines → i < length lines → (get_or lines i no_line).line < bound

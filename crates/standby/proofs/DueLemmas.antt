@@ -3,6 +3,7 @@ use Rattle.standby.proofs.Common.{◌≡◌, ℕ, zero, suc, ◌-◌, ◌≤◌,
 use Rattle.std.proofs.Math.ListN.{get_or-map}
 use Rattle.standby.specs.declared.text.Ship.{Ship}
 use Rattle.standby.proofs.BeginLemmas.{length-parted}
+use Rattle.std.proofs.lemmas.Bool.Decides.{nat_tests}
 
 all_unmap : {X Y : Type 0} (P : Y → Type 0) (f : X → Y) (xs : List X) → All P (map f xs) → All (λ x. P (f x)) xs
 all_unmap P f xs all k d lt = subst P (get_or-map f xs k d) (all k (f d) (omega (arith, lt, length-map xs f)))
@@ -10,11 +11,7 @@ all_unmap P f xs all k d lt = subst P (get_or-map f xs k d) (all k (f d) (omega 
 -- each record fits the store
 fits_all : (header : Header) (bytes lines : ℕ) (records : List ShipRecord) → bytes ≡ line_bytes header.directory.page → lines ≡ line_count header.directory → All (IsPacked bytes) records
     → All (λ kept. AreLines bytes lines 0 (record_of bytes kept)) records → All (λ kept. length kept.lines.items ≤ most_lines header) records → All (IsFitting header) records
-fits_all header bytes lines records same many packed are few k d lt = record {
-  packed = subst (λ (n : ℕ). IsPacked n (get_or records k d)) same (packed k d lt);
-  lines = subst (λ (n : ℕ). AreLines (line_bytes header.directory.page) n 0 (record_of (line_bytes header.directory.page) (get_or records k d))) many (subst (λ (n : ℕ). AreLines n lines 0 (record_of n (get_or records k d))) same (are k d lt));
-  few = few k d lt;
-}
+fits_all header bytes lines records same many packed are few k d lt = grind (arith, nat_tests, many)
 
 module _ (ship : Ship) (header : Header) (is : IsShip ship) (alike : IsAlike header (content_of ship)) (passed : ℕ) (items slice : List ShipRecord) (items_are : items ≡ ship.records.items) (slice_is : slice ≡ take (length items - passed) (drop passed items)) where
   slice_rest : slice ≡ drop passed ship.records.items
@@ -22,10 +19,7 @@ module _ (ship : Ship) (header : Header) (is : IsShip ship) (alike : IsAlike hea
 
   -- those that the code has are the text's behind the number
   pub due_are : map (record_of (line_bytes header.directory.page)) slice ≡ drop passed (map (record_of ship.line_bytes) ship.records.items)
-  due_are =
-      ap (λ (these : List ShipRecord). map (record_of (line_bytes header.directory.page)) these) slice_rest
-      ∙ sym (drop-map (record_of (line_bytes header.directory.page)) passed ship.records.items)
-      ∙ ap (λ (n : ℕ). drop passed (map (record_of n) ship.records.items)) (sym alike.bytes)
+  due_are = grind (arith, nat_tests, slice_rest, drop-map)
 
   pub fitting : All (λ kept. length kept.lines.items ≤ most_lines header) slice → All (IsFitting header) slice
   fitting few =

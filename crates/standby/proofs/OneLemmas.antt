@@ -1,8 +1,9 @@
 -- A text holds one content.
 use Rattle.standby.proofs.Common.{AllByRecursion, recursion_from_All, AreLines, Content, HoldsOne, ShipLine, end_line, head_line, later, line_line, lines_text, next, records_text}
-use Rattle.std.proofs.Common.{All, ◌≡◌, ℕ, ◌+◌, ◌^◌, ◌<◌, List, [], ◌∷◌, ◌++◌, length, codes, decimal, refl, sym, ◌∙◌, ap, subst, append_assoc, append-nil, arith}
-use Rattle.standby.proofs.PartLemmas.{end_parts, record_parts}
+use Rattle.std.proofs.Common.{All, ◌≡◌, ℕ, ◌+◌, ◌^◌, ◌<◌, List, [], ◌∷◌, ◌++◌, length, refl, sym, ◌∙◌, ap, subst, append_assoc, append-nil, arith}
+use Rattle.standby.proofs.PartLemmas.{end_parts}
 use Rattle.standby.proofs.TailLemmas.{first_is, records_are, room_left, same_head, same_line, same_record}
+use Rattle.std.proofs.lemmas.Bool.Decides.{nat_tests}
 
 module _ (bytes bound : ℕ) (few : bound < 2 ^ 32) where
   -- as many lines, with anything behind them
@@ -21,9 +22,7 @@ module _ (bytes bound : ℕ) (few : bound < 2 ^ 32) where
       (ap (λ (line : ShipLine). line ∷ one) head ∙ ap (λ (lines : List ShipLine). b ∷ lines) rest.0, rest.1)
 
   differ : (number : ℕ) (lines : List ShipLine) (records : List (List ShipLine)) (n m : ℕ) → end_line n ≡ records_text number (lines ∷ records) ++ end_line m → ⊥
-  differ number lines records n m is =
-      let rest = lines_text lines ++ (records_text (next number) records ++ end_line m) in
-      first_is (end_line n) (codes "end " ++ (decimal n ++ 10 ∷ [])) (codes "record " ++ (decimal (next number) ++ 32 ∷ (decimal (length lines) ++ 10 ∷ rest))) (sym (append-nil (end_line n)) ∙ end_parts n []) (is ∙ records_are number lines records (end_line m) ∙ record_parts (next number) (length lines) rest) (omega arith)
+  differ number lines records n m is = grind (arith, nat_tests, first_is, append-nil, end_parts)
 
   same_records : (number n m : ℕ) (one two : List (List ShipLine)) → AllByRecursion (λ these. AreLines bytes bound 0 these) one → AllByRecursion (λ these. AreLines bytes bound 0 these) two
       → records_text number one ++ end_line n ≡ records_text number two ++ end_line m → one ≡ two

@@ -1,22 +1,15 @@
 -- The lines of a record that are read, one after another, and the records.
-use Rattle.standby.proofs.Common.{◌≡◌, ◌≢◌, ℕ, suc, ◌+◌, ◌-◌, ◌*◌, ◌^◌, ◌<◌, ◌≤◌, List, [], ◌∷◌, ◌++◌, length, take, drop, refl, sym, ◌∙◌, ap, subst, append_assoc, append-nil, arith, All, length-drop, drop-append-le, take-append-le, take_all, flat_map-append, common_steps, IsFirstBad, IsRead, Tail, AreLines, ShipLine, end_line, later, line_line, lines_text, next, parted, record_line, record_text, records_text}
+use Rattle.standby.proofs.Common.{◌≡◌, ◌≢◌, ℕ, suc, ◌+◌, ◌-◌, ◌*◌, ◌^◌, ◌<◌, ◌≤◌, List, [], ◌∷◌, ◌++◌, length, drop, refl, sym, ◌∙◌, ap, subst, append_assoc, append-nil, arith, All, length-drop, drop-append-le, take-append-le, take_all, flat_map-append, common_steps, IsFirstBad, IsRead, Tail, AreLines, ShipLine, end_line, later, line_line, lines_text, next, parted, record_line, record_text, records_text}
 use Rattle.standby.proofs.PartLemmas.{line_parts, record_parts}
 use Rattle.standby.proofs.ShipLemmas.{records_append}
 use Rattle.standby.proofs.TailLemmas.{bad_here, read_count, read_one}
+use Rattle.std.proofs.lemmas.Bool.Decides.{nat_tests}
 
 -- a line more
 pub parted_more : (bytes : ℕ) (lines all : List ℕ) (k : ℕ) (held : List ℕ) → length all ≡ bytes * length lines → length held ≡ bytes → parted bytes (lines ++ k ∷ []) (all ++ held) ≡ parted bytes lines all ++ record { line = k; bytes = held } ∷ []
 parted_more bytes [] [] k held sized one = ap (λ (these : List ℕ). let it : List ShipLine = record { line = k; bytes = these } ∷ [] in it) (take_all bytes held (omega (arith, one)))
 parted_more bytes [] (byte ∷ all) k held sized one = let none : bytes * 0 ≡ 0 = omega arith in absurd (omega (arith, sized, none))
-parted_more bytes (line ∷ lines) all k held sized one =
-    let step : bytes * suc (length lines) ≡ bytes + bytes * length lines = omega arith in
-    let long : bytes ≤ length all = omega (arith, sized, step) in
-    let front : take bytes (all ++ held) ≡ take bytes all = take-append-le bytes all held long in
-    let behind : drop bytes (all ++ held) ≡ drop bytes all ++ held = drop-append-le bytes all held long in
-    let left : length (drop bytes all) ≡ bytes * length lines = omega (arith, sized, step, length-drop bytes all) in
-    ap (λ (these : List ℕ). let it : List ShipLine = record { line = line; bytes = these } ∷ parted bytes (lines ++ k ∷ []) (drop bytes (all ++ held)) in it) front
-    ∙ ap (λ (these : List ℕ). let it : List ShipLine = record { line = line; bytes = take bytes all } ∷ parted bytes (lines ++ k ∷ []) these in it) behind
-    ∙ ap (λ (these : List ShipLine). let it : List ShipLine = record { line = line; bytes = take bytes all } ∷ these in it) (parted_more bytes lines (drop bytes all) k held left one)
+parted_more bytes (line ∷ lines) all k held sized one = grind (arith, nat_tests, parted_more bytes lines (drop bytes all) k held, sized, take-append-le, drop-append-le, length-drop)
 
 pub lines_more : (bytes bound least k : ℕ) (lines : List ShipLine) (held : List ℕ) → AreLines bytes bound least lines → least ≤ k → bound ≤ k → length held ≡ bytes → All (λ byte. byte < 256) held → AreLines bytes (k + 1) least (lines ++ record { line = k; bytes = held } ∷ [])
 lines_more bytes bound least k [] held are le most sized all = (le, omega arith, sized, all, tt)
@@ -32,11 +25,7 @@ one_text lines one =
     flat_map-append (λ (line : ShipLine). line_line line.line line.bytes) lines (one ∷ []) ∙ ap (λ (these : List ℕ). lines_text lines ++ these) (append-nil (line_line one.line one.bytes))
 
 pub text_on : (text left rest : List ℕ) (lines : List ShipLine) (k : ℕ) (held : List ℕ) → text ≡ lines_text lines ++ left → left ≡ line_line k held ++ rest → text ≡ lines_text (lines ++ record { line = k; bytes = held } ∷ []) ++ rest
-text_on text left rest lines k held is next_is =
-    is
-    ∙ ap (λ (these : List ℕ). lines_text lines ++ these) next_is
-    ∙ sym (append_assoc (lines_text lines) (line_line k held) rest)
-    ∙ ap (λ (these : List ℕ). these ++ rest) (sym (one_text lines (record { line = k; bytes = held })))
+text_on text left rest lines k held is next_is = grind (arith, nat_tests, next_is, append_assoc, one_text)
 
 -- a line has bytes
 pub line_long : (k : ℕ) (held rest left : List ℕ) → left ≡ line_line k held ++ rest → length rest < length left
@@ -72,11 +61,7 @@ records_one start number count records lines number_is many =
 
 pub text_more : (start number count : ℕ) (text left rest behind : List ℕ) (records : List (List ShipLine)) (lines : List ShipLine) → number ≡ later start (length records) → length lines ≡ count
     → text ≡ records_text start records ++ left → left ≡ record_line (next number) count ++ rest → rest ≡ lines_text lines ++ behind → text ≡ records_text start (records ++ lines ∷ []) ++ behind
-text_more start number count text left rest behind records lines number_is many one two three =
-    one
-    ∙ ap (λ (these : List ℕ). records_text start records ++ these) (two ∙ ap (λ (these : List ℕ). record_line (next number) count ++ these) three ∙ sym (append_assoc (record_line (next number) count) (lines_text lines) behind))
-    ∙ sym (append_assoc (records_text start records) (record_line (next number) count ++ lines_text lines) behind)
-    ∙ ap (λ (these : List ℕ). these ++ behind) (records_one start number count records lines number_is many)
+text_more start number count text left rest behind records lines number_is many one two three = cc (one, two, three, append_assoc (record_line (next number) count) (lines_text lines) behind, append_assoc (records_text start records) (record_line (next number) count ++ lines_text lines) behind, records_one start number count records lines number_is many)
 
 -- the whole text by what is left of it
 pub whole_text : (head text left : List ℕ) (start : ℕ) (records : List (List ShipLine)) → text ≡ records_text start records ++ left → head ++ text ≡ (head ++ records_text start records) ++ left

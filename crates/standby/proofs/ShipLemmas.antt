@@ -82,10 +82,7 @@ module _ (head : List ℕ) (lines : List RecordLine) (i : ℕ) (one : RecordLine
       ∙ ap lines_text (sym (take_more (told lines) i (bare one) inside)))
 
   pub text_rest : ((head ++ lines_text (take i (told lines))) ++ line_line one.line one.bytes) ++ lines_text (drop (i + 1) (told lines)) ≡ head ++ lines_text (told lines)
-  text_rest =
-      ap (λ (these : List ℕ). these ++ lines_text (drop (i + 1) (told lines))) text_more
-      ∙ append_assoc head (lines_text (take (i + 1) (told lines))) (lines_text (drop (i + 1) (told lines)))
-      ∙ ap (λ (these : List ℕ). head ++ these) (sym (flat_map-append line_of (take (i + 1) (told lines)) (drop (i + 1) (told lines))) ∙ ap lines_text (take-append-drop (i + 1) (told lines)))
+  text_rest = cc (text_more, append_assoc head (lines_text (take (i + 1) (told lines))) (lines_text (drop (i + 1) (told lines))), flat_map-append line_of (take (i + 1) (told lines)) (drop (i + 1) (told lines)), take-append-drop (i + 1) (told lines))
 
 -- a record behind those before it
 module _ (number : ℕ) (records : List (List RecordLine)) (i : ℕ) (lt : i < length records) where

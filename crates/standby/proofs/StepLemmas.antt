@@ -1,11 +1,13 @@
 -- One record that is kept and told.
-use Rattle.standby.proofs.Common.{IsSome, ◌≡◌, inl, inr, ⊎_elim, ℕ, ◌+◌, ◌*◌, List, [], ◌∷◌, refl, sym, ◌∙◌, ap, subst, append-nil, IfSome_then, FlatStore, line_bytes, PageSize, RecordLine, Standing, Stands, home_of, stands, one_more, Failed, Ghosts, AreTold, Prints, IsSure, CallsDisk, FewerLater, Leaves, held_of, leaves_on, begun_of, IsEither, KeptStore, with_begun, Shows, TracksStore, Puts, SeesPart, laid, well, broken, IsStep, Steps, over, put_of, Followed, DiskFault, PutFault, ShipLine, next, kept_line, told}
+use Rattle.standby.proofs.Common.{IsSome, ◌≡◌, ℕ, ◌+◌, ◌*◌, List, [], ◌∷◌, refl, sym, ◌∙◌, ap, subst, append-nil, IfSome_then, FlatStore, line_bytes, PageSize, RecordLine, Standing, Stands, home_of, stands, one_more, Failed, Ghosts, Prints, IsSure, CallsDisk, FewerLater, Leaves, held_of, begun_of, IsEither, KeptStore, with_begun, Shows, TracksStore, Puts, laid, well, broken, IsStep, Steps, over, put_of, Followed, DiskFault, PutFault, ShipLine, next, kept_line, told}
 use Rattle.std.specs.Prelude.{◌%◌, ◌^◌, length, Option, Result, Ok, Err, OnErr, OnOk, fold}
 use Rattle.owned_list.specs.Overlay.{overlaid}
 use Rattle.store_format.proofs.Stores.{stands_is}
 use Rattle.restart.proofs.ShowLemmas.{shown_store, shows_begun}
 use Rattle.store_format.specs.Stands as format
 use Rattle.standby.proofs.PutLemmas.{PrintedNow, quiet_is, image_is, sure_puts}
+use Rattle.std.proofs.lemmas.Bool.Decides.{nat_tests}
+use Rattle.std.proofs.Common.{arith}
 
 -- what is so is so where it went well
 pub on_ok : {T E P : Type 0} (result : Result T E) → P → OnOk result P
@@ -19,11 +21,7 @@ told_laid page bytes (line ∷ lines) = told_laid page (overlaid bytes (line.lin
 
 -- what stands one record on
 pub one_over : (begun : List RecordLine) (lines : List ShipLine) (standing : Standing) (number bytes : ℕ) (store : FlatStore) → bytes ≡ line_bytes store.directory.page → told begun ≡ lines → standing ≡ Stands number store → one_more begun standing ≡ Stands (next number) (over bytes store lines)
-one_over begun lines standing number bytes store sized same is =
-    ap (one_more begun) is
-    ∙ ap (λ (these : List ℕ). Stands (next number) (record { directory = store.directory; bytes = these })) (told_laid store.directory.page store.bytes begun)
-    ∙ ap (λ (these : List ShipLine). Stands (next number) (over (line_bytes store.directory.page) store these)) same
-    ∙ ap (λ (n : ℕ). Stands (next number) (over n store lines)) (sym sized)
+one_over begun lines standing number bytes store sized same is = grind (arith, nat_tests, told_laid, sized)
 
 -- the lines of what stands are as long as those of the store that is shown
 pub sized : (held : List ℕ) (kept : KeptStore) (number : ℕ) (store : FlatStore) → Shows held kept → stands held ≡ Stands number store → line_bytes kept.header.directory.page ≡ line_bytes store.directory.page
@@ -44,21 +42,12 @@ module _ {W : Type 0} (G : Ghosts W) (fewer_later : FewerLater G) (printed_now :
 
   -- a crash while the disk is called
   pub in_disk : Leaves G Left before mid
-  in_disk image seen left =
-      let is : AreTold (G.printed before) seen = quiet_is G printed_now before mid calls image seen left in
-      ⊎_elim
-      (λ (was : stands image ≡ stands (held_of G before)). inl (was ∙ stood, is))
-      (λ (more : stands image ≡ one_more begun (stands (held_of G before))). inr (more ∙ one_over begun lines (stands (held_of G before)) number bytes store sized same stood, IfSome_then (G.printed before) is (λ shown same. (0, same ∙ sym (append-nil shown)))))
-      (either image seen left)
+  in_disk image seen left = grind (arith, nat_tests, quiet_is, one_over, sized, IfSome_then, append-nil)
 
   -- a crash while the line is put
   pub in_put : {T : Type 0} (after : W) (result : Result T Failed) → IsSure G mid → stands (held_of G mid) ≡ Stands (next number) (over bytes store lines) → Puts G (kept_line (next number)) mid after result
       → Leaves G Left before after
-  in_put after result sure more puts =
-      leaves_on G fewer_later before mid after calls.time puts.only.time Left in_disk
-      (λ image seen left.
-      let from = image_is G printed_now (kept_line (next number)) mid after result puts sure image seen left in
-      inr (ap stands from.0 ∙ more, subst (λ (those : Option (List ℕ)). SeesPart those (kept_line (next number)) seen) calls.quiet.same from.1))
+  in_put after result sure more puts = grind (arith, nat_tests, in_disk, image_is)
 
   -- the disk failed
   pub step_unkept : (durable : KeptStore) → Steps G bytes number store lines durable before mid (Err DiskFault)

@@ -64,9 +64,7 @@ told_into number i all count lt =
     let line = kept_line (later number (suc i)) in
     let front = told_front number (suc i) all (omega (arith, lt)) in
     let whole : followed_text number all ≡ kept_text number i ++ (line ++ front.0) = front.1 ∙ append_assoc (kept_text number i) line front.0 in
-    ap (take (length (kept_text number i) + min count (length line))) whole
-    ∙ take-append-add (kept_text number i) (line ++ front.0) (min count (length line))
-    ∙ ap (λ (these : List ℕ). kept_text number i ++ these) (cut_more count line front.0)
+    cc (whole, take-append-add (kept_text number i) (line ++ front.0) (min count (length line)), cut_more count line front.0)
 
 -- one number more
 pub later_more : (number i : ℕ) → next (later number i) ≡ later number (i + 1)

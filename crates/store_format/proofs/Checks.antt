@@ -93,10 +93,7 @@ segments_at-more image at zero =
 segments_at-more image at (suc count) =
     let place : at + 4 + 4 * count ≡ at + 4 * suc count = omega arith in
     let fuel : suc count + 1 ≡ suc (count + 1) = omega arith in
-    ap (segments_at image at) fuel
-    ∙ ap (λ (these : List (ℕ × ℕ)). (number_at image at 2, number_at image (at + 2) 2) ∷ these)
-    (segments_at-more image (at + 4) count
-    ∙ ap (λ (n : ℕ). segments_at image (at + 4) count ++ (number_at image n 2, number_at image (n + 2) 2) ∷ []) place)
+    cc (fuel, segments_at-more image (at + 4) count, place)
 
 -- the fifty zeros that a header of version 2 ends with
 pub last_zeros_are : (image : List ℕ) → last_zeros image ≡ zeros image 78 50

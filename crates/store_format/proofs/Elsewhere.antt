@@ -1,5 +1,5 @@
 -- What an image stands for where bytes outside its chosen bank have changed.
-use Rattle.store_format.proofs.Common.{◌≡◌, ℕ, zero, suc, ◌+◌, ◌%◌, ◌^◌, ◌<◌, ◌≤◌, false, List, [], length, take, drop, refl, sym, ◌∙◌, ap, arith, slice_index, drop-drop, get_or-drop, FlatStore, Which, Header, fields, first_fault, header_of, bank_at, number_at, RecordLine, Area, Gate, Closed, Wrong, Sound, preceded, gate_if, gate_at, holds_from, area_at, area_of, base_of, bank_of, Stands, stands, IsStore, HasHeader, laid, home_of, chosen}
+use Rattle.store_format.proofs.Common.{◌≡◌, ℕ, zero, suc, ◌+◌, ◌%◌, ◌^◌, ◌<◌, ◌≤◌, false, List, [], length, take, drop, refl, sym, ◌∙◌, ap, arith, slice_index, drop-drop, get_or-drop, Which, Header, fields, first_fault, header_of, bank_at, number_at, RecordLine, Area, Gate, Closed, Wrong, Sound, gate_at, holds_from, area_at, area_of, base_of, bank_of, stands, IsStore, HasHeader, laid, home_of, chosen}
 use Rattle.std.specs.Prelude.{◌==◌, ◌-◌, fold}
 use Rattle.store_format.proofs.Fronts.{shorter_front, same_byte}
 use Rattle.store_format.proofs.Walk.{sound_is, closed_gate}
@@ -10,11 +10,7 @@ use Rattle.store_format.proofs.Stores.{end_of, store_same, stands_is}
 pub behind_bytes : (old new : List ℕ) (k place : ℕ) → drop k new ≡ drop k old → k ≤ place → drop place new ≡ drop place old
 behind_bytes old new k place same behind =
     let whole : k + (place - k) ≡ place = omega arith in
-    ap (λ (n : ℕ). drop n new) (sym whole)
-    ∙ sym (drop-drop (place - k) k new)
-    ∙ ap (λ (these : List ℕ). drop (place - k) these) same
-    ∙ drop-drop (place - k) k old
-    ∙ ap (λ (n : ℕ). drop n old) whole
+    cc (whole, drop-drop (place - k) k new, same, drop-drop (place - k) k old)
 
 -- with the same bytes from an offset on the gates there are the same
 module _ (image new : List ℕ) (from : ℕ) (same : drop from new ≡ drop from image) where
@@ -23,8 +19,7 @@ module _ (image new : List ℕ) (from : ℕ) (same : drop from new ≡ drop from
       let here : gate + 0 ≡ gate = omega arith in
       let byte : slice_index new gate ≡ slice_index image gate =
       ap (λ (n : ℕ). slice_index new n) (sym here) ∙ sym (get_or-drop gate new 0 0) ∙ ap (λ (these : List ℕ). slice_index these 0) (behind_bytes image new from gate same behind) ∙ get_or-drop gate image 0 0 ∙ ap (λ (n : ℕ). slice_index image n) here in
-      ap (λ (n : ℕ). gate_if area.page (n == 0xA5) area.bound area.end ((number + 1) % 2 ^ 64) gate (drop gate new)) byte
-      ∙ ap (λ (these : List ℕ). gate_if area.page (slice_index image gate == 0xA5) area.bound area.end ((number + 1) % 2 ^ 64) gate these) (behind_bytes image new from gate same behind)
+      cc (byte, behind_bytes image new from gate same behind)
 
   holds_behind : (area : Area) (most number gate : ℕ) (at : Gate) → from ≤ gate → gate_at image area number gate ≡ at → holds_from new area most number at ≡ holds_from image area most number at
   unfolding holds_from
@@ -34,8 +29,7 @@ module _ (image new : List ℕ) (from : ℕ) (same : drop from new ≡ drop from
   holds_behind area (suc most) number gate (Sound lines next) behind is =
       let sound = sound_is area.page (slice_index image gate == 0xA5) area.bound area.end ((number + 1) % 2 ^ 64) gate (drop gate image) lines next is in
       let after : from ≤ next = omega (arith, sound.is_next) in
-      ap (λ (g : Gate). preceded lines (holds_from new area most (number + 1) g)) (gate_behind area (number + 1) next after)
-      ∙ ap (preceded lines) (holds_behind area most (number + 1) next (gate_at image area (number + 1) next) after refl)
+      cc (gate_behind area (number + 1) next after, holds_behind area most (number + 1) next (gate_at image area (number + 1) next) after refl)
 
 -- with the same bytes from a bank on, the bank is the same
 module _ (header : Header) (which : Which) (image new : List ℕ) (same : drop (bank_at header which) new ≡ drop (bank_at header which) image) where
@@ -46,9 +40,7 @@ module _ (header : Header) (which : Which) (image new : List ℕ) (same : drop (
   bank_behind =
       let area = area_of header which in
       let start = area_at header which in
-      ap (λ (n : ℕ). holds_from new area header.bank_bytes n (gate_at new area n start)) base_behind
-      ∙ ap (holds_from new area header.bank_bytes (base_of image header which)) (gate_behind image new (bank_at header which) same area (base_of image header which) start (omega arith))
-      ∙ holds_behind image new (bank_at header which) same area header.bank_bytes (base_of image header which) start (gate_at image area (base_of image header which) start) (omega arith) refl
+      cc (base_behind, gate_behind image new (bank_at header which) same area (base_of image header which) start (omega arith), holds_behind image new (bank_at header which) same area header.bank_bytes (base_of image header which) start (gate_at image area (base_of image header which) start) (omega arith) refl)
 
 -- the same header and length
 pub same_header : (header : Header) (image new : List ℕ) → HasHeader image header → take 128 new ≡ take 128 image → length new ≡ length image → HasHeader new header
@@ -104,8 +96,4 @@ store_empty header which base image has chooses from closed = record {
 -- two stores of one number and the same bytes stand for the same
 pub stands_alike : (header : Header) (image other : List ℕ) (which those : Which) (base from gate at : ℕ) (records more : List (List RecordLine)) → IsStore image header which base gate records → IsStore other header those from at more
     → (base + length records) % 2 ^ 64 ≡ (from + length more) % 2 ^ 64 → fold (laid header.directory.page) (home_of image header) records ≡ fold (laid header.directory.page) (home_of other header) more → stands image ≡ stands other
-stands_alike header image other which those base from gate at records more first second number bytes =
-    stands_is image header which base gate records first
-    ∙ ap (λ (n : ℕ). Stands n (let store : FlatStore = record { directory = header.directory; bytes = fold (laid header.directory.page) (home_of image header) records } in store)) number
-    ∙ ap (λ (these : List ℕ). Stands ((from + length more) % 2 ^ 64) (let store : FlatStore = record { directory = header.directory; bytes = these } in store)) bytes
-    ∙ sym (stands_is other header those from at more second)
+stands_alike header image other which those base from gate at records more first second number bytes = cc (stands_is image header which base gate records first, number, bytes, stands_is other header those from at more second)

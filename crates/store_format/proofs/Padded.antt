@@ -1,5 +1,5 @@
 -- A header that is cut, with zeros behind it.
-use Rattle.store_format.proofs.Common.{◌≡◌, ℕ, zero, suc, ◌+◌, ◌*◌, ◌-◌, ◌^◌, ◌≤◌, List, [], ◌∷◌, ◌++◌, length, take, drop, refl, sym, ◌∙◌, ap, arith, slice_index, replicate, inl, inr, Option, None, Some, min, unwrap_or, IsSome, IfSome, cases_lt, nat_tests, get_or-drop, get_or_append_left, get_or-append_right, get_or_past, take-append-le, take_all, drop-replicate, length-take, big_from, PageSize, Two, Four, Header, page_of, last_zeros, spare_fields, Field, number_at, within, name_field, segments_at, segments_of, segment_fields, zeros, fields, first_fault, header_of}
+use Rattle.store_format.proofs.Common.{◌≡◌, ℕ, zero, suc, ◌+◌, ◌*◌, ◌-◌, ◌^◌, ◌≤◌, List, [], ◌∷◌, ◌++◌, length, take, drop, refl, sym, ◌∙◌, ap, arith, slice_index, replicate, inl, inr, Option, None, Some, min, unwrap_or, IsSome, IfSome, cases_lt, nat_tests, get_or-drop, get_or_append_left, get_or-append_right, get_or_past, take-append-le, take_all, drop-replicate, length-take, big_from, PageSize, Two, Four, Header, page_of, spare_fields, Field, number_at, within, name_field, segments_at, segments_of, segment_fields, zeros, fields, first_fault, header_of}
 use Rattle.outside.specs.Bytes.{bytes_at}
 use Rattle.store_format.proofs.Checks.{last_zeros_are}
 
@@ -24,10 +24,7 @@ same_number xs ys at n same = same_from (drop at xs) (drop at ys) 0 n (λ i. get
 
 same_segments : (xs ys : List ℕ) (at count : ℕ) → Same xs ys → segments_at xs at count ≡ segments_at ys at count
 same_segments xs ys at zero same = refl
-same_segments xs ys at (suc count) same =
-    ap (λ (n : ℕ). (n, number_at xs (at + 2) 2) ∷ segments_at xs (at + 4) count) (same_number xs ys at 2 same)
-    ∙ ap (λ (n : ℕ). (number_at ys at 2, n) ∷ segments_at xs (at + 4) count) (same_number xs ys (at + 2) 2 same)
-    ∙ ap (λ (rest : List (ℕ × ℕ)). (number_at ys at 2, number_at ys (at + 2) 2) ∷ rest) (same_segments xs ys (at + 4) count same)
+same_segments xs ys at (suc count) same = cc (same_number xs ys at 2 same, same_number xs ys (at + 2) 2 same, same_segments xs ys (at + 4) count same)
 
 same_listed : (xs ys : List ℕ) → Same xs ys → segments_of xs ≡ segments_of ys
 same_listed xs ys same = ap (λ (n : ℕ). segments_at xs 16 (min n 15)) (same_number xs ys 10 2 same) ∙ same_segments xs ys 16 (min (number_at ys 10 2) 15) same
@@ -41,11 +38,7 @@ abbrev pub made : ℕ → List (ℕ × ℕ) → ℕ → ℕ → Header
 made version segments fine bank_bytes = record { directory = record { page = page_of version; segments = segments; fine = fine }; bank_bytes = bank_bytes }
 
 pub same_header : (xs ys : List ℕ) → Same xs ys → header_of xs ≡ header_of ys
-same_header xs ys same =
-    ap (λ (n : ℕ). made n (segments_of xs) (number_at xs 76 2) (number_at xs 12 4)) (same_number xs ys 8 2 same)
-    ∙ ap (λ (these : List (ℕ × ℕ)). made (number_at ys 8 2) these (number_at xs 76 2) (number_at xs 12 4)) (same_listed xs ys same)
-    ∙ ap (λ (n : ℕ). made (number_at ys 8 2) (segments_of ys) n (number_at xs 12 4)) (same_number xs ys 76 2 same)
-    ∙ ap (made (number_at ys 8 2) (segments_of ys) (number_at ys 76 2)) (same_number xs ys 12 4 same)
+same_header xs ys same = cc (same_number xs ys 8 2 same, same_listed xs ys same, same_number xs ys 76 2 same, same_number xs ys 12 4 same)
 
 abbrev rest : PageSize → List ℕ → List (ℕ × ℕ) → List Field
 rest page image segments = segment_fields 16 1 1024 segments ++ spare_fields page image (length segments)
@@ -63,17 +56,12 @@ same_spare Two xs ys count same = same_zeros xs ys (16 + 4 * count) (112 - 4 * c
 same_spare Four xs ys count same =
     let front = zeros ys (16 + 4 * count) (60 - 4 * count) in
     let most = 2 ^ count - 1 in
-    ap (λ (these : List Field). these ++ within 76 2 (number_at xs 76 2) 0 most ∷ last_zeros xs) (same_zeros xs ys (16 + 4 * count) (60 - 4 * count) same)
-    ∙ ap (λ (n : ℕ). front ++ within 76 2 n 0 most ∷ last_zeros xs) (same_number xs ys 76 2 same)
-    ∙ ap (λ (these : List Field). front ++ within 76 2 (number_at ys 76 2) 0 most ∷ these) (last_zeros_are xs ∙ same_zeros xs ys 78 50 same ∙ sym (last_zeros_are ys))
+    cc (same_zeros xs ys (16 + 4 * count) (60 - 4 * count) same, same_number xs ys 76 2 same, last_zeros_are xs, same_zeros xs ys 78 50 same, last_zeros_are ys)
 
 same_behind : (xs ys : List ℕ) → Same xs ys → behind_name xs ≡ behind_name ys
 same_behind xs ys same =
     let page = page_of (number_at ys 8 2) in
-    ap (λ (n : ℕ). within 8 2 n 1 2 ∷ within 10 2 (number_at xs 10 2) 1 15 ∷ within 12 4 (number_at xs 12 4) 4096 131072 ∷ rest (page_of n) xs (segments_of xs)) (same_number xs ys 8 2 same)
-    ∙ ap (λ (n : ℕ). within 8 2 (number_at ys 8 2) 1 2 ∷ within 10 2 n 1 15 ∷ within 12 4 (number_at xs 12 4) 4096 131072 ∷ rest page xs (segments_of xs)) (same_number xs ys 10 2 same)
-    ∙ ap (λ (n : ℕ). within 8 2 (number_at ys 8 2) 1 2 ∷ within 10 2 (number_at ys 10 2) 1 15 ∷ within 12 4 n 4096 131072 ∷ rest page xs (segments_of xs)) (same_number xs ys 12 4 same)
-    ∙ ap (λ (these : List Field). within 8 2 (number_at ys 8 2) 1 2 ∷ within 10 2 (number_at ys 10 2) 1 15 ∷ within 12 4 (number_at ys 12 4) 4096 131072 ∷ these) (ap (rest page xs) (same_listed xs ys same) ∙ ap (λ (these : List Field). segment_fields 16 1 1024 (segments_of ys) ++ these) (same_spare page xs ys (length (segments_of ys)) same))
+    cc (same_number xs ys 8 2 same, same_number xs ys 10 2 same, same_number xs ys 12 4 same, same_listed xs ys same, same_spare page xs ys (length (segments_of ys)) same)
 
 -- of a name that isn't whole the bytes don't matter
 same_name : (xs ys : List ℕ) (bytes : ℕ) (later : List Field) → (8 ≤ bytes → take 8 xs ≡ take 8 ys) → first_fault bytes (name_field xs ∷ later) ≡ first_fault bytes (name_field ys ∷ later)

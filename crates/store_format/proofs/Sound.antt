@@ -71,10 +71,7 @@ faulty_header image offset fault = ap (λ (those : Option ℕ). standing_if imag
 pub faulty_length : (image : List ℕ) (header : Header) → first_fault (length image) (fields (take 128 image)) ≡ None → header_of (take 128 image) ≡ header → (length image ≡ total header → ⊥)
     → stands image ≡ NotAStore (min (length image) (total header))
 unfolding stands
-faulty_length image header none said other =
-    ap (λ (those : Option ℕ). standing_if image those (header_of (take 128 image))) none
-    ∙ ap (standing_if image None) said
-    ∙ by_length (length image) (total header) other (standing_by image header (base_of image header (chosen image)) (bank_of image header (chosen image)))
+faulty_length image header none said other = cc (none, said, by_length (length image) (total header) other (standing_by image header (base_of image header (chosen image)) (bank_of image header (chosen image))))
   where
     by_length : (a b : ℕ) → (a ≡ b → ⊥) → (later : Standing) → (if nat_lt a b then NotAStore a else if nat_lt b a then NotAStore b else later) ≡ NotAStore (min a b)
     by_length a b other later = elim (cases_lt a b) [

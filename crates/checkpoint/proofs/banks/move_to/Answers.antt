@@ -125,3 +125,9 @@ returns-clause-done g c =
     let there = moved tracks.header bank tracks.records held tracks.store tracks.count (held_of G c.sync.new.self) (ready g at.After-write_selector tracks asks (place g at.After-write_head tracks)) in
     let here = subst (λ (those : List ℕ). IsThere tracks.header bank tracks.records held tracks.store tracks.count (held_of G c.sync.new.self) (ready g at.After-write_selector tracks asks (place g at.After-write_head tracks)) those) (sym is) there in
     record { sure = wrote_it.sure; stood = here.stood; store = here.store })
+
+pub write_selector-requires : goal.write_selector-requires
+write_selector-requires g c = grind arith
+
+pub returns-clause-cause : goal.returns-clause-cause
+returns-clause-cause g c = grind arith

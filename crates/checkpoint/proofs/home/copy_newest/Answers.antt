@@ -1,3 +1,5 @@
+use Rattle.std.proofs.lemmas.Grind.{common_steps}
+use Rattle.std.proofs.Common.{arith}
 use Rattle.checkpoint.proofs.Common.{◌≡◌, ℕ, get_or, sym, subst, ◌∙◌, Option, None, Some, OnOk, IsSome, line_bytes_of, Torn, written, bytes_at, LeavesStep, held_of, home_place, copied, TornLine}
 use Rattle.std.proofs.lemmas.Option.{get_or_from_slice_get}
 use Rattle.checkpoint.proofs.home.copy_newest.Given.{Over}
@@ -21,3 +23,6 @@ returns-in-Some-clause-done g c =
     subst (λ (place : Option ℕ). OnOk c.copy_line.result (IsSome (G.held c.args.outside.now) → held_of G c.copy_line.new.outside ≡ copied (line_bytes_of c.args.bank.now) held place (home_place c.args.bank.now c.args.line))) (sym (place g (goal.at.returns-in-Some-clause-done g c).In-Some))
     (subst (λ (at : ℕ). OnOk c.copy_line.result (IsSome (G.held c.args.outside.now) → held_of G c.copy_line.new.outside ≡ written held at (bytes_at held c.in-Some.place (line_bytes_of c.args.bank.now)))) c.home_place.ensures
     (subst (λ (n : ℕ). OnOk c.copy_line.result (IsSome (G.held c.args.outside.now) → held_of G c.copy_line.new.outside ≡ written held c.home_place.result (bytes_at held c.in-Some.place n))) c.requires.whole c.copy_line.ensures.done))
+
+pub returns-in-None-clause-only : goal.returns-in-None-clause-only
+returns-in-None-clause-only g c = grind (arith, common_steps)

@@ -25,11 +25,7 @@ as_many size items bytes begun i lt is = sym (length-told begun) ∙ ap length i
 
 -- and with it one more
 one_told : (size : ℕ) (items bytes : List ℕ) (begun : List RecordLine) (i : ℕ) (one : RecordLine) → i < length items → told begun ≡ take i (parted size items bytes) → told (one ∷ []) ≡ part_at size items bytes i ∷ [] → told (begun ++ one ∷ []) ≡ take (i + 1) (parted size items bytes)
-one_told size items bytes begun i one lt is last =
-    map-append (λ (each : RecordLine). let it : ShipLine = record { line = each.line; bytes = each.bytes } in it) begun (one ∷ [])
-    ∙ ap (λ (these : List ShipLine). these ++ told (one ∷ [])) is
-    ∙ ap (λ (these : List ShipLine). take i (parted size items bytes) ++ these) (last ∙ ap (λ (line : ShipLine). line ∷ []) (sym (get_or-parted size items bytes i lt)))
-    ∙ sym (take_more (parted size items bytes) i no_line (omega (arith, lt, length-parted size items bytes)))
+one_told size items bytes begun i one lt is last = cc (map-append (λ (each : RecordLine). let it : ShipLine = record { line = each.line; bytes = each.bytes } in it) begun (one ∷ []), is, last, get_or-parted size items bytes i lt, take_more (parted size items bytes) i no_line (omega (arith, lt, length-parted size items bytes)))
 
 -- the bank with it
 bank_on : (bank now : KeptBank) (size : ℕ) (items bytes : List ℕ) (i : ℕ) (one : RecordLine) → i < length items → now ≡ bank_begun bank (take i (parted size items bytes)) → told (one ∷ []) ≡ part_at size items bytes i ∷ []

@@ -1,3 +1,4 @@
+use Rattle.std.proofs.lemmas.Grind.{common_steps}
 use Rattle.standby.proofs.Common.{◌≡◌, ℕ, ◌+◌, ◌-◌, List, length, map, take, drop, refl, sym, subst, ◌∙◌, ap, arith, length-map, line_bytes, most_lines, number_of, bank_behind, Follows, IsAlike, IsLongAt, behind, due, ShipLine, content_of, later, record_of, Done, Geometry, NotKept, Long, ShipRecord}
 use Rattle.std.specs.Prelude.{All, ◌≤◌}
 use Rattle.standby.proofs.DueLemmas.{due_are, few_are, first_is, fitting}
@@ -95,3 +96,36 @@ pub returns-in-Err-clause-follows : goal.returns-in-Err-clause-follows
 returns-in-Err-clause-follows g c store tracks stood =
     let at = (goal.at.returns-in-Err-clause-follows g c).After-long_among in
     of_due g at (λ (bytes : ℕ) (records : List (List ShipLine)). Follows g.W.Outside bytes (number_of c.args.durable.now) store records c.keep_all.new.durable c.args.outside.now c.keep_all.new.outside c.in-Err.why) (c.in-Err.ensures.follows store tracks stood)
+
+pub returns-in-Err-clause-not_kept : goal.returns-in-Err-clause-not_kept
+returns-in-Err-clause-not_kept g c = grind (arith, common_steps)
+
+pub returns-in-Ok-clause-not_kept : goal.returns-in-Ok-clause-not_kept
+returns-in-Ok-clause-not_kept g c = grind (arith, common_steps)
+
+pub returns-in-Some-clause-not_kept : goal.returns-in-Some-clause-not_kept
+returns-in-Some-clause-not_kept g c = grind (arith, common_steps)
+
+pub returns-in-Some-clause-only : goal.returns-in-Some-clause-only
+returns-in-Some-clause-only g c = grind arith
+
+pub returns-then-passed-len-clause-only : goal.returns-then-passed-len-clause-only
+returns-then-passed-len-clause-only g c = grind arith
+
+pub returns-then-passed-len-clause-not_kept : goal.returns-then-passed-len-clause-not_kept
+returns-then-passed-len-clause-not_kept g c = grind (arith, common_steps)
+
+pub keep_all-requires-clause-room : goal.keep_all-requires-clause-room
+keep_all-requires-clause-room g c = grind arith
+
+pub returns-in-Err-clause-long : goal.returns-in-Err-clause-long
+returns-in-Err-clause-long g c = grind arith
+
+pub returns-then-not-is_alike-clause-only : goal.returns-then-not-is_alike-clause-only
+returns-then-not-is_alike-clause-only g c = grind (arith, common_steps)
+
+pub returns-in-Ok-clause-long : goal.returns-in-Ok-clause-long
+returns-in-Ok-clause-long g c = grind arith
+
+pub returns-in-Err-clause-refused : goal.returns-in-Err-clause-refused
+returns-in-Err-clause-refused g c = grind arith

@@ -1,3 +1,4 @@
+use Rattle.standby.proofs.GoLemmas.{goes_puts, goes_on}
 use Rattle.standby.proofs.Common.{◌≡◌, length, map, sym, ◌∙◌, ap, length-map, line_bytes, number_of, end_line, later, record_of}
 use Rattle.standby.proofs.FollowLemmas.{ended, not_done, stopped_early}
 use Rattle.standby.proofs.StepLemmas.{on_ok}
@@ -17,3 +18,6 @@ returns-clause-follows g c store tracks stood =
     let number : c.number.result ≡ later (number_of c.args.durable.now) (length all) = c.number.ensures ∙ c.in-Ok.ensures.number ∙ ap (later (number_of c.args.durable.now)) (sym (length-map c.args.records.now (record_of (line_bytes c.args.durable.now.header.directory.page)))) in
     ended g.W.Outside g.met.W.Outside.fewer_later g.met.W.Outside.printed_now (line_bytes c.args.durable.now.header.directory.page) (number_of c.args.durable.now) store all c.keep_each.new.durable c.args.outside.now c.keep_each.new.outside c.put_line.new.outside
     c.keep_each.ensures.only.time (c.in-Ok.ensures.keeps store tracks stood) c.as_slice.result.now c.put_line.result (c.as_slice.ensures ∙ c.fill_end.ensures ∙ ap end_line number) c.put_line.ensures.only c.put_line.ensures.puts
+
+pub returns-clause-only : goal.returns-clause-only
+returns-clause-only g c = goes_on g.W.Outside g.met.W.Outside.fewer_later c.args.outside.now c.keep_each.new.outside c.put_line.new.outside c.keep_each.ensures.only (goes_puts g.W.Outside c.as_slice.result.now c.keep_each.new.outside c.put_line.new.outside _ c.put_line.ensures.puts)

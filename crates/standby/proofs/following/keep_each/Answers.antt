@@ -3,14 +3,12 @@ use Rattle.standby.proofs.FollowLemmas.{so_far_all, so_far_more, so_far_none, so
 use Rattle.standby.proofs.GoLemmas.{goes_none, goes_on}
 use Rattle.standby.proofs.TellLemmas.{later_more}
 use Rattle.standby.proofs.following.keep_each.Goals as goal
+use Rattle.std.proofs.lemmas.Bool.Decides.{nat_tests}
 
 -- the same step, by a number, lines and a result that are these
 step_at : {W : Type 0} (G : Ghosts W) (bytes number numbered : ℕ) (store : FlatStore) (lines those : List ShipLine) (durable : KeptStore) (before after : W) (result how : Result (Unit {0}) Followed)
     → number ≡ numbered → lines ≡ those → result ≡ how → Steps G bytes number store lines durable before after result → Steps G bytes numbered store those durable before after how
-step_at G bytes number numbered store lines those durable before after result how same alike is steps =
-    subst (λ (r : Result (Unit {0}) Followed). Steps G bytes numbered store those durable before after r) is
-    (subst (λ (these : List ShipLine). Steps G bytes numbered store these durable before after result) alike
-    (subst (λ (n : ℕ). Steps G bytes n store lines durable before after result) same steps))
+step_at G bytes number numbered store lines those durable before after result how same alike is steps = grind (arith, nat_tests)
 
 -- the lines of the record at hand
 lines_are : (bytes : ℕ) (records : List ShipRecord) (i : ℕ) (kept : ShipRecord) → i < length records → kept ≡ get_or records i kept → record_of bytes kept ≡ get_or (map (record_of bytes) records) i []
@@ -18,11 +16,7 @@ lines_are bytes records i kept lt is = ap (record_of bytes) is ∙ sym (get_or-m
 
 -- the bank with one record more
 bank_more : (bank now : KeptBank) (all : List (List ShipLine)) (i : ℕ) → i < length all → (lines : List ShipLine) → now ≡ bank_behind bank (take i all) → lines ≡ get_or all i [] → bank_with now lines ≡ bank_behind bank (take (i + 1) all)
-bank_more bank now all i lt lines is same =
-    ap (λ (those : KeptBank). bank_with those lines) is
-    ∙ ap (bank_with (bank_behind bank (take i all))) same
-    ∙ sym (fold-append bank_with bank (take i all) (get_or all i [] ∷ []))
-    ∙ ap (bank_behind bank) (sym (take_more all i [] lt))
+bank_more bank now all i lt lines is same = cc (is, same, fold-append bank_with bank (take i all) (get_or all i [] ∷ []), take_more all i [] lt)
 
 pub loop-record-init : goal.loop-record-init
 loop-record-init g c =
@@ -84,3 +78,12 @@ returns-clause-keeps g c store tracks stood =
     let all = map (record_of (line_bytes c.args.durable.now.header.directory.page)) c.args.records.now in
     so_far_all g.W.Outside g.met.W.Outside.fewer_later g.met.W.Outside.printed_now (line_bytes c.args.durable.now.header.directory.page) (number_of c.args.durable.now) store all c.loop-record.record-index c.loop-record.durable c.args.outside.now c.loop-record.outside
     (omega (arith, c.loop-record-test.false, c.loop-record.auto.record-index-end, length-map c.args.records.now (record_of (line_bytes c.args.durable.now.header.directory.page)))) (c.loop-record.invariant.so_far store tracks stood)
+
+pub returns-in-Err-clause-ends : goal.returns-in-Err-clause-ends
+returns-in-Err-clause-ends g c = grind arith
+
+pub keep-requires-clause-fitting : goal.keep-requires-clause-fitting
+keep-requires-clause-fitting g c = grind arith
+
+pub returns-in-Err-clause-only : goal.returns-in-Err-clause-only
+returns-in-Err-clause-only g c = goes_on g.W.Outside g.met.W.Outside.fewer_later c.args.outside.now c.loop-record.outside c.keep.new.outside c.loop-record.invariant.only c.keep.ensures.only

@@ -1,3 +1,4 @@
+use Rattle.std.proofs.lemmas.Grind.{common_steps}
 use Rattle.standby.proofs.Common.{◌≡◌, ◌∷◌, ◌++◌, List, ℕ, decimal, drop, sym, ap, ◌∙◌, arith, head_line}
 use Rattle.standby.proofs.PartLemmas.{head_parts}
 use Rattle.standby.proofs.read.head_of.Goals as goal
@@ -16,3 +17,6 @@ returns-in-None c = λ bytes lines start rest some short few small is.
     ∙ ap (λ (n : ℕ). head_line c.short-line_bytes.result n start ++ rest) (sym many)
     ∙ ap (λ (n : ℕ). head_line c.short-line_bytes.result c.small-lines.result n ++ rest) (sym third.0)
     ∙ ap (λ (line : List ℕ). line ++ rest) (sym (c.as_slice.ensures ∙ c.fill_head.ensures)))
+
+pub returns-then-line_bytes-eq0 : goal.returns-then-line_bytes-eq0
+returns-then-line_bytes-eq0 c = grind (arith, common_steps)

@@ -1,3 +1,4 @@
+use Rattle.std.proofs.lemmas.Grind.{common_steps}
 use Rattle.standby.proofs.Common.{◌≡◌, ◌∷◌, ◌++◌, [], List, ℕ, codes, decimal, drop, sym, ap, ◌∙◌, arith, encode_lower}
 use Rattle.standby.proofs.PartLemmas.{line_front, line_parts}
 use Rattle.standby.proofs.read.line_of.Goals as goal
@@ -11,3 +12,9 @@ returns-in-None c = λ line held rest low high sized all is.
     let room : c.as_slice.result.now ≡ (codes "line" ++ 32 ∷ decimal line) ++ 32 ∷ [] =
     c.as_slice.ensures ∙ c.word.ensures.value ∙ ap (λ (these : List ℕ). these ++ 32 ∷ []) (c.number.ensures.value ∙ ap (λ (these : List ℕ). these ++ 32 ∷ decimal c.from.result) c.begin.ensures ∙ ap (λ (n : ℕ). codes "line" ++ 32 ∷ decimal n) (c.from.ensures ∙ number)) in
     c.in-None.ensures (encode_lower held ++ 10 ∷ rest) (parts ∙ sym (line_front line (encode_lower held ++ 10 ∷ rest)) ∙ ap (λ (these : List ℕ). these ++ (encode_lower held ++ 10 ∷ rest)) (sym room))
+
+pub returns-in-Some-2 : goal.returns-in-Some-2
+returns-in-Some-2 c = grind (arith, common_steps)
+
+pub returns-in-None-2 : goal.returns-in-None-2
+returns-in-None-2 c = grind (arith, common_steps)

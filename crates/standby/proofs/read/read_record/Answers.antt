@@ -1,3 +1,4 @@
+use Rattle.std.proofs.lemmas.Grind.{common_steps}
 use Rattle.standby.proofs.Common.{◌≡◌, ◌+◌, ◌-◌, ◌*◌, ◌∷◌, ◌++◌, [], List, ℕ, length, sym, ap, subst, ◌∙◌, arith, length-append, IsRead, AreLines, ShipLine, lines_text, parted, record_of}
 use Rattle.standby.proofs.ReadLemmas.{at_none, line_long, lines_more, parted_more, record_bad, record_step, text_on, wider}
 use Rattle.standby.proofs.read.read_record.Goals as goal
@@ -60,3 +61,9 @@ returns-clause-goes c = λ front number is.
     let none = subst (λ (n : ℕ). IsRead c.args.line_bytes c.args.lines text (c.args.read + c.loop-index.index) number n c.loop-index.least) left was in
     let placed = subst (λ (n : ℕ). IsRead c.args.line_bytes c.args.lines text (c.args.read + n) number 0 c.loop-index.least) end none in
     at_none c.args.line_bytes c.args.lines text (c.args.read + c.args.count) number c.loop-index.least placed
+
+pub loop-index-init : goal.loop-index-init
+loop-index-init c = grind (arith, common_steps)
+
+pub overflow_add-least : goal.overflow_add-least
+overflow_add-least c = grind arith

@@ -1,3 +1,4 @@
+use Rattle.std.proofs.lemmas.Grind.{common_steps}
 use Rattle.standby.proofs.Common.{◌≡◌, ◌≢◌, ⊎_elim, ◌+◌, ◌≤◌, ◌∷◌, ◌++◌, [], List, ℕ, length, map, sym, ap, subst, ◌∙◌, arith, append_assoc, append-nil, length-append, All, length-map, map-append, All-map, All-push, IsRead, IsReadFault, AreLines, IsPacked, ShipLine, end_line, head_line, later, next, record_line, record_of, records_text, ShipRecord, empty_is, some_is}
 use Rattle.standby.proofs.BeginLemmas.{length-parted}
 use Rattle.standby.proofs.ReadLemmas.{record_long, records_step, text_more, whole_text}
@@ -117,3 +118,12 @@ returns-in-None c =
     (λ last. c.in-None.ensures more (same ∙ ap (λ (these : List ℕ). these ++ more) (last ∙ sym (c.as_slice.ensures ∙ c.fill_end.ensures))))
     (λ first. none first.0 more first.1 (same ∙ ap (λ (these : List ℕ). these ++ more) first.2))
     may)
+
+pub overflow_add-read-in-Ok-2 : goal.overflow_add-read-in-Ok-2
+overflow_add-read-in-Ok-2 c = grind (arith, common_steps)
+
+pub overflow_add-read-in-Ok : goal.overflow_add-read-in-Ok
+overflow_add-read-in-Ok c = grind (arith, common_steps)
+
+pub loop-count-smaller : goal.loop-count-smaller
+loop-count-smaller c = grind (arith, common_steps)

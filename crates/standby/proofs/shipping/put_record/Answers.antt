@@ -95,3 +95,6 @@ returns-clause-prints g c shown at many =
     (ap (λ (these : List ShipLine). head ++ lines_text these) (take_all c.loop-index.index (told at.lines) (omega (arith, many, c.loop-index-test.false, length-map at.lines bare)))
     ∙ ap (λ (first : List ℕ). first ++ lines_text (told at.lines)) (counts c.args.number c.args.entry.now.count at.lines many))
     (c.loop-index.invariant.so_far shown at many)
+
+pub returns-in-Err-put_one-clause-ends : goal.returns-in-Err-put_one-clause-ends
+returns-in-Err-put_one-clause-ends g c = grind arith

@@ -5,6 +5,7 @@ use Rattle.standby.proofs.ShipLemmas.{all_more, area_more, later_later, next_is,
 use Rattle.standby.proofs.shipping.put_records.Given.{Over}
 use Rattle.standby.proofs.shipping.put_records.Goals as goal
 use Rattle.standby.proofs.shipping.put_records.Goals.{In-Ok}
+use Rattle.std.proofs.lemmas.Bool.Decides.{nat_tests}
 
 pub loop-index-init : goal.loop-index-init
 loop-index-init g c =
@@ -23,15 +24,11 @@ loop-index-init g c =
 
 -- the number of the record at hand
 number_is : (base passed index number : ℕ) → passed ≤ index → number ≡ later base (index + 1) → number ≡ later (later base passed) (index - passed + 1)
-number_is base passed index number le is =
-    let same : index + 1 ≡ passed + (index - passed + 1) = omega (arith, le) in
-    is ∙ ap (later base) same ∙ sym (later_later base passed (index - passed + 1))
+number_is base passed index number le is = grind (arith, nat_tests, later_later)
 
 -- the record at hand among those behind so many
 lines_at : (records : List (List RecordLine)) (passed index : ℕ) → passed ≤ index → get_or records index [] ≡ get_or (drop passed records) (index - passed) []
-lines_at records passed index le =
-    let same : passed + (index - passed) ≡ index = omega (arith, le) in
-    ap (λ (n : ℕ). get_or records n []) (sym same) ∙ sym (get_or-drop passed records (index - passed) [])
+lines_at records passed index le = grind (arith, nat_tests, get_or-drop)
 
 -- the text of the records so far is a first part of that of all
 part_of : (number : ℕ) (records : List (List RecordLine)) (i : ℕ) → (rest : List ℕ) × (records_text number (take i (map told records)) ++ rest ≡ records_text number (map told records))
@@ -76,9 +73,7 @@ lies g c shown place =
 -- the text of the record at hand is that of its place among those behind so many
 text_is : (base passed index number : ℕ) (records : List (List RecordLine)) (lines : List RecordLine) → passed ≤ index → number ≡ later base (index + 1) → lines ≡ get_or records index []
     → record_text number (told lines) ≡ record_text (later (later base passed) (index - passed + 1)) (told (get_or (drop passed records) (index - passed) []))
-text_is base passed index number records lines le is same =
-    ap (λ (lines : List RecordLine). record_text number (told lines)) (same ∙ lines_at records passed index le)
-    ∙ ap (λ (n : ℕ). record_text n (told (get_or (drop passed records) (index - passed) []))) (number_is base passed index number le is)
+text_is base passed index number records lines le is same = grind (arith, nat_tests, lines_at, number_is)
 
 pub returns-in-Err-put_record-clause-prints : goal.returns-in-Err-put_record-clause-prints
 returns-in-Err-put_record-clause-prints g c shown is =
@@ -156,3 +151,12 @@ returns-clause-prints g c shown is =
     subst (λ (bytes : List ℕ). PrintsBy {T = Unit {0}} g.W.Outside bytes c.args.outside.now c.loop-index.outside (Ok tt))
     (ap (records_text number) (take_all (c.loop-index.index - c.args.passed) (map told behind) (omega (arith, shown.shows.read.count, c.loop-index-test.false, c.records-index-end.ensures, length-map behind told, length-drop c.args.passed shown.shows.read.records))))
     (c.loop-index.invariant.so_far shown is)
+
+pub returns-in-Err-put_record-clause-ends : goal.returns-in-Err-put_record-clause-ends
+returns-in-Err-put_record-clause-ends g c = grind arith
+
+pub put_record-requires-clause-room : goal.put_record-requires-clause-room
+put_record-requires-clause-room g c = grind arith
+
+pub returns-in-Err-clause-only : goal.returns-in-Err-clause-only
+returns-in-Err-clause-only g c = shows_on g.W.Outside g.met.W.Outside.fewer_later c.args.outside.now c.loop-index.outside c.record_at.new.outside c.loop-index.invariant.only (shows_asks g.W.Outside c.loop-index.outside c.record_at.new.outside c.record_at.ensures.asks)

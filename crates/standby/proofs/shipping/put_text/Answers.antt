@@ -7,6 +7,7 @@ use Rattle.standby.proofs.ShowLemmas.{shows_line, still_shown}
 use Rattle.standby.proofs.shipping.put_text.Given.{Over}
 use Rattle.standby.proofs.shipping.put_text.Goals as goal
 use Rattle.standby.proofs.shipping.put_text.Goals.{After-put_line, After-put_records}
+use Rattle.std.proofs.lemmas.Bool.Decides.{nat_tests}
 
 pub returns-in-Err-clause-prints : goal.returns-in-Err-clause-prints
 returns-in-Err-clause-prints g c shown =
@@ -59,14 +60,7 @@ records_are base passed from first second is many same =
 
 -- the last number
 last_is : (base passed from count : ℕ) (records : List (List RecordLine)) → from ≡ later base passed → passed ≡ behind base from → length records ≡ count → passed ≤ count → later base count ≡ later from (length (map told (drop (behind base from) records)))
-last_is base passed from count records is many long le =
-    let all : count ≡ passed + (count - passed) = omega (arith, le) in
-    let left : count - passed ≡ length (map told (drop passed records)) = omega (arith, long, le, length-map (drop passed records) told, length-drop passed records) in
-    ap (later base) all
-    ∙ sym (later_later base passed (count - passed))
-    ∙ ap (λ (n : ℕ). later n (count - passed)) (sym is)
-    ∙ ap (later from) left
-    ∙ ap (λ (n : ℕ). later from (length (map told (drop n records)))) many
+last_is base passed from count records is many long le = grind (arith, nat_tests, length-map, length-drop, later_later, many)
 
 pub returns-in-Err-put_records-clause-prints : goal.returns-in-Err-put_records-clause-prints
 returns-in-Err-put_records-clause-prints g c shown =
@@ -128,3 +122,15 @@ returns-clause-content g c =
     on_ok : {T E P : Type 0} (result : Result T E) → P → OnOk result P
     on_ok (Ok value) is = is
     on_ok (Err why) is = tt
+
+pub put_records-requires-clause-room : goal.put_records-requires-clause-room
+put_records-requires-clause-room g c = grind arith
+
+pub returns-in-Err-clause-only : goal.returns-in-Err-clause-only
+returns-in-Err-clause-only g c = grind arith
+
+pub returns-in-Err-put_records-clause-ends : goal.returns-in-Err-put_records-clause-ends
+returns-in-Err-put_records-clause-ends g c = grind arith
+
+pub returns-clause-ends : goal.returns-clause-ends
+returns-clause-ends g c = grind arith

@@ -21,6 +21,4 @@ returns c =
     c.spare_fault.ensures
     ∙ ap (λ (those : PageSize). first_fault bytes (spare_fields those head c.min-listed.result)) page
     ∙ ap (λ (n : ℕ). first_fault bytes (spare_fields (page_of (number_at head 8 2)) head n)) from in
-    or_is c.or-5.ensures (or_is c.or-4.ensures (or_is c.or-3.ensures (or_is c.or-2.ensures (or_is c.or.ensures c.name_fault.ensures version) count) bank) segments) none
-    ∙ six_faults bytes (name_field head) (within 8 2 (number_at head 8 2) 1 2) (within 10 2 (number_at head 10 2) 1 15) (within 12 4 (number_at head 12 4) 4096 131072)
-    (segment_fields 16 1 1024 (segments_of head)) (spare_fields (page_of (number_at head 8 2)) head (length (segments_of head)))
+    cc (or_is c.or-5.ensures (or_is c.or-4.ensures (or_is c.or-3.ensures (or_is c.or-2.ensures (or_is c.or.ensures c.name_fault.ensures version) count) bank) segments) none, six_faults bytes (name_field head) (within 8 2 (number_at head 8 2) 1 2) (within 10 2 (number_at head 10 2) 1 15) (within 12 4 (number_at head 12 4) 4096 131072) (segment_fields 16 1 1024 (segments_of head)) (spare_fields (page_of (number_at head 8 2)) head (length (segments_of head))))

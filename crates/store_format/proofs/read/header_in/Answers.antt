@@ -62,10 +62,7 @@ made c =
     let is : IfOk {E = DirectoryFault} (Ok c.unwrap-directory.result) (λ directory. directory ≡ record { page = c.page_of-page.result; segments = take c.from-2.result c.loop-i.segments; fine = c.half_at-2.result }) =
     rw c.unwrap-directory.ensures at c.with_fine.ensures.value in
     let at = (goal.at.new-requires c).After-with_fine in
-    is
-    ∙ ap (λ (page : PageSize). record { page = page; segments = take c.from-2.result c.loop-i.segments; fine = c.half_at-2.result }) (sized at)
-    ∙ ap (λ (these : List (ℕ × ℕ)). record { page = page_of (number_at head 8 2); segments = these; fine = c.half_at-2.result }) (listed at)
-    ∙ ap (λ (fine : ℕ). record { page = page_of (number_at head 8 2); segments = segments_of head; fine = fine }) c.half_at-2.ensures
+    cc (is, sized at, listed at, c.half_at-2.ensures)
 
 pub new-requires : goal.new-requires
 new-requires c =

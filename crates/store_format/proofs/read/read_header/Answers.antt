@@ -1,4 +1,4 @@
-use Rattle.store_format.proofs.Common.{◌≡◌, ℕ, ◌∙◌, sym, ap, length, List, take, refl, Option, None, Some, IsSome, min, held_of, fields, first_fault, header_of, total, NotAStore}
+use Rattle.store_format.proofs.Common.{◌≡◌, ℕ, ◌∙◌, sym, ap, length, List, take, refl, Option, None, Some, IsSome, min, held_of, fields, first_fault, header_of}
 use Rattle.store_format.proofs.Padded.{padded_fault, padded_header}
 use Rattle.store_format.proofs.Sound.{faulty_header, faulty_length}
 use Rattle.store_format.proofs.read.read_header.Given.{Over}
@@ -35,9 +35,7 @@ returns-else-length-total-clause-fault g c told =
     let at = goal.at.returns-else-length-total-clause-fault g c in
     let held = held_of g.W.Outside c.args.outside.now in
     let bytes = c.in-Ok.ensures.number told in
-    faulty_length held c.header_in-header.result (found g at.After-header_fault told ∙ none_is c.header_fault.result c.in_default.not-Some) (said g at.After-total-total told)
-    (λ same. c.if-length-total.false (bytes ∙ same ∙ sym c.total-total.ensures.value))
-    ∙ ap NotAStore (ap (λ (n : ℕ). min n (total c.header_in-header.result)) (sym bytes) ∙ ap (min c.in-Ok.read.0) (sym c.total-total.ensures.value) ∙ sym c.min.ensures)
+    cc (faulty_length held c.header_in-header.result (found g at.After-header_fault told ∙ none_is c.header_fault.result c.in_default.not-Some) (said g at.After-total-total told) (λ same. c.if-length-total.false (bytes ∙ same ∙ sym c.total-total.ensures.value)), bytes, c.total-total.ensures.value, c.min.ensures)
 
 pub returns-then-length-total-clause-header : goal.returns-then-length-total-clause-header
 returns-then-length-total-clause-header g c told =

@@ -9,10 +9,7 @@ returns-in-Two c =
     let count = c.args.listed in
     let from : 16 + 4 * c.from.result ≡ 16 + 4 * count = omega (arith, c.from.ensures) in
     let left : 128 - (16 + 4 * c.from.result) ≡ 112 - 4 * count = omega (arith, from) in
-    c.zeros_fault.ensures
-    ∙ ap (λ (n : ℕ). first_fault bytes (zeros head n (128 - (16 + 4 * c.from.result)))) from
-    ∙ ap (λ (n : ℕ). first_fault bytes (zeros head (16 + 4 * count) n)) left
-    ∙ ap (λ (page : PageSize). first_fault bytes (spare_fields page head count)) (sym c.in-Two.is)
+    cc (c.zeros_fault.ensures, from, left, c.in-Two.is)
 
 pub returns-in-Four : goal.returns-in-Four
 returns-in-Four c =

@@ -9,14 +9,9 @@ here c = c.number_fault-fault.ensures ∙ ap (λ (n : ℕ). first_fault c.args.l
 pub returns-then-is_some : goal.returns-then-is_some
 returns-then-is_some c =
     let is = here (goal.at.returns-then-is_some c).After-is_some in
-    is
-    ∙ sym (or_first _ (first_fault c.args.length (zeros c.args.head.now (c.loop-at.at + 1) (c.args.to - (c.loop-at.at + 1)))) (ap (λ (fault : Option ℕ). is_some fault) (sym is) ∙ sym c.is_some.ensures ∙ c.if-is_some.true))
-    ∙ sym (zeros_more c.args.head.now c.args.length c.loop-at.at c.args.to c.loop-at-test.true)
-    ∙ c.loop-at.invariant
+    cc (is, or_first _ (first_fault c.args.length (zeros c.args.head.now (c.loop-at.at + 1) (c.args.to - (c.loop-at.at + 1)))) (ap (λ (fault : Option ℕ). is_some fault) (sym is) ∙ sym c.is_some.ensures ∙ c.if-is_some.true), zeros_more c.args.head.now c.args.length c.loop-at.at c.args.to c.loop-at-test.true, c.loop-at.invariant)
 
 pub loop-at-preserved : goal.loop-at-preserved
 loop-at-preserved c =
     let is = here (goal.at.loop-at-preserved c).After-is_some in
-    sym (or_second _ (first_fault c.args.length (zeros c.args.head.now (c.loop-at.at + 1) (c.args.to - (c.loop-at.at + 1)))) (ap (λ (fault : Option ℕ). is_some fault) (sym is) ∙ sym c.is_some.ensures ∙ c.if-is_some.false))
-    ∙ sym (zeros_more c.args.head.now c.args.length c.loop-at.at c.args.to c.loop-at-test.true)
-    ∙ c.loop-at.invariant
+    cc (or_second _ (first_fault c.args.length (zeros c.args.head.now (c.loop-at.at + 1) (c.args.to - (c.loop-at.at + 1)))) (ap (λ (fault : Option ℕ). is_some fault) (sym is) ∙ sym c.is_some.ensures ∙ c.if-is_some.false), zeros_more c.args.head.now c.args.length c.loop-at.at c.args.to c.loop-at-test.true, c.loop-at.invariant)

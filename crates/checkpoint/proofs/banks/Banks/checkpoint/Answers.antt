@@ -61,3 +61,9 @@ returns-in-Ok-clause-done g c tracks =
           subst (λ (those : List ℕ). HoldsRecords (header_of (take 128 (held_of G c.args.outside.now))) away (number_of bank) [] those) (sym (leaves_held G c.move_to.new.outside moved.sure image seen left))
           (subst (λ (those : Header). HoldsRecords those away (number_of bank) [] new) (sym said) there);
     }
+
+pub invariant_of-self-in-Ok : goal.invariant_of-self-in-Ok
+invariant_of-self-in-Ok g c = grind arith
+
+pub move_to-requires-clause-room : goal.move_to-requires-clause-room
+move_to-requires-clause-room g c = grind arith

@@ -37,3 +37,6 @@ returns-in-Some g c =
       records = λ tracks. inl (c.append.ensures.records tracks);
       done = λ is. c.append.ensures.done (c.kept.ensures.done (c.in-Some.is ∙ ap Some is));
     })
+
+pub commit_behind_checkpoint-requires-clause-room : goal.commit_behind_checkpoint-requires-clause-room
+commit_behind_checkpoint-requires-clause-room g c = grind arith

@@ -1,3 +1,4 @@
+use Rattle.std.proofs.Common.{arith}
 use Rattle.restart.proofs.Common.{◌≡◌, ℕ, List, [], ap, subst, sym, IsSome, ◌∙◌, Option, unwrap_or, held_of, asks_on, IsChosen, Shows}
 use Rattle.restart.proofs.ShowLemmas.{opening_fault, sure_on, shows_read}
 use Rattle.restart.proofs.durable.Durable.open.Goals as goal
@@ -26,3 +27,9 @@ returns-in-Ok-clause-tracks g c honest told =
           (shows_read (held_of G c.args.outside.now) c.in_ok-header.header c.in-Ok.banks (begun.header told) (record { page = opened.page; bank_bytes = opened.bank_bytes; lines = opened.bound })
           (subst (λ (held : List ℕ). IsChosen held c.in-Ok.banks) first (c.in-Ok.ensures.read still)));
     }
+
+pub returns-in-Ok-clause-shows : goal.returns-in-Ok-clause-shows
+returns-in-Ok-clause-shows g c = grind arith
+
+pub returns-in-Ok-clause-room : goal.returns-in-Ok-clause-room
+returns-in-Ok-clause-room g c = grind arith

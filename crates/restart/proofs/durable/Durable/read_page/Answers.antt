@@ -80,3 +80,15 @@ returns-clause-read g c shown =
     subst (λ (n : ℕ). Composed c.self.inside.header.directory.page held (home_of held c.self.inside.header) c.self.inside.banks.newest n 16 c.loop-i.into) first
     (subst (λ (n : ℕ). Composed c.self.inside.header.directory.page held (home_of held c.self.inside.header) c.self.inside.banks.newest (c.from-first.result * 16) n c.loop-i.into) all (c.loop-i.invariant.composed shown.told)) in
     shown_page held (record { header = c.self.inside.header; bank = c.self.inside.banks }) shows c.loop-i.into c.args.page within c.loop-i.invariant.len composed
+
+pub read_newest-requires-clause-room : goal.read_newest-requires-clause-room
+read_newest-requires-clause-room g c = grind arith
+
+pub read_newest-requires-clause-below : goal.read_newest-requires-clause-below
+read_newest-requires-clause-below g c = grind arith
+
+pub read_newest-requires-clause-within : goal.read_newest-requires-clause-within
+read_newest-requires-clause-within g c = grind arith
+
+pub returns-in_err-read_newest-clause-asks : goal.returns-in_err-read_newest-clause-asks
+returns-in_err-read_newest-clause-asks g c = asks_on g.W.Outside g.met.W.Outside.fewer_later c.args.outside.now c.loop-i.outside c.read_newest.new.outside c.loop-i.invariant.asks c.read_newest.ensures.asks

@@ -1,3 +1,4 @@
+use Rattle.outside.proofs.Runs.{asks_on}
 use Rattle.restart.proofs.Common.{◌≡◌, ℕ, List, [], ap, subst, sym, IsSome, ◌∙◌, arith, Option, unwrap_or, total, HasHeader, held_of, IsChosen, map_ok, ReopenFault, IsStoreReopenFault, KeptStore, Fits, Shows, IsStoreWith}
 use Rattle.checkpoint.specs.Chosen as opened
 use Rattle.redo_journal.specs.declared.fault.ReopenFault.TheVariants as reopening
@@ -67,3 +68,6 @@ returns-in-Ok-clause-intact g c =
     if_err (opened.IsChosenReopenFault g.W.Outside c.synced.new.outside c.reopen.new.outside c.self.inside.banks)
     (λ fault. IsSome (g.W.Outside.held c.args.outside.now) → IsStoreWith c.args.self.now.header (held_of g.W.Outside c.args.outside.now) → fault ≡ reopening.DiskFault) c.reopen.result c.reopen.ensures.fault
     (λ fault is told intact. intact_fault g.W.Outside c.args.outside.now c.reopen.new.outside c.args.self.now.header fault told intact (fault_is g at fault is))
+
+pub returns-in-Ok-clause-asks : goal.returns-in-Ok-clause-asks
+returns-in-Ok-clause-asks g c = asks_on g.W.Outside g.met.W.Outside.fewer_later c.args.outside.now c.synced.new.outside c.reopen.new.outside c.synced.ensures.asks c.reopen.ensures.asks

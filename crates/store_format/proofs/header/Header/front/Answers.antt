@@ -1,4 +1,4 @@
-use Rattle.store_format.proofs.Common.{◌≡◌, ℕ, ◌-◌, ◌+◌, ◌*◌, List, ◌++◌, replicate, ◌∙◌, ap, arith, vec_len, big_bytes, Header, header_bytes, front, stands}
+use Rattle.store_format.proofs.Common.{◌≡◌, ℕ, ◌-◌, ◌+◌, ◌*◌, List, ◌++◌, replicate, arith, vec_len, big_bytes, Header, header_bytes, front}
 use Rattle.store_format.proofs.Fresh.{stored_stands}
 use Rattle.store_format.proofs.header.Header.front.Goals as goal
 use Rattle.std.proofs.lemmas.Bool.Decides.{nat_tests}
@@ -22,5 +22,4 @@ pub returns-clause-stands : goal.returns-clause-stands
 returns-clause-stands c = λ bytes whole.
     let header = c.args.self.now in
     let wrote = c.in_ok-write_header.ensures in
-    ap (λ (these : List ℕ). stands (these ++ bytes)) (returns-clause-bytes c)
-    ∙ stored_stands header c.args.number bytes wrote.ranges wrote.legal wrote.flags c.ranges.number.fits whole
+    cc (returns-clause-bytes c, stored_stands header c.args.number bytes wrote.ranges wrote.legal wrote.flags c.ranges.number.fits whole)

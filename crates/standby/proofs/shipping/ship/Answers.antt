@@ -1,0 +1,8 @@
+use Rattle.std.proofs.Common.{arith}
+use Rattle.standby.proofs.shipping.ship.Goals as goal
+
+pub returns-in-Err-clause-ships : goal.returns-in-Err-clause-ships
+returns-in-Err-clause-ships g c = grind arith
+
+pub returns-in-Err-clause-content : goal.returns-in-Err-clause-content
+returns-in-Err-clause-content g c = grind arith
