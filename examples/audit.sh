@@ -4,7 +4,7 @@
 set -eu
 
 here=$(cd "$(dirname "$0")" && pwd)
-program=${1:-$here/../romp801}
+program=$(readlink -f "$(command -v "${1:-$here/../romp801}")")
 folder=$(mktemp -d)
 trap 'rm -rf "$folder"' EXIT
 

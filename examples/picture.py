@@ -1,164 +1,205 @@
 #!/usr/bin/env python3
 """Draws a report as a picture: `examples/picture.py [REPORT] >PICTURE.svg`; without a word it reads standard input.
 
-From left to right are the report's lines; a lane belongs to an activation, from its begin to its end. A box is a turn, with
-the number of rows that took effect. An arrow goes from one that waits to whom it waits for, and a red one along a cycle.
-A dot is a commit with its number, a cross an end without one. Checkpoints and crashes go across all lanes.
+From left to right are the report's lines, eighty columns in a band, and the next band is below. A lane belongs to an activation, from its
+begin to its end; a lane that is free is used again. A legend stands at the end. Where a line is none of a report, it ends with 1 and says which.
 """
 import sys
 from xml.sax.saxutils import escape
 
-LEFT = 130
+LEFT = 110
 COLUMN = 44
-TOP = 40
+TOP = 46
 LANE = 46
+BAND = 80
+FREE_AFTER = 3                   # columns from an activation's end to the next begin in its lane, for the words at its end
+LEGEND = 26
 GREY, BLUE, GREEN, RED, ORANGE = "#888", "#36c", "#283", "#c22", "#b60"
 ARROWS = {ORANGE: "wait", RED: "cycle"}
+REFUSED = ("busy", "nosegment")
+ENDS = ("victim", "commit", "check", "journal", "disk", "doubt", "lost", "left")
 
 
 class Lane:
-    """One activation: its name, its row in the picture, and the column from which its line isn't drawn yet."""
+    """One activation: its name, its row, the columns of its begin and its end, and those from which it waits and from which it doesn't."""
 
-    def __init__(self, name, row, column):
-        self.name = name
-        self.height = TOP + LANE * row + LANE // 2
-        self.drawn_to = column
-        self.waits = False
+    def __init__(self, number, name, row, column):
+        self.number, self.name, self.row = number, name, row
+        self.begin, self.end = column, None
+        self.waits = []
+
+    def is_waiting(self, column):
+        """Whether it waits in front of this column."""
+        return any(start < column <= (stop if stop is not None else column) for start, stop in self.waits)
 
 
-class Picture:
-    """The shapes so far, the lanes by their numbers, and the column that is being drawn."""
+class Report:
+    """What is in each column, and the lanes."""
 
     def __init__(self):
-        self.below = []
-        self.shapes = []
+        self.columns = []
         self.lanes = {}
-        self.active = set()
-        self.column = 0
-        self.across = []
+        self.free = []               # for each row, the column from which it is free, or None
+        self.crashed = False
 
-    def here(self):
-        return LEFT + COLUMN * self.column
+    def new_column(self):
+        self.columns.append([])
+        return len(self.columns) - 1
+
+    def put(self, *item):
+        self.columns[-1].append(item)
+
+    def begin(self, words):
+        column = self.new_column()
+        row = next((row for row, free in enumerate(self.free) if free is not None and free <= column), len(self.free))
+        if row == len(self.free):
+            self.free.append(None)
+        self.free[row] = None
+        self.lanes[words[1]] = Lane(words[1], words[2], row, column)
+        self.put("begin", words[1])
+        if words[0] in REFUSED:
+            self.over(words[1], words[0], RED)
+
+    def turn(self, number, rows):
+        column = self.new_column()
+        lane = self.lanes[number]
+        if lane.waits and lane.waits[-1][1] is None:
+            lane.waits[-1][1] = column
+        self.put("turn", number, rows)
+
+    def over(self, number, words, color):
+        lane = self.lanes[number]
+        lane.end = len(self.columns) - 1
+        self.free[lane.row] = lane.end + FREE_AFTER
+        self.put("end", number, words, color)
+
+    def across(self, words, color):
+        self.new_column()
+        self.put("across", words, color)
+        self.new_column()
+
+    def take(self, words):
+        """Takes one line of the report; raises an error where it is none."""
+        kind = words[0]
+        if kind in ("begin", *REFUSED):
+            self.begin(words)
+        elif kind == "turn":
+            self.turn(words[1], words[3])
+        elif kind == "wait":
+            self.lanes[words[1]].waits.append([len(self.columns) - 1, None])
+            for other in words[3:]:
+                self.put("arrow", words[1], self.lanes[other].number, ORANGE)
+        elif kind == "cycle":
+            for waiting, other in zip(words[1:], words[2:]):
+                self.put("arrow", self.lanes[waiting].number, self.lanes[other].number, RED)
+        elif kind == "stored":
+            self.across(f"checkpoint {int(words[1])}", GREEN)
+        elif kind in ENDS:
+            if kind == "lost" and not self.crashed:
+                self.across("crash", RED)
+                self.crashed = True
+            label = words[3] if kind == "commit" else f"check {words[3]}" if kind == "check" else kind
+            self.over(words[1], label, GREEN if kind == "commit" else ORANGE if kind == "left" else RED)
+        elif kind == "open":
+            int(words[1])
+            if self.columns and not self.crashed:
+                self.across("crash", RED)
+        elif kind == "closed":
+            self.across("closed", RED)
+        elif kind in ("idle", "end"):
+            int(words[1])
+        else:
+            raise ValueError(kind)
+        self.crashed = kind == "lost"
+
+
+class Band:
+    """The columns from one to another, drawn at a height: what lies below, the shapes, and words on top of all."""
+
+    def __init__(self, report, first, last, top):
+        self.report, self.first, self.last, self.top = report, first, last, top
+        self.below, self.shapes, self.words = [], [], []
+        rows = [lane.row for lane in report.lanes.values() if lane.begin < last and (lane.end is None or lane.end >= first)]
+        self.height = TOP + LANE * (max(rows, default=0) + 1)
+        for lane in report.lanes.values():
+            self.draw_lane(lane)
+        for column in range(first, last):
+            for item in report.columns[column]:
+                getattr(self, item[0])(self.x(column), *item[1:])
+
+    def x(self, column):
+        return LEFT + COLUMN * (column - self.first + 1)
+
+    def y(self, number):
+        return self.top + TOP + LANE * self.report.lanes[number].row + LANE // 2
 
     def text(self, x, y, words, color="#222", anchor="middle"):
-        self.shapes.append(f'<text x="{x}" y="{y}" fill="{color}" text-anchor="{anchor}">{escape(words)}</text>')
+        self.words.append(f'<text x="{x}" y="{y}" fill="{color}" text-anchor="{anchor}" stroke="#fff" stroke-width="3" '
+                          f'paint-order="stroke">{escape(words)}</text>')
 
-    def arrow(self, start, end, color):
-        shift = 6 if end.height > start.height else -6
-        bend = self.here() + (14 if color == RED and shift < 0 else -14 if color == RED else 0)
-        middle = (start.height + end.height) // 2
-        self.shapes.append(
-            f'<path d="M{self.here()} {start.height + shift} Q{bend} {middle} {self.here()} {end.height - shift}" '
-            f'fill="none" stroke="{color}" stroke-width="2" marker-end="url(#{ARROWS[color]})"/>')
+    def draw_lane(self, lane):
+        """The lane's line in this band: dashed where the activation waits."""
+        end = len(self.report.columns) if lane.end is None else lane.end
+        if lane.begin >= self.last or end < self.first:
+            return
+        if lane.begin < self.first:
+            self.text(8, self.y(lane.number) + 4, f"{lane.number} {lane.name}", anchor="start")
+        for column in range(max(lane.begin + 1, self.first), min(end, self.last - 1) + 1):
+            dashes = ' stroke-dasharray="4 4"' if lane.is_waiting(column) else ""
+            x, y = self.x(column), self.y(lane.number)
+            self.below.append(f'<line x1="{x - COLUMN}" y1="{y}" x2="{x}" y2="{y}" stroke="{GREY}" stroke-width="2"{dashes}/>')
 
-    def draw_lane(self, number):
-        """The lane's line up to this column: dashed where the activation waits."""
-        lane = self.lanes[number]
-        dashes = ' stroke-dasharray="4 4"' if lane.waits else ""
-        self.below.append(
-            f'<line x1="{lane.drawn_to}" y1="{lane.height}" x2="{self.here()}" y2="{lane.height}" '
-            f'stroke="{GREY}" stroke-width="2"{dashes}/>')
-        lane.drawn_to = self.here()
+    def begin(self, x, number):
+        y, lane = self.y(number), self.report.lanes[number]
+        self.shapes.append(f'<line x1="{x}" y1="{y - 8}" x2="{x}" y2="{y + 8}" stroke="{GREY}" stroke-width="3"/>')
+        self.text(x - 2, y - 13, f"{number} {lane.name}", anchor="start")
 
-    def end_lane(self, number, words, color, is_commit=False):
-        """The activation ends in this column: a dot or a cross, with words beside it."""
-        lane = self.lanes[number]
-        if number in self.active:
-            self.draw_lane(number)
-            self.active.discard(number)
-        x, y = self.here() + 18, lane.height
-        if is_commit:
-            self.shapes.append(f'<circle cx="{x}" cy="{y}" r="6" fill="{color}"/>')
-        else:
-            self.shapes.append(f'<path d="M{x - 5} {y - 5} l10 10 m0 -10 l-10 10" stroke="{color}" stroke-width="3"/>')
-        self.text(x + 10, y + 4, words, color, "start")
+    def turn(self, x, number, rows):
+        y = self.y(number)
+        self.shapes.append(f'<rect x="{x - 12}" y="{y - 10}" width="24" height="20" rx="3" fill="#fff" stroke="{BLUE}" stroke-width="2"/>')
+        self.shapes.append(f'<text x="{x}" y="{y + 4}" fill="{BLUE}" text-anchor="middle">{escape(rows)}</text>')
 
+    def arrow(self, x, start, end, color):
+        y, to = self.y(start), self.y(end)
+        shift = 6 if to > y else -6
+        bend = x + (14 if color == RED and shift < 0 else -14 if color == RED else 0)
+        self.shapes.append(f'<path d="M{x} {y + shift} Q{bend} {(y + to) // 2} {x} {to - shift}" '
+                           f'fill="none" stroke="{color}" stroke-width="2" marker-end="url(#{ARROWS[color]})"/>')
 
-def begin(picture, words):
-    number, name = words[1], words[2]
-    picture.column += 1
-    lane = Lane(name, len(picture.lanes), picture.here())
-    picture.lanes[number] = lane
-    picture.text(8, lane.height + 4, f"{number} {name}", "#222", "start")
-    if words[0] == "begin":
-        picture.active.add(number)
-        picture.shapes.append(f'<line x1="{picture.here()}" y1="{lane.height - 8}" x2="{picture.here()}" '
-                              f'y2="{lane.height + 8}" stroke="{GREY}" stroke-width="3"/>')
-    else:
-        picture.end_lane(number, words[0], RED)
+    def end(self, x, number, words, color):
+        self.shapes.append(ending(x + 18, self.y(number), color))
+        self.text(x + 28, self.y(number) + 4, words, color, "start")
+
+    def across(self, x, words, color):
+        self.below.append(f'<line x1="{x}" y1="{self.top + TOP - 8}" x2="{x}" y2="{self.top + self.height - 4}" stroke="{color}" stroke-width="2"/>')
+        self.text(x, self.top + TOP - 12, words, color)
 
 
-def turn(picture, words):
-    number = words[1]
-    lane = picture.lanes[number]
-    picture.column += 1
-    picture.draw_lane(number)
-    lane.waits = False
-    x, y = picture.here() - 12, lane.height - 10
-    picture.shapes.append(f'<rect x="{x}" y="{y}" width="24" height="20" rx="3" fill="#fff" stroke="{BLUE}" stroke-width="2"/>')
-    picture.text(picture.here(), lane.height + 4, words[3], BLUE)
+def ending(x, y, color):
+    """A dot for a commit, and a cross for another end."""
+    if color == GREEN:
+        return f'<circle cx="{x}" cy="{y}" r="6" fill="{color}"/>'
+    return f'<path d="M{x - 5} {y - 5} l10 10 m0 -10 l-10 10" stroke="{color}" stroke-width="3"/>'
 
 
-def wait(picture, words):
-    lane = picture.lanes[words[1]]
-    lane.waits = True
-    for other in words[3:]:
-        picture.arrow(lane, picture.lanes[other], ORANGE)
-
-
-def cycle(picture, words):
-    for waiting, other in zip(words[1:], words[2:]):
-        picture.arrow(picture.lanes[waiting], picture.lanes[other], RED)
-
-
-def across(picture, words, color):
-    """A line across all lanes, in a column of its own."""
-    picture.column += 1
-    picture.across.append((picture.here(), color))
-    picture.text(picture.here(), TOP - 8, words, color)
-    picture.column += 1
-
-
-def ending(picture, words):
-    """A line that ends an activation."""
-    kind, number = words[0], words[1]
-    if kind == "commit":
-        picture.end_lane(number, words[3], GREEN, True)
-    elif kind == "check":
-        picture.end_lane(number, f"check {words[3]}", RED)
-    else:
-        picture.end_lane(number, kind, RED)
-
-
-def read_line(picture, words, crashed):
-    """Draws one line; answers whether a crash was begun whose `open` line is still to come."""
-    kind = words[0]
-    if kind in ("begin", "busy", "nosegment"):
-        begin(picture, words)
-    elif kind == "turn":
-        turn(picture, words)
-    elif kind == "wait":
-        wait(picture, words)
-    elif kind == "cycle":
-        cycle(picture, words)
-    elif kind in ("victim", "commit", "check", "journal", "disk", "doubt"):
-        ending(picture, words)
-    elif kind == "stored":
-        across(picture, f"checkpoint {words[1]}", GREEN)
-    elif kind == "lost":
-        if not crashed:
-            across(picture, "crash", RED)
-        picture.end_lane(words[1], kind, RED)
-        return True
-    elif kind == "open" and (picture.column > 0 or picture.lanes):
-        if not crashed:
-            across(picture, "crash", RED)
-    elif kind == "closed":
-        across(picture, "closed", RED)
-    elif kind == "left":
-        picture.draw_lane(words[1])
-        picture.end_lane(words[1], kind, ORANGE)
-    return False
+def legend(width, top):
+    """What the signs mean, in as many lines as the width wants; and how high it is."""
+    arrow = '<path d="M{x} {y} L{z} {y}" stroke="{color}" stroke-width="2" marker-end="url(#{name})"/>'
+    box = '<rect x="{x}" y="{up}" width="24" height="20" rx="3" fill="#fff" stroke="' + BLUE + '" stroke-width="2"/>'
+    signs = [("a turn, with its rows", lambda x, y: box.format(x=x, up=y - 10)),
+             ("it waits for that one", lambda x, y: arrow.format(x=x, y=y, z=x + 24, color=ORANGE, name="wait")),
+             ("a cycle of waits", lambda x, y: arrow.format(x=x, y=y, z=x + 24, color=RED, name="cycle")),
+             ("a commit, with its number", lambda x, y: ending(x + 12, y, GREEN)),
+             ("an end without one", lambda x, y: ending(x + 12, y, RED)),
+             ("waiting", lambda x, y: f'<line x1="{x}" y1="{y}" x2="{x + 24}" y2="{y}" stroke="{GREY}" stroke-width="2" stroke-dasharray="4 4"/>')]
+    shapes, x, y = [], 8, top + LEGEND // 2
+    for words, sign in signs:
+        long = 40 + 7 * len(words)
+        if x > 8 and x + long > width:
+            x, y = 8, y + LEGEND
+        shapes += [sign(x, y), f'<text x="{x + 32}" y="{y + 4}" fill="#222">{words}</text>']
+        x += long
+    return shapes, y + LEGEND // 2 - top
 
 
 def marker(color):
@@ -166,30 +207,49 @@ def marker(color):
             f'orient="auto"><path d="M0 0 L10 5 L0 10 z" fill="{color}"/></marker>')
 
 
-def written(picture):
+def written(report):
     """The picture's text."""
-    picture.column += 2
-    width, height = picture.here(), TOP + LANE * max(1, len(picture.lanes)) + 10
+    width = LEFT + COLUMN * (min(BAND, max(len(report.columns), 8)) + 3)
+    top, bands = 0, []
+    for first in range(0, max(len(report.columns), 1), BAND):
+        bands.append(Band(report, first, min(first + BAND, len(report.columns)), top))
+        top += bands[-1].height
+    signs, high = legend(width, top + 10)
+    height = top + high + 20
     lines = [f'<svg xmlns="http://www.w3.org/2000/svg" width="{width}" height="{height}" '
              f'viewBox="0 0 {width} {height}" font-family="sans-serif" font-size="12">',
-             f'<defs>{marker(ORANGE)}{marker(RED)}</defs>',
-             f'<rect width="{width}" height="{height}" fill="#fff"/>']
-    for x, color in picture.across:
-        lines.append(f'<line x1="{x}" y1="{TOP - 4}" x2="{x}" y2="{height - 8}" stroke="{color}" stroke-width="2"/>')
-    return "\n".join(lines + picture.below + picture.shapes + ["</svg>", ""])
+             f'<defs>{marker(ORANGE)}{marker(RED)}</defs>', f'<rect width="{width}" height="{height}" fill="#fff"/>']
+    for band in bands:
+        lines += band.below + band.shapes + band.words
+    return "\n".join([*lines, *signs, "</svg>", ""])
+
+
+def read(lines):
+    """The report of these lines; ends with 1 where one is none."""
+    report = Report()
+    for place, line in enumerate(lines, 1):
+        try:
+            report.take(line.split())
+        except (ValueError, KeyError, IndexError):
+            sys.exit(f"picture.py: line {place} is no line of a report: {line[:60]}")
+    return report
 
 
 def main():
-    if len(sys.argv) > 1:
-        with open(sys.argv[1], encoding="ascii") as file:
-            lines = file.read().splitlines()
-    else:
-        lines = sys.stdin.read().splitlines()
-    picture = Picture()
-    crashed = False
-    for line in lines:
-        crashed = read_line(picture, line.split(), crashed)
-    sys.stdout.write(written(picture))
+    if sys.argv[1:] in (["--help"], ["-h"]) or len(sys.argv) > 2:
+        print(__doc__.strip(), file=sys.stdout if len(sys.argv) == 2 else sys.stderr)
+        sys.exit(0 if len(sys.argv) == 2 else 2)
+    try:
+        if len(sys.argv) > 1:
+            with open(sys.argv[1], encoding="latin-1") as file:
+                lines = file.read().splitlines()
+        else:
+            lines = sys.stdin.read().splitlines()
+    except OSError as error:
+        sys.exit(f"picture.py: {sys.argv[1]}: {error.strerror}")
+    if not lines:
+        sys.exit("picture.py: there are no lines")
+    sys.stdout.write(written(read(lines)))
 
 
 if __name__ == "__main__":
