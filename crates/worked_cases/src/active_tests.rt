@@ -1,9 +1,13 @@
 //! Calls of the disk that fail while several programs are active.
-use super::crash_tests::{NOTHING, run, run_on};
 use call_status::Status;
-use outside::{Call, MemoryDisk, Refusal};
+use job_calls::run_source;
+use outside::{Call, Joint, MemoryDisk, MemoryScreen, MemorySource, Refusal};
+use std::alloc::{AllocError, Global};
 use std::test::Fail;
 use store_calls::try_store;
+
+/// A schedule of nothing, which tells the number that a store opens with.
+const NOTHING: &str = "frames 2\nschedule\nend\n";
 
 /// The programs of the rows below. The offsets are in segment 1, whose pages have 2,048 bytes each, and whose lines have 128.
 const PROGRAMS: &str = "\
@@ -100,6 +104,27 @@ const ROWS: [Row; 4] = [
     },
 ];
 
+/// What a call left: its status, what it printed, and the disk's bytes.
+#[derive(Drop)]
+struct Left {
+    status: Status,
+    printed: Vec<u8>,
+    held: Vec<u8>,
+}
+
+/// The job on this disk.
+fn run_on(alloc: Global, disk: MemoryDisk, job: &str) -> Result<Left, AllocError> {
+    let mut source = MemorySource::new(Vec::from_slice(alloc, job.as_bytes())?, Vec::new(alloc));
+    let mut outside = Joint::new(disk, MemoryScreen::new(alloc, Vec::new(alloc)));
+    let ended = run_source(alloc, &mut source, &mut outside);
+    let (disk, screen) = outside.into_parts();
+    Ok(Left {
+        status: ended.status,
+        printed: screen.into_bytes(),
+        held: disk.into_image(),
+    })
+}
+
 #[test]
 fn a_call_fails_while_several_are_active(rt: HostRuntime) -> Result<(), Fail> {
     let alloc = rt.alloc();
@@ -119,7 +144,7 @@ fn a_call_fails_while_several_are_active(rt: HostRuntime) -> Result<(), Fail> {
             },
         ]?;
         let disk = MemoryDisk::new(alloc, try_store(alloc)?, refusals);
-        let left = run_on(alloc, disk, Vec::new(alloc), &job)?;
+        let left = run_on(alloc, disk, &job)?;
         assert_eq!(rt; left.status, row.status, "{}", row.name);
         assert!(rt;
             left.printed.as_slice() == wanted.as_bytes(),
@@ -127,7 +152,8 @@ fn a_call_fails_while_several_are_active(rt: HostRuntime) -> Result<(), Fail> {
             row.name
         );
         if let Some(number) = row.opens {
-            let opened = run(alloc, left.held, None, NOTHING)?;
+            let disk = MemoryDisk::new(alloc, left.held, Vec::new(alloc));
+            let opened = run_on(alloc, disk, NOTHING)?;
             let told = format!(in alloc; "open {number}\nend {number}\n")?;
             assert!(rt;
                 opened.printed.as_slice() == told.as_bytes(),

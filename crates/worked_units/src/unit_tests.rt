@@ -1,10 +1,9 @@
-//! A page comes in, is loaded and stored, and leaves, as the buffer and the answers have it; and single instructions do
-//! over a unit what they do over plain bytes in memory.
-use flat_machine::{Cs, Plain, Program, Went, Window, first_registers};
+//! A page comes in, is loaded and stored, and leaves, as the buffer and the answers have it.
+use flat_machine::{Program, Window};
 use line_geometry::{Directory, LineSet, PageSize};
 use lockbit_rules::Authority;
 use owned_list::OwnedList;
-use romp_cpu::{Access, Attempt, Cpu, Fault, Probe, Storage, registers_of};
+use romp_cpu::{Access, Fault, Probe, Storage, registers_of};
 use segment_regs::Virtual;
 use std::alloc::{AllocError, Global};
 use std::convert::Infallible;
@@ -12,91 +11,6 @@ use std::process::Abort;
 use std::test::Fail;
 use storage_unit::{Pages, Unit};
 use store_format::Header;
-
-/// An instruction, what is in registers 2 and 3 before it, and the size of the store's pages.
-struct Case {
-    name: &'static str,
-    page: PageSize,
-    image: &'static [u8],
-    args: [u32; 2],
-}
-
-/// Loads and stores of each size, over the end of a line and of a page, of private storage and of a window; and those that
-/// are refused.
-const CASES: [Case; 12] = [
-    Case {
-        name: "a word stored",
-        page: PageSize::Two,
-        image: &[0x31, 0x32],
-        args: [0x1000_0000, 0x8182_8384],
-    },
-    Case {
-        name: "a word over the end of a page",
-        page: PageSize::Two,
-        image: &[0xDD, 0x32, 0x07, 0xFE],
-        args: [0x1000_0000, 0x8182_8384],
-    },
-    Case {
-        name: "a byte stored",
-        page: PageSize::Two,
-        image: &[0xDE, 0x32, 0x00, 0x83],
-        args: [0x1000_0000, 0x8182_8384],
-    },
-    Case {
-        name: "a halfword stored in private storage",
-        page: PageSize::Two,
-        image: &[0xDC, 0x32, 0x00, 0x42],
-        args: [0, 0x8182_8384],
-    },
-    Case {
-        name: "fourteen words stored over the end of a line",
-        page: PageSize::Two,
-        image: &[0xD9, 0x22, 0x00, 0x58],
-        args: [0x1000_0000, 7],
-    },
-    Case {
-        name: "fourteen words stored over the end of a page",
-        page: PageSize::Two,
-        image: &[0xD9, 0x22, 0x07, 0xE0],
-        args: [0x1000_0000, 7],
-    },
-    Case {
-        name: "a word loaded from private storage",
-        page: PageSize::Two,
-        image: &[0xCD, 0x32, 0x00, 0x00],
-        args: [0, 1],
-    },
-    Case {
-        name: "a store where the window may only be read",
-        page: PageSize::Two,
-        image: &[0x31, 0x32],
-        args: [0x2000_0000, 7],
-    },
-    Case {
-        name: "a load past the segment",
-        page: PageSize::Two,
-        image: &[0x71, 0x32],
-        args: [0x1000_2000, 7],
-    },
-    Case {
-        name: "a word over the end of a page of 4,096 bytes",
-        page: PageSize::Four,
-        image: &[0xDD, 0x32, 0x0F, 0xFE],
-        args: [0x1000_0000, 0x8182_8384],
-    },
-    Case {
-        name: "a word over the end of a line of 256 bytes",
-        page: PageSize::Four,
-        image: &[0xDD, 0x32, 0x00, 0xFE],
-        args: [0x1000_0000, 0x8182_8384],
-    },
-    Case {
-        name: "fourteen words loaded over 4,096 bytes of private storage",
-        page: PageSize::Four,
-        image: &[0xC9, 0x22, 0x0F, 0xE0],
-        args: [0, 7],
-    },
-];
 
 fn directory(rt: &impl Abort, page: PageSize) -> Directory {
     Directory::new(page, &[(1, 4), (2, 2)]).expect(rt, "a directory")
@@ -227,74 +141,5 @@ fn asks_the_buffer(rt: &impl Abort, alloc: Global, page: PageSize) -> Result<(),
 fn a_probe_asks_the_buffer(rt: HostRuntime) -> Result<(), Fail> {
     asks_the_buffer(&rt, rt.alloc(), PageSize::Two)?;
     asks_the_buffer(&rt, rt.alloc(), PageSize::Four)?;
-    Ok(())
-}
-
-/// A line of a page of a plain store of six pages.
-fn line_of<'a>(rt: &impl Abort, store: &'a [u8], size: PageSize, page: u16, line: u8) -> &'a [u8] {
-    assert!(rt; page < 6 && line < 16);
-    match size {
-        PageSize::Two => {
-            assert!(rt; store.len() == 12_288);
-            let first = usize::from(page) * 2048 + usize::from(line) * 128;
-            &store[first..first + 128]
-        }
-        PageSize::Four => {
-            assert!(rt; store.len() == 24_576);
-            let first = usize::from(page) * 4096 + usize::from(line) * 256;
-            &store[first..first + 256]
-        }
-    }
-}
-
-/// The marked lines of a page that left its frame are kept as they are in a plain store; all others are zeros there.
-fn is_kept(rt: &impl Abort, unit: &Unit, page: u16, store: &[u8], case: &Case) {
-    assert!(rt; unit.directory().pages() == 6 && page < 6);
-    let marked = unit.pool().written(page);
-    for line in 0..16u8 {
-        let bytes = line_of(rt, store, case.page, page, line);
-        if marked.contains(line) {
-            assert!(rt;
-                unit.pool().written_line(page, line) == bytes,
-                "{}",
-                case.name
-            );
-        } else {
-            assert!(rt; bytes.iter().all(|byte| *byte == 0), "{}", case.name);
-        }
-    }
-}
-
-#[test]
-fn instructions_do_as_over_plain_bytes(rt: HostRuntime) -> Result<(), Fail> {
-    let all = LineSet::from_bits(0xFFFF);
-    for case in &CASES {
-        let directory = directory(&rt, case.page);
-        let store = vec![in rt.alloc(); 0u8; directory.byte_count() as usize]?;
-        let program = program(&rt, rt.alloc(), case.image)?;
-        let [first, second] = case.args;
-        let args = [first, second, 0, 0];
-        let mut plain = Plain::start(rt.alloc(), &program, args, &directory, &store)?;
-        let mut unit = ready(&rt, rt.alloc(), directory, &program)?;
-        let _ = bring(&rt, &mut unit, 0, all, all);
-        let _ = bring(&rt, &mut unit, 1, all, all);
-        let mut cpu = Cpu {
-            regs: first_registers(args),
-            cs: Cs::CLEAR,
-            iar: 0,
-            printed: 0,
-        };
-        let went = match plain.step(&program, &directory) {
-            Went::On => Attempt::Went,
-            Went::Commit => Attempt::Commit,
-            Went::Check(code) => Attempt::Check(code),
-        };
-        assert_eq!(rt; unit.attempt(&mut cpu), went, "{}", case.name);
-        assert_eq!(rt; cpu.regs, plain.regs, "{}", case.name);
-        assert_eq!(rt; (cpu.cs, cpu.iar), (plain.cs, plain.iar), "{}", case.name);
-        unit.empty();
-        is_kept(&rt, &unit, 0, plain.store.as_slice(), case);
-        is_kept(&rt, &unit, 1, plain.store.as_slice(), case);
-    }
     Ok(())
 }
