@@ -4,6 +4,11 @@
 # /dev/null.
 set -eu
 
+for part; do
+    # (each part is read twice)
+    [ -f "$part" ] || [ "$part" = /dev/null ] || { printf 'bundle.sh: %s is no file\n' "$part" >&2 && exit 1; }
+done
+
 length() { wc -c <"$1" | tr -d ' '; }
 
 printf 'audit %s %s %s %s\n' "$(length "$1")" "$(length "$2")" "$(length "$3")" "$(length "$4")"

@@ -26,6 +26,21 @@ def fail(message, status=FAILED):
     sys.exit(status)
 
 
+def start(main):
+    """Calls a tool's main function, and ends with what it answers. Where it is interrupted, or who reads its output has gone, it ends as such
+    programs do."""
+    try:
+        status = main()
+        sys.stdout.flush()
+    except KeyboardInterrupt:
+        status = 130
+    except BrokenPipeError:
+        # (nothing is left to be put when Python ends)
+        os.dup2(os.open(os.devnull, os.O_WRONLY), sys.stdout.fileno())
+        status = 141
+    sys.exit(status)
+
+
 def arguments(description, statuses, add):
     """The words of the command line. `add` takes the parser and adds what the tool wants; `statuses` says what it ends with."""
     parser = argparse.ArgumentParser(
