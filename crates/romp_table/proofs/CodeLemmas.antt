@@ -1,8 +1,10 @@
 -- Reading and writing instructions are inverse.
-use Rattle.romp_table.proofs.Common.{◌≡◌, ℕ, ◌/◌, ◌^◌, ◌<◌, false, cond, Option, Some, None, take, refl, sym, ap, ◌∙◌, subst, IsSomeAnd, IfNone, IsTrue, option_and_then, option_map_or, number_unit, instruction_by, row_numbered, has_uses, if_used, decoded, place_of, row_of, HasWidths, IsLegal, IsRowOf, op_of, format_of, number_of, first_with, first_of, second_of, bytes_in, bytes_of, encoded, BeginWith, Inst, Row}
+use Rattle.romp_table.proofs.Common.{◌≡◌, ℕ, ◌/◌, ◌^◌, ◌<◌, false, cond, Option, Some, None, refl, sym, ap, ◌∙◌, subst, IsSomeAnd, IfNone, IsTrue, option_and_then, option_map_or, number_unit, instruction_by, row_numbered, has_uses, if_used, decoded, place_of, row_of, HasWidths, IsLegal, IsRowOf, op_of, format_of, number_of, first_of, second_of, encoded, BeginWith, Inst, Row}
 use Rattle.romp_table.specs.declared.inst.Code.{Code}
 use Rattle.romp_table.proofs.TableLemmas.{number_fits, row_of_place, op_at_place, row_unique, row_found}
 use Rattle.romp_table.proofs.FieldLemmas.{numbered, read-written, written-read, first_told, read_alike, op_kept, format_kept}
+use Rattle.std.proofs.lemmas.Bool.Decides.{nat_tests}
+use Rattle.std.proofs.Common.{arith}
 
 -- the row of a legal instruction
 found_row : (inst : Inst) (o : Option Row) → IsSomeAnd o (IsRowOf inst) → (row : Row) × (o ≡ Some row) × IsRowOf inst row
@@ -56,12 +58,7 @@ legal_of first second small row found inst is widths uses =
 
 -- the halfwords begin with the bytes of what is read of them
 pub begins_of : (first second : ℕ) → first < 2 ^ 16 → second < 2 ^ 16 → (row : Row) → row_numbered first ≡ Some row → BeginWith first second (encoded (instruction_by row.op row.format first second))
-begins_of first second small small' row found =
-    let inst = instruction_by row.op row.format first second in
-    let (is_row, has_number) = row_found first small row found in
-    let same : row.number ≡ number_of (op_of inst) = sym (ap (λ o. option_map_or (λ row. row.number) o 0) (ap row_of (op_kept row.op row.format first second) ∙ is_row)) in
-    written-read row.op row.format first second row.number small' has_number
-    ∙ ap (λ number. take (bytes_in inst) (bytes_of (first_with number inst) (second_of inst))) same
+begins_of first second small small' row found = grind (arith, nat_tests, row_found, op_kept, written-read)
 
 pub if_none : {A : Type 0} {P : Type 0} (o : Option A) → P → IfNone o P
 if_none None h = h

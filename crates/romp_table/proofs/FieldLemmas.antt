@@ -1,7 +1,8 @@
 -- The fields of each format, written and read again.
 use Rattle.romp_table.proofs.Common.{number_unit, instruction_by, signed, nibble, HasWidths, op_of, format_of, bits_of, first_with, second_of, bytes_in, bytes_of, Op, Inst, Format}
-use Rattle.std.proofs.Common.{◌≡◌, ℕ, ◌+◌, ◌*◌, ◌/◌, ◌%◌, ◌^◌, ◌<◌, List, ◌∷◌, [], take, get_or, refl, ap, ◌∙◌, arith}
+use Rattle.std.proofs.Common.{◌≡◌, ℕ, ◌+◌, ◌*◌, ◌/◌, ◌%◌, ◌^◌, ◌<◌, List, ◌∷◌, [], take, get_or, refl, ap, arith}
 use Rattle.romp_table.proofs.SignLemmas.{bits-signed_8, bits-signed_20, bits_small_8, bits_small_20, signed-bits_8, signed-bits_20}
+use Rattle.std.proofs.lemmas.Bool.Decides.{nat_tests}
 
 -- the number of a first halfword is that of its row
 pub numbered : (inst : Inst) (number : ℕ) → HasWidths inst → first_with number inst / number_unit (format_of inst) ≡ number
@@ -15,32 +16,7 @@ nibbles number k b c small also too = (omega arith, omega arith, omega arith)
 
 -- what is read from the halfwords of an instruction is the instruction
 pub read-written : (inst : Inst) (number : ℕ) → HasWidths inst → instruction_by (op_of inst) (format_of inst) (first_with number inst) (second_of inst) ≡ inst
-read-written (Inst.J op cond disp) number w =
-    let small = bits_small_8 disp w.1 in
-    let e : (number * 2 ^ 11 + cond * 2 ^ 8 + bits_of 8 disp) / 2 ^ 8 % 8 ≡ cond = omega arith in
-    let f : (number * 2 ^ 11 + cond * 2 ^ 8 + bits_of 8 disp) % 2 ^ 8 ≡ bits_of 8 disp = omega arith in
-    λ i. Inst.J op (e i) ((ap (signed 8) f ∙ signed-bits_8 disp w.1) i)
-read-written (Inst.S op k b c) number w = let three = nibbles number k b c w.0 w.1 w.2 in λ i. Inst.S op (three.0 i) (three.1 i) (three.2 i)
-read-written (Inst.X op k b c) number w = let three = nibbles number k b c w.0 w.1 w.2 in λ i. Inst.X op (three.0 i) (three.1 i) (three.2 i)
-read-written (Inst.R op b c) number w =
-    let first = number * 2 ^ 8 + b * 2 ^ 4 + c in
-    let f : nibble first 4 ≡ b = omega arith in
-    let g : nibble first 0 ≡ c = omega arith in
-    λ i. Inst.R op (f i) (g i)
-read-written (Inst.D op b c d) number w =
-    let first = number * 2 ^ 8 + b * 2 ^ 4 + c in
-    let f : nibble first 4 ≡ b = omega arith in
-    let g : nibble first 0 ≡ c = omega arith in
-    λ i. Inst.D op (f i) (g i) d
-read-written (Inst.BI op b disp) number w =
-    let small = bits_small_20 disp w.1 in
-    let first = number * 2 ^ 8 + b * 2 ^ 4 + bits_of 20 disp / 2 ^ 16 in
-    let f : nibble first 4 ≡ b = omega arith in
-    let g : nibble first 0 * 2 ^ 16 + bits_of 20 disp % 2 ^ 16 ≡ bits_of 20 disp = omega arith in
-    λ i. Inst.BI op (f i) ((ap (signed 20) g ∙ signed-bits_20 disp w.1) i)
-read-written (Inst.BA op to) number w =
-    let e : (number * 2 ^ 8 + to / 2 ^ 16) % 2 ^ 8 * 2 ^ 16 + to % 2 ^ 16 ≡ to = omega arith in
-    ap (Inst.BA op) e
+read-written inst number w = grind (arith, nat_tests, bits_small_8, signed-bits_8, nibbles, bits_small_20, signed-bits_20)
 
 two_bytes : (first first' second second' : ℕ) → first ≡ first' → take 2 (bytes_of first second) ≡ take 2 (bytes_of first' second')
 two_bytes first first' second second' e = ap (λ n. n / 2 ^ 8 ∷ n % 2 ^ 8 ∷ []) e
@@ -69,10 +45,7 @@ byte_told : (xs ys : List ℕ) (i : ℕ) → xs ≡ ys → get_or xs i 0 ≡ get
 byte_told xs ys i e = ap (λ zs. get_or zs i 0) e
 
 told_2 : (first first' second second' : ℕ) → take 2 (bytes_of first second) ≡ take 2 (bytes_of first' second') → first ≡ first'
-told_2 first first' second second' e =
-    let high : first / 2 ^ 8 ≡ first' / 2 ^ 8 = byte_told _ _ 0 e in
-    let low : first % 2 ^ 8 ≡ first' % 2 ^ 8 = byte_told _ _ 1 e in
-    omega arith
+told_2 first first' second second' e = grind (arith, nat_tests, byte_told)
 
 told_4 : (first first' second second' : ℕ) → bytes_of first second ≡ bytes_of first' second' → (first ≡ first') × (second ≡ second')
 told_4 first first' second second' e =
@@ -80,20 +53,11 @@ told_4 first first' second second' e =
 
 -- the first halfword is told by the bytes of an instruction
 pub first_told : (inst : Inst) (first first' second second' : ℕ) → take (bytes_in inst) (bytes_of first second) ≡ take (bytes_in inst) (bytes_of first' second') → first ≡ first'
-first_told (Inst.D op b c i) f g s t e = (told_4 f g s t e).0
-first_told (Inst.BI op b disp) f g s t e = (told_4 f g s t e).0
-first_told (Inst.BA op to) f g s t e = (told_4 f g s t e).0
-first_told _ f g s t e = told_2 f g s t e
+first_told inst first first' second second' e = grind (arith, nat_tests, told_4, told_2)
 
 -- halfwords with the same bytes of an instruction are read alike
 pub read_alike : (inst : Inst) (op : Op) (first first' second second' : ℕ) → take (bytes_in inst) (bytes_of first second) ≡ take (bytes_in inst) (bytes_of first' second') → instruction_by op (format_of inst) first second ≡ instruction_by op (format_of inst) first' second'
-read_alike (Inst.J _ cond disp) op f g s t e = ap (λ n. instruction_by op Format.J n s) (told_2 f g s t e)
-read_alike (Inst.S _ k b c) op f g s t e = ap (λ n. instruction_by op Format.S n s) (told_2 f g s t e)
-read_alike (Inst.X _ k b c) op f g s t e = ap (λ n. instruction_by op Format.X n s) (told_2 f g s t e)
-read_alike (Inst.R _ b c) op f g s t e = ap (λ n. instruction_by op Format.R n s) (told_2 f g s t e)
-read_alike (Inst.D _ b c i) op f g s t e = let (d, h) = told_4 f g s t e in λ i. instruction_by op Format.D (d i) (h i)
-read_alike (Inst.BI _ b disp) op f g s t e = let (d, h) = told_4 f g s t e in λ i. instruction_by op Format.BI (d i) (h i)
-read_alike (Inst.BA _ to) op f g s t e = let (d, h) = told_4 f g s t e in λ i. instruction_by op Format.BA (d i) (h i)
+read_alike inst op first first' second second' e = grind (arith, nat_tests, told_2, told_4)
 
 pub op_kept : (op : Op) (format : Format) (first second : ℕ) → op_of (instruction_by op format first second) ≡ op
 op_kept op Format.J first second = refl

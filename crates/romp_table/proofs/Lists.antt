@@ -1,7 +1,8 @@
 -- What a look-up found, and what was computed of each element, in any list.
 use Rattle.romp_table.proofs.Common.{range_with_len, list_all, slice_get, get_or-map-range_with_len}
-use Rattle.std.proofs.Common.{◌≡◌, ℕ, zero, suc, ◌+◌, ◌<◌, Bool, true, false, cond, List, [], ◌∷◌, Option, Some, refl, sym, ap, ◌∙◌, map, length, get_or, find, slice_index, arith}
+use Rattle.std.proofs.Common.{◌≡◌, ℕ, zero, suc, ◌+◌, ◌<◌, Bool, true, false, cond, List, [], ◌∷◌, Option, Some, refl, ap, map, length, find, slice_index, arith}
 use Rattle.std.proofs.lemmas.Bool.{and_parts}
+use Rattle.std.proofs.lemmas.Bool.Decides.{nat_tests}
 
 found_by : {X : Type 0} (p : X → Bool) (y x : X) (rest : Option X) (t : Bool) → p y ≡ t → cond t (Some y) rest ≡ Some x → (rest ≡ Some x → p x ≡ true) → p x ≡ true
 found_by p y x rest true is e later = grind arith
@@ -20,9 +21,7 @@ all_at p (y ∷ xs) (suc i) x every e = all_at p xs i x (and_parts (p y) (list_a
 
 -- a list of a function's values has each of them at its argument
 pub value_at : (f : ℕ → ℕ) (n : ℕ) (xs : List ℕ) → map f (range_with_len 0 n) ≡ xs → (i : ℕ) → i < n → f i ≡ slice_index xs i
-value_at f n xs e i below =
-    let same : 0 + i ≡ i = omega arith in
-    sym (get_or-map-range_with_len f 0 n i i 0 below same) ∙ ap (λ zs. get_or zs i 0) e
+value_at f n xs e i below = grind (arith, nat_tests, get_or-map-range_with_len)
 
 -- where an index is within a list, there is an element
 pub found_within : {X : Type 0} (xs : List X) (i : ℕ) → i < length xs → (x : X) × (slice_get xs i ≡ Some x)
@@ -39,6 +38,4 @@ range_at a (suc n) (suc i) x e = let h = range_at (a + 1) n i x e in omega arith
 pub range_found : (a n i : ℕ) → i < n → slice_get (range_with_len a n) i ≡ Some (a + i)
 range_found a zero i below = absurd (omega arith)
 range_found a (suc n) zero below = ap Some (omega arith)
-range_found a (suc n) (suc i) below =
-    let same : a + 1 + i ≡ a + suc i = omega arith in
-    range_found (a + 1) n i (omega arith) ∙ ap Some same
+range_found a (suc n) (suc i) below = grind (arith, nat_tests, range_found (a + 1) n i)

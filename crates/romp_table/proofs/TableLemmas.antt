@@ -22,10 +22,7 @@ has_number_high : (first : ℕ) → has_number first ≡ has_high (first / 2 ^ 8
 has_number_high first = fun_ext (λ row. ap (λ n. n == row.number) (high_of row.format first))
 
 numbered_in : (rows : List Row) (places : List ℕ) → map (λ high. position_or_len (has_high high) rows) (range_with_len 0 256) ≡ places → (first : ℕ) → first < 2 ^ 16 → find (has_number first) rows ≡ slice_get rows (slice_index places (first / 2 ^ 8))
-numbered_in rows places computed first small =
-    ap (λ p. find p rows) (has_number_high first)
-    ∙ find_at (has_high (first / 2 ^ 8)) rows
-    ∙ ap (slice_get rows) (value_at (λ high. position_or_len (has_high high) rows) 256 places computed (first / 2 ^ 8) (omega arith))
+numbered_in rows places computed first small = cc (has_number_high first, find_at (has_high (first / 2 ^ 8)) rows, value_at (λ high. position_or_len (has_high high) rows) 256 places computed (first / 2 ^ 8) (omega arith))
 
 -- one look-up finds the row whose number a halfword has
 pub row_by_place : (first : ℕ) → first < 2 ^ 16 → row_numbered first ≡ slice_get TABLE (slice_index PLACES (first / 2 ^ 8))
@@ -39,8 +36,7 @@ place_below op = tag_below (variants the_type) (the_type.to op)
 pub own_place : (i : ℕ) (row : Row) → slice_get TABLE i ≡ Some row → place_of row.op ≡ i
 own_place i row e =
     let here : slice_get (map (λ row. place_of row.op) TABLE) i ≡ Some (place_of row.op) = slice_get-map (λ row. place_of row.op) TABLE i ∙ ap (option_map (λ row. place_of row.op)) e in
-    range_at 0 85 i (place_of row.op) (sym (ap (λ places. slice_get places i) order_computed) ∙ here)
-    ∙ zero-add i
+    cc (range_at 0 85 i (place_of row.op) (sym (ap (λ places. slice_get places i) order_computed) ∙ here), zero-add i)
 
 -- one look-up finds the row of an operation
 pub row_of_place : (op : Op) → row_of op ≡ slice_get TABLE (place_of op)
@@ -70,15 +66,11 @@ leads : (places : List ℕ) (row : Row) → leads_back places row ≡ true → (
 leads places row back first e =
     let low = first / 2 ^ 8 % span row.format in
     let at = range_found 0 (span row.format) low (low_below row.format (first / 2 ^ 8)) ∙ ap Some (zero-add low) in
-    ap (slice_index places) (sym (high_split row.format first row.number e))
-    ∙ ==-same _ _ (all_at (λ low. slice_index places (row.number * span row.format + low) == place_of row.op) (range_with_len 0 (span row.format)) low low back at)
+    cc (high_split row.format first row.number e, ==-same _ _ (all_at (λ low. slice_index places (row.number * span row.format + low) == place_of row.op) (range_with_len 0 (span row.format)) low low back at))
 
 -- no two rows share bits: a row whose number a halfword has is the one that is found
 pub row_unique : (first : ℕ) → first < 2 ^ 16 → (i : ℕ) (row : Row) → slice_get TABLE i ≡ Some row → first / number_unit row.format ≡ row.number → row_numbered first ≡ Some row
-row_unique first small i row e numbered =
-    row_by_place first small
-    ∙ ap (slice_get TABLE) (leads PLACES row (all_at (leads_back PLACES) TABLE i row highs_computed e) first numbered ∙ own_place i row e)
-    ∙ e
+row_unique first small i row e numbered = cc (row_by_place first small, leads PLACES row (all_at (leads_back PLACES) TABLE i row highs_computed e) first numbered, own_place i row e, e)
 
 -- a row that is found is that of its operation, and has its number in the halfword
 pub row_found : (first : ℕ) → first < 2 ^ 16 → (row : Row) → row_numbered first ≡ Some row → (row_of row.op ≡ Some row) × (first / number_unit row.format ≡ row.number)

@@ -1,4 +1,4 @@
-use Rattle.std.proofs.lemmas.Grind.{common_steps}
+use Rattle.std.proofs.lemmas.Grind.{elements, common_steps}
 use Rattle.redo_journal.proofs.Common.{◌≡◌, ℕ, ◌+◌, List, length, sym, ◌∙◌, ap, subst, arith, replicate, length-replicate, Option, None, fold, number_at, Holds, bank_held, held_of, told_some, noted, KeptBank, place_of, end_of, IsBank}
 use Rattle.redo_journal.specs.declared.read.Found.{Found}
 use Rattle.redo_journal.proofs.Newest.{held_records, all_below}
@@ -39,3 +39,12 @@ returns-in-Ok-Faulty-clause-shape g c = grind (arith, common_steps)
 
 pub returns-in-Ok-Holds-clause-shape : goal.returns-in-Ok-Holds-clause-shape
 returns-in-Ok-Holds-clause-shape g c = grind (arith, common_steps)
+
+pub invariant_of-self-in-Ok-Holds : goal.invariant_of-self-in-Ok-Holds
+invariant_of-self-in-Ok-Holds g c = grind (arith, elements)
+
+pub invariant_of-self-in-Ok-Faulty : goal.invariant_of-self-in-Ok-Faulty
+invariant_of-self-in-Ok-Faulty g c = grind (arith, elements)
+
+pub returns-in-Ok-Faulty-clause-fault : goal.returns-in-Ok-Faulty-clause-fault
+returns-in-Ok-Faulty-clause-fault g c = grind (arith, elements)
