@@ -1,5 +1,5 @@
 /// Which lines of a job are due (docs/FORMATS.md, "Job").
-#[derive(Clone, Copy)]
+#[derive(Clone, Copy, PartialEq, Eq)]
 pub(crate) enum Stage {
     /// `frames`.
     Frames,

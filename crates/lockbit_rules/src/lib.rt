@@ -6,7 +6,7 @@ ghost use Rattle.std.specs.Prelude.{◌≡◌, ◌<◌};
 use line_geometry::LineSet;
 
 /// The entry of a page: the identifier that owns it, or 0 for nobody; its write bit; and its lockbits, line i as bit i.
-#[derive(Clone, Copy)]
+#[derive(Clone, Copy, PartialEq, Eq)]
 pub struct Authority {
     pub tid: u8,
     pub write: bool,

@@ -15,7 +15,7 @@ use outside::{Failed, Outside};
 pub const OPEN: u8 = 0xa5;
 
 /// How far a record was kept (docs/FORMATS.md, "Protocols").
-#[derive(Debug, Clone, Copy)]
+#[derive(Clone, Copy)]
 pub enum Kept {
     /// It is on the disk.
     Done,

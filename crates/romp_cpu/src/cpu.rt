@@ -23,7 +23,7 @@ pub struct Cpu {
 
 /// How an attempt went: the instruction took effect, maybe with a byte to print; or it is the commit call, a program check
 /// or an access that can't be made now, and took none.
-#[derive(Debug, Clone, Copy, PartialEq, Eq)]
+#[derive(Clone, Copy)]
 pub enum Attempt {
     Went,
     Fault(Fault, Access),

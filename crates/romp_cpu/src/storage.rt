@@ -13,7 +13,7 @@ use flat_machine::{fill, gather};
 use segment_regs::Virtual;
 
 /// What an instruction or its subject accesses: so many bytes from an effective address on, to load or to store.
-#[derive(Debug, Clone, Copy, PartialEq, Eq)]
+#[derive(Clone, Copy)]
 pub struct Access {
     pub address: u32,
     pub bytes: u8,
@@ -22,7 +22,7 @@ pub struct Access {
 
 /// Why an access can't be made now: a page of it is in no frame, or its entry refuses. It names the first such page by
 /// address.
-#[derive(Debug, Clone, Copy, PartialEq, Eq)]
+#[derive(Clone, Copy, PartialEq, Eq)]
 pub enum Fault {
     Page(Virtual),
     Lock(Virtual),

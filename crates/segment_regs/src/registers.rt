@@ -13,7 +13,7 @@ pub struct SegmentRegister {
 }
 
 /// An address of forty bits: a segment's identifier, a page in it, and a byte of the page.
-#[derive(Debug, Clone, Copy, PartialEq, Eq)]
+#[derive(Clone, Copy, PartialEq, Eq)]
 pub struct Virtual {
     pub segment: u16,
     pub page: u32,

@@ -25,7 +25,7 @@ use store_format::lines_bytes;
 use text_line::TextLine;
 
 /// How the records of a text were followed.
-#[derive(Debug, Clone, Copy, PartialEq, Eq)]
+#[derive(Clone, Copy)]
 pub enum Followed {
     /// To the last.
     Done,

@@ -22,7 +22,7 @@ use restart::{Durable, Record};
 use text_line::TextLine;
 
 /// How the records of a store were shipped.
-#[derive(Debug, Clone, Copy)]
+#[derive(Clone, Copy)]
 pub enum Shipped {
     /// To the last.
     Done,

@@ -22,7 +22,7 @@ pub struct Ship {
 }
 
 /// Why a text is no ship text.
-#[derive(Debug, Clone, Copy)]
+#[derive(Clone, Copy)]
 pub enum ShipFault {
     /// The first line, counted from 1, with which no ship text goes on from the lines before it; the one after the last
     /// where the text ends too early.

@@ -5,10 +5,6 @@ use Rattle.std.specs.Option.{option_map_or}
 use Rattle.std.proofs.lemmas.List.FromFn.{length-range_with_len}
 use Rattle.wait_cycles.proofs.Bits.{find-cut, any-cut, on-both, on-set}
 
--- a place that isn't another is below it where it is below the next
-lt-more : (p place : ℕ) → (p ≡ place → ⊥) → nat_lt p (place + 1) ≡ nat_lt p place
-lt-more p place differs = grind (arith, nat_tests)
-
 -- the places below one are marked where they pass a test; the next one is marked or not by the same test
 module _ (f : ℕ → Bool) (bits place : ℕ) (small : place < 16) (so_far : (p : ℕ) → p < 16 → is_on bits p ≡ (nat_lt p place && f p)) where
   pub marked : f place ≡ true → (p : ℕ) → p < 16 → is_on (bit_or bits (1 * 2 ^ place % 2 ^ 16)) p ≡ (nat_lt p (place + 1) && f p)
