@@ -1,7 +1,7 @@
 -- What the steps of a turn keep: the committed bytes, the order, and who is active as what.
-use Rattle.desk.proofs.Common.{◌==◌, not, map, filter, find, if◌then◌else◌, option_and_then, FlatStore, Plain, Activation, numbered, committing, if_commit, before_commit, Desk, Entry, with_entry, ended, rolled_back, wanted, numbers, waits_for, conflicts_of, is_fine, Word, Fine, ReadFailed, Unwritten, Doubt, Failed, Counts, Ending, Committed, CommitUnwritten, CommitDoubted, Turning, Going, Over, Attempt, Fetching, Fetched, Broken, Contest, Contested, Settled, Lost, attempts, attempts_at, instruction, turns, limited, is_over_limit, turn, turn_of, no_counts, fetched_first, fetches_touched, asks, gets, goes_on, takes_effect, commits, breaks, breaks_cycle, breaks_cycles, contest_ends, ordered, waits_or_gets, with_grants, refused_pages}
-use Rattle.std.proofs.Common.{◌≡◌, ℕ, zero, suc, ◌+◌, Bool, true, false, List, [], ◌∷◌, ◌++◌, length, refl, sym, ◌∙◌, ap, subst, arith, Option, Some, None}
-use Rattle.std.proofs.lemmas.Bool.{eqb-true}
+use Rattle.std.proofs.lemmas.Bool.Decides.{nat_tests}
+use Rattle.desk.proofs.Common.{◌==◌, not, map, filter, find, if◌then◌else◌, option_and_then, Plain, Activation, numbered, committing, if_commit, before_commit, Desk, Entry, with_entry, ended, rolled_back, wanted, numbers, waits_for, conflicts_of, is_fine, Word, Fine, ReadFailed, Unwritten, Doubt, Failed, Counts, Ending, Committed, CommitUnwritten, CommitDoubted, Turning, Going, Over, Attempt, Fetching, Fetched, Broken, Contest, Contested, Settled, Lost, attempts, attempts_at, instruction, turns, limited, is_over_limit, turn, fetched_first, fetches_touched, asks, gets, goes_on, takes_effect, commits, breaks, breaks_cycle, breaks_cycles, contest_ends, ordered, waits_or_gets, with_grants, refused_pages}
+use Rattle.std.proofs.Common.{◌≡◌, ℕ, zero, suc, ◌+◌, Bool, true, false, List, [], ◌∷◌, ◌++◌, length, refl, sym, ◌∙◌, ap, arith, Option, Some, None}
 use Rattle.flat_machine.specs.Row.{Outcome, On, Commit, Check, row}
 use Rattle.flat_machine.specs.After.{after}
 use Rattle.lock_rules.specs.Waits.{shown_cycle, victim_of}
@@ -75,47 +75,24 @@ moves-none all desk = record { committed = refl; order = refl; next = refl; clos
 
 -- one step after another
 pub moves-on : (all : List Activation) (old mid new : Desk) → Moves all old mid → Moves all mid new → Moves all old new
-moves-on all old mid new one two = record {
-  committed = two.committed ∙ one.committed;
-  order = two.order ∙ one.order;
-  next = two.next ∙ one.next;
-  closed = two.closed ∙ one.closed;
-  numbered_all = λ are. two.numbered_all (one.numbered_all are);
-}
+moves-on all old mid new one two = grind (arith, nat_tests)
 
 -- who is left of them is numbered too
 filtered : (all : List Activation) (keeps : Entry → Bool) (entries : List Entry) → AreNumbered all entries → AreNumbered all (filter keeps entries)
 filtered all keeps [] are = tt
-filtered all keeps (entry ∷ entries) are = by_test (keeps entry) (filtered all keeps entries are.1)
-  where
-    by_test : (kept : Bool) → AreNumbered all (filter keeps entries) → AreNumbered all (if kept then entry ∷ filter keeps entries else filter keeps entries)
-    by_test true rest = (are.0, rest)
-    by_test false rest = rest
+filtered all keeps (entry ∷ entries) are = grind (arith, nat_tests, filtered all keeps entries are.1)
 
 -- one of them is replaced by one that runs the same
 replaced : (all : List Activation) (new : Entry) (entries : List Entry) → numbered all new.number ≡ Some new.runs → AreNumbered all entries
     → AreNumbered all (map (λ (old : Entry). if old.number == new.number then new else old) entries)
 replaced all new [] is are = tt
-replaced all new (entry ∷ entries) is are = (by_test (entry.number == new.number), replaced all new entries is are.1)
-  where
-    by_test : (same : Bool) → numbered all (if same then new else entry).number ≡ Some (if same then new else entry).runs
-    by_test true = is
-    by_test false = are.0
+replaced all new (entry ∷ entries) is are = grind (arith, nat_tests, replaced all new entries is are.1)
 
 -- one that is found among them has the number, and runs its activation
 pub found : (all : List Activation) (number : ℕ) (entries : List Entry) (entry : Entry) → AreNumbered all entries
     → find (λ (one : Entry). one.number == number) entries ≡ Some entry → (entry.number ≡ number) × (numbered all entry.number ≡ Some entry.runs)
 found all number [] entry are is = absurd (cc)
-found all number (one ∷ entries) entry are is = by_test (one.number == number) refl (found all number entries entry are.1) is
-  where
-    by_test : (same : Bool) → (one.number == number) ≡ same
-        → (find (λ (other : Entry). other.number == number) entries ≡ Some entry → (entry.number ≡ number) × (numbered all entry.number ≡ Some entry.runs))
-        → (if same then Some one else find (λ (other : Entry). other.number == number) entries) ≡ Some entry
-        → (entry.number ≡ number) × (numbered all entry.number ≡ Some entry.runs)
-    by_test true e later is =
-        let it : one ≡ entry = cc in
-        (ap (λ (x : Entry). x.number) (sym it) ∙ eqb-true one.number number e, subst (λ (x : Entry). numbered all x.number ≡ Some x.runs) it are.0)
-    by_test false e later is = later is
+found all number (one ∷ entries) entry are is = grind (arith, nat_tests, found all number entries entry are.1)
 
 -- a rollback, and other parts
 moves-rolled : (all : List Activation) (desk : Desk) (entry : Entry) → Moves all desk (rolled_back desk entry)
@@ -171,13 +148,7 @@ module _ (all : List Activation) (activation : ℕ) (word : Word) (attempt : Att
   does-commit (ReadFailed page) desk counts is moves = done desk is moves
   does-commit Failed desk counts is moves = done desk is moves
   does-commit Unwritten desk counts is moves = record { broken = refl; committed = moves.committed; order = moves.order; closed = refl }
-  does-commit Doubt desk counts is moves = record {
-    broken = refl;
-    steps = attempt.entry.rows + 1;
-    ordered_as = record { state = attempt.now; commits_at = commits_here is; order = order-is desk moves };
-    committed = moves.committed;
-    closed = refl;
-  }
+  does-commit Doubt desk counts is moves = grind (arith, nat_tests, commits_here is, order-is desk moves)
 
   does-effect : (desk : Desk) (counts : Counts) (outcome : Outcome) → attempt.outcome ≡ outcome → Moves all old desk → Does all word activation old (takes_effect word attempt outcome desk counts)
   does-effect desk counts (On next) is moves =
@@ -188,9 +159,7 @@ module _ (all : List Activation) (activation : ℕ) (word : Word) (attempt : Att
 
   -- a page that can't be read
   does-break : (desk : Desk) (counts : Counts) (counted : ℕ) → Moves all old desk → Does all word activation old (breaks attempt desk counts counted)
-  does-break desk counts counted moves =
-      let back = moves-on all old desk (rolled_back desk attempt.entry) moves (moves-rolled all desk attempt.entry) in
-      record { committed = back.committed; order = back.order; next = back.next; closed = back.closed; numbered_all = back.numbered_all }
+  does-break desk counts counted moves = grind (arith, nat_tests, moves-on all old desk (rolled_back desk attempt.entry) moves (moves-rolled all desk attempt.entry), moves-rolled all desk attempt.entry)
 
   does-on : (desk : Desk) (counts : Counts) (fetching : Fetching) → Moves all old desk → Does all word activation old (goes_on word attempt desk counts fetching)
   does-on desk counts (Fetched resident counted) moves =
@@ -218,8 +187,11 @@ module _ (all : List Activation) (activation : ℕ) (word : Word) (attempt : Att
   contests-all : (left number : ℕ) (contest : Contest) → Contests all old contest → Contests all old (breaks_cycles left number contest)
   contests-all zero number contest is = is
   contests-all (suc left) number (Contested desk counts) is =
-      contests-all left number (breaks_cycle number (shown_cycle (waits_for desk) (numbers desk) number) desk counts)
-      (contests-break number (shown_cycle (waits_for desk) (numbers desk) number) desk counts is)
+      grind (
+        arith,
+        nat_tests,
+        contests-all left number (breaks_cycle number (shown_cycle (waits_for desk) (numbers desk) number) desk counts) (contests-break number (shown_cycle (waits_for desk) (numbers desk) number) desk counts is),
+      )
   contests-all (suc left) number (Settled desk counts) is = is
   contests-all (suc left) number (Lost desk counts) is = is
 
@@ -234,10 +206,7 @@ module _ (all : List Activation) (activation : ℕ) (word : Word) (attempt : Att
 
   does-ask : (refused holders : List ℕ) (desk : Desk) (counts : Counts) → Moves all old desk → Does all word activation old (asks word attempt refused holders desk counts)
   does-ask refused [] desk counts moves = does-get refused desk counts moves
-  does-ask refused (holder ∷ holders) desk counts moves =
-      does-contest refused _
-      (contests-all (length desk.active) attempt.entry.number (Contested (with_entry desk (record attempt.entry { waiting = true })) counts)
-      (moves-on all old desk _ moves (moves-with all desk (record attempt.entry { waiting = true }) named)))
+  does-ask refused (holder ∷ holders) desk counts moves = grind (arith, nat_tests, does-contest, contests-all, moves-on, moves-with)
 
   does-fetch : (desk : Desk) (counts : Counts) (fetching : Fetching) → Moves all old desk → Does all word activation old (fetched_first word attempt desk counts fetching)
   does-fetch desk counts (Fetched resident counted) moves =
@@ -276,28 +245,9 @@ does-instruction all word number desk counts are = by_entry (find (λ (entry : E
 
 -- one more step of a turn
 ends-after : (all : List Activation) (word : Word) (number : ℕ) (old mid new : Desk) (ending : Ending) → Moves all old mid → Ends all word number mid new ending → Ends all word number old new ending
-ends-after all word number old mid new (Committed steps out) moves did = record {
-  state = did.state;
-  commits_at = ap (committing all (number, steps)) (sym moves.committed) ∙ did.commits_at;
-  order = did.order ∙ ap (λ (order : List (ℕ × ℕ)). order ++ (number, steps) ∷ []) moves.order;
-  committed = did.committed ∙ ap (λ (store : FlatStore). record store { bytes = did.state.store }) moves.committed;
-  printed = did.printed;
-  next = did.next ∙ moves.next;
-  closed = did.closed ∙ moves.closed;
-  numbered_all = λ are. did.numbered_all (moves.numbered_all are);
-}
+ends-after all word number old mid new (Committed steps out) moves did = grind (arith, nat_tests)
 ends-after all word number old mid new CommitUnwritten moves did = record { broken = did.broken; committed = did.committed ∙ moves.committed; order = did.order ∙ moves.order; closed = did.closed }
-ends-after all word number old mid new CommitDoubted moves did = record {
-  broken = did.broken;
-  steps = did.steps;
-  ordered_as = record {
-    state = did.ordered_as.state;
-    commits_at = ap (committing all (number, did.steps)) (sym moves.committed) ∙ did.ordered_as.commits_at;
-    order = did.ordered_as.order ∙ ap (λ (order : List (ℕ × ℕ)). order ++ (number, did.steps) ∷ []) moves.order;
-  };
-  committed = did.committed ∙ moves.committed;
-  closed = did.closed;
-}
+ends-after all word number old mid new CommitDoubted moves did = grind (arith, nat_tests)
 ends-after all word number old mid new _ moves did = moves-on all old mid new moves did
 
 does-after : (all : List Activation) (word : Word) (number : ℕ) (old mid : Desk) (turning : Turning) → Moves all old mid → Does all word number mid turning → Does all word number old turning
@@ -316,8 +266,4 @@ does-turns all word number left old (Over desk counts ending) are did = did
 
 -- a turn
 pub does-turn : (all : List Activation) (word : Word) (number limit : ℕ) (desk : Desk) → AreNumbered all desk.active → Does all word number desk (turn word number limit desk)
-does-turn all word number limit desk are = by_entry (find (λ (entry : Entry). entry.number == number) desk.active)
-  where
-    by_entry : (one : Option Entry) → Does all word number desk (turn_of one word number limit desk)
-    by_entry None = moves-none all desk
-    by_entry (Some entry) = does-turns all word number limit desk (Going desk no_counts) are (moves-none all desk)
+does-turn all word number limit desk are = grind (arith, nat_tests, moves-none, does-turns)

@@ -1,4 +1,5 @@
 -- The commits of a run are those of a serial run.
+use Rattle.std.proofs.lemmas.Bool.Decides.{nat_tests}
 use Rattle.desk.proofs.Common.{nat_lt, not, slice_get, if◌then◌else◌, IsTrue, option_and_then, flat_map, FlatStore, Plain, Program, Activation, numbered, serial, Begin, Turn, Checkpoint, Crash, Desk, Entry, opened, numbers, Word, Fine, ReadFailed, Unwritten, Doubt, Failed, Counts, Ending, Idle, Limit, Checked, Journal, Disk, Victim, Waits, Committed, CommitUnwritten, CommitDoubted, Turning, Going, Over, turn, number_after, happening_lines, cycle_lines, event_lines}
 use Rattle.std.proofs.Common.{◌≡◌, ℕ, suc, ◌+◌, ◌%◌, ◌^◌, ◌≤◌, ◌⊎◌, inl, inr, Bool, true, false, List, [], ◌∷◌, ◌++◌, length, map, refl, sym, ◌∙◌, ap, subst, arith, Option, Some, None, append_assoc, length-append}
 use Rattle.std.proofs.lemmas.List.{append-nil}
@@ -7,7 +8,7 @@ use Rattle.std.proofs.lemmas.List.Sums.{sum_by-append}
 use Rattle.desk.specs.declared.event.Event.{Event}
 use Rattle.desk.specs.Run.{Step, Happening, Nothing, Busy, Turned, CheckpointMade, CheckpointFailed, Crashed, CrashFailed, begin_if, begins, absent_segment, turned, restarted, shut as shut_desk, is_fine, faulted, event_of, step, run, OpenBeforeEach}
 use Rattle.desk.specs.Lines.{Line}
-use Rattle.desk.specs.Commits.{begun, begun_before, is_commit, commit_lines, serial_lines, line_before, RunsAreSerial}
+use Rattle.desk.specs.Commits.{begun, begun_before, commit_lines, serial_lines, line_before, RunsAreSerial}
 use Rattle.desk.specs.Lines as line
 use Rattle.desk.proofs.Kept.{AreNumbered, Moves, Commits, Does, Ends, moves-none, does-turn}
 
@@ -69,14 +70,7 @@ module _ (all : List Activation) (names : List (List ℕ)) (programs : List Prog
   begin-did : (program : ℕ) (args : List ℕ) (code : Option Program) (front rest : List Activation) (desk : Desk)
       → all ≡ front ++ begun_before code args rest → desk.next ≡ suc (length front) → AreNumbered all desk.active
       → Quiet all names (front ++ begun_before code args []) desk (begin_if program args code desk)
-  begin-did program args None front rest desk is next are = record {
-    committed = refl;
-    order = refl;
-    closed = refl;
-    next = next ∙ ap (λ (these : List Activation). suc (length these)) (sym (append-nil front));
-    are = are;
-    no_lines = λ number. refl;
-  }
+  begin-did program args None front rest desk is next are = grind (arith, nat_tests, append-nil front)
   begin-did program args (Some code) front rest desk is next are = by_room (nat_lt (length desk.active) desk.most_active)
     where
       runs : Activation
@@ -112,14 +106,7 @@ module _ (all : List Activation) (names : List (List ℕ)) (programs : List Prog
   module _ (front : List Activation) (old : Desk) (next : old.next ≡ suc (length front)) (are : AreNumbered all old.active) (word : Word) where
     quiet-moves : (new : Desk) (happening : Happening) → Moves all old new → ((number : ℕ) → commit_lines (happening_lines names number happening) ≡ [])
         → EventDid all names front word old (record { desk = new; happening = happening })
-    quiet-moves new happening moves quiet = inl (record {
-      committed = moves.committed;
-      order = moves.order;
-      closed = moves.closed;
-      next = moves.next ∙ next;
-      are = moves.numbered_all are;
-      no_lines = quiet;
-    })
+    quiet-moves new happening moves quiet = grind (arith, nat_tests)
 
     ending-did : (activation : ℕ) (new : Desk) (counts : Counts) (ending : Ending) → Ends all word activation old new ending
         → EventDid all names front word old (record { desk = new; happening = Turned activation counts ending })
@@ -210,8 +197,13 @@ module _ (all : List Activation) (names : List (List ℕ)) (programs : List Prog
         → EventDid all names (front ++ begun_one programs event []) word old (event_of programs event word old)
     event-did (Begin program args) word rest is = inl (begin-did program args (slice_get programs program) front rest old is next are)
     event-did (Turn activation limit) word rest is =
-        subst (λ (these : List Activation). EventDid all names these word old (turned activation (turn word activation limit old))) (sym (append-nil front))
-        (turning-did front old next are word activation (turn word activation limit old) (does-turn all word activation limit old are))
+        grind (
+          arith,
+          nat_tests,
+          append-nil front,
+          turning-did front old next are word activation (turn word activation limit old) (does-turn all word activation limit old are),
+          does-turn all word activation limit old are,
+        )
     event-did Checkpoint word rest is =
         subst (λ (these : List Activation). EventDid all names these word old (event_of programs Checkpoint word old)) (sym (append-nil front)) (checkpoint-did word)
     event-did Crash word rest is =
@@ -225,11 +217,7 @@ begun-first programs Checkpoint events = refl
 begun-first programs Crash events = refl
 
 begun_one-append : (programs : List Program) (event : Event) (later tail : List Activation) → begun_one programs event later ++ tail ≡ begun_one programs event (later ++ tail)
-begun_one-append programs (Begin program args) later tail = by_code (slice_get programs program)
-  where
-    by_code : (code : Option Program) → begun_before code args later ++ tail ≡ begun_before code args (later ++ tail)
-    by_code None = refl
-    by_code (Some code) = refl
+begun_one-append programs (Begin program args) later tail = grind (arith, nat_tests)
 begun_one-append programs (Turn activation limit) later tail = refl
 begun_one-append programs Checkpoint later tail = refl
 begun_one-append programs Crash later tail = refl
@@ -239,11 +227,7 @@ begun_one-behind programs event front later = ap (λ (these : List Activation). 
 
 begun-append : (programs : List Program) (events more : List Event) → begun programs (events ++ more) ≡ begun programs events ++ begun programs more
 begun-append programs [] more = refl
-begun-append programs (event ∷ events) more =
-    begun-first programs event (events ++ more)
-    ∙ ap (begun_one programs event) (begun-append programs events more)
-    ∙ sym (begun_one-append programs event (begun programs events) (begun programs more))
-    ∙ ap (λ (these : List Activation). these ++ begun programs more) (sym (begun-first programs event events))
+begun-append programs (event ∷ events) more = grind (arith, nat_tests, begun-append programs events more, begun-first, begun_one-append)
 
 -- the commits of a run from a desk on
 pub record From (all : List Activation) (names : List (List ℕ)) (programs : List Program) (number : ℕ) (old : Desk) (taken : List (Event × Word)) : Type 0 where
@@ -259,11 +243,7 @@ pub record From (all : List Activation) (names : List (List ℕ)) (programs : Li
 
 -- a step of an open desk
 step-is : (programs : List Program) (event : Event) (word : Word) (desk : Desk) → IsTrue (not desk.closed) → step programs event word desk ≡ event_of programs event word desk
-step-is programs event word desk still = by_test desk.closed still
-  where
-    by_test : (closed : Bool) → IsTrue (not closed) → (if closed then record { desk = desk; happening = Nothing } else event_of programs event word desk) ≡ event_of programs event word desk
-    by_test true still = absurd (cc)
-    by_test false still = refl
+step-is programs event word desk still = grind (arith, nat_tests)
 
 -- none of these events can follow one that closed the desk
 none-behind : (programs : List Program) (taken : List (Event × Word)) (desk : Desk) → desk.closed ≡ true → OpenBeforeEach programs taken desk → taken ≡ []
@@ -275,9 +255,7 @@ faulted-split : (event : Event) (word : Word) (taken : List (Event × Word)) →
 faulted-split event word taken = sum_by-append (λ (each : Event × Word). if not (is_fine each.1) then 1 else 0) ((event, word) ∷ []) taken
 
 faulted-one : (event : Event) (word : Word) (taken : List (Event × Word)) → is_fine word ≡ false → 1 ≤ faulted ((event, word) ∷ taken)
-faulted-one event word taken broken =
-    let one : faulted ((event, word) ∷ []) ≡ 1 = ap (λ (fine : Bool). 0 + (if not fine then 1 else 0)) broken in
-    omega (arith, faulted-split event word taken, one)
+faulted-one event word taken broken = grind (arith, nat_tests, faulted-split event word taken)
 
 faulted-more : (event : Event) (word : Word) (taken : List (Event × Word)) → 1 ≤ faulted taken → 1 ≤ faulted ((event, word) ∷ taken)
 faulted-more event word taken some = omega (arith, faulted-split event word taken, some)
@@ -290,9 +268,7 @@ module _ (all : List Activation) (names : List (List ℕ)) (programs : List Prog
 
     lines-are : commit_lines (event_lines names programs number ((event, word) ∷ taken) old)
         ≡ commit_lines (happening_lines names (number_after number new.desk) new.happening) ++ commit_lines (event_lines names programs number taken new.desk)
-    lines-are =
-        ap (λ (s : Step). commit_lines (happening_lines names (number_after number s.desk) s.happening ++ event_lines names programs number taken s.desk)) is
-        ∙ filter-append is_commit (happening_lines names (number_after number new.desk) new.happening) (event_lines names programs number taken new.desk)
+    lines-are = grind (arith, nat_tests, filter-append)
 
     closed-on : new.desk.closed ≡ old.closed → ((run programs taken new.desk).closed ≡ new.desk.closed) ⊎ (1 ≤ faulted taken)
         → ((run programs ((event, word) ∷ taken) old).closed ≡ old.closed) ⊎ (1 ≤ faulted ((event, word) ∷ taken))

@@ -61,7 +61,7 @@ pub some-free : (p : StorePages) → vec_len p.resident < p.frames → 0 < vec_l
 some-free p room = omega (arith, p.sound.placed.used, p.resident.ok.0, p.free.ok.0)
 
 pub free-within : (p : StorePages) (frame : ℕ) (free : List ℕ) → p.free.items ≡ free ++ frame ∷ [] → frame < vec_len p.page_in
-free-within p frame free split = grind (arith, nat_tests, List ℕ, has-push_last free frame)
+free-within p frame free split = grind (arith, nat_tests, has-push_last free frame)
 
 some-goes :
     (keep : Option ℕ) (x y : ℕ) (rest : List ℕ) → is_apart (x ∷ y ∷ rest) ≡ true

@@ -77,7 +77,7 @@ pub left-gone :
     → page ≡ slice_index p.places.resident.items index → frame_at (pool_of p) page ≡ Some frame
     → after ≡ left (places_of p.places) index page frame → kept ≡ paging_after (pool_of p) page frame
     → shown after p.bytes.items.items p.marked.items kept ≡ gone (pool_of p) page
-left-gone p index page frame after kept below is there places keeps = grind (arith, nat_tests, List ℕ, removed-taken p.places.resident.items index p.places.sound.placed.pages_apart below, gone-from (pool_of p) page frame there)
+left-gone p index page frame after kept below is there places keeps = grind (arith, nat_tests, removed-taken p.places.resident.items index p.places.sound.placed.pages_apart below, gone-from (pool_of p) page frame there)
 
 -- where no element passes there is none at a place
 position-none : (test : ℕ → Bool) (xs : List ℕ) → length xs ≤ prefix_len (λ x. not (test x)) xs → list_any test xs ≡ false
@@ -85,7 +85,7 @@ position-none test [] all = refl
 position-none test (x ∷ xs) all = grind (arith, nat_tests, position-none test xs)
 
 pub not-resident : (xs : List ℕ) (page : ℕ) → position (λ other. other == page) xs ≡ None → has xs page ≡ false
-not-resident xs page none = grind (arith, nat_tests, Bool, position-none)
+not-resident xs page none = grind (arith, nat_tests, position-none)
 
 -- a page that isn't resident has no frame, so it stays out
 pub gone-none : (p : FramePool) (page : ℕ) → has p.places.resident.items page ≡ false → gone (pool_of p) page ≡ pool_of p
@@ -110,7 +110,7 @@ ltb-of a b below = grind (arith, nat_tests)
 
 -- the page that goes out, by its index
 pub out-some : (p : FramePool) (keep : Option ℕ) (index : ℕ) → index_out (places_of p.places) keep ≡ Some index → page_out (pool_of p) keep ≡ Some (slice_index p.places.resident.items index)
-out-some p keep index is = grind (arith, nat_tests, Bool, find-position)
+out-some p keep index is = grind (arith, nat_tests, find-position)
 
 pub out-none : (p : FramePool) (keep : Option ℕ) → index_out (places_of p.places) keep ≡ None → page_out (pool_of p) keep ≡ None
 out-none p keep is = grind (arith, nat_tests, none-room, ltb-of)
@@ -127,7 +127,7 @@ split [] some = absurd (omega arith)
 split (x ∷ rest) some = (rest, refl)
 
 pub emptied-step : (p : FramePool) → 0 < length p.places.resident.items → emptied (gone (pool_of p) (slice_index p.places.resident.items 0)) ≡ emptied (pool_of p)
-emptied-step p some = grind (arith, nat_tests, split p.places.resident.items some, resident-in_frame (places_of p.places) 0 p.places.sound some, removed-taken p.places.resident.items 0 p.places.sound.placed.pages_apart some, List ℕ)
+emptied-step p some = grind (arith, nat_tests, split p.places.resident.items some, resident-in_frame (places_of p.places) 0 p.places.sound some, removed-taken p.places.resident.items 0 p.places.sound.placed.pages_apart some)
 
 -- the lines of a set are lines of a page
 pub lines-below : (set : List ℕ) → IsOfPage set → All (λ line. line < 16) set
@@ -144,7 +144,7 @@ gone-sizes : (pool : Pool) (page : ℕ) → ((gone pool page).page ≡ pool.page
 gone-sizes pool page = grind (arith, nat_tests)
 
 room-sizes : (pool : Pool) (keep : Option ℕ) → ((with_room pool keep).page ≡ pool.page) × ((with_room pool keep).frames ≡ pool.frames)
-room-sizes pool keep = grind (arith, nat_tests, ℕ, gone-sizes)
+room-sizes pool keep = grind (arith, nat_tests, gone-sizes)
 
 -- the resident pages when one has gone out for another
 room-resident :
@@ -186,7 +186,7 @@ room-resident p keep = by_index (index_out (places_of p.places) keep) refl
 pub came-brought :
     (old mid : FramePool) (keep : Option ℕ) (page frame : ℕ) (after : Places) → pool_of mid ≡ with_room (pool_of old) keep
     → CameIn (places_of mid.places) after page frame → Brought (pool_of old) (shown after mid.bytes.items.items mid.marked.items mid.kept) page keep frame
-came-brought old mid keep page frame after room came = grind (arith, nat_tests, List ℕ, has-push_last after.free frame, room-sizes (pool_of old) keep, room-resident old keep)
+came-brought old mid keep page frame after room came = grind (arith, nat_tests, has-push_last after.free frame, room-sizes (pool_of old) keep, room-resident old keep)
 
 -- the frame of a page is one of the store
 pub some-above : (p : FramePool) (page : ℕ) (o : Option ℕ) → o ≡ frame_at (pool_of p) page → IfSome o (λ frame. private_frames p.places.page ≤ frame)

@@ -75,7 +75,7 @@ module _ (pool : Pool) (seen : IsSeen pool) (page frame : ℕ) (there : frame_at
           (omega (arith, frame-long, page_part page (length pool.frame_of) (page_bytes pool.page) inside, seen.kept))
 
   resident-left : (p : ℕ) → has (taken_out (page ∷ []) pool.resident) p ≡ is_some (slice_index_or (slice_set pool.frame_of page None) p None)
-  resident-left p = grind (arith, nat_tests, has-filter, none-set, Bool)
+  resident-left p = grind (arith, nat_tests, has-filter, none-set)
 
   -- what stands somewhere after it stood there before
   before : (xs : List (Option ℕ)) (at other value : ℕ) → slice_index_or (slice_set xs at None) other None ≡ Some value → (at ≢ other) × (slice_index_or xs other None ≡ Some value)

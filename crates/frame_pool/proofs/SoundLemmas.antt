@@ -33,13 +33,13 @@ page_part page count size below = grind arith
 pair-left : (to from : List (Option ℕ)) (x y : ℕ) → x < length to → slice_index_or from y None ≡ Some x
     → ((p f : ℕ) → slice_index_or to p None ≡ Some f → slice_index_or from f None ≡ Some p)
     → (p f : ℕ) → slice_index_or (slice_set to x None) p None ≡ Some f → slice_index_or (slice_set from y None) f None ≡ Some p
-pair-left to from x y inside back each p f is = grind (arith, nat_tests, cases_eq, ℕ, get_or-set_same, get_or-set_other)
+pair-left to from x y inside back each p f is = grind (arith, nat_tests, cases_eq, get_or-set_same, get_or-set_other)
 
 -- and once one came
 pair-came : (to from : List (Option ℕ)) (x y : ℕ) → x < length to → y < length from → slice_index_or from y None ≡ None
     → ((p f : ℕ) → slice_index_or to p None ≡ Some f → slice_index_or from f None ≡ Some p)
     → (p f : ℕ) → slice_index_or (slice_set to x (Some y)) p None ≡ Some f → slice_index_or (slice_set from y (Some x)) f None ≡ Some p
-pair-came to from x y inside also free each p f is = grind (arith, nat_tests, cases_eq, ℕ, get_or-set_same, get_or-set_other)
+pair-came to from x y inside also free each p f is = grind (arith, nat_tests, cases_eq, get_or-set_same, get_or-set_other)
 
 -- a page left: its frame is free
 pub sound-left :

@@ -1,5 +1,5 @@
 -- What is shown before and after a store.
-use Rattle.storage_unit.proofs.Common.{◌≡◌, ℕ, ◌+◌, ◌-◌, ◌*◌, ◌/◌, ◌%◌, ◌<◌, ◌≤◌, ◌^◌, Bool, true, false, List, length, refl, sym, ◌∙◌, ap, arith, Option, Some, None, Result, Ok, Err, nat_le, cond, slice_index, slice_index_or, is_some, option_map_or, nat_tests, get_or-map-range_with_len, length-map-range_with_len, same_number_lists, overlaid, PageSize, page_bytes, start_of, page_of, Located, Private, Shared, Refused, Check, Virtual, virtual_at, bytes_on, located_under, located_by, Key, key_to, frame_at, Access, IsOutside, answer_in, bytes_from, Reach, private_segment, offset_of, place_of, place_at, on, key_of_page, AreReached, byte_in_frame, byte_of, byte_at, is_there, is_in_frame, refuses, put_byte, put_in_store, put_at, IsSound, Lies, AreThere, bytes_shown}
+use Rattle.storage_unit.proofs.Common.{◌≡◌, ℕ, ◌+◌, ◌-◌, ◌*◌, ◌/◌, ◌%◌, ◌<◌, ◌≤◌, true, false, List, length, refl, sym, ◌∙◌, ap, arith, Option, Some, None, Result, Ok, Err, slice_index, is_some, option_map_or, nat_tests, get_or-map-range_with_len, length-map-range_with_len, same_number_lists, overlaid, PageSize, page_bytes, start_of, page_of, Located, Private, Shared, Refused, Check, Virtual, virtual_at, bytes_on, located_by, Key, key_to, frame_at, Access, IsOutside, answer_in, bytes_from, Reach, private_segment, offset_of, place_of, place_at, on, key_of_page, AreReached, byte_in_frame, byte_of, byte_at, is_there, is_in_frame, refuses, put_byte, put_in_store, put_at, IsSound, Lies, AreThere, bytes_shown}
 use Rattle.storage_unit.proofs.SizeLemmas.{rest-below, place-is, frame-high, page-of-line}
 use Rattle.storage_unit.proofs.KeyLemmas.{key-of-place}
 use Rattle.storage_unit.proofs.FillLemmas.{over-part, in-part}
@@ -23,10 +23,7 @@ range-shown state sound address n at u =
 -- bytes that are put are put in frames that have room
 pub private-room : (state : Reach) (sound : IsSound state) (at : Virtual) (n a : ℕ) → Lies state at n → place_of state.directory at ≡ Private a
     → ((state.runner - 1) * 16384 + a + n ≤ 262144) × (262144 ≤ length state.pool.bytes)
-private-room state sound at n a lies is =
-    let (own, offset) = is-private state.directory at a is in
-    let (seat, runner, few, segment, begun, fits) = lies.private own in
-    (omega (arith, runner, few, fits, offset), all-private state sound)
+private-room state sound at n a lies is = grind (arith, nat_tests)
 
 -- where a byte of the store is shown, its page is in a frame
 pub there-frame : (state : Reach) (sound : IsSound state) (place : ℕ) → is_there state (Shared place) ≡ true → (frame : ℕ) × (frame_at state.pool (page_of state.directory place) ≡ Some frame)
@@ -77,13 +74,7 @@ module _ (state : Reach) (sound : IsSound state) (address : ℕ) (bytes : List �
   after-at (Refused code) is k below = absurd (never-refused state.directory at code is)
 
   pub shows : bytes_from (byte_at (put_at state (place_of state.directory at) bytes)) address (length bytes) ≡ bytes
-  shows =
-      same_number_lists (bytes_from (byte_at (put_at state (place_of state.directory at) bytes)) address n) bytes
-      (length-map-range_with_len (byte_at (put_at state (place_of state.directory at) bytes)) address n)
-      (λ k below.
-      let small : k < n = omega (arith, below, length-map-range_with_len (byte_at (put_at state (place_of state.directory at) bytes)) address n) in
-      get_or-map-range_with_len (byte_at (put_at state (place_of state.directory at) bytes)) address n k (address + k) 0 small refl
-      ∙ after-at (place_of state.directory at) refl k small)
+  shows = grind (arith, nat_tests, same_number_lists, length-map-range_with_len, get_or-map-range_with_len, after-at)
 
   module _ (other : ℕ) (outside : IsOutside state.registers address (length bytes) other) where
     abbrev page : PageSize
@@ -201,32 +192,14 @@ lies-after state (Shared a) bytes v m l = record { within = l.within; few = l.fe
 lies-after state (Refused code) bytes v m l = l
 
 pub there-after : (state : Reach) (place : Located) (bytes : List ℕ) (v : Virtual) (m : ℕ) → AreThere state v m → AreThere (put_at state place bytes) v m
-there-after state (Private a) bytes v m all k below = by_target (on (place_of state.directory v) k) (all k below)
-  where
-    by_target : (target : Located) → is_there state target ≡ true → is_there (put_at state (Private a) bytes) target ≡ true
-    by_target (Private b) is = is
-    by_target (Shared b) is = is
-    by_target (Refused code) is = is
-there-after state (Shared a) bytes v m all k below = by_target (on (place_of state.directory v) k) (all k below)
-  where
-    by_target : (target : Located) → is_there state target ≡ true → is_there (put_at state (Shared a) bytes) target ≡ true
-    by_target (Private b) is = is
-    by_target (Shared b) is = is
-    by_target (Refused code) is = is
+there-after state (Private a) bytes v m all k below = grind (arith, nat_tests)
+there-after state (Shared a) bytes v m all k below = grind (arith, nat_tests)
 there-after state (Refused code) bytes v m all k below = all k below
 
 -- the first two bytes of a halfword under register 0
 pub own-located : (state : Reach) (seat address bytes : ℕ) → AreReached state.directory seat state.registers → address + bytes ≤ 16384
     → located_by state.registers address bytes false ≡ Ok (virtual_at state.directory.page (private_segment seat) address)
-own-located state seat address bytes reached fits =
-    let low : address / 2 ^ 28 ≡ 0 = omega (arith, fits) in
-    let rest : address % 2 ^ 28 ≡ address = omega (arith, fits) in
-    let inside : nat_le (address + bytes) 16384 ≡ true = grind (arith, nat_tests, fits) in
-    ap (λ i. located_under state.registers.page (slice_index_or state.registers.list i None) (address % 2 ^ 28) bytes false) low
-    ∙ ap (λ o. located_under state.registers.page (slice_index_or state.registers.list 0 None) o bytes false) rest
-    ∙ ap (λ r. located_under state.registers.page r address bytes false) reached.first
-    ∙ ap (λ (test : Bool). cond {A = Result Virtual Check} test (Ok (virtual_at state.registers.page (private_segment seat) address)) (Err (record { 0 = 2 }))) inside
-    ∙ ap (λ page. Ok (virtual_at page (private_segment seat) address)) reached.page
+own-located state seat address bytes reached fits = grind (arith, nat_tests)
 
 pub directory-after : (state : Reach) (place : Located) (bytes : List ℕ) → (put_at state place bytes).directory ≡ state.directory
 directory-after state (Private a) bytes = refl

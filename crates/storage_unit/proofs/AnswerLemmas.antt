@@ -1,5 +1,5 @@
 -- The answer to an access, by the lines of its bytes.
-use Rattle.storage_unit.proofs.Common.{◌≡◌, ℕ, ◌+◌, ◌<◌, Bool, true, false, refl, sym, ◌∙◌, ap, arith, Option, Some, None, Result, Ok, Err, not, find, option_map, range_with_len, line_of, Located, Private, Shared, Check, Virtual, Registers, bytes_on, located_by, Access, Probe, bytes_of_range, unless_refused_at, unless_absent_at, answered_at, answered, place_of, on, is_resident, is_refused, is_there, is_kept_from, is_in_frame, refuses, Reach, IsSound, AreThere}
+use Rattle.storage_unit.proofs.Common.{◌≡◌, ℕ, ◌+◌, ◌<◌, Bool, true, false, refl, sym, ◌∙◌, ap, arith, Option, Some, None, Ok, not, find, option_map, range_with_len, line_of, Located, Private, Shared, Virtual, Registers, bytes_on, located_by, Access, Probe, bytes_of_range, unless_absent_at, answered_at, answered, place_of, on, is_resident, is_refused, is_there, is_kept_from, is_in_frame, refuses, Reach, IsSound, AreThere, nat_tests}
 use Rattle.storage_unit.proofs.FindLemmas.{find-map, find-same, none-passes, none-found}
 use Rattle.storage_unit.proofs.PlaceLemmas.{place-on, registers-page}
 
@@ -7,20 +7,12 @@ module _ (f : Reach) (first : Virtual) (n : ℕ) where
   -- the first byte that is in no frame, by its place
   absent-on : find (λ at. not (is_in_frame f at)) (bytes_of_range f.directory.page first n)
       ≡ option_map (bytes_on f.directory.page first) (find (λ k. not (is_there f (on (place_of f.directory first) k))) (range_with_len 0 n))
-  absent-on =
-      find-map (λ at. not (is_in_frame f at)) (bytes_on f.directory.page first) (range_with_len 0 n)
-      ∙ ap (option_map (bytes_on f.directory.page first))
-      (find-same (λ k. not (is_in_frame f (bytes_on f.directory.page first k))) (λ k. not (is_there f (on (place_of f.directory first) k))) (range_with_len 0 n)
-      (λ k. ap (λ place. not (is_there f place)) (place-on f.directory first k)))
+  absent-on = grind (arith, nat_tests, find-map, find-same, place-on)
 
   -- the first byte that is refused
   refused-on : (store : Bool) → find (λ at. refuses f at store) (bytes_of_range f.directory.page first n)
       ≡ option_map (bytes_on f.directory.page first) (find (λ k. is_kept_from f (on (place_of f.directory first) k) store) (range_with_len 0 n))
-  refused-on store =
-      find-map (λ at. refuses f at store) (bytes_on f.directory.page first) (range_with_len 0 n)
-      ∙ ap (option_map (bytes_on f.directory.page first))
-      (find-same (λ k. refuses f (bytes_on f.directory.page first k) store) (λ k. is_kept_from f (on (place_of f.directory first) k) store) (range_with_len 0 n)
-      (λ k. ap (λ place. is_kept_from f place store) (place-on f.directory first k)))
+  refused-on store = grind (arith, nat_tests, find-map, find-same, place-on)
 
   -- the answer by the places of the bytes
   abbrev pub answer_by : Located → Bool → Probe
@@ -38,11 +30,7 @@ module _ (f : Reach) (first : Virtual) (n : ℕ) where
   -- in the private storage it is permitted
   pub answered-private : (access : Access) (at : ℕ) → access.bytes ≡ n → place_of f.directory first ≡ Private at
       → answered_at f.directory.page (is_in_frame f) (refuses f) access (Ok first) ≡ Probe.Permitted
-  answered-private access at bytes place =
-      answered-by access bytes
-      ∙ ap (λ p. answer_by p access.store) place
-      ∙ ap (λ found. unless_absent_at (option_map (bytes_on f.directory.page first) found) (option_map (bytes_on f.directory.page first) (find (λ k. false) (range_with_len 0 n)))) (none-found (λ k. false) 0 n (λ k above below. refl))
-      ∙ ap (λ found. unless_refused_at (option_map (bytes_on f.directory.page first) found)) (none-found (λ k. false) 0 n (λ k above below. refl))
+  answered-private access at bytes place = grind (arith, nat_tests, answered-by, none-found)
 
   -- each byte of a permitted access is in a frame
   pub permitted-there : (access : Access) → access.bytes ≡ n → answered_at f.directory.page (is_in_frame f) (refuses f) access (Ok first) ≡ Probe.Permitted
@@ -91,28 +79,14 @@ module _ (f : Reach) (first : Virtual) (n : ℕ) where
   pub lines-permitted : (access : Access) (at : ℕ) → access.bytes ≡ n → place_of f.directory first ≡ Shared at
       → ((k : ℕ) → k < n → (is_resident f (line_of f.directory (at + k)) ≡ true) × (is_refused f (line_of f.directory (at + k)) access.store ≡ false))
       → answered_at f.directory.page (is_in_frame f) (refuses f) access (Ok first) ≡ Probe.Permitted
-  lines-permitted access at bytes place all =
-      answered-by access bytes
-      ∙ ap (λ p. answer_by p access.store) place
-      ∙ ap
-      (λ found. unless_absent_at (option_map (bytes_on f.directory.page first) found) (option_map (bytes_on f.directory.page first) (find (λ k. is_refused f (line_of f.directory (at + k)) access.store) (range_with_len 0 n))))
-      (none-found (λ k. not (is_resident f (line_of f.directory (at + k)))) 0 n (λ k above below. ap not (all k (omega arith)).0))
-      ∙ ap (λ found. unless_refused_at (option_map (bytes_on f.directory.page first) found))
-      (none-found (λ k. is_refused f (line_of f.directory (at + k)) access.store) 0 n (λ k above below. (all k (omega arith)).1))
+  lines-permitted access at bytes place all = grind (arith, nat_tests, answered-by, none-found)
 
 -- a permitted access lies somewhere
 pub permitted-located :
     (registers : Registers) (is_in_frame : Virtual → Bool) (refuses : Virtual → Bool → Bool) (access : Access)
     → answered registers is_in_frame refuses access ≡ Probe.Permitted
     → (at : Virtual) × (located_by registers access.address access.bytes access.store ≡ Ok at)
-permitted-located registers is_in_frame refuses access permitted = by_result (located_by registers access.address access.bytes access.store) refl permitted
-  where
-    by_result :
-        (found : Result Virtual Check) → located_by registers access.address access.bytes access.store ≡ found
-        → answered_at registers.page is_in_frame refuses access found ≡ Probe.Permitted
-        → (at : Virtual) × (located_by registers access.address access.bytes access.store ≡ Ok at)
-    by_result (Ok at) is permitted = (at, is)
-    by_result (Err check) is permitted = absurd (cc)
+permitted-located registers is_in_frame refuses access permitted = grind (arith, nat_tests)
 
 -- each byte of an access that is permitted under the registers is in a frame
 pub permitted-bytes :

@@ -1,5 +1,5 @@
 -- The bytes that a pool shows once a page came in and its frame was filled.
-use Rattle.storage_unit.proofs.Common.{◌≡◌, ◌≢◌, ℕ, ◌+◌, ◌*◌, ◌/◌, ◌%◌, ◌<◌, ◌≤◌, false, List, [], length, refl, sym, ◌∙◌, ap, subst, arith, Option, Some, None, All, if◌then◌else◌, slice_index, slice_index_or, slice_set, is_some, fold, option_to_list, option_map_or, get_or-set_same, get_or-set_other, overlaid, length-overlaid, page_bytes, Layout, page_count, line_of, page_of, IsOfPage, has, Pool, frame_count, line_size, frame_at, page_at, marks_at, with_room, Brought, line_laid, page_part, lines-below, is_marked, byte_in_frame, byte_over, IsClean, Fits, filled}
+use Rattle.storage_unit.proofs.Common.{◌≡◌, ◌≢◌, ℕ, ◌+◌, ◌*◌, ◌/◌, ◌%◌, ◌<◌, ◌≤◌, false, List, [], length, refl, sym, ◌∙◌, ap, subst, arith, Option, Some, None, All, if◌then◌else◌, slice_index, slice_index_or, slice_set, is_some, option_to_list, option_map_or, get_or-set_same, get_or-set_other, overlaid, length-overlaid, page_bytes, Layout, page_count, line_of, page_of, IsOfPage, has, Pool, frame_count, line_size, frame_at, page_at, marks_at, with_room, Brought, page_part, lines-below, is_marked, byte_in_frame, byte_over, IsClean, Fits, filled, nat_tests}
 use Rattle.lock_rules.specs.Resident.{brought}
 use Rattle.storage_unit.proofs.SizeLemmas.{rest-below, place-is, spot-same, line-in-page}
 use Rattle.storage_unit.proofs.ByteLemmas.{over-some, marked-is}
@@ -74,19 +74,7 @@ module _ (d : Layout) (old new : Pool) (committed bytes : List ℕ) (page : ℕ)
 
   -- the pool that came in and was filled
   pub filled-is : filled new page frame bytes ≡ full
-  filled-is =
-      ap (λ (pool : Pool). filled pool page frame bytes) came.rest
-      ∙ ap
-      (λ (o : Option ℕ). option_map_or (λ f. fold (line_laid page f) (record brought_in { bytes = overlaid room.bytes (frame * page_bytes room.page) bytes }) (marks_at room page)) o (record brought_in { bytes = overlaid room.bytes (frame * page_bytes room.page) bytes }))
-      frame-here
-      ∙ fold-laid brought_in page frame (marks_at room page) (overlaid room.bytes (frame * page_bytes room.page) bytes) kept-there
-    where
-      brought_in : Pool
-      brought_in = record room {
-        resident = brought old.frames (option_to_list keep) old.resident page;
-        frame_of = slice_set room.frame_of page (Some frame);
-        page_in = slice_set room.page_in frame (Some page);
-      }
+  filled-is = grind (arith, nat_tests, frame-here, fold-laid, kept-there)
 
   -- what it shows of the page
   pub full-here : (place : ℕ) → page ≡ page_of d place

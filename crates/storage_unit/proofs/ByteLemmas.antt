@@ -1,12 +1,10 @@
 -- The bytes of a store that a pool shows, place by place.
-use Rattle.storage_unit.proofs.Common.{◌≡◌, ◌≢◌, ℕ, ◌+◌, ◌-◌, ◌*◌, ◌%◌, ◌<◌, ◌≤◌, Bool, true, false, List, [], ◌∷◌, length, drop, refl, sym, ◌∙◌, ap, subst, arith, Option, Some, None, inl, inr, ◌==◌, ◌&&◌, not, if◌then◌else◌, slice_index, slice_index_or, slice_range, option_map_or, cases_lt, ne_eqb, eqb-true, eqb-false, get_or-take, get_or-drop, get_or-map-range_with_len, length-map-range_with_len, same_number_lists, overlaid, overlaid_before, overlaid_within, overlaid_behind, page_bytes, Layout, byte_count, line_of, page_of, has, page_of_line, Pool, IsSeen, frame_at, marks_at, frame_bytes, paging_after, gone, page_part, gone-from, some-within, gone-frame, gone-stays, gone-absent, frame-long, is_marked, byte_in_frame, byte_over, bytes_over}
+use Rattle.storage_unit.proofs.Common.{◌≡◌, ◌≢◌, ℕ, ◌+◌, ◌-◌, ◌*◌, ◌%◌, ◌<◌, ◌≤◌, Bool, true, false, List, [], ◌∷◌, length, drop, refl, sym, ◌∙◌, ap, arith, Option, Some, None, ◌==◌, ◌&&◌, not, if◌then◌else◌, slice_index, slice_index_or, slice_range, option_map_or, ne_eqb, eqb-false, get_or-take, get_or-drop, get_or-map-range_with_len, length-map-range_with_len, same_number_lists, overlaid, overlaid_before, overlaid_within, overlaid_behind, page_bytes, Layout, byte_count, line_of, page_of, has, page_of_line, Pool, IsSeen, frame_at, marks_at, frame_bytes, paging_after, gone, gone-from, some-within, gone-frame, gone-stays, gone-absent, frame-long, is_marked, byte_in_frame, byte_over, bytes_over, nat_tests}
 use Rattle.storage_unit.proofs.SizeLemmas.{rest-below, place-is, spot-same, page-of-line}
 
 -- a byte of a part of a list
 pub in-range : (xs : List ℕ) (from count k : ℕ) → k < count → slice_index (slice_range xs from (from + count)) k ≡ slice_index xs (from + k)
-in-range xs from count k below =
-    let short : k < from + count - from = omega (arith, below) in
-    get_or-take (from + count - from) (drop from xs) k 0 short ∙ get_or-drop from xs k 0
+in-range xs from count k below = grind (arith, nat_tests, get_or-take, drop, get_or-drop)
 
 -- a byte of all bytes
 pub byte-of-all : (d : Layout) (pool : Pool) (committed : List ℕ) (place : ℕ) → place < byte_count d → slice_index (bytes_over d pool committed) place ≡ byte_over d pool committed place
@@ -20,11 +18,7 @@ pub same-bytes :
     (d : Layout) (pool other : Pool) (committed next : List ℕ)
     → ((place : ℕ) → place < byte_count d → byte_over d pool committed place ≡ byte_over d other next place)
     → bytes_over d pool committed ≡ bytes_over d other next
-same-bytes d pool other committed next same =
-    same_number_lists (bytes_over d pool committed) (bytes_over d other next) (all-long d pool committed ∙ sym (all-long d other next))
-    (λ k below.
-    let inside : k < byte_count d = omega (arith, below, all-long d pool committed) in
-    byte-of-all d pool committed k inside ∙ same k inside ∙ sym (byte-of-all d other next k inside))
+same-bytes d pool other committed next same = grind (arith, nat_tests, same_number_lists, all-long, byte-of-all)
 
 -- the marks of a place, by its page and its line in the page
 pub marked-is : (d : Layout) (pool : Pool) (place : ℕ) → is_marked d pool place ≡ has (marks_at pool (page_of d place)) (line_of d place % 16)
@@ -53,15 +47,7 @@ module _ (d : Layout) (pool : Pool) (committed : List ℕ) (page place : ℕ) (s
 
   -- a page that was in no frame
   absent : frame_at pool page ≡ None → Leaves pool
-  absent none = by_tests (page == page_of d place) (is_marked d pool place) refl refl
-    where
-      by_tests : (here marked : Bool) → (page == page_of d place) ≡ here → is_marked d pool place ≡ marked
-          → byte_over d pool committed place ≡ (if here && not marked then slice_index committed place else byte_over d pool committed place)
-      by_tests false marked a b = refl
-      by_tests true true a b = refl
-      by_tests true false a b =
-          over-none d pool committed place (ap (frame_at pool) (sym (eqb-true page (page_of d place) a)) ∙ none)
-          ∙ ap (λ (m : Bool). if m then slice_index pool.kept place else slice_index committed place) b
+  absent none = grind (arith, nat_tests)
 
   module _ (frame : ℕ) (there : frame_at pool page ≡ Some frame) where
     marks : is_marked d (gone pool page) place ≡ is_marked d pool place
@@ -81,10 +67,7 @@ module _ (d : Layout) (pool : Pool) (committed : List ℕ) (page place : ℕ) (s
     long = frame-long pool seen page frame there ∙ ap page_bytes size
 
     room : page * page_bytes d.page + page_bytes d.page ≤ length pool.kept
-    room =
-        let inside = some-within pool.frame_of page frame there in
-        let part = page_part page (length pool.frame_of) (page_bytes d.page) inside in
-        omega (arith, part, seen.kept ∙ ap (λ s. length pool.frame_of * page_bytes s) size)
+    room = grind (arith, nat_tests, some-within pool.frame_of page frame there)
 
     at-place : page ≡ page_of d place → page * page_bytes d.page + place % page_bytes d.page ≡ place
     at-place here = ap (λ n. n * page_bytes d.page + place % page_bytes d.page) here ∙ place-is d.page place
@@ -105,57 +88,14 @@ module _ (d : Layout) (pool : Pool) (committed : List ℕ) (page place : ℕ) (s
         ∙ ap (λ s. slice_index pool.bytes (frame * page_bytes s + place % page_bytes d.page)) size
 
     kept-elsewhere : page ≢ page_of d place → slice_index (gone pool page).kept place ≡ slice_index pool.kept place
-    kept-elsewhere apart =
-        ap (λ (list : List ℕ). slice_index list place) kept-is ∙ by_marks (length (marks_at pool page) == 0)
-      where
-        rest : place % page_bytes d.page < page_bytes d.page
-        rest = rest-below d.page place
-
-        at : page_of d place * page_bytes d.page + place % page_bytes d.page ≡ place
-        at = place-is d.page place
-
-        outside : (k : ℕ) → k < page_bytes d.page → page * page_bytes d.page + k ≡ place → ⊥
-        outside k below same = apart (spot-same d.page page (page_of d place) k (place % page_bytes d.page) below rest (same ∙ sym at)).0
-
-        by_marks : (b : Bool) → slice_index (if b then pool.kept else overlaid pool.kept (page * page_bytes pool.page) (frame_bytes pool frame)) place ≡ slice_index pool.kept place
-        by_marks true = refl
-        by_marks false = elim (cases_lt place (page * page_bytes d.page)) [
-          | inl low ↦ overlaid_before pool.kept (page * page_bytes pool.page) (frame_bytes pool frame) place 0 (omega (arith, room, start)) (omega (arith, low, start))
-          | inr high ↦
-              elim (cases_lt place (page * page_bytes d.page + page_bytes d.page)) [
-                | inl within ↦ absurd (outside (place - page * page_bytes d.page) (omega (arith, high, within)) (omega (arith, high)))
-                | inr behind ↦ overlaid_behind pool.kept (page * page_bytes pool.page) (frame_bytes pool frame) place 0 (omega (arith, room, start)) (omega (arith, behind, start, long))
-              ]
-        ]
+    kept-elsewhere apart = grind (arith, nat_tests, kept-is, rest-below, place-is, spot-same, overlaid_before, room, start, overlaid_behind, long)
 
     here-over : (marked : Bool) → (page == page_of d place) ≡ true → is_marked d pool place ≡ marked
         → byte_over d (gone pool page) committed place ≡ (if not marked then slice_index committed place else byte_over d pool committed place)
-    here-over marked a b =
-        over-none d (gone pool page) committed place (gone-frame pool page (page_of d place) ∙ ap (λ (t : Bool). if t then None else frame_at pool (page_of d place)) a)
-        ∙ ap (λ (m : Bool). if m then slice_index (gone pool page).kept place else slice_index committed place) (marks ∙ b)
-        ∙ by_mark marked b
-      where
-        here : page ≡ page_of d place
-        here = eqb-true page (page_of d place) a
-
-        by_mark : (marked : Bool) → is_marked d pool place ≡ marked
-            → (if marked then slice_index (gone pool page).kept place else slice_index committed place)
-            ≡ (if not marked then slice_index committed place else byte_over d pool committed place)
-        by_mark true b = kept-here here b ∙ sym (over-some d pool committed place frame (ap (frame_at pool) (sym here) ∙ there))
-        by_mark false b = refl
+    here-over marked a b = grind (arith, nat_tests, over-none, gone-frame, marks, kept-here, over-some)
 
     elsewhere-over : (page == page_of d place) ≡ false → byte_over d (gone pool page) committed place ≡ byte_over d pool committed place
-    elsewhere-over a =
-        ap (λ (o : Option ℕ). option_map_or (byte_in_frame d (gone pool page) place) o (if is_marked d (gone pool page) place then slice_index (gone pool page).kept place else slice_index committed place))
-        (gone-frame pool page (page_of d place) ∙ ap (λ (t : Bool). if t then None else frame_at pool (page_of d place)) a)
-        ∙ by_other (frame_at pool (page_of d place))
-        ∙ ap (λ (m : Bool). option_map_or (byte_in_frame d pool place) (frame_at pool (page_of d place)) (if m then slice_index pool.kept place else slice_index committed place)) marks
-      where
-        by_other : (o : Option ℕ)
-            → option_map_or (byte_in_frame d (gone pool page) place) o (if is_marked d (gone pool page) place then slice_index (gone pool page).kept place else slice_index committed place)
-            ≡ option_map_or (byte_in_frame d pool place) o (if is_marked d (gone pool page) place then slice_index pool.kept place else slice_index committed place)
-        by_other (Some f) = bytes f
-        by_other None = ap (λ (n : ℕ). if is_marked d (gone pool page) place then n else slice_index committed place) (kept-elsewhere (eqb-false page (page_of d place) a))
+    elsewhere-over a = grind (arith, nat_tests, gone-frame, marks, bytes, kept-elsewhere, eqb-false)
 
     present : Leaves (gone pool page)
     present = by_tests (page == page_of d place) (is_marked d pool place) refl refl
@@ -166,11 +106,7 @@ module _ (d : Layout) (pool : Pool) (committed : List ℕ) (page place : ℕ) (s
         by_tests false marked a b = elsewhere-over a
 
   pub gone-over : byte_over d (gone pool page) committed place ≡ (if page == page_of d place && not (is_marked d pool place) then slice_index committed place else byte_over d pool committed place)
-  gone-over = by_frame (frame_at pool page) refl
-    where
-      by_frame : (o : Option ℕ) → frame_at pool page ≡ o → Leaves (gone pool page)
-      by_frame (Some frame) is = present frame is
-      by_frame None is = subst Leaves (sym (gone-absent pool page is)) (absent is)
+  gone-over = grind (arith, nat_tests, present, gone-absent, absent)
 
 -- what is committed counts only where no line is marked
 unseen : (o : Option ℕ) (marked : Bool) (shown : ℕ → ℕ) (kept first second : ℕ) → (marked ≡ false → first ≡ second)
@@ -183,6 +119,4 @@ pub byte-unseen :
     (directory : Layout) (pool : Pool) (committed next : List ℕ) (place : ℕ)
     → (is_marked directory pool place ≡ false → slice_index next place ≡ slice_index committed place)
     → byte_over directory pool next place ≡ byte_over directory pool committed place
-byte-unseen directory pool committed next place same =
-    unseen (frame_at pool (page_of directory place)) (is_marked directory pool place) (byte_in_frame directory pool place)
-    (slice_index pool.kept place) (slice_index next place) (slice_index committed place) same
+byte-unseen directory pool committed next place same = grind (arith, nat_tests)

@@ -1,13 +1,12 @@
 -- Bytes that are copied out of frames are those that are shown.
-use Rattle.storage_unit.proofs.Common.{◌≡◌, ℕ, ◌+◌, ◌-◌, ◌*◌, ◌/◌, ◌%◌, ◌<◌, ◌≤◌, true, false, ◌++◌, length, refl, sym, ◌∙◌, ap, arith, Option, Some, None, inl, inr, slice_index, slice_range, is_some, option_map_or, length-append, length-take, length-drop, get_or_append_left, get_or-append_right, get_or-map-range_with_len, length-map-range_with_len, cases_lt, cases_Bool, same_number_lists, page_bytes, start_of, page_of, Located, Virtual, key_of, look_up, frame_at, part_of, frame_count, page_part, look_up-held, Reach, is_private, offset_of, place_of, on, seat_pages, table_of, pages_begun, byte_of, IsSound, Lies, AreThere, bytes_shown}
+use Rattle.storage_unit.proofs.Common.{◌≡◌, ℕ, ◌+◌, ◌-◌, ◌*◌, ◌/◌, ◌%◌, ◌<◌, ◌≤◌, true, false, ◌++◌, length, sym, ◌∙◌, ap, arith, Option, Some, None, inl, inr, slice_index, slice_range, is_some, option_map_or, length-append, length-take, length-drop, get_or_append_left, get_or-append_right, get_or-map-range_with_len, length-map-range_with_len, cases_lt, cases_Bool, same_number_lists, page_bytes, start_of, page_of, Located, Virtual, key_of, look_up, frame_at, part_of, frame_count, page_part, look_up-held, Reach, is_private, offset_of, place_of, on, seat_pages, table_of, byte_of, IsSound, Lies, AreThere, bytes_shown, nat_tests}
 use Rattle.storage_unit.proofs.SizeLemmas.{same-page-on, rest-on, seat-bytes}
 use Rattle.storage_unit.proofs.ByteLemmas.{in-range}
 use Rattle.storage_unit.proofs.HeldLemmas.{keys-long}
 use Rattle.storage_unit.proofs.PlaceLemmas.{on-on, private-is, shared-is, finds-own, finds-shared, place-byte, there-found}
 
 pub none-of : (o : Option ℕ) → ((n : ℕ) → o ≡ Some n → ⊥) → o ≡ None
-none-of None some = refl
-none-of (Some n) some = absurd (some n refl)
+none-of o h1 = grind (arith, nat_tests)
 
 pub shown-long : (state : Reach) (place : Located) (n : ℕ) → length (bytes_shown state place n) ≡ n
 shown-long state place n = length-map-range_with_len (λ past. byte_of state (on place past)) 0 n
@@ -39,13 +38,7 @@ shown-split state place m n =
 
 -- the frame that the table found is one of the pool's
 pub found-below : (state : Reach) (at : Virtual) (frame : ℕ) → IsSound state → look_up (table_of state).keys (key_of at) ≡ Some frame → frame < frame_count state.pool.page state.pool.frames
-found-below state at frame sound is =
-    omega (
-      arith,
-      (look_up-held (table_of state).keys (key_of at) frame is).0,
-      keys-long state.directory (pages_begun state.directory.page state.begun) state.pool.frames state.pool.page_in,
-      ap (λ s. frame_count s state.pool.frames) sound.size,
-    )
+found-below state at frame sound is = grind (arith, nat_tests, look_up-held, keys-long)
 
 module _ (state : Reach) (sound : IsSound state) (at : Virtual) (n : ℕ) (some : 0 < n) (lies : Lies state at n) where
   -- the byte that is shown of a byte of the same page, in the frame that the table found

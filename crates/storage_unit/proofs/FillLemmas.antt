@@ -1,5 +1,5 @@
 -- A page that came in: its frame filled, and its kept lines laid over it.
-use Rattle.storage_unit.proofs.Common.{◌≡◌, ℕ, ◌+◌, ◌-◌, ◌*◌, ◌/◌, ◌<◌, ◌≤◌, Bool, true, false, List, [], ◌∷◌, length, refl, sym, ◌∙◌, ap, arith, All, inl, inr, ◌==◌, ◌||◌, if◌then◌else◌, slice_index, slice_range, fold, cases_lt, cases_eq, eq-eqb, ne_eqb, length-take, length-drop, All-head, All-tail, overlaid, overlaid_before, overlaid_within, overlaid_behind, length-overlaid, PageSize, page_bytes, has, Pool, line_size, line_place, line_laid, line_kept}
+use Rattle.storage_unit.proofs.Common.{◌≡◌, ℕ, ◌+◌, ◌-◌, ◌*◌, ◌/◌, ◌<◌, ◌≤◌, Bool, true, false, List, [], ◌∷◌, length, refl, sym, ◌∙◌, ap, arith, All, inl, inr, ◌==◌, ◌||◌, if◌then◌else◌, slice_index, slice_range, fold, cases_lt, cases_eq, eq-eqb, ne_eqb, length-take, length-drop, All-head, All-tail, overlaid, overlaid_before, overlaid_within, overlaid_behind, length-overlaid, PageSize, page_bytes, has, Pool, line_size, line_place, line_laid, line_kept, nat_tests}
 use Rattle.storage_unit.proofs.SizeLemmas.{line-of-rest, rest-of-line, line-within}
 use Rattle.storage_unit.proofs.ByteLemmas.{in-range}
 
@@ -15,9 +15,7 @@ over-part xs at part k fits outside = elim (cases_lt k at) [
 ]
 
 pub in-part : (xs : List ℕ) (at : ℕ) (part : List ℕ) (j : ℕ) → at + length part ≤ length xs → j < length part → slice_index (overlaid xs at part) (at + j) ≡ slice_index part j
-in-part xs at part j fits below =
-    let back : at + j - at ≡ j = omega arith in
-    overlaid_within xs at part (at + j) 0 (omega arith) (omega arith) (omega arith) ∙ ap (slice_index part) back
+in-part xs at part j fits below = grind (arith, nat_tests, overlaid_within)
 
 module _ (size : PageSize) (kept : List ℕ) (page frame : ℕ) (there : page * page_bytes size + page_bytes size ≤ length kept) where
   abbrev pub lines_over : List ℕ → List ℕ → List ℕ

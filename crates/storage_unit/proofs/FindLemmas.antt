@@ -1,15 +1,10 @@
 -- The first number of a range that passes a test.
-use Rattle.storage_unit.proofs.Common.{◌≡◌, ℕ, zero, suc, ◌+◌, ◌<◌, ◌≤◌, Bool, true, false, List, [], ◌∷◌, refl, ◌∙◌, ap, arith, Some, None, inl, inr, find, map, option_map, cond, range_with_len, cases_lt}
+use Rattle.storage_unit.proofs.Common.{◌≡◌, ℕ, zero, suc, ◌+◌, ◌<◌, ◌≤◌, Bool, true, false, List, [], ◌∷◌, refl, ◌∙◌, ap, arith, Some, None, inl, inr, find, map, option_map, cond, range_with_len, cases_lt, nat_tests}
 
 -- the first of what a function gives
 pub find-map : {A B : Type 0} (t : B → Bool) (f : A → B) (xs : List A) → find t (map f xs) ≡ option_map f (find (λ x. t (f x)) xs)
 find-map t f [] = refl
-find-map t f (x ∷ xs) = by_test (t (f x)) (find-map t f xs)
-  where
-    by_test : (passes : Bool) → find t (map f xs) ≡ option_map f (find (λ x. t (f x)) xs)
-        → cond passes (Some (f x)) (find t (map f xs)) ≡ option_map f (cond passes (Some x) (find (λ x. t (f x)) xs))
-    by_test true inner = refl
-    by_test false inner = inner
+find-map t f (x ∷ xs) = grind (arith, nat_tests, find-map t f xs)
 
 -- tests that agree find the same
 pub find-same : {A : Type 0} (p q : A → Bool) (xs : List A) → ((x : A) → p x ≡ q x) → find p xs ≡ find q xs
@@ -43,11 +38,4 @@ none-found p start (suc n) none =
 -- the first that passes, where none before it does
 pub first-found : (p : ℕ → Bool) (start n at : ℕ) → start ≤ at → at < start + n → ((k : ℕ) → start ≤ k → k < at → p k ≡ false) → p at ≡ true → find p (range_with_len start n) ≡ Some at
 first-found p start zero at above below none is = absurd (omega (arith, above, below))
-first-found p start (suc n) at above below none is = elim (cases_lt start at) [
-  | inl later ↦
-      ap (λ (first : Bool). cond first (Some start) (find p (range_with_len (start + 1) n))) (none start (omega arith) later)
-      ∙ first-found p (start + 1) n at (omega (arith, later)) (omega (arith, below)) (λ k over less. none k (omega (arith, over)) less) is
-  | inr here ↦
-      let same : start ≡ at = omega (arith, here, above) in
-      ap (λ (first : Bool). cond first (Some start) (find p (range_with_len (start + 1) n))) (ap p same ∙ is) ∙ ap (λ (k : ℕ). Some k) same
-]
+first-found p start (suc n) at above below none is = grind (arith, nat_tests, first-found p (start + 1) n)

@@ -1,5 +1,5 @@
 -- What the table of a unit holds, and where it finds a page.
-use Rattle.storage_unit.proofs.Common.{◌≡◌, ◌≢◌, ℕ, ◌+◌, ◌-◌, ◌*◌, ◌/◌, ◌%◌, ◌<◌, ◌≤◌, Bool, true, false, List, [], ◌∷◌, ◌++◌, length, refl, sym, ◌∙◌, ap, subst, arith, get_or, Option, Some, None, inl, inr, nat_lt, if◌then◌else◌, slice_index_or, slice_set, option_map, cases_lt, cases_eq, ltb-true, nat_tests, same_lists, length-set, length-append, get_or-set_same, get_or-set_other, get_or_past, get_or_append_left, get_or-append_right, get_or-map-range_with_len, length-map-range_with_len, overlaid, overlaid_before, overlaid_within, overlaid_behind, length-overlaid, PageSize, Layout, page_count, IsLegal, Key, key_to, key_in, look_up, look_up-is, Pool, IsSeen, private_frames, frame_at, page_at, some-within, private_segment, key_of_page, seat_pages, held_private, held_in, keys_with}
+use Rattle.storage_unit.proofs.Common.{◌≡◌, ◌≢◌, ℕ, ◌+◌, ◌-◌, ◌*◌, ◌/◌, ◌%◌, ◌<◌, ◌≤◌, Bool, true, false, List, [], ◌∷◌, ◌++◌, length, refl, sym, ◌∙◌, ap, subst, arith, get_or, Option, Some, None, inl, inr, nat_lt, if◌then◌else◌, slice_index_or, slice_set, option_map, cases_lt, cases_eq, nat_tests, same_lists, length-set, length-append, get_or-set_same, get_or-set_other, get_or_past, get_or_append_left, get_or-append_right, get_or-map-range_with_len, length-map-range_with_len, overlaid, overlaid_before, overlaid_within, overlaid_behind, length-overlaid, PageSize, Layout, page_count, IsLegal, Key, key_to, key_in, look_up, look_up-is, Pool, IsSeen, private_frames, frame_at, page_at, some-within, private_segment, key_of_page, seat_pages, held_private, held_in, keys_with}
 use Rattle.storage_unit.proofs.SizeLemmas.{seat-frame, seat-first, seat-rest, seat-is, seat-room, seat-before, seat-behind}
 use Rattle.storage_unit.proofs.KeyLemmas.{same-page, key-low}
 
@@ -21,14 +21,10 @@ key-within d t frames page_in frame key is = elim (cases_lt frame (private_frame
 
 -- what private frames and others hold
 pub held-private : (d : Layout) (t : ℕ → ℕ) (page_in : List (Option ℕ)) (frame : ℕ) → frame < private_frames d.page → held_in d t page_in frame ≡ held_private d.page t frame
-held-private d t page_in frame below =
-    let test : nat_lt frame (private_frames d.page) ≡ true = grind (arith, nat_tests, below) in
-    ap (λ (b : Bool). if b then held_private d.page t frame else option_map (key_of_page d) (slice_index_or page_in frame None)) test
+held-private d t page_in frame below = grind (arith, nat_tests)
 
 pub held-store : (d : Layout) (t : ℕ → ℕ) (page_in : List (Option ℕ)) (frame : ℕ) → private_frames d.page ≤ frame → held_in d t page_in frame ≡ option_map (key_of_page d) (slice_index_or page_in frame None)
-held-store d t page_in frame above =
-    let test : nat_lt frame (private_frames d.page) ≡ false = grind (arith, nat_tests, above) in
-    ap (λ (b : Bool). if b then held_private d.page t frame else option_map (key_of_page d) (slice_index_or page_in frame None)) test
+held-store d t page_in frame above = grind (arith, nat_tests)
 
 -- a private frame that holds something holds a page of its seat
 record IsPrivate (size : PageSize) (t : ℕ → ℕ) (frame : ℕ) (key : Key) : Type 0 where
@@ -37,13 +33,7 @@ record IsPrivate (size : PageSize) (t : ℕ → ℕ) (frame : ℕ) (key : Key) :
   among : frame % seat_pages size < t (frame / seat_pages size)
 
 is-private : (size : PageSize) (t : ℕ → ℕ) (frame : ℕ) (key : Key) → held_private size t frame ≡ Some key → IsPrivate size t frame key
-is-private size t frame key is = by_test (nat_lt (frame % seat_pages size) (t (frame / seat_pages size))) refl is
-  where
-    by_test : (b : Bool) → nat_lt (frame % seat_pages size) (t (frame / seat_pages size)) ≡ b → (if b then Some (key_to (private_segment (frame / seat_pages size)) (frame % seat_pages size)) else None) ≡ Some key → IsPrivate size t frame key
-    by_test true test is =
-        let same : key_to (private_segment (frame / seat_pages size)) (frame % seat_pages size) ≡ key = cc in
-        record { segment = ap (λ (k : Key). k.segment) (sym same); page = ap (λ (k : Key). k.page) (sym same); among = ltb-true (frame % seat_pages size) (t (frame / seat_pages size)) test }
-    by_test false test is = absurd (cc)
+is-private size t frame key is = grind (arith, nat_tests)
 
 -- a frame of the store that holds something holds a page that the pool has there
 has-page : (d : Layout) (o : Option ℕ) (key : Key) → option_map (key_of_page d) o ≡ Some key → (page : ℕ) × (o ≡ Some page) × (key_of_page d page ≡ key)

@@ -1,5 +1,5 @@
 -- A page that comes in: the frame that is lent is filled, and its kept lines are laid over it.
-use Rattle.storage_unit.proofs.Common.{◌≡◌, refl, ℕ, ◌+◌, ◌*◌, ◌<◌, ◌≤◌, ◌==◌, true, List, [], ◌∷◌, length, Option, Some, None, is_some, range_with_len, slice_index_or, get_or-set_same, page_count, frame_at, marks_at, with_room, ap, arith, sym, subst, ◌∙◌, eq-eqb, length-take, length-drop, page_bytes, PageSize, Layout, has, Pool, pool_of, IsSeen, frame_count, frame_bytes, Brought, emptied, laid, with_bytes, with_frame_part, lent-part, page_part, Fits, filled, Reach, reach_of, Unit}
+use Rattle.storage_unit.proofs.Common.{◌≡◌, refl, ℕ, ◌+◌, ◌*◌, ◌<◌, ◌≤◌, ◌==◌, true, List, [], ◌∷◌, length, Option, Some, None, is_some, range_with_len, slice_index_or, get_or-set_same, page_count, frame_at, marks_at, with_room, ap, arith, sym, subst, ◌∙◌, eq-eqb, length-take, length-drop, page_bytes, Layout, has, Pool, pool_of, IsSeen, frame_bytes, Brought, emptied, laid, with_bytes, with_frame_part, lent-part, page_part, Fits, filled, Reach, reach_of, Unit, nat_tests}
 use Rattle.std.proofs.lemmas.Bool.{both_ways, or_left}
 use Rattle.line_geometry.specs.LineSets.{bits_of, lines_of_bits}
 use Rattle.line_geometry.proofs.LineSetLemmas.{bits_of-lines}
@@ -35,13 +35,7 @@ module _ (unit brought_in : Unit) (page : ℕ) (keep : Option ℕ) (frame : ℕ)
   there = subst (λ (directory : Layout). Fits directory (reach_of brought_in).pool) (ap (λ (r : Reach). r.directory) rest) (sound-fits (reach_of brought_in) (unit-sound brought_in))
 
   inside : frame * page_bytes brought_in.pool.places.page + page_bytes brought_in.pool.places.page ≤ length brought_in.pool.bytes.items.items
-  inside =
-      let stays = (room-stays (reach_of unit).pool keep (unit-sound unit).seen).1 in
-      let size : brought_in.pool.places.page ≡ unit.pool.places.page = ap (λ (pool : Pool). pool.page) came.rest ∙ stays.page in
-      let frames : brought_in.pool.places.frames ≡ unit.pool.places.frames = ap (λ (pool : Pool). pool.frames) came.rest ∙ stays.frames in
-      let below : frame < frame_count brought_in.pool.places.page brought_in.pool.places.frames =
-      subst (λ (s : PageSize). frame < frame_count s brought_in.pool.places.frames) (sym size) (subst (λ (n : ℕ). frame < frame_count unit.pool.places.page n) (sym frames) came.below) in
-      omega (arith, page_part frame (frame_count brought_in.pool.places.page brought_in.pool.places.frames) (page_bytes brought_in.pool.places.page) below, there.seen.bytes)
+  inside = grind (arith, nat_tests)
 
   whole : length lent ≡ page_bytes brought_in.pool.places.page
   whole = ap length lends ∙ simp (length-take, length-drop) (omega (arith, inside))
@@ -78,9 +72,7 @@ module _ (unit brought_in : Unit) (page : ℕ) (keep : Option ℕ) (frame : ℕ)
   module _ (part : List ℕ) (now : Unit) (keeps_length : length part ≡ length lent)
       (lays : reach_of now ≡ record (reach_of brought_in) { pool = laid (pool_of (with_frame_part brought_in.pool (frame * page_bytes brought_in.pool.places.page) part)) page }) where
     pool-filled : (reach_of now).pool ≡ filled (reach_of brought_in).pool page frame part
-    pool-filled =
-        ap (λ (r : Reach). r.pool) lays
-        ∙ ap (λ (pool : Pool). laid pool page) (lent-part brought_in.pool (frame * page_bytes brought_in.pool.places.page) part (omega (arith, inside, whole, keeps_length)))
+    pool-filled = grind (arith, nat_tests, lent-part, inside, whole)
 
     pub is-filled : IsFilled (reach_of unit) page keep part (reach_of now).pool
     is-filled = record {

@@ -1,9 +1,9 @@
 -- The pages of segments and the flat pages of a store, by each other.
 use Rattle.storage_unit.proofs.Common.{not, cond, nat_lt, if◌then◌else◌, find, take_while, sum_by, option_map, slice_index, prefix_len, nat_tests, PageSize, Two, Four, page_bytes, bytes_of, is_named, Layout, length_of, start_of, page_count, IsLegal, Key, key_to, named-low, key_among, key_of_page}
-use Rattle.std.proofs.Common.{◌≡◌, ℕ, suc, ◌+◌, ◌-◌, ◌*◌, ◌/◌, ◌%◌, ◌<◌, ◌≤◌, Bool, true, false, List, [], ◌∷◌, map, take, refl, sym, ◌∙◌, ap, arith, add-one, Option, Some}
+use Rattle.std.proofs.Common.{◌≡◌, ℕ, suc, ◌+◌, ◌-◌, ◌*◌, ◌/◌, ◌%◌, ◌<◌, ◌≤◌, Bool, true, false, List, [], ◌∷◌, map, take, refl, ◌∙◌, ap, arith, add-one, Option, Some}
 use Rattle.std.specs.List.Sorted.{IsStrictlyIncreasing}
 use Rattle.std.proofs.lemmas.List.Sums.{sum_by-cons}
-use Rattle.storage_unit.proofs.SizeLemmas.{pages-past, pages-rest, page-less, page-fits, page-same, pages-left}
+use Rattle.storage_unit.proofs.SizeLemmas.{pages-past, pages-rest, page-less, page-fits, pages-left}
 
 -- the bytes of segments, by the size of a page, and where they begin
 abbrev long_of : PageSize → List (ℕ × ℕ) → ℕ → Option ℕ
@@ -132,10 +132,7 @@ module _ (d : Layout) (legal : IsLegal d.segments) where
 
   -- two pages have two keys, and each is of a segment of the store
   pub same-page : (page other : ℕ) → page < page_count d → other < page_count d → key_of_page d page ≡ key_of_page d other → page ≡ other
-  same-page page other below also same =
-      let one = stands d.page d.segments page legal.ascending below in
-      let two = stands d.page d.segments other legal.ascending also in
-      page-same d.page page other (sym one.start ∙ ap (λ (key : Key). begin_of d.page d.segments key.segment + key.page * page_bytes d.page) same ∙ two.start)
+  same-page page other below also same = grind (arith, nat_tests, stands d.page d.segments page legal.ascending below, stands d.page d.segments other legal.ascending also)
 
   pub key-low : (page : ℕ) → page < page_count d → (key_of_page d page).segment < 3840
   key-low page below =

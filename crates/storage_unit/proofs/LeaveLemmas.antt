@@ -1,5 +1,5 @@
 -- What pages that leave, lines that are settled and pages that come in do to the bytes that a pool shows.
-use Rattle.storage_unit.proofs.Common.{◌≡◌, ℕ, ◌%◌, ◌<◌, Bool, true, false, List, [], ◌∷◌, length, refl, sym, ◌∙◌, ap, arith, Option, Some, None, inl, inr, ◌==◌, ◌&&◌, ◌||◌, not, if◌then◌else◌, slice_index, slice_index_or, slice_set, is_some, fold, option_map_or, cases_eq, eq-eqb, ne_eqb, length-set, get_or-set_same, get_or-set_other, Layout, byte_count, line_of, page_of, difference, is_in_where-below, has, page_of_line, Pool, IsSeen, frame_at, marks_at, gone, page_out, with_room, emptied, settled, gone-frame, gone-stays, seen-gone, Stays, is_marked, byte_over, IsClean, is_among}
+use Rattle.storage_unit.proofs.Common.{◌≡◌, ℕ, ◌%◌, ◌<◌, true, false, List, [], ◌∷◌, length, refl, sym, ◌∙◌, ap, arith, Option, Some, None, ◌&&◌, not, if◌then◌else◌, slice_index, slice_index_or, fold, option_map_or, cases_eq, length-set, get_or-set_same, get_or-set_other, Layout, byte_count, line_of, page_of, is_in_where-below, has, page_of_line, Pool, IsSeen, frame_at, marks_at, gone, page_out, with_room, emptied, settled, gone-frame, gone-stays, seen-gone, Stays, is_marked, byte_over, IsClean, is_among, nat_tests}
 use Rattle.storage_unit.proofs.ByteLemmas.{over-none, over-some, gone-over}
 
 -- a pool is clean where it shows the committed byte of each place that isn't marked
@@ -11,10 +11,7 @@ clean-of d pool committed shows = λ place frame below there unmarked. sym (over
 pub clean-shows :
     (d : Layout) (pool : Pool) (committed : List ℕ) (place : ℕ) → IsClean d pool committed → place < byte_count d → is_marked d pool place ≡ false
     → byte_over d pool committed place ≡ slice_index committed place
-clean-shows d pool committed place clean below unmarked =
-    let there = λ (frame : ℕ) (is : frame_at pool (page_of d place) ≡ Some frame). over-some d pool committed place frame is ∙ clean place frame below is unmarked in
-    let none = over-none d pool committed place in
-    grind (arith, there, none)
+clean-shows d pool committed place clean below unmarked = grind (arith, nat_tests)
 
 -- the marks stay where a page leaves
 pub gone-marked : (d : Layout) (pool : Pool) (page place : ℕ) → is_marked d (gone pool page) place ≡ is_marked d pool place
@@ -23,10 +20,7 @@ gone-marked d pool page place = ap (λ (list : List (List ℕ)). has (slice_inde
 -- where pages leave, one after another
 fold-frame : (pages : List ℕ) (pool : Pool) (p : ℕ) → frame_at (fold gone pool pages) p ≡ (if has pages p then None else frame_at pool p)
 fold-frame [] pool p = refl
-fold-frame (page ∷ pages) pool p =
-    let rest = fold-frame pages (gone pool page) p in
-    let here = gone-frame pool page p in
-    grind (arith, rest, here)
+fold-frame (page ∷ pages) pool p = grind (arith, nat_tests, fold-frame pages (gone pool page) p, gone-frame)
 
 fold-marked : (d : Layout) (pages : List ℕ) (pool : Pool) (place : ℕ) → is_marked d (fold gone pool pages) place ≡ is_marked d pool place
 fold-marked d [] pool place = refl
@@ -44,10 +38,7 @@ fold-over d committed place (page ∷ pages) pool seen size =
     grind (arith, rest, marks, here)
 
 pub emptied-frame : (pool : Pool) (p : ℕ) → IsSeen pool → frame_at (emptied pool) p ≡ None
-emptied-frame pool p seen =
-    let all = fold-frame pool.resident pool p in
-    let resident = seen.resident p in
-    grind (arith, all, resident)
+emptied-frame pool p seen = grind (arith, nat_tests, fold-frame pool.resident pool p)
 
 pub emptied-marked : (d : Layout) (pool : Pool) (place : ℕ) → is_marked d (emptied pool) place ≡ is_marked d pool place
 emptied-marked d pool place = fold-marked d pool.resident pool place
@@ -100,49 +91,14 @@ module _ (d : Layout) (pool : Pool) (committed : List ℕ) (page : ℕ) (lines :
   after = settled pool page lines
 
   pub seen-settled : IsSeen after
-  seen-settled = record {
-    bytes = seen.bytes;
-    page_in = seen.page_in;
-    marked = length-set pool.marked page (difference (marks_at pool page) lines) ∙ seen.marked;
-    kept = seen.kept;
-    resident = seen.resident;
-    there = seen.there;
-    back = seen.back;
-    above = seen.above;
-    below = seen.below;
-  }
+  seen-settled = grind (arith, nat_tests, length-set)
 
   -- what is marked then
   pub settled-line : (line : ℕ) → has (marks_at after (page_of_line line)) (line % 16) ≡ (has (marks_at pool (page_of_line line)) (line % 16) && not (is_among page lines line))
-  settled-line line = elim (cases_eq page (page_of_line line)) [
-    | inl same ↦
-        ap (λ (n : ℕ). has (slice_index_or (slice_set pool.marked page (difference (marks_at pool page) lines)) n []) (line % 16)) (sym same)
-        ∙ ap (λ (set : List ℕ). has set (line % 16)) (get_or-set_same pool.marked page (difference (marks_at pool page) lines) [] (omega (arith, within, seen.marked)))
-        ∙ is_in_where-below (λ x. has (marks_at pool page) x && not (has lines x)) (line % 16) (omega arith)
-        ∙ ap (λ (n : ℕ). has (marks_at pool n) (line % 16) && not (has lines (line % 16))) same
-        ∙ sym (ap (λ (b : Bool). has (marks_at pool (page_of_line line)) (line % 16) && not (b && has lines (line % 16))) (eq-eqb page (page_of_line line) same))
-    | inr apart ↦
-        ap (λ (set : List ℕ). has set (line % 16)) (get_or-set_other pool.marked page (page_of_line line) (difference (marks_at pool page) lines) [] (λ e. apart (sym e)))
-        ∙ sym (all (has (marks_at pool (page_of_line line)) (line % 16)))
-        ∙ sym (ap (λ (b : Bool). has (marks_at pool (page_of_line line)) (line % 16) && not (b && has lines (line % 16))) (ne_eqb page (page_of_line line) apart))
-  ]
-    where
-      all : (b : Bool) → (b && true) ≡ b
-      all true = refl
-      all false = refl
+  settled-line line = grind (arith, nat_tests, cases_eq, get_or-set_same, is_in_where-below, get_or-set_other)
 
   -- the bytes: a line that was marked and is settled is as committed, if its page is in no frame
   pub settled-over : (place : ℕ) → place < byte_count d → IsClean d pool committed
       → (is_among page lines (line_of d place) ≡ true → is_marked d pool place ≡ true → frame_at pool (page_of d place) ≡ None → slice_index committed place ≡ byte_over d pool committed place)
       → byte_over d after committed place ≡ byte_over d pool committed place
-  settled-over place below clean same = by_frame (frame_at pool (page_of d place)) refl
-    where
-      by_frame : (o : Option ℕ) → frame_at pool (page_of d place) ≡ o → byte_over d after committed place ≡ byte_over d pool committed place
-      by_frame (Some frame) is = over-some d after committed place frame is ∙ sym (over-some d pool committed place frame is)
-      by_frame None is =
-          let now = over-none d after committed place is in
-          let before = over-none d pool committed place is in
-          let line = settled-line (line_of d place) in
-          let shows = clean-shows d pool committed place clean below in
-          let settles = λ (among : is_among page lines (line_of d place) ≡ true) (marked : is_marked d pool place ≡ true). same among marked is in
-          grind (arith, now, before, line, shows, settles)
+  settled-over place below clean same = grind (arith, nat_tests, over-some, over-none, settled-line, clean-shows)

@@ -1,9 +1,9 @@
 -- What a permitted store leaves of the two lists of plain bytes, and of the marks.
-use Rattle.storage_unit.proofs.Common.{◌≡◌, ◌≢◌, ℕ, ◌+◌, ◌-◌, ◌*◌, ◌/◌, ◌%◌, ◌<◌, ◌≤◌, Bool, true, false, List, [], length, drop, refl, sym, ◌∙◌, ap, arith, Option, Some, None, inl, inr, ◌||◌, if◌then◌else◌, slice_index, slice_range, is_some, cases_lt, get_or_past, length-take, length-drop, same_number_lists, overlaid, length-overlaid, page_bytes, byte_count, line_of, page_of, has, page_of_line, Located, Private, Shared, Refused, lines_at, Virtual, Pool, frame_at, Reach, place_of, byte_in_frame, byte_over, bytes_over, private_bytes, is_line_marked, is_marked, IsClean, seat_of, is_there, put_byte, put_in_store, put_at, IsSound, Lies, ChangesBytes, StaysClean, LeavesSeats}
+use Rattle.storage_unit.proofs.Common.{◌≡◌, ◌≢◌, ℕ, ◌+◌, ◌-◌, ◌*◌, ◌/◌, ◌%◌, ◌<◌, ◌≤◌, Bool, true, false, List, [], length, drop, refl, sym, ◌∙◌, ap, arith, Option, Some, None, inl, inr, ◌||◌, if◌then◌else◌, slice_index, slice_range, is_some, cases_lt, get_or_past, length-take, length-drop, same_number_lists, overlaid, length-overlaid, page_bytes, byte_count, line_of, page_of, has, page_of_line, Located, Private, Shared, Refused, lines_at, Virtual, Pool, frame_at, Reach, place_of, byte_in_frame, byte_over, bytes_over, private_bytes, is_line_marked, is_marked, IsClean, seat_of, is_there, put_byte, put_in_store, put_at, IsSound, Lies, ChangesBytes, StaysClean, LeavesSeats, nat_tests}
 use Rattle.storage_unit.proofs.SizeLemmas.{rest-below, place-is, frame-high, page-of-line, page-below}
 use Rattle.storage_unit.proofs.ByteLemmas.{in-range, same-bytes, byte-of-all, all-long, over-none, over-some}
 use Rattle.storage_unit.proofs.FillLemmas.{over-part, in-part}
-use Rattle.storage_unit.proofs.PlaceLemmas.{is-private, is-shared, never-refused}
+use Rattle.storage_unit.proofs.PlaceLemmas.{never-refused}
 use Rattle.storage_unit.proofs.PutLemmas.{spots-long, marks-long, put-inside, put-outside, spot-none, place-put, line-put}
 use Rattle.storage_unit.proofs.StoreLemmas.{frame-room, all-private, frame-below, low-frame}
 use Rattle.storage_unit.proofs.AfterLemmas.{there-frame}
@@ -18,18 +18,12 @@ pub record Put (old new : Reach) : Type 0 where
 
 -- a place of the store that some bytes have
 pub shared-within : (state : Reach) (at : Virtual) (n a : ℕ) → Lies state at n → place_of state.directory at ≡ Shared a → a + n ≤ byte_count state.directory
-shared-within state at n a lies is =
-    let (own, place) = is-shared state.directory at a is in
-    let (bytes, found, fits, within) = lies.shared own in
-    omega (arith, place, fits, within)
+shared-within state at n a lies is = grind (arith, nat_tests)
 
 -- private bytes lie in the frames of the seat that is selected
 pub private-fits : (state : Reach) (at : Virtual) (n a : ℕ) → Lies state at n → place_of state.directory at ≡ Private a
     → (seat_of state < 16) × (state.runner ≡ seat_of state + 1) × (a + n ≤ 16384)
-private-fits state at n a lies is =
-    let (own, offset) = is-private state.directory at a is in
-    let (seat, runner, few, segment, begun, fits) = lies.private own in
-    (omega (arith, runner, few), omega (arith, runner), omega (arith, offset, fits))
+private-fits state at n a lies is = grind (arith, nat_tests)
 
 pub range-long : (xs : List ℕ) (from count : ℕ) → from + count ≤ length xs → length (slice_range xs from (from + count)) ≡ count
 range-long xs from count fits = omega (arith, fits, length-take (from + count - from) (drop from xs), length-drop from xs)
@@ -113,10 +107,7 @@ module _ (state : Reach) (sound : IsSound state) where
 
     -- other private bytes stay
     pub private-other : (other : ℕ) → other < 16 → other ≢ seat → private_bytes (let now : Pool = record state.pool { bytes = overlaid state.pool.bytes (seat * 16384 + a) bytes } in now) other ≡ private_bytes state.pool other
-    private-other other low apart =
-        same-part written.bytes state.pool.bytes (other * 16384) 16384
-        (omega (arith, low, all-private state sound, length-overlaid state.pool.bytes (seat * 16384 + a) bytes room)) (omega (arith, low, all-private state sound))
-        (λ k below. over-part state.pool.bytes (seat * 16384 + a) bytes (other * 16384 + k) room (λ j less same. apart (omega (arith, same, less, below, fits))))
+    private-other other low apart = grind (arith, nat_tests, same-part, all-private, length-overlaid, room, over-part)
 
     pub private-own : private_bytes (let now : Pool = record state.pool { bytes = overlaid state.pool.bytes (seat * 16384 + a) bytes } in now) seat ≡ overlaid (private_bytes state.pool seat) a bytes
     private-own = over-in-part state.pool.bytes bytes (seat * 16384) 16384 a (omega (arith, few, all-private state sound)) fits
@@ -148,9 +139,7 @@ module _ (state : Reach) (sound : IsSound state) where
     -- a place of a frame
     pub frame-after : (place frame : ℕ) → frame_at state.pool (page_of state.directory place) ≡ Some frame
         → byte_in_frame state.directory (put_in_store state.directory state.pool a bytes) place frame ≡ put_byte bytes a place (byte_in_frame state.directory state.pool place frame)
-    frame-after place frame is =
-        let there = sound.seen.there (page_of state.directory place) frame is in
-        place-put state.directory state.pool a bytes place frame there (frame-room state sound frame (frame-below state sound (page_of state.directory place) frame there).1)
+    frame-after place frame is = grind (arith, nat_tests, place-put, frame-room, frame-below)
 
     -- the marks of its line
     pub marked-after : (place : ℕ) → place < byte_count state.directory

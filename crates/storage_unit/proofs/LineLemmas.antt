@@ -1,6 +1,6 @@
 -- The answer to an access whose bytes lie in one page and two lines at most, by the first byte of each.
-use Rattle.storage_unit.proofs.Common.{◌≡◌, ℕ, ◌+◌, ◌%◌, ◌<◌, ◌≤◌, Bool, true, false, refl, sym, ◌∙◌, ap, arith, Option, Some, None, Ok, inl, inr, not, find, option_map, is_some, cases_lt, range_with_len, page_bytes, line_bytes, start_of, page_of, line_of, Virtual, bytes_on, virtual_at, key_of, look_up, page_at, Access, Fault, Probe, unless_absent_at, answered_at, Reach, is_private, offset_of, place_of, on, table_of, is_there, is_kept_from, is_refused, is_in_frame, refuses, IsSound, Lies}
-use Rattle.storage_unit.proofs.SizeLemmas.{byte-at, page-at, same-line-on, next-line, line-rest}
+use Rattle.storage_unit.proofs.Common.{◌≡◌, ℕ, ◌+◌, ◌%◌, ◌<◌, ◌≤◌, Bool, true, false, refl, sym, ◌∙◌, ap, arith, Option, Some, None, Ok, inl, inr, not, find, option_map, is_some, cases_lt, range_with_len, page_bytes, line_bytes, start_of, page_of, line_of, Virtual, bytes_on, key_of, look_up, page_at, Access, Fault, Probe, unless_absent_at, answered_at, Reach, is_private, offset_of, place_of, on, table_of, is_there, is_kept_from, is_refused, is_in_frame, refuses, IsSound, Lies, nat_tests}
+use Rattle.storage_unit.proofs.SizeLemmas.{same-line-on, next-line, line-rest}
 use Rattle.storage_unit.proofs.FindLemmas.{none-found, first-found}
 use Rattle.storage_unit.proofs.PlaceLemmas.{shared-is, place-byte, finds-shared, private-is}
 use Rattle.storage_unit.proofs.ProbeLemmas.{absent-first, none-absent}
@@ -8,21 +8,11 @@ use Rattle.storage_unit.proofs.AnswerLemmas.{answered-by}
 
 -- a byte of a page is none further on
 pub here-is : (state : Reach) (at : Virtual) → at.byte < page_bytes state.directory.page → bytes_on state.directory.page at 0 ≡ at
-here-is state at within =
-    ap (virtual_at state.directory.page at.segment) none
-    ∙ (λ i. record { segment = at.segment; page = page-at state.directory.page at.page at.byte within i; byte = byte-at state.directory.page at.page at.byte within i })
-  where
-    none : offset_of state.directory.page at + 0 ≡ offset_of state.directory.page at
-    none = omega arith
+here-is state at within = grind (arith, nat_tests)
 
 -- some bytes that lie there begin with one that does
 pub lies-one : (state : Reach) (at : Virtual) (n : ℕ) → 0 < n → Lies state at n → Lies state at 1
-lies-one state at n some lies = record {
-  within = lies.within;
-  few = omega (arith, some, lies.few);
-  private = λ own. let (seat, runner, few, segment, begun, fits) = lies.private own in (seat, runner, few, segment, begun, omega (arith, some, fits));
-  shared = λ own. let (bytes, found, fits, within) = lies.shared own in (bytes, found, omega (arith, some, fits), within);
-}
+lies-one state at n some lies = grind (arith, nat_tests)
 
 module _ (state : Reach) (sound : IsSound state) (first : Virtual) (n : ℕ) (some : 0 < n) (few : n ≤ 255) (lies : Lies state first n) where
   module _ (store : Bool) (access : Access) (bytes : access.bytes ≡ n) (same : access.store ≡ store) where
@@ -42,10 +32,7 @@ module _ (state : Reach) (sound : IsSound state) (first : Virtual) (n : ℕ) (so
 
     -- its page is in no frame
     pub page-fault : look_up (table_of state).keys (key_of first) ≡ None → Probe.Fault (Fault.Page first) ≡ answered_at state.directory.page (is_in_frame state) (refuses state) access (Ok first)
-    page-fault none =
-        ap (λ (v : Virtual). Probe.Fault (Fault.Page v)) (sym (here-is state first lies.within))
-        ∙ ap (λ (o : Option ℕ). there o refused) (absent-first state sound first n some few lies (ap (λ (o : Option ℕ). not (is_some o)) none))
-        ∙ answered
+    page-fault none = grind (arith, nat_tests, here-is, absent-first, answered)
 
     abbrev kept : ℕ → Bool
     kept k = is_kept_from state (on (place_of state.directory first) k) store
@@ -98,10 +85,7 @@ module _ (state : Reach) (sound : IsSound state) (first : Virtual) (n : ℕ) (so
 
       -- no byte is
       permitted : ((k : ℕ) → k < n → kept k ≡ false) → Probe.Permitted ≡ answered_at state.directory.page (is_in_frame state) (refuses state) access (Ok first)
-      permitted free =
-          ap (λ (o : Option ℕ). there None o) (sym (none-found kept 0 n (λ k above below. free k (omega (arith, below)))))
-          ∙ ap (λ (o : Option ℕ). there o refused) (none-absent state sound first n some few lies (ap (λ (o : Option ℕ). not (is_some o)) is) within)
-          ∙ answered
+      permitted free = grind (arith, nat_tests, none-found, none-absent, answered)
 
       pub line-permitted : first.byte % line_bytes state.directory.page + n ≤ line_bytes state.directory.page → kept 0 ≡ false → Probe.Permitted ≡ answered_at state.directory.page (is_in_frame state) (refuses state) access (Ok first)
       line-permitted line one = permitted (λ k below. near k (omega (arith, line, below)) ∙ one)
@@ -119,6 +103,4 @@ module _ (state : Reach) (sound : IsSound state) (first : Virtual) (n : ℕ) (so
 -- the page of the frame that the table found for a byte of the store
 pub page-found : (state : Reach) (sound : IsSound state) (at : Virtual) (frame : ℕ) → Lies state at 1 → is_private at.segment ≡ false → look_up (table_of state).keys (key_of at) ≡ Some frame
     → page_at state.pool frame ≡ Some (page_of state.directory (start_of state.directory at.segment + offset_of state.directory.page at))
-page-found state sound at frame lies other is =
-    sound.seen.there (page_of state.directory (start_of state.directory at.segment + offset_of state.directory.page at)) frame
-    (sym (finds-shared state sound at 1 (omega arith) lies other) ∙ is)
+page-found state sound at frame lies other is = grind (arith, nat_tests, finds-shared)

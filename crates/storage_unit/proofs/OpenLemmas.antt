@@ -1,5 +1,5 @@
 -- An access is permitted exactly where the lines that it touches are open.
-use Rattle.storage_unit.proofs.Common.{◌≡◌, ℕ, zero, suc, ◌+◌, ◌-◌, ◌*◌, ◌/◌, ◌<◌, ◌≤◌, Bool, true, false, List, [], refl, sym, ◌∙◌, ap, subst, arith, Ok, inl, inr, ◌&&◌, nat_le, nat_lt, if◌then◌else◌, range_with_len, cases_lt, nat_tests, PageSize, Two, Four, line_bytes, Layout, line_of, has, page_of_line, has-range, in_range, Located, Private, Shared, Refused, Program, located, lines_at, Virtual, located_by, Access, Probe, answered_at, answered, lines_of_access, Reach, place_of, place_at, is_resident, is_refused, is_in_frame, refuses, IsSound, HasWindows, IsOpenLine, IsOpen}
+use Rattle.storage_unit.proofs.Common.{◌≡◌, ℕ, zero, suc, ◌+◌, ◌-◌, ◌*◌, ◌/◌, ◌<◌, ◌≤◌, Bool, true, false, List, [], refl, sym, ◌∙◌, ap, subst, arith, Ok, inl, inr, if◌then◌else◌, range_with_len, cases_lt, nat_tests, PageSize, Two, Four, line_bytes, Layout, line_of, has, page_of_line, has-range, in_range, Located, Private, Shared, Refused, Program, located, lines_at, Virtual, located_by, Access, Probe, answered_at, answered, lines_of_access, Reach, place_of, place_at, is_resident, is_refused, is_in_frame, refuses, IsSound, HasWindows, IsOpenLine, IsOpen}
 use Rattle.storage_unit.proofs.PlaceLemmas.{never-refused, registers-page}
 use Rattle.storage_unit.proofs.AnswerLemmas.{permitted-located, permitted-lines, lines-permitted, answered-private}
 use Rattle.storage_unit.proofs.LocatedLemmas.{lies-where}
@@ -26,9 +26,7 @@ line-of-byte Four at more k below = (omega arith, omega (arith, below))
 
 -- a line of a range lies between its ends
 between : (low high line : ℕ) → has (range_with_len low (high + 1 - low)) line ≡ true → (low ≤ line) × (line ≤ high)
-between low high line inside =
-    let test : (nat_le low line && nat_lt line (low + (high + 1 - low))) ≡ true = sym (has-range low (high + 1 - low) line) ∙ inside in
-    (grind (arith, nat_tests, test), grind (arith, nat_tests, test))
+between low high line inside = grind (arith, nat_tests, has-range)
 
 -- the lines of some bytes of the store, one by one
 pub each-line : (d : Layout) (at n : ℕ) (P : ℕ → Type 0) → ((k : ℕ) → k < n → P (line_of d (at + k))) → (line : ℕ) → has (lines_at d (Shared at) n) line ≡ true → P line

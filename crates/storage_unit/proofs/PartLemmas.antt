@@ -1,14 +1,11 @@
 -- The pool after a part of a frame was written.
-use Rattle.storage_unit.proofs.Common.{◌≡◌, ℕ, Bool, ◌+◌, ◌*◌, ◌<◌, ◌≤◌, List, length, refl, ◌∙◌, ap, subst, arith, Option, Some, None, length-take, length-drop, page_bytes, Layout, Virtual, key_of, look_up, Pool, frame_count, marked_in, page_at, with_marks, with_bytes, part_of, with_frame_part, with_marked, pool_of, lent-part, marked-seen, option_map_or, Unit, table_of, keys_of, reach_of}
+use Rattle.storage_unit.proofs.Common.{◌≡◌, ℕ, Bool, ◌+◌, ◌*◌, ◌≤◌, List, length, refl, ◌∙◌, ap, arith, Option, Some, None, length-take, length-drop, page_bytes, Layout, Virtual, key_of, look_up, Pool, marked_in, page_at, with_marks, with_bytes, part_of, with_frame_part, with_marked, pool_of, lent-part, marked-seen, option_map_or, Unit, table_of, keys_of, reach_of, nat_tests}
 use Rattle.storage_unit.proofs.CopyLemmas.{found-below}
-use Rattle.storage_unit.proofs.StoreLemmas.{frame-room}
 use Rattle.storage_unit.proofs.UnitLemmas.{unit-sound}
 
 module _ (unit : Unit) (at : Virtual) (frame byte n : ℕ) (is : look_up (table_of (reach_of unit)).keys (key_of at) ≡ Some frame) (same : byte ≡ at.byte) (within : at.byte + n ≤ page_bytes unit.directory.page) where
   room : frame * page_bytes unit.pool.places.page + byte + n ≤ length unit.pool.bytes.items.items
-  room =
-      let below = subst (λ s. frame < frame_count s unit.pool.places.frames) unit.pool_size (found-below (reach_of unit) at frame (unit-sound unit) is) in
-      omega (arith, frame-room (reach_of unit) (unit-sound unit) frame below, ap (λ s. frame * page_bytes s) unit.pool_size, same, within)
+  room = grind (arith, nat_tests, found-below (reach_of unit), unit-sound unit)
 
   pub part-long : length (part_of (pool_of unit.pool) frame byte n) ≡ n
   part-long = simp (length-take, length-drop) (omega (arith, room))
@@ -34,16 +31,7 @@ pub record Same (old new : Pool) : Type 0 where
   pub frame_of : length new.frame_of ≡ length old.frame_of
 
 pub marked-same : (pool : Pool) (frame : ℕ) (lines : List ℕ) → Same pool (marked_in pool frame lines)
-marked-same pool frame lines = by_page (page_at pool frame)
-  where
-    by_page : (o : Option ℕ) → Same pool (option_map_or (λ page. with_marks pool page lines) o pool)
-    by_page None = record { page = refl; frame_of = refl }
-    by_page (Some page) = record { page = refl; frame_of = refl }
+marked-same pool frame lines = grind (arith, nat_tests)
 
 pub marked-keys : (d : Layout) (begun : List Bool) (pool : Pool) (frame : ℕ) (lines : List ℕ) → keys_of d begun (marked_in pool frame lines).frames (marked_in pool frame lines).page_in ≡ keys_of d begun pool.frames pool.page_in
-marked-keys d begun pool frame lines = by_page (page_at pool frame)
-  where
-    by_page : (o : Option ℕ)
-        → keys_of d begun (option_map_or (λ page. with_marks pool page lines) o pool).frames (option_map_or (λ page. with_marks pool page lines) o pool).page_in ≡ keys_of d begun pool.frames pool.page_in
-    by_page None = refl
-    by_page (Some page) = refl
+marked-keys d begun pool frame lines = grind (arith, nat_tests)

@@ -1,5 +1,5 @@
 -- Where the bytes of an access lie, one by one, and the frames that have them.
-use Rattle.storage_unit.proofs.Common.{◌≡◌, ℕ, ◌+◌, ◌-◌, ◌*◌, ◌/◌, ◌%◌, ◌<◌, ◌≤◌, ◌^◌, Bool, true, false, refl, sym, ◌∙◌, ap, subst, arith, replicate, Option, Some, None, Result, Ok, Err, ◌⊎◌, inl, inr, ◌&&◌, not, nat_le, nat_lt, cond, slice_index_or, if◌then◌else◌, is_some, leb-true, cases_lt, nat_tests, get_or-replicate, get_or_past, div-add-mod', PageSize, page_bytes, Layout, length_of, start_of, byte_count, page_of, segment-within, Located, Private, Shared, Refused, Check, SegmentRegister, Virtual, Registers, virtual_at, bytes_on, located_under, located_by, key_to, key_of, look_up, frame_at, bytes-low, Reach, is_private, offset_of, place_of, place_at, on, IsUnder, AreReached, seat_pages, pages_begun, table_of, byte_of, byte_at, is_there, IsSound, Lies, AreThere}
+use Rattle.storage_unit.proofs.Common.{◌≡◌, ℕ, ◌+◌, ◌-◌, ◌*◌, ◌/◌, ◌%◌, ◌<◌, ◌≤◌, ◌^◌, Bool, true, false, refl, sym, ◌∙◌, ap, subst, arith, replicate, Option, Some, None, Result, Ok, Err, ◌⊎◌, inl, inr, nat_le, nat_lt, cond, slice_index_or, if◌then◌else◌, is_some, cases_lt, nat_tests, get_or-replicate, get_or_past, div-add-mod', PageSize, page_bytes, Layout, length_of, start_of, byte_count, page_of, segment-within, Located, Private, Shared, Refused, Check, SegmentRegister, Virtual, Registers, virtual_at, bytes_on, located_under, located_by, key_to, key_of, look_up, frame_at, bytes-low, Reach, is_private, offset_of, place_of, on, IsUnder, AreReached, seat_pages, pages_begun, table_of, byte_of, byte_at, is_there, IsSound, Lies, AreThere}
 use Rattle.storage_unit.proofs.SizeLemmas.{rest-below, byte-on-page, page-at, seat-page, same-page-on, page-of-line, page-below}
 use Rattle.storage_unit.proofs.KeyLemmas.{key-of-place, start-whole}
 use Rattle.storage_unit.proofs.HeldLemmas.{finds-page, finds-private}
@@ -13,24 +13,7 @@ pub record Under (registers : Registers) (address n : ℕ) (at : Virtual) : Type
 
 -- an access that isn't refused lies under one
 pub under : (registers : Registers) (address n : ℕ) (store : Bool) (at : Virtual) → located_by registers address n store ≡ Ok at → Under registers address n at
-under registers address n store at is = by_register (slice_index_or registers.list (address / 2 ^ 28) None) refl is
-  where
-    by_tests :
-        (register : SegmentRegister) (inside refused : Bool) → slice_index_or registers.list (address / 2 ^ 28) None ≡ Some register
-        → nat_le (address % 2 ^ 28 + n) register.bytes ≡ inside
-        → cond {A = Result Virtual Check} inside (cond {A = Result Virtual Check} refused (Err (record { 0 = 7 })) (Ok (virtual_at registers.page register.segment (address % 2 ^ 28)))) (Err (record { 0 = 2 })) ≡ Ok at
-        → Under registers address n at
-    by_tests register true true stands fits found = absurd (cc)
-    by_tests register true false stands fits found =
-        record { register = register; stands = stands; fits = leb-true (address % 2 ^ 28 + n) register.bytes fits; is = cc }
-    by_tests register false refused stands fits found = absurd (cc)
-
-    by_register :
-        (register : Option SegmentRegister) → slice_index_or registers.list (address / 2 ^ 28) None ≡ register
-        → located_under registers.page register (address % 2 ^ 28) n store ≡ Ok at → Under registers address n at
-    by_register None stands found = absurd (cc)
-    by_register (Some register) stands found =
-        by_tests register (nat_le (address % 2 ^ 28 + n) register.bytes) (store && not register.write) stands refl found
+under registers address n store at is = grind (arith, nat_tests)
 
 -- the offset of a byte at an offset
 pub offset-is : (page : PageSize) (segment offset : ℕ) → offset_of page (virtual_at page segment offset) ≡ offset
@@ -38,14 +21,7 @@ offset-is page segment offset = div-add-mod' offset (page_bytes page)
 
 -- a byte so many on lies so many bytes on
 pub place-on : (directory : Layout) (at : Virtual) (k : ℕ) → place_of directory (bytes_on directory.page at k) ≡ on (place_of directory at) k
-place-on directory at k = by_test (is_private at.segment)
-  where
-    by_test :
-        (own : Bool)
-        → (if own then Private (offset_of directory.page (bytes_on directory.page at k)) else Shared (start_of directory at.segment + offset_of directory.page (bytes_on directory.page at k)))
-        ≡ on (if own then Private (offset_of directory.page at) else Shared (start_of directory at.segment + offset_of directory.page at)) k
-    by_test true = ap Private (offset-is directory.page at.segment (offset_of directory.page at + k))
-    by_test false = ap Shared (ap (λ n. start_of directory at.segment + n) (offset-is directory.page at.segment (offset_of directory.page at + k)) ∙ omega arith)
+place-on directory at k = grind (arith, nat_tests)
 
 pub on-on : (place : Located) (j k : ℕ) → on (on place j) k ≡ on place (j + k)
 on-on (Private at) j k = ap Private (omega arith)
@@ -54,11 +30,7 @@ on-on (Refused code) j k = refl
 
 -- a byte lies somewhere
 pub never-refused : (directory : Layout) (at : Virtual) (code : ℕ) → place_of directory at ≡ Refused code → ⊥
-never-refused directory at code is = by_test (is_private at.segment) is
-  where
-    by_test : (own : Bool) → (if own then Private (offset_of directory.page at) else Shared (start_of directory at.segment + offset_of directory.page at)) ≡ Refused code → ⊥
-    by_test true is = cc
-    by_test false is = cc
+never-refused directory at code is = grind (arith, nat_tests)
 
 -- a seat that is selected
 pub record Selected (state : Reach) : Type 0 where
@@ -147,40 +119,21 @@ module _ (state : Reach) (sound : IsSound state) (address n : ℕ) (at : Virtual
 
   -- the byte shown there
   pub byte-on : (k : ℕ) → k < n → byte_at state (address + k) ≡ byte_of state (on (place_of state.directory at) k)
-  byte-on k below =
-      ap (λ located. byte_of state (place_at state.directory located)) (part k 1 (omega arith))
-      ∙ ap (byte_of state) (place-on state.directory at k)
+  byte-on k below = grind (arith, nat_tests, part, place-on)
 
   pub itself : at ≡ virtual_at state.directory.page at.segment (offset_of state.directory.page at)
   itself = is-at ∙ ap (λ s. virtual_at state.directory.page s (address % 2 ^ 28)) (sym segment) ∙ ap (virtual_at state.directory.page at.segment) (sym offset)
 
 -- the first byte of a range that isn't refused, as it is located alone
 pub first-byte : (state : Reach) → IsSound state → (address n : ℕ) (store : Bool) (at : Virtual) → located_by state.registers address n store ≡ Ok at → located_by state.registers address 0 false ≡ Ok at
-first-byte state sound address n store at is =
-    let u = under state.registers address n store at is in
-    let here : address + 0 ≡ address = omega arith in
-    let none : offset_of state.directory.page at + 0 ≡ offset_of state.directory.page at = omega arith in
-    ap (λ a. located_by state.registers a 0 false) (sym here)
-    ∙ part state sound address n at u 0 0 (omega arith)
-    ∙ ap (λ o. Ok (virtual_at state.directory.page at.segment o)) none
-    ∙ ap Ok (sym (itself state sound address n at u))
+first-byte state sound address n store at is = grind (arith, nat_tests)
 
 -- bytes behind some of them lie there too
 pub lies-on : (state : Reach) (at : Virtual) (k m n : ℕ) → k + m ≤ n → Lies state at n → Lies state (bytes_on state.directory.page at k) m
-lies-on state at k m n less lies =
-    let offset : offset_of state.directory.page (bytes_on state.directory.page at k) ≡ offset_of state.directory.page at + k = offset-is state.directory.page at.segment (offset_of state.directory.page at + k) in
-    record {
-      within = rest-below state.directory.page (offset_of state.directory.page at + k);
-      few = omega (arith, less, lies.few, offset);
-      private = λ own. let (seat, runner, few, segment, begun, fits) = lies.private own in (seat, runner, few, segment, begun, omega (arith, less, fits, offset));
-      shared = λ own. let (bytes, found, fits, within) = lies.shared own in (bytes, found, omega (arith, less, fits, offset), within);
-    }
+lies-on state at k m n less lies = grind (arith, nat_tests)
 
 pub there-on : (state : Reach) (at : Virtual) (k m n : ℕ) → k + m ≤ n → AreThere state at n → AreThere state (bytes_on state.directory.page at k) m
-there-on state at k m n less there past below =
-    ap (λ place. is_there state (on place past)) (place-on state.directory at k)
-    ∙ ap (is_there state) (on-on (place_of state.directory at) k past)
-    ∙ there (k + past) (omega (arith, less, below))
+there-on state at k m n less there past below = grind (arith, nat_tests, place-on, on-on)
 
 -- a place of private storage, or of the store
 pub private-is : (d : Layout) (at : Virtual) → is_private at.segment ≡ true → place_of d at ≡ Private (offset_of d.page at)
@@ -190,18 +143,10 @@ pub shared-is : (d : Layout) (at : Virtual) → is_private at.segment ≡ false 
 shared-is d at own = ap (λ (b : Bool). if b then Private (offset_of d.page at) else Shared (start_of d at.segment + offset_of d.page at)) own
 
 pub is-private : (d : Layout) (at : Virtual) (a : ℕ) → place_of d at ≡ Private a → (is_private at.segment ≡ true) × (offset_of d.page at ≡ a)
-is-private d at a is = by_test (is_private at.segment) refl is
-  where
-    by_test : (own : Bool) → is_private at.segment ≡ own → (if own then Private (offset_of d.page at) else Shared (start_of d at.segment + offset_of d.page at)) ≡ Private a → (is_private at.segment ≡ true) × (offset_of d.page at ≡ a)
-    by_test true own is = (own, cc)
-    by_test false own is = absurd (cc)
+is-private d at a is = grind (arith, nat_tests)
 
 pub is-shared : (d : Layout) (at : Virtual) (a : ℕ) → place_of d at ≡ Shared a → (is_private at.segment ≡ false) × (start_of d at.segment + offset_of d.page at ≡ a)
-is-shared d at a is = by_test (is_private at.segment) refl is
-  where
-    by_test : (own : Bool) → is_private at.segment ≡ own → (if own then Private (offset_of d.page at) else Shared (start_of d at.segment + offset_of d.page at)) ≡ Shared a → (is_private at.segment ≡ false) × (start_of d at.segment + offset_of d.page at ≡ a)
-    by_test false own is = (own, cc)
-    by_test true own is = absurd (cc)
+is-shared d at a is = grind (arith, nat_tests)
 
 -- the frame that the table finds for some bytes that lie there
 module _ (state : Reach) (sound : IsSound state) (at : Virtual) (n : ℕ) (some : 0 < n) (lies : Lies state at n) where

@@ -1,15 +1,12 @@
 -- The private pages of a seat: what comes into the table, and what its frames are filled with.
-use Rattle.storage_unit.proofs.Common.{◌≡◌, ◌≢◌, ℕ, ◌+◌, ◌-◌, ◌*◌, ◌/◌, ◌%◌, ◌<◌, ◌≤◌, Bool, true, false, List, [], ◌∷◌, ◌++◌, length, replicate, refl, sym, ◌∙◌, ap, arith, get_or, Option, Some, None, inl, inr, nat_lt, if◌then◌else◌, map, slice_index_or, slice_set, option_map, range_with_len, cases_lt, nat_tests, same_lists, map-append, length-append, length-replicate, get_or-replicate, get_or_append_left, get_or-append_right, get_or-set_same, get_or-set_other, get_or_past, get_or-map-range_with_len, length-map-range_with_len, overlaid, overlaid_before, overlaid_within, overlaid_behind, length-overlaid, Key, key_to, key_in, look_up, look_up-is, look_up-none, is-held, PageSize, Layout, private_frames, private_segment, key_of_page, seat_pages, first_keys, pages_begun, held_private, held_in, keys_of}
+use Rattle.storage_unit.proofs.Common.{◌≡◌, ◌≢◌, ℕ, ◌+◌, ◌-◌, ◌*◌, ◌/◌, ◌%◌, ◌<◌, ◌≤◌, Bool, true, false, List, [], ◌∷◌, ◌++◌, length, replicate, refl, sym, ◌∙◌, ap, arith, get_or, Option, Some, None, inl, inr, nat_lt, if◌then◌else◌, slice_index_or, slice_set, option_map, range_with_len, cases_lt, nat_tests, same_lists, map-append, length-append, length-replicate, get_or-replicate, get_or_append_left, get_or-append_right, get_or-set_same, get_or-set_other, get_or_past, get_or-map-range_with_len, length-map-range_with_len, overlaid, overlaid_before, overlaid_within, overlaid_behind, length-overlaid, Key, key_to, key_in, look_up, look_up-is, look_up-none, is-held, PageSize, Layout, private_frames, private_segment, key_of_page, seat_pages, first_keys, pages_begun, held_private, held_in, keys_of}
 use Rattle.frame_pool.proofs.PlaceLemmas.{range-push}
 use Rattle.storage_unit.proofs.SizeLemmas.{seat-first, seat-rest}
 use Rattle.storage_unit.proofs.HeldLemmas.{overlaid-more}
 
 -- one page more
 first-more : (segment count : ℕ) → first_keys segment (count + 1) ≡ first_keys segment count ++ Some (key_to segment count) ∷ []
-first-more segment count =
-    ap (λ (list : List ℕ). map (λ index. Some (key_to segment index)) list) (sym (range-push 0 count))
-    ∙ map-append (λ index. Some (key_to segment index)) (range_with_len 0 count) ((0 + count) ∷ [])
-    ∙ ap (λ (n : ℕ). first_keys segment count ++ Some (key_to segment n) ∷ []) (omega arith)
+first-more segment count = grind (arith, nat_tests, range-push 0 count, map-append (λ index. Some (key_to segment index)) (range_with_len 0 count) ((0 + count) ∷ []))
 
 pub first-long : (segment count : ℕ) → length (first_keys segment count) ≡ count
 first-long segment count = length-map-range_with_len (λ (index : ℕ). Some (key_to segment index)) 0 count
@@ -17,10 +14,7 @@ first-long segment count = length-map-range_with_len (λ (index : ℕ). Some (ke
 pub keys-more :
     (keys : List (Option Key)) (first segment count : ℕ) → first + count < length keys
     → slice_set (overlaid keys first (first_keys segment count)) (first + count) (Some (key_to segment count)) ≡ overlaid keys first (first_keys segment (count + 1))
-keys-more keys first segment count room =
-    ap (λ n. slice_set (overlaid keys first (first_keys segment count)) (first + n) (Some (key_to segment count))) (sym (first-long segment count))
-    ∙ overlaid-more keys first (first_keys segment count) (Some (key_to segment count)) (omega (arith, room, first-long segment count))
-    ∙ ap (overlaid keys first) (sym (first-more segment count))
+keys-more keys first segment count room = grind (arith, nat_tests, first-long, overlaid-more, first-more)
 
 same-index : (segment a b : ℕ) → Some (key_to segment a) ≡ Some (key_to segment b) → a ≡ b
 same-index segment a b is = let same : key_to segment a ≡ key_to segment b = cc in ap (λ (key : Key). key.page) same
@@ -96,37 +90,16 @@ begun-other size begun seat other b apart = ap (λ (on : Bool). if on then seat_
 pub holds-first :
     (size : PageSize) (begun : List Bool) (seat index : ℕ) (e : Option Key) → seat < length begun → index < seat_pages size
     → get_or (first_keys (private_segment seat) (seat_pages size)) index e ≡ held_private size (pages_begun size (slice_set begun seat true)) (seat * seat_pages size + index)
-holds-first size begun seat index e below few =
-    let first : (seat * seat_pages size + index) / seat_pages size ≡ seat = seat-first size seat index few in
-    let rest : (seat * seat_pages size + index) % seat_pages size ≡ index = seat-rest size seat index few in
-    let inside : nat_lt index (seat_pages size) ≡ true = grind (arith, nat_tests, few) in
-    get_or-map-range_with_len (λ (n : ℕ). Some (key_to (private_segment seat) n)) 0 (seat_pages size) index index e few (omega arith)
-    ∙ sym
-    (ap (λ n. if nat_lt n (pages_begun size (slice_set begun seat true) ((seat * seat_pages size + index) / seat_pages size)) then Some (key_to (private_segment ((seat * seat_pages size + index) / seat_pages size)) n) else None) rest
-    ∙ ap (λ n. if nat_lt index (pages_begun size (slice_set begun seat true) n) then Some (key_to (private_segment n) index) else None) first
-    ∙ ap (λ n. if nat_lt index n then Some (key_to (private_segment seat) index) else None) (begun-at size begun seat true below)
-    ∙ ap (λ (b : Bool). if b then Some (key_to (private_segment seat) index) else None) inside)
+holds-first size begun seat index e below few = grind (arith, nat_tests, seat-first, seat-rest, get_or-map-range_with_len, begun-at)
 
 pub holds-none :
     (size : PageSize) (begun : List Bool) (seat index : ℕ) (e : Option Key) → seat < length begun → index < seat_pages size
     → get_or (replicate (seat_pages size) None) index e ≡ held_private size (pages_begun size (slice_set begun seat false)) (seat * seat_pages size + index)
-holds-none size begun seat index e below few =
-    let first : (seat * seat_pages size + index) / seat_pages size ≡ seat = seat-first size seat index few in
-    let outside : nat_lt ((seat * seat_pages size + index) % seat_pages size) 0 ≡ false = grind (arith, nat_tests) in
-    get_or-replicate (seat_pages size) index None e few
-    ∙ sym
-    (ap (λ n. if nat_lt ((seat * seat_pages size + index) % seat_pages size) (pages_begun size (slice_set begun seat false) n) then Some (key_to (private_segment ((seat * seat_pages size + index) / seat_pages size)) ((seat * seat_pages size + index) % seat_pages size)) else None) first
-    ∙ ap (λ n. if nat_lt ((seat * seat_pages size + index) % seat_pages size) n then Some (key_to (private_segment ((seat * seat_pages size + index) / seat_pages size)) ((seat * seat_pages size + index) % seat_pages size)) else None) (begun-at size begun seat false below)
-    ∙ ap (λ (b : Bool). if b then Some (key_to (private_segment ((seat * seat_pages size + index) / seat_pages size)) ((seat * seat_pages size + index) % seat_pages size)) else None) outside)
+holds-none size begun seat index e below few = grind (arith, nat_tests, seat-first, get_or-replicate, begun-at)
 
 -- a seat that isn't begun has no page in the table
 pub free-at : (size : PageSize) (begun : List Bool) (seat index : ℕ) → slice_index_or begun seat false ≡ false → index < seat_pages size → held_private size (pages_begun size begun) (seat * seat_pages size + index) ≡ None
-free-at size begun seat index not few =
-    let first : (seat * seat_pages size + index) / seat_pages size ≡ seat = seat-first size seat index few in
-    let outside : nat_lt ((seat * seat_pages size + index) % seat_pages size) 0 ≡ false = grind (arith, nat_tests) in
-    ap (λ n. if nat_lt ((seat * seat_pages size + index) % seat_pages size) (pages_begun size begun n) then Some (key_to (private_segment ((seat * seat_pages size + index) / seat_pages size)) ((seat * seat_pages size + index) % seat_pages size)) else None) first
-    ∙ ap (λ (on : Bool). if nat_lt ((seat * seat_pages size + index) % seat_pages size) (if on then seat_pages size else 0) then Some (key_to (private_segment ((seat * seat_pages size + index) / seat_pages size)) ((seat * seat_pages size + index) % seat_pages size)) else None) not
-    ∙ ap (λ (b : Bool). if b then Some (key_to (private_segment ((seat * seat_pages size + index) / seat_pages size)) ((seat * seat_pages size + index) % seat_pages size)) else None) outside
+free-at size begun seat index not few = grind (arith, nat_tests, seat-first)
 
 -- where no seat is begun and no page is in a frame, no frame holds a page
 pub keys-bare : (d : Layout) (frames count : ℕ) → replicate (private_frames d.page + frames) None ≡ keys_of d (replicate 16 false) frames (replicate count None)

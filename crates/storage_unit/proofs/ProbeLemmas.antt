@@ -1,6 +1,6 @@
 -- The answers of the pages and lines of a range, each asked for once.
-use Rattle.storage_unit.proofs.Common.{◌≡◌, ℕ, ◌+◌, ◌-◌, ◌*◌, ◌%◌, ◌<◌, ◌≤◌, Bool, true, false, sym, ◌∙◌, ap, arith, Some, None, inl, inr, not, find, range_with_len, cases_lt, page_bytes, line_bytes, line_of, Virtual, bytes_on, Reach, is_private, place_of, on, is_there, is_kept_from, is_refused, IsSound, Lies, is_absent}
-use Rattle.storage_unit.proofs.SizeLemmas.{byte-at, page-some, same-line-on}
+use Rattle.storage_unit.proofs.Common.{◌≡◌, ℕ, ◌+◌, ◌-◌, ◌*◌, ◌%◌, ◌<◌, ◌≤◌, Bool, true, false, sym, ◌∙◌, ap, arith, Some, None, not, find, range_with_len, page_bytes, line_bytes, line_of, Virtual, bytes_on, Reach, is_private, place_of, on, is_there, is_kept_from, is_refused, IsSound, Lies, is_absent, nat_tests}
+use Rattle.storage_unit.proofs.SizeLemmas.{byte-at, page-some}
 use Rattle.storage_unit.proofs.FindLemmas.{none-found, first-found}
 use Rattle.storage_unit.proofs.PlaceLemmas.{place-on, on-on, lies-on, private-is, there-found}
 
@@ -46,21 +46,12 @@ module _ (state : Reach) (sound : IsSound state) (first : Virtual) (n : ℕ) (so
     -- both are in one
     pub none-next : is_absent state first ≡ false → is_absent state (bytes_on state.directory.page first rest) ≡ false
         → None ≡ find (λ past. not (is_there state (on (place_of state.directory first) past))) (range_with_len 0 n)
-    none-next is also =
-        sym
-        (none-found test 0 n
-        (λ k above below. elim (cases_lt k rest) [
-          | inl less ↦ here k (omega (arith, less, are)) ∙ is
-          | inr past ↦ there k past (omega (arith, below)) ∙ also
-        ]))
+    none-next is also = grind (arith, nat_tests, none-found, here, there)
 
 -- bytes of the same line are refused alike
 pub same-line : (state : Reach) (place past rest k : ℕ) (store : Bool) → rest + (place + past) % line_bytes state.directory.page ≡ line_bytes state.directory.page → past ≤ k → k < past + rest
     → is_refused state (line_of state.directory (place + k)) store ≡ is_refused state (line_of state.directory (place + past)) store
-same-line state place past rest k store are above below =
-    let on : place + past + (k - past) ≡ place + k = omega (arith, above) in
-    ap (λ n. is_refused state (line_of state.directory n) store) (sym on)
-    ∙ ap (λ l. is_refused state l store) (same-line-on state.directory.page (place + past) (k - past) (omega (arith, are, above, below)))
+same-line state place past rest k store are above below = grind (arith, nat_tests)
 
 -- of private storage none is refused
 pub private-kept : (state : Reach) (first : Virtual) (n : ℕ) (store : Bool) → is_private first.segment ≡ true

@@ -1,20 +1,14 @@
 -- Bytes that are put into frames of the store, and the lines that are marked.
-use Rattle.storage_unit.proofs.Common.{◌≡◌, ◌≢◌, ℕ, zero, suc, ◌+◌, ◌-◌, ◌*◌, ◌/◌, ◌%◌, ◌<◌, ◌≤◌, Bool, true, false, List, [], length, refl, sym, ◌∙◌, ap, arith, Option, Some, None, get_or, inl, inr, ◌==◌, ◌&&◌, ◌||◌, nat_le, nat_lt, if◌then◌else◌, slice_index, slice_set, option_map_or, cases_lt, cases_eq, nat_tests, same_lists, length-set, get_or-set_same, get_or-set_other, get_or_default, get_or-map-range_with_len, length-map-range_with_len, same_number_lists, overlaid, length-overlaid, page_bytes, line_bytes, Layout, line_of, page_of, union, between, lines_where, where-alike, is_in_where-below, has, page_of_line, has-range, Shared, lines_at, Pool, IsSeen, frame_at, page_at, marks_at, lines_of_part, AreOfPages, is_line_marked, byte_in_frame, put_byte, spot_put, marks_put, put_in_store}
-use Rattle.storage_unit.proofs.SizeLemmas.{rest-below, place-is, page-at, byte-at, same-page-on, rest-on, page-between, line-is, line-few, line-order}
+use Rattle.storage_unit.proofs.Common.{◌≡◌, ◌≢◌, ℕ, zero, suc, ◌+◌, ◌-◌, ◌*◌, ◌/◌, ◌%◌, ◌<◌, ◌≤◌, Bool, true, false, List, [], length, refl, sym, ◌∙◌, ap, arith, Option, Some, None, get_or, inl, inr, ◌==◌, ◌&&◌, ◌||◌, nat_le, nat_lt, if◌then◌else◌, slice_index, slice_set, cases_lt, cases_eq, nat_tests, same_lists, length-set, get_or-set_same, get_or-set_other, get_or_default, get_or-map-range_with_len, length-map-range_with_len, same_number_lists, overlaid, length-overlaid, page_bytes, line_bytes, Layout, line_of, page_of, union, between, lines_where, where-alike, is_in_where-below, has, page_of_line, has-range, Shared, lines_at, Pool, IsSeen, frame_at, page_at, marks_at, lines_of_part, AreOfPages, is_line_marked, byte_in_frame, put_byte, spot_put, marks_put, put_in_store}
+use Rattle.storage_unit.proofs.SizeLemmas.{rest-below, place-is, page-at, byte-at, page-between, line-is, line-few, line-order}
 use Rattle.storage_unit.proofs.FillLemmas.{over-part, in-part}
 
 -- a byte among those that are put, and one that isn't
 pub put-inside : (bytes : List ℕ) (from place old : ℕ) → from ≤ place → place < from + length bytes → put_byte bytes from place old ≡ slice_index bytes (place - from)
-put-inside bytes from place old above below =
-    let test : (nat_le from place && nat_lt place (from + length bytes)) ≡ true = grind (arith, nat_tests, above, below) in
-    ap (λ (b : Bool). if b then slice_index bytes (place - from) else old) test
+put-inside bytes from place old above below = grind (arith, nat_tests)
 
 pub put-outside : (bytes : List ℕ) (from place old : ℕ) → (from ≤ place → place < from + length bytes → ⊥) → put_byte bytes from place old ≡ old
-put-outside bytes from place old outside = by_test (nat_le from place && nat_lt place (from + length bytes)) refl
-  where
-    by_test : (b : Bool) → (nat_le from place && nat_lt place (from + length bytes)) ≡ b → (if b then slice_index bytes (place - from) else old) ≡ old
-    by_test false is = refl
-    by_test true is = absurd (outside (grind (arith, nat_tests, is)) (grind (arith, nat_tests, is)))
+put-outside bytes from place old outside = grind (arith, nat_tests)
 
 -- the lines of some bytes
 pub has-lines : (d : Layout) (from count line : ℕ) → 0 < count → has (lines_at d (Shared from) count) line ≡ (nat_le (line_of d from) line && nat_le line (line_of d (from + count - 1)))
@@ -41,28 +35,17 @@ module _ (d : Layout) (pool : Pool) (from : ℕ) (bytes : List ℕ) where
   -- a byte of a frame with a page of the store
   pub spot-there : (frame page o : ℕ) → page_at pool frame ≡ Some page → o < page_bytes d.page → frame * page_bytes d.page + o < length pool.bytes
       → slice_index (put_in_store d pool from bytes).bytes (frame * page_bytes d.page + o) ≡ put_byte bytes from (page * page_bytes d.page + o) (slice_index pool.bytes (frame * page_bytes d.page + o))
-  spot-there frame page o there less below =
-      let spot = frame * page_bytes d.page + o in
-      get_or-map-range_with_len (spot_put d pool from bytes) 0 (length pool.bytes) spot spot 0 below (omega arith)
-      ∙ ap (λ n. option_map_or (λ p. put_byte bytes from (p * page_bytes d.page + n) (slice_index pool.bytes spot)) (page_at pool (spot / page_bytes d.page)) (slice_index pool.bytes spot)) (byte-at d.page frame o less)
-      ∙ ap (λ n. option_map_or (λ p. put_byte bytes from (p * page_bytes d.page + o) (slice_index pool.bytes spot)) (page_at pool n) (slice_index pool.bytes spot)) (page-at d.page frame o less)
-      ∙ ap (λ (p : Option ℕ). option_map_or (λ q. put_byte bytes from (q * page_bytes d.page + o) (slice_index pool.bytes spot)) p (slice_index pool.bytes spot)) there
+  spot-there frame page o there less below = grind (arith, nat_tests, get_or-map-range_with_len, byte-at, page-at)
 
   -- and of one without
   pub spot-none : (frame o : ℕ) → page_at pool frame ≡ None → o < page_bytes d.page → frame * page_bytes d.page + o < length pool.bytes
       → slice_index (put_in_store d pool from bytes).bytes (frame * page_bytes d.page + o) ≡ slice_index pool.bytes (frame * page_bytes d.page + o)
-  spot-none frame o none less below =
-      let spot = frame * page_bytes d.page + o in
-      get_or-map-range_with_len (spot_put d pool from bytes) 0 (length pool.bytes) spot spot 0 below (omega arith)
-      ∙ ap (λ n. option_map_or (λ p. put_byte bytes from (p * page_bytes d.page + spot % page_bytes d.page) (slice_index pool.bytes spot)) (page_at pool n) (slice_index pool.bytes spot)) (page-at d.page frame o less)
-      ∙ ap (λ (p : Option ℕ). option_map_or (λ q. put_byte bytes from (q * page_bytes d.page + spot % page_bytes d.page) (slice_index pool.bytes spot)) p (slice_index pool.bytes spot)) none
+  spot-none frame o none less below = grind (arith, nat_tests, get_or-map-range_with_len, page-at)
 
   -- a place of the store that is in a frame
   pub place-put : (place frame : ℕ) → page_at pool frame ≡ Some (page_of d place) → frame * page_bytes d.page + page_bytes d.page ≤ length pool.bytes
       → byte_in_frame d (put_in_store d pool from bytes) place frame ≡ put_byte bytes from place (byte_in_frame d pool place frame)
-  place-put place frame there room =
-      spot-there frame (page_of d place) (place % page_bytes d.page) there (rest-below d.page place) (omega (arith, room, rest-below d.page place))
-      ∙ ap (λ n. put_byte bytes from n (byte_in_frame d pool place frame)) (place-is d.page place)
+  place-put place frame there room = grind (arith, nat_tests, spot-there, rest-below, place-is)
 
   -- the marks of a line
   pub line-put : (line : ℕ) → page_of_line line < length pool.marked
@@ -157,27 +140,10 @@ module _ (d : Layout) (pool : Pool) (seen : IsSeen pool) (marks : AreOfPages poo
   first-line = line-is d.page from
 
   last-line : line_of d (from + length bytes - 1) ≡ from / page_bytes d.page * 16 + (from % page_bytes d.page + length bytes - 1) / line_bytes d.page
-  last-line =
-      let more = length bytes - 1 in
-      let inside : from % page_bytes d.page + more < page_bytes d.page = omega (arith, some, within) in
-      let last : from + length bytes - 1 ≡ from + more = omega (arith, some) in
-      let rest : from % page_bytes d.page + more ≡ from % page_bytes d.page + length bytes - 1 = omega (arith, some) in
-      ap (line_of d) last
-      ∙ line-is d.page (from + more)
-      ∙ ap (λ n. n * 16 + (from + more) % page_bytes d.page / line_bytes d.page) (same-page-on d.page from more inside)
-      ∙ ap (λ n. from / page_bytes d.page * 16 + n / line_bytes d.page) (rest-on d.page from more inside ∙ rest)
+  last-line = grind (arith, nat_tests)
 
   added : (base low high : ℕ) → nat_le low high ≡ nat_le (base + low) (base + high)
-  added base low high = elim (cases_lt high low) [
-    | inl less ↦
-        let one : nat_le low high ≡ false = grind (arith, nat_tests, less) in
-        let other : nat_le (base + low) (base + high) ≡ false = grind (arith, nat_tests, less) in
-        one ∙ sym other
-    | inr more ↦
-        let one : nat_le low high ≡ true = grind (arith, nat_tests, more) in
-        let other : nat_le (base + low) (base + high) ≡ true = grind (arith, nat_tests, more) in
-        one ∙ sym other
-  ]
+  added base low high = grind (arith, nat_tests)
 
   -- the lines of the part are those of the bytes
   part-lines : (line : ℕ) → line < 16 → has (lines_of_part d.page (from % page_bytes d.page) (length bytes)) line ≡ has (lines_at d (Shared from) (length bytes)) (from / page_bytes d.page * 16 + line)
@@ -194,20 +160,7 @@ module _ (d : Layout) (pool : Pool) (seen : IsSeen pool) (marks : AreOfPages poo
 
   -- no line of another page has some of them
   other-lines : (page line : ℕ) → page ≢ from / page_bytes d.page → line < 16 → has (lines_at d (Shared from) (length bytes)) (page * 16 + line) ≡ false
-  other-lines page line apart few =
-      has-lines d from (length bytes) (page * 16 + line) some
-      ∙ by_tests (nat_le (line_of d from) (page * 16 + line)) (nat_le (page * 16 + line) (line_of d (from + length bytes - 1))) refl refl
-    where
-      high : (from % page_bytes d.page + length bytes - 1) / line_bytes d.page < 16
-      high = line-few d.page (from % page_bytes d.page + length bytes - 1) (omega (arith, some, within))
-
-      by_tests : (low high : Bool) → nat_le (line_of d from) (page * 16 + line) ≡ low → nat_le (page * 16 + line) (line_of d (from + length bytes - 1)) ≡ high → (low && high) ≡ false
-      by_tests false high a b = refl
-      by_tests true false a b = refl
-      by_tests true true a b =
-          let above : line_of d from ≤ page * 16 + line = grind (arith, nat_tests, a) in
-          let below : page * 16 + line ≤ line_of d (from + length bytes - 1) = grind (arith, nat_tests, b) in
-          absurd (apart (omega (arith, above, below, few, first-line, last-line, high)))
+  other-lines page line apart few = grind (arith, nat_tests, has-lines, line-few, first-line, last-line)
 
   pub page-marks :
       from / page_bytes d.page < length pool.marked

@@ -25,15 +25,6 @@ use Rattle.storage_unit.proofs.LeftLemmas.{Put, range-long, shared-within, priva
 abbrev pub seen_of : Reach → Seen Reach
 seen_of f = seen_in byte_at (answer_in (λ (g : Reach). g.registers) is_in_frame refuses) stored f
 
--- a link changes registers alone
-link-keeps : (link : Option (ℕ × ℕ)) (s n : Plain) → with_link link (On s) ≡ On n → (n.private ≡ s.private) × (n.store ≡ s.store) × (n.out ≡ s.out)
-link-keeps None s n is =
-    let same : s ≡ n = cc in
-    (ap (λ (x : Plain). x.private) (sym same), ap (λ (x : Plain). x.store) (sym same), ap (λ (x : Plain). x.out) (sym same))
-link-keeps (Some link) s n is =
-    let same : record s { regs = slice_set s.regs link.0 link.1 } ≡ n = cc in
-    (ap (λ (x : Plain). x.private) (sym same), ap (λ (x : Plain). x.store) (sym same), ap (λ (x : Plain). x.out) (sym same))
-
 -- a row that fails goes nowhere
 link-checks : (link : Option (ℕ × ℕ)) (code : ℕ) (n : Plain) → with_link link (Check code) ≡ On n → ⊥
 link-checks None code n is = cc
@@ -50,9 +41,7 @@ record Leaves (s n : Plain) (private store : List ℕ) : Type 0 where
   few : length s.out ≤ 4096 → length n.out ≤ 4096
 
 kept : (link : Option (ℕ × ℕ)) (s t n : Plain) → s.out ≡ t.out → with_link link (On s) ≡ On n → Leaves t n s.private s.store
-kept link s t n out is =
-    let (a, b, c) = link-keeps link s n is in
-    record { private_is = a; store_is = b; few = λ few. omega (arith, few, ap length c, ap length out) }
+kept link s t n out is = grind (arith, nat_tests)
 
 -- what is left of the bytes
 retold : {s n : Plain} {a b c d : List ℕ} → Leaves s n a b → a ≡ c → b ≡ d → Leaves s n c d
@@ -104,12 +93,7 @@ module _ (f : Reach) (sound : IsSound f) (cpu : Cpu) where
       by_answer (Probe.Fault fault) is = inl refl
 
   load-tries : (access : Access) (after : Cpu) → Tries (unless_refused (seen_of f) cpu (refused_by access ((seen_of f).answer access)) (record { attempt = Attempt.Went; cpu = after; state = f })).state
-  load-tries access after = by_answer ((seen_of f).answer access)
-    where
-      by_answer : (answer : Probe) → Tries (unless_refused (seen_of f) cpu (refused_by access answer) (record { attempt = Attempt.Went; cpu = after; state = f })).state
-      by_answer Probe.Permitted = inl refl
-      by_answer (Probe.Check code) = inl refl
-      by_answer (Probe.Fault fault) = inl refl
+  load-tries access after = grind (arith, nat_tests)
 
   print-tries : (byte : ℕ) (room : Bool) (after : Cpu) → Tries (cond room (record { attempt = Attempt.Print byte; cpu = after; state = f }) (undone (seen_of f) cpu (Attempt.Check 5))).state
   print-tries byte true after = inl refl
@@ -130,16 +114,10 @@ module _ (f : Reach) (sound : IsSound f) (cpu : Cpu) where
     tries = subst Tries (sym is) (plan-tries plan whole)
 
     pub attempt-changes : ChangesBytes f state
-    attempt-changes = elim tries [
-      | inl same ↦ subst (ChangesBytes f) (sym same) refl
-      | inr put ↦ subst (ChangesBytes f) (sym put.is) (put-changes f (places.place_of f.directory put.at) put.bytes)
-    ]
+    attempt-changes = grind (arith, nat_tests, tries, put-changes)
 
     pub attempt-clean : StaysClean f state
-    attempt-clean = elim tries [
-      | inl same ↦ subst (StaysClean f) (sym same) (λ committed long clean. clean)
-      | inr put ↦ subst (StaysClean f) (sym put.is) (put-clean f sound put.at put.bytes put.lies)
-    ]
+    attempt-clean = grind (arith, nat_tests, tries, put-clean)
 
     pub attempt-seats : LeavesSeats f state
     attempt-seats = elim tries [
@@ -194,10 +172,7 @@ module _ (f : Reach) (sound : IsSound f) (p : Program) (windows : HasWindows f p
 
   print-leaves : (link : Option (ℕ × ℕ)) (regs : List ℕ) (cs : Cs) (next byte : ℕ) (room : Bool) (n : Plain) → nat_lt (length out) 4096 ≡ room
       → with_link link (cond room (On (record (moved plain regs cs next) { out = out ++ byte ∷ [] })) (Check 5)) ≡ On n → After n f
-  print-leaves link regs cs next byte true n room is =
-      let (a, b, c) = link-keeps link (record (moved plain regs cs next) { out = out ++ byte ∷ [] }) n is in
-      let short : length out < 4096 = grind (arith, nat_tests, room) in
-      record { private_is = a; store_is = b; few = λ few. omega (arith, short, ap length c, length-append out (byte ∷ [])) }
+  print-leaves link regs cs next byte true n room is = grind (arith, nat_tests, length-append out (byte ∷ []))
   print-leaves link regs cs next byte false n room is = absurd (link-checks link 5 n is)
 
   plan-leaves : (plan : Plan) (n : Plain) → StoresAll plan → IsPermitted plan → row_by p f.directory plain plan ≡ On n → After n (left_by seen plan)
@@ -213,25 +188,17 @@ module _ (f : Reach) (sound : IsSound f) (p : Program) (windows : HasWindows f p
 
   -- the lines of its store are marked
   or-none : (b : Bool) → b ≡ (b || false)
-  or-none true = refl
-  or-none false = refl
+  or-none b = grind (arith, nat_tests)
 
   place-marks : (at : Virtual) (place : Located) (bytes : List ℕ) (count : ℕ) → length bytes ≡ count → places.place_of f.directory at ≡ place → Lies f at (length bytes) → (line : ℕ)
       → is_line_marked (put_at f place bytes).pool line ≡ (is_line_marked f.pool line || has (lines_at f.directory place count) line)
   place-marks at (Private a) bytes count long lies-at inside line = or-none (is_line_marked f.pool line)
-  place-marks at (Shared a) bytes count long lies-at inside line =
-      marks-written f sound a bytes (shared-within f at (length bytes) a inside lies-at) line
-      ∙ ap (λ n. is_line_marked f.pool line || has (lines_at f.directory (Shared a) n) line) long
+  place-marks at (Shared a) bytes count long lies-at inside line = grind (arith, nat_tests, marks-written f sound a bytes (shared-within f at (length bytes) a inside lies-at) line, shared-within f)
   place-marks at (Refused code) bytes count long lies-at inside line = absurd (never-refused f.directory at code lies-at)
 
   store-marks : (address count : ℕ) (bytes : List ℕ) → length bytes ≡ count → StorePut f address count bytes → (line : ℕ)
       → is_line_marked (stored f address bytes).pool line ≡ (is_line_marked f.pool line || has (lines_at f.directory (located p f.directory address count true) count) line)
-  store-marks address count bytes long put line =
-      let lies-at : places.place_of f.directory put.at ≡ located p f.directory address count true =
-      sym (ap (place_at f.directory) put.found) ∙ lies-where f p sound.legal windows address count true in
-      ap (λ (g : Reach). is_line_marked g.pool line) put.is
-      ∙ place-marks put.at (places.place_of f.directory put.at) bytes count long refl put.lies line
-      ∙ ap (λ place. is_line_marked f.pool line || has (lines_at f.directory place count) line) lies-at
+  store-marks address count bytes long put line = grind (arith, nat_tests, lies-where, place-marks)
 
   plan-marks : (plan : Plan) → StoresAll plan → IsPermitted plan → MarksWritten f.pool (left_by seen plan).pool (option_map_or (lines_of_access p f.directory) (access_of_plan plan) no_lines)
   plan-marks (Fails code) whole permitted line = or-none (is_line_marked f.pool line)
@@ -278,11 +245,7 @@ module _ (f : Reach) (sound : IsSound f) (p : Program) (windows : HasWindows f p
   private-long = range-long f.pool.bytes (seat_of f * 16384) 16384 (omega (arith, seat-few, all-private f sound))
 
   private-at-byte : (k : ℕ) → k < 16384 → slice_index (private_bytes f.pool (seat_of f)) k ≡ byte_at f k
-  private-at-byte k below =
-      let one = selected f sound windows.selected in
-      in-range f.pool.bytes (seat_of f * 16384) 16384 k below
-      ∙ sym (ap (byte_of f) (private-at f.directory sound.legal one.seat k))
-      ∙ sym (ap (λ located. byte_of f (place_at f.directory located)) (own-located f one.seat k 1 one.reached (omega (arith, below))))
+  private-at-byte k below = grind (arith, nat_tests, selected, in-range, private-at, own-located)
 
   private-all : private_bytes f.pool (seat_of f) ≡ bytes_from (byte_at f) 0 16384
   private-all =
@@ -294,11 +257,7 @@ module _ (f : Reach) (sound : IsSound f) (p : Program) (windows : HasWindows f p
   -- a part that is shown from an address on
   same-shown : (xs : List ℕ) (address a n : ℕ) → a + n ≤ length xs → ((k : ℕ) → k < n → byte_at f (address + k) ≡ slice_index xs (a + k))
       → slice_range xs a (a + n) ≡ bytes_from (byte_at f) address n
-  same-shown xs address a n fits same =
-      same_number_lists (slice_range xs a (a + n)) (bytes_from (byte_at f) address n) (range-long xs a n fits ∙ sym (length-map-range_with_len (byte_at f) address n))
-      (λ k below.
-      let short : k < n = omega (arith, below, range-long xs a n fits) in
-      in-range xs a n k short ∙ sym (same k short) ∙ sym (get_or-map-range_with_len (byte_at f) address n k (address + k) 0 short refl))
+  same-shown xs address a n fits same = grind (arith, nat_tests, same_number_lists, range-long, length-map-range_with_len, in-range, get_or-map-range_with_len)
 
   shown-place : (access : Access) (place : Located) → place_of p f.directory access ≡ place → seen.answer access ≡ Probe.Permitted
       → bytes_in plain place access.bytes ≡ bytes_from (byte_at f) access.address access.bytes
@@ -335,9 +294,7 @@ module _ (f : Reach) (sound : IsSound f) (p : Program) (windows : HasWindows f p
       by_place (Refused code) at lies-at found = absurd (never-refused f.directory at code lies-at)
 
   checks : (access : Access) → ChecksAlike (seen.answer access) (place_of p f.directory access)
-  checks access =
-      subst (λ registers. ChecksAlike (answered registers (is_in_frame f) (refuses f) access) (place_of p f.directory access)) (sym windows.registers)
-      (checks-alike (is_in_frame f) (refuses f) access p f.directory (private_segment (seat_of f)))
+  checks access = grind (arith, nat_tests, checks-alike (is_in_frame f) (refuses f) access p f.directory (private_segment (seat_of f)))
 
   agrees : Agrees p f.directory plain cpu seen
   agrees = record {
@@ -350,10 +307,7 @@ module _ (f : Reach) (sound : IsSound f) (p : Program) (windows : HasWindows f p
   -- the next state is that of processor and unit
   next-is : (n : Plain) (cpu' : Cpu) (state : Reach) (out' : List ℕ) (plan : Plan) → IsCpuOf n cpu' → After n (left_by seen plan)
       → state ≡ left_by seen plan → n.out ≡ out' → n ≡ plain_over committed cpu' state out'
-  next-is n cpu' state out' plan same leaves is printed' =
-      let private-is : n.private ≡ private_bytes state.pool (seat_of state) = leaves.private_is ∙ ap (λ (g : Reach). private_bytes g.pool (seat_of g)) (sym is) in
-      let store-is : n.store ≡ bytes_over state.directory state.pool committed = leaves.store_is ∙ ap (λ (g : Reach). bytes_over g.directory g.pool committed) (sym is) in
-      λ i. record { regs = same.regs i; cs = same.cs i; iar = same.iar i; private = private-is i; store = store-is i; out = printed' i }
+  next-is n cpu' state out' plan same leaves is printed' = grind (arith, nat_tests)
 
   -- what is known where the row goes on
   record Goes : Type 0 where

@@ -1,5 +1,5 @@
 -- Places of a store by pages and lines.
-use Rattle.storage_unit.proofs.Common.{◌≡◌, ℕ, ◌+◌, ◌-◌, ◌*◌, ◌/◌, ◌%◌, ◌<◌, ◌≤◌, arith, div-add-mod', PageSize, Two, Four, page_bytes, line_bytes, Layout, byte_count, page_count, page_of, byte_count-pages, private_frames, seat_pages}
+use Rattle.storage_unit.proofs.Common.{◌≡◌, ℕ, ◌+◌, ◌-◌, ◌*◌, ◌/◌, ◌%◌, ◌<◌, ◌≤◌, arith, div-add-mod', PageSize, Two, Four, page_bytes, line_bytes, Layout, byte_count, page_count, page_of, byte_count-pages, private_frames, seat_pages, nat_tests}
 
 pub rest-below : (size : PageSize) (place : ℕ) → place % page_bytes size < page_bytes size
 rest-below Two place = omega arith
@@ -60,8 +60,7 @@ rest-on Four place k within = omega (arith, within)
 
 -- a page has some bytes
 pub page-some : (size : PageSize) → 2048 ≤ page_bytes size
-page-some Two = omega arith
-page-some Four = omega arith
+page-some size = grind (arith, nat_tests)
 
 -- the private frames: those of sixteen seats, each with so many pages that they have 16,384 bytes
 pub seat-bytes : (size : PageSize) (seat index : ℕ) → (seat * seat_pages size + index) * page_bytes size ≡ seat * 16384 + index * page_bytes size
@@ -69,8 +68,7 @@ seat-bytes Two seat index = omega arith
 seat-bytes Four seat index = omega arith
 
 pub private-whole : (size : PageSize) → private_frames size * page_bytes size ≡ 262144
-private-whole Two = omega arith
-private-whole Four = omega arith
+private-whole size = grind (arith, nat_tests)
 
 -- the frame of a seat's page is a private one, and tells the seat and the page
 pub seat-frame : (size : PageSize) (seat index : ℕ) → seat < 16 → index < seat_pages size → seat * seat_pages size + index < private_frames size
@@ -186,8 +184,4 @@ line-within Four line below = omega (arith, below)
 
 -- the page of a place of the store
 pub page-below : (d : Layout) (place : ℕ) → place < byte_count d → page_of d place < page_count d
-page-below d place below = by_size d.page (omega (arith, below, byte_count-pages d))
-  where
-    by_size : (size : PageSize) → place < page_count d * page_bytes size → place / page_bytes size < page_count d
-    by_size Two less = omega (arith, less)
-    by_size Four less = omega (arith, less)
+page-below d place below = grind (arith, nat_tests, byte_count-pages)

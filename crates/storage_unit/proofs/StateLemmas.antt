@@ -1,5 +1,5 @@
 -- What the calls of a unit leave of its pool and its table.
-use Rattle.storage_unit.proofs.Common.{◌≡◌, ◌≢◌, ℕ, ◌+◌, ◌<◌, ◌≤◌, Bool, true, false, List, [], ◌∷◌, length, replicate, All, refl, sym, ◌∙◌, ap, subst, arith, get_or, Option, Some, None, inl, inr, ◌==◌, ◌||◌, nat_lt, if◌then◌else◌, slice_index_or, slice_set, fold, is_some, option_map, option_and_then, option_map_or, cases_lt, cases_eq, eq-eqb, ne_eqb, length-set, set_past, get_or-set_same, get_or-set_other, get_or-replicate, length-replicate, get_or_past, same_lists, All-nil, Pair, get_or-map-range_with_len, Layout, page_count, IsLegal, IsOfPage, difference, passing, of_page-where, has, Key, Placed, without_frame, look_up, Pool, IsSeen, private_frames, frame_count, frame_at, page_at, marks_at, gone, page_out, with_room, emptied, laid, line_laid, gone-from, gone-absent, gone-frame, gone-stays, seen-gone, Stays, key_of_page, AreOfPages, held_private, held_in, keys_with, keys_without, pages_begun, pool_of, Unit}
+use Rattle.storage_unit.proofs.Common.{◌≡◌, ◌≢◌, ℕ, ◌+◌, ◌<◌, ◌≤◌, Bool, true, false, List, [], ◌∷◌, length, replicate, All, refl, sym, ◌∙◌, ap, subst, arith, get_or, Option, Some, None, inl, inr, ◌||◌, nat_lt, if◌then◌else◌, slice_set, fold, is_some, option_map, option_and_then, option_map_or, cases_eq, eq-eqb, ne_eqb, length-set, set_past, get_or-set_same, get_or-set_other, get_or-replicate, length-replicate, get_or_past, same_lists, All-nil, Pair, get_or-map-range_with_len, Layout, page_count, IsLegal, IsOfPage, difference, passing, of_page-where, has, Key, Placed, without_frame, look_up, Pool, IsSeen, private_frames, frame_count, frame_at, page_at, gone, page_out, with_room, emptied, laid, line_laid, gone-from, gone-absent, gone-frame, gone-stays, seen-gone, Stays, key_of_page, AreOfPages, held_private, held_in, keys_with, keys_without, pages_begun, pool_of, Unit, nat_tests}
 use Rattle.tlb_model.specs.Buffer.{IsOfTable, page_of}
 use Rattle.storage_unit.proofs.LeaveLemmas.{emptied-frame}
 use Rattle.storage_unit.proofs.HeldLemmas.{above, below, keys-long, held-store, keys-store}
@@ -10,24 +10,11 @@ fold-bytes page frame [] pool = refl
 fold-bytes page frame (line ∷ lines) pool = fold-bytes page frame lines (line_laid page frame pool line)
 
 pub laid-bytes : (pool : Pool) (page : ℕ) → laid pool page ≡ record pool { bytes = (laid pool page).bytes }
-laid-bytes pool page = by_frame (frame_at pool page)
-  where
-    by_frame :
-        (o : Option ℕ) → option_map_or (λ frame. fold (line_laid page frame) pool (marks_at pool page)) o pool
-        ≡ record pool { bytes = (option_map_or (λ frame. fold (line_laid page frame) pool (marks_at pool page)) o pool).bytes }
-    by_frame None = refl
-    by_frame (Some frame) = fold-bytes page frame (marks_at pool page) pool
+laid-bytes pool page = grind (arith, nat_tests, fold-bytes)
 
 -- marks of which one page's change to other lines of it
 pub marks-set : (marked : List (List ℕ)) (page : ℕ) (set : List ℕ) → AreOfPages marked → IsOfPage set → AreOfPages (slice_set marked page set)
-marks-set marked page set all one other = elim (cases_eq other page) [
-  | inr apart ↦ subst IsOfPage (sym (get_or-set_other marked page other set [] apart)) (all other)
-  | inl same ↦
-      elim (cases_lt page (length marked)) [
-        | inl below ↦ subst IsOfPage (sym (ap (λ n. slice_index_or (slice_set marked page set) n []) same ∙ get_or-set_same marked page set [] below)) one
-        | inr past ↦ subst IsOfPage (sym (ap (λ (list : List (List ℕ)). slice_index_or list other []) (set_past marked page set past))) (all other)
-      ]
-]
+marks-set marked page set all one other = grind (arith, nat_tests, cases_eq, get_or-set_other, below, get_or-set_same, set_past)
 
 pub marks-settled : (marked : List (List ℕ)) (page : ℕ) (lines other : List ℕ) → AreOfPages marked → AreOfPages (slice_set marked page (difference lines other))
 marks-settled marked page lines other all = marks-set marked page (difference lines other) all (of_page-where _)
@@ -35,16 +22,7 @@ marks-settled marked page lines other all = marks-set marked page (difference li
 -- the sizes stay where all pages leave
 fold-stays : (pages : List ℕ) (pool : Pool) → Stays pool (fold gone pool pages)
 fold-stays [] pool = record { page = refl; frames = refl; bytes = refl; marked = refl; frame_of = refl }
-fold-stays (page ∷ pages) pool =
-    let first = gone-stays pool page in
-    let rest = fold-stays pages (gone pool page) in
-    record {
-      page = rest.page ∙ first.page;
-      frames = rest.frames ∙ first.frames;
-      bytes = rest.bytes ∙ first.bytes;
-      marked = rest.marked ∙ first.marked;
-      frame_of = rest.frame_of ∙ first.frame_of;
-    }
+fold-stays (page ∷ pages) pool = grind (arith, nat_tests, fold-stays pages (gone pool page), gone-stays)
 
 pub emptied-stays : (pool : Pool) → Stays pool (emptied pool)
 emptied-stays pool = fold-stays pool.resident pool
@@ -71,22 +49,10 @@ room-stays pool keep seen = by_out (page_out pool keep)
     by_out (Some page) = (seen-gone pool page seen, gone-stays pool page)
 
 pub room-none : (pool : Pool) (keep : Option ℕ) (page : ℕ) → frame_at pool page ≡ None → frame_at (with_room pool keep) page ≡ None
-room-none pool keep page none = by_out (page_out pool keep)
-  where
-    by_test : (b : Bool) → (if b then None else frame_at pool page) ≡ None
-    by_test true = refl
-    by_test false = none
-
-    by_out : (o : Option ℕ) → frame_at (option_map_or (gone pool) o pool) page ≡ None
-    by_out None = none
-    by_out (Some out) = gone-frame pool out page ∙ by_test (out == page)
+room-none pool keep page none = grind (arith, nat_tests, gone-frame)
 
 pub absent-frame : (pool : Pool) (page : ℕ) → IsSeen pool → has pool.resident page ≡ false → frame_at pool page ≡ None
-absent-frame pool page seen absent = by_frame (frame_at pool page) (sym (seen.resident page) ∙ absent)
-  where
-    by_frame : (o : Option ℕ) → is_some o ≡ false → o ≡ None
-    by_frame None is = refl
-    by_frame (Some frame) is = absurd (cc)
+absent-frame pool page seen absent = grind (arith, nat_tests)
 
 -- keys of a table without a frame
 pub without-keys : (table : Placed) (o : Option ℕ) → (option_map_or (without_frame table) o table).keys ≡ option_map_or (λ frame. slice_set table.keys frame None) o table.keys
@@ -100,11 +66,7 @@ without-entries table (Some frame) = refl
 -- all pages leave
 pub fold-long : (pool : Pool) (list : List ℕ) (from : List (Option Key)) → length (fold (keys_without pool) from list) ≡ length from
 fold-long pool [] from = refl
-fold-long pool (page ∷ list) from = fold-long pool list (keys_without pool from page) ∙ by_frame (frame_at pool page)
-  where
-    by_frame : (o : Option ℕ) → length (option_map_or (λ frame. slice_set from frame None) o from) ≡ length from
-    by_frame None = refl
-    by_frame (Some frame) = length-set from frame None
+fold-long pool (page ∷ list) from = grind (arith, nat_tests, fold-long pool list (keys_without pool from page), length-set)
 
 module _ (d : Layout) (legal : IsLegal d.segments) (pool : Pool) (seen : IsSeen pool) (size : pool.page ≡ d.page) (pages : length pool.frame_of ≡ page_count d) (t : ℕ → ℕ) where
   abbrev keys : List (Option Key)
@@ -130,13 +92,7 @@ module _ (d : Layout) (legal : IsLegal d.segments) (pool : Pool) (seen : IsSeen 
   pub keys-room : (keep : Option ℕ)
       → option_map_or (λ frame. slice_set (keys_with d t pool.frames pool.page_in) frame None) (option_and_then (frame_at pool) (page_out pool keep)) (keys_with d t pool.frames pool.page_in)
       ≡ keys_with d t (with_room pool keep).frames (with_room pool keep).page_in
-  keys-room keep = by_out (page_out pool keep)
-    where
-      by_out : (o : Option ℕ)
-          → option_map_or (λ frame. slice_set keys frame None) (option_and_then (frame_at pool) o) keys
-          ≡ keys_with d t (option_map_or (gone pool) o pool).frames (option_map_or (gone pool) o pool).page_in
-      by_out None = refl
-      by_out (Some page) = keys-gone page
+  keys-room keep = grind (arith, nat_tests, keys-gone)
 
   -- a frame holds nothing then if its page is among them, else what it held
   fold-key : (list : List ℕ) (from : List (Option Key)) (frame : ℕ) (e : Option Key) → frame < length from
@@ -229,10 +185,4 @@ unfolding passing
 no-lines = refl
 
 pub marks-none : (count : ℕ) → AreOfPages (replicate count [])
-marks-none count page = elim (cases_lt page count) [
-  | inl below ↦ subst IsOfPage (sym (get_or-replicate count page [] [] below)) empty
-  | inr past ↦ subst IsOfPage (sym (get_or_past (replicate count []) page [] (omega (arith, past, length-replicate count (let none : List ℕ = [] in none))))) empty
-]
-  where
-    empty : IsOfPage []
-    empty = no-lines
+marks-none count page = grind (arith, nat_tests, below, get_or-replicate, get_or_past, replicate, length-replicate, no-lines)

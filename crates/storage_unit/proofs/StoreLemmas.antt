@@ -1,7 +1,7 @@
 -- What a store leaves, as it is written page by page, and what is shown after it.
-use Rattle.storage_unit.proofs.Common.{◌≡◌, ℕ, ◌+◌, ◌-◌, ◌*◌, ◌/◌, ◌%◌, ◌<◌, ◌≤◌, Bool, true, false, List, [], ◌++◌, length, refl, sym, ◌∙◌, ap, subst, arith, Option, Some, None, get_or, inl, inr, ◌&&◌, ◌||◌, nat_le, slice_index, slice_set, option_map_or, cases_lt, cases_Bool, nat_tests, same_lists, length-append, get_or_append_left, get_or-append_right, get_or-map-range_with_len, length-map-range_with_len, same_number_lists, page_bytes, line_bytes, start_of, line_of, page_of, union, lines_where, where-alike, is_in_where-below, of_page-where, has, Located, Private, Shared, Refused, lines_at, Virtual, key_of, look_up, Pool, private_frames, frame_count, page_at, marks_at, marked_in, with_marks, with_bytes, lines_of_part, page_part, Reach, is_private, offset_of, place_of, on, AreOfPages, seat_pages, table_of, put_byte, spot_put, marks_put, put_in_store, put_at, IsSound, Lies, some-within}
+use Rattle.storage_unit.proofs.Common.{◌≡◌, ℕ, ◌+◌, ◌-◌, ◌*◌, ◌/◌, ◌%◌, ◌<◌, ◌≤◌, List, ◌++◌, length, refl, sym, ◌∙◌, ap, subst, arith, Option, Some, None, get_or, inl, inr, ◌||◌, slice_set, option_map_or, cases_Bool, nat_tests, same_lists, length-append, get_or_append_left, get_or-append_right, get_or-map-range_with_len, length-map-range_with_len, same_number_lists, page_bytes, start_of, page_of, union, where-alike, is_in_where-below, of_page-where, has, Located, Private, Shared, Refused, lines_at, Virtual, key_of, look_up, Pool, private_frames, frame_count, page_at, marks_at, marked_in, with_marks, with_bytes, lines_of_part, page_part, Reach, is_private, offset_of, place_of, on, AreOfPages, seat_pages, table_of, put_byte, put_in_store, put_at, IsSound, Lies, some-within}
 use Rattle.frame_pool.proofs.LayLemmas.{overlaid-joined}
-use Rattle.storage_unit.proofs.SizeLemmas.{page-less, private-whole, seat-bytes, seat-frame, seat-page, line-order, line-next}
+use Rattle.storage_unit.proofs.SizeLemmas.{private-whole, seat-bytes, seat-frame, seat-page, line-order, line-next}
 use Rattle.storage_unit.proofs.StateLemmas.{marks-set}
 use Rattle.storage_unit.proofs.PlaceLemmas.{private-is, shared-is, finds-own, finds-shared, place-byte}
 use Rattle.storage_unit.proofs.PutLemmas.{put-inside, put-outside, has-lines, page-bytes, page-marks}
@@ -20,31 +20,18 @@ all-private state sound =
     omega (arith, private-whole state.directory.page, sound.seen.bytes ∙ ap (λ s. frame_count s state.pool.frames * page_bytes s) sound.size)
 
 pub frame-below : (state : Reach) → IsSound state → (page frame : ℕ) → page_at state.pool frame ≡ Some page → (private_frames state.directory.page ≤ frame) × (frame < frame_count state.directory.page state.pool.frames)
-frame-below state sound page frame is = (
-  subst (λ s. private_frames s ≤ frame) sound.size (sound.seen.above page frame is),
-  subst (λ s. frame < frame_count s state.pool.frames) sound.size (sound.seen.below page frame is),
-)
+frame-below state sound page frame is = grind (arith, nat_tests)
 
 -- private frames have no page of the store
 pub private-none : (state : Reach) → IsSound state → (frame : ℕ) → frame < private_frames state.directory.page → page_at state.pool frame ≡ None
-private-none state sound frame low = by_page (page_at state.pool frame) refl
-  where
-    by_page : (o : Option ℕ) → page_at state.pool frame ≡ o → page_at state.pool frame ≡ None
-    by_page None is = is
-    by_page (Some page) is = absurd (omega (arith, low, (frame-below state sound page frame is).0))
+private-none state sound frame low = grind (arith, nat_tests)
 
 pub low-frame : (state : Reach) → IsSound state → (spot : ℕ) → spot < 262144 → page_at state.pool (spot / page_bytes state.directory.page) ≡ None
-low-frame state sound spot low =
-    private-none state sound (spot / page_bytes state.directory.page)
-    (page-less state.directory.page spot (private_frames state.directory.page) (omega (arith, low, private-whole state.directory.page)))
+low-frame state sound spot low = grind (arith, nat_tests)
 
 -- marks of the page in a frame
 pub marked-of_pages : (pool : Pool) (frame : ℕ) (lines : List ℕ) → AreOfPages pool.marked → AreOfPages (marked_in pool frame lines).marked
-marked-of_pages pool frame lines all = by_page (page_at pool frame)
-  where
-    by_page : (o : Option ℕ) → AreOfPages (option_map_or (λ page. with_marks pool page lines) o pool).marked
-    by_page None = all
-    by_page (Some page) = marks-set pool.marked page (union (marks_at pool page) lines) all (of_page-where _)
+marked-of_pages pool frame lines all = grind (arith, nat_tests, marks-set, of_page-where)
 
 -- bytes that are written over those of the frame that the table found
 module _ (state : Reach) (sound : IsSound state) (at : Virtual) (bytes : List ℕ) (some : 0 < length bytes) (lies : Lies state at (length bytes)) (within : at.byte + length bytes ≤ page_bytes state.directory.page)
@@ -91,133 +78,18 @@ module _ (state : Reach) (sound : IsSound state) (at : Virtual) (bytes : List �
 -- bytes behind others, put after them
 module _ (state : Reach) (sound : IsSound state) (place : Located) (first second : List ℕ) (some : 0 < length first) (more : 0 < length second) where
   put-twice : (place k old : ℕ) → put_byte second (place + length first) k (put_byte first place k old) ≡ put_byte (first ++ second) place k old
-  put-twice place k old = elim (cases_lt k place) [
-    | inl low ↦
-        put-outside second (place + length first) k (put_byte first place k old) (λ above below. absurd (omega (arith, low, above)))
-        ∙ put-outside first place k old (λ above below. absurd (omega (arith, low, above)))
-        ∙ sym (put-outside (first ++ second) place k old (λ above below. absurd (omega (arith, low, above))))
-    | inr high ↦
-        elim (cases_lt k (place + length first)) [
-          | inl inside ↦
-              put-outside second (place + length first) k (put_byte first place k old) (λ above below. absurd (omega (arith, inside, above)))
-              ∙ put-inside first place k old high inside
-              ∙ sym (get_or_append_left first second 0 (k - place) (omega (arith, high, inside)))
-              ∙ sym (put-inside (first ++ second) place k old high (omega (arith, inside, length-append first second)))
-          | inr past ↦
-              elim (cases_lt k (place + length first + length second)) [
-                | inl within ↦
-                    let back : k - place - length first ≡ k - (place + length first) = omega arith in
-                    put-inside second (place + length first) k (put_byte first place k old) past within
-                    ∙ ap (slice_index second) (sym back)
-                    ∙ sym (get_or-append_right first second (length first) (k - place) 0 refl (omega (arith, past)))
-                    ∙ sym (put-inside (first ++ second) place k old high (omega (arith, within, length-append first second)))
-                | inr beyond ↦
-                    put-outside second (place + length first) k (put_byte first place k old) (λ above below. absurd (omega (arith, beyond, below)))
-                    ∙ put-outside first place k old (λ above below. absurd (omega (arith, past, below)))
-                    ∙ sym (put-outside (first ++ second) place k old (λ above below. absurd (omega (arith, beyond, below, length-append first second))))
-              ]
-        ]
-  ]
+  put-twice place k old = grind (arith, nat_tests, put-outside, put-inside, get_or_append_left, length-append, get_or-append_right)
 
   spots-twice : (p : ℕ) → (put_in_store state.directory (put_in_store state.directory state.pool p first) (p + length first) second).bytes ≡ (put_in_store state.directory state.pool p (first ++ second)).bytes
-  spots-twice p =
-      same_number_lists (put_in_store state.directory (put_in_store state.directory state.pool p first) (p + length first) second).bytes (put_in_store state.directory state.pool p (first ++ second)).bytes
-      (long ∙ sym whole) (λ k below. element k (omega (arith, below, long)))
-    where
-      middle : length (put_in_store state.directory state.pool p first).bytes ≡ length state.pool.bytes
-      middle = length-map-range_with_len (spot_put state.directory state.pool p first) 0 (length state.pool.bytes)
-
-      long : length (put_in_store state.directory (put_in_store state.directory state.pool p first) (p + length first) second).bytes ≡ length state.pool.bytes
-      long = length-map-range_with_len (spot_put state.directory (put_in_store state.directory state.pool p first) (p + length first) second) 0 (length (put_in_store state.directory state.pool p first).bytes) ∙ middle
-
-      whole : length (put_in_store state.directory state.pool p (first ++ second)).bytes ≡ length state.pool.bytes
-      whole = length-map-range_with_len (spot_put state.directory state.pool p (first ++ second)) 0 (length state.pool.bytes)
-
-      one : (k : ℕ) → k < length state.pool.bytes → slice_index (put_in_store state.directory state.pool p first).bytes k ≡ spot_put state.directory state.pool p first k
-      one k below = get_or-map-range_with_len (spot_put state.directory state.pool p first) 0 (length state.pool.bytes) k k 0 below (omega arith)
-
-      element : (k : ℕ) → k < length state.pool.bytes
-          → slice_index (put_in_store state.directory (put_in_store state.directory state.pool p first) (p + length first) second).bytes k ≡ slice_index (put_in_store state.directory state.pool p (first ++ second)).bytes k
-      element k below =
-          get_or-map-range_with_len (spot_put state.directory (put_in_store state.directory state.pool p first) (p + length first) second) 0 (length (put_in_store state.directory state.pool p first).bytes) k k 0 (omega (arith, below, middle)) (omega arith)
-          ∙ ap (λ n. option_map_or (λ page. put_byte second (p + length first) (page * page_bytes state.directory.page + k % page_bytes state.directory.page) n) (page_at state.pool (k / page_bytes state.directory.page)) n) (one k below)
-          ∙ by_page (page_at state.pool (k / page_bytes state.directory.page))
-          ∙ sym (get_or-map-range_with_len (spot_put state.directory state.pool p (first ++ second)) 0 (length state.pool.bytes) k k 0 below (omega arith))
-        where
-          by_page : (o : Option ℕ)
-              → option_map_or (λ page. put_byte second (p + length first) (page * page_bytes state.directory.page + k % page_bytes state.directory.page)
-              (option_map_or (λ page. put_byte first p (page * page_bytes state.directory.page + k % page_bytes state.directory.page) (slice_index state.pool.bytes k)) o (slice_index state.pool.bytes k))) o
-              (option_map_or (λ page. put_byte first p (page * page_bytes state.directory.page + k % page_bytes state.directory.page) (slice_index state.pool.bytes k)) o (slice_index state.pool.bytes k))
-              ≡ option_map_or (λ page. put_byte (first ++ second) p (page * page_bytes state.directory.page + k % page_bytes state.directory.page) (slice_index state.pool.bytes k)) o (slice_index state.pool.bytes k)
-          by_page None = refl
-          by_page (Some page) = put-twice p (page * page_bytes state.directory.page + k % page_bytes state.directory.page) (slice_index state.pool.bytes k)
+  spots-twice p = grind (arith, nat_tests, same_number_lists, length-map-range_with_len, get_or-map-range_with_len, put-twice)
 
   -- the lines of both
   lines-twice : (p line : ℕ) → (has (lines_at state.directory (Shared p) (length first)) line || has (lines_at state.directory (Shared (p + length first)) (length second)) line)
       ≡ has (lines_at state.directory (Shared p) (length (first ++ second))) line
-  lines-twice p line =
-      ap (λ (b : Bool). b || has (lines_at state.directory (Shared (p + length first)) (length second)) line) (has-lines state.directory p (length first) line some)
-      ∙ ap (λ (b : Bool). (nat_le (line_of state.directory p) line && nat_le line (line_of state.directory (p + length first - 1))) || b) (has-lines state.directory (p + length first) (length second) line more)
-      ∙ tests
-      ∙ sym (has-lines state.directory p (length (first ++ second)) line (omega (arith, some, length-append first second)) ∙ ap (λ n. nat_le (line_of state.directory p) line && nat_le line (line_of state.directory (p + n - 1))) (length-append first second))
-    where
-      tests : ((nat_le (line_of state.directory p) line && nat_le line (line_of state.directory (p + length first - 1))) || (nat_le (line_of state.directory (p + length first)) line && nat_le line (line_of state.directory (p + length first + length second - 1))))
-          ≡ (nat_le (line_of state.directory p) line && nat_le line (line_of state.directory (p + (length first + length second) - 1)))
-      tests =
-          let last : p + length first + length second - 1 ≡ p + (length first + length second) - 1 = omega arith in
-          let on : p + length first - 1 + 1 ≡ p + length first = omega (arith, some) in
-          let a : line_of state.directory p ≤ line_of state.directory (p + length first) = line-order state.directory.page p (p + length first) (omega arith) in
-          let b : line_of state.directory (p + length first) ≤ line_of state.directory (p + length first - 1) + 1 =
-          subst (λ n. n / line_bytes state.directory.page ≤ line_of state.directory (p + length first - 1) + 1) on (line-next state.directory.page (p + length first - 1)) in
-          let c : line_of state.directory (p + length first - 1) ≤ line_of state.directory (p + (length first + length second) - 1) =
-          line-order state.directory.page (p + length first - 1) (p + (length first + length second) - 1) (omega (arith, more)) in
-          ap (λ n. (nat_le (line_of state.directory p) line && nat_le line (line_of state.directory (p + length first - 1))) || (nat_le (line_of state.directory (p + length first)) line && nat_le line (line_of state.directory n))) last
-          ∙ joined (line_of state.directory p) (line_of state.directory (p + length first - 1)) (line_of state.directory (p + length first)) (line_of state.directory (p + (length first + length second) - 1)) line a b c
-        where
-          joined : (low mid next high line : ℕ) → low ≤ next → next ≤ mid + 1 → mid ≤ high
-              → ((nat_le low line && nat_le line mid) || (nat_le next line && nat_le line high)) ≡ (nat_le low line && nat_le line high)
-          joined low mid next high line a b c = grind (arith, nat_tests, a, b, c)
+  lines-twice p line = grind (arith, nat_tests, has-lines, length-append, line-order, line-next)
 
   marks-twice : (p : ℕ) → (put_in_store state.directory (put_in_store state.directory state.pool p first) (p + length first) second).marked ≡ (put_in_store state.directory state.pool p (first ++ second)).marked
-  marks-twice p =
-      same_lists (put_in_store state.directory (put_in_store state.directory state.pool p first) (p + length first) second).marked (put_in_store state.directory state.pool p (first ++ second)).marked
-      (long ∙ sym whole) (λ k e below. element k e (omega (arith, below, long)))
-    where
-      middle : length (put_in_store state.directory state.pool p first).marked ≡ length state.pool.marked
-      middle = length-map-range_with_len (marks_put state.directory state.pool p (length first)) 0 (length state.pool.marked)
-
-      long : length (put_in_store state.directory (put_in_store state.directory state.pool p first) (p + length first) second).marked ≡ length state.pool.marked
-      long = length-map-range_with_len (marks_put state.directory (put_in_store state.directory state.pool p first) (p + length first) (length second)) 0 (length (put_in_store state.directory state.pool p first).marked) ∙ middle
-
-      whole : length (put_in_store state.directory state.pool p (first ++ second)).marked ≡ length state.pool.marked
-      whole = length-map-range_with_len (marks_put state.directory state.pool p (length (first ++ second))) 0 (length state.pool.marked)
-
-      among : (k x n q : ℕ) → x < 16 → has (lines_where (λ y. has (lines_at state.directory (Shared q) n) (k * 16 + y))) x ≡ has (lines_at state.directory (Shared q) n) (k * 16 + x)
-      among k x n q few = is_in_where-below (λ y. has (lines_at state.directory (Shared q) n) (k * 16 + y)) x few
-
-      three : (a b c : Bool) → ((a || b) || c) ≡ (a || (b || c))
-      three true b c = refl
-      three false b c = refl
-
-      element : (k : ℕ) (e : List ℕ) → k < length state.pool.marked
-          → get_or (put_in_store state.directory (put_in_store state.directory state.pool p first) (p + length first) second).marked k e ≡ get_or (put_in_store state.directory state.pool p (first ++ second)).marked k e
-      element k e below =
-          get_or-map-range_with_len (marks_put state.directory (put_in_store state.directory state.pool p first) (p + length first) (length second)) 0 (length (put_in_store state.directory state.pool p first).marked) k k e (omega (arith, below, middle)) (omega arith)
-          ∙ ap (λ (set : List ℕ). union set (lines_where (λ line. has (lines_at state.directory (Shared (p + length first)) (length second)) (k * 16 + line))))
-          (get_or-map-range_with_len (marks_put state.directory state.pool p (length first)) 0 (length state.pool.marked) k k [] below (omega arith))
-          ∙ where-alike
-          (λ x. has (marks_put state.directory state.pool p (length first) k) x || has (lines_where (λ line. has (lines_at state.directory (Shared (p + length first)) (length second)) (k * 16 + line))) x)
-          (λ x. has (marks_at state.pool k) x || has (lines_where (λ line. has (lines_at state.directory (Shared p) (length (first ++ second))) (k * 16 + line))) x)
-          (λ x few.
-          ap (λ (b : Bool). b || has (lines_where (λ line. has (lines_at state.directory (Shared (p + length first)) (length second)) (k * 16 + line))) x)
-          (is_in_where-below (λ y. has (marks_at state.pool k) y || has (lines_where (λ line. has (lines_at state.directory (Shared p) (length first)) (k * 16 + line))) y) x few)
-          ∙ three (has (marks_at state.pool k) x) (has (lines_where (λ line. has (lines_at state.directory (Shared p) (length first)) (k * 16 + line))) x)
-          (has (lines_where (λ line. has (lines_at state.directory (Shared (p + length first)) (length second)) (k * 16 + line))) x)
-          ∙ ap (λ (b : Bool). has (marks_at state.pool k) x || (b || has (lines_where (λ line. has (lines_at state.directory (Shared (p + length first)) (length second)) (k * 16 + line))) x)) (among k x (length first) p few)
-          ∙ ap (λ (b : Bool). has (marks_at state.pool k) x || (has (lines_at state.directory (Shared p) (length first)) (k * 16 + x) || b)) (among k x (length second) (p + length first) few)
-          ∙ ap (λ (b : Bool). has (marks_at state.pool k) x || b) (lines-twice p (k * 16 + x))
-          ∙ ap (λ (b : Bool). has (marks_at state.pool k) x || b) (sym (among k x (length (first ++ second)) p few)))
-          ∙ sym (get_or-map-range_with_len (marks_put state.directory state.pool p (length (first ++ second))) 0 (length state.pool.marked) k k e below (omega arith))
+  marks-twice p = grind (arith, nat_tests, same_lists, length-map-range_with_len, is_in_where-below, get_or, get_or-map-range_with_len, where-alike, lines-twice)
 
   pub put-then : ((a : ℕ) → place ≡ Private a → (state.runner - 1) * 16384 + a + length first + length second ≤ length state.pool.bytes)
       → put_at (put_at state place first) (on place (length first)) second ≡ put_at state place (first ++ second)

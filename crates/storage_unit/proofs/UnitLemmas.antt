@@ -3,16 +3,7 @@ use Rattle.storage_unit.proofs.Common.{◌≡◌, ℕ, zero, suc, ◌<◌, true,
 
 -- its state is sound
 pub unit-sound : (unit : Unit) → IsSound (reach_of unit)
-unit-sound unit = record {
-  sixteen = unit.sixteen;
-  legal = unit.legal;
-  seen = pool-seen unit.pool;
-  size = unit.pool_size;
-  pages = unit.pages;
-  entries = unit.entries;
-  marks = unit.marks;
-  selected = unit.selected;
-}
+unit-sound unit = grind (arith, nat_tests, pool-seen)
 
 -- so its pool is one of its store
 pub sound-fits : (state : Reach) → IsSound state → Fits state.directory state.pool

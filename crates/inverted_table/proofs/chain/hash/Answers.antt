@@ -1,3 +1,4 @@
+use Rattle.std.proofs.lemmas.Grind.{common_steps}
 use Rattle.std.proofs.lemmas.Bool.Decides.{nat_tests}
 use Rattle.inverted_table.proofs.Common.{arith}
 use Rattle.std.proofs.lemmas.Nat.{and_mask}
@@ -5,3 +6,6 @@ use Rattle.inverted_table.proofs.chain.hash.Goals as goal
 
 pub returns-clause-value : goal.returns-clause-value
 returns-clause-value c = grind (arith, nat_tests, and_mask)
+
+pub overflow_cast-result : goal.overflow_cast-result
+overflow_cast-result c = grind (arith, common_steps)

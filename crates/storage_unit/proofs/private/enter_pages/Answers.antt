@@ -1,21 +1,17 @@
-use Rattle.storage_unit.proofs.Common.{◌≡◌, ℕ, ◌+◌, ◌≤◌, ◌<◌, List, length, sym, ◌∙◌, ap, subst, arith, Option, None, overlaid, length-overlaid, IsOfTable, of_table-entered, Key, key_to, Placed, key_in, look_up, entered, first_keys}
+use Rattle.std.proofs.lemmas.Grind.{common_steps}
+use Rattle.storage_unit.proofs.Common.{◌≡◌, ℕ, ◌+◌, ◌≤◌, ◌<◌, List, length, sym, ◌∙◌, ap, subst, arith, Option, None, overlaid, length-overlaid, IsOfTable, of_table-entered, Key, key_to, Placed, key_in, look_up, entered, first_keys, nat_tests}
 use Rattle.storage_unit.proofs.PrivateLemmas.{first-long, keys-more, next-free, next-absent}
 use Rattle.storage_unit.proofs.private.enter_pages.Goals as goal
 
 module _ (old now : Placed) (first segment all index : ℕ) (so_far : now ≡ record old { keys = overlaid old.keys first (first_keys segment index) }) (room : first + all ≤ length old.keys) (few : index < all) where
   long : length now.keys ≡ length old.keys
-  long =
-      ap (λ (t : Placed). length t.keys) so_far
-      ∙ length-overlaid old.keys first (first_keys segment index) (omega (arith, room, few, first-long segment index))
+  long = grind (arith, nat_tests, length-overlaid, first-long)
 
   free : ((k : ℕ) → k < all → key_in old.keys (first + k) ≡ None) → key_in now.keys (first + index) ≡ None
   free each = ap (λ (t : Placed). key_in t.keys (first + index)) so_far ∙ next-free old.keys first segment all index room few each
 
   absent : (page : ℕ) → page ≡ index → look_up old.keys (key_to segment index) ≡ None → look_up now.keys (key_to segment page) ≡ None
-  absent page is none =
-      ap (λ n. look_up now.keys (key_to segment n)) is
-      ∙ ap (λ (t : Placed). look_up t.keys (key_to segment index)) so_far
-      ∙ next-absent old.keys first segment all index room few none
+  absent page is none = grind (arith, nat_tests, next-absent)
 
 pub enter-requires-clause-free : goal.enter-requires-clause-free
 enter-requires-clause-free c = free c.args.table.now c.loop-index.table c.args.first c.args.segment c.args.count c.loop-index.index c.loop-index.invariant.table c.requires.room c.loop-index-test.true c.requires.free
@@ -43,3 +39,9 @@ loop-index-preserved c =
           (c.requires.absent c.loop-index.index c.loop-index-test.true))
           (c.loop-index.invariant.of_table classes all));
     }
+
+pub enter-requires-clause-frame : goal.enter-requires-clause-frame
+enter-requires-clause-frame c = grind (arith, common_steps)
+
+pub loop-index-init : goal.loop-index-init
+loop-index-init c = grind (arith, common_steps)

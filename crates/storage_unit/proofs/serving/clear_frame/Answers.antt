@@ -1,3 +1,5 @@
+use Rattle.std.proofs.Common.{arith}
+use Rattle.std.proofs.lemmas.Grind.{common_steps}
 use Rattle.storage_unit.proofs.Common.{sym, subst, List, Placed, Pair, IsOfTable, forgotten, of_table-left}
 use Rattle.storage_unit.proofs.serving.clear_frame.Goals as goal
 
@@ -9,3 +11,6 @@ returns-in-Some-clause-of_table c =
     subst (λ (classes : List (List Pair)). IsOfTable classes c.leave.new.self.keys) (sym c.forget_page.ensures)
     (subst (λ (table : Placed). IsOfTable (forgotten c.args.buffer.now c.args.frame) table.keys) (sym c.leave.ensures)
     (of_table-left c.args.buffer.now c.args.table.now.keys c.args.frame c.requires.room c.requires.of_table))
+
+pub returns-in_default-clause-table : goal.returns-in_default-clause-table
+returns-in_default-clause-table c = grind (arith, common_steps)

@@ -1,13 +1,13 @@
-use Rattle.storage_unit.proofs.Common.{length, take, ap, arith, Placed, pool_of}
+use Rattle.std.proofs.lemmas.Grind.{common_steps}
+use Rattle.storage_unit.proofs.Common.{take, arith, nat_tests}
 use Rattle.storage_unit.proofs.StateLemmas.{fold-long}
 use Rattle.storage_unit.proofs.serving.leave_all.Goals as goal
 
 pub leave-requires : goal.leave-requires
-leave-requires c =
-    omega (
-      arith,
-      c.in-Some.ensures.below,
-      c.requires,
-      ap (λ (t : Placed). length t.keys) c.loop-page.invariant,
-      fold-long (pool_of c.args.pool.now) (take c.loop-page.page-index c.resident-page-items.result.now) c.args.table.now.keys,
-    )
+leave-requires c = grind (arith, nat_tests, fold-long, take)
+
+pub loop-page-preserved : goal.loop-page-preserved
+loop-page-preserved c = grind (arith, common_steps)
+
+pub returns : goal.returns
+returns c = grind (arith, common_steps)

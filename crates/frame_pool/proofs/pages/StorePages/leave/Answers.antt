@@ -6,13 +6,13 @@ use Rattle.frame_pool.proofs.PlaceLemmas.{Leaves, leaves, read_frame, pushed}
 use Rattle.frame_pool.proofs.pages.StorePages.leave.Goals as goal
 
 pub index-requires : goal.index-requires
-index-requires c = grind (arith, nat_tests, Leaves, leaves)
+index-requires c = grind (arith, nat_tests, leaves)
 
 pub index_mut-requires : goal.index_mut-requires
-index_mut-requires c = grind (arith, nat_tests, Leaves, leaves)
+index_mut-requires c = grind (arith, nat_tests, leaves)
 
 pub index_mut-requires-2 : goal.index_mut-requires-2
-index_mut-requires-2 c = grind (arith, nat_tests, Leaves, leaves, read_frame)
+index_mut-requires-2 c = grind (arith, nat_tests, leaves, read_frame)
 
 pub invariant_of-self-clause-sound : goal.invariant_of-self-clause-sound
 invariant_of-self-clause-sound c =

@@ -3,7 +3,7 @@ use Rattle.frame_pool.proofs.PoolLemmas.{lines-below}
 use Rattle.frame_pool.proofs.pool.FramePool.lay_lines.Goals as goal
 
 pub loop-line-init : goal.loop-line-init
-loop-line-init c = grind (arith, nat_tests, List ℕ, lines-below c.args.lines c.lines-line-items.ensures.of_page)
+loop-line-init c = grind (arith, nat_tests, lines-below c.args.lines c.lines-line-items.ensures.of_page)
 
 pub lay_line-requires-clause-frame : goal.lay_line-requires-clause-frame
 lay_line-requires-clause-frame c =

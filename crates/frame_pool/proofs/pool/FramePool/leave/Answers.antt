@@ -1,18 +1,18 @@
 use Rattle.std.proofs.lemmas.Grind.{common_steps}
-use Rattle.frame_pool.proofs.Common.{◌≡◌, ℕ, ◌+◌, ◌*◌, sym, ◌∙◌, ap, arith, vec_len, slice_range, slice_index, unwrap_or, Option, get_or_read_under, page_bytes, left, frame_of_index, places_of, frame_at, gone, paging_after, pool_of, nat_tests}
+use Rattle.frame_pool.proofs.Common.{◌≡◌, ℕ, ◌+◌, ◌*◌, sym, ◌∙◌, ap, arith, slice_range, slice_index, unwrap_or, Option, get_or_read_under, page_bytes, left, frame_of_index, places_of, frame_at, gone, paging_after, pool_of, nat_tests}
 use Rattle.frame_pool.proofs.PoolLemmas.{frame-at_index, frame-within, frame-part, kept-after_by, left-gone}
 use Rattle.frame_pool.proofs.pool.FramePool.leave.Goals.{After-unwrap_or-frame}
 use Rattle.frame_pool.proofs.pool.FramePool.leave.Goals as goal
 
 -- the page at this place, and its frame
 page_is : (c : After-unwrap_or-frame) → c.index-page.result.now ≡ slice_index c.args.self.now.places.resident.items c.args.index
-page_is c = grind (arith, nat_tests, get_or_read_under, vec_len)
+page_is c = grind (arith, nat_tests, get_or_read_under)
 
 frame_is : (c : After-unwrap_or-frame) → c.unwrap_or-frame.result ≡ unwrap_or (frame_at (pool_of c.args.self.now) c.index-page.result.now) 0
 frame_is c = c.unwrap_or-frame.ensures ∙ ap (λ (o : Option ℕ). unwrap_or o 0) c.frame_of.ensures
 
 pub part-requires : goal.part-requires
-part-requires c = grind (arith, nat_tests, ℕ, frame-at_index, page_is, frame_is, frame-part, frame-within)
+part-requires c = grind (arith, nat_tests, frame-at_index, page_is, frame_is, frame-part, frame-within)
 
 pub returns-clause-value : goal.returns-clause-value
 returns-clause-value c =

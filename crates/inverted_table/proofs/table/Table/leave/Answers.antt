@@ -1,3 +1,4 @@
+use Rattle.std.proofs.lemmas.Grind.{common_steps}
 use Rattle.std.proofs.lemmas.Bool.Decides.{nat_tests}
 use Rattle.inverted_table.proofs.Common.{◌≡◌, ℕ, ◌<◌, List, length, sym, ◌∙◌, ap, arith, vec_len, Some, Option, None, slice_set, get_or_read_under, Placed, key_in, hash_of, following, chain_of, before_in, IsChained, Key}
 use Rattle.inverted_table.proofs.LeaveLemmas.{found-before, before-below, leave-first, leave-behind}
@@ -5,7 +6,7 @@ use Rattle.inverted_table.proofs.table.Table.leave.Goals as goal
 use Rattle.inverted_table.proofs.table.Table.leave.Goals.{in-Some-before, in-None}
 
 pub index_mut-requires : goal.index_mut-requires
-index_mut-requires c = grind (arith, nat_tests, vec_len, get_or_read_under, found-before, before-below)
+index_mut-requires c = grind (arith, nat_tests, get_or_read_under, found-before, before-below)
 
 pub invariant_of-self : goal.invariant_of-self
 invariant_of-self c =
@@ -43,3 +44,6 @@ invariant_of-self c =
           leave-first anchors next keys frame own key c.self.invariant inside holds within is_own before in
           rw (w.self-inside-is, c.from-place.ensures, after) chained
     ]
+
+pub returns-in_default : goal.returns-in_default
+returns-in_default c = grind (arith, common_steps)

@@ -1,3 +1,4 @@
+use Rattle.std.proofs.lemmas.Grind.{common_steps}
 use Rattle.std.proofs.Common.{arith, refl, sym}
 use Rattle.std.proofs.lemmas.Bool.Decides.{nat_tests}
 use Rattle.line_geometry.proofs.Legal.{legal-none, fault-not_legal}
@@ -12,3 +13,6 @@ returns-in-Some-clause-legal c = grind (arith, nat_tests, fault-not_legal)
 
 pub returns-in-None-clause-legal : goal.returns-in-None-clause-legal
 returns-in-None-clause-legal c = (λ ok. legal-none c.args.segments.now (sym c.in-None.ensures), λ legal. refl)
+
+pub returns-in-None-clause-value : goal.returns-in-None-clause-value
+returns-in-None-clause-value c = grind (arith, common_steps)

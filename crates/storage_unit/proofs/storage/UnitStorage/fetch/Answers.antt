@@ -1,3 +1,4 @@
+use Rattle.std.proofs.lemmas.Grind.{common_steps}
 use Rattle.storage_unit.proofs.Common.{◌≡◌, ℕ, ◌+◌, ◌*◌, ◌<◌, ◌≤◌, List, length, true, sym, ◌∙◌, ap, arith, refl, Some, None, nat_le, if◌then◌else◌, slice_index, slice_range, nat_tests, length-take, length-drop, get_or-map-range_with_len, length-map-range_with_len, same_number_lists, bytes_from, halfword_of, Reach, place_at, seat_of, byte_of, byte_at, IsSound, reach_of, pool_of, Unit}
 use Rattle.byteorder.specs.Endian.{big_number}
 use Rattle.storage_unit.proofs.ByteLemmas.{in-range}
@@ -40,6 +41,7 @@ fetched unit address result part some fits copied read =
     ∙ sym (ap (λ b. if b then Some (big_number 2 (bytes_from (byte_at state) address 2)) else None) inside)
 
 pub returns : goal.returns
-returns c =
-    fetched c.args.self.now c.args.address c.read_u16.result c.private_part-bytes.result.now
-    (omega (arith, c.if-self-eq0.false)) (omega (arith, c.if-address-gt16382.false)) c.private_part-bytes.ensures c.read_u16.ensures
+returns c = grind (arith, nat_tests, fetched)
+
+pub read_u16-requires : goal.read_u16-requires
+read_u16-requires c = grind (arith, common_steps)

@@ -1,3 +1,5 @@
+use Rattle.std.proofs.Common.{arith}
+use Rattle.std.proofs.lemmas.Grind.{common_steps}
 use Rattle.storage_unit.proofs.Common.{false, length, sym, ◌∙◌, reach_of}
 use Rattle.storage_unit.proofs.AccessLemmas.{begins}
 use Rattle.storage_unit.proofs.AfterLemmas.{range-shown}
@@ -12,3 +14,6 @@ copy-requires-clause-there c = (begins (reach_of c.args.self.now) (unit-sound c.
 
 pub returns-in-Ok : goal.returns-in-Ok
 returns-in-Ok c = c.copy.ensures ∙ range-shown (reach_of c.args.self.now) (unit-sound c.args.self.now) c.args.address (length c.args.into.now) c.in-Ok.first (begins (reach_of c.args.self.now) (unit-sound c.args.self.now) c.args.address (length c.args.into.now) false c.in-Ok.first c.requires (sym c.locate.ensures ∙ c.in-Ok.is)).under
+
+pub returns-then-is_empty : goal.returns-then-is_empty
+returns-then-is_empty c = grind (arith, common_steps)

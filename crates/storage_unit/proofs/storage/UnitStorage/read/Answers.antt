@@ -1,4 +1,4 @@
-use Rattle.storage_unit.proofs.Common.{List, ℕ, length, refl, sym, ◌∙◌, ap, subst, FitsFrom, place_of, Lies, bytes_shown, reach_of}
+use Rattle.storage_unit.proofs.Common.{List, ℕ, refl, sym, ◌∙◌, ap, subst, place_of, Lies, bytes_shown, reach_of, nat_tests, arith}
 use Rattle.flat_machine.specs.Effect.{filled}
 use Rattle.storage_unit.proofs.CopyLemmas.{shown-long}
 use Rattle.storage_unit.proofs.FoundLemmas.{found-answer, found-bytes, found-lies}
@@ -13,9 +13,7 @@ part_in-part-requires-clause-lies c =
     (found-lies c.args.self.now c.args.wants.now c.from-bytes.result c.locate.result c.in-Ok.first c.from-bytes.ensures c.locate.ensures c.in-Ok.is)
 
 pub fill-requires : goal.fill-requires
-fill-requires c =
-    let state = reach_of c.args.self.now in
-    subst (λ n. FitsFrom n c.args.to) (sym (ap length c.part_in-part.ensures ∙ shown-long state (place_of state.directory c.in-Ok.first) c.from.result ∙ c.from.ensures)) c.requires.fits
+fill-requires c = grind (arith, nat_tests, shown-long)
 
 pub returns-in-Some-clause-answer : goal.returns-in-Some-clause-answer
 returns-in-Some-clause-answer c = found-answer c.args.self.now c.args.wants.now c.from-bytes.result c.locate.result c.in-Ok.first c.from-bytes.ensures c.locate.ensures c.in-Ok.is _ (c.in-Some.ensures.permitted c.args.wants.now refl c.requires.loads)

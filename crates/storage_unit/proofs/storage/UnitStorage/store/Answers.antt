@@ -1,3 +1,5 @@
+use Rattle.std.proofs.Common.{arith}
+use Rattle.std.proofs.lemmas.Grind.{common_steps}
 use Rattle.storage_unit.proofs.Common.{true, length, sym, ◌∙◌, ap, answer_in, bytes_from, Reach, place_of, byte_at, is_in_frame, refuses, reach_of}
 use Rattle.storage_unit.proofs.AccessLemmas.{begins}
 use Rattle.storage_unit.proofs.AfterLemmas.{shows, others-stay, answers-stay}
@@ -29,3 +31,6 @@ returns-in-Ok-clause-answers c = λ access.
     let unit = c.args.self.now in
     ap (λ (s : Reach). answer_in (λ (r : Reach). r.registers) is_in_frame refuses s access) c.put.ensures
     ∙ answers-stay (reach_of unit) (place_of unit.directory c.in-Ok.first) c.args.from.now access
+
+pub returns-then-is_empty-clause-shows : goal.returns-then-is_empty-clause-shows
+returns-then-is_empty-clause-shows c = grind (arith, common_steps)

@@ -1,3 +1,4 @@
+use Rattle.std.proofs.lemmas.Grind.{common_steps}
 use Rattle.storage_unit.proofs.Common.{◌≡◌, ℕ, ◌+◌, ◌≤◌, List, ◌++◌, length, sym, ◌∙◌, ap, subst, arith, Virtual, bytes_on, Located, Reach, place_of, Lies, AreThere, bytes_shown, reach_of}
 use Rattle.storage_unit.proofs.PlaceLemmas.{lies-on, there-on, place-on}
 use Rattle.storage_unit.proofs.CopyLemmas.{shown-split}
@@ -34,3 +35,6 @@ returns-else-into-rest t c =
     joined state c.args.first c.past.result rest (length c.split_at_mut-front.result.1.now) (length c.args.into.now)
     c.copy_part-else-into-rest.new.into c.copy_parts.new.into c.past.ensures (omega (arith, split.back_len, c.if-into-rest.false))
     (c.copy_part-else-into-rest.ensures ∙ ap (bytes_shown state (place_of state.directory c.args.first)) split.front_len) c.copy_parts.ensures
+
+pub copy_part-requires-else-into-rest-clause-lies : goal.copy_part-requires-else-into-rest-clause-lies
+copy_part-requires-else-into-rest-clause-lies t c = grind (arith, common_steps)

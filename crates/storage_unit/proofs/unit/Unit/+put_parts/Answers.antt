@@ -1,3 +1,4 @@
+use Rattle.std.proofs.lemmas.Grind.{common_steps}
 use Rattle.storage_unit.proofs.Common.{◌≡◌, ℕ, ◌+◌, ◌-◌, ◌<◌, ◌≤◌, List, ◌++◌, length, take, drop, sym, ◌∙◌, ap, subst, arith, take_all, length-take, length-drop, length-append, take-append-drop, Virtual, bytes_on, Located, Reach, place_of, on, put_at, IsSound, Lies, AreThere, reach_of}
 use Rattle.storage_unit.proofs.PlaceLemmas.{lies-on, there-on, place-on}
 use Rattle.storage_unit.proofs.AfterLemmas.{private-room, lies-after, there-after, directory-after}
@@ -52,3 +53,6 @@ returns-else-from-rest t c =
     (simp length-take (omega (arith, some, less))) (simp length-drop (omega (arith, less))) (take-append-drop rest from) (simp length-take (omega (arith, less)))
     c.requires.lies c.past-next.ensures c.put_part-else-from-rest.ensures
     (c.put_parts.ensures ∙ ap (put_at (reach_of c.put_part-else-from-rest.new.self) (place_of c.put_part-else-from-rest.new.self.directory c.past-next.result)) (left from rest (omega (arith, less))))
+
+pub put_part-requires-else-from-rest-clause-lies : goal.put_part-requires-else-from-rest-clause-lies
+put_part-requires-else-from-rest-clause-lies t c = grind (arith, common_steps)

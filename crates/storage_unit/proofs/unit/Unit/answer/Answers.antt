@@ -1,4 +1,4 @@
-use Rattle.storage_unit.proofs.Common.{◌≡◌, ℕ, Bool, sym, ◌∙◌, ap, Option, Some, None, range_with_len, Virtual, bytes_on, Access, Fault, Probe, unless_refused_at, unless_absent_at, answered_at, Reach, place_of, on, is_there, is_kept_from, is_in_frame, refuses, reach_of}
+use Rattle.storage_unit.proofs.Common.{◌≡◌, ℕ, Bool, sym, ◌∙◌, ap, Option, Some, None, range_with_len, Virtual, bytes_on, Access, Fault, Probe, unless_refused_at, unless_absent_at, answered_at, Reach, place_of, on, is_there, is_kept_from, is_in_frame, refuses, reach_of, nat_tests, arith}
 use Rattle.std.specs.Prelude.{find, not, option_map, Ok}
 use Rattle.storage_unit.proofs.AnswerLemmas.{answered-by}
 use Rattle.storage_unit.proofs.CopyLemmas.{none-of}
@@ -19,17 +19,11 @@ module _ (state : Reach) (first : Virtual) (bytes : ℕ) (store : Bool) where
 
   page : (past : ℕ) (at : Virtual) → absent ≡ Some past → at ≡ bytes_on state.directory.page first past → (access : Access) → access.bytes ≡ bytes → access.store ≡ store
       → Probe.Fault (Fault.Page at) ≡ answered_at state.directory.page (is_in_frame state) (refuses state) access (Ok first)
-  page past at is named access same stores =
-      ap (λ (v : Virtual). Probe.Fault (Fault.Page v)) named
-      ∙ ap (λ (o : Option ℕ). unless_absent_at (option_map (bytes_on state.directory.page first) o) (option_map (bytes_on state.directory.page first) refused)) (sym is)
-      ∙ by access same stores
+  page past at is named access same stores = grind (arith, nat_tests, by)
 
   rest : (o : Option ℕ) → absent ≡ None → refused ≡ o → (access : Access) → access.bytes ≡ bytes → access.store ≡ store
       → unless_refused_at (option_map (bytes_on state.directory.page first) o) ≡ answered_at state.directory.page (is_in_frame state) (refuses state) access (Ok first)
-  rest o none is access same stores =
-      ap (λ (p : Option ℕ). unless_refused_at (option_map (bytes_on state.directory.page first) p)) (sym is)
-      ∙ ap (λ (p : Option ℕ). unless_absent_at (option_map (bytes_on state.directory.page first) p) (option_map (bytes_on state.directory.page first) refused)) (sym none)
-      ∙ by access same stores
+  rest o none is access same stores = grind (arith, nat_tests, by)
 
 pub returns-in-Some-clause-answer : goal.returns-in-Some-clause-answer
 returns-in-Some-clause-answer c = λ access same stores.

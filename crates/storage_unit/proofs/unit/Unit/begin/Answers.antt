@@ -33,19 +33,7 @@ room : (unit : Unit) → length unit.table.keys ≡ private_frames unit.director
 room unit = ap length unit.held ∙ keys-long unit.directory (pages_begun unit.directory.page unit.begun) (pool_of unit.pool).frames (pool_of unit.pool).page_in
 
 pub enter_pages-requires : goal.enter_pages-requires
-enter_pages-requires c =
-    let unit = c.args.self.now in
-    let seat = c.args.seat in
-    let page = unit.directory.page in
-    let first : c.first_frame.result ≡ seat * seat_pages page = c.first_frame.ensures.value ∙ ap (λ s. seat * seat_pages s) c.page-page.ensures in
-    let count : c.seat_pages.result ≡ seat_pages page = c.seat_pages.ensures.value ∙ ap seat_pages c.page-page.ensures in
-    record {
-      few = c.first_frame.ensures.few;
-      pages = c.seat_pages.ensures.few;
-      room = omega (arith, first, count, seat-room page seat c.requires.seat, room unit);
-      free = λ index small. ap (λ n. key_in unit.table.keys (n + index)) first ∙ free unit seat index c.requires.seat (omega (arith, small, count)) c.requires.fresh;
-      absent = λ index small. ap (λ n. look_up unit.table.keys (key_to (3840 + n) index)) c.from.ensures ∙ absent unit seat index c.requires.seat (omega (arith, small, count)) c.requires.fresh;
-    }
+enter_pages-requires c = grind (arith, nat_tests, room, seat-room, free, absent)
 
 -- the private bytes of the seat, filled
 lent-long : (unit : Unit) (seat : ℕ) → seat < 16 → length (slice_range (pool_of unit.pool).bytes (seat * 16384) (seat * 16384 + 16384)) ≡ 16384
@@ -115,12 +103,4 @@ invariant_of-self c =
     }
 
 pub returns : goal.returns
-returns c =
-    let unit = c.args.self.now in
-    let old = reach_of unit in
-    let image : List ℕ = c.args.image.now ++ replicate (16384 - length c.args.image.now) 0 in
-    let pool : pool_of (with_frame_part unit.pool (c.args.seat * 16384) c.lay_image.new.bytes) ≡ with_bytes old.pool (c.args.seat * 16384) image =
-    filled unit c.args.seat c.args.image.now c.private_mut.result.now c.lay_image.new.bytes c.requires.seat c.requires.image c.private_mut.ensures.value c.lay_image.ensures in
-    let entries : c.enter_pages.new.table.entries ≡ old.entries = ap (λ (t : Placed). t.entries) c.enter_pages.ensures.table in
-    let begun : slice_set unit.begun c.from-2.result true ≡ slice_set unit.begun c.args.seat true = ap (λ n. slice_set unit.begun n true) c.from-2.ensures in
-    λ i. record { pool = pool i; entries = entries i; begun = begun i; directory = old.directory; registers = old.registers; runner = old.runner }
+returns c = grind (arith, nat_tests, replicate, filled)

@@ -1,4 +1,4 @@
-use Rattle.storage_unit.proofs.Common.{◌≡◌, ℕ, ◌<◌, ◌≤◌, false, List, length, sym, ◌∙◌, ap, subst, arith, Option, Some, None, slice_set, option_and_then, option_map, option_map_or, Key, Placed, key_in, look_up, without_frame, IsOfTable, of_table-entered, Pool, private_frames, frame_count, frame_at, page_out, with_room, Brought, IsSeen, has, page_count, length-set, pool_of, pool-seen, Stays, Unit, key_among, key_of_page, keys_of, pages_begun, AreOfPages}
+use Rattle.storage_unit.proofs.Common.{◌≡◌, ℕ, ◌<◌, ◌≤◌, false, List, length, sym, ◌∙◌, ap, subst, arith, Option, Some, None, slice_set, option_and_then, option_map_or, Key, Placed, key_in, look_up, without_frame, IsOfTable, of_table-entered, Pool, private_frames, frame_count, frame_at, page_out, with_room, Brought, IsSeen, has, page_count, length-set, pool_of, pool-seen, Stays, Unit, key_among, key_of_page, keys_of, pages_begun, AreOfPages, nat_tests}
 use Rattle.storage_unit.proofs.HeldLemmas.{key-at, keys-long, held-store, finds-page, keys-store}
 use Rattle.storage_unit.proofs.StateLemmas.{frames-held, room-stays, room-none, absent-frame, keys-room, without-keys, without-entries}
 use Rattle.storage_unit.proofs.unit.Unit.bring.Goals as goal
@@ -36,10 +36,7 @@ module _ (unit : Unit) (page : ℕ) (keep : Option ℕ) where
     below = omega (arith, subst (λ s. frame < frame_count s (pool_of unit.pool).frames) unit.pool_size came.below, stays.frames)
 
     free : key_in (keys_of unit.directory unit.begun room.frames room.page_in) frame ≡ None
-    free =
-        key-at unit.directory (pages_begun unit.directory.page unit.begun) room.frames room.page_in frame below
-        ∙ held-store unit.directory (pages_begun unit.directory.page unit.begun) room.page_in frame above
-        ∙ ap (λ (o : Option ℕ). option_map (key_of_page unit.directory) o) came.free
+    free = grind (arith, nat_tests, key-at unit.directory (pages_begun unit.directory.page unit.begun) room.frames room.page_in frame below, held-store unit.directory (pages_begun unit.directory.page unit.begun) room.page_in frame above)
 
     unfound : look_up (keys_of unit.directory unit.begun room.frames room.page_in) (key_of_page unit.directory page) ≡ None
     unfound =

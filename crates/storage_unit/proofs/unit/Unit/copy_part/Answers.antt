@@ -1,12 +1,11 @@
-use Rattle.storage_unit.proofs.Common.{◌≡◌, ℕ, length, sym, ◌∙◌, ap, refl, Option, Some, None, place_of, reach_of}
+use Rattle.std.proofs.lemmas.Grind.{common_steps}
+use Rattle.storage_unit.proofs.Common.{◌≡◌, ℕ, length, sym, ◌∙◌, refl, Option, Some, None, reach_of, nat_tests, arith}
 use Rattle.storage_unit.proofs.CopyLemmas.{found-some, shown-long}
 use Rattle.storage_unit.proofs.UnitLemmas.{unit-sound}
 use Rattle.storage_unit.proofs.unit.Unit.copy_part.Goals as goal
 
 pub copy_from_slice-requires : goal.copy_from_slice-requires
-copy_from_slice-requires c =
-    let unit = c.args.self.now in
-    sym (ap length c.part_in.ensures ∙ shown-long (reach_of unit) (place_of unit.directory c.args.first) (length c.args.into.now))
+copy_from_slice-requires c = grind (arith, nat_tests, shown-long)
 
 pub returns-in_default : goal.returns-in_default
 returns-in_default c =
@@ -17,3 +16,6 @@ returns-in_default c =
     none-of : (o : Option ℕ) → ((n : ℕ) → o ≡ Some n → ⊥) → o ≡ None
     none-of None some = refl
     none-of (Some n) some = absurd (some n refl)
+
+pub frame_at-requires : goal.frame_at-requires
+frame_at-requires c = grind (arith, common_steps)

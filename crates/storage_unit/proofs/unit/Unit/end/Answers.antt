@@ -1,13 +1,11 @@
-use Rattle.storage_unit.proofs.Common.{◌≡◌, ◌≢◌, ℕ, ◌*◌, ◌<◌, false, List, length, sym, ◌∙◌, ap, arith, Option, None, replicate, slice_set, length-replicate, get_or-set_other, length-set, overlaid, Key, Placed, Registers, pool_of, Unit, seat_pages, keys_of, pages_begun}
+use Rattle.storage_unit.proofs.Common.{◌≡◌, ◌≢◌, ℕ, ◌*◌, ◌<◌, false, List, length, sym, ◌∙◌, ap, arith, Option, None, replicate, slice_set, length-replicate, get_or-set_other, length-set, overlaid, Key, Placed, Registers, pool_of, Unit, seat_pages, keys_of, pages_begun, nat_tests}
 use Rattle.storage_unit.proofs.SizeLemmas.{seat-room}
 use Rattle.storage_unit.proofs.HeldLemmas.{keys-long, keys-seat}
 use Rattle.storage_unit.proofs.PrivateLemmas.{begun-other, holds-none}
 use Rattle.storage_unit.proofs.unit.Unit.end.Goals as goal
 
 pub leave_pages-requires-clause-room : goal.leave_pages-requires-clause-room
-leave_pages-requires-clause-room c =
-    let unit = c.args.self.now in
-    omega (arith, c.first_frame.ensures.value, c.seat_pages.ensures.value, ap (λ s. c.args.seat * seat_pages s) c.page-page.ensures, ap seat_pages c.page-page.ensures, seat-room unit.directory.page c.args.seat c.requires, ap length unit.held, keys-long unit.directory (pages_begun unit.directory.page unit.begun) (pool_of unit.pool).frames (pool_of unit.pool).page_in)
+leave_pages-requires-clause-room c = grind (arith, nat_tests, seat-room, keys-long)
 
 held : (unit : Unit) (seat at count set : ℕ) (keys : List (Option Key)) → seat < 16 → at ≡ seat * seat_pages unit.directory.page → count ≡ seat_pages unit.directory.page → set ≡ seat
     → keys ≡ overlaid unit.table.keys at (replicate count None)

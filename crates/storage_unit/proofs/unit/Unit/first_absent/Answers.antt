@@ -1,4 +1,4 @@
-use Rattle.storage_unit.proofs.Common.{◌≡◌, sym, ◌∙◌, ap, arith, bytes_on, Reach, is_absent, reach_of}
+use Rattle.storage_unit.proofs.Common.{◌≡◌, sym, ◌∙◌, arith, bytes_on, is_absent, reach_of, nat_tests}
 use Rattle.storage_unit.proofs.ProbeLemmas.{absent-first, none-absent, absent-next, none-next}
 use Rattle.storage_unit.proofs.UnitLemmas.{unit-sound}
 use Rattle.storage_unit.proofs.unit.Unit.first_absent.Goals.{After-is_absent-2}
@@ -13,10 +13,7 @@ returns-then-from-rest-clause-value c =
 
 -- whether the page behind the first is in no frame
 past_is : (c : After-is_absent-2) → is_absent (reach_of c.args.self.now) (bytes_on c.args.self.now.directory.page c.args.first c.rest-rest.result) ≡ c.is_absent-2.result
-past_is c =
-    ap (is_absent (reach_of c.args.self.now)) (sym (c.past.ensures ∙ ap (λ (state : Reach). bytes_on state.directory.page c.args.first c.rest-rest.result) c.is_absent.ensures.state))
-    ∙ ap (λ (state : Reach). is_absent state c.past.result) (sym c.is_absent.ensures.state)
-    ∙ sym c.is_absent-2.ensures.value
+past_is c = grind (arith, nat_tests)
 
 pub returns-then-is_absent-2-clause-value : goal.returns-then-is_absent-2-clause-value
 returns-then-is_absent-2-clause-value c =

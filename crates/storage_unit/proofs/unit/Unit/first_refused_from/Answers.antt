@@ -1,13 +1,11 @@
-use Rattle.storage_unit.proofs.Common.{◌+◌, ◌%◌, sym, ◌∙◌, ap, arith, inl, inr, cases_lt, line_bytes, line_of, is_refused, reach_of}
+use Rattle.storage_unit.proofs.Common.{◌+◌, ◌%◌, sym, ◌∙◌, ap, arith, inl, inr, cases_lt, line_bytes, line_of, is_refused, reach_of, nat_tests}
 use Rattle.line_geometry.proofs.Legal.{legal-bytes}
 use Rattle.storage_unit.proofs.FindLemmas.{none-found, first-found}
 use Rattle.storage_unit.proofs.ProbeLemmas.{same-line}
 use Rattle.storage_unit.proofs.unit.Unit.first_refused_from.Goals as goal
 
 pub overflow_add-here : goal.overflow_add-here
-overflow_add-here c =
-    let unit = c.args.self.now in
-    omega (arith, c.from-in-loop-past.ensures, c.requires, c.loop-past-test.true, c.from.ensures, legal-bytes unit.directory unit.legal)
+overflow_add-here c = grind (arith, nat_tests, legal-bytes)
 
 pub returns-then-is_refused : goal.returns-then-is_refused
 returns-then-is_refused c =
@@ -18,11 +16,7 @@ returns-then-is_refused c =
     (ap (λ n. is_refused (reach_of unit) (line_of unit.directory (c.args.place + n)) c.args.store) (sym c.from-in-loop-past.ensures) ∙ sym c.is_refused.ensures ∙ c.if-is_refused.true))
 
 pub returns : goal.returns
-returns c =
-    let unit = c.args.self.now in
-    sym
-    (none-found (λ past. is_refused (reach_of unit) (line_of unit.directory (c.args.place + past)) c.args.store) 0 c.args.bytes
-    (λ k above below. c.loop-past.invariant k (omega (arith, below, c.loop-past-test.false, c.from.ensures))))
+returns c = grind (arith, nat_tests, none-found)
 
 pub loop-past-preserved : goal.loop-past-preserved
 loop-past-preserved c = λ k below.

@@ -23,9 +23,7 @@ returns-in_default-clause-answer c = λ access bytes same.
     (sym c.translate.ensures.value ∙ none-of c.translate.result c.in_default.not-Some)
 
 pub is_kept_in-requires-clause-lies : goal.is_kept_in-requires-clause-lies
-is_kept_in-requires-clause-lies c =
-    subst (λ (s : Reach). Lies s c.args.first 1) (sym c.translate.ensures.state)
-    (lies-one (reach_of c.args.self.now) c.args.first c.args.bytes c.requires.some c.requires.lies)
+is_kept_in-requires-clause-lies c = grind (arith, nat_tests, lies-one (reach_of c.args.self.now) c.args.first c.args.bytes c.requires.some c.requires.lies)
 
 pub is_kept_in-requires-2-clause-lies : goal.is_kept_in-requires-2-clause-lies
 is_kept_in-requires-2-clause-lies c =
@@ -61,9 +59,7 @@ returns-then-is_in_line-clause-answer c = λ access bytes same.
 -- how many bytes of the first line there are
 rest-is : (old new : Reach) (page : PageSize) (byte at rest : ℕ) → new ≡ old → page ≡ new.directory.page → at ≡ byte → rest + at % line_bytes page ≡ line_bytes page
     → rest + byte % line_bytes old.directory.page ≡ line_bytes old.directory.page
-rest-is old new page byte at rest stays is same are =
-    let size = size-is old new page stays is in
-    ap (λ s. rest + byte % line_bytes s) (sym size) ∙ ap (λ n. rest + n % line_bytes page) (sym same) ∙ are ∙ ap (λ s. line_bytes s) size
+rest-is old new page byte at rest stays is same are = grind (arith, nat_tests)
 
 more : (size : PageSize) (byte bytes rest : ℕ) (test : Bool) → test ≡ nat_le (byte % line_bytes size + bytes) (line_bytes size) → test ≡ false → rest + byte % line_bytes size ≡ line_bytes size → rest < bytes
 more size byte bytes rest test is none are = grind (arith, nat_tests, is, none, are)

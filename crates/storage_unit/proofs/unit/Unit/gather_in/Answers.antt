@@ -1,4 +1,4 @@
-use Rattle.storage_unit.proofs.Common.{◌≡◌, ℕ, ◌+◌, ◌*◌, ◌≤◌, List, length, sym, ◌∙◌, ap, subst, arith, page_bytes, FitsFrom, stored_bytes, stored_bytes-long, Pool, marked_in, with_bytes, lines_of_part, pool_of, Reach, keys_of, AreOfPages, Lies, reach_of}
+use Rattle.storage_unit.proofs.Common.{◌≡◌, ℕ, ◌+◌, ◌*◌, ◌≤◌, List, length, sym, ◌∙◌, ap, subst, arith, page_bytes, stored_bytes, stored_bytes-long, Pool, marked_in, with_bytes, lines_of_part, pool_of, Reach, keys_of, AreOfPages, Lies, reach_of, nat_tests}
 use Rattle.storage_unit.proofs.CopyLemmas.{found-below}
 use Rattle.storage_unit.proofs.PartLemmas.{part-long, pool-after, marked-same, marked-keys}
 use Rattle.storage_unit.proofs.StoreLemmas.{marked-of_pages, put-found}
@@ -11,12 +11,7 @@ part_mut-requires-clause-frame c =
     found-below (reach_of unit) c.args.first c.args.frame (unit-sound unit) c.requires.frame
 
 pub gather-requires : goal.gather-requires
-gather-requires c =
-    let unit = c.args.self.now in
-    let fits : c.args.first.byte + c.from-2.result ≤ page_bytes unit.directory.page = omega (arith, c.requires.within, c.from-2.ensures) in
-    subst (λ n. FitsFrom n c.args.from)
-    (sym (ap length c.part_mut.ensures.value ∙ part-long unit c.args.first c.args.frame c.from.result c.from-2.result c.requires.frame c.from.ensures fits ∙ c.from-2.ensures))
-    c.requires.fits
+gather-requires c = grind (arith, nat_tests, part-long)
 
 pub invariant_of-self : goal.invariant_of-self
 invariant_of-self c =

@@ -1,3 +1,4 @@
+use Rattle.std.proofs.lemmas.Grind.{common_steps}
 use Rattle.storage_unit.proofs.Common.{◌≡◌, true, refl, sym, ◌∙◌, arith, nat_tests, is_private, offset_of, reach_of}
 use Rattle.storage_unit.proofs.AnswerLemmas.{answered-private}
 use Rattle.storage_unit.proofs.LineLemmas.{line-permitted}
@@ -17,3 +18,9 @@ returns-else-is_kept_in-clause-permitted c = λ access bytes same.
     line-permitted (reach_of unit) (unit-sound unit) c.args.first c.args.bytes c.requires.some (omega (arith, c.ranges.bytes.fits)) c.requires.lies c.args.store access bytes same
     c.in_ok-frame.frame c.in_ok-frame.ensures (c.if-not-is_in_one_line.ensures.within refl) (c.if-not-is_in_one_line.ensures.line refl)
     (sym c.is_kept_in.ensures ∙ c.if-is_kept_in.false)
+
+pub is_kept_in-requires-clause-lies : goal.is_kept_in-requires-clause-lies
+is_kept_in-requires-clause-lies c = grind (arith, common_steps)
+
+pub private_frame-requires-clause-lies : goal.private_frame-requires-clause-lies
+private_frame-requires-clause-lies c = grind (arith, common_steps)

@@ -1,4 +1,5 @@
-use Rattle.storage_unit.proofs.Common.{ℕ, ◌+◌, ◌*◌, List, length, sym, ◌∙◌, ap, subst, page_bytes, Pool, marked_in, with_bytes, lines_of_part, pool_of, Reach, keys_of, AreOfPages, reach_of}
+use Rattle.std.proofs.lemmas.Grind.{common_steps}
+use Rattle.storage_unit.proofs.Common.{ℕ, ◌+◌, ◌*◌, List, length, sym, ◌∙◌, ap, subst, page_bytes, Pool, marked_in, with_bytes, lines_of_part, pool_of, Reach, keys_of, AreOfPages, reach_of, nat_tests, arith}
 use Rattle.storage_unit.proofs.CopyLemmas.{found-below, found-some, none-of}
 use Rattle.storage_unit.proofs.StoreLemmas.{marked-of_pages, put-found}
 use Rattle.storage_unit.proofs.UnitLemmas.{unit-sound}
@@ -11,10 +12,7 @@ part_mut-requires-clause-frame c =
     found-below (reach_of unit) c.args.first c.in-Some.frame (unit-sound unit) (sym c.frame_at.ensures ∙ c.in-Some.is)
 
 pub copy_from_slice-requires : goal.copy_from_slice-requires
-copy_from_slice-requires c =
-    let unit = c.args.self.now in
-    let is = sym c.frame_at.ensures ∙ c.in-Some.is in
-    ap length c.part_mut.ensures.value ∙ part-long unit c.args.first c.in-Some.frame c.from.result (length c.args.from.now) is c.from.ensures c.requires.within
+copy_from_slice-requires c = grind (arith, nat_tests, part-long)
 
 pub invariant_of-self : goal.invariant_of-self
 invariant_of-self c =
@@ -56,3 +54,6 @@ returns-in_default c =
     let unit = c.args.self.now in
     absurd (found-some (reach_of unit) (unit-sound unit) c.args.first (length c.args.from.now) c.requires.some c.requires.lies c.requires.there
     (sym c.frame_at.ensures ∙ (none-of c.frame_at.result c.in_default.not-Some)))
+
+pub frame_at-requires : goal.frame_at-requires
+frame_at-requires c = grind (arith, common_steps)
