@@ -1,5 +1,5 @@
 -- A word, a number or a mark at the front of a line.
-use Rattle.asm_parse.proofs.Common.{◌≡◌, ℕ, ◌<◌, ◌≤◌, ◌^◌, ◌==◌, nat_eq, Bool, true, false, ◌&&◌, ◌||◌, List, [], ◌∷◌, ◌++◌, length, codes, decimal, Some, refl, sym, ◌∙◌, arith, digit_value, is_ascii_alphanumeric, is_ascii_digit, list_all, starts_with, AllDigits, digits_value, le-leb, nat_tests, drop_at, take_at, number_of, before, begins, begins_word, continues_word, is_blank, tokens_past, Token, Word, Number, Comma, Open, Close, Colon, Plus, Minus, Takes}
+use Rattle.asm_parse.proofs.Common.{◌≡◌, ℕ, ◌<◌, ◌≤◌, ◌^◌, ◌==◌, nat_eq, Bool, true, false, ◌&&◌, List, [], ◌∷◌, ◌++◌, length, codes, decimal, Some, refl, sym, ◌∙◌, arith, digit_value, is_ascii_alphanumeric, is_ascii_digit, list_all, starts_with, AllDigits, digits_value, le-leb, nat_tests, drop_at, take_at, number_of, before, begins, begins_word, continues_word, is_blank, tokens_past, Token, Word, Number, Comma, Open, Close, Colon, Plus, Minus, Takes}
 use Rattle.std.proofs.lemmas.Fmt.{decimal_is_IsNumeral}
 use Rattle.asm_parse.proofs.NumberLemmas.{as_number}
 use Rattle.asm_parse.proofs.TokenLemmas.{from_byte}
@@ -56,14 +56,11 @@ no_x : (byte : ℕ) → (48 ≤ byte) × (byte ≤ 57) → nat_eq 120 byte ≡ f
 no_x byte is = grind (arith, nat_tests)
 
 and_false : (a : Bool) → (a && false) ≡ false
-and_false true = refl
-and_false false = refl
+and_false a = grind arith
 
 -- decimal digits don't begin with `0x`
 no_prefix : (digits : List ℕ) → AllDigits 10 digits → starts_with nat_eq digits (codes "0x") ≡ false
-no_prefix [] are = refl
-no_prefix (digit ∷ []) are = and_false (nat_eq 48 digit)
-no_prefix (digit ∷ next ∷ digits) are = rw (no_x next (digit_inside next are.1.0)) (and_false (nat_eq 48 digit))
+no_prefix digits are = grind (arith, nat_tests, and_false, no_x, digit_inside)
 
 -- the number that digits write
 digits_number : (digits : List ℕ) (number : ℕ) → 0 < length digits → AllDigits 10 digits → digits_value 10 digits ≡ number → number < 2 ^ 32 → number_of digits ≡ Some number
@@ -72,11 +69,7 @@ digits_number digits number some are is small =
 
 stops_both : (tail : List ℕ) → Stops continues_word tail → Stops is_ascii_alphanumeric tail
 stops_both [] stops = tt
-stops_both (byte ∷ tail) stops = by_test (is_ascii_alphanumeric byte) stops
-  where
-    by_test : (test : Bool) → (test || byte == 95) ≡ false → test ≡ false
-    by_test true e = cc e
-    by_test false e = refl
+stops_both (byte ∷ tail) stops = grind arith
 
 -- the number at the front of a line
 digits_front : (digits tail : List ℕ) (number : ℕ) → 0 < length digits → AllDigits 10 digits → number_of digits ≡ Some number → Stops continues_word tail → tokens_past (digits ++ tail) 0 ≡ before (Number number) (tokens_past tail 0)
@@ -89,9 +82,7 @@ digits_front (byte ∷ bytes) tail number some are is stops =
 
 -- a number in decimal at the front of a line
 pub number_front : (number : ℕ) (tail : List ℕ) → number < 2 ^ 32 → Stops continues_word tail → tokens_past (decimal number ++ tail) 0 ≡ before (Number number) (tokens_past tail 0)
-number_front number tail small stops =
-    let told = decimal_is_IsNumeral number (omega arith) in
-    digits_front (decimal number) tail number told.0.0 told.0.1 (digits_number (decimal number) number told.0.0 told.0.1 told.1 small) stops
+number_front number tail small stops = grind (arith, nat_tests, decimal_is_IsNumeral, digits_front, digits_number)
 
 -- the digits of a number are letters or digits
 pub number_pass : (number : ℕ) → number < 2 ^ 32 → list_all is_ascii_alphanumeric (decimal number) ≡ true

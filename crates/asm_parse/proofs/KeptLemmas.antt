@@ -14,9 +14,7 @@ kept_more wholes [] statement place each is =
     ap (λ (last : Statement). last ∷ []) (ap (λ (n : ℕ). get_or (wholes ++ statement ∷ []) n none) is ∙ get_or-append_seam wholes statement [] none)
 kept_more wholes (Bare line label ∷ heads) statement place each is =
     ap (λ (rest : List Statement). stated_by wholes (Bare line label) ∷ rest) (kept_more wholes heads statement place each.1 is)
-kept_more wholes (Whole at ∷ heads) statement place each is =
-    ap (λ (first : Statement). first ∷ map (stated_by (wholes ++ statement ∷ [])) (heads ++ Whole place ∷ [])) (get_or_append_left wholes (statement ∷ []) none at each.0)
-    ∙ ap (λ (rest : List Statement). get_or wholes at none ∷ rest) (kept_more wholes heads statement place each.1 is)
+kept_more wholes (Whole at ∷ heads) statement place each is = cc (get_or_append_left wholes (statement ∷ []) none at each.0, kept_more wholes heads statement place each.1 is)
 
 each_kept : (count more place : ℕ) (heads : List Head) → count ≤ more → place < more → AllByRecursion (IsKept count) heads → AllByRecursion (IsKept more) (heads ++ Whole place ∷ [])
 each_kept count more place [] below inside each = (inside, tt)

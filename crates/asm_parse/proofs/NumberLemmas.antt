@@ -1,7 +1,8 @@
 -- Numbers in a radix.
-use Rattle.asm_parse.proofs.Common.{◌≡◌, ℕ, zero, suc, ◌+◌, ◌*◌, ◌^◌, ◌<◌, ◌≤◌, Bool, true, false, cond, List, [], ◌∷◌, length, get_or, take, Option, Some, None, refl, ap, arith, Decides, digit_value, is_digit, list_all, SomeIff, AllDigits, digits_value, lt-ltb, Decides-and, Decides-ltb, digits_value_more, number_in}
+use Rattle.asm_parse.proofs.Common.{◌≡◌, ℕ, zero, suc, ◌+◌, ◌*◌, ◌^◌, ◌<◌, ◌≤◌, Bool, cond, List, [], ◌∷◌, length, get_or, take, Option, Some, None, refl, arith, Decides, digit_value, is_digit, list_all, SomeIff, AllDigits, digits_value, lt-ltb, Decides-and, Decides-ltb, digits_value_more, number_in}
 use Rattle.std.proofs.lemmas.Grind.{common_steps}
 use Rattle.std.proofs.lemmas.Str.Parse.{digits_value-take-le}
+use Rattle.std.proofs.lemmas.Bool.Decides.{nat_tests}
 
 -- each of the digits is one
 pub digit_at : (radix : ℕ) (digits : List ℕ) (i : ℕ) → AllDigits radix digits → i < length digits → digit_value (get_or digits i 0) < radix
@@ -32,12 +33,7 @@ digits_told radix (d ∷ digits) =
 
 -- whether there is a number is the test of the definition
 by_test : (r : Option ℕ) (test : Bool) (P : Type 0) (value : ℕ) → Decides test P → SomeIff r P value → r ≡ cond test (Some value) None
-by_test None true P value told given = absurd (given (told.0 refl))
-by_test None false P value told given = refl
-by_test (Some x) true P value told given = ap Some given.1
-by_test (Some x) false P value told given = absurd (cc (told.1 given.0))
+by_test r test P value told given = grind (arith, nat_tests)
 
 pub as_number : (radix : ℕ) (digits : List ℕ) (r : Option ℕ) → 0 < length digits → SomeIff r (AllDigits radix digits × (digits_value radix digits < 2 ^ 32)) (digits_value radix digits) → r ≡ number_in radix digits
-as_number radix digits r some given =
-    let told = Decides-and _ _ (digits_told radix digits) (Decides-ltb (digits_value radix digits) (2 ^ 32)) in
-    rw (lt-ltb 0 (length digits) some) (by_test r _ (AllDigits radix digits × (digits_value radix digits < 2 ^ 32)) _ told given)
+as_number radix digits r some given = grind (arith, nat_tests, Decides-and, digits_told, Decides-ltb, lt-ltb, by_test)

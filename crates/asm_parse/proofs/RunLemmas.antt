@@ -1,5 +1,5 @@
 -- Runs of bytes that pass a test.
-use Rattle.asm_parse.proofs.Common.{◌≡◌, ℕ, Bool, true, false, cond, List, [], ◌∷◌, ◌++◌, length, refl, arith, list_all, prefix_len, take_while, and_parts}
+use Rattle.asm_parse.proofs.Common.{◌≡◌, ℕ, Bool, true, false, List, [], ◌∷◌, ◌++◌, length, refl, arith, list_all, prefix_len, take_while, and_parts}
 use Rattle.std.proofs.lemmas.List.Sums.{take_while-cons}
 
 -- a list doesn't go on with a byte that passes
@@ -18,15 +18,9 @@ run_length test (byte ∷ run) tail pass stops =
 -- what is taken while a test passes passes it
 pub taken_pass : (test : ℕ → Bool) (bytes : List ℕ) → list_all test (take_while test bytes) ≡ true
 taken_pass test [] = refl
-taken_pass test (byte ∷ bytes) = rw (take_while-cons test byte bytes) (by_test (test byte) refl (taken_pass test bytes))
-  where
-    by_test : (pass : Bool) → test byte ≡ pass → list_all test (take_while test bytes) ≡ true → list_all test (cond pass (byte ∷ take_while test bytes) []) ≡ true
-    by_test true e others = rw e others
-    by_test false e others = refl
+taken_pass test (byte ∷ bytes) = rw (take_while-cons test byte bytes) (grind (arith, taken_pass test bytes))
 
 -- bytes that pass one test pass another that is weaker
 pub each_also : (test other : ℕ → Bool) (bytes : List ℕ) → ((byte : ℕ) → test byte ≡ true → other byte ≡ true) → list_all test bytes ≡ true → list_all other bytes ≡ true
 each_also test other [] weaker pass = refl
-each_also test other (byte ∷ bytes) weaker pass =
-    let parts = and_parts (test byte) (list_all test bytes) pass in
-    rw (weaker byte parts.0) (each_also test other bytes weaker parts.1)
+each_also test other (byte ∷ bytes) weaker pass = grind (arith, weaker byte, each_also test other bytes weaker)

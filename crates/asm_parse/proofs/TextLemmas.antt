@@ -1,5 +1,5 @@
 -- The statements of a text, as its lines are read one after the other.
-use Rattle.asm_parse.proofs.Common.{◌≡◌, ℕ, suc, ◌+◌, ◌<◌, ◌≤◌, Bool, true, false, cond, nat_lt, List, [], ◌∷◌, ◌++◌, length, Option, Some, None, Result, Ok, Err, refl, sym, ap, ◌∙◌, arith, append_assoc, append-nil, length-append, length-drop, slice_split, position_or_len, before_first, after_first, lt-ltb, nat_tests, Statement, line_of, Gains, is_feed, lines_of, statements_from, then_statements}
+use Rattle.asm_parse.proofs.Common.{◌≡◌, ℕ, suc, ◌+◌, ◌≤◌, Bool, true, false, nat_lt, List, [], ◌∷◌, ◌++◌, length, Option, Some, None, Result, Ok, Err, refl, sym, ap, ◌∙◌, arith, append_assoc, append-nil, length-append, length-drop, slice_split, position_or_len, before_first, lt-ltb, nat_tests, Statement, line_of, Gains, is_feed, lines_of, statements_from, then_statements}
 use Rattle.asm_parse.specs.Cut.{behind_first}
 
 -- the parts of what stands behind a cut, if there was one
@@ -35,10 +35,7 @@ statements_behind read (Err fault) = Err fault
 
 -- what a line's answer adds to what was read
 gained : (read more : List Statement) (number : ℕ) (answer : Result (Option Statement) ℕ) (others : Result (List Statement) (ℕ × ℕ)) → Gains read more answer → statements_behind more others ≡ statements_behind read (then_statements number answer others)
-gained read more number (Ok (Some statement)) (Ok others) new = ap Ok (ap (λ list. list ++ others) new ∙ append_assoc read (statement ∷ []) others)
-gained read more number (Ok (Some statement)) (Err fault) new = refl
-gained read more number (Ok None) others new = ap (λ list. statements_behind list others) new
-gained read more number (Err kind) others new = absurd new
+gained read more number answer others new = grind (arith, nat_tests, append_assoc)
 
 -- the statements of a text by its first line
 by_first : (number : ℕ) (text : List ℕ) → statements_from number (lines_of text) ≡ then_statements number (line_of number (before_first is_feed text)) (statements_from (number + 1) (parts_behind is_feed (behind_first is_feed text)))
@@ -63,24 +60,10 @@ pub all_read : (read : List Statement) (number : ℕ) (behind : Option (List ℕ
 unfolding statements_from
 all_read read number behind whole none so_far = sym (rw none at so_far) ∙ ap Ok (append-nil read)
 
-below : (m n : ℕ) → nat_lt m n ≡ true → m < n
-below m n e = grind (arith, nat_tests)
-
 -- behind a line feed stands less than the whole
 pub behind_shorter : (text : List ℕ) (behind : Option (List ℕ)) → behind ≡ behind_first is_feed text → left_of behind ≤ length text
-behind_shorter text behind is = rw is (by_test (nat_lt n (length text)) refl)
-  where
-    n : ℕ
-    n = position_or_len is_feed text
-
-    by_test : (inside : Bool) → nat_lt n (length text) ≡ inside → left_of (cond inside (Some (after_first is_feed text)) None) ≤ length text
-    by_test true e =
-        let inside : n < length text = below n (length text) e in
-        omega (arith, length-drop (n + 1) text)
-    by_test false e = omega arith
+behind_shorter text behind is = grind (arith, nat_tests, length-drop)
 
 -- a line gives one statement at the most
 pub gained_one : (old new : List Statement) (answer : Result (Option Statement) ℕ) → Gains old new answer → length new ≤ length old + 1
-gained_one old new (Ok (Some statement)) e = omega (arith, ap length e, length-append old (statement ∷ []))
-gained_one old new (Ok None) e = omega (arith, ap length e)
-gained_one old new (Err fault) e = absurd e
+gained_one old new answer e = grind (arith, nat_tests, length-append)

@@ -1,5 +1,5 @@
 -- The tokens of a line, as they are found one after the other.
-use Rattle.asm_parse.proofs.Common.{◌≡◌, ℕ, zero, suc, ◌+◌, ◌<◌, ◌≤◌, ◌≢◌, nat_le, cond, ◌==◌, Bool, true, false, List, [], ◌∷◌, ◌++◌, length, take, drop, Option, Some, None, Result, Ok, Err, refl, sym, ap, ◌∙◌, arith, append_assoc, append-nil, add-one, is_ascii_alphanumeric, is_ascii_digit, prefix_len, IsAscii, nat_tests, number_of, Token, Word, Begin, Takes, Bad, begins, begins_word, before, continues_word, is_blank, more_of, number_begins, then_tokens, tokens_past, word_begins}
+use Rattle.asm_parse.proofs.Common.{◌≡◌, ℕ, zero, suc, ◌+◌, ◌<◌, ◌≤◌, ◌≢◌, ◌==◌, true, false, List, [], ◌∷◌, ◌++◌, length, take, drop, Option, Some, None, Result, Ok, Err, refl, sym, ap, ◌∙◌, arith, append_assoc, append-nil, add-one, is_ascii_alphanumeric, is_ascii_digit, prefix_len, IsAscii, nat_tests, number_of, Token, Begin, begins, begins_word, before, continues_word, is_blank, more_of, number_begins, then_tokens, tokens_past, word_begins}
 use Rattle.std.proofs.lemmas.Str.Ascii.{IsAscii-nil, IsAscii-cons}
 
 -- tokens behind those that were found
@@ -36,22 +36,15 @@ pub step : (found : List Token) (left rest : List ℕ) (first : ℕ) (begin : Be
 step found left rest first begin whole split is so_far =
     rw (is, ← from_byte first rest, ← split) so_far
 
--- a byte that may stand in a word is below 128
-word_byte : (byte : ℕ) → continues_word byte ≡ true → byte < 128
-word_byte byte e = grind (arith, nat_tests)
-
 first_byte : (byte : ℕ) → begins_word byte ≡ true → byte < 128
 first_byte byte e = grind (arith, nat_tests)
 
 tail_ascii : (rest : List ℕ) → IsAscii (take (prefix_len continues_word rest) rest)
 tail_ascii [] = IsAscii-nil
-tail_ascii (byte ∷ rest) = tail_by byte rest (continues_word byte) refl (tail_ascii rest)
-  where
-    tail_by : (byte : ℕ) (rest : List ℕ) (test : Bool) → continues_word byte ≡ test → IsAscii (take (prefix_len continues_word rest) rest) → IsAscii (take (prefix_len continues_word (byte ∷ rest)) (byte ∷ rest))
-    tail_by byte rest true e others =
-        let same : 1 + prefix_len continues_word rest ≡ suc (prefix_len continues_word rest) = omega arith in
-        rw (e, same) (IsAscii-cons byte _ (word_byte byte e) others)
-    tail_by byte rest false e others = rw e IsAscii-nil
+tail_ascii (byte ∷ rest) =
+    let same : 1 + prefix_len continues_word rest ≡ suc (prefix_len continues_word rest) = omega arith in
+    let others = tail_ascii rest in
+    grind (arith, nat_tests, same, others, IsAscii-nil, IsAscii-cons byte (take (prefix_len continues_word rest) rest))
 
 -- the first byte and those behind it
 pub front : (left rest : List ℕ) (first more : ℕ) → left ≡ first ∷ rest → take (more + 1) left ≡ first ∷ take more rest
@@ -64,11 +57,7 @@ word_ascii left rest first more split begins is =
 
 -- how far what begins reaches
 pub word_inside : (more n : ℕ) (bytes : List ℕ) → more ≤ n → more_of (word_begins more bytes) ≤ n
-word_inside more n bytes h = by_test (nat_le (length bytes) 31)
-  where
-    by_test : (test : Bool) → more_of (cond test (Takes (Word bytes) more) (Bad 1)) ≤ n
-    by_test true = h
-    by_test false = omega arith
+word_inside more n bytes h = grind arith
 
 pub number_inside : (more n : ℕ) (o : Option ℕ) → more ≤ n → more_of (number_begins more o) ≤ n
 number_inside more n None h = omega arith

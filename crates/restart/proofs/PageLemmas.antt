@@ -1,5 +1,5 @@
 -- A page that is put together from lines.
-use Rattle.restart.proofs.Common.{◌≡◌, ℕ, ◌+◌, ◌++◌, List, length, take, drop, append_assoc, drop-drop}
+use Rattle.restart.proofs.Common.{◌≡◌, ℕ, ◌++◌, List, length, take, drop, append_assoc, drop-drop}
 use Rattle.owned_list.specs.Overlay.{overlaid}
 use Rattle.std.proofs.lemmas.Bool.Decides.{nat_tests}
 use Rattle.std.proofs.Common.{arith}

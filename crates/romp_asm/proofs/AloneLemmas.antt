@@ -1,5 +1,6 @@
 -- Labels that stand nowhere before.
-use Rattle.romp_asm.proofs.Common.{◌≡◌, ℕ, ◌+◌, ◌<◌, ◌≤◌, ◌||◌, Bool, true, false, List, length, get_or, Bor, Option, Some, None, refl, sym, ap, ◌∙◌, arith, inl, inr, option_map_or, HashMap, le-ltb, cases_lt, get_or_default, Statement, Place, is_labelled, found_in, stands_before, repeated_in, noted, IsNew, AreAlone}
+use Rattle.romp_asm.proofs.Common.{◌≡◌, ℕ, ◌+◌, ◌<◌, ◌≤◌, ◌||◌, Bool, true, false, List, length, get_or, Bor, Option, refl, sym, ap, ◌∙◌, arith, inl, inr, HashMap, le-ltb, cases_lt, get_or_default, Statement, Place, is_labelled, found_in, stands_before, repeated_in, noted, IsNew, AreAlone}
+use Rattle.std.proofs.lemmas.Bool.Decides.{nat_tests}
 
 -- neither of two
 pub or_none : (one two : Bool) → (one || two) ≡ false → (one ≡ false) × (two ≡ false)
@@ -11,26 +12,14 @@ Labels S = HashMap (Bor (List ℕ)) Place S
 
 -- what doesn't stand before a statement doesn't so once a later one is noted
 stays_alone : (index : ℕ) (found : Option Place) (labelled : Bool) (place : Place) → index ≤ place.statement → stands_before index found ≡ false → stands_before index (noted found labelled place) ≡ false
-stays_alone index (Some before) labelled place le is = is
-stays_alone index None true place le is = le-ltb place.statement index le
-stays_alone index None false place le is = refl
+stays_alone index found labelled place le is = grind (arith, nat_tests, le-ltb)
 
 module _ {S : Type 0} (old new : Labels S) (statement : Statement) (place : Place) (noted_is : (word : List ℕ) → found_in new word ≡ noted (found_in old word) (is_labelled word statement) place) where
   repeated_on : (other : Statement) (index : ℕ) → index ≤ place.statement → repeated_in old index other ≡ false → repeated_in new index other ≡ false
-  repeated_on other index le is = by_label other.label is
-    where
-      by_label : (label : Option _) → option_map_or (λ label. stands_before index (found_in old label)) label false ≡ false → option_map_or (λ label. stands_before index (found_in new label)) label false ≡ false
-      by_label None before = refl
-      by_label (Some label) before = ap (stands_before index) (noted_is label) ∙ stays_alone index (found_in old label) (is_labelled label statement) place le before
+  repeated_on other index le is = grind (arith, nat_tests, stays_alone)
 
   new_alone : IsNew old statement → repeated_in new place.statement statement ≡ false
-  new_alone is = by_label statement.label is
-    where
-      by_label : (label : Option _) → (let none : Type 0 = IsNew old (record statement { label = label }) in none) → option_map_or (λ label. stands_before place.statement (found_in new label)) label false ≡ false
-      by_label None before = refl
-      by_label (Some label) before =
-          ap (stands_before place.statement) (noted_is label ∙ ap (λ (found : Option Place). noted found (is_labelled label statement) place) before)
-          ∙ stays_alone place.statement None (is_labelled label statement) place (omega arith) refl
+  new_alone is = grind (arith, nat_tests, stays_alone)
 
   -- one statement more
   pub alone_more : (statements : List Statement) → place.statement < length statements → statement ≡ get_or statements place.statement statement → AreAlone old statements place.statement → IsNew old statement → AreAlone new statements (place.statement + 1)

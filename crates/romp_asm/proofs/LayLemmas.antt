@@ -1,5 +1,6 @@
 -- Zeros that are laid one after the other.
-use Rattle.romp_asm.proofs.Common.{◌≡◌, ℕ, suc, ◌+◌, ◌-◌, ◌<◌, ◌≤◌, List, [], ◌∷◌, ◌++◌, replicate, sym, ap, ◌∙◌, arith, append_assoc, append-nil, length, length-append, length-replicate}
+use Rattle.romp_asm.proofs.Common.{◌≡◌, ℕ, suc, ◌+◌, ◌-◌, ◌<◌, ◌≤◌, List, [], ◌∷◌, ◌++◌, replicate, ap, arith, append_assoc, append-nil, length, length-append, length-replicate}
+use Rattle.std.proofs.lemmas.Bool.Decides.{nat_tests}
 
 -- one zero more
 pub one_more : (laid next whole : List ℕ) (count i : ℕ) → i < count → next ≡ laid ++ 0 ∷ [] → laid ++ replicate (count - i) 0 ≡ whole → next ++ replicate (count - (i + 1)) 0 ≡ whole
@@ -9,9 +10,7 @@ one_more laid next whole count i inside pushed so_far =
 
 -- no zero is left
 pub all_laid : (laid whole : List ℕ) (count i : ℕ) → count ≤ i → laid ++ replicate (count - i) 0 ≡ whole → laid ≡ whole
-all_laid laid whole count i past so_far =
-    let none : count - i ≡ 0 = omega arith in
-    sym (append-nil laid) ∙ rw none at so_far
+all_laid laid whole count i past so_far = grind (arith, nat_tests, append-nil, so_far)
 
 -- no more is laid than is to be laid
 pub still_short : (laid before : List ℕ) (count i : ℕ) → laid ++ replicate (count - i) 0 ≡ before ++ replicate count 0 → length laid ≤ length before + count

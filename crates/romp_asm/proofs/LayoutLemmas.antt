@@ -1,7 +1,6 @@
 -- A program, as its statements are laid one after the other.
-use Rattle.romp_asm.proofs.Common.{◌≡◌, ℕ, ℤ, pos, suc, zero, ◌+◌, ◌<◌, ◌≤◌, nat_lt, Bool, true, false, is_some, cond, List, [], ◌∷◌, ◌++◌, length, take, drop, get_or, Option, Some, None, Result, Ok, Err, refl, sym, ap, subst, ◌∙◌, arith, append_assoc, append-nil, add-one, length-append, replicate, unwrap_or, option_map, option_map_or, option_or, fun_ext, drop-cons, nat_tests, drop_all, get_or_default, take_all, take_more, sum_by_push, fold_push, Statement, Body, Place, HashMap, addresses_in, found_in, place_from, place_of, repeated_in, stands_before, AreReadAs, IsLaid, IsReadAs, LaidTo, image_joined, Scope, Table, option_and_then, slice_get, Parts, assembled, entry_of, has_label_of, image_behind, parts_of, piece_before, piece_of, windows_of, with_entry, with_image, with_window, size_of, total, address_from, address_of, addresses_of, is_labelled}
+use Rattle.romp_asm.proofs.Common.{◌≡◌, ℕ, ℤ, pos, suc, zero, ◌+◌, ◌<◌, ◌≤◌, nat_lt, Bool, true, false, is_some, List, [], ◌∷◌, ◌++◌, length, take, drop, get_or, Option, Some, None, Result, Ok, Err, refl, sym, ap, subst, ◌∙◌, arith, append_assoc, append-nil, add-one, length-append, replicate, unwrap_or, option_map, option_or, fun_ext, drop-cons, nat_tests, drop_all, get_or_default, take_all, take_more, sum_by_push, fold_push, Statement, Body, Place, HashMap, addresses_in, found_in, place_from, place_of, repeated_in, stands_before, AreReadAs, IsLaid, IsReadAs, LaidTo, image_joined, Scope, Table, option_and_then, slice_get, Parts, assembled, entry_of, has_label_of, image_behind, parts_of, piece_before, piece_of, windows_of, with_entry, with_image, with_window, size_of, total, address_from, addresses_of}
 use Rattle.asm_parse.specs.declared.fault.AsmFault.{AsmFault}
-use Rattle.asm_parse.specs.declared.fault.AsmFault.TheVariants.{Fault, Memory}
 use Rattle.flat_machine.specs.declared.machine.Program.{Program}
 use Rattle.flat_machine.specs.declared.machine.Window.{Window as Sight}
 use Rattle.asm_parse.specs.Answers.{IsTextFaultOf}
@@ -13,11 +12,7 @@ use denote.Ref.{Bor}
 pub address_same : (index at : ℕ) (statements : List Statement) (word : List ℕ) → option_map (λ (place : Place). place.address) (place_from index at statements word) ≡ option_map pos (address_from at statements word)
 unfolding place_from address_from
 address_same index at [] word = refl
-address_same index at (x ∷ statements) word = by_test (is_labelled word x) (address_same (index + 1) (at + size_of x.body) statements word)
-  where
-    by_test : (test : Bool) → option_map (λ (place : Place). place.address) (place_from (index + 1) (at + size_of x.body) statements word) ≡ option_map pos (address_from (at + size_of x.body) statements word) → option_map (λ (place : Place). place.address) (cond test (Some (record { statement = index; address = pos at })) (place_from (index + 1) (at + size_of x.body) statements word)) ≡ option_map pos (cond test (Some at) (address_from (at + size_of x.body) statements word))
-    by_test true e = refl
-    by_test false e = e
+address_same index at (x ∷ statements) word = grind (arith, nat_tests, address_same (index + 1) (at + size_of x.body) statements word)
 
 not_below : (m n : ℕ) → n ≤ m → nat_lt m n ≡ false
 not_below m n h = grind (arith, nat_tests)
@@ -29,11 +24,7 @@ below m n h = grind (arith, nat_tests)
 not_earlier : (bound index at : ℕ) (statements : List Statement) (word : List ℕ) → bound ≤ index → stands_before bound (place_from index at statements word) ≡ false
 unfolding place_from
 not_earlier bound index at [] word h = refl
-not_earlier bound index at (x ∷ statements) word h = by_test (is_labelled word x) (not_earlier bound (index + 1) (at + size_of x.body) statements word (omega arith))
-  where
-    by_test : (test : Bool) → stands_before bound (place_from (index + 1) (at + size_of x.body) statements word) ≡ false → stands_before bound (cond test (Some (record { statement = index; address = pos at })) (place_from (index + 1) (at + size_of x.body) statements word)) ≡ false
-    by_test true e = not_below index bound h
-    by_test false e = e
+not_earlier bound index at (x ∷ statements) word h = grind (arith, nat_tests, not_earlier bound (index + 1) (at + size_of x.body) statements word, not_below)
 
 -- a label stands among the first n statements where its place is before the n-th
 pub among_first : (bound index at : ℕ) (statements : List Statement) (n : ℕ) (word : List ℕ) → bound ≡ index + n → stands_before bound (place_from index at statements word) ≡ is_some (address_from at (take n statements) word)
@@ -41,11 +32,7 @@ unfolding place_from address_from
 among_first bound index at [] zero word h = refl
 among_first bound index at [] (suc n) word h = refl
 among_first bound index at (x ∷ statements) zero word h = not_earlier bound index at (x ∷ statements) word (omega arith)
-among_first bound index at (x ∷ statements) (suc n) word h = by_test (is_labelled word x) (among_first bound (index + 1) (at + size_of x.body) statements n word (omega arith))
-  where
-    by_test : (test : Bool) → stands_before bound (place_from (index + 1) (at + size_of x.body) statements word) ≡ is_some (address_from (at + size_of x.body) (take n statements) word) → stands_before bound (cond test (Some (record { statement = index; address = pos at })) (place_from (index + 1) (at + size_of x.body) statements word)) ≡ is_some (cond test (Some at) (address_from (at + size_of x.body) (take n statements) word))
-    by_test true e = below index bound (omega arith)
-    by_test false e = e
+among_first bound index at (x ∷ statements) (suc n) word h = grind (arith, nat_tests, among_first bound (index + 1) (at + size_of x.body) statements n word, below)
 
 -- where no source gives a word, the table tells the addresses of all labels
 pub all_addresses : (scope : Scope) (statements : List Statement) → ((word : List ℕ) → found_in scope.own.now.labels word ≡ place_of statements word) → ((word : List ℕ) → found_in scope.givers.now word ≡ None) → addresses_in scope ≡ addresses_of statements
@@ -62,11 +49,7 @@ all_addresses scope statements table none =
 
 -- the table tells whether a statement's label stands before it
 pub repeated_told : {S : Type 0} (labels : HashMap (Bor (List ℕ)) Place S) (statements : List Statement) (i : ℕ) (statement : Statement) → ((word : List ℕ) → found_in labels word ≡ place_of statements word) → repeated_in labels i statement ≡ has_label_of (take i statements) statement
-repeated_told labels statements i statement table = by_label statement.label
-  where
-    by_label : (label : Option (List ℕ)) → option_map_or (λ label. stands_before i (found_in labels label)) label false ≡ option_map_or (λ label. is_some (address_of (take i statements) label)) label false
-    by_label None = refl
-    by_label (Some label) = ap (stands_before i) (table label) ∙ among_first i 0 0 statements i label (omega arith)
+repeated_told labels statements i statement table = grind (arith, nat_tests, among_first)
 
 joined_more : (image bytes : List ℕ) (line : ℕ) (others : Result (List ℕ) (ℕ × ℕ)) → image_joined (image ++ bytes) others ≡ image_joined image (piece_before line (Ok bytes) others)
 joined_more image bytes line (Ok others) = ap Ok (append_assoc image bytes others)
@@ -90,11 +73,7 @@ windows_by addresses old new body (Ok bytes) laid = laid.windows
 windows_by addresses old new body (Err kind) laid = absurd laid
 
 fault_by : (line : ℕ) (image : List ℕ) (reading : Result (List ℕ) ℕ) (others : Result (List ℕ) (ℕ × ℕ)) (all : List Statement) (whole : Result (List ℕ) (ℕ × ℕ)) (fault : AsmFault) → IsTextFaultOf fault (at_line line reading) → image_joined image (piece_before line reading others) ≡ whole → IsTextFaultOf fault (with_image all whole)
-fault_by line image reading others all whole Memory told so_far = tt
-fault_by line image (Ok bytes) others all whole (Fault at kind) told so_far = absurd (cc told)
-fault_by line image (Err kind') others all whole (Fault at kind) told so_far =
-    let same : (line, kind') ≡ (at, kind) = cc told in
-    ap (with_image all) (sym so_far) ∙ ap Err same
+fault_by line image reading others all whole fault told so_far = grind (arith, nat_tests, told, so_far)
 
 -- a statement that is another one among all, behind those that were laid
 module _ (addresses : List ℕ → Option ℤ) (repeated : Bool) (statement : Statement) (all before rest : List Statement) (named : Statement) (reads : IsReadAs addresses repeated statement all before named) (old : Output) (to : LaidTo all before (named ∷ rest) old) where
@@ -102,18 +81,11 @@ module _ (addresses : List ℕ → Option ℤ) (repeated : Bool) (statement : St
   reading = piece_of addresses repeated (length old.image.items) old.entry old.windows statement.body
 
   same_reading : reading ≡ piece_of (addresses_of all) (has_label_of before named) (total before) (entry_of (addresses_of all) before) (windows_of before) named.body
-  same_reading =
-      reads.piece (length old.image.items) old.entry old.windows
-      ∙ ap (λ at. piece_of (addresses_of all) (has_label_of before named) at old.entry old.windows named.body) to.size
-      ∙ ap (λ entry. piece_of (addresses_of all) (has_label_of before named) (total before) entry old.windows named.body) to.entry
-      ∙ ap (λ windows. piece_of (addresses_of all) (has_label_of before named) (total before) (entry_of (addresses_of all) before) windows named.body) to.windows
+  same_reading = grind (arith, nat_tests)
 
   so_far : image_joined old.image.items (piece_before statement.line reading (image_behind all (before ++ named ∷ []) rest)) ≡ image_behind all [] all
   unfolding image_behind
-  so_far =
-      ap (λ line. image_joined old.image.items (piece_before line reading (image_behind all (before ++ named ∷ []) rest))) reads.line
-      ∙ ap (λ made. image_joined old.image.items (piece_before named.line made (image_behind all (before ++ named ∷ []) rest))) same_reading
-      ∙ to.so_far
+  so_far = cc (reads.line, same_reading, to.so_far)
 
   -- it was laid
   pub laid_more : (new : Output) → IsLaid addresses old new statement.body reading → LaidTo all (before ++ named ∷ []) rest new
@@ -130,16 +102,7 @@ module _ (addresses : List ℕ → Option ℤ) (repeated : Bool) (statement : St
 
 -- nothing was laid
 pub laid_none : (all : List Statement) (output : Output) → output.image.items ≡ [] → output.entry ≡ None → output.windows ≡ replicate 15 None → LaidTo all [] all output
-laid_none all output image entry windows = record {
-  so_far = ap (λ image. image_joined image (image_behind all [] all)) image ∙ empty (image_behind all [] all);
-  size = ap length image;
-  entry = entry;
-  windows = windows;
-}
-  where
-    empty : (others : Result (List ℕ) (ℕ × ℕ)) → image_joined [] others ≡ others
-    empty (Ok others) = refl
-    empty (Err fault) = refl
+laid_none all output image entry windows = grind (arith, nat_tests, so_far)
 
 abbrev with_parts : List ℕ → ℕ → List (Option Sight) → Result Parts (ℕ × ℕ)
 with_parts image entry windows = Ok (record { image = image; entry = entry; windows = windows })
@@ -147,13 +110,7 @@ with_parts image entry windows = Ok (record { image = image; entry = entry; wind
 -- all statements were laid
 pub laid_all : (all : List Statement) (output : Output) (program : Program) → LaidTo all all [] output → program.image ≡ output.image.items → program.entry ≡ unwrap_or output.entry 0 → program.windows ≡ output.windows → assembled all ≡ Ok (parts_of program)
 unfolding image_behind
-laid_all all output program to image entry windows =
-    let laid : Ok output.image.items ≡ image_behind all [] all = ap Ok (sym (append-nil output.image.items)) ∙ to.so_far in
-    let same_entry = ap (λ entry. unwrap_or entry 0) (sym to.entry) ∙ sym entry in
-    ap (with_image all) (sym laid)
-    ∙ ap (λ image. with_parts image (unwrap_or (entry_of (addresses_of all) all) 0) (windows_of all)) (sym image)
-    ∙ ap (λ entry. with_parts program.image entry (windows_of all)) same_entry
-    ∙ ap (λ windows. with_parts program.image program.entry windows) (sym to.windows ∙ sym windows)
+laid_all all output program to image entry windows = grind (arith, nat_tests, append-nil, so_far)
 
 -- a statement of a text, read by the table of the text, is itself
 pub read_as_itself : (scope : Scope) (all : List Statement) (i : ℕ) (statement : Statement) → ((word : List ℕ) → found_in scope.own.now.labels word ≡ place_of all word) → ((word : List ℕ) → found_in scope.givers.now word ≡ None)
@@ -216,10 +173,7 @@ module _ (scope : Scope) (statements all before rest named : List Statement) (ar
     source_fault fault told = laid_fault (addresses_in scope) (repeated_in scope.own.now.labels i one) one all (before ++ take i named) (drop (i + 1) named ++ rest) other reads old to_other fault told
 
   pub source_laid : (output : Output) → length statements ≤ i → LaidTo all (before ++ take i named) (drop i named ++ rest) output → LaidTo all (before ++ named) rest output
-  source_laid output past to =
-      let front : take i named ≡ named = take_all i named (omega (arith, are.many, past)) in
-      let none : drop i named ≡ [] = drop_all i named (omega (arith, are.many, past)) in
-      subst (λ (these : List Statement). LaidTo all (before ++ these) rest output) front (subst (λ (these : List Statement). LaidTo all (before ++ take i named) (these ++ rest) output) none to)
+  source_laid output past to = grind (arith, nat_tests, take_all, drop_all)
 
 pub source_start : (all before rest named : List Statement) (output : Output) → LaidTo all before (named ++ rest) output → LaidTo all (before ++ take 0 named) (drop 0 named ++ rest) output
 source_start all before rest named output to = subst (λ (these : List Statement). LaidTo all these (named ++ rest) output) (sym (append-nil before)) to

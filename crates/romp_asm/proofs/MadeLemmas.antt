@@ -5,6 +5,7 @@ use Rattle.std.specs.Int.{from_be_bytes, to_be_bytes, w32}
 use Rattle.std.proofs.lemmas.Nat.{be_bytes_4}
 use Rattle.flat_machine.specs.declared.machine.Window.{Window as Sight}
 use Rattle.asm_parse.specs.declared.statement.Expr.TheVariants.{Number}
+use Rattle.std.proofs.lemmas.Bool.Decides.{nat_tests}
 
 -- a statement without a label
 abbrev pub plain_at : ℕ → Body → Statement
@@ -75,9 +76,7 @@ word_by addresses at number bytes small is = rw (le-leb number 4294967295 small)
 
 -- a word is its four bytes
 word_encoded : (addresses : List ℕ → Option ℤ) (at a b c d : ℕ) → AllByRecursion IsByte (a ∷ b ∷ c ∷ d ∷ []) → encoding_of addresses at (Data 4 (Number (pos (from_be_bytes w32 (a ∷ b ∷ c ∷ d ∷ []))))) ≡ Ok (a ∷ b ∷ c ∷ d ∷ [])
-word_encoded addresses at a b c d are =
-    word_by addresses at (from_be_bytes w32 (a ∷ b ∷ c ∷ d ∷ [])) (a ∷ b ∷ c ∷ d ∷ []) (word_small a b c d are.0 are.1.0 are.1.1.0 are.1.1.1.0)
-    (be_bytes_4 (a ∷ b ∷ c ∷ d ∷ []) (from_be_bytes w32 (a ∷ b ∷ c ∷ d ∷ [])) refl (byte_at (a ∷ b ∷ c ∷ d ∷ []) are) refl)
+word_encoded addresses at a b c d are = grind (arith, nat_tests, word_by, word_small, be_bytes_4, byte_at)
 
 byte_encoded : (addresses : List ℕ → Option ℤ) (at byte : ℕ) → byte < 256 → encoding_of addresses at (byte_body byte) ≡ Ok (byte ∷ [])
 byte_encoded addresses at byte small = rw (le-leb byte 255 (omega arith)) refl

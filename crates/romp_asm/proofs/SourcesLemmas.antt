@@ -1,33 +1,13 @@
 -- Where the labels of several sources stand.
-use Rattle.romp_asm.proofs.Common.{◌≡◌, inl, inr, ℕ, ℤ, pos, zero, suc, ◌+◌, ◌<◌, ◌≤◌, Bool, true, false, is_some, cond, List, [], ◌∷◌, ◌++◌, length, map, take, drop, get_or, sum_by, unwrap_or, replicate, Option, Some, None, Result, Ok, Err, refl, sym, ap, subst, ◌∙◌, arith, append-nil, append_assoc, length-append, list_any, option_map, option_map_or, option_or, bytes_eq, fun_ext, drop-cons, cases_lt, nat_tests, drop_all, get_or_push, get_or_append_left, get_or_default, get_or-map, take-append-le, take_all, take_more, take-map, map-append, length-map, length-take-le, fold_push, sum_by-append, sum_by-cons, Statement, Place, Scope, Table, addresses_in, found_in, given_in, repeated_in, stands_before, AreAlone, AreTables, IsTable, AreReadAs, IsReadAs, assembled, entry_of, has_label_of, image_behind, piece_before, piece_of, windows_of, with_entry, with_image, with_window, size_of, total, defines, joined_from, meant, name_in, named, renamed_body, address_from, address_of, addresses_of, is_labelled}
-use Rattle.std.specs.Prelude.{◌==◌, ◌||◌, if◌then◌else◌, option_and_then, slice_get}
+use Rattle.romp_asm.proofs.Common.{◌≡◌, inl, inr, ℕ, ℤ, pos, zero, suc, ◌+◌, ◌<◌, ◌≤◌, Bool, true, false, is_some, cond, List, [], ◌∷◌, ◌++◌, length, map, take, drop, get_or, sum_by, unwrap_or, replicate, Option, Some, None, Result, Ok, Err, refl, sym, ap, subst, ◌∙◌, arith, append-nil, append_assoc, length-append, list_any, option_map, option_map_or, option_or, fun_ext, drop-cons, cases_lt, nat_tests, drop_all, get_or_push, get_or_append_left, get_or_default, get_or-map, take-append-le, take_all, take_more, take-map, map-append, length-map, length-take-le, fold_push, sum_by-append, sum_by-cons, Statement, Place, Scope, Table, addresses_in, found_in, given_in, repeated_in, stands_before, AreAlone, AreTables, IsTable, AreReadAs, IsReadAs, assembled, entry_of, has_label_of, image_behind, piece_before, piece_of, windows_of, with_entry, with_image, with_window, size_of, total, defines, joined_from, meant, name_in, named, renamed_body, address_from, address_of, addresses_of, is_labelled}
+use Rattle.std.specs.Prelude.{if◌then◌else◌, option_and_then, slice_get}
 use Rattle.std.proofs.lemmas.Option.{slice_get-get_or, slice_get_past}
 use Rattle.romp_asm.proofs.LayoutLemmas.{address_same, among_first}
 use Rattle.romp_asm.proofs.RenamedLemmas.{entry_renamed, piece_renamed, size_renamed, window_renamed}
 
 -- one source more
 pub tables_more : (tables : List Table) (sources : List (List Statement)) (table : Table) (source : List Statement) → AreTables tables sources → IsTable table (sum_by total sources) source → AreTables (tables ++ table ∷ []) (sources ++ source ∷ [])
-tables_more tables sources table source are is = record {
-  many = omega (arith, are.many, length-append tables (table ∷ []), length-append sources (source ∷ []));
-  each = λ place that within here. elim (cases_lt place (length tables)) [
-    | inl less ↦
-        let before : that ≡ get_or tables place that = here ∙ get_or_append_left tables (table ∷ []) that place less in
-        let inside : place < length sources = omega (arith, less, are.many) in
-        let front : take place sources ≡ take place (sources ++ source ∷ []) = sym (take-append-le place sources (source ∷ []) (omega (arith, inside))) in
-        let there : get_or sources place [] ≡ get_or (sources ++ source ∷ []) place [] = sym (get_or_append_left sources (source ∷ []) [] place inside) in
-        subst (λ (these : List (List Statement)). IsTable that (sum_by total these) (get_or (sources ++ source ∷ []) place [])) front
-        (subst (λ (those : List Statement). IsTable that (sum_by total (take place sources)) those) there (are.each place that less before))
-    | inr not_less ↦
-        let last : length tables ≡ place = omega (arith, not_less, within, length-append tables (table ∷ [])) in
-        let long : length sources ≡ place = omega (arith, last, are.many) in
-        let this : table ≡ that = sym (here ∙ get_or_push tables table that place last) in
-        let front : sources ≡ take place (sources ++ source ∷ []) = sym (take_all place sources (omega (arith, long))) ∙ sym (take-append-le place sources (source ∷ []) (omega (arith, long))) in
-        let there : source ≡ get_or (sources ++ source ∷ []) place [] = sym (get_or_push sources source [] place long) in
-        subst (λ (those : Table). IsTable those (sum_by total (take place (sources ++ source ∷ []))) (get_or (sources ++ source ∷ []) place [])) this
-        (subst (λ (these : List (List Statement)). IsTable table (sum_by total these) (get_or (sources ++ source ∷ []) place [])) front
-        (subst (λ (those : List Statement). IsTable table (sum_by total sources) those) there is))
-  ];
-}
+tables_more tables sources table source are is = grind (arith, nat_tests, length-append, cases_lt, get_or_append_left, take-append-le, get_or_push, take_all)
 
 nothing-named : (at : ℕ) (word : List ℕ) → address_from at [] word ≡ None
 unfolding address_from
@@ -55,34 +35,16 @@ address-append at (x ∷ xs) ys word = by_test (is_labelled word x) (address-app
 pub has_address : (at : ℕ) (xs : List Statement) (word : List ℕ) → list_any (is_labelled word) xs ≡ is_some (address_from at xs word)
 unfolding address_from
 has_address at [] word = refl
-has_address at (x ∷ xs) word = by_test (is_labelled word x) (has_address (at + size_of x.body) xs word)
-  where
-    by_test : (test : Bool) → list_any (is_labelled word) xs ≡ is_some (address_from (at + size_of x.body) xs word) → (test || list_any (is_labelled word) xs) ≡ is_some (cond test (Some at) (address_from (at + size_of x.body) xs word))
-    by_test true others = refl
-    by_test false others = others
+has_address at (x ∷ xs) word = grind (arith, nat_tests, has_address (at + size_of x.body) xs word)
 
 module _ (giver : List ℕ → Option ℕ) where
   -- a statement has a name of its source where it has the word
   own_label : (source : ℕ) (whole : List Statement) (statement : Statement) (word : List ℕ) → is_labelled (name_in source word) (named giver source whole statement) ≡ is_labelled word statement
-  own_label source whole statement word = by_label statement.label
-    where
-      same : (source == source) ≡ true
-      same = grind (arith, nat_tests)
-
-      by_label : (label : Option (List ℕ)) → option_map_or (λ label. bytes_eq label (name_in source word)) (option_map (name_in source) label) false ≡ option_map_or (λ label. bytes_eq label word) label false
-      by_label None = refl
-      by_label (Some label) = rw same refl
+  own_label source whole statement word = grind (arith, nat_tests)
 
   -- and no name of another source
   other_label : (source other : ℕ) (whole : List Statement) (statement : Statement) (word : List ℕ) → (other ≡ source → ⊥) → is_labelled (name_in other word) (named giver source whole statement) ≡ false
-  other_label source other whole statement word apart = by_label statement.label
-    where
-      differ : (source == other) ≡ false
-      differ = grind (arith, nat_tests)
-
-      by_label : (label : Option (List ℕ)) → option_map_or (λ label. bytes_eq label (name_in other word)) (option_map (name_in source) label) false ≡ false
-      by_label None = refl
-      by_label (Some label) = rw differ refl
+  other_label source other whole statement word apart = grind (arith, nat_tests)
 
   total-named : (source : ℕ) (whole xs : List Statement) → total (map (named giver source whole) xs) ≡ total xs
   total-named source whole [] = refl
@@ -98,17 +60,12 @@ module _ (giver : List ℕ → Option ℕ) where
   address-own : (source at : ℕ) (whole xs : List Statement) (word : List ℕ) → address_from at (map (named giver source whole) xs) (name_in source word) ≡ address_from at xs word
   unfolding address_from
   address-own source at whole [] word = refl
-  address-own source at whole (x ∷ xs) word =
-      ap (λ (test : Bool). cond test (Some at) (address_from (at + size_of (renamed_body (meant giver source whole) x.body)) (map (named giver source whole) xs) (name_in source word))) (own_label source whole x word)
-      ∙ ap (λ (n : ℕ). cond (is_labelled word x) (Some at) (address_from (at + n) (map (named giver source whole) xs) (name_in source word))) (sym (size_renamed (addresses_of []) (meant giver source whole) x.body))
-      ∙ ap (cond (is_labelled word x) (Some at)) (address-own source (at + size_of x.body) whole xs word)
+  address-own source at whole (x ∷ xs) word = grind (arith, nat_tests, address-own source (at + size_of x.body) whole xs word, own_label, size_renamed)
 
   address-other : (source other at : ℕ) (whole xs : List Statement) (word : List ℕ) → (other ≡ source → ⊥) → address_from at (map (named giver source whole) xs) (name_in other word) ≡ None
   unfolding address_from
   address-other source other at whole [] word apart = refl
-  address-other source other at whole (x ∷ xs) word apart =
-      ap (λ (test : Bool). cond test (Some at) (address_from (at + size_of (renamed_body (meant giver source whole) x.body)) (map (named giver source whole) xs) (name_in other word))) (other_label source other whole x word apart)
-      ∙ address-other source other (at + size_of (renamed_body (meant giver source whole) x.body)) whole xs word apart
+  address-other source other at whole (x ∷ xs) word apart = grind (arith, nat_tests, address-other source other (at + size_of (renamed_body (meant giver source whole) x.body)) whole xs word, other_label)
 
   total-joined : (first : ℕ) (sources : List (List Statement)) → total (joined_from giver first sources) ≡ sum_by total sources
   unfolding joined_from
@@ -121,11 +78,7 @@ module _ (giver : List ℕ → Option ℕ) where
   address-outside : (first other at : ℕ) (sources : List (List Statement)) (word : List ℕ) → ((k : ℕ) → k < length sources → other ≡ first + k → ⊥) → address_from at (joined_from giver first sources) (name_in other word) ≡ None
   unfolding joined_from
   address-outside first other at [] word apart = nothing-named at (name_in other word)
-  address-outside first other at (source ∷ sources) word apart =
-      address-append at (map (named giver first source) source) (joined_from giver (first + 1) sources) (name_in other word)
-      ∙ ap (λ (found : Option ℕ). option_or found (address_from (at + total (map (named giver first source) source)) (joined_from giver (first + 1) sources) (name_in other word)))
-      (address-other first other at source source word (λ same. apart 0 (omega arith) (omega (arith, same))))
-      ∙ address-outside (first + 1) other (at + total (map (named giver first source) source)) sources word (λ k within same. apart (k + 1) (omega (arith, within)) (omega (arith, same)))
+  address-outside first other at (source ∷ sources) word apart = cc (address-append at (map (named giver first source) source) (joined_from giver (first + 1) sources) (name_in other word), address-other first other at source source word (λ same. apart 0 (omega arith) (omega (arith, same))), address-outside (first + 1) other (at + total (map (named giver first source) source)) sources word (λ k within same. apart (k + 1) (omega (arith, within)) (omega (arith, same))))
 
   -- the sources in front of one, it, and those behind it
   pub joined-split : (first k n : ℕ) (sources : List (List Statement)) → n ≡ first + k → k < length sources
@@ -298,18 +251,14 @@ module _ (scope : Scope) (sources : List (List Statement)) (are : AreTables scop
 joined-append : (giver : List ℕ → Option ℕ) (first : ℕ) (xs ys : List (List Statement)) → joined_from giver first (xs ++ ys) ≡ joined_from giver first xs ++ joined_from giver (first + length xs) ys
 unfolding joined_from
 joined-append giver first [] ys = let same : first ≡ first + 0 = omega arith in ap (λ (n : ℕ). joined_from giver n ys) same
-joined-append giver first (x ∷ xs) ys =
-    let same : first + 1 + length xs ≡ first + length (x ∷ xs) = omega arith in
-    ap (λ (these : List Statement). map (named giver first x) x ++ these) (joined-append giver (first + 1) xs ys ∙ ap (λ (n : ℕ). joined_from giver (first + 1) xs ++ joined_from giver n ys) same)
-    ∙ sym (append_assoc (map (named giver first x) x) (joined_from giver (first + 1) xs) (joined_from giver (first + length (x ∷ xs)) ys))
+joined-append giver first (x ∷ xs) ys = grind (arith, nat_tests, joined-append giver (first + 1) xs ys, append_assoc)
 
 module _ (giver : List ℕ → Option ℕ) (sources : List (List Statement)) (i : ℕ) where
   pub joined-from-one : i < length sources → joined_from giver i (drop i sources) ≡ map (named giver i (get_or sources i [])) (get_or sources i []) ++ joined_from giver (i + 1) (drop (i + 1) sources)
   unfolding joined_from
   joined-from-one within =
       let next : suc i ≡ i + 1 = omega arith in
-      ap (joined_from giver i) (drop-cons sources i [] within)
-      ∙ ap (λ (n : ℕ). map (named giver i (get_or sources i [])) (get_or sources i []) ++ joined_from giver (i + 1) (drop n sources)) next
+      cc (drop-cons sources i [] within, next)
 
   pub joined-to-one : i < length sources → joined_from giver 0 (take i sources) ++ map (named giver i (get_or sources i [])) (get_or sources i []) ≡ joined_from giver 0 (take (i + 1) sources)
   unfolding joined_from
@@ -371,11 +320,7 @@ module _ (statements : List Statement) where
   own_address word = address-own nobody 0 0 statements statements word
 
   told_alone : (word : List ℕ) → addresses_of statements word ≡ addresses_of (map name_of statements) (meant nobody 0 statements word)
-  told_alone word = ap (option_map pos) (sym (own_address word)) ∙ ap (λ (n : ℕ). addresses_of (map name_of statements) (name_in n word)) (either (defines statements word))
-    where
-      either : (test : Bool) → ◌≡◌ {A = ℕ} 0 (if test then 0 else 0)
-      either true = refl
-      either false = refl
+  told_alone word = grind (arith, nat_tests, own_address)
 
   same_addresses : addresses_of statements ≡ (λ (word : List ℕ). addresses_of (map name_of statements) (meant nobody 0 statements word))
   same_addresses = fun_ext told_alone

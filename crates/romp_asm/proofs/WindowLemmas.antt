@@ -1,6 +1,6 @@
 -- The windows of a program that was assembled.
-use Rattle.romp_asm.proofs.Common.{AllByRecursion, fold, nat_tests, Statement, Body, Window, encoding_of, Parts, assembled, entry_of, fitted, has_label_of, image_behind, is_entry, is_free, piece_before, piece_of, takes_window, windows_of, with_image, with_window, size_of, total, addresses_of}
-use Rattle.std.proofs.Common.{◌≡◌, ℕ, zero, suc, ◌+◌, ◌-◌, ◌≤◌, ◌&&◌, ◌||◌, nat_lt, nat_le, if◌then◌else◌, Bool, true, false, is_some, List, [], ◌∷◌, ◌++◌, length, replicate, slice_get, slice_set, Option, Some, None, Result, Ok, Err, refl, sym, ap, ◌∙◌, subst, arith, append_assoc, append-nil, length-set}
+use Rattle.romp_asm.proofs.Common.{AllByRecursion, fold, nat_tests, Statement, Body, encoding_of, Parts, assembled, entry_of, fitted, has_label_of, image_behind, is_entry, piece_before, piece_of, takes_window, windows_of, with_window, size_of, total, addresses_of}
+use Rattle.std.proofs.Common.{◌≡◌, ℕ, zero, suc, ◌+◌, ◌-◌, ◌&&◌, ◌||◌, nat_lt, if◌then◌else◌, Bool, true, false, is_some, List, [], ◌∷◌, ◌++◌, length, replicate, slice_set, Option, None, Result, Ok, Err, refl, arith, append_assoc, append-nil, length-set}
 use Rattle.flat_machine.specs.declared.machine.Window.{Window as Sight}
 use Rattle.romp_asm.proofs.MadeLemmas.{IsLegalPlace, windows_push}
 
@@ -11,16 +11,7 @@ set_legal (old ∷ windows) (suc place) window legal is = (legal.0, set_legal wi
 
 -- a statement that may stand behind legal windows leaves legal ones
 legal_with : (windows : List (Option Sight)) (body : Body) → takes_window windows body ≡ true → AllByRecursion IsLegalPlace windows → AllByRecursion IsLegalPlace (with_window windows body)
-legal_with windows (Window register segment write) takes legal = set_legal windows (register - 1) (Some (record { segment = segment; write = write })) legal (low (nat_le 1 register && is_free (slice_get windows (register - 1))) takes, high (nat_le 1 register && is_free (slice_get windows (register - 1)) && nat_le 1 segment) takes)
-  where
-    high : (others : Bool) → (others && nat_le segment 3839) ≡ true → segment ≤ 3839
-    high true e = grind (arith, nat_tests, e)
-    high false e = absurd (cc e)
-
-    low : (others : Bool) → (others && nat_le 1 segment && nat_le segment 3839) ≡ true → 1 ≤ segment
-    low true e = grind (arith, nat_tests, e)
-    low false e = absurd (cc e)
-legal_with windows _ takes legal = legal
+legal_with windows body takes legal = grind (arith, nat_tests, set_legal, takes)
 
 -- a fault of kind 8 or 9, or the bytes
 abbrev fitted_by : Bool → Bool → List ℕ → Result (List ℕ) ℕ
@@ -45,9 +36,7 @@ takes_told false at windows body encoding bytes e = takes_by at windows body enc
 
 -- both the piece and what follows it were made
 split : (line : ℕ) (piece : Result (List ℕ) ℕ) (others : Result (List ℕ) (ℕ × ℕ)) (image : List ℕ) → piece_before line piece others ≡ Ok image → ((bytes : List ℕ) × (piece ≡ Ok bytes)) × ((more : List ℕ) × (others ≡ Ok more))
-split line (Ok bytes) (Ok more) image e = ((bytes, refl), (more, refl))
-split line (Ok bytes) (Err fault) image e = absurd (cc e)
-split line (Err kind) others image e = absurd (cc e)
+split line piece others image e = grind (arith, nat_tests)
 
 legal_behind : (all before rest : List Statement) (image : List ℕ) → AllByRecursion IsLegalPlace (windows_of before) → image_behind all before rest ≡ Ok image → AllByRecursion IsLegalPlace (windows_of (before ++ rest))
 unfolding image_behind
@@ -60,11 +49,7 @@ legal_behind all before (s ∷ rest) image legal e =
 
 windows_long : (windows : List (Option Sight)) (statements : List Statement) → length (fold (λ windows (statement : Statement). with_window windows statement.body) windows statements) ≡ length windows
 windows_long windows [] = refl
-windows_long windows (s ∷ statements) = windows_long (with_window windows s.body) statements ∙ one s.body
-  where
-    one : (body : Body) → length (with_window windows body) ≡ length windows
-    one (Window register segment write) = length-set windows (register - 1) (Some (record { segment = segment; write = write }))
-    one _ = refl
+windows_long windows (s ∷ statements) = grind (arith, nat_tests, windows_long (with_window windows s.body) statements, length-set)
 
 none_legal : (n : ℕ) → AllByRecursion IsLegalPlace (replicate n None)
 none_legal zero = tt
@@ -76,11 +61,4 @@ windows_in (Err fault) = []
 
 -- a program that was assembled has 15 places for windows, and legal ones
 pub assembled_windows : (all : List Statement) (parts : Parts) → assembled all ≡ Ok parts → AllByRecursion IsLegalPlace parts.windows × (length parts.windows ≡ 15)
-assembled_windows all parts e = by_image (image_behind all [] all) refl e
-  where
-    by_image : (image : Result (List ℕ) (ℕ × ℕ)) → image_behind all [] all ≡ image → with_image all image ≡ Ok parts → AllByRecursion IsLegalPlace parts.windows × (length parts.windows ≡ 15)
-    by_image (Ok image) is e =
-        let same : windows_of all ≡ parts.windows = ap windows_in e in
-        let legal = legal_behind all [] all image (none_legal 15) is in
-        (subst (AllByRecursion IsLegalPlace) same legal, sym (ap length same) ∙ windows_long (replicate 15 None) all)
-    by_image (Err fault) is e = absurd (cc e)
+assembled_windows all parts e = grind (arith, nat_tests, legal_behind, none_legal, windows_long)

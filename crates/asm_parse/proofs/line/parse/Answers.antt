@@ -1,3 +1,4 @@
+use Rattle.std.proofs.lemmas.Grind.{common_steps}
 use Rattle.asm_parse.proofs.Common.{◌≡◌, ℕ, List, Bor, Err, arith, ap, sym, ◌∙◌, subst, option_map, line_of}
 use Rattle.asm_parse.specs.declared.fault.LineFault.{LineFault}
 use Rattle.asm_parse.specs.Answers.{IsFaultOf}
@@ -26,3 +27,6 @@ returns-in-Err-Kind-clause-value c =
     subst (λ (fault : LineFault). IsFaultOf fault (line_of c.loop-left.number c.first_line.result.0.now)) c.in-Err-Kind.field-0-is c.in-Err-Kind.ensures.0 in
     line_faulty c.loop-left.statements.items c.loop-left.number c.in-Err-Kind.kind c.in-Some.rest.now c.first_line.result.0.now _ c.first_line.ensures.line told (rw c.in-Some.is at c.loop-left.invariant.so_far)
     ∙ ap (λ (kind : ℕ). Err (c.loop-left.number, kind)) (sym c.in-Err-Kind.kind-is)
+
+pub loop-left-smaller : goal.loop-left-smaller
+loop-left-smaller c = grind (arith, common_steps)

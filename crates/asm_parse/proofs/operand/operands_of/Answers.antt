@@ -1,6 +1,14 @@
+use Rattle.std.proofs.lemmas.Grind.{common_steps}
+use Rattle.std.proofs.Common.{arith}
 use Rattle.asm_parse.proofs.OperandLemmas.{stopped}
 use Rattle.asm_parse.proofs.operand.operands_of.Goals as goal
 
 pub returns-in_default : goal.returns-in_default
 returns-in_default c =
     stopped c.loop-sort.operands.items c.args.sorts.now c.loop-sort.sort-index c.loop-sort.left _ c.loop-sort-test.true c.in_default.is c.loop-sort.invariant.so_far
+
+pub loop-sort-preserved : goal.loop-sort-preserved
+loop-sort-preserved c = grind (arith, common_steps)
+
+pub returns-in_err-operand_of : goal.returns-in_err-operand_of
+returns-in_err-operand_of c = grind (arith, common_steps)

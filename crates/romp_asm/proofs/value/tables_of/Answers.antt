@@ -1,3 +1,4 @@
+use Rattle.std.proofs.lemmas.Grind.{common_steps}
 use Rattle.romp_asm.proofs.Common.{◌≡◌, ◌+◌, ◌∷◌, [], ◌++◌, List, length, take, sum_by, sym, ap, subst, ◌∙◌, arith, take_more, sum_by-take-le, sum_by_push, Statement, AreTables, IsTable, total}
 use Rattle.romp_asm.proofs.SourcesLemmas.{tables_more}
 use Rattle.romp_asm.proofs.value.tables_of.Goals as goal
@@ -26,3 +27,6 @@ loop-statements-preserved c =
       address = omega (arith, start, c.loop-statements.invariant.address, ap (sum_by total) (front at), sum_by_push total (take i c.args.sources.now) c.statements-item.result);
       small = omega (arith, start, c.loop-statements.invariant.small, c.in_ok-table.ensures.small, ap (sum_by many) (front at), sum_by_push many (take i c.args.sources.now) c.statements-item.result);
     }
+
+pub returns : goal.returns
+returns c = grind (arith, common_steps)

@@ -1,4 +1,4 @@
-use Rattle.standby.proofs.Common.{◌≡◌, ℕ, ◌+◌, ◌-◌, ◌≤◌, List, [], ◌++◌, length, map, take, drop, refl, sym, subst, ◌∙◌, ap, arith, Result, Ok, Err, All, OnOk, length-drop, length-map, Layout, line_count, Header, line_bytes, RecordLine, Prints, PrintsBy, Puts, Shipped, feeds, prints_on, prints_stop, prints_unput, area_bytes, broken, HasBytes, shipped, behind, put_of, end_line, head_line, later, records_text, text_of, told, held_of, AsksAndPuts, shows_asks, shows_on, IsShown}
+use Rattle.standby.proofs.Common.{◌≡◌, ℕ, ◌≤◌, List, [], ◌++◌, length, map, take, drop, refl, sym, subst, ◌∙◌, ap, arith, Result, Ok, Err, All, OnOk, length-drop, length-map, Layout, line_count, Header, line_bytes, RecordLine, Prints, PrintsBy, Puts, Shipped, feeds, prints_on, prints_stop, prints_unput, area_bytes, broken, HasBytes, shipped, behind, put_of, end_line, head_line, later, records_text, text_of, told, held_of, AsksAndPuts, shows_asks, shows_on, IsShown}
 use Rattle.standby.proofs.ShipLemmas.{later_later}
 use Rattle.standby.proofs.ContentLemmas.{content_is}
 use Rattle.standby.proofs.PartLemmas.{end_is_line, head_is_line, one_feed}

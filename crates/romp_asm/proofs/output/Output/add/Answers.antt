@@ -1,0 +1,5 @@
+use Rattle.std.proofs.Common.{arith}
+use Rattle.romp_asm.proofs.output.Output.add.Goals as goal
+
+pub returns : goal.returns
+returns c = grind arith

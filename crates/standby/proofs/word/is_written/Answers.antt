@@ -1,0 +1,9 @@
+use Rattle.std.proofs.lemmas.Grind.{elements}
+use Rattle.std.proofs.Common.{arith}
+use Rattle.standby.proofs.word.is_written.Goals as goal
+
+pub returns-clause-small : goal.returns-clause-small
+returns-clause-small c = grind (arith, elements)
+
+pub returns-in_err-written-clause-small : goal.returns-in_err-written-clause-small
+returns-in_err-written-clause-small c = grind (arith, elements)
