@@ -1,10 +1,10 @@
 #!/bin/sh
-# A day of accounts, audited from what it left: `examples/audit.sh [PROGRAM]`; without a word it is ../romp801.
+# A day of accounts, audited from what it left: `examples/audit.sh [PROGRAM]`; without a word it is the one that was built here.
 # It prints examples/audit.out.
 set -eu
 
 here=$(cd "$(dirname "$0")" && pwd)
-program=$(readlink -f "$(command -v "${1:-$here/../romp801}")")
+. "$here/program.sh"
 folder=$(mktemp -d)
 trap 'rm -rf "$folder"' EXIT
 

@@ -1,10 +1,11 @@
 #!/bin/sh
 # Four stores that share 64 accounts, with an outbox each and two standbys, killed at random: `examples/four.sh [PROGRAM]`; without a word
-# it is ../romp801. It prints examples/four.out. Account A is one of store A modulo 4, at offset 256 times A / 4 of segment 1.
+# it is the one that was built here. It prints examples/four.out. Account A is one of store A modulo 4, at offset 256 times A / 4 of segment 1.
 set -eu
 
 here=$(cd "$(dirname "$0")" && pwd)
-ROMP801=$(readlink -f "$(command -v "${1:-$here/../romp801}")")
+. "$here/program.sh"
+ROMP801=$program
 export ROMP801
 tools=$here/../tools
 programs=$here/four.job

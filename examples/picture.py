@@ -43,13 +43,16 @@ class Report:
         self.crashed = False
 
     def new_column(self):
+        """Begins a column, and answers its number."""
         self.columns.append([])
         return len(self.columns) - 1
 
     def put(self, *item):
+        """Puts something into the last column."""
         self.columns[-1].append(item)
 
     def begin(self, words):
+        """A line that begins an activation, or refuses it: it takes the first row that is free."""
         column = self.new_column()
         row = next((row for row, free in enumerate(self.free) if free is not None and free <= column), len(self.free))
         if row == len(self.free):
@@ -61,6 +64,7 @@ class Report:
             self.over(words[1], words[0], RED)
 
     def turn(self, number, rows):
+        """A turn: whoever waited doesn't from here on."""
         column = self.new_column()
         lane = self.lanes[number]
         if lane.waits and lane.waits[-1][1] is None:
@@ -68,12 +72,14 @@ class Report:
         self.put("turn", number, rows)
 
     def over(self, number, words, color):
+        """An activation ends in the last column."""
         lane = self.lanes[number]
         lane.end = len(self.columns) - 1
         self.free[lane.row] = lane.end + FREE_AFTER
         self.put("end", number, words, color)
 
     def across(self, words, color):
+        """A line across all lanes, in a column of its own."""
         self.new_column()
         self.put("across", words, color)
         self.new_column()
@@ -128,12 +134,15 @@ class Band:
                 getattr(self, item[0])(self.x(column), *item[1:])
 
     def x(self, column):
+        """Where a column stands."""
         return LEFT + COLUMN * (column - self.first + 1)
 
     def y(self, number):
+        """The height of an activation's lane."""
         return self.top + TOP + LANE * self.report.lanes[number].row + LANE // 2
 
     def text(self, x, y, words, color="#222", anchor="middle"):
+        """Words with a white edge, so that they can be read on lines."""
         self.words.append(f'<text x="{x}" y="{y}" fill="{color}" text-anchor="{anchor}" stroke="#fff" stroke-width="3" '
                           f'paint-order="stroke">{escape(words)}</text>')
 
@@ -150,16 +159,19 @@ class Band:
             self.below.append(f'<line x1="{x - COLUMN}" y1="{y}" x2="{x}" y2="{y}" stroke="{GREY}" stroke-width="2"{dashes}/>')
 
     def begin(self, x, number):
+        """A bar and the name."""
         y, lane = self.y(number), self.report.lanes[number]
         self.shapes.append(f'<line x1="{x}" y1="{y - 8}" x2="{x}" y2="{y + 8}" stroke="{GREY}" stroke-width="3"/>')
         self.text(x - 2, y - 13, f"{number} {lane.name}", anchor="start")
 
     def turn(self, x, number, rows):
+        """A box with the rows."""
         y = self.y(number)
         self.shapes.append(f'<rect x="{x - 12}" y="{y - 10}" width="24" height="20" rx="3" fill="#fff" stroke="{BLUE}" stroke-width="2"/>')
         self.shapes.append(f'<text x="{x}" y="{y + 4}" fill="{BLUE}" text-anchor="middle">{escape(rows)}</text>')
 
     def arrow(self, x, start, end, color):
+        """From one that waits to the other; those of a cycle are bent."""
         y, to = self.y(start), self.y(end)
         shift = 6 if to > y else -6
         bend = x + (14 if color == RED and shift < 0 else -14 if color == RED else 0)
@@ -167,10 +179,12 @@ class Band:
                            f'fill="none" stroke="{color}" stroke-width="2" marker-end="url(#{ARROWS[color]})"/>')
 
     def end(self, x, number, words, color):
+        """A dot or a cross, and words beside it."""
         self.shapes.append(ending(x + 18, self.y(number), color))
         self.text(x + 28, self.y(number) + 4, words, color, "start")
 
     def across(self, x, words, color):
+        """A line over all lanes of the band."""
         self.below.append(f'<line x1="{x}" y1="{self.top + TOP - 8}" x2="{x}" y2="{self.top + self.height - 4}" stroke="{color}" stroke-width="2"/>')
         self.text(x, self.top + TOP - 12, words, color)
 
@@ -203,6 +217,7 @@ def legend(width, top):
 
 
 def marker(color):
+    """An arrow's head."""
     return (f'<marker id="{ARROWS[color]}" viewBox="0 0 10 10" refX="9" refY="5" markerWidth="5" markerHeight="5" '
             f'orient="auto"><path d="M0 0 L10 5 L0 10 z" fill="{color}"/></marker>')
 

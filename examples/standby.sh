@@ -1,10 +1,10 @@
 #!/bin/sh
 # A standby: a second store follows a first one through texts, and takes over when the first is lost.
-# `examples/standby.sh [PROGRAM]`; without a word it is ../romp801. It prints examples/standby.out.
+# `examples/standby.sh [PROGRAM]`; without a word it is the one that was built here. It prints examples/standby.out.
 set -eu
 
 here=$(cd "$(dirname "$0")" && pwd)
-program=$(readlink -f "$(command -v "${1:-$here/../romp801}")")
+. "$here/program.sh"
 folder=$(mktemp -d)
 trap 'rm -rf "$folder"' EXIT
 cd "$folder"

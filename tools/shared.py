@@ -163,16 +163,19 @@ class Store:
         self._bank()
 
     def _field(self, at, form, what):
+        """A number or some bytes of the header; where they aren't whole the fault is at the end."""
         size = struct.calcsize(form)
         if len(self.image) < at + size:
             raise Fault(len(self.image), f"it ends before {what}")
         return struct.unpack_from(form, self.image, at)[0]
 
     def _is(self, holds, offset, why):
+        """Raises a fault where something doesn't hold."""
         if not holds:
             raise Fault(offset, why)
 
     def _header(self):
+        """Reads the header and looks at the length."""
         self._is(self._field(0, "8s", "its name") == b"801STORE", 0, "it doesn't begin as a store does")
         self.version = self._field(8, ">H", "the version")
         self._is(self.version in (1, 2), 8, f"version {self.version} is none")
@@ -205,6 +208,7 @@ class Store:
         self._is(len(self.image) == self.length, min(len(self.image), self.length), f"it should have {self.length} bytes")
 
     def _bank(self):
+        """Reads the records of the chosen bank, from gate to gate."""
         at = 256 if self.image[128] != 1 else 264 + self.bank
         self.base = struct.unpack_from(">Q", self.image, at)[0]
         area = at + 8
