@@ -66,9 +66,8 @@ pub struct StdFile<R: Files<File = File> + AllocGlobal> {
 }
 
 impl<R: Files<File = File> + AllocGlobal + Drop> StdFile<R> {
-    /// The file at this path, and its bytes. It is opened and locked, what was written into it is put on the disk, what memory keeps of it
-    /// is dropped, and then it is read: so these bytes are the medium's. Where there is none, and it is to be made, that comes with its
-    /// first write.
+    /// The file at this path, and its bytes. It is opened and locked, what was written into it is put on the disk, and then it is read.
+    /// Where there is none, and it is to be made, that comes with its first write.
     ///
     /// # Errors
     ///
@@ -79,7 +78,7 @@ impl<R: Files<File = File> + AllocGlobal + Drop> StdFile<R> {
         let alloc = rt.alloc();
         let (place, bytes) = match open_store(&rt, path.as_str(), wanted, false) {
             Ok(store) => {
-                store.settle()?;
+                store.sync()?;
                 let bytes = read_whole(alloc, &store.file)?;
                 (Place::Open(store), bytes)
             }
@@ -130,16 +129,6 @@ impl Store {
                 self.file.sync_all()?;
                 folder.sync_all()
             }
-        }
-    }
-
-    // A sync, behind which memory keeps nothing of the file. Pages that the system could not put on the disk it takes for clean, and tells
-    // so once: by a read of memory, somebody who comes later would find bytes that the disk does not hold.
-    fn settle(&self) -> io::Result<()> {
-        self.sync()?;
-        match libc::posix_fadvise(self.file.as_raw_fd(), 0, 0, libc::POSIX_FADV_DONTNEED) {
-            0 => Ok(()),
-            error => Err(io::Error::from_raw_os_error(error)),
         }
     }
 }
