@@ -8,6 +8,7 @@ use Rattle.job_text.proofs.LengthLemmas.{written_short}
 use Rattle.job_text.proofs.NameLemmas.{job_names}
 use Rattle.job_text.proofs.ReadyLemmas.{events_among}
 use Rattle.job_text.proofs.WrittenFormLemmas.{AllSound, written_form}
+use Rattle.std.proofs.lemmas.Bool.Decides.{nat_tests}
 
 -- each program has a name
 as_many : (others : List (List ℕ)) (number : ℕ) (names : List (List ℕ)) (programs : List Parts) (lines : List (List ℕ)) → HasPrograms others number names programs lines → length names ≡ length programs
@@ -25,16 +26,11 @@ all_sound : (names : List (List ℕ)) (programs : List Program) → length names
 all_sound [] [] long are = tt
 all_sound [] (program ∷ programs) long are = absurd (omega arith)
 all_sound (name ∷ names) [] long are = absurd (omega arith)
-all_sound (name ∷ names) (program ∷ programs) long are = (
-  record { bytes = bytes_are program.image are.0; few = program.image_fits; entry = omega (arith, program.entry_fits, program.entry_is_even); even = program.entry_is_even },
-  all_sound names programs (omega arith) are.1,
-)
+all_sound (name ∷ names) (program ∷ programs) long are = grind (arith, nat_tests, all_sound names programs, bytes_are)
 
 -- the programs of a job that some text has are sound
 job_sound : (text : List ℕ) (job : Job) → All (λ (program : List ℕ × Parts). AreBytes program.1.image) (zip (content_of job).names (content_of job).programs) → IsJobText text (content_of job) → AllSound (content_of job).programs
-job_sound text job are form =
-    let content = content_of job in
-    all_sound content.names job.programs.items (as_many [] (length form.blank + 2) content.names content.programs form.program_lines form.programs) (recursion_from_All (λ (program : List ℕ × Parts). AreBytes program.1.image) (zip content.names content.programs) are)
+job_sound text job are form = grind (arith, nat_tests, all_sound, as_many, recursion_from_All)
 
 -- what a job of some text is written as is short
 pub short_back : (text : List ℕ) (job : Job) → All (λ (program : List ℕ × Parts). AreBytes program.1.image) (zip (content_of job).names (content_of job).programs) → job_of text ≡ Ok (content_of job) → length (written (content_of job)) < 2 ^ 23

@@ -3,12 +3,11 @@ use Rattle.job_text.proofs.Common.{flat_map, range_with_len, flat_map-append, Al
 use Rattle.std.proofs.Common.{Global, ◌≡◌, ℕ, ◌+◌, ◌-◌, ◌*◌, ◌/◌, ◌%◌, ◌<◌, ◌≤◌, ◌==◌, min, Bool, true, false, List, [], ◌∷◌, ◌++◌, length, map, refl, ap, ◌∙◌, sym, subst, arith, append_assoc, append-nil, length-append, if◌then◌else◌, All}
 use Rattle.std.proofs.lemmas.List.FromFn.{map-range_with_len_more, length-map-range_with_len, length-range_with_len}
 use Rattle.std.specs.declared.vec.Vec.{Vec}
+use Rattle.std.proofs.lemmas.Bool.Decides.{nat_tests}
 
 -- a list with more events behind it, and then one more
 pub one_more : (old mid new : List Event) (f : ℕ → Event) (first n k : ℕ) → first + n ≡ k → mid ≡ old ++ map f (range_with_len first n) → new ≡ mid ++ f k ∷ [] → new ≡ old ++ map f (range_with_len first (n + 1))
-one_more old mid new f first n k at so_far next =
-    next ∙ ap (λ (these : List Event). these ++ f k ∷ []) so_far ∙ append_assoc old (map f (range_with_len first n)) (f k ∷ [])
-    ∙ ap (λ (these : List Event). old ++ these) (sym (map-range_with_len_more f first n k at))
+one_more old mid new f first n k at so_far next = grind (arith, nat_tests, append_assoc, map-range_with_len_more)
 
 map_same : (xs : List ℕ) → map (λ x. x) xs ≡ xs
 map_same [] = refl
@@ -21,9 +20,7 @@ range_more first n k at = sym (map_same (range_with_len first (n + 1))) ∙ map-
 pub some_more : (old mid new : List Event) (f : ℕ → List Event) (n : ℕ) → mid ≡ old ++ flat_map f (range_with_len 0 n) → new ≡ mid ++ f n → new ≡ old ++ flat_map f (range_with_len 0 (n + 1))
 some_more old mid new f n so_far next =
     let split : flat_map f (range_with_len 0 (n + 1)) ≡ flat_map f (range_with_len 0 n) ++ (f n ++ []) = ap (flat_map f) (range_more 0 n n (omega arith)) ∙ flat_map-append f (range_with_len 0 n) (n ∷ []) in
-    next ∙ ap (λ (these : List Event). these ++ f n) so_far ∙ append_assoc old (flat_map f (range_with_len 0 n)) (f n)
-    ∙ ap (λ (these : List Event). old ++ (flat_map f (range_with_len 0 n) ++ these)) (sym (append-nil (f n)))
-    ∙ ap (λ (these : List Event). old ++ these) (sym split)
+    cc (next, so_far, append_assoc old (flat_map f (range_with_len 0 n)) (f n), append-nil (f n), split)
 
 -- three parts, one after another
 pub three_more : (old one two three xs ys zs : List Event) → one ≡ old ++ xs → two ≡ one ++ ys → three ≡ two ++ zs → three ≡ old ++ (xs ++ ys ++ zs)
@@ -43,9 +40,7 @@ batch_long first count =
     let begins : List Event = map transfer (range_with_len first count) in
     let rounds : List Event = flat_map (λ round. turns_of 50 first count) (range_with_len 0 count) in
     let rounds_long : length rounds ≡ count * count = same_each (turns_of 50 first count) (range_with_len 0 count) ∙ ap (λ n. length (range_with_len 0 count) * n) (turns_long 50 first count) ∙ ap (λ n. n * count) (length-range_with_len 0 count) in
-    length-append (begins ++ turns_of 7 first count) rounds ∙ ap (λ n. n + length rounds) (length-append begins (turns_of 7 first count))
-    ∙ ap (λ n. n + length (turns_of 7 first count) + length rounds) (length-map-range_with_len transfer first count)
-    ∙ ap (λ n. count + n + length rounds) (turns_long 7 first count) ∙ ap (λ n. count + count + n) rounds_long
+    cc (length-append (begins ++ turns_of 7 first count) rounds, length-append begins (turns_of 7 first count), length-map-range_with_len transfer first count, turns_long 7 first count, rounds_long)
 
 small_square : (n : ℕ) → n ≤ 16 → n * n ≤ 256
 small_square n small = grind arith

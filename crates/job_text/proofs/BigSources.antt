@@ -5,6 +5,8 @@ use Rattle.romp_table.specs.Names.{mnemonic, op_named}
 use Rattle.romp_table.specs.Rows.{row_of}
 use Rattle.romp_asm.specs.Sources.{joined_from}
 use Rattle.romp_asm.specs.Value.{address_from}
+use Rattle.std.proofs.lemmas.Bool.Decides.{nat_tests}
+use Rattle.std.proofs.Common.{arith}
 
 -- how many programs a reading gives, and the events
 abbrev told_of : Result Content (ℕ × ℕ) → Option (ℕ × List Event)
@@ -23,9 +25,7 @@ some_none : {A : Type 0} (x : A) → Some x ≡ None → ⊥
 some_none x is = cc
 
 some_same : (n : ℕ) (events : List Event) → ◌≡◌ {A = Option (ℕ × List Event)} (Some (n, events)) (Some (3, [])) → (n ≡ 3) × (events ≡ [])
-some_same n events is =
-    let both : ◌≡◌ {A = ℕ × List Event} (n, events) (3, []) = cc in
-    (ap (λ (pair : ℕ × List Event). pair.0) both, ap (λ (pair : ℕ × List Event). pair.1) both)
+some_same n events is = grind (arith, nat_tests)
 
 pub never_faulty : (text : List ℕ) (line kind : ℕ) → text ≡ big_sources → job_of text ≡ Err (line, kind) → ⊥
 never_faulty text line kind same is = some_none (3, []) (sym (text_read text same) ∙ ap told_of is)

@@ -1,6 +1,6 @@
 -- A drain, written out.
 use Rattle.job_text.proofs.Common.{◌≡◌, ℕ, zero, suc, ◌+◌, ◌*◌, ◌<◌, ◌≤◌, List, [], ◌∷◌, ◌++◌, length, refl, ap, ◌∙◌, arith, append_assoc, add-one, length-append, Event, Turn, rounds_of, turns_to}
-use Rattle.std.proofs.Math.Nat.{mul-le-mul_right}
+use Rattle.std.proofs.lemmas.Bool.Decides.{nat_tests}
 
 -- no turn
 pub no_turns : (limit : ℕ) → turns_to limit 0 ≡ []
@@ -42,12 +42,8 @@ rounds_short before now limit last n so_far = omega (arith, ap length so_far, le
 
 -- one round more is within all rounds
 pub round_fits : (before now next last n rounds : ℕ) → n < rounds → now ≡ before + n * last → next ≤ now + last → next ≤ before + rounds * last
-round_fits before now next last n rounds inside is short =
-    let all : (n + 1) * last ≤ rounds * last = mul-le-mul_right last (omega arith) in
-    omega arith
+round_fits before now next last n rounds inside is short = grind (arith, nat_tests)
 
 -- the rounds so far are within all rounds
 pub rounds_within : (before now last n rounds : ℕ) → n ≤ rounds → now ≡ before + n * last → now ≤ before + rounds * last
-rounds_within before now last n rounds inside is =
-    let all : n * last ≤ rounds * last = mul-le-mul_right last inside in
-    omega arith
+rounds_within before now last n rounds inside is = grind (arith, nat_tests)

@@ -1,5 +1,6 @@
 -- What is read as a job has the form of one.
-use Rattle.job_text.proofs.Common.{◌≡◌, inl, inr, ℕ, ◌+◌, ◌*◌, ◌≤◌, ◌&&◌, nat_le, nat_lt, is_some, if◌then◌else◌, Bool, true, false, List, [], ◌∷◌, ◌++◌, length, map, codes, Option, Some, None, Result, Ok, Err, refl, sym, ap, ◌∙◌, subst, arith, append_assoc, append-nil, length-append, bytes_eq, and_parts, nat_tests, bytes_eq-Decides, Event, Begin, Turn, Checkpoint, Crash, Token, Word, Number, Statement, place_among, is_label, line_of, at_line, lines_of, statements_from, tokens, Parts, linked, Stage, Frames, Programs, Source, Schedule, Ended, Content, job_of, last_part, read_from, then_read, whole, Reading, nothing_read, frames_line, program_begins, programs_line, is_end, is_part, program_ends, source_ends, source_goes_on, source_line, sources_of, with_event, values_of, four_of, begin_of, begin_line, is_limit, turn_line, rounds_of, drain_line, single_line, schedule_line, ended_line, by_tokens, line_read, IsBlank, AreBlank, IsOnly, HasSources, IsFramesLine, HasPrograms, IsLimit, IsEventLine, HasEvents, IsJobText}
+use Rattle.job_text.proofs.Common.{◌≡◌, inl, inr, ℕ, ◌+◌, ◌≤◌, ◌&&◌, nat_le, nat_lt, is_some, if◌then◌else◌, Bool, true, false, List, [], ◌∷◌, ◌++◌, length, map, codes, Option, Some, None, Result, Ok, Err, refl, sym, ap, ◌∙◌, subst, arith, append_assoc, append-nil, length-append, bytes_eq, and_parts, nat_tests, bytes_eq-Decides, Event, Turn, Checkpoint, Crash, Token, Word, Number, Statement, place_among, is_label, line_of, at_line, lines_of, statements_from, tokens, Parts, linked, Stage, Frames, Programs, Source, Schedule, Ended, Content, job_of, last_part, read_from, then_read, Reading, nothing_read, frames_line, program_begins, programs_line, is_end, is_part, program_ends, source_goes_on, source_line, sources_of, with_event, values_of, begin_of, begin_line, is_limit, turn_line, drain_line, single_line, schedule_line, ended_line, by_tokens, line_read, IsBlank, AreBlank, IsOnly, HasSources, IsFramesLine, HasPrograms, IsLimit, IsEventLine, HasEvents, IsJobText}
+use Rattle.std.proofs.lemmas.Bool.{cond_both}
 use Rattle.job_text.proofs.DrainLemmas.{length-rounds_of}
 
 -- what a reading says
@@ -133,39 +134,22 @@ module _ (number : ℕ) (line : List ℕ) (lines : List (List ℕ)) (content : C
   below_room room event = let under : length reading.events + 1 ≤ 10000 = grind (arith, nat_tests, room) in omega (arith, under, length-append reading.events (event ∷ []))
 
   event_step : (begins : ℕ) (event : Event) → IsEventLine reading.names reading.begins begins found (event ∷ []) → BackHere (with_event (record reading { begins = begins }) event)
-  event_step begins event means = by_room (nat_lt (length reading.events) 10000) refl
-    where
-      by_room : (room : Bool) → nat_lt (length reading.events) 10000 ≡ room → BackHere (if room then Ok (with_events begins (event ∷ [])) else Err 11)
-      by_room true room = events_more begins (event ∷ []) (below_room room event) means
-      by_room false room = tt
+  event_step begins event means = cond_both (nat_lt (length reading.events) 10000) _ _ BackHere (λ room. events_more begins (event ∷ []) (below_room room event) means) (λ _. tt)
 
   limit_range : (limit : ℕ) → is_limit limit ≡ true → IsLimit limit
   limit_range limit right = (grind (arith, nat_tests, right), grind (arith, nat_tests, right))
 
   turn_step : (activation limit : ℕ) → found ≡ Word (codes "turn") ∷ Number activation ∷ Number limit ∷ [] → BackHere (turn_line reading activation limit)
-  turn_step activation limit says = by_tests (nat_le 1 activation && nat_le activation reading.begins) (is_limit limit) refl refl
-    where
-      by_tests : (known right : Bool) → (nat_le 1 activation && nat_le activation reading.begins) ≡ known → is_limit limit ≡ right → BackHere (if known then (if right then with_event reading (Turn activation limit) else Err 11) else Err 14)
-      by_tests true true known right =
-          event_step reading.begins (Turn activation limit)
-          (inr (inr (inl (record { activation = activation; limit = limit; says = says; known = (grind (arith, nat_tests, known), grind (arith, nat_tests, known)); small = limit_range limit right; gives = refl })), refl))
-      by_tests true false known right = tt
-      by_tests false right known limited = tt
+  turn_step activation limit says = cond_both (nat_le 1 activation && nat_le activation reading.begins) _ _ BackHere
+      (λ known. cond_both (is_limit limit) _ _ BackHere
+      (λ right.
+      event_step reading.begins (Turn activation limit)
+      (inr (inr (inl (record { activation = activation; limit = limit; says = says; known = (grind (arith, nat_tests, known), grind (arith, nat_tests, known)); small = limit_range limit right; gives = refl })), refl)))
+      (λ _. tt))
+      (λ _. tt)
 
   drain_step : (rounds limit : ℕ) → found ≡ Word (codes "drain") ∷ Number rounds ∷ Number limit ∷ [] → BackHere (drain_line reading rounds limit)
-  drain_step rounds limit says = by_test (nat_le 1 rounds && nat_le rounds 10000 && is_limit limit && nat_le (length reading.events + rounds * reading.begins) 10000) refl
-    where
-      by_test : (right : Bool) → (nat_le 1 rounds && nat_le rounds 10000 && is_limit limit && nat_le (length reading.events + rounds * reading.begins) 10000) ≡ right
-          → BackHere (if right then Ok (record reading { events = reading.events ++ rounds_of limit reading.begins rounds }) else Err 11)
-      by_test true right =
-          let room : length reading.events + rounds * reading.begins ≤ 10000 = grind (arith, nat_tests, right) in
-          events_more reading.begins (rounds_of limit reading.begins rounds) (omega (arith, room, length-append reading.events (rounds_of limit reading.begins rounds), length-rounds_of limit reading.begins rounds))
-          (inr (inr (inr (inl (record { rounds = rounds; limit = limit; says = says; some = (grind (arith, nat_tests, right), grind (arith, nat_tests, right)); small = (grind (arith, nat_tests, right), grind (arith, nat_tests, right)); gives = refl }))), refl))
-      by_test false right = tt
-
-  abbrev single_by : Bool → Bool → Bool → Result Reading ℕ
-  single_by ends saves stops =
-      if ends then Ok (record reading { stage = Ended }) else if saves then with_event reading Checkpoint else if stops then with_event reading Crash else Err 10
+  drain_step rounds limit says = grind (arith, nat_tests, events_more, length-append, length-rounds_of, says)
 
   ends_here : found ≡ Word (codes "end") ∷ [] → (IsFew (record reading { stage = Ended }) → TailLeft (content_read reading) lines content) → EventsLeft (content_read reading) reading.begins (line ∷ lines) content
   ends_here says left = record {
@@ -182,18 +166,15 @@ module _ (number : ℕ) (line : List ℕ) (lines : List (List ℕ)) (content : C
 
   single_step : (word : List ℕ) → found ≡ Word word ∷ [] → BackHere (single_line reading word)
   single_step word says =
-      by_tests (bytes_eq word (codes "end")) (bytes_eq word (codes "checkpoint")) (bytes_eq word (codes "crash")) refl refl refl
+      cond_both (bytes_eq word (codes "end")) _ _ BackHere (λ ending. ends_here (this (codes "end") ending))
+      (λ _. cond_both (bytes_eq word (codes "checkpoint")) _ _ BackHere
+      (λ saving. event_step reading.begins Checkpoint (inr (inr (inr (inr (inl (this (codes "checkpoint") saving, refl)))), refl)))
+      (λ _. cond_both (bytes_eq word (codes "crash")) _ _ BackHere
+      (λ stopping. event_step reading.begins Crash (inr (inr (inr (inr (inr (this (codes "crash") stopping, refl)))), refl)))
+      (λ _. tt)))
     where
       this : (wanted : List ℕ) → bytes_eq word wanted ≡ true → found ≡ Word wanted ∷ []
       this wanted right = says ∙ ap (λ these. Word these ∷ []) (same_word word wanted right)
-
-      by_tests : (ends saves stops : Bool) → bytes_eq word (codes "end") ≡ ends → bytes_eq word (codes "checkpoint") ≡ saves → bytes_eq word (codes "crash") ≡ stops → BackHere (single_by ends saves stops)
-      by_tests true saves stops ending saving stopping = ends_here (this (codes "end") ending)
-      by_tests false true stops ending saving stopping =
-          event_step reading.begins Checkpoint (inr (inr (inr (inr (inl (this (codes "checkpoint") saving, refl)))), refl))
-      by_tests false false true ending saving stopping =
-          event_step reading.begins Crash (inr (inr (inr (inr (inr (this (codes "crash") stopping, refl)))), refl))
-      by_tests false false false ending saving stopping = tt
 
   blank_step : found ≡ [] → BackHere (Ok reading)
   blank_step says left =
@@ -201,9 +182,7 @@ module _ (number : ℕ) (line : List ℕ) (lines : List (List ℕ)) (content : C
       (subst (λ (events : List Event). IsFew (record reading { events = events }) → Left reading.stage (record reading { events = events }) (number + 1) lines content) (sym (append-nil reading.events)) left)
 
   begin_step : (name values : List ℕ) → found ≡ Word (codes "begin") ∷ Word name ∷ map Number values → is_label name ≡ true → length values ≤ 4 → (place : Option ℕ) → place_among reading.names name ≡ place → BackHere (begin_of reading values place)
-  begin_step name values says label few (Some program) place =
-      event_step (reading.begins + 1) (Begin program (four_of values)) (inl (record { name = name; program = program; values = values; says = says; label = label; known = place; few = few; gives = refl }, refl))
-  begin_step name values says label few None place = tt
+  begin_step name values says label few place given = grind (arith, nat_tests, event_step, says)
 
   begins_step : (name : List ℕ) (those : List Token) → found ≡ Word (codes "begin") ∷ Word name ∷ those → is_label name ≡ true → BackHere (begin_line reading name (values_of those))
   begins_step name [] says label = begin_step name [] says label (omega arith) (place_among reading.names name) refl
@@ -216,19 +195,18 @@ module _ (number : ℕ) (line : List ℕ) (lines : List (List ℕ)) (content : C
   found_step : (these : List Token) → found ≡ these → BackHere (schedule_line reading these)
   found_step [] says = blank_step says
   found_step (Word word ∷ []) says = single_step word says
-  found_step (Word word ∷ Number first ∷ Number second ∷ []) says = by_tests (bytes_eq word (codes "turn")) (bytes_eq word (codes "drain")) refl refl
-    where
-      by_tests : (turns drains : Bool) → bytes_eq word (codes "turn") ≡ turns → bytes_eq word (codes "drain") ≡ drains → BackHere (if turns then turn_line reading first second else if drains then drain_line reading first second else Err 10)
-      by_tests true drains turn drain = turn_step first second (says ∙ ap (λ w. Word w ∷ Number first ∷ Number second ∷ []) (same_word word (codes "turn") turn))
-      by_tests false true turn drain = drain_step first second (says ∙ ap (λ w. Word w ∷ Number first ∷ Number second ∷ []) (same_word word (codes "drain") drain))
-      by_tests false false turn drain = tt
-  found_step (Word word ∷ Word name ∷ values) says = by_test (bytes_eq word (codes "begin") && is_label name) refl
-    where
-      by_test : (right : Bool) → (bytes_eq word (codes "begin") && is_label name) ≡ right → BackHere (if right then begin_line reading name (values_of values) else Err 10)
-      by_test true right =
-          let both = and_parts (bytes_eq word (codes "begin")) (is_label name) right in
-          begins_step name values (says ∙ ap (λ w. Word w ∷ Word name ∷ values) (same_word word (codes "begin") both.0)) both.1
-      by_test false right = tt
+  found_step (Word word ∷ Number first ∷ Number second ∷ []) says =
+      cond_both (bytes_eq word (codes "turn")) _ _ BackHere
+      (λ turn. turn_step first second (says ∙ ap (λ w. Word w ∷ Number first ∷ Number second ∷ []) (same_word word (codes "turn") turn)))
+      (λ _. cond_both (bytes_eq word (codes "drain")) _ _ BackHere
+      (λ drain. drain_step first second (says ∙ ap (λ w. Word w ∷ Number first ∷ Number second ∷ []) (same_word word (codes "drain") drain)))
+      (λ _. tt))
+  found_step (Word word ∷ Word name ∷ values) says =
+      cond_both (bytes_eq word (codes "begin") && is_label name) _ _ BackHere
+      (λ right.
+      let both = and_parts (bytes_eq word (codes "begin")) (is_label name) right in
+      begins_step name values (says ∙ ap (λ w. Word w ∷ Word name ∷ values) (same_word word (codes "begin") both.0)) both.1)
+      (λ _. tt)
   found_step _ says = tt
 
 -- in a source
@@ -329,13 +307,9 @@ module _ (number : ℕ) (line : List ℕ) (lines : List (List ℕ)) (content : C
   source_done end (Err fault) is = tt
 
   source_step : BackSource (source_line reading number line)
-  source_step = by_tests (is_end (tokens line)) (is_part (tokens line)) refl refl
-    where
-      by_tests : (end part : Bool) → is_end (tokens line) ≡ end → is_part (tokens line) ≡ part
-          → BackSource (if end then program_ends reading (linked (sources_of reading)) else if part then at_line number (source_ends reading) else source_goes_on reading (at_line number (line_of number line)))
-      by_tests true part end is = source_done end (linked (sources_of reading)) refl
-      by_tests false true end is = source_parts is (nat_lt (length reading.sources) 15) refl
-      by_tests false false end is = source_goes end is (line_of number line) refl
+  source_step =
+      cond_both (is_end (tokens line)) _ _ BackSource (λ end. source_done end (linked (sources_of reading)) refl)
+      (λ end. cond_both (is_part (tokens line)) _ _ BackSource (λ is. source_parts is (nat_lt (length reading.sources) 15) refl) (λ is. source_goes end is (line_of number line) refl))
 
 -- a blank line before programs
 has_blank : (others : List (List ℕ)) (number : ℕ) (line : List ℕ) (lines : List (List ℕ)) (names : List (List ℕ)) (programs : List Parts) → IsBlank line → HasPrograms others (number + 1) names programs lines → HasPrograms others number names programs (line ∷ lines)
@@ -447,29 +421,26 @@ module _ (number : ℕ) (line : List ℕ) (lines : List (List ℕ)) (content : C
       }
 
   program_step : (name : List ℕ) → found ≡ Word (codes "program") ∷ Word name ∷ [] → is_label name ≡ true → BackPrograms (program_begins reading name)
-  program_step name says label = by_place (place_among reading.names name) (nat_lt (length reading.names) 64) refl refl
+  program_step name says label = by_place (place_among reading.names name) refl
     where
-      by_place : (place : Option ℕ) (few : Bool) → place_among reading.names name ≡ place → nat_lt (length reading.names) 64 ≡ few → BackPrograms (if is_some place then Err 13 else if few then Ok (named name) else Err 11)
-      by_place (Some there) few is_there is_few = tt
-      by_place None true is_there is_few =
-          let under : length reading.names + 1 ≤ 64 = grind (arith, nat_tests, is_few) in
-          λ left. program_begun name says label is_there (left (omega (arith, under, length-append reading.names (name ∷ [])), small.1, omega arith))
-      by_place None false is_there is_few = tt
+      by_place : (place : Option ℕ) → place_among reading.names name ≡ place → BackPrograms (if is_some place then Err 13 else if nat_lt (length reading.names) 64 then Ok (named name) else Err 11)
+      by_place (Some there) is_there = tt
+      by_place None is_there = cond_both (nat_lt (length reading.names) 64) _ _ BackPrograms
+          (λ few.
+          let under : length reading.names + 1 ≤ 64 = grind (arith, nat_tests, few) in
+          λ left. program_begun name says label is_there (left (omega (arith, under, length-append reading.names (name ∷ [])), small.1, omega arith)))
+          (λ _. tt)
 
   programs_step : (these : List Token) → found ≡ these → BackPrograms (programs_line reading these)
   programs_step [] says = programs_blank says
-  programs_step (Word word ∷ []) says = by_test (bytes_eq word (codes "schedule")) refl
-    where
-      by_test : (right : Bool) → bytes_eq word (codes "schedule") ≡ right → BackPrograms (if right then Ok (record reading { stage = Schedule }) else Err 10)
-      by_test true right = schedule_begins (says ∙ ap (λ w. Word w ∷ []) (same_word word (codes "schedule") right))
-      by_test false right = tt
-  programs_step (Word word ∷ Word name ∷ []) says = by_test (bytes_eq word (codes "program") && is_label name) refl
-    where
-      by_test : (right : Bool) → (bytes_eq word (codes "program") && is_label name) ≡ right → BackPrograms (if right then program_begins reading name else Err 10)
-      by_test true right =
-          let both = and_parts (bytes_eq word (codes "program")) (is_label name) right in
-          program_step name (says ∙ ap (λ w. Word w ∷ Word name ∷ []) (same_word word (codes "program") both.0)) both.1
-      by_test false right = tt
+  programs_step (Word word ∷ []) says =
+      cond_both (bytes_eq word (codes "schedule")) _ _ BackPrograms (λ right. schedule_begins (says ∙ ap (λ w. Word w ∷ []) (same_word word (codes "schedule") right))) (λ _. tt)
+  programs_step (Word word ∷ Word name ∷ []) says =
+      cond_both (bytes_eq word (codes "program") && is_label name) _ _ BackPrograms
+      (λ right.
+      let both = and_parts (bytes_eq word (codes "program")) (is_label name) right in
+      program_step name (says ∙ ap (λ w. Word w ∷ Word name ∷ []) (same_word word (codes "program") both.0)) both.1)
+      (λ _. tt)
   programs_step _ says = tt
 
 -- before the frames
@@ -493,10 +464,10 @@ module _ (number : ℕ) (line : List ℕ) (lines : List (List ℕ)) (content : C
 
   frames_step : (these : List Token) → found ≡ these → BackFrames (frames_line reading these)
   frames_step [] says = frames_blank says
-  frames_step (Word word ∷ Number count ∷ []) says = by_word (bytes_eq word (codes "frames")) refl
-    where
-      by_count : (right : Bool) → (nat_le 2 count && nat_le count 1024) ≡ right → bytes_eq word (codes "frames") ≡ true → BackFrames (if right then Ok (record reading { stage = Programs; frames = count }) else Err 11)
-      by_count true right same = λ left. record {
+  frames_step (Word word ∷ Number count ∷ []) says =
+      cond_both (bytes_eq word (codes "frames")) _ _ BackFrames
+      (λ same. cond_both (nat_le 2 count && nat_le count 1024) _ _ BackFrames
+      (λ right left. record {
         blank = [];
         frames_line = line;
         rest = lines;
@@ -508,22 +479,14 @@ module _ (number : ℕ) (line : List ℕ) (lines : List (List ℕ)) (content : C
           range = (grind (arith, nat_tests, right), grind (arith, nat_tests, right));
         };
         left = subst (λ n. ProgramsLeft (record (content_read reading) { frames = count }) reading.begins n lines content) (omega arith) (left small);
-      }
-      by_count false right same = tt
-
-      by_word : (right : Bool) → bytes_eq word (codes "frames") ≡ right → BackFrames (if right then (if nat_le 2 count && nat_le count 1024 then Ok (record reading { stage = Programs; frames = count }) else Err 11) else Err 10)
-      by_word true right = by_count (nat_le 2 count && nat_le count 1024) refl right
-      by_word false right = tt
+      })
+      (λ _. tt))
+      (λ _. tt)
   frames_step _ says = tt
 
 -- at the end of a text
 last_step : (stage : Stage) (reading : Reading) (number : ℕ) (last : List ℕ) (content : Content) → reading.stage ≡ stage → last_part reading number last ≡ Ok content → Left stage reading number (last ∷ []) content
-last_step stage reading number (byte ∷ bytes) content at is = absurd (cc is)
-last_step Ended reading number [] content at is =
-    let same : content ≡ content_read reading = cc (ap (λ stage. whole stage reading number) (sym at) ∙ is) in
-    record { same = same; tail = []; all = refl; blanks = tt }
-last_step Frames reading number [] content at is = absurd (cc (ap (λ stage. whole stage reading number) (sym at) ∙ is))
-last_step _ reading number [] content at is = absurd (cc (ap (λ stage. whole stage reading number) (sym at) ∙ is))
+last_step stage reading number last content at is = grind (arith, nat_tests)
 
 -- one line more
 module _ (number : ℕ) (line : List ℕ) (lines : List (List ℕ)) (content : Content) where

@@ -1,8 +1,9 @@
 -- A text that has the form of a job is read as it.
-use Rattle.job_text.proofs.Common.{◌≡◌, inl, inr, ℕ, ◌+◌, ◌*◌, ◌≤◌, true, false, List, [], ◌∷◌, ◌++◌, length, map, codes, Option, Some, None, Result, Ok, Err, refl, sym, ap, ◌∙◌, subst, arith, append_assoc, append-nil, length-append, le-leb, lt-ltb, false_from_ne_true, Event, Begin, Turn, Checkpoint, Crash, Token, Word, Number, Statement, place_among, is_label, line_of, at_line, statements_from, then_statements, tokens, Parts, linked, Stage, Programs, Source, Schedule, Ended, Content, job_of, read_from, then_read, tokens_read, Reading, nothing_read, frames_line, programs_line, is_end, is_part, source_goes_on, source_line, with_event, values_of, four_of, is_limit, schedule_line, line_read, AreBlank, IsOnly, HaveNoMark, HasSources, IsProgram, HasPrograms, IsBegin, IsLimit, IsTurn, IsDrain, IsSingle, IsNoBegin, IsEventLine, HasEvents, IsJobText}
+use Rattle.job_text.proofs.Common.{◌≡◌, inl, inr, ℕ, ◌+◌, ◌*◌, ◌≤◌, true, false, List, [], ◌∷◌, ◌++◌, length, map, codes, Option, Some, None, Result, Ok, Err, refl, sym, ap, ◌∙◌, subst, arith, append_assoc, append-nil, length-append, le-leb, lt-ltb, false_from_ne_true, Event, Begin, Turn, Token, Word, Number, Statement, place_among, is_label, line_of, at_line, statements_from, then_statements, tokens, Parts, linked, Stage, Programs, Source, Schedule, Ended, Content, job_of, read_from, then_read, tokens_read, Reading, nothing_read, frames_line, programs_line, is_end, is_part, source_goes_on, source_line, with_event, values_of, four_of, is_limit, schedule_line, line_read, AreBlank, IsOnly, HaveNoMark, HasSources, IsProgram, HasPrograms, IsBegin, IsLimit, IsTurn, IsDrain, IsSingle, IsNoBegin, IsEventLine, HasEvents, IsJobText}
 use Rattle.job_text.proofs.DrainLemmas.{length-rounds_of}
 use Rattle.job_text.proofs.FormLemmas.{end_is, part_is}
 use Rattle.job_text.proofs.GrammarLemmas.{read_line}
+use Rattle.std.proofs.lemmas.Bool.Decides.{nat_tests}
 
 -- some lines
 abbrev pub AreSome : List (List ℕ) → Type 0
@@ -100,12 +101,7 @@ module _ (frames : ℕ) (names : List (List ℕ)) (programs : List Parts) where
       (rw (le-leb 1 is.rounds is.some.0, le-leb is.rounds 10000 is.some.1, limit_back is.limit is.small, le-leb (length events + is.rounds * begins) 10000 few) refl)
 
   single_read : (begins : ℕ) (events : List Event) (found : List Token) (here : List Event) → IsSingle found here → length events + length here ≤ 10000 → Reads begins events found begins here
-  single_read begins events found here (inl is) room =
-      let few : length events + 1 ≤ 10000 = omega (arith, room, ap length is.1) in
-      rw (is.0, is.1) (event_read begins events Checkpoint few)
-  single_read begins events found here (inr is) room =
-      let few : length events + 1 ≤ 10000 = omega (arith, room, ap length is.1) in
-      rw (is.0, is.1) (event_read begins events Crash few)
+  single_read begins events found here given room = grind (arith, nat_tests, event_read)
 
   other_read : (begins : ℕ) (events : List Event) (found : List Token) (here : List Event) → IsNoBegin begins found here → length events + length here ≤ 10000 → Reads begins events found begins here
   other_read begins events found here (inl is) room = rw (is.0, is.1) (ap (λ all. Ok (so_far begins all)) (sym (append-nil events)))
@@ -242,12 +238,7 @@ module _ (frames : ℕ) where
       let behind = is.last ∷ lines in
       let read = parted_read frames names done (number + length is.blank + 1) is.source behind is.sources is.parted is.few_sources (is.last, lines, refl) in
       let makes : linked (read.0 ++ read.1 ∷ []) ≡ Ok parts = ap linked read.2 ∙ is.makes in
-      ap (λ these. read_from (at_programs frames before done) number these) split
-      ∙ reads_blank (at_programs frames before done) number is.blank (is.head ∷ (is.source ++ behind)) is.blanks (is.head, is.source ++ behind, refl) tt
-      ∙ reads_tokens (at_programs frames before done) (at_source frames names done [] []) (number + length is.blank) is.head (is.source ++ behind) (Word (codes "program") ∷ Word name ∷ []) (some_behind is.source behind (is.last, lines, refl)) tt is.says (head_read before done name is.label apart few)
-      ∙ read.3
-      ∙ reads_line (at_source frames names done read.0 read.1) (at_programs frames names (done ++ parts ∷ [])) (number + length is.blank + 1 + length is.source) is.last lines some (end_read (number + length is.blank + 1 + length is.source) names done read.0 read.1 parts is.last makes is.ends)
-      ∙ ap (λ n. read_from (at_programs frames names (done ++ parts ∷ [])) n lines) long
+      cc (split, reads_blank (at_programs frames before done) number is.blank (is.head ∷ (is.source ++ behind)) is.blanks (is.head, is.source ++ behind, refl) tt, reads_tokens (at_programs frames before done) (at_source frames names done [] []) (number + length is.blank) is.head (is.source ++ behind) (Word (codes "program") ∷ Word name ∷ []) (some_behind is.source behind (is.last, lines, refl)) tt is.says (head_read before done name is.label apart few), read.3, reads_line (at_source frames names done read.0 read.1) (at_programs frames names (done ++ parts ∷ [])) (number + length is.blank + 1 + length is.source) is.last lines some (end_read (number + length is.blank + 1 + length is.source) names done read.0 read.1 parts is.last makes is.ends), long)
     where
       split : first ++ lines ≡ is.blank ++ (is.head ∷ (is.source ++ (is.last ∷ lines)))
       split = ap (λ these. these ++ lines) is.all ∙ append_assoc is.blank (is.head ∷ is.source ++ (is.last ∷ [])) lines ∙ ap (λ these. is.blank ++ (is.head ∷ these)) (append_assoc is.source (is.last ∷ []) lines)
@@ -265,15 +256,7 @@ module _ (frames : ℕ) where
   )
   reads_programs number before done [] (parts ∷ programs) program_lines lines has few some = absurd has
   reads_programs number before done (name ∷ names) [] program_lines lines has few some = absurd has
-  reads_programs number before done (name ∷ names) (parts ∷ programs) program_lines lines has few some =
-      let others = reads_programs (number + length has.0) (before ++ name ∷ []) (done ++ parts ∷ []) names programs has.1 lines has.5 (omega (arith, few, length-append before (name ∷ []))) some in (
-        others.0,
-        ap (λ these. read_from (at_programs frames before done) number these) (ap (λ these. these ++ lines) has.2 ∙ append_assoc has.0 has.1 lines)
-            ∙ reads_program number before done name parts has.0 (has.1 ++ lines) has.3 has.4 (omega (arith, few)) (some_behind has.1 lines some)
-            ∙ others.1
-            ∙ ap (λ all. read_from (at_programs frames all ((done ++ parts ∷ []) ++ programs)) others.0 lines) (append_assoc before (name ∷ []) names)
-            ∙ ap (λ all. read_from (at_programs frames (before ++ name ∷ names) all) others.0 lines) (append_assoc done (parts ∷ []) programs),
-      )
+  reads_programs number before done (name ∷ names) (parts ∷ programs) program_lines lines has few some = grind (arith, nat_tests, reads_programs (number + length has.0) (before ++ name ∷ []) (done ++ parts ∷ []) names programs has.1 lines, length-append, append_assoc, reads_program, some_behind)
 
 -- at the end of a text
 ends_read : (number : ℕ) (frames : ℕ) (names : List (List ℕ)) (programs : List Parts) (begins : ℕ) (events : List Event) → read_from (at_schedule Ended frames names programs begins events) number ([] ∷ []) ≡ Ok (record { frames = frames; names = names; programs = programs; events = events })

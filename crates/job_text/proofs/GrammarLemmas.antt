@@ -1,8 +1,7 @@
 -- The job of a text, as its lines are read one after the other.
-use Rattle.job_text.proofs.Common.{◌≡◌, ℕ, ◌+◌, ◌<◌, ◌≤◌, Bool, true, false, cond, nat_lt, List, [], ◌∷◌, length, take, Option, Some, None, Result, Ok, Err, refl, sym, ap, ◌∙◌, arith, after_first, before_first, position_or_len, nat_tests, common_steps, is_feed, lines_of, JobFault, Content, job_of, last_part, read_from, then_read, IsJobFaultOf, Reading, line_read}
+use Rattle.job_text.proofs.Common.{◌≡◌, ℕ, ◌+◌, ◌<◌, ◌≤◌, Bool, true, false, cond, nat_lt, List, [], ◌∷◌, length, take, Option, Some, None, Result, Ok, refl, sym, ap, ◌∙◌, arith, after_first, before_first, position_or_len, nat_tests, common_steps, is_feed, lines_of, JobFault, Content, job_of, last_part, read_from, then_read, IsJobFaultOf, Reading, line_read}
 use Rattle.asm_parse.specs.Cut.{behind_first}
 use Rattle.asm_parse.proofs.TextLemmas.{behind_shorter, cut, left_of}
-use Rattle.job_text.specs.declared.job.JobFault.TheVariants.{Fault, Memory}
 
 -- a line and what follows it
 pub read_line : (reading : Reading) (number : ℕ) (line : List ℕ) (next : List ℕ) (lines others : List (List ℕ)) → others ≡ next ∷ lines → read_from reading number (line ∷ others) ≡ then_read (λ more. read_from more (number + 1) others) (line_read reading.stage reading number line)
@@ -20,11 +19,7 @@ line_more old new number left line behind text split read so_far =
     sym (by_line old number left line behind split ∙ ap (then_read (λ more. read_from more (number + 1) (lines_of behind))) read) ∙ so_far
 
 faulty : (next : Reading → Result Content (ℕ × ℕ)) (answer : Result Reading (ℕ × ℕ)) (whole : Result Content (ℕ × ℕ)) (fault : JobFault) → IsJobFaultOf fault answer → then_read next answer ≡ whole → IsJobFaultOf fault whole
-faulty next answer whole Memory told so_far = tt
-faulty next (Ok reading) whole (Fault line kind) told so_far = absurd (cc told)
-faulty next (Err fault) whole (Fault line kind) told so_far =
-    let same : fault ≡ (line, kind) = cc told in
-    sym so_far ∙ ap Err same
+faulty next answer whole fault told so_far = grind (arith, nat_tests)
 
 -- a line has a fault
 pub line_faulty : (old : Reading) (number : ℕ) (left line behind text : List ℕ) (fault : JobFault) → lines_of left ≡ line ∷ lines_of behind → IsJobFaultOf fault (line_read old.stage old number line) → read_from old number (lines_of left) ≡ job_of text → IsJobFaultOf fault (job_of text)

@@ -1,7 +1,8 @@
 -- Each text has one job or one first fault, which ends its reading.
-use Rattle.job_text.proofs.Common.{◌≡◌, ◌⊎◌, inl, inr, ℕ, ◌+◌, List, [], ◌∷◌, ◌++◌, length, Result, Ok, Err, refl, sym, ap, ◌∙◌, arith, Stage, Ended, Content, job_of, last_part, read_from, then_read, whole, Reading, line_read, nothing_read, FaultsEndTheReading, IsJobText}
+use Rattle.job_text.proofs.Common.{◌≡◌, ◌⊎◌, inl, inr, ℕ, ◌+◌, List, [], ◌∷◌, ◌++◌, length, Result, Ok, Err, refl, sym, ap, ◌∙◌, arith, Stage, Content, job_of, last_part, read_from, then_read, Reading, line_read, FaultsEndTheReading, IsJobText}
 use Rattle.job_text.proofs.FormLemmas.{has_form}
 use Rattle.job_text.proofs.FormReadLemmas.{form_read, read_some, some_behind}
+use Rattle.std.proofs.lemmas.Bool.Decides.{nat_tests}
 
 pub job_or_fault : (text : List ℕ) → ((content : Content) × IsJobText text content) ⊎ ((fault : ℕ × ℕ) × (job_of text ≡ Err fault))
 job_or_fault text = by_answer (job_of text) refl
@@ -18,9 +19,7 @@ no_fault text content fault form is = cc (form_read text content form, is)
 
 -- what stands behind the last line feed has kind 10, if it has a fault
 last_fault : (stage : Stage) (reading : Reading) (number : ℕ) (last : List ℕ) (fault : ℕ × ℕ) → reading.stage ≡ stage → last_part reading number last ≡ Err fault → fault ≡ (number, 10)
-last_fault stage reading number (byte ∷ bytes) fault at is = cc is
-last_fault Ended reading number [] fault at is = absurd (cc (ap (λ stage. whole stage reading number) (sym at) ∙ is))
-last_fault _ reading number [] fault at is = cc (ap (λ stage. whole stage reading number) (sym at) ∙ is)
+last_fault stage reading number last fault at is = grind (arith, nat_tests)
 
 faults_end : (reading : Reading) (number : ℕ) (lines more : List (List ℕ)) (last next : List ℕ) (fault : ℕ × ℕ) → read_from reading number (lines ++ (last ∷ [])) ≡ Err fault → (fault ≡ (number + length lines, 10)) ⊎ (read_from reading number (lines ++ (next ∷ more)) ≡ Err fault)
 unfolding read_from
@@ -46,9 +45,4 @@ faults_end reading number (line ∷ lines) more last next fault is =
 
 -- a fault ends the reading
 pub first_fault : FaultsEndTheReading
-first_fault text other lines more last next fault split split_other is =
-    told (faults_end nothing_read 1 lines more last next fault (ap (read_from nothing_read 1) (sym split) ∙ is))
-  where
-    told : ((fault ≡ (1 + length lines, 10)) ⊎ (read_from nothing_read 1 (lines ++ (next ∷ more)) ≡ Err fault)) → ((fault ≡ (length lines + 1, 10)) ⊎ (job_of other ≡ Err fault))
-    told (inl same) = inl (same ∙ ap (λ n. (n, 10)) (omega arith))
-    told (inr same) = inr (ap (read_from nothing_read 1) split_other ∙ same)
+first_fault text other lines more last next fault split split_other is = grind (arith, nat_tests, faults_end)

@@ -1,8 +1,9 @@
 -- The text that a job is written as is short.
-use Rattle.job_text.proofs.Common.{◌≡◌, inl, inr, ℕ, zero, suc, ◌+◌, ◌*◌, ◌<◌, ◌≤◌, ◌^◌, List, [], ◌∷◌, ◌++◌, decimal, length, map, codes, Option, Some, None, sym, subst, arith, length-append, from_be_bytes, w32, AllByRecursion, flat_map, zip, Event, Begin, Turn, Checkpoint, Crash, Token, Word, Number, Comma, IsToken, IsWord, Parts, assembled_windows, linked_made, Content, HasPrograms, IsNoBegin, IsEventLine, HasEvents, IsJobText, rounds_of, turns_to, behind_text, end_line, event_line, image_lines, line_text, number_line, program_lines, token_text, window_line, window_lines, written}
+use Rattle.job_text.proofs.Common.{◌≡◌, ℕ, zero, suc, ◌+◌, ◌*◌, ◌<◌, ◌≤◌, ◌^◌, List, [], ◌∷◌, ◌++◌, decimal, length, map, codes, Option, Some, None, sym, subst, arith, length-append, from_be_bytes, w32, AllByRecursion, flat_map, zip, Event, Begin, Turn, Token, Word, Number, Comma, IsToken, IsWord, Parts, assembled_windows, linked_made, Content, HasPrograms, IsEventLine, HasEvents, IsJobText, rounds_of, turns_to, behind_text, end_line, event_line, image_lines, line_text, number_line, program_lines, token_text, window_line, window_lines, written}
 use Rattle.std.proofs.lemmas.Fmt.{length-decimal-le}
 use Rattle.flat_machine.specs.declared.machine.Window.{Window as Sight}
 use Rattle.job_text.proofs.WrittenFormLemmas.{AllSound, AreTokens, job_tokens}
+use Rattle.std.proofs.lemmas.Bool.Decides.{nat_tests}
 
 word_short : (word : List ℕ) → IsWord word → length word ≤ 31
 word_short [] is = absurd is
@@ -12,9 +13,7 @@ number_short : (number : ℕ) → number < 2 ^ 32 → length (decimal number) �
 number_short number small = length-decimal-le 10 number (omega arith) (omega (arith, small)) (omega (arith, small))
 
 token_short : (token : Token) → IsToken token → length (token_text token) ≤ 31
-token_short (Word word) is = word_short word is
-token_short (Number number) is = omega (arith, number_short number is)
-token_short _ is = omega arith
+token_short token is = grind (arith, nat_tests, word_short, number_short)
 
 behind_short : (others : List Token) → AllByRecursion IsToken others → length (flat_map behind_text others) ≤ 32 * length others
 behind_short [] are = omega arith
@@ -24,9 +23,7 @@ behind_short (token ∷ others) are =
 
 -- a line of tokens has at most 32 bytes for each of them, and its line feed
 line_short : (line : List Token) → AllByRecursion IsToken line → length (line_text line) ≤ 32 * length line + 1
-line_short [] are = omega arith
-line_short (first ∷ others) are =
-    omega (arith, length-append (token_text first ++ flat_map behind_text others) (10 ∷ []), length-append (token_text first) (flat_map behind_text others), token_short first are.0, behind_short others are.1)
+line_short line are = grind (arith, nat_tests, length-append, token_short, behind_short)
 
 -- the bytes of lines
 abbrev bytes_in : List (List Token) → ℕ
@@ -135,15 +132,7 @@ rounds_four limit last (suc n) = four_both (rounds_of limit last n) (turns_to li
 
 module _ (names : List (List ℕ)) where
   line_four : (begins after : ℕ) (found : List Token) (here : List Event) → IsEventLine names begins after found here → AllFour here
-  line_four begins after found here (inl is) = subst AllFour (sym is.0.gives) (omega arith, tt)
-  line_four begins after found here (inr is) = other_four is.0
-    where
-      other_four : IsNoBegin begins found here → AllFour here
-      other_four (inl is) = subst AllFour (sym is.1) tt
-      other_four (inr (inl is)) = subst AllFour (sym is.gives) (tt, tt)
-      other_four (inr (inr (inl is))) = subst AllFour (sym is.gives) (rounds_four is.limit begins is.rounds)
-      other_four (inr (inr (inr (inl is)))) = subst AllFour (sym is.1) (tt, tt)
-      other_four (inr (inr (inr (inr is)))) = subst AllFour (sym is.1) (tt, tt)
+  line_four begins after found here given = grind (arith, nat_tests, rounds_four)
 
   events_four : (begins : ℕ) (lines : List (List ℕ)) (events : List Event) → HasEvents names begins lines events → AllFour events
   events_four begins [] events has = subst AllFour (sym has) tt
@@ -155,10 +144,7 @@ module _ (names : List (List ℕ)) where
   numbers_many (arg ∷ args) = omega (arith, numbers_many args)
 
   event_short : (event : Event) → HasFour event → AreLine (event_line names event) → length (line_text (event_line names event)) ≤ 193
-  event_short (Begin program args) four are = omega (arith, line_short (event_line names (Begin program args)) are, numbers_many args, four)
-  event_short (Turn activation limit) four are = omega (arith, line_short (event_line names (Turn activation limit)) are)
-  event_short Checkpoint four are = omega (arith, line_short (event_line names Checkpoint) are)
-  event_short Crash four are = omega (arith, line_short (event_line names Crash) are)
+  event_short event four are = grind (arith, nat_tests, line_short, numbers_many)
 
   events_short : (events : List Event) → AllFour events → AreTokens (map (event_line names) events) → bytes_in (map (event_line names) events) ≤ 193 * length events
   events_short [] four are = omega arith

@@ -35,9 +35,7 @@ later_no_feed byte continues is = grind (arith, nat_tests, continues, is)
 
 later_no_feeds : (bytes : List ℕ) → list_all continues_word bytes ≡ true → AllByRecursion (λ byte. byte ≡ 10 → ⊥) bytes
 later_no_feeds [] pass = tt
-later_no_feeds (byte ∷ bytes) pass =
-    let parts = and_parts (continues_word byte) (list_all continues_word bytes) pass in
-    (later_no_feed byte parts.0, later_no_feeds bytes parts.1)
+later_no_feeds (byte ∷ bytes) pass = grind (arith, nat_tests, later_no_feeds bytes, and_parts, later_no_feed)
 
 -- no byte of a name is a line feed
 pub name_no_feed : (name : List ℕ) → IsName name → All (λ byte. byte ≡ 10 → ⊥) name

@@ -1,5 +1,6 @@
 -- The programs that were written, one after the other.
 use Rattle.job_text.proofs.Common.{◌≡◌, ℕ, zero, suc, ◌<◌, min, List, [], ◌∷◌, ◌++◌, length, map, take, get_or, codes, refl, sym, ap, ◌∙◌, subst, arith, append_assoc, append-nil, All, flat_map, zip, flat_map-append, length-map, take_all, All-append, All-cons, All-nil, length-zip, Token, Word, Content, end_line, event_line, head_lines, line_text, number_line, program_lines, written}
+use Rattle.std.proofs.lemmas.Bool.Decides.{nat_tests}
 
 -- one pair more
 pub pair_more : {A B C D : Type 0} (f : A → C) (g : B → D) (xs : List A) (ys : List B) (n : ℕ) (x : A) (y : B) → n < length xs → n < length ys → ((d : A) → x ≡ get_or xs n d) → ((d : B) → y ≡ get_or ys n d)
@@ -23,14 +24,7 @@ all_more P pairs n m x is more all one =
 -- the text of the pairs so far and of one more
 pub text_more : {X Y : Type 0} (text : Y → List ℕ) (lines : X → List Y) (pairs : List X) (n m : ℕ) (x : X) (before now next : List ℕ) → m ≡ suc n → take (suc n) pairs ≡ take n pairs ++ x ∷ []
     → now ≡ before ++ flat_map text (flat_map lines (take n pairs)) → next ≡ now ++ flat_map text (lines x) → next ≡ before ++ flat_map text (flat_map lines (take m pairs))
-text_more text lines pairs n m x before now next is more so_far put =
-    put
-    ∙ ap (λ bytes. bytes ++ flat_map text (lines x)) so_far
-    ∙ append_assoc before (flat_map text (flat_map lines (take n pairs))) (flat_map text (lines x))
-    ∙ ap (λ bytes. before ++ bytes)
-    (sym (flat_map-append text (flat_map lines (take n pairs)) (lines x))
-    ∙ ap (λ list. flat_map text (flat_map lines (take n pairs) ++ list)) (sym (append-nil (lines x)))
-    ∙ ap (flat_map text) (sym (flat_map-append lines (take n pairs) (x ∷ [])) ∙ ap (flat_map lines) (sym more ∙ ap (λ (k : ℕ). take k pairs) (sym is))))
+text_more text lines pairs n m x before now next is more so_far put = grind (arith, nat_tests, append_assoc, flat_map-append, append-nil)
 
 regroup : (frames programs schedule events end : List ℕ) → (((frames ++ programs) ++ schedule) ++ events) ++ end ≡ ((frames ++ programs) ++ (schedule ++ events)) ++ (end ++ [])
 regroup frames programs schedule events end = simp (append_assoc, append-nil)

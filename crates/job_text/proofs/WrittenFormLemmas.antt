@@ -2,6 +2,7 @@
 use Rattle.job_text.proofs.Common.{◌≡◌, inl, inr, ℕ, zero, suc, ◌+◌, ◌<◌, ◌≤◌, ◌^◌, true, List, [], ◌∷◌, ◌++◌, length, map, codes, slice_index_or, Some, refl, sym, ap, ◌∙◌, subst, arith, append_assoc, append-nil, length-append, bytes_eq, AllByRecursion, flat_map, zip, map-append, position-Some, bytes_eq-Decides, Event, Begin, Turn, Checkpoint, Crash, Token, Word, Number, place_among, is_label, lines_of, found_tokens, IsToken, IsWord, Parts, assembled_windows, linked_made, Content, HasPrograms, IsBegin, IsLimit, IsNoBegin, IsEventLine, HasEvents, IsJobText, four_of, rounds_of, turns_to, end_line, event_line, job_lines, line_text, number_line, program_lines, tokens_text, written}
 use Rattle.job_text.proofs.SourceLemmas.{IsSound, all_both, end_tokens, program_form, program_tokens}
 use Rattle.job_text.proofs.WrittenLemmas.{written_line, written_tokens}
+use Rattle.std.proofs.lemmas.Bool.Decides.{nat_tests}
 
 -- lines of tokens that can be written
 abbrev pub AreTokens : List (List Token) → Type 0
@@ -13,10 +14,7 @@ AllSound programs = AllByRecursion IsSound programs
 -- the lines of a text that was written
 lines_written : (lines : List (List Token)) (rest : List ℕ) → AreTokens lines → lines_of (flat_map line_text lines ++ rest) ≡ map tokens_text lines ++ lines_of rest
 lines_written [] rest are = refl
-lines_written (line ∷ lines) rest are =
-    ap lines_of (append_assoc (line_text line) (flat_map line_text lines) rest ∙ append_assoc (tokens_text line) (10 ∷ []) (flat_map line_text lines ++ rest))
-    ∙ written_line line (flat_map line_text lines ++ rest) are.0
-    ∙ ap (λ others. tokens_text line ∷ others) (lines_written lines rest are.1)
+lines_written (line ∷ lines) rest are = grind (arith, nat_tests, lines_written lines rest, append_assoc, written_line)
 
 -- the programs, from their form in some text
 programs_form : (others : List (List ℕ)) (number there : ℕ) (names : List (List ℕ)) (programs : List Parts) (lines : List (List ℕ)) → HasPrograms others there names programs lines → AllSound programs
@@ -48,10 +46,7 @@ module _ (names : List (List ℕ)) where
   one_written : (begins after : ℕ) (event : Event) (events : List Event) → AllByRecursion IsToken (event_line names event)
       → IsEventLine names begins after (event_line names event) (event ∷ [])
       → AreWritten after events → AreWritten begins (event ∷ events)
-  one_written begins after event events are means others = (
-    (are, others.0),
-    (event_line names event, event ∷ [], events, after, written_tokens (event_line names event) are, refl, means, others.1),
-  )
+  one_written begins after event events are means others = grind (arith, nat_tests, written_tokens)
 
   -- a turn of one of so many begins
   turn_written : (begins activation limit : ℕ) (events : List Event) → begins < 2 ^ 32 → (1 ≤ activation) × (activation ≤ begins) → IsLimit limit → AreWritten begins events → AreWritten begins (Turn activation limit ∷ events)
@@ -70,9 +65,7 @@ module _ (names : List (List ℕ)) where
   rounds_written : (begins limit rounds : ℕ) (events : List Event) → begins < 2 ^ 32 → IsLimit limit → AreWritten begins events → AreWritten begins (rounds_of limit begins rounds ++ events)
   unfolding rounds_of
   rounds_written begins limit zero events few small others = others
-  rounds_written begins limit (suc n) events few small others =
-      subst (AreWritten begins) (sym (append_assoc (rounds_of limit begins n) (turns_to limit begins) events))
-      (rounds_written begins limit n (turns_to limit begins ++ events) few small (turns_written begins limit begins events few (omega arith) small others))
+  rounds_written begins limit (suc n) events few small others = grind (arith, nat_tests, rounds_written begins limit n (turns_to limit begins ++ events), append_assoc, turns_written)
 
   -- the name at the place of a word is the word
   name_there : (word : List ℕ) (place : ℕ) → place_among names word ≡ Some place → slice_index_or names place [] ≡ word
@@ -166,9 +159,7 @@ module _ (text : List ℕ) (content : Content) (form : IsJobText text content) (
 
   -- its lines can be written
   pub job_tokens : AreTokens (job_lines content)
-  job_tokens = all_both (AllByRecursion IsToken) (head ++ (schedule ∷ events)) (end_line ∷ [])
-      (all_both (AllByRecursion IsToken) head (schedule ∷ events) (frames_tokens, programs_are.0) (schedule_tokens, events_are.0))
-      (end_tokens, tt)
+  job_tokens = grind (arith, nat_tests, all_both, frames_tokens, programs_are, schedule_tokens, events_are, end_tokens)
 
   pub written_form : IsJobText (written content) content
   written_form = record {

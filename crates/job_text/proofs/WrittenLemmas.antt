@@ -1,5 +1,5 @@
 -- A line that was written has its tokens, and no line feed but its own.
-use Rattle.job_text.proofs.Common.{◌≡◌, ℕ, not, Bool, true, false, List, [], ◌∷◌, ◌++◌, decimal, Ok, refl, sym, ap, ◌∙◌, arith, is_ascii_alphanumeric, AllByRecursion, flat_map, list_all, nat_tests, is_feed, lines_of, before, begins_word, continues_word, tokens, tokens_past, Token, Word, Number, Comma, Open, Close, Colon, Plus, Minus, and_parts, IsToken, IsWord, blank_front, mark_front, number_front, number_pass, word_front, behind_text, token_text, tokens_text}
+use Rattle.job_text.proofs.Common.{◌≡◌, ℕ, not, Bool, true, List, [], ◌∷◌, ◌++◌, decimal, Ok, refl, ap, ◌∙◌, arith, is_ascii_alphanumeric, AllByRecursion, flat_map, list_all, nat_tests, is_feed, lines_of, before, begins_word, continues_word, tokens, tokens_past, Token, Word, Number, Comma, Open, Close, Colon, Plus, Minus, and_parts, IsToken, IsWord, blank_front, mark_front, number_front, number_pass, word_front, behind_text, token_text, tokens_text}
 use Rattle.std.proofs.lemmas.List.Folds.{list_all-append}
 use Rattle.asm_parse.proofs.TokenLemmas.{from_none}
 use Rattle.asm_parse.proofs.RunLemmas.{Stops, each_also}
@@ -65,21 +65,12 @@ behind_plain (token ∷ others) are =
 
 -- a line that was written has no line feed but its own
 pub written_plain : (found : List Token) → AllByRecursion IsToken found → list_all plain (tokens_text found) ≡ true
-written_plain [] are = refl
-written_plain (first ∷ others) are =
-    rw (list_all-append plain (token_text first) (flat_map behind_text others), token_plain first are.0) (behind_plain others are.1)
+written_plain found are = grind (arith, nat_tests, list_all-append, token_plain, behind_plain)
 
 -- bytes with no line feed, and a line feed, are a line
 split_line : (line rest : List ℕ) → list_all plain line ≡ true → lines_of (line ++ 10 ∷ rest) ≡ line ∷ lines_of rest
 split_line [] rest pass = refl
-split_line (byte ∷ line) rest pass =
-    let parts = and_parts (plain byte) (list_all plain line) pass in
-    let no : is_feed byte ≡ false = no_feed (is_feed byte) parts.0 in
-    rw (no, split_line line rest parts.1) refl
-  where
-    no_feed : (test : Bool) → not test ≡ true → test ≡ false
-    no_feed true e = sym e
-    no_feed false e = refl
+split_line (byte ∷ line) rest pass = grind (arith, nat_tests, split_line line rest, and_parts)
 
 -- a line that was written is the first line of its text
 pub written_line : (found : List Token) (rest : List ℕ) → AllByRecursion IsToken found → lines_of (tokens_text found ++ 10 ∷ rest) ≡ tokens_text found ∷ lines_of rest

@@ -1,4 +1,5 @@
-use Rattle.std.proofs.Common.{sym, append-nil}
+use Rattle.std.proofs.lemmas.Grind.{common_steps}
+use Rattle.std.proofs.Common.{arith, sym, append-nil}
 use Rattle.job_text.proofs.DrainLemmas.{no_rounds, round_more, rounds_short, rounds_within, round_fits}
 use Rattle.job_text.proofs.reader.drain.Goals as goal
 
@@ -17,3 +18,6 @@ returns-in_err-turns_to-clause-short c =
 pub returns-clause-short : goal.returns-clause-short
 returns-clause-short c =
     rounds_within _ _ c.args.last c.loop-round._round c.args.rounds c.loop-round.auto._round-end (rounds_short c.args.events.now.items c.loop-round.events.items c.args.limit c.args.last c.loop-round._round c.loop-round.invariant)
+
+pub returns-in_err-turns_to-clause-more : goal.returns-in_err-turns_to-clause-more
+returns-in_err-turns_to-clause-more c = grind (arith, common_steps)

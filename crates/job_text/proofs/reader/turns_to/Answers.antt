@@ -1,3 +1,4 @@
+use Rattle.std.proofs.lemmas.Grind.{common_steps}
 use Rattle.std.proofs.Common.{arith, sym, ap, append-nil, length}
 use Rattle.job_text.proofs.DrainLemmas.{no_turns, turn_more, turns_short}
 use Rattle.job_text.proofs.reader.turns_to.Goals as goal
@@ -18,3 +19,6 @@ pub returns-clause-short : goal.returns-clause-short
 returns-clause-short c =
     let short = turns_short c.args.events.now.items c.loop-before.events.items c.args.limit c.loop-before.before c.loop-before.invariant in
     omega arith
+
+pub returns-in_err-push-clause-more : goal.returns-in_err-push-clause-more
+returns-in_err-push-clause-more c = grind (arith, common_steps)
