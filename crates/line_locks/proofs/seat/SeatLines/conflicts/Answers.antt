@@ -1,3 +1,4 @@
+use Rattle.std.proofs.lemmas.Grind.{common_steps}
 use Rattle.line_locks.proofs.Common.{eqb-true, nil_from_length, AreListed}
 use Rattle.std.proofs.Common.{◌≡◌, [], List, ℕ, vec_len, sym, ◌∙◌, subst, arith}
 use Rattle.line_locks.proofs.ListedLemmas.{none-conflicts}
@@ -9,3 +10,9 @@ returns-then-is_empty c =
     let none : c.self.inside.held.items ≡ [] = nil_from_length c.self.inside.held.items (omega (arith, zero, c.self.inside.held.ok)) in
     let pages = subst (λ (pages : List (List ℕ × List ℕ)). AreListed pages c.self.inside.held.items) c.self.view_is c.self.invariant.1 in
     sym (none-conflicts c.args.self.now (subst (λ (list : List ℕ). AreListed c.args.self.now list) none pages) c.args.request.now.wants.items)
+
+pub returns-then-is_in_conflict : goal.returns-then-is_in_conflict
+returns-then-is_in_conflict c = grind (arith, common_steps)
+
+pub returns : goal.returns
+returns c = grind (arith, common_steps)

@@ -1,3 +1,4 @@
+use Rattle.std.proofs.lemmas.Grind.{common_steps}
 use Rattle.seats.proofs.Common.{option_map, take_more, map-append, ArrayVec, waits_in, Seating, number_in, seat_waits, seat_at, cycle_of}
 use Rattle.std.proofs.Common.{◌≡◌, ◌<◌, ℕ, List, [], ◌∷◌, ◌++◌, Some, map, take, length, get_or, take_all, arith, ap, sym, subst, ◌∙◌}
 use Rattle.seats.proofs.Kept.{has-at}
@@ -54,3 +55,6 @@ returns c =
     ∙ sym (cycle-numbered seating c.taken-taken.ensures.sound c.deref.result.now are.0 are.1 c.place_of.result items c.place_of.ensures.within
     (sym c.in_ok-places.ensures ∙ ap (λ (these : List ℕ). Some these) (sym c.as_slice-place-items.ensures.value)))
     ∙ ap (cycle_of seating) c.place_of.ensures.there
+
+pub sitter-requires : goal.sitter-requires
+sitter-requires c = grind (arith, common_steps)

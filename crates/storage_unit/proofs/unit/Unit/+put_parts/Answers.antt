@@ -56,3 +56,6 @@ returns-else-from-rest t c =
 
 pub put_part-requires-else-from-rest-clause-lies : goal.put_part-requires-else-from-rest-clause-lies
 put_part-requires-else-from-rest-clause-lies t c = grind (arith, common_steps)
+
+pub put_part-requires-else-from-rest-clause-there : goal.put_part-requires-else-from-rest-clause-there
+put_part-requires-else-from-rest-clause-there t c = grind (arith, common_steps)

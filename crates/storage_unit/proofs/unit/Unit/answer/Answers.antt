@@ -50,3 +50,6 @@ returns-in-None-clause-answer c = λ access same stores.
     rest state c.args.first c.args.bytes c.args.store None (sym c.first_absent.ensures.value ∙ none-of c.first_absent.result c.in_default.not-Some)
     (refused-is state (reach_of c.first_absent.new.self) c.args.first c.args.bytes c.args.store None c.first_refused.result c.first_absent.ensures.state c.first_refused.ensures c.in-None.is)
     access same stores
+
+pub first_refused-requires : goal.first_refused-requires
+first_refused-requires c = grind (arith, nat_tests)

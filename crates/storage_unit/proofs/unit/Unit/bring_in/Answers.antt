@@ -1,3 +1,5 @@
+use Rattle.std.proofs.Common.{arith}
+use Rattle.std.proofs.lemmas.Bool.Decides.{nat_tests}
 use Rattle.storage_unit.proofs.Common.{refl, sym, ◌∙◌, ap, inl, inr}
 use Rattle.line_geometry.specs.LineSets.{lines_of_bits}
 use Rattle.frame_pool.proofs.LayLemmas.{all-lines}
@@ -29,3 +31,9 @@ returns-in-Ok-clause-kept g c = λ all. absurd (c.if-bits.false (all-marked c.ar
 
 pub returns-in-Err-clause-kept : goal.returns-in-Err-clause-kept
 returns-in-Err-clause-kept g c = λ all. absurd (c.if-bits.false (all-marked c.args.self.now c.bring-slot.new.self c.args.page c.args.keep c.bring-slot.result.frame c.bring-slot.ensures.brought c.bits.result c.bits.type_inv (c.bits.ensures ∙ c.written.ensures) all))
+
+pub page_mut-requires : goal.page_mut-requires
+page_mut-requires g c = grind (arith, nat_tests)
+
+pub lay_kept-requires-2 : goal.lay_kept-requires-2
+lay_kept-requires-2 g c = grind (arith, nat_tests)

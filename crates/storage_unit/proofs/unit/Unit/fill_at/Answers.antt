@@ -17,3 +17,6 @@ returns-in-Ok-clause-registers c =
 
 pub returns-in-Err-clause-registers : goal.returns-in-Err-clause-registers
 returns-in-Err-clause-registers c = grind (arith, common_steps)
+
+pub part_in-part-requires-clause-lies : goal.part_in-part-requires-clause-lies
+part_in-part-requires-clause-lies c = grind (arith, nat_tests)

@@ -24,3 +24,6 @@ pub returns-else-is_absent-2-clause-value : goal.returns-else-is_absent-2-clause
 returns-else-is_absent-2-clause-value c =
     none-next (reach_of c.args.self.now) (unit-sound c.args.self.now) c.args.first c.args.bytes (omega (arith, c.if-bytes-eq0.false)) (omega (arith, c.ranges.bytes.fits)) c.requires c.rest-rest.result c.rest-rest.ensures (omega (arith, c.if-from-rest.false, c.from.ensures))
     (sym c.is_absent.ensures.value ∙ c.if-is_absent.false) (past_is (goal.at.returns-else-is_absent-2-clause-value c).After-is_absent-2 ∙ c.if-is_absent-2.false)
+
+pub past-requires : goal.past-requires
+past-requires c = grind (arith, nat_tests)

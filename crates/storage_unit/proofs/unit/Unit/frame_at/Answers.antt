@@ -10,3 +10,9 @@ returns c =
     c.frame_of.ensures.value
     ∙ ap (frame_at (pool_of unit.pool)) (c.page_of-page.ensures ∙ ap (page_of unit.directory) c.place_of.ensures)
     ∙ sym (finds-shared (reach_of unit) (unit-sound unit) c.args.first 1 (omega arith) c.requires other)
+
+pub page_of-page-requires : goal.page_of-page-requires
+page_of-page-requires c = grind (arith, nat_tests)
+
+pub private_frame-requires-clause-own : goal.private_frame-requires-clause-own
+private_frame-requires-clause-own c = grind (arith, nat_tests)

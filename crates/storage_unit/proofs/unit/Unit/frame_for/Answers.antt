@@ -84,3 +84,15 @@ returns-clause-answer c = λ access bytes same.
     c.in-Some.frame (sym c.translate.ensures.value ∙ c.in-Some.is) c.requires.within c.rest_of_line-rest.result are c.requires.few
     (kept-then (reach_of unit) (reach_of c.translate.new.self) c.args.first 0 c.args.store c.is_kept_in.result false c.translate.ensures.state c.is_kept_in.ensures c.if-is_kept_in.false)
     (kept-then (reach_of unit) (reach_of c.translate.new.self) c.args.first c.rest_of_line-rest.result c.args.store c.is_kept_in-2.result false c.translate.ensures.state c.is_kept_in-2.ensures c.if-is_kept_in-2.false)
+
+pub is_kept_in-requires-clause-shared : goal.is_kept_in-requires-clause-shared
+is_kept_in-requires-clause-shared c = grind (arith, nat_tests)
+
+pub past-requires : goal.past-requires
+past-requires c = grind (arith, nat_tests)
+
+pub is_kept_in-requires-2-clause-within : goal.is_kept_in-requires-2-clause-within
+is_kept_in-requires-2-clause-within c = grind (arith, nat_tests)
+
+pub private_frame-requires-clause-own : goal.private_frame-requires-clause-own
+private_frame-requires-clause-own c = grind (arith, nat_tests)

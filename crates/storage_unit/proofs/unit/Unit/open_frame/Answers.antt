@@ -24,3 +24,6 @@ is_kept_in-requires-clause-lies c = grind (arith, common_steps)
 
 pub private_frame-requires-clause-lies : goal.private_frame-requires-clause-lies
 private_frame-requires-clause-lies c = grind (arith, common_steps)
+
+pub returns-in_err-frame-clause-frame : goal.returns-in_err-frame-clause-frame
+returns-in_err-frame-clause-frame c = grind (arith, nat_tests)

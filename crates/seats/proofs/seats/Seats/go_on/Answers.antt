@@ -1,0 +1,6 @@
+use Rattle.std.proofs.Common.{arith}
+use Rattle.std.proofs.lemmas.Grind.{common_steps}
+use Rattle.seats.proofs.seats.Seats.go_on.Goals as goal
+
+pub overflow_add-who : goal.overflow_add-who
+overflow_add-who c = grind (arith, common_steps)

@@ -1,0 +1,6 @@
+use Rattle.std.proofs.Common.{arith}
+use Rattle.std.proofs.lemmas.Bool.Decides.{nat_tests}
+use Rattle.storage_unit.proofs.unit.Unit.read_apart.Goals as goal
+
+pub returns-in_default : goal.returns-in_default
+returns-in_default c = grind (arith, nat_tests)
