@@ -144,13 +144,17 @@ fn read_whole(alloc: Global, file: &File) -> io::Result<Vec<u8>> {
     Ok(bytes)
 }
 
-// The file with its lock, and the folder of its name where it may be new. A folder that can't be opened leaves no new file.
+// The file with its lock, and the folder of its name where it may be new. A pipe, which would be waited for, and a device are none, and a
+// folder that can't be opened leaves no new file.
 fn open_store<R: Files<File = File> + AllocGlobal>(
     rt: &R,
     path: &str,
     wanted: FileUse,
     is_new: bool,
 ) -> io::Result<Store> {
+    if !is_new && !rt.metadata(path)?.is_file() {
+        return Err(io::Error::from(io::ErrorKind::InvalidInput));
+    }
     let is_link = rt
         .symlink_metadata(path)
         .is_ok_and(|found| found.is_symlink());
