@@ -155,9 +155,7 @@ fn open_store<R: Files<File = File> + AllocGlobal>(
     if !is_new && !rt.metadata(path)?.is_file() {
         return Err(io::Error::from(io::ErrorKind::InvalidInput));
     }
-    let is_link = rt
-        .symlink_metadata(path)
-        .is_ok_and(|found| found.is_symlink());
+    let is_link = wanted.makes() && is_link(rt, path)?;
     let mut folder = None;
     if wanted.makes() && !is_link {
         folder = Some(File::open(rt, folder_in(path))?);
@@ -177,6 +175,15 @@ fn open_store<R: Files<File = File> + AllocGlobal>(
         folder = Some(folder_behind(rt, path)?);
     }
     Ok(Store { file, folder })
+}
+
+// Whether a link has this path, and not a file or nothing.
+fn is_link<R: Files<File = File>>(rt: &R, path: &str) -> io::Result<bool> {
+    match rt.symlink_metadata(path) {
+        Ok(found) => Ok(found.is_symlink()),
+        Err(error) if error.kind() == io::ErrorKind::NotFound => Ok(false),
+        Err(error) => Err(error),
+    }
 }
 
 // The same open file, in no place of a standard stream: what is put where that is closed would be written into it.
