@@ -4,6 +4,7 @@
 mod cpu;
 mod segments;
 mod storage;
+
 pub use cpu::{Attempt, Cpu};
 pub use segments::registers_of;
 pub use storage::{Access, Fault, Probe, Storage};
