@@ -1,5 +1,5 @@
 -- What one asks for, and waits for.
-use Rattle.activations.proofs.Common.{◌≡◌, refl, ℕ, ◌+◌, ◌<◌, ◌≤◌, ◌==◌, Bool, true, false, List, [], ◌∷◌, length, map, Some, IsSome, arith, ap, sym, ◌∙◌, subst, eqb-true, Layout, has, AreWithin, Request, Want, Seat, sitter, number_in, waiting_for, taken-below, AreOfPage, Activity, IsSound, KeepsParts, AreRowsWithin, StaysSeated, asking, with_whole_page, AreWanted}
+use Rattle.activations.proofs.Common.{◌≡◌, refl, ℕ, ◌<◌, ◌==◌, true, false, List, [], ◌∷◌, length, map, Some, IsSome, arith, sym, subst, Layout, has, AreWithin, Request, Want, Seat, sitter, number_in, waiting_for, taken-below, AreOfPage, Activity, IsSound, KeepsParts, StaysSeated, asking, with_whole_page, AreWanted, nat_tests}
 use Rattle.activations.proofs.GrantingLemmas.{within-whole}
 use Rattle.activations.proofs.RequestLemmas.{whole-of-page}
 use Rattle.activations.proofs.SoundLemmas.{sound-reseated}
@@ -35,18 +35,12 @@ module _ (a : Activity) (seat : ℕ) (request : Request) (sound : IsSound a) (ta
     next = refl;
     directory = refl;
     fewer = omega arith;
-    rows = λ rows within at less. within_still rows within at less (at == seat) refl;
+    rows = λ rows within at less.
+        let own = within seat below in
+        let here = within at less in
+        let other = sitter-other a.seating seat who at in
+        grind (arith, nat_tests, there, own, here, other);
   }
-    where
-      within_still : (rows : ℕ) → AreRowsWithin a rows → (at : ℕ) → at < 16 → (same : Bool) → (at == seat) ≡ same → (sitter (waiting_for a.seating seat request) at).rows ≤ rows + 0
-      within_still rows within at less true e =
-          let here = within seat below in
-          let same : (sitter (waiting_for a.seating seat request) at).rows ≡ (sitter a.seating seat).rows = ap (λ (n : ℕ). (sitter (waiting_for a.seating seat request) n).rows) (eqb-true at seat e) ∙ ap (λ (s : Seat). s.rows) there in
-          omega (arith, here, same)
-      within_still rows within at less false e =
-          let here = within at less in
-          let same : (sitter (waiting_for a.seating seat request) at).rows ≡ (sitter a.seating at).rows = ap (λ (s : Seat). s.rows) (sitter-other a.seating seat who at e) in
-          omega (arith, here, same)
 
   pub stays-asking : StaysSeated a (asking a seat request) seat
   stays-asking = record { taken = taken; number = numbers seat; selected = λ is. record { runner = is.runner; registers = is.registers } }

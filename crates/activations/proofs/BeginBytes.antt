@@ -1,5 +1,5 @@
 -- The bytes of a unit in which a seat begins: its private bytes are new, and all others stay.
-use Rattle.activations.proofs.Common.{range-long, ◌≡◌, refl, ℕ, ◌+◌, ◌-◌, ◌*◌, ◌%◌, ◌<◌, ◌≤◌, ◌==◌, ◌⊎◌, false, List, ◌++◌, length, map, replicate, slice_index, if◌then◌else◌, Option, Some, None, range_with_len, option_map_or, arith, ap, sym, ◌∙◌, subst, inl, inr, cases_lt, eq-eqb, both_ways, same_number_lists, length-overlaid, overlaid_before, overlaid_within, overlaid_behind, PageSize, Layout, byte_count, page_of, page_bytes, Pool, frame_at, with_bytes, private_frames, byte_in_frame, byte_over, bytes_over, private_bytes, is_marked, Fits, frame-high, in-range}
+use Rattle.activations.proofs.Common.{range-long, ◌≡◌, refl, ℕ, ◌+◌, ◌-◌, ◌*◌, ◌%◌, ◌<◌, ◌≤◌, ◌==◌, ◌⊎◌, false, List, ◌++◌, length, map, replicate, slice_index, if◌then◌else◌, Option, Some, None, range_with_len, option_map_or, arith, ap, sym, ◌∙◌, subst, inl, inr, cases_lt, same_number_lists, length-overlaid, overlaid_before, overlaid_within, overlaid_behind, PageSize, Layout, byte_count, page_of, page_bytes, Pool, frame_at, with_bytes, private_frames, byte_in_frame, byte_over, bytes_over, private_bytes, is_marked, Fits, frame-high, in-range, nat_tests}
 use Rattle.std.proofs.lemmas.List.{length-append, length-replicate}
 use Rattle.activations.proofs.SizeLemmas.{private-all}
 
@@ -47,12 +47,8 @@ module _ (directory : Layout) (pool : Pool) (fits : Fits directory pool) (seat :
       stays k short (inl before) =
           overlaid_before pool.bytes (seat * 16384) (first_bytes image) (at * 16384 + k) 0 (omega (arith, long-all, below)) (omega (arith, before, short))
       stays k short (inr after) =
-          let apart : seat < at = by_test (cases_lt seat at) in
+          let apart : seat < at = grind (arith, nat_tests, after, differs) in
           overlaid_behind pool.bytes (seat * 16384) (first_bytes image) (at * 16384 + k) 0 (omega (arith, long-all, below)) (omega (arith, long-part, apart))
-        where
-          by_test : (seat < at) ⊎ (at ≤ seat) → seat < at
-          by_test (inl less) = less
-          by_test (inr more) = let same : at ≡ seat = omega (arith, after, more) in absurd (both_ways (at == seat) differs (eq-eqb at seat same))
 
   -- a frame of a page of the store has what it had
   pub store-frame : (place frame : ℕ) → frame_at pool (page_of directory place) ≡ Some frame → byte_in_frame directory filled place frame ≡ byte_in_frame directory pool place frame

@@ -1,5 +1,5 @@
 -- A commit.
-use Rattle.activations.proofs.Common.{◌≡◌, refl, ℕ, ◌%◌, ◌<◌, ◌==◌, ◌&&◌, not, Bool, true, false, List, [], ◌∷◌, ◌++◌, length, slice_index, Some, ap, sym, ◌∙◌, subst, both_ways, eqb-true, length-map-range_with_len, Layout, byte_count, page_count, FlatStore, line_of, line-bytes-pos, has, Lines, page_of_line, no_lines, Plain, after, Pool, settled, Commit, row, Entry, Counts, no_counts, AreAlike, AreMarked, IsState, IsTold, requested, by_number, over_all, left_by, committed_at, IsAmong, due_to, IsCurrent, IsOrderly, place-laid, marked-commit, others, seat-told, told-seat, at-number, kept-seats, commit-ends, is_line_marked, bytes_over, byte_over, Fits, SettleKeeps, Keeps, Activity, program_in, entry_in, entries, store_over, desk_over, locks_in, request_in, state_for, state_in, live_in, shown, IsSound, IsKept, KeepsDesk, wrote, is_of, AreWritten, WereSettled, rolled, Commits}
+use Rattle.activations.proofs.Common.{◌≡◌, ℕ, ◌%◌, ◌<◌, ◌==◌, ◌&&◌, not, Bool, true, List, [], ◌∷◌, ◌++◌, length, slice_index, Some, ap, sym, ◌∙◌, subst, length-map-range_with_len, Layout, byte_count, page_count, FlatStore, line_of, line-bytes-pos, has, Lines, page_of_line, no_lines, Plain, after, Pool, settled, Commit, row, Entry, Counts, no_counts, AreAlike, AreMarked, IsState, IsTold, requested, by_number, over_all, left_by, committed_at, IsAmong, due_to, IsCurrent, IsOrderly, place-laid, marked-commit, others, seat-told, told-seat, at-number, kept-seats, commit-ends, is_line_marked, bytes_over, byte_over, Fits, SettleKeeps, Keeps, Activity, program_in, entry_in, entries, store_over, desk_over, locks_in, request_in, state_for, state_in, live_in, shown, IsSound, IsKept, KeepsDesk, wrote, is_of, AreWritten, WereSettled, rolled, Commits, nat_tests, arith}
 use Rattle.flat_machine.proofs.Agreement.{after-whole}
 use Rattle.desk_law.proofs.EntriesEnd as law
 use Rattle.activations.proofs.RollbackLemmas.{wrote-due, locks-left, of-written}
@@ -43,13 +43,8 @@ settled-unseen settle directory lines old pool committed fits page below as_comm
     let more = settle directory pool committed page (lines page) fits keeps.clean below
     (λ place within among.
     ap (λ (bytes : List ℕ). slice_index bytes place) keeps.same
-    ∙ as_committed place within (by_parts place (page == page_of_line (line_of directory place)) refl among)) in
+    ∙ as_committed place within (grind (arith, nat_tests, among))) in
     record { same = more.same ∙ keeps.same; clean = more.clean }
-  where
-    by_parts : (place : ℕ) (same : Bool) → (page == page_of_line (line_of directory place)) ≡ same → (same && has (lines page) (line_of directory place % 16)) ≡ true
-        → has (lines (page_of_line (line_of directory place))) (line_of directory place % 16) ≡ true
-    by_parts place true e wrote_it = ap (λ (p : ℕ). has (lines p) (line_of directory place % 16)) (sym (eqb-true page (page_of_line (line_of directory place)) e)) ∙ wrote_it
-    by_parts place false e none = absurd (both_ways false refl none)
 
 module _ (a : Activity) (seat : ℕ) (pool : Pool) (pages : List ℕ) (committed : List ℕ) (now : Plain)
     (sound : IsSound a) (taken : has a.seating.taken seat ≡ true) (follows : KeepsDesk a committed)

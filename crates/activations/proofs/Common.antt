@@ -75,7 +75,6 @@ pub use Rattle.line_geometry.specs.declared.directory.PageSize.{PageSize}
 pub use Rattle.line_geometry.specs.declared.directory.PageSize.TheVariants.{Four, Two}
 pub use Rattle.line_geometry.specs.declared.line_set.LinesOf.{LinesOf}
 pub use Rattle.line_locks.proofs.FlatLemmas.{flat-taken, has-other_page, has-page}
-pub use Rattle.line_locks.proofs.MeetsLemmas.{or-parts}
 pub use Rattle.line_locks.specs.Flat.{IsFlat, flat_lines, lines_wanted}
 pub use Rattle.line_locks.specs.Held.{AreWithin, holds_some, nothing, of_page, together, with_want, with_wants, write_count}
 pub use Rattle.line_locks.specs.Holding.{Holding, IsWhole, held_at, no_lines_of, nothing_held, of_seat, released}

@@ -1,17 +1,12 @@
 -- A contest as its loop keeps it, whatever is committed.
-use Rattle.activations.proofs.Common.{nil_from_length, map-append, ne_eqb, ◌≡◌, refl, ℕ, ◌<◌, ◌==◌, ◌&&◌, ◌||◌, not, if◌then◌else◌, Bool, true, false, List, [], ◌∷◌, ◌++◌, filter, length, map, Option, Some, None, IsSome, arith, ap, sym, ◌∙◌, eqb-true, eq-eqb, both_ways, has, victim_of, has-filter, Pool, Desk, Word, Counts, Attempt, Turning, Victim, Waits, AreConsistent, with_cycle, number_in, seat_of, sitter, cycle_of, holders, seat-found, Activity, entries, store_over, IsSound, IsKept, IsContested, ComesToEnd, IsFree, rolled, RollsBack, Contests, Request, Cycle}
+use Rattle.activations.proofs.Common.{nil_from_length, map-append, ne_eqb, ◌≡◌, refl, ℕ, ◌<◌, ◌==◌, ◌&&◌, not, true, false, List, [], ◌∷◌, ◌++◌, filter, length, map, Option, Some, None, IsSome, arith, ap, sym, ◌∙◌, eqb-true, eq-eqb, both_ways, has, victim_of, has-filter, Pool, Desk, Word, Counts, Attempt, Turning, Victim, Waits, AreConsistent, with_cycle, number_in, seat_of, sitter, cycle_of, holders, seat-found, Activity, entries, store_over, IsSound, IsKept, IsContested, ComesToEnd, IsFree, rolled, RollsBack, Contests, Request, Cycle, nat_tests}
 use Rattle.activations.proofs.ContestLemmas.{round-goes, round-loses, cycle-sits, contest-waits, contest-frees}
 use Rattle.activations.proofs.KeptLemmas.{no-more}
 
 -- fewer are taken where one that was is left
 pub fewer : (taken : List ℕ) (seat : ℕ) → has taken seat ≡ true → length (filter (λ other. not (other == seat)) taken) < length taken
 fewer [] seat inside = absurd (cc)
-fewer (one ∷ taken) seat inside = by_test (one == seat) refl inside (fewer taken seat)
-  where
-    by_test : (same : Bool) → (one == seat) ≡ same → (same || has taken seat) ≡ true → (has taken seat ≡ true → length (filter (λ other. not (other == seat)) taken) < length taken)
-        → length (if not same then one ∷ filter (λ other. not (other == seat)) taken else filter (λ other. not (other == seat)) taken) < length (one ∷ taken)
-    by_test true e inside rest = omega (arith, no-more taken seat)
-    by_test false e inside rest = let few = rest inside in omega (arith, few)
+fewer (one ∷ taken) seat inside = grind (arith, nat_tests, no-more taken seat, fewer taken seat)
 
 module _ (seat : ℕ) (first now : Activity) (before after : Counts) (cycle : List ℕ) (loser : ℕ) (pool : Pool)
     (sound : IsSound now) (taken : has now.seating.taken seat ≡ true) (number : number_in now.seating seat ≡ number_in first.seating seat)
@@ -54,6 +49,10 @@ pub recorded : (before : List Cycle) (members : List ℕ) (after : List Cycle) (
     → map (λ (c : Cycle). c.members.items) after ≡ map (λ (c : Cycle). c.members.items) before ++ members ∷ []
 recorded before members after cycle is same = ap (map (λ (c : Cycle). c.members.items)) same ∙ map-append (λ (c : Cycle). c.members.items) before (cycle ∷ []) ∙ ap (λ (m : List ℕ). map (λ (c : Cycle). c.members.items) before ++ m ∷ []) is
 
+some_waits : (waits : Option Request) → IsSome waits → (request : Request) × (waits ≡ Some request)
+some_waits (Some request) some = (request, refl)
+some_waits None some = absurd (cc (some))
+
 -- at the end: nobody sits in the victim's place only where there is no cycle
 module _ (seat : ℕ) (first now : Activity) (before after : Counts)
     (sound : IsSound now) (taken : has now.seating.taken seat ≡ true) (number : number_in now.seating seat ≡ number_in first.seating seat)
@@ -85,21 +84,9 @@ module _ (seat : ℕ) (first now : Activity) (before after : Counts)
     pub told-settles : (length these == 0) ≡ true
         → (begins : Word → Turning) (attempt : Attempt) (refused : List ℕ) (desk : Desk) (committed : List ℕ) (order : List (ℕ × ℕ))
         → attempt.entry.number ≡ number_in first.seating seat → IsContested begins attempt refused desk first committed order before → IsFree begins attempt refused now committed order after
-    told-settles none = by_waits (sitter now.seating seat).waits refl waiting
-      where
-        by_waits : (waits : Option Request) → (sitter now.seating seat).waits ≡ waits → IsSome waits
-            → (begins : Word → Turning) (attempt : Attempt) (refused : List ℕ) (desk : Desk) (committed : List ℕ) (order : List (ℕ × ℕ))
-            → attempt.entry.number ≡ number_in first.seating seat → IsContested begins attempt refused desk first committed order before → IsFree begins attempt refused now committed order after
-        by_waits (Some request) is some = contest-settles request is found (sym (told request is) ∙ nil_from_length these (eqb-true (length these) 0 none))
-        by_waits None is none = let e : false ≡ true = none in absurd (cc (e))
+    told-settles none = let (request, is) = some_waits (sitter now.seating seat).waits waiting in contest-settles request is found (sym (told request is) ∙ nil_from_length these (eqb-true (length these) 0 none))
 
     pub told-stays : (length these == 0) ≡ false
         → (begins : Word → Turning) (attempt : Attempt) (refused : List ℕ) (desk : Desk) (committed : List ℕ) (order : List (ℕ × ℕ))
         → attempt.entry.number ≡ number_in first.seating seat → IsContested begins attempt refused desk first committed order before → ComesToEnd begins now committed order after (Waits these)
-    told-stays some = by_waits (sitter now.seating seat).waits refl waiting
-      where
-        by_waits : (waits : Option Request) → (sitter now.seating seat).waits ≡ waits → IsSome waits
-            → (begins : Word → Turning) (attempt : Attempt) (refused : List ℕ) (desk : Desk) (committed : List ℕ) (order : List (ℕ × ℕ))
-            → attempt.entry.number ≡ number_in first.seating seat → IsContested begins attempt refused desk first committed order before → ComesToEnd begins now committed order after (Waits these)
-        by_waits (Some request) is any = contest-stays request is found these (sym (told request is)) (λ e. both_ways (length these == 0) some (eq-eqb (length these) 0 e))
-        by_waits None is none = let e : false ≡ true = none in absurd (cc (e))
+    told-stays some = let (request, is) = some_waits (sitter now.seating seat).waits waiting in contest-stays request is found these (sym (told request is)) (λ e. both_ways (length these == 0) some (eq-eqb (length these) 0 e))

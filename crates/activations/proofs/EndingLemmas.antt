@@ -1,5 +1,6 @@
 -- What a seat that is left leaves, once its written lines are forgotten or committed.
-use Rattle.activations.proofs.Common.{false_from_ne_true, and-false, ◌≡◌, refl, ℕ, ◌+◌, ◌<◌, ◌==◌, ◌&&◌, not, Bool, true, false, List, [], slice_index, Some, arith, ap, sym, ◌∙◌, subst, both_ways, eqb-true, eqb-false, byte_count, line_of, line-bytes-pos, has, has-filter, Plain, after, Commit, row, Pool, emptied, IsSeen, Stays, Entry, no_counts, over_all, AreConsistent, due_to, place-kept, seat-told, among-any, taken-below, Reach, IsClean, is_line_marked, is_marked, bytes_over, private_bytes, Fits, Keeps, emptied-stays, Activity, program_in, entry_in, entries, store_over, shown, HasUndone, HasSettled, WereRolled, IsRestarted, IsDeserted, IsSound, IsKept, KeepsDesk, rolled, vacated, with_pool, RollsBack, Commits}
+use Rattle.std.proofs.lemmas.Bool.{cases_eq}
+use Rattle.activations.proofs.Common.{false_from_ne_true, ◌≡◌, refl, ℕ, ◌+◌, ◌<◌, ◌==◌, not, true, false, List, [], slice_index, Some, arith, ap, sym, ◌∙◌, subst, both_ways, byte_count, line_of, line-bytes-pos, has, has-filter, Plain, after, Commit, row, Pool, emptied, IsSeen, Stays, Entry, no_counts, over_all, AreConsistent, due_to, place-kept, seat-told, among-any, taken-below, Reach, IsClean, is_line_marked, is_marked, bytes_over, private_bytes, Fits, Keeps, emptied-stays, Activity, program_in, entry_in, entries, store_over, shown, HasUndone, HasSettled, WereRolled, IsRestarted, IsDeserted, IsSound, IsKept, KeepsDesk, rolled, vacated, with_pool, RollsBack, Commits, nat_tests, inl, inr, ◌≢◌}
 use Rattle.storage_unit.proofs.CommitIsUnseen.{commit-is-unseen}
 use Rattle.storage_unit.proofs.EmptyKeeps.{empty-keeps}
 use Rattle.storage_unit.proofs.IncomingLemmas.{none-has, emptied-resident}
@@ -87,13 +88,12 @@ module _ (old now : Activity) (seat : ℕ) (so : RolledSo seat old now) where
     next = so.next;
     directory = so.directory;
     sitters = so.sitters;
-    gone = λ at below. by_test at below (at == seat) refl;
+    gone = λ at below. elim (cases_eq at seat) [
+      | inl same ↦ ap (has now.seating.taken) same ∙ none
+      | inr apart ↦ so.gone at (omega (arith, below, apart))
+    ];
     were = so.were;
   }
-    where
-      by_test : (at : ℕ) → at < seat + 1 → (same : Bool) → (at == seat) ≡ same → has now.seating.taken at ≡ false
-      by_test at below true e = ap (has now.seating.taken) (eqb-true at seat e) ∙ none
-      by_test at below false e = so.gone at (let apart = eqb-false at seat e in omega (arith, below, apart))
 
   -- who is in it is rolled back
   pub rolled-step : (new : Activity) → has now.seating.taken seat ≡ true → new ≡ rolled now seat new.reach.pool → IsSound new
@@ -106,20 +106,15 @@ module _ (old now : Activity) (seat : ℕ) (so : RolledSo seat old now) where
     next = ap (λ (n : Activity). n.next) is ∙ so.next;
     directory = ap (λ (n : Activity). n.reach.directory) is ∙ so.directory;
     sitters = ap (λ (n : Activity). n.seating.sitters) is ∙ so.sitters;
-    gone = λ at below. ap (λ (n : Activity). has n.seating.taken at) is ∙ by_test at below (at == seat) refl;
+    gone = λ at below.
+        let left = has-filter (λ other. not (other == seat)) now.seating.taken at in
+        let was = λ (apart : at ≢ seat). so.gone at (omega (arith, below, apart)) in
+        ap (λ (n : Activity). has n.seating.taken at) is ∙ grind (arith, nat_tests, left, was);
     were = λ committed follows.
         let past = so.were committed follows in
         subst (λ (n : Activity). WereRolled old n committed) (sym is)
         (rolled-more now seat new.reach.pool old committed past (rolls committed past.follows.orderly.active past.follows.kept));
   }
-    where
-      by_test : (at : ℕ) → at < seat + 1 → (same : Bool) → (at == seat) ≡ same → has (rolled now seat new.reach.pool).seating.taken at ≡ false
-      by_test at below true e =
-          has-filter (λ other. not (other == seat)) now.seating.taken at
-          ∙ ap (λ (b : Bool). has now.seating.taken at && not b) e ∙ and-false (has now.seating.taken at)
-      by_test at below false e =
-          has-filter (λ other. not (other == seat)) now.seating.taken at
-          ∙ ap (λ (b : Bool). b && not (at == seat)) (so.gone at (let apart = eqb-false at seat e in omega (arith, below, apart)))
 
 -- All sixteen are left, and the pages go out.
 module _ (old now new : Activity) (so : RolledSo 16 old now) (fits : Fits now.reach.directory now.reach.pool) (is : new ≡ with_pool now (emptied now.reach.pool)) where

@@ -1,7 +1,7 @@
 -- An attempt in a seat that is selected.
-use Rattle.activations.proofs.Common.{◌≡◌, refl, ℕ, ◌<◌, ◌≤◌, ◌==◌, Bool, true, false, List, [], ◌∷◌, ◌++◌, length, replicate, slice_set, slice_index_or, arith, ap, sym, ◌∙◌, subst, length-append, eqb-true, length-set, length-replicate, set-get_or, get_or_default, has, byte_count, Cpu, IsOfFewBytes, IsClean, Reach, registers_of_program, private_segment, HasWindows, GoesOpen, IsRow, GivesRows, ChangesBytes, StaysClean, LeavesSeats, plain_over, taken-below, Live, Activity, live_in, program_in, nothing_runs, IsSetUp, IsSound, executed, HasExecuted, IsSelected, TookEffect, WasAttempted, printed_after, attempted}
+use Rattle.activations.proofs.Common.{◌≡◌, refl, ℕ, ◌<◌, ◌≤◌, ◌==◌, true, false, List, [], ◌∷◌, ◌++◌, length, replicate, slice_set, slice_index_or, arith, ap, sym, ◌∙◌, subst, length-append, length-set, length-replicate, set-get_or, get_or_default, has, byte_count, Cpu, IsOfFewBytes, IsClean, Reach, registers_of_program, private_segment, HasWindows, GoesOpen, IsRow, GivesRows, ChangesBytes, StaysClean, LeavesSeats, plain_over, taken-below, Live, Activity, live_in, program_in, nothing_runs, IsSetUp, IsSound, executed, HasExecuted, IsSelected, TookEffect, WasAttempted, printed_after, attempted}
 use Rattle.romp_cpu.specs.declared.cpu.Attempt.{Attempt}
-use Rattle.activations.proofs.SittingLemmas.{live-there, live-other}
+use Rattle.activations.proofs.SittingLemmas.{live-there, live-other, each_seat}
 
 module _ (a : Activity) (seat : ℕ) (sound : IsSound a) (taken : has a.seating.taken seat ≡ true) where
   below : seat < 16
@@ -27,7 +27,7 @@ module _ (a : Activity) (seat : ℕ) (sound : IsSound a) (taken : has a.seating.
     requests = sound.requests;
     begun = sound.begun;
     entries = sound.entries;
-    set_up = λ at inside. by_test at inside (at == seat) refl;
+    set_up = each_seat {P = λ at. has a.seating.taken at ≡ true → IsSetUp (executed a seat live bytes marked) at} seat (λ inside. it) others;
     free = sound.free;
     identified = sound.identified;
   }
@@ -44,9 +44,8 @@ module _ (a : Activity) (seat : ℕ) (sound : IsSound a) (taken : has a.seating.
         few = subst (λ (l : Live). length l.out ≤ 4096) (sym there) few;
       }
 
-      by_test : (at : ℕ) → has a.seating.taken at ≡ true → (same : Bool) → (at == seat) ≡ same → IsSetUp (executed a seat live bytes marked) at
-      by_test at inside true e = subst (IsSetUp (executed a seat live bytes marked)) (sym (eqb-true at seat e)) it
-      by_test at inside false e =
+      others : (at : ℕ) → (at == seat) ≡ false → has a.seating.taken at ≡ true → IsSetUp (executed a seat live bytes marked) at
+      others at e inside =
           let was = sound.set_up at inside in
           let other : live_in (executed a seat live bytes marked) at ≡ live_in a at = live-other a.live seat live at e in
           record {

@@ -1,5 +1,5 @@
 -- Pages of a touch that came in, one after the other, or that broke off.
-use Rattle.activations.proofs.Common.{◌≡◌, refl, ℕ, ◌+◌, ◌<◌, ◌≤◌, ◌==◌, ◌||◌, if◌then◌else◌, Bool, true, false, List, [], ◌∷◌, Option, Some, None, option_to_list, Result, Ok, Err, IsErrAnd, OnErr, OnOk, arith, ap, sym, ◌∙◌, inl, inr, eqb-true, eq-eqb, ne_eqb, or_cases, or_left, brought, has, has_right, Pool, Layout, Ghosts, OnlyAsks, FewerLater, KeptStore, IsClean, Word, Fine, ReadFailed, Fetching, Fetched, Broken, can't_be_read, fetches, Activity, IsStoreOf, IsIn, IsUnread, IsBrokenOff, IsFetched, IsMoved, Touch, Want, pages_wanted, wants_of, subst}
+use Rattle.activations.proofs.Common.{◌≡◌, refl, ℕ, ◌+◌, ◌<◌, ◌≤◌, ◌==◌, ◌||◌, if◌then◌else◌, Bool, true, false, List, [], ◌∷◌, Option, Some, None, option_to_list, Result, Ok, Err, IsErrAnd, OnErr, OnOk, arith, ap, sym, ◌∙◌, inl, inr, eqb-true, eq-eqb, ne_eqb, or_cases, brought, has, has_right, Pool, Layout, Ghosts, OnlyAsks, FewerLater, KeptStore, IsClean, Word, Fine, ReadFailed, Fetching, Fetched, Broken, can't_be_read, fetches, Activity, IsStoreOf, IsIn, IsUnread, IsBrokenOff, IsFetched, IsMoved, Touch, Want, pages_wanted, wants_of, subst, nat_tests}
 use Rattle.activations.proofs.BringLemmas.{store-on, keeps-then, moved-then}
 use Rattle.activations.specs.Fetching.{KeepsStore}
 use Rattle.activations.specs.Stages.{Fetches, HasFetched}
@@ -18,24 +18,13 @@ fetched_by there fails word frames kept pages resident page counted =
 module _ (old new : Pool) (page : ℕ) (keep : Option ℕ) (before after : ℕ) (came : IsIn old new page keep before after) where
   -- it is there then
   pub in-there : has new.resident page ≡ true
-  in-there = ap (λ (these : List ℕ). has these page) came.resident ∙ by_there (has old.resident page) refl
-    where
-      by_there : (there : Bool) → has old.resident page ≡ there → has (if there then old.resident else brought old.frames (option_to_list keep) old.resident page) page ≡ true
-      by_there true e = e
-      by_there false e = has_right _ (page ∷ []) page (or_left (page == page) false (eq-eqb page page refl))
+  in-there = let is = came.resident in grind (arith, nat_tests, is, has_right)
 
   pub one-there : (other : ℕ) → has (page ∷ []) other ≡ true → has new.resident other ≡ true
-  one-there other inside = elim (or_cases (page == other) false inside) [
-    | inl here ↦ ap (has new.resident) (sym (eqb-true page other here)) ∙ in-there
-    | inr none ↦ absurd (cc)
-  ]
+  one-there other inside = grind (arith, nat_tests, in-there)
 
   pub in-later : before ≤ after
-  in-later = by_there (has old.resident page) came.counted
-    where
-      by_there : (there : Bool) → after ≡ (if there then before else before + 1) → before ≤ after
-      by_there true is = omega (arith, is)
-      by_there false is = omega (arith, is)
+  in-later = let is = came.counted in grind (arith, is)
 
   pub in-fetched : (word : Word) (kept pages : List ℕ) → (has old.resident page ≡ false → brought old.frames (option_to_list keep) old.resident page ≡ brought old.frames kept old.resident page)
       → (has old.resident page ≡ false → can't_be_read word (before + 1) ≡ false)

@@ -1,5 +1,5 @@
 -- The row whose access was served: it takes effect.
-use Rattle.activations.proofs.Common.{◌≡◌, refl, ℕ, ◌+◌, ◌<◌, ◌≤◌, ◌==◌, ◌⊎◌, Bool, true, false, List, None, arith, ap, sym, ◌∙◌, subst, inl, inr, eqb-true, has, Commit, Check, Word, Counts, Turning, Want, Authority, Seat, sitter, went_on, taken-below, Activity, live_in, TookEffect, WasAttempted, CameTo, IsSound, GoesUncounted, IsServed, AreRowsWithin, KeepsParts, AreLowered, pages_lowered, with_entries, counted}
+use Rattle.activations.proofs.Common.{◌≡◌, refl, ℕ, ◌+◌, ◌<◌, ◌⊎◌, true, List, None, arith, sym, subst, inl, inr, has, Commit, Check, Word, Counts, Turning, Want, Authority, Seat, sitter, taken-below, Activity, live_in, TookEffect, WasAttempted, CameTo, IsSound, GoesUncounted, IsServed, KeepsParts, AreLowered, pages_lowered, with_entries, counted, nat_tests}
 use Rattle.romp_cpu.specs.declared.cpu.Attempt.{Attempt}
 use Rattle.activations.proofs.SittingLemmas.{sitter-there, sitter-other}
 
@@ -11,7 +11,12 @@ keeps-counted a seat rows sound taken = record {
   next = refl;
   directory = refl;
   fewer = omega arith;
-  rows = λ bound within at less. within_still bound within at less (at == seat) refl;
+  rows = λ bound within at less.
+      let own = within seat below in
+      let here = within at less in
+      let there = sitter-there a.seating seat who sound.seating.sixteen below in
+      let other = sitter-other a.seating seat who at in
+      grind (arith, nat_tests, there, own, here, other);
 }
   where
     below : seat < 16
@@ -19,17 +24,6 @@ keeps-counted a seat rows sound taken = record {
 
     who : Seat
     who = record (sitter a.seating seat) { rows = (sitter a.seating seat).rows + rows; waits = None }
-
-    within_still : (bound : ℕ) → AreRowsWithin a bound → (at : ℕ) → at < 16 → (same : Bool) → (at == seat) ≡ same → (sitter (went_on a.seating seat rows) at).rows ≤ bound + rows
-    within_still bound within at less true e =
-        let here = within seat below in
-        let same : (sitter (went_on a.seating seat rows) at).rows ≡ (sitter a.seating seat).rows + rows =
-        ap (λ (n : ℕ). (sitter (went_on a.seating seat rows) n).rows) (eqb-true at seat e) ∙ ap (λ (s : Seat). s.rows) (sitter-there a.seating seat who sound.seating.sixteen below) in
-        omega (arith, here, same)
-    within_still bound within at less false e =
-        let here = within at less in
-        let same : (sitter (went_on a.seating seat rows) at).rows ≡ (sitter a.seating at).rows = ap (λ (s : Seat). s.rows) (sitter-other a.seating seat who at e) in
-        omega (arith, here, same)
 
 -- a row that took effect
 module _ (begins : Word → Turning) (a after : Activity) (seat : ℕ) (wants : List Want) (committed : List ℕ) (order : List (ℕ × ℕ)) (counts : Counts)

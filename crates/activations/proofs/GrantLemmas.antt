@@ -12,18 +12,10 @@ flat-filter : (base : ℕ) (p q : ℕ → Bool) (from n : ℕ) → ((x : ℕ) �
     → map (λ x. base + x) (filter p (range_with_len from n)) ≡ filter q (range_with_len (base + from) n)
 flat-filter base p q from zero same = refl
 flat-filter base p q from (suc n) same =
-    by_test (p from) (q (base + from)) (same from (omega arith) (omega arith)) (flat-filter base p q (from + 1) n (λ x low high. same x (omega (arith, low)) (omega (arith, high))))
-  where
-    next : base + (from + 1) ≡ base + from + 1
-    next = omega arith
-
-    by_test : (a b : Bool) → b ≡ a → map (λ x. base + x) (filter p (range_with_len (from + 1) n)) ≡ filter q (range_with_len (base + (from + 1)) n)
-        → map (λ x. base + x) (if a then (from ∷ filter p (range_with_len (from + 1) n)) else filter p (range_with_len (from + 1) n))
-        ≡ (if b then ((base + from) ∷ filter q (range_with_len (base + from + 1) n)) else filter q (range_with_len (base + from + 1) n))
-    by_test true true e rest = ap (λ (these : List ℕ). (base + from) ∷ these) (rest ∙ ap (λ (k : ℕ). filter q (range_with_len k n)) next)
-    by_test true false e rest = absurd (cc)
-    by_test false true e rest = absurd (cc)
-    by_test false false e rest = rest ∙ ap (λ (k : ℕ). filter q (range_with_len k n)) next
+    let next : base + (from + 1) ≡ base + from + 1 = omega arith in
+    let here = same from (omega arith) (omega arith) in
+    let rest = flat-filter base p q (from + 1) n (λ x low high. same x (omega (arith, low)) (omega (arith, high))) in
+    grind (arith, next, here, rest)
 
 -- a set of lines of a page is the flat lines that lie in it
 pub flat-within : (page : ℕ) (set lines : List ℕ) → IsOfPage set → ((x : ℕ) → x < 16 → has lines (page * 16 + x) ≡ has set x) → flat_lines page set ≡ within_page page lines
@@ -50,11 +42,7 @@ flat-whole page set = ap (λ (n : ℕ). n == 16) (length-map set (λ line. page 
 
 flat-fine : (page tid : ℕ) (storing : Bool) (reads writes : List ℕ) → flat_entry page (bits.granted_fine tid reads writes storing) ≡ fine_authority_by tid storing (flat_lines page reads) (flat_lines page writes)
 flat-fine page tid true reads writes = refl
-flat-fine page tid false reads writes = by_whole (is_whole_page reads) ∙ ap (λ (whole : Bool). authority_by tid (flat_lines page reads) (if whole then flat_lines page writes else [])) (sym (flat-whole page reads))
-  where
-    by_whole : (whole : Bool) → flat_entry page (bits.granted tid reads (if whole then writes else [])) ≡ authority_by tid (flat_lines page reads) (if whole then flat_lines page writes else [])
-    by_whole true = flat-granted page tid reads writes
-    by_whole false = refl
+flat-fine page tid false reads writes = grind (arith, flat-whole, flat-granted)
 
 module _ (a : Activity) (seat page : ℕ) (sound : IsSound a) where
   flat : IsFlat (of_seat a.seating.holding seat) (locks_in a seat)

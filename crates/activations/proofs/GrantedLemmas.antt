@@ -1,5 +1,5 @@
 -- Who took what he asked for is granted it as on the desk: his lines are open then, and his next row isn't refused.
-use Rattle.activations.proofs.Common.{◌≡◌, refl, ℕ, zero, suc, ◌+◌, ◌-◌, ◌<◌, ◌==◌, ◌&&◌, not, if◌then◌else◌, Bool, true, false, List, [], ◌∷◌, ◌++◌, length, filter, slice_index_or, Some, arith, ap, sym, ◌∙◌, subst, inl, inr, eqb-true, or_cases, All-head, All-tail, FlatStore, has, Lines, both, page_of_line, pages_of, with_whole_pages, Want, lines_wanted, AreWithin, of_seat, Authority, Plain, On, row, after, touched, Pool, Access, Desk, Entry, nobody, Word, Counts, Attempt, Turning, granted, lowered, locks_with, touched_pages, with_grants, page_count, is_fine_page, AreAlike, AreThere, IsThere, IsState, over_all, owners_told, row_done, due_to, permitted, IsOrderly, wanted-is, one-entry, grants-held, row-goes-on, touched_of, seat-told, got, served-there, resident-granted, sitter, taken-below, long-seat, private_bytes, IsOpen, IsOpenLine, IsShutOut, Activity, live_in, program_in, entry_in, entries, store_over, desk_over, authority_under, number_under, locks_in, state_in, shown, plain_in, IsShut, IsSound, IsFetched, AreGranted, AreLowered, IsFree, is_lowered, pages_lowered, locked, with_pool, AreWanted, pages_wanted}
+use Rattle.activations.proofs.Common.{◌≡◌, refl, ℕ, zero, suc, ◌+◌, ◌-◌, ◌<◌, ◌==◌, ◌&&◌, not, Bool, true, false, List, [], ◌∷◌, ◌++◌, length, filter, slice_index_or, Some, arith, ap, sym, ◌∙◌, subst, All-head, All-tail, FlatStore, has, Lines, both, page_of_line, pages_of, with_whole_pages, Want, lines_wanted, AreWithin, of_seat, Authority, Plain, On, row, after, touched, Pool, Access, Desk, Entry, nobody, Word, Counts, Attempt, Turning, granted, lowered, locks_with, touched_pages, with_grants, page_count, is_fine_page, AreAlike, AreThere, IsThere, IsState, over_all, owners_told, row_done, due_to, permitted, IsOrderly, wanted-is, one-entry, grants-held, row-goes-on, touched_of, seat-told, got, served-there, resident-granted, sitter, taken-below, long-seat, private_bytes, IsOpen, IsOpenLine, IsShutOut, Activity, live_in, program_in, entry_in, entries, store_over, desk_over, authority_under, number_under, locks_in, state_in, shown, plain_in, IsShut, IsSound, IsFetched, AreGranted, AreLowered, IsFree, is_lowered, pages_lowered, locked, with_pool, AreWanted, pages_wanted, nat_tests}
 use Rattle.desk_law.proofs.SharedBytes.{RunsOn, row-on-current}
 use Rattle.activations.proofs.EndLemmas.{sound-pool}
 use Rattle.activations.proofs.GrantLemmas.{opened}
@@ -18,15 +18,9 @@ under-locked a seat wants owned i tid = at tid i
 lowered-below : (some : Want → Bool) (pages : ℕ) (wants : List Want) → AreWithin pages wants → (page : ℕ) → has (pages_wanted (filter some wants)) page ≡ true → page < pages
 lowered-below some pages [] within page inside = absurd (cc)
 lowered-below some pages (want ∷ wants) within page inside =
-    by_test (some want) inside (lowered-below some pages wants (All-tail (λ (w : Want). w.page < pages) want wants within) page)
-  where
-    by_test : (keeps : Bool) → has (pages_wanted (if keeps then want ∷ filter some wants else filter some wants)) page ≡ true
-        → (has (pages_wanted (filter some wants)) page ≡ true → page < pages) → page < pages
-    by_test true inside rest = elim (or_cases (want.page == page) (has (pages_wanted (filter some wants)) page) inside) [
-      | inl here ↦ subst (λ (p : ℕ). p < pages) (eqb-true want.page page here) (All-head (λ (w : Want). w.page < pages) want wants within)
-      | inr later ↦ rest later
-    ]
-    by_test false inside rest = rest inside
+    let first = All-head (λ (w : Want). w.page < pages) want wants within in
+    let rest = lowered-below some pages wants (All-tail (λ (w : Want). w.page < pages) want wants within) page in
+    grind (arith, nat_tests, first, rest)
 
 module _ (begins : Word → Turning) (attempt : Attempt) (refused : List ℕ) (a : Activity) (seat : ℕ) (committed : List ℕ) (order : List (ℕ × ℕ)) (counts : Counts)
     (wants : List Want) (owned : List Authority)

@@ -1,5 +1,6 @@
 -- Locks that are taken and pages that are granted, one after another: what is left is sound.
-use Rattle.activations.proofs.Common.{◌≡◌, refl, ℕ, zero, suc, ◌+◌, ◌<◌, ◌==◌, if◌then◌else◌, Bool, true, false, List, [], ◌∷◌, ◌++◌, length, map, slice_index_or, slice_set, ap, sym, ◌∙◌, subst, inr, eqb-true, eq-eqb, or_left, or_right, length-set, All-cons, All-head, All-tail, Layout, is_fine_page, IsOfPage, between, union, of_page-where, has, Want, AreWithin, of_page, together, with_want, with_wants, Authority, is_whole_page, unowned, Seating, took, taken-below, kept-took, same-with, other-with, Touch, Activity, AreOfPages, IsIdentified, IsSound, AreSet, AreGranted, AreLowered, entry_given, entry_to_read, locked, with_entries, each_refused, page_if, pages_picked, pages_refused, pages_wanted, refuses_want, stores_into, wants_of, with_whole_page}
+use Rattle.activations.proofs.SittingLemmas.{each_seat}
+use Rattle.activations.proofs.Common.{◌≡◌, refl, ℕ, zero, suc, ◌+◌, ◌<◌, ◌==◌, if◌then◌else◌, Bool, true, List, [], ◌∷◌, length, map, slice_index_or, slice_set, ap, sym, ◌∙◌, subst, inr, eq-eqb, or_left, or_right, length-set, All-cons, All-head, All-tail, Layout, is_fine_page, IsOfPage, of_page-where, has, Want, AreWithin, of_page, together, with_want, with_wants, Authority, unowned, Seating, took, taken-below, kept-took, same-with, other-with, Touch, Activity, AreOfPages, IsIdentified, IsSound, AreSet, AreGranted, AreLowered, entry_given, entry_to_read, locked, with_entries, each_refused, pages_picked, pages_refused, stores_into, wants_of, with_whole_page, arith}
 use Rattle.line_locks.specs.Holding.{of_seat, held_at, taken as holding_more}
 use Rattle.lockbit_rules.specs.Entries.{Entry, granted, granted_fine}
 
@@ -24,12 +25,8 @@ pub within-whole : (directory : Layout) (pages : ℕ) (wants : List Want) → Ar
 within-whole directory pages [] within = within
 within-whole directory pages (want ∷ wants) within =
     All-cons (λ (w : Want). w.page < pages) (with_whole_page directory want) (map (with_whole_page directory) wants)
-    (by_test (length want.writes == 0) (All-head (λ (w : Want). w.page < pages) want wants within))
+    (let first = All-head (λ (w : Want). w.page < pages) want wants within in grind arith)
     (within-whole directory pages wants (All-tail (λ (w : Want). w.page < pages) want wants within))
-  where
-    by_test : (none : Bool) → want.page < pages → (if none then want else record want { reads = if is_fine_page directory want.page then union want.reads want.writes else between 0 15 }).page < pages
-    by_test true below = below
-    by_test false below = below
 
 -- the pages of a touch are within those of the store
 pub one_within : (pages : ℕ) (touch : Touch) (want : Want) → AreWithin pages (wants_of touch) → touch ≡ Touch.One want → want.page < pages
@@ -72,16 +69,7 @@ granted-owner tid reads [] = refl
 granted-owner tid reads (line ∷ lines) = refl
 
 given-owner : (a : Activity) (seat : ℕ) (storing : Bool) (page : ℕ) → (entry_given a seat storing page).owner ≡ seat + 1
-given-owner a seat storing page = by_fine (is_fine_page a.reach.directory page) storing
-  where
-    by_fine : (fine storing : Bool)
-        → (if fine
-        then granted_fine (seat + 1) (held_at a.seating.holding seat page).0 (held_at a.seating.holding seat page).1 storing
-        else granted (seat + 1) (held_at a.seating.holding seat page).0 (held_at a.seating.holding seat page).1).owner
-        ≡ seat + 1
-    by_fine true true = refl
-    by_fine true false = granted-owner (seat + 1) (held_at a.seating.holding seat page).0 (if is_whole_page (held_at a.seating.holding seat page).0 then (held_at a.seating.holding seat page).1 else [])
-    by_fine false storing = granted-owner (seat + 1) (held_at a.seating.holding seat page).0 (held_at a.seating.holding seat page).1
+given-owner a seat storing page = grind (arith, granted-owner)
 
 -- each entry is nobody's or a taken seat's, also once some are a taken seat's
 set-identified : (taken : List ℕ) (seat : ℕ) (of : ℕ → Entry) (pages : List ℕ) (old new : List Authority) → has taken seat ≡ true → ((page : ℕ) → (of page).owner ≡ seat + 1) → AreSet of pages old new
@@ -123,7 +111,9 @@ taken-sound a seat wants pages owned sound taken is = record {
   numbers = sound.numbers;
   live = sound.live;
   pages = sound.pages;
-  lines = λ at. by_test at (at == seat) refl;
+  lines = each_seat {P = λ at. AreOfPages (of_seat (holding_more a.seating.holding seat (map (with_whole_page a.reach.directory) wants)) at)} seat
+      (subst AreOfPages (sym (same-with a.seating.holding seat more sound.seating.whole below)) (more-of-pages (of_seat a.seating.holding seat) (map (with_whole_page a.reach.directory) wants) (sound.lines seat)))
+      (λ at e. subst AreOfPages (sym (other-with a.seating.holding seat more sound.seating.whole at e)) (sound.lines at));
   requests = sound.requests;
   begun = sound.begun;
   entries = set-length (λ page. entry_given (locked a seat wants owned) seat (stores_into wants page) page) pages a.reach.entries owned is ∙ sound.entries;
@@ -140,12 +130,6 @@ taken-sound a seat wants pages owned sound taken is = record {
     more : List (List ℕ × List ℕ)
     more = with_wants (of_seat a.seating.holding seat) (map (with_whole_page a.reach.directory) wants)
 
-    by_test : (at : ℕ) (same : Bool) → (at == seat) ≡ same → AreOfPages (of_seat (holding_more a.seating.holding seat (map (with_whole_page a.reach.directory) wants)) at)
-    by_test at true e =
-        subst (λ (n : ℕ). AreOfPages (of_seat (holding_more a.seating.holding seat (map (with_whole_page a.reach.directory) wants)) n)) (sym (eqb-true at seat e))
-        (subst AreOfPages (sym (same-with a.seating.holding seat more sound.seating.whole below)) (more-of-pages (of_seat a.seating.holding seat) (map (with_whole_page a.reach.directory) wants) (sound.lines seat)))
-    by_test at false e = subst AreOfPages (sym (other-with a.seating.holding seat more sound.seating.whole at e)) (sound.lines at)
-
 -- the same of what is left once the seating was taken and then the entries were set
 pub sound-then : (a new : Activity) (seat : ℕ) (wants : List Want) (pages : List ℕ) (seating : Seating) → IsSound a → has a.seating.taken seat ≡ true → seating ≡ took a.seating seat (map (with_whole_page a.reach.directory) wants)
     → new ≡ with_entries (record a { seating = seating }) new.reach.entries → AreGranted (record a { seating = seating }) seat wants pages a.reach.entries new.reach.entries → IsSound new
@@ -156,16 +140,5 @@ sound-then a new seat wants pages seating sound taken is shape grants =
 -- The pages of a touch that are picked where its entry refuses them are those that are refused.
 pub picked-refused : (owned : List Authority) (tid : ℕ) (touch : Touch) → pages_picked touch (each_refused owned tid touch) ≡ pages_refused owned tid (wants_of touch)
 picked-refused owned tid Touch.Nothing = refl
-picked-refused owned tid (Touch.One want) = by_test (refuses_want owned tid want)
-  where
-    by_test : (refused : Bool) → page_if refused want.page ≡ pages_wanted (if refused then want ∷ [] else [])
-    by_test true = refl
-    by_test false = refl
-picked-refused owned tid (Touch.Two first second) = by_tests (refuses_want owned tid first) (refuses_want owned tid second)
-  where
-    by_tests : (one other : Bool) → page_if one first.page ++ page_if other second.page
-        ≡ pages_wanted (if one then first ∷ (if other then second ∷ [] else []) else (if other then second ∷ [] else []))
-    by_tests true true = refl
-    by_tests true false = refl
-    by_tests false true = refl
-    by_tests false false = refl
+picked-refused owned tid (Touch.One want) = grind arith
+picked-refused owned tid (Touch.Two first second) = grind arith

@@ -1,5 +1,6 @@
 -- What a seat holds page by page, as flat lines.
-use Rattle.activations.proofs.Common.{or-false, ◌≡◌, ◌≢◌, refl, ℕ, zero, suc, ◌+◌, ◌*◌, ◌<◌, ◌≤◌, ◌==◌, ◌||◌, nat_lt, Bool, true, false, List, [], length, flat_map, range_with_len, arith, ap, sym, ◌∙◌, eqb-true, eqb-false, nat_tests, get_or_past, of_page-below, has, has-append, of_page, nothing, flat_lines, IsFlat, has-page, has-other_page, lines_held, AreOfPages}
+use Rattle.std.proofs.lemmas.Bool.{cases_lt}
+use Rattle.activations.proofs.Common.{◌≡◌, ◌≢◌, refl, ℕ, zero, suc, ◌+◌, ◌*◌, ◌<◌, ◌≤◌, ◌||◌, true, false, List, [], length, flat_map, range_with_len, arith, ap, sym, ◌∙◌, nat_tests, get_or_past, of_page-below, has, has-append, of_page, nothing, flat_lines, IsFlat, has-page, has-other_page, lines_held, AreOfPages, inl, inr}
 
 -- lines of pages from a first on, none of which is this page
 pub flat-apart : (sets : ℕ → List ℕ) (from n page line : ℕ) → ((p x : ℕ) → has (sets p) x ≡ true → x < 16) → line < 16 → ((p : ℕ) → from ≤ p → p < from + n → page ≢ p)
@@ -15,21 +16,12 @@ flat-among : (sets : ℕ → List ℕ) (from n page line : ℕ) → ((p x : ℕ)
     → has (flat_map (λ p. flat_lines p (sets p)) (range_with_len from n)) (page * 16 + line) ≡ has (sets page) line
 flat-among sets from zero page line few below first last = absurd (omega (arith, first, last))
 flat-among sets from (suc n) page line few below first last =
-    has-append (flat_lines from (sets from)) (flat_map (λ p. flat_lines p (sets p)) (range_with_len (from + 1) n)) (page * 16 + line)
-    ∙ by_test (page == from) refl (λ apart. flat-among sets (from + 1) n page line few below (grind (arith, nat_tests, apart, first)) (omega (arith, last)))
-  where
-    rest : Bool
-    rest = has (flat_map (λ p. flat_lines p (sets p)) (range_with_len (from + 1) n)) (page * 16 + line)
-
-    by_test : (same : Bool) → (page == from) ≡ same → ((page == from) ≡ false → rest ≡ has (sets page) line) → (has (flat_lines from (sets from)) (page * 16 + line) || rest) ≡ has (sets page) line
-    by_test true e later =
-        let here : page ≡ from = eqb-true page from e in
-        ap (λ (b : Bool). has (flat_lines from (sets from)) (page * 16 + line) || b) (flat-apart sets (from + 1) n page line few below (λ p low high same. absurd (omega (arith, here, low, same))))
-        ∙ or-false (has (flat_lines from (sets from)) (page * 16 + line))
-        ∙ ap (λ (p : ℕ). has (flat_lines from (sets from)) (p * 16 + line)) here
-        ∙ has-page from line (sets from) ∙ ap (λ (p : ℕ). has (sets p) line) (sym here)
-    by_test false e later =
-        (λ i. has-other_page from page line (sets from) (eqb-false page from e) below (few from) i || rest) ∙ later e
+    let more = has-append (flat_lines from (sets from)) (flat_map (λ p. flat_lines p (sets p)) (range_with_len (from + 1) n)) (page * 16 + line) in
+    let here = has-page from line (sets from) in
+    let others = λ (is : page ≡ from). flat-apart sets (from + 1) n page line few below (λ p low high same. absurd (omega (arith, is, low, same))) in
+    let apart = λ (is : page ≢ from). has-other_page from page line (sets from) is below (few from) in
+    let rest = λ (above : from + 1 ≤ page). flat-among sets (from + 1) n page line few below above (omega (arith, last)) in
+    grind (arith, nat_tests, more, here, others, apart, rest)
 
 -- what is held page by page is these flat lines
 pub held-flat : (pages : List (List ℕ × List ℕ)) → AreOfPages pages → IsFlat pages (lines_held pages)
@@ -40,12 +32,10 @@ held-flat pages few = record {
   where
     one : (part : List ℕ × List ℕ → List ℕ) → part nothing ≡ [] → ((p x : ℕ) → has (part (of_page pages p)) x ≡ true → x < 16) → (page line : ℕ) → line < 16
         → has (part (of_page pages page)) line ≡ has (flat_map (λ p. flat_lines p (part (of_page pages p))) (range_with_len 0 (length pages))) (page * 16 + line)
-    one part none small page line below = by_test (nat_lt page (length pages)) refl
-      where
-        by_test : (within : Bool) → nat_lt page (length pages) ≡ within
-            → has (part (of_page pages page)) line ≡ has (flat_map (λ p. flat_lines p (part (of_page pages p))) (range_with_len 0 (length pages))) (page * 16 + line)
-        by_test true e = sym (flat-among (λ p. part (of_page pages p)) 0 (length pages) page line small below (omega arith) (grind (arith, nat_tests, e)))
-        by_test false e =
-            ap (λ (held : List ℕ × List ℕ). has (part held) line) (get_or_past pages page nothing (grind (arith, nat_tests, e)))
-            ∙ ap (λ (set : List ℕ). has set line) none
-            ∙ sym (flat-apart (λ p. part (of_page pages p)) 0 (length pages) page line small below (λ p low high same. absurd (let out : length pages ≤ page = grind (arith, nat_tests, e) in omega (arith, out, high, same))))
+    one part none small page line below = elim (cases_lt page (length pages)) [
+      | inl inside ↦ sym (flat-among (λ p. part (of_page pages p)) 0 (length pages) page line small below (omega arith) (omega (arith, inside)))
+      | inr out ↦
+          ap (λ (held : List ℕ × List ℕ). has (part held) line) (get_or_past pages page nothing out)
+          ∙ ap (λ (set : List ℕ). has set line) none
+          ∙ sym (flat-apart (λ p. part (of_page pages p)) 0 (length pages) page line small below (λ p low high same. absurd (omega (arith, out, high, same))))
+    ]

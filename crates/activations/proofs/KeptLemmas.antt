@@ -1,16 +1,11 @@
 -- What stays while those that run are served: of a rollback of another, and one after another.
-use Rattle.activations.proofs.Common.{ne_eqb, and-false, ◌≡◌, refl, ℕ, ◌+◌, ◌≤◌, ◌==◌, ◌&&◌, not, if◌then◌else◌, Bool, true, false, List, [], ◌∷◌, filter, length, None, replicate, Result, Ok, Err, OnOk, arith, ap, sym, ◌∙◌, subst, eq-eqb, both_ways, has, has-filter, ArrayVec, Cycle, Pool, Tally, Activity, sitter, IsSelected, TookEffect, KeepsParts, StaysSeated, Want, Authority, locked, rolled, with_pool, Ghosts, FewerLater, asks_on}
+use Rattle.activations.proofs.Common.{◌≡◌, refl, ℕ, ◌+◌, ◌≤◌, ◌==◌, not, if◌then◌else◌, Bool, true, false, List, [], ◌∷◌, filter, length, None, replicate, Result, Ok, Err, OnOk, arith, ap, sym, ◌∙◌, subst, has, has-filter, ArrayVec, Cycle, Pool, Tally, Activity, sitter, IsSelected, TookEffect, KeepsParts, StaysSeated, Want, Authority, locked, rolled, with_pool, Ghosts, FewerLater, asks_on, nat_tests}
 use Rattle.activations.specs.Stages.{KeepsAll, KeepsSound}
 
 -- none more are left of those but one
 pub no-more : (taken : List ℕ) (seat : ℕ) → length (filter (λ other. not (other == seat)) taken) ≤ length taken
 no-more [] seat = omega arith
-no-more (one ∷ taken) seat = keeps (one == seat) (no-more taken seat)
-  where
-    keeps : (same : Bool) → length (filter (λ other. not (other == seat)) taken) ≤ length taken
-        → length (if not same then one ∷ filter (λ other. not (other == seat)) taken else filter (λ other. not (other == seat)) taken) ≤ length (one ∷ taken)
-    keeps true few = omega (arith, few)
-    keeps false few = omega (arith, few)
+no-more (one ∷ taken) seat = grind (arith, no-more taken seat)
 
 pub keeps-itself : (a : Activity) → KeepsParts a a 0
 keeps-itself a = record { programs = refl; most_lines = refl; next = refl; directory = refl; fewer = omega arith; rows = λ rows within seat below. let here = within seat below in omega (arith, here) }
@@ -48,14 +43,8 @@ stays-rolled first a seat loser pool stays inside = record {
       };
 }
   where
-    gone : seat ≡ loser → has (rolled a loser pool).seating.taken seat ≡ false
-    gone same =
-        has-filter (λ other. not (other == loser)) a.seating.taken seat
-        ∙ ap (λ (b : Bool). has a.seating.taken seat && not b) (eq-eqb seat loser same)
-        ∙ and-false (has a.seating.taken seat)
-
     apart : a.reach.runner ≡ seat + 1 → (a.reach.runner == loser + 1) ≡ false
-    apart runner = ne_eqb a.reach.runner (loser + 1) (λ same. both_ways (has (rolled a loser pool).seating.taken seat) (gone (omega (arith, runner, same))) inside)
+    apart runner = let left = has-filter (λ other. not (other == loser)) a.seating.taken seat in grind (arith, nat_tests, left, inside, runner)
 
 -- and of a tally only its cycles are others
 pub tally-on : (first before : Tally) (cycles : ArrayVec Cycle) → before ≡ record first { cycles = before.cycles } → record before { cycles = cycles } ≡ record first { cycles = cycles }

@@ -1,24 +1,17 @@
 -- How many lines will have been written.
-use Rattle.activations.proofs.Common.{◌≡◌, ◌≢◌, refl, ℕ, zero, suc, ◌+◌, ◌*◌, ◌/◌, ◌%◌, ◌<◌, ◌==◌, ◌&&◌, ◌||◌, not, if◌then◌else◌, Bool, true, false, List, [], ◌∷◌, ◌++◌, All, filter, length, map, flat_map, list_any, range_with_len, sum_by, arith, ap, sym, ◌∙◌, eqb-true, and_parts, nat_tests, append-nil, length-map, sum_by-cons, All-nil, All-cons, passing, IsOfPage, difference, of_page-below, of_page-where, is_in_where-below, has, distinct, size, page_of_line, has-filter, size-alike, size-apart, size-append, size-counted, Want, of_page, write_count, flat_lines, lines_wanted, AreOfPage, lines_held, AreOfPages}
+use Rattle.std.proofs.lemmas.Bool.{and_left}
+use Rattle.activations.proofs.Common.{◌≡◌, ◌≢◌, refl, ℕ, zero, suc, ◌+◌, ◌*◌, ◌/◌, ◌%◌, ◌<◌, ◌==◌, ◌&&◌, not, true, false, List, [], ◌∷◌, ◌++◌, All, filter, length, map, flat_map, list_any, range_with_len, sum_by, arith, ap, sym, ◌∙◌, eqb-true, and_parts, nat_tests, append-nil, length-map, sum_by-cons, All-nil, All-cons, passing, IsOfPage, difference, of_page-below, of_page-where, is_in_where-below, has, distinct, size, page_of_line, has-filter, size-alike, size-apart, size-append, size-counted, Want, of_page, write_count, flat_lines, lines_wanted, AreOfPage, lines_held, AreOfPages}
 use Rattle.activations.proofs.HoldingLemmas.{flat-apart, held-flat}
 use Rattle.activations.proofs.RequestLemmas.{has-flat, has-wanted}
 
 -- numbers moved on are as many
 has-moved : (base : ℕ) (xs : List ℕ) (x : ℕ) → has (map (λ y. base + y) xs) (base + x) ≡ has xs x
 has-moved base [] x = refl
-has-moved base (y ∷ xs) x =
-    let same : (base + y == base + x) ≡ (y == x) = grind (arith, nat_tests) in
-    λ i. same i || has-moved base xs x i
+has-moved base (y ∷ xs) x = grind (arith, nat_tests, has-moved base xs x)
 
 distinct-moved : (base : ℕ) (xs : List ℕ) → distinct (map (λ y. base + y) xs) ≡ map (λ y. base + y) (distinct xs)
 distinct-moved base [] = refl
-distinct-moved base (x ∷ xs) = by_test (has xs x) (has-moved base xs x) (distinct-moved base xs)
-  where
-    by_test : (seen : Bool) → has (map (λ y. base + y) xs) (base + x) ≡ seen → distinct (map (λ y. base + y) xs) ≡ map (λ y. base + y) (distinct xs)
-        → (if has (map (λ y. base + y) xs) (base + x) then distinct (map (λ y. base + y) xs) else (base + x) ∷ distinct (map (λ y. base + y) xs))
-        ≡ map (λ y. base + y) (if seen then distinct xs else x ∷ distinct xs)
-    by_test true e rest = ap (λ (b : Bool). if b then distinct (map (λ y. base + y) xs) else (base + x) ∷ distinct (map (λ y. base + y) xs)) e ∙ rest
-    by_test false e rest = ap (λ (b : Bool). if b then distinct (map (λ y. base + y) xs) else (base + x) ∷ distinct (map (λ y. base + y) xs)) e ∙ ap (λ (these : List ℕ). (base + x) ∷ these) rest
+distinct-moved base (x ∷ xs) = grind (arith, has-moved base xs x, distinct-moved base xs)
 
 -- the flat lines of a set of a page are as many as the set has
 pub size-flat : (page : ℕ) (set : List ℕ) → IsOfPage set → size (flat_lines page set) ≡ length set
@@ -80,27 +73,17 @@ new-are pages wants of sets =
     held : (line : ℕ) → has (lines_held pages).writes line ≡ has (of_page pages (page_of_line line)).1 (line % 16)
     held line = let whole : line / 16 * 16 + line % 16 ≡ line = omega arith in sym ((held-flat pages of).writes (line / 16) (line % 16) (omega arith) ∙ ap (has (lines_held pages).writes) whole)
 
-    one : (line : ℕ) (want : Want) → (here : Bool) → (want.page == page_of_line line) ≡ here
-        → (here && has (new_lines pages want) (line % 16)) ≡ ((here && has want.writes (line % 16)) && not (has (of_page pages (page_of_line line)).1 (line % 16)))
-    one line want true e =
-        is_in_where-below (λ x. has want.writes x && not (has (of_page pages want.page).1 x)) (line % 16) (omega arith)
-        ∙ ap (λ (p : ℕ). has want.writes (line % 16) && not (has (of_page pages p).1 (line % 16))) (eqb-true want.page (page_of_line line) e)
-    one line want false e = refl
+    one : (line : ℕ) (want : Want) → ((want.page == page_of_line line) && has (new_lines pages want) (line % 16))
+        ≡ (((want.page == page_of_line line) && has want.writes (line % 16)) && not (has (of_page pages (page_of_line line)).1 (line % 16)))
+    one line want =
+        let new = is_in_where-below (λ x. has want.writes x && not (has (of_page pages want.page).1 x)) (line % 16) (omega arith) in
+        grind (arith, nat_tests, new)
 
     each : (line : ℕ) (wants : List Want)
         → list_any (λ want. (want.page == page_of_line line) && has (new_lines pages want) (line % 16)) wants
         ≡ (list_any (λ want. (want.page == page_of_line line) && has want.writes (line % 16)) wants && not (has (of_page pages (page_of_line line)).1 (line % 16)))
     each line [] = refl
-    each line (want ∷ wants) =
-        (λ i. one line want (want.page == page_of_line line) refl i || each line wants i)
-        ∙ shared ((want.page == page_of_line line) && has want.writes (line % 16)) (list_any (λ want. (want.page == page_of_line line) && has want.writes (line % 16)) wants) (not (has (of_page pages (page_of_line line)).1 (line % 16)))
-      where
-        shared : (a b c : Bool) → ((a && c) || (b && c)) ≡ ((a || b) && c)
-        shared true true true = refl
-        shared true true false = refl
-        shared true false true = refl
-        shared true false false = refl
-        shared false b c = refl
+    each line (want ∷ wants) = grind (arith, one line want, each line wants)
 
     same : (line : ℕ) → has (filter (λ line. not (has (lines_held pages).writes line)) (lines_wanted wants).writes) line ≡ has (flat_map (λ want. flat_lines want.page (new_lines pages want)) wants) line
     same line =
@@ -136,8 +119,4 @@ module _ (pages : List (List ℕ × List ℕ)) (of : AreOfPages pages) where
           let parts = and_parts (first.page == page_of_line line) (has (new_lines pages first) (line % 16)) (sym (has-flat first.page (new_lines pages first) line (new-of-page pages first)) ∙ inside) in
           ap (λ (lines : List ℕ). has lines line) (append-nil (flat_lines second.page (new_lines pages second)))
           ∙ has-flat second.page (new_lines pages second) line (new-of-page pages second)
-          ∙ by_test (second.page == page_of_line line) refl (eqb-true first.page (page_of_line line) parts.0)
-        where
-          by_test : (here : Bool) → (second.page == page_of_line line) ≡ here → first.page ≡ page_of_line line → (here && has (new_lines pages second) (line % 16)) ≡ false
-          by_test true e first_here = absurd (differs (first_here ∙ sym (eqb-true second.page (page_of_line line) e)))
-          by_test false e first_here = refl
+          ∙ and_left (second.page == page_of_line line) _ (grind (arith, nat_tests, parts.0, differs))

@@ -1,5 +1,5 @@
 -- An access is prepared: its pages come in, or one of them can't be read.
-use Rattle.activations.proofs.Common.{◌≡◌, refl, ℕ, ◌+◌, nat_lt, if◌then◌else◌, Bool, true, false, List, [], ◌∷◌, length, ap, sym, ◌∙◌, subst, has, lines_wanted, Want, Authority, Plain, lines_of_access, Access, Ghosts, KeptStore, Pool, IsClean, Desk, rolled_back, Word, ReadFailed, Counts, Attempt, Turning, Over, Disk, fetches, touched_pages, AreConsistent, Touch, Activity, program_in, entry_in, entries, store_over, desk_over, IsSelected, IsShut, HasUndone, IsStoreOf, IsBrokenOff, HasBrokenOff, IsSound, IsKept, KeepsDesk, IsAsked, IsPrepared, IsToServe, IsFetched, AreTouched, attempt_in, lines_with, counted_with, instruction_in, with_pool, rolled, RollsBack, AreWanted, wants_of, pages_wanted, refuses_want, each_refused, pages_refused, HasBroken}
+use Rattle.activations.proofs.Common.{◌≡◌, refl, ℕ, ◌+◌, nat_lt, Bool, true, false, List, [], length, ap, sym, ◌∙◌, subst, has, lines_wanted, Want, Authority, Plain, lines_of_access, Access, Ghosts, KeptStore, Pool, IsClean, Desk, rolled_back, Word, ReadFailed, Counts, Attempt, Turning, Over, Disk, fetches, touched_pages, AreConsistent, Touch, Activity, program_in, entry_in, entries, store_over, desk_over, IsSelected, IsShut, HasUndone, IsStoreOf, IsBrokenOff, HasBrokenOff, IsSound, IsKept, KeepsDesk, IsAsked, IsPrepared, IsToServe, IsFetched, AreTouched, attempt_in, lines_with, counted_with, instruction_in, with_pool, rolled, RollsBack, AreWanted, wants_of, pages_wanted, each_refused, pages_refused, HasBroken, arith}
 use mir.Val.{bool_byte}
 use Rattle.activations.proofs.EndLemmas.{rolled-follows}
 use Rattle.activations.proofs.PoolLemmas.{moved-desk, moved-follows}
@@ -64,18 +64,8 @@ is-to-serve a seat access wants sound taken selected shut lines committed follow
 pub count-refused : (owned : List Authority) (tid : ℕ) (touch : Touch)
     → bool_byte (each_refused owned tid touch).0 + bool_byte (each_refused owned tid touch).1 ≡ length (pages_refused owned tid (wants_of touch))
 count-refused owned tid Touch.Nothing = refl
-count-refused owned tid (Touch.One want) = by_test (refuses_want owned tid want)
-  where
-    by_test : (refused : Bool) → bool_byte refused + 0 ≡ length (pages_wanted (if refused then want ∷ [] else []))
-    by_test true = refl
-    by_test false = refl
-count-refused owned tid (Touch.Two first second) = by_tests (refuses_want owned tid first) (refuses_want owned tid second)
-  where
-    by_tests : (one other : Bool) → bool_byte one + bool_byte other ≡ length (pages_wanted (if one then first ∷ (if other then second ∷ [] else []) else (if other then second ∷ [] else [])))
-    by_tests true true = refl
-    by_tests true false = refl
-    by_tests false true = refl
-    by_tests false false = refl
+count-refused owned tid (Touch.One want) = grind arith
+count-refused owned tid (Touch.Two first second) = grind arith
 
 -- An access that is to be served, within the limit.
 module _ (a : Activity) (seat : ℕ) (committed : List ℕ) (order : List (ℕ × ℕ)) (counts : Counts) (touch : Touch) (next : Plain) (to : IsToServe a seat committed (wants_of touch) next)

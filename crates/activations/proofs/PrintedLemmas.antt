@@ -1,14 +1,10 @@
 -- What was printed in a seat in which nobody sits is nobody's.
-use Rattle.activations.proofs.Common.{◌≡◌, refl, ℕ, ◌≤◌, ◌==◌, Bool, true, false, List, length, ap, sym, ◌∙◌, subst, eqb-true, both_ways, length-set, has, IsState, Live, Activity, live_in, entry_in, store_over, state_for, reprinted, IsSound, KeepsDesk}
+use Rattle.activations.proofs.Common.{◌≡◌, ℕ, ◌≤◌, true, false, List, length, ap, sym, ◌∙◌, subst, length-set, has, IsState, Live, Activity, live_in, entry_in, store_over, state_for, reprinted, IsSound, KeepsDesk, nat_tests, arith}
 use Rattle.activations.proofs.SittingLemmas.{live-other}
 
 module _ (a : Activity) (seat : ℕ) (out : List ℕ) (free : has a.seating.taken seat ≡ false) where
   elsewhere : (at : ℕ) → has a.seating.taken at ≡ true → live_in (reprinted a seat out) at ≡ live_in a at
-  elsewhere at inside = by_test (at == seat) refl
-    where
-      by_test : (same : Bool) → (at == seat) ≡ same → live_in (reprinted a seat out) at ≡ live_in a at
-      by_test true e = absurd (both_ways (has a.seating.taken at) (ap (has a.seating.taken) (eqb-true at seat e) ∙ free) inside)
-      by_test false e = live-other a.live seat (record (live_in a seat) { out = out }) at e
+  elsewhere at inside = live-other a.live seat (record (live_in a seat) { out = out }) at (grind (arith, nat_tests))
 
   pub sound-reprinted : IsSound a → IsSound (reprinted a seat out)
   sound-reprinted sound = record {

@@ -1,5 +1,5 @@
 -- What a record of the lines that one holds to write leaves, laid over what is committed.
-use Rattle.activations.proofs.Common.{◌≡◌, refl, ℕ, ◌+◌, ◌*◌, ◌/◌, ◌%◌, ◌<◌, ◌≤◌, ◌==◌, ◌||◌, if◌then◌else◌, Bool, true, false, List, [], ◌∷◌, length, slice_index, Some, arith, ap, sym, ◌∙◌, eqb-true, eqb-false, or_left, or_right, eq-eqb, same_number_lists, page_count, page_bytes, line_bytes, PageSize, byte_count-pages, line-bytes-pos, has, overlaid, length-overlaid, entry_bytes, laid, is_line_marked, byte-of-all, Plain, after, Commit, row, FlatStore, page_of_line, Entry, no_counts, IsLaid, over_all, due_to, place-laid, place-kept, seat-told, among-any, Activity, program_in, entry_in, entries, store_over, locks_in, shown, IsSound, KeepsDesk, line_told, recorded}
+use Rattle.activations.proofs.Common.{◌≡◌, refl, ℕ, ◌+◌, ◌*◌, ◌/◌, ◌%◌, ◌<◌, ◌≤◌, ◌==◌, if◌then◌else◌, Bool, true, false, List, [], ◌∷◌, length, slice_index, Some, arith, ap, sym, ◌∙◌, or_left, or_right, eq-eqb, same_number_lists, page_count, page_bytes, line_bytes, PageSize, byte_count-pages, line-bytes-pos, has, overlaid, length-overlaid, entry_bytes, laid, is_line_marked, byte-of-all, Plain, after, Commit, row, FlatStore, page_of_line, Entry, no_counts, IsLaid, over_all, due_to, place-laid, place-kept, seat-told, among-any, Activity, program_in, entry_in, entries, store_over, locks_in, shown, IsSound, KeepsDesk, line_told, recorded, nat_tests}
 use Rattle.storage_unit.proofs.FillLemmas.{over-part, in-part}
 use Rattle.storage_unit.specs.Reached as reached
 use Rattle.activations.proofs.CommitLemmas.{ends}
@@ -53,16 +53,10 @@ module _ (size : PageSize) (bytes : ℕ → List ℕ) (line : ℕ) (lines base n
   abbrev chosen : (place : ℕ) → Bool → (else_this : List ℕ) → ℕ
   chosen place inside else_this = if inside then slice_index (bytes (place / line_bytes size)) (place % line_bytes size) else slice_index else_this place
 
-  by_tests : (place : ℕ) (first later : Bool) → (line == place / line_bytes size) ≡ first → has lines (place / line_bytes size) ≡ later → chosen place later over ≡ chosen place (first || later) base
-  by_tests place true true e f = refl
-  by_tests place false true e f = refl
-  by_tests place true false e f = in-line place (eqb-true line (place / line_bytes size) e)
-  by_tests place false false e f = out-of-line place (eqb-false line (place / line_bytes size) e)
-
   laid-one : IsLaidOver size bytes lines over new → IsLaidOver size bytes (line ∷ lines) base new
   laid-one rest = record {
     long = rest.long ∙ over-long;
-    each = λ place inside. rest.each place (omega (arith, inside, over-long)) ∙ by_tests place (line == place / line_bytes size) (has lines (place / line_bytes size)) refl refl;
+    each = λ place inside. rest.each place (omega (arith, inside, over-long)) ∙ (let own = in-line place in let other = out-of-line place in grind (arith, nat_tests, own, other));
   }
 
 pub laid-over : (size of : PageSize) (bytes : ℕ → List ℕ) (at : ℕ) (lines base : List ℕ) → AreLines size bytes lines (length base) → IsLaidOver size bytes lines base (laid size base (recorded of bytes at lines))

@@ -1,5 +1,6 @@
 -- Lines that come into a record one after another.
-use Rattle.activations.proofs.Common.{ne_eqb, or_from, ◌≡◌, refl, ℕ, zero, suc, ◌+◌, ◌*◌, ◌/◌, ◌%◌, ◌<◌, ◌≤◌, ◌==◌, if◌then◌else◌, Bool, true, false, List, [], ◌∷◌, ◌++◌, All, filter, length, map, slice_index_or, Option, Some, None, IsSome, unwrap_or, AllPairs, list_any, range_with_len, arith, ap, sym, ◌∙◌, subst, append_assoc, length-append, both_ways, append-nil, All-nil, All-cons, All-append, passing, IsOfPage, PageSize, has, distinct, size, flat_lines, Pool, line_shown, RecordLine, entry_bytes, most_lines, begun_of, record_bytes_of, with_line, KeptStore, with_begun, line_told, recorded, with_lines}
+use Rattle.std.proofs.lemmas.Bool.{cond_both}
+use Rattle.activations.proofs.Common.{ne_eqb, or_from, ◌≡◌, refl, ℕ, zero, suc, ◌+◌, ◌*◌, ◌/◌, ◌%◌, ◌<◌, ◌≤◌, ◌==◌, if◌then◌else◌, Bool, false, List, [], ◌∷◌, ◌++◌, All, filter, length, map, slice_index_or, Option, Some, IsSome, unwrap_or, AllPairs, list_any, range_with_len, arith, ap, sym, ◌∙◌, subst, append_assoc, length-append, append-nil, All-nil, All-cons, All-append, passing, IsOfPage, PageSize, has, distinct, size, flat_lines, Pool, line_shown, RecordLine, entry_bytes, most_lines, begun_of, record_bytes_of, with_line, KeptStore, with_begun, line_told, recorded, with_lines}
 
 -- numbers ascend from a least one on, below a bound
 abbrev pub Climbs : (least : ℕ) → List ℕ → (bound : ℕ) → Type 0
@@ -26,12 +27,10 @@ climbs-on least (x ∷ xs) middle ys bound first second = (first.0, climbs-on (x
 
 climbs-filter : (p : ℕ → Bool) (low n : ℕ) → Climbs low (filter p (range_with_len low n)) (low + n)
 climbs-filter p low zero = omega arith
-climbs-filter p low (suc n) = by_test (p low) (let same : low + 1 + n ≡ low + suc n = omega arith in subst (Climbs (low + 1) (filter p (range_with_len (low + 1) n))) same (climbs-filter p (low + 1) n))
-  where
-    by_test : (here : Bool) → Climbs (low + 1) (filter p (range_with_len (low + 1) n)) (low + suc n)
-        → Climbs low (if here then low ∷ filter p (range_with_len (low + 1) n) else filter p (range_with_len (low + 1) n)) (low + suc n)
-    by_test true rest = (omega arith, rest)
-    by_test false rest = climbs-from low (low + 1) (filter p (range_with_len (low + 1) n)) (low + suc n) (omega arith) rest
+climbs-filter p low (suc n) =
+    let same : low + 1 + n ≡ low + suc n = omega arith in
+    let rest = subst (Climbs (low + 1) (filter p (range_with_len (low + 1) n))) same (climbs-filter p (low + 1) n) in
+    cond_both (p low) _ _ (λ (xs : List ℕ). Climbs low xs (low + suc n)) (λ _. (omega arith, rest)) (λ _. climbs-from low (low + 1) (filter p (range_with_len (low + 1) n)) (low + suc n) (omega arith) rest)
 
 -- the lines of a page do
 pub climbs-page : (set : List ℕ) → IsOfPage set → Climbs 0 set 16
@@ -100,8 +99,7 @@ module _ (size : PageSize) (bytes : ℕ → List ℕ) where
 
 -- what is begun, where a record is
 begun-some : {A : Type 0} (begun : Option (List A)) → IsSome begun → Some (unwrap_or begun []) ≡ begun
-begun-some (Some lines) some = refl
-begun-some None some = let none : false ≡ true = some in absurd (both_ways false refl none)
+begun-some begun some = grind arith
 
 pub with_begun-same : (store : KeptStore) → IsSome store.bank.begun → store ≡ with_begun store (begun_of store.bank)
 with_begun-same store some i = record store { bank = record store.bank { begun = sym (begun-some store.bank.begun some) i } }

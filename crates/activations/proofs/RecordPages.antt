@@ -1,5 +1,5 @@
 -- The pages whose lines come into a record.
-use Rattle.activations.proofs.Common.{and-false, flat_map, arith, ap, sym, ◌∙◌, subst, append_assoc, length-append, eqb-true, or_right, append-nil, length-map, take_more, take_all, get_or_default, page_of_line, has, size, has-append, size-alike, flat_lines, holds_some, Holding, IsWhole, held_at, of_seat, Pool, RecordLine, entry_bytes, most_lines, begun_of, record_bytes_of, KeptStore, with_begun, Activity, locks_in, IsSound, line_told, recorded, with_lines, written_of, wrote, ◌≡◌, refl, ℕ, zero, suc, ◌+◌, ◌*◌, ◌/◌, ◌%◌, ◌<◌, ◌≤◌, ◌==◌, ◌&&◌, ◌||◌, not, Bool, true, false, List, [], ◌∷◌, ◌++◌, All, length, take, slice_index_or}
+use Rattle.activations.proofs.Common.{flat_map, arith, ap, sym, ◌∙◌, subst, append_assoc, length-append, append-nil, length-map, take_more, take_all, get_or_default, page_of_line, has, size, has-append, size-alike, flat_lines, holds_some, Holding, IsWhole, held_at, of_seat, Pool, RecordLine, entry_bytes, most_lines, begun_of, record_bytes_of, KeptStore, with_begun, Activity, locks_in, IsSound, line_told, recorded, with_lines, written_of, wrote, ◌≡◌, refl, ℕ, zero, suc, ◌+◌, ◌*◌, ◌/◌, ◌%◌, ◌<◌, ◌≤◌, ◌&&◌, ◌||◌, List, [], ◌∷◌, ◌++◌, All, length, take, slice_index_or, nat_tests}
 use Rattle.std.proofs.lemmas.List.Concat.{flat_map-append}
 use Rattle.line_locks.specs.Counted.{Ascend}
 use Rattle.activations.proofs.HoldingLemmas.{held-flat}
@@ -83,20 +83,7 @@ module _ (a : Activity) (seat : ℕ) (sound : IsSound a) where
   has-written (page ∷ pages) line =
       has-append (flat_lines page (wrote a seat page)) (written_of a seat pages) line
       ∙ (λ i. has-flat page (wrote a seat page) line ((sound.lines seat).writes page) i || has-written pages line i)
-      ∙ by_test (page == page_of_line line) refl
-    where
-      either : (b c : Bool) → (b || (c && b)) ≡ b
-      either true c = refl
-      either false true = refl
-      either false false = refl
-
-      by_test : (here : Bool) → (page == page_of_line line) ≡ here
-          → ((here && has (wrote a seat page) (line % 16)) || (has pages (page_of_line line) && has (wrote a seat (page_of_line line)) (line % 16)))
-          ≡ ((here || has pages (page_of_line line)) && has (wrote a seat (page_of_line line)) (line % 16))
-      by_test true e =
-          ap (λ (p : ℕ). has (wrote a seat p) (line % 16) || (has pages (page_of_line line) && has (wrote a seat (page_of_line line)) (line % 16))) (eqb-true page (page_of_line line) e)
-          ∙ either (has (wrote a seat (page_of_line line)) (line % 16)) (has pages (page_of_line line))
-      by_test false e = refl
+      ∙ grind (arith, nat_tests)
 
   pub wrote-locks : (line : ℕ) → has (wrote a seat (page_of_line line)) (line % 16) ≡ has (locks_in a seat).writes line
   wrote-locks line =
@@ -106,15 +93,10 @@ module _ (a : Activity) (seat : ℕ) (sound : IsSound a) where
   -- all pages of which it holds something
   module _ (pages : List ℕ) (ascend : Ascend pages) (each : (page : ℕ) → has pages page ≡ holds_some (held_at a.seating.holding seat page)) where
     pub written-all : (line : ℕ) → has (written_of a seat pages) line ≡ has (locks_in a seat).writes line
-    written-all line = has-written pages line ∙ by_test (has (wrote a seat (page_of_line line)) (line % 16)) refl ∙ wrote-locks line
-      where
-        by_test : (held : Bool) → has (wrote a seat (page_of_line line)) (line % 16) ≡ held
-            → (has pages (page_of_line line) && has (wrote a seat (page_of_line line)) (line % 16)) ≡ has (wrote a seat (page_of_line line)) (line % 16)
-        by_test true e =
-            ap (λ (b : Bool). b && has (wrote a seat (page_of_line line)) (line % 16))
-            (each (page_of_line line)
-            ∙ or_right (not (length (held_at a.seating.holding seat (page_of_line line)).0 == 0)) (not (length (wrote a seat (page_of_line line)) == 0)) (some-line (wrote a seat (page_of_line line)) (line % 16) e))
-        by_test false e = ap (λ (b : Bool). has pages (page_of_line line) && b) e ∙ and-false (has pages (page_of_line line)) ∙ sym e
+    written-all line =
+        let there = each (page_of_line line) in
+        let some = some-line (wrote a seat (page_of_line line)) (line % 16) in
+        has-written pages line ∙ grind (arith, there, some) ∙ wrote-locks line
 
     module _ (bound : ℕ) (below : (k d : ℕ) → k < length pages → slice_index_or pages k d < bound) where
       pages-climb : Climbs 0 pages bound

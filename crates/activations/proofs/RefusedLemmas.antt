@@ -1,5 +1,5 @@
 -- The pages whose entries refuse a line that is touched.
-use Rattle.activations.proofs.Common.{ne_eqb, or-false, ◌≡◌, ◌≢◌, refl, ℕ, ◌+◌, ◌*◌, ◌/◌, ◌%◌, ◌<◌, ◌==◌, ◌&&◌, ◌||◌, not, if◌then◌else◌, Bool, true, false, List, [], ◌∷◌, All, filter, slice_index_or, list_any, arith, ap, sym, ◌∙◌, eq-eqb, All-nil, All-cons, All-head, All-tail, IsOfPage, has, page_of_line, within_page, permits, Want, flat_lines, lines_wanted, has-page, Authority, unowned, nobody, Attempt, refuses, refused_pages, touched_pages, lines_within, Ascend, refused-told, sitter, AreOfPage, Activity, authority_at, authority_under, number_under, entries, desk_over, IsSound, refuses_want, pages_refused, pages_wanted, IsApart}
+use Rattle.activations.proofs.Common.{or-false, ◌≡◌, ◌≢◌, refl, ℕ, ◌+◌, ◌*◌, ◌/◌, ◌%◌, ◌<◌, ◌==◌, ◌&&◌, ◌||◌, not, Bool, true, false, List, [], ◌∷◌, All, filter, slice_index_or, list_any, arith, ap, sym, ◌∙◌, All-nil, All-cons, All-head, All-tail, IsOfPage, has, page_of_line, within_page, permits, Want, flat_lines, lines_wanted, has-page, Authority, unowned, nobody, Attempt, refuses, refused_pages, touched_pages, lines_within, Ascend, refused-told, sitter, AreOfPage, Activity, authority_at, authority_under, number_under, entries, desk_over, IsSound, refuses_want, pages_refused, pages_wanted, IsApart, nat_tests, if◌then◌else◌}
 use Rattle.lockbit_rules.specs.Entries.{Entry, entry_of, lets}
 use Rattle.desk.specs.Desk as desk
 use Rattle.activations.proofs.GrantLemmas.{flat-within}
@@ -61,12 +61,12 @@ at-page : (page line : ℕ) (set : List ℕ) → line < 16 → ((page == page_of
 at-page page line set below =
     let lies : (page * 16 + line) / 16 ≡ page = omega (arith, below) in
     let place : (page * 16 + line) % 16 ≡ line = omega (arith, below) in
-    (λ i. (page == lies i) && has set (place i)) ∙ ap (λ (b : Bool). b && has set line) (eq-eqb page page refl)
+    grind (arith, nat_tests, lies, place)
 
 off-page : (other page line : ℕ) (set : List ℕ) → line < 16 → other ≢ page → ((other == page_of_line (page * 16 + line)) && has set ((page * 16 + line) % 16)) ≡ false
 off-page other page line set below differs =
     let lies : (page * 16 + line) / 16 ≡ page = omega (arith, below) in
-    ap (λ (b : Bool). b && has set ((page * 16 + line) % 16)) (ap (λ (p : ℕ). other == p) lies ∙ ne_eqb other page differs)
+    grind (arith, nat_tests, lies, differs)
 
 -- one want is apart
 pub apart-one : (want : Want) → AreOfPage (want ∷ []) → All (IsApart (want ∷ [])) (want ∷ [])

@@ -1,16 +1,14 @@
 -- The lines that an access touches and what it asks for, page by page and as flat lines.
-use Rattle.activations.proofs.Common.{or-false, and-false, ◌≡◌, refl, ℕ, ◌+◌, ◌*◌, ◌/◌, ◌%◌, ◌<◌, ◌==◌, ◌&&◌, ◌||◌, not, nat_le, if◌then◌else◌, Bool, true, false, List, [], ◌∷◌, All, length, map, flat_map, list_any, arith, ap, sym, ◌∙◌, eqb-true, eq-eqb, both_ways, or_left, or_right, nat_tests, All-cons, All-head, All-tail, list_any-append, Layout, is_fine_page, IsOfPage, between, union, of_page-below, of_page-where, is_in_where-below, has, page_of_line, pages_of, with_whole_pages, has-append, has-pages_of, any-or, has-whole_pages, Want, flat_lines, lines_wanted, has-page, has-other_page, AreAlike, AreOfPage, with_whole_page}
+use Rattle.std.proofs.lemmas.Bool.{cond_both}
+use Rattle.activations.proofs.Common.{and-false, ◌≡◌, refl, ℕ, ◌+◌, ◌*◌, ◌/◌, ◌%◌, ◌<◌, ◌==◌, ◌&&◌, ◌||◌, not, nat_le, if◌then◌else◌, Bool, true, false, List, [], ◌∷◌, All, length, map, flat_map, list_any, arith, ap, sym, ◌∙◌, nat_tests, All-cons, All-head, All-tail, list_any-append, Layout, is_fine_page, IsOfPage, between, union, of_page-below, of_page-where, is_in_where-below, has, page_of_line, pages_of, with_whole_pages, has-append, has-pages_of, any-or, has-whole_pages, Want, flat_lines, lines_wanted, has-page, has-other_page, AreAlike, AreOfPage, with_whole_page}
 
 -- a line is one of these of a page
 pub has-flat : (page : ℕ) (set : List ℕ) (line : ℕ) → IsOfPage set → has (flat_lines page set) line ≡ ((page == page_of_line line) && has set (line % 16))
-has-flat page set line of = ap (has (flat_lines page set)) (sym whole) ∙ by_test (page == page_of_line line) refl
-  where
-    whole : line / 16 * 16 + line % 16 ≡ line
-    whole = omega arith
-
-    by_test : (same : Bool) → (page == page_of_line line) ≡ same → has (flat_lines page set) (line / 16 * 16 + line % 16) ≡ (same && has set (line % 16))
-    by_test true e = ap (λ (p : ℕ). has (flat_lines page set) (p * 16 + line % 16)) (sym (eqb-true page (page_of_line line) e)) ∙ has-page page (line % 16) set
-    by_test false e = has-other_page page (line / 16) (line % 16) set (λ same. both_ways (page == page_of_line line) e (eq-eqb page (page_of_line line) (sym same))) (omega arith) (λ x inside. of_page-below set of x inside)
+has-flat page set line of =
+    let whole : line / 16 * 16 + line % 16 ≡ line = omega arith in
+    let there = has-page page (line % 16) set in
+    let other = λ (apart : line / 16 ≡ page → ⊥). has-other_page page (line / 16) (line % 16) set apart (omega arith) (λ x inside. of_page-below set of x inside) in
+    grind (arith, nat_tests, whole, there, other)
 
 -- a line is wanted where it is wanted of its page
 pub has-wanted : (part : Want → List ℕ) (wants : List Want) (line : ℕ) → All (λ want. IsOfPage (part want)) wants
@@ -51,20 +49,11 @@ whole-of-page directory wants sets = record { reads = reads wants sets.reads; wr
   where
     reads : (wants : List Want) → All (λ want. IsOfPage want.reads) wants → All (λ want. IsOfPage want.reads) (map (with_whole_page directory) wants)
     reads [] of = of
-    reads (want ∷ wants) of = All-cons (λ (w : Want). IsOfPage w.reads) (with_whole_page directory want) (map (with_whole_page directory) wants) (by_test (length want.writes == 0) (is_fine_page directory want.page) (All-head (λ (w : Want). IsOfPage w.reads) want wants of)) (reads wants (All-tail (λ (w : Want). IsOfPage w.reads) want wants of))
-      where
-        by_test : (none fine : Bool) → IsOfPage want.reads → IsOfPage (if none then want else record want { reads = if fine then union want.reads want.writes else between 0 15 }).reads
-        by_test true fine old = old
-        by_test false true old = of_page-where (λ x. list_any (λ y. y == x) want.reads || list_any (λ y. y == x) want.writes)
-        by_test false false old = of_page-where (λ x. nat_le 0 x && nat_le x 15)
+    reads (want ∷ wants) of = All-cons (λ (w : Want). IsOfPage w.reads) (with_whole_page directory want) (map (with_whole_page directory) wants) (let old = All-head (λ (w : Want). IsOfPage w.reads) want wants of in cond_both (length want.writes == 0) _ _ (λ (w : Want). IsOfPage w.reads) (λ _. old) (λ _. cond_both (is_fine_page directory want.page) _ _ IsOfPage (λ _. of_page-where _) (λ _. of_page-where _))) (reads wants (All-tail (λ (w : Want). IsOfPage w.reads) want wants of))
 
     writes : (wants : List Want) → All (λ want. IsOfPage want.writes) wants → All (λ want. IsOfPage want.writes) (map (with_whole_page directory) wants)
     writes [] of = of
-    writes (want ∷ wants) of = All-cons (λ (w : Want). IsOfPage w.writes) (with_whole_page directory want) (map (with_whole_page directory) wants) (by_test (length want.writes == 0) (All-head (λ (w : Want). IsOfPage w.writes) want wants of)) (writes wants (All-tail (λ (w : Want). IsOfPage w.writes) want wants of))
-      where
-        by_test : (none : Bool) → IsOfPage want.writes → IsOfPage (if none then want else record want { reads = if is_fine_page directory want.page then union want.reads want.writes else between 0 15 }).writes
-        by_test true old = old
-        by_test false old = old
+    writes (want ∷ wants) of = All-cons (λ (w : Want). IsOfPage w.writes) (with_whole_page directory want) (map (with_whole_page directory) wants) (cond_both (length want.writes == 0) _ _ (λ (w : Want). IsOfPage w.writes) (λ _. All-head (λ (w : Want). IsOfPage w.writes) want wants of) (λ _. All-head (λ (w : Want). IsOfPage w.writes) want wants of)) (writes wants (All-tail (λ (w : Want). IsOfPage w.writes) want wants of))
 
 -- how a want's lines to read, its lines to write and its page come together
 gathers : (a b c n d e f : Bool) → ((a || (b || (c && n))) || (d || (e || (f && n)))) ≡ ((a || d) || ((b || e) || ((c || f) && n)))
@@ -98,22 +87,11 @@ asked-alike directory wants sets = record {
     one : (line : ℕ) (want : Want) → ((want.page == page_of_line line) && has (with_whole_page directory want).reads (line % 16))
         ≡ (((want.page == page_of_line line) && has want.reads (line % 16))
         || (((want.page == page_of_line line) && has want.writes (line % 16)) || (((want.page == page_of_line line) && not (length want.writes == 0)) && not (is_fine_page directory (page_of_line line)))))
-    one line want = by_tests (want.page == page_of_line line) refl (length want.writes == 0) refl (is_fine_page directory want.page) refl
-      where
-        by_tests : (here : Bool) → (want.page == page_of_line line) ≡ here → (none : Bool) → (length want.writes == 0) ≡ none → (fine : Bool) → is_fine_page directory want.page ≡ fine
-            → (here && has (if none then want else record want { reads = if fine then union want.reads want.writes else between 0 15 }).reads (line % 16))
-            ≡ ((here && has want.reads (line % 16)) || ((here && has want.writes (line % 16)) || ((here && not none) && not (is_fine_page directory (page_of_line line)))))
-        by_tests true at true empty fine is =
-            sym (ap (λ (b : Bool). has want.reads (line % 16) || (b || false)) (no-writes want.writes (line % 16) empty) ∙ or-false (has want.reads (line % 16)))
-        by_tests true at false some true is =
-            is_in_where-below (λ x. list_any (λ y. y == x) want.reads || list_any (λ y. y == x) want.writes) (line % 16) (omega arith)
-            ∙ sym
-            (ap (λ (b : Bool). has want.reads (line % 16) || (has want.writes (line % 16) || not b)) (ap (is_fine_page directory) (sym (eqb-true want.page (page_of_line line) at)) ∙ is)
-            ∙ ap (λ (b : Bool). has want.reads (line % 16) || b) (or-false (has want.writes (line % 16))))
-        by_tests true at false some false is =
-            all-has (line % 16) (omega arith) ∙ sym (or_right (has want.reads (line % 16)) _ (or_right (has want.writes (line % 16)) true refl))
-            ∙ sym (ap (λ (b : Bool). has want.reads (line % 16) || (has want.writes (line % 16) || not b)) (ap (is_fine_page directory) (sym (eqb-true want.page (page_of_line line) at)) ∙ is))
-        by_tests false at none some fine is = refl
+    one line want =
+        let joined = is_in_where-below (λ x. list_any (λ y. y == x) want.reads || list_any (λ y. y == x) want.writes) (line % 16) (omega arith) in
+        let none = no-writes want.writes (line % 16) in
+        let all = all-has (line % 16) (omega arith) in
+        grind (arith, nat_tests, joined, none, all)
 
     -- all but the reads is kept
     kept : {A : Type 0} (of : Want → A) (want : Want) (reads : List ℕ) (none : Bool) → of (record want { reads = reads }) ≡ of want → of (if none then want else record want { reads = reads }) ≡ of want

@@ -1,5 +1,5 @@
 -- A rollback.
-use Rattle.activations.proofs.Common.{and-false, ◌≡◌, refl, ℕ, ◌+◌, ◌*◌, ◌/◌, ◌%◌, ◌<◌, ◌==◌, ◌&&◌, not, if◌then◌else◌, Bool, true, false, List, length, slice_index, arith, ap, sym, ◌∙◌, subst, both_ways, eqb-true, eq-eqb, length-map-range_with_len, Layout, byte_count, FlatStore, line_of, line-bytes-pos, of_page-below, has, Lines, page_of_line, any-at, any-some, has-pages_of, of_seat, no_lines_of, Pool, Entry, rolled_back, written_pages, AreAlike, AreMarked, IsState, IsLaid, IsCurrent, IsAmong, AreConsistent, due_to, current-rolled, both-imply, laid-places, marked-end, seat-told, other-with, IsClean, is_line_marked, byte_over, bytes_over, byte-of-all, clean-shows, Activity, entry_in, entries, store_over, desk_over, lines_held, locks_in, state_for, live_in, shown, IsSound, IsKept, wrote, is_of, WereUndone, AreAsCommitted, AreWritten, rolled, RollsBack}
+use Rattle.activations.proofs.Common.{◌≡◌, ℕ, ◌+◌, ◌*◌, ◌/◌, ◌%◌, ◌<◌, ◌==◌, ◌&&◌, not, if◌then◌else◌, Bool, true, false, List, length, slice_index, arith, ap, sym, ◌∙◌, subst, eqb-true, eq-eqb, length-map-range_with_len, Layout, byte_count, FlatStore, line_of, line-bytes-pos, of_page-below, has, Lines, page_of_line, any-at, any-some, has-pages_of, of_seat, no_lines_of, Pool, Entry, rolled_back, written_pages, AreAlike, AreMarked, IsState, IsLaid, IsCurrent, IsAmong, AreConsistent, due_to, current-rolled, both-imply, laid-places, marked-end, seat-told, other-with, IsClean, is_line_marked, byte_over, bytes_over, byte-of-all, clean-shows, Activity, entry_in, entries, store_over, desk_over, lines_held, locks_in, state_for, live_in, shown, IsSound, IsKept, wrote, is_of, WereUndone, AreAsCommitted, AreWritten, rolled, RollsBack}
 use Rattle.activations.proofs.HoldingLemmas.{held-flat}
 use Rattle.activations.proofs.TableLemmas.{stands-for}
 use Rattle.activations.proofs.UndoLemmas.{filter-alike}
@@ -20,11 +20,10 @@ wrote-due a seat committed = wrote-held a seat (due_to (store_over a committed) 
 -- the lines of the pages into which he wrote are those that he holds to write
 pub of-held : (a : Activity) (seat : ℕ) (pages : List ℕ) (lines : Lines) → IsSound a → AreAlike (locks_in a seat) lines
     → AreWritten a.seating.holding seat pages → (line : ℕ) → is_of pages (wrote a seat) line ≡ has lines.writes line
-of-held a seat pages lines sound alike written line = by_test (has (wrote a seat (page_of_line line)) (line % 16)) refl ∙ wrote-held a seat lines sound alike line
-  where
-    by_test : (wrote_it : Bool) → has (wrote a seat (page_of_line line)) (line % 16) ≡ wrote_it → (has pages (page_of_line line) && has (wrote a seat (page_of_line line)) (line % 16)) ≡ has (wrote a seat (page_of_line line)) (line % 16)
-    by_test true e = ap (λ (b : Bool). b && has (wrote a seat (page_of_line line)) (line % 16)) (written.all (page_of_line line) (line % 16) e)
-    by_test false e = ap (λ (b : Bool). has pages (page_of_line line) && b) e ∙ and-false (has pages (page_of_line line)) ∙ sym e
+of-held a seat pages lines sound alike written line =
+    let all = written.all (page_of_line line) (line % 16) in
+    let held = wrote-held a seat lines sound alike line in
+    grind (arith, all, held)
 
 pub of-written : (a : Activity) (seat : ℕ) (pages : List ℕ) (committed : List ℕ) → IsSound a → AreAlike (locks_in a seat) (due_to (store_over a committed) (entry_in a seat))
     → AreWritten a.seating.holding seat pages → (line : ℕ) → is_of pages (wrote a seat) line ≡ has (due_to (store_over a committed) (entry_in a seat)).writes line
@@ -54,28 +53,24 @@ were-forgotten directory lines pages flat old new committed same were are = reco
 module _ (directory : Layout) (more fewer : List ℕ) (old new : Pool) (committed : List ℕ) (clean : IsClean directory old committed)
     (part : (line : ℕ) → has fewer line ≡ true → has more line ≡ true)
     (rest : (line : ℕ) → has more line ≡ true → has fewer line ≡ false → is_line_marked old line ≡ false) where
-  marks-same : (line : ℕ) (m f : Bool) → has more line ≡ m → has fewer line ≡ f → (is_line_marked old line && not m) ≡ (is_line_marked old line && not f)
-  marks-same line true true e g = refl
-  marks-same line false false e g = refl
-  marks-same line false true e g = absurd (both_ways (has more line) e (part line g))
-  marks-same line true false e g =
-      let none = rest line e g in
-      ap (λ (b : Bool). b && false) none ∙ sym (ap (λ (b : Bool). b && true) none)
+  marks-same : (line : ℕ) → (is_line_marked old line && not (has more line)) ≡ (is_line_marked old line && not (has fewer line))
+  marks-same line = let in_more = part line in let none = rest line in grind (arith, in_more, none)
 
-  places-same : (place : ℕ) → place < byte_count directory → (m f : Bool) → has more (line_of directory place) ≡ m → has fewer (line_of directory place) ≡ f
-      → (if m then slice_index committed place else slice_index (bytes_over directory old committed) place)
-      ≡ (if f then slice_index committed place else slice_index (bytes_over directory old committed) place)
-  places-same place within true true e g = refl
-  places-same place within false false e g = refl
-  places-same place within false true e g = absurd (both_ways (has more (line_of directory place)) e (part (line_of directory place) g))
-  places-same place within true false e g =
-      sym (byte-of-all directory old committed place within ∙ clean-shows directory old committed place clean within (rest (line_of directory place) e g))
+  places-same : (place : ℕ) → place < byte_count directory
+      → (if has more (line_of directory place) then slice_index committed place else slice_index (bytes_over directory old committed) place)
+      ≡ (if has fewer (line_of directory place) then slice_index committed place else slice_index (bytes_over directory old committed) place)
+  places-same place within =
+      let in_more = part (line_of directory place) in
+      let none = rest (line_of directory place) in
+      let shows = clean-shows directory old committed place clean within in
+      let same = byte-of-all directory old committed place within in
+      grind (arith, in_more, none, shows, same)
 
   pub forgotten-fewer : WereForgotten directory more old new committed → WereForgotten directory fewer old new committed
   forgotten-fewer were = record {
-    marks = λ line. were.marks line ∙ marks-same line (has more line) (has fewer line) refl refl;
+    marks = λ line. were.marks line ∙ marks-same line;
     bytes = were.bytes;
-    places = λ place within. were.places place within ∙ places-same place within (has more (line_of directory place)) (has fewer (line_of directory place)) refl refl;
+    places = λ place within. were.places place within ∙ places-same place within;
     clean = were.clean;
   }
 

@@ -1,5 +1,6 @@
 -- Who sits in a seat, and what runs there, when one seat changes.
-use Rattle.activations.proofs.Common.{◌≡◌, refl, ℕ, zero, suc, ◌+◌, ◌-◌, ◌<◌, ◌==◌, Bool, true, false, List, length, slice_index_or, slice_set, None, [], arith, ap, sym, ◌∙◌, subst, get_or-set_same, get_or-set_other, set-set, eqb-true, eqb-false, has, over_all, Seat, Seating, sitter, number_in, newcomer, with_sitter, went_on, private_bytes, plain_over, Live, Activity, nothing_runs, live_in, state_in, shown, entry_for, entry_in, number_under, counted}
+use Rattle.std.proofs.lemmas.Bool.{cases_Bool}
+use Rattle.activations.proofs.Common.{◌≡◌, refl, ℕ, zero, suc, ◌+◌, ◌-◌, ◌<◌, ◌==◌, true, false, List, length, slice_index_or, slice_set, None, [], arith, ap, sym, ◌∙◌, subst, get_or-set_same, get_or-set_other, set-set, eqb-true, eqb-false, has, over_all, Seat, Seating, sitter, number_in, newcomer, with_sitter, went_on, private_bytes, plain_over, Live, Activity, nothing_runs, live_in, state_in, shown, entry_for, entry_in, number_under, counted, nat_tests, inl, inr}
 
 module _ (seating : Seating) (seat : ℕ) (who : Seat) (sixteen : length seating.sitters ≡ 16) (below : seat < 16) where
   pub sitter-there : sitter (with_sitter seating seat who) seat ≡ who
@@ -7,21 +8,17 @@ module _ (seating : Seating) (seat : ℕ) (who : Seat) (sixteen : length seating
 
   -- a number that stays is the same in each seat
   pub number-there : who.number ≡ number_in seating seat → (at : ℕ) → number_in (with_sitter seating seat who) at ≡ number_in seating at
-  number-there same at = by_test (at == seat) refl
-    where
-      by_test : (here : Bool) → (at == seat) ≡ here → number_in (with_sitter seating seat who) at ≡ number_in seating at
-      by_test true e =
-          ap (number_in (with_sitter seating seat who)) (eqb-true at seat e) ∙ ap (λ (s : Seat). s.number) sitter-there ∙ same
-          ∙ sym (ap (number_in seating) (eqb-true at seat e))
-      by_test false e = ap (λ (s : Seat). s.number) (get_or-set_other seating.sitters seat at who (newcomer 0 0 []) (eqb-false at seat e))
+  number-there same at = let other = get_or-set_other seating.sitters seat at who (newcomer 0 0 []) in grind (arith, nat_tests, sitter-there, other)
 
--- what holds of a seat, and of the other taken ones, holds of all that are taken
+-- what holds of a seat and of each other one holds of each, and so of those that are taken
+pub each_seat : {P : ℕ → Type 0} (seat : ℕ) → P seat → ((at : ℕ) → (at == seat) ≡ false → P at) → (at : ℕ) → P at
+each_seat {P} seat this others at = elim (cases_Bool (at == seat)) [
+  | inl e ↦ subst P (sym (eqb-true at seat e)) this
+  | inr e ↦ others at e
+]
+
 pub by_seat : {P : ℕ → Type 0} (taken : List ℕ) (seat : ℕ) → P seat → ((at : ℕ) → has taken at ≡ true → (at == seat) ≡ false → P at) → (at : ℕ) → has taken at ≡ true → P at
-by_seat {P} taken seat this others at inside = by_test (at == seat) refl
-  where
-    by_test : (same : Bool) → (at == seat) ≡ same → P at
-    by_test true e = subst P (sym (eqb-true at seat e)) this
-    by_test false e = others at inside e
+by_seat {P} taken seat this others = each_seat {P = λ at. has taken at ≡ true → P at} seat (λ inside. this) (λ at differs inside. others at inside differs)
 
 -- the state of who is selected, over the bytes that all see, is what the unit shows
 pub state-shows : (a : Activity) (seat : ℕ) (committed bytes : List ℕ) → a.reach.runner ≡ seat + 1

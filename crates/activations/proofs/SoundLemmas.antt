@@ -1,5 +1,5 @@
 -- What leaves what is kept sound: other pages in the frames, numbers that are given, and a seat whose sitter goes on.
-use Rattle.activations.proofs.Common.{◌≡◌, ℕ, ◌<◌, ◌==◌, Bool, true, false, All, length, Some, AllPairs, ForSome, eqb-true, length-set, All-set, has, AreWithin, Request, Pool, registers_of_program, Seat, IsSeating, sitter, number_in, with_sitter, taken-below, AreOfPage, private_segment, Activity, program_at, IsSound, ap, refl, sym, ◌∙◌, subst}
+use Rattle.activations.proofs.Common.{◌≡◌, ℕ, ◌<◌, ◌==◌, true, All, length, AllPairs, ForSome, length-set, All-set, has, AreWithin, Request, Pool, registers_of_program, Seat, IsSeating, sitter, number_in, with_sitter, taken-below, AreOfPage, private_segment, Activity, program_at, IsSound, ap, sym, ◌∙◌, subst, nat_tests, arith}
 use Rattle.activations.proofs.SittingLemmas.{sitter-there, sitter-other, number-there}
 
 -- frames may have other pages, and numbers may have been given
@@ -40,13 +40,17 @@ module _ (a : Activity) (seat : ℕ) (who : Seat) (sound : IsSound a) (taken : h
     live = sound.live;
     pages = sound.pages;
     lines = sound.lines;
-    requests = λ at request inside waits. by_test at request inside (at == seat) refl waits;
+    requests = λ at request inside waits.
+        let own = sets request in
+        let was = sound.requests at request inside in
+        let other = sitter-other a.seating seat who at in
+        grind (arith, nat_tests, there, own, was, other, waits);
     begun = sound.begun;
     entries = sound.entries;
     set_up = λ at inside. let was = sound.set_up at inside in record {
-      program = subst (λ (n : ℕ). n < length a.programs) (sym (programs at (at == seat) refl)) was.program;
+      program = subst (λ (n : ℕ). n < length a.programs) (sym (programs at)) was.program;
       begun = was.begun;
-      registers = was.registers ∙ ap (λ (n : ℕ). registers_of_program (program_at a.programs n) a.reach.directory (private_segment at)) (sym (programs at (at == seat) refl));
+      registers = was.registers ∙ ap (λ (n : ℕ). registers_of_program (program_at a.programs n) a.reach.directory (private_segment at)) (sym (programs at));
       printed = was.printed;
       few = was.few;
     };
@@ -64,14 +68,5 @@ module _ (a : Activity) (seat : ℕ) (who : Seat) (sound : IsSound a) (taken : h
         free = sound.seating.free;
       }
 
-      by_test : (at : ℕ) (request : Request) → has a.seating.taken at ≡ true → (same : Bool) → (at == seat) ≡ same → (sitter (with_sitter a.seating seat who) at).waits ≡ Some request → AreOfPage request.wants.items
-      by_test at request inside true e waits =
-          sets request (sym (ap (λ (n : ℕ). (sitter (with_sitter a.seating seat who) n).waits) (eqb-true at seat e) ∙ ap (λ (s : Seat). s.waits) there) ∙ waits)
-      by_test at request inside false e waits =
-          sound.requests at request inside (ap (λ (s : Seat). s.waits) (sym (sitter-other a.seating seat who at e)) ∙ waits)
-
-      programs : (at : ℕ) → (same : Bool) → (at == seat) ≡ same → (sitter (with_sitter a.seating seat who) at).program ≡ (sitter a.seating at).program
-      programs at true e =
-          ap (λ (n : ℕ). (sitter (with_sitter a.seating seat who) n).program) (eqb-true at seat e) ∙ ap (λ (s : Seat). s.program) there ∙ program
-          ∙ ap (λ (n : ℕ). (sitter a.seating n).program) (sym (eqb-true at seat e))
-      programs at false e = ap (λ (s : Seat). s.program) (sitter-other a.seating seat who at e)
+      programs : (at : ℕ) → (sitter (with_sitter a.seating seat who) at).program ≡ (sitter a.seating at).program
+      programs at = let other = sitter-other a.seating seat who at in grind (arith, nat_tests, there, program, other)

@@ -1,5 +1,5 @@
 -- The authority of pages under identifiers of seats, and the state in a seat beside its entry.
-use Rattle.activations.proofs.Common.{not-false, ◌≡◌, refl, ℕ, suc, ◌+◌, ◌*◌, ◌/◌, ◌%◌, ◌<◌, ◌≤◌, ◌==◌, nat_lt, Bool, true, false, List, length, slice_index_or, arith, ap, sym, ◌∙◌, subst, inl, inr, nat_tests, get_or_past, get_or-map-range_with_len, length-map-range_with_len, passing, has, page_of_line, permits, flat_lines, has-page, Authority, entry_of, lets, unowned, nobody, IsThere, StandsFor, Ascend, permitted, permitted-told, seat-told, sitter, IsOpenLine, Activity, authority_of, authority_at, authority_under, number_under, entry_in, entries, desk_over, IsSound, KeepsDesk, IsIdentified}
+use Rattle.activations.proofs.Common.{not-false, ◌≡◌, refl, ℕ, suc, ◌+◌, ◌*◌, ◌/◌, ◌%◌, ◌<◌, ◌==◌, Bool, true, false, List, slice_index_or, arith, ap, sym, ◌∙◌, inl, inr, nat_tests, get_or_past, get_or-map-range_with_len, length-map-range_with_len, passing, has, page_of_line, permits, flat_lines, has-page, Authority, entry_of, lets, unowned, nobody, IsThere, StandsFor, Ascend, permitted, permitted-told, seat-told, sitter, IsOpenLine, Activity, authority_of, authority_at, authority_under, number_under, entry_in, entries, desk_over, IsSound, KeepsDesk, IsIdentified}
 use Rattle.desk_law.proofs.Entries.{between}
 use Rattle.desk.specs.Desk as desk
 
@@ -9,15 +9,7 @@ nobody-page page = refl
 
 -- the authority of each page is told of its entry; beyond the store it is nobody's
 pub under-page : (owned : List Authority) (page : ℕ) → slice_index_or (authority_under owned) page nobody ≡ authority_at owned page
-under-page owned page = by_test (nat_lt page (length owned)) refl
-  where
-    by_test : (within : Bool) → nat_lt page (length owned) ≡ within → slice_index_or (authority_under owned) page nobody ≡ authority_at owned page
-    by_test true e = get_or-map-range_with_len (authority_at owned) 0 (length owned) page page nobody (grind (arith, nat_tests, e)) (omega arith)
-    by_test false e =
-        let out : length owned ≤ page = grind (arith, nat_tests, e) in
-        get_or_past (authority_under owned) page nobody (subst (λ (n : ℕ). n ≤ page) (sym (length-map-range_with_len (authority_at owned) 0 (length owned))) out)
-        ∙ sym (nobody-page page)
-        ∙ ap (authority_of page) (sym (get_or_past owned page unowned out))
+under-page owned page = grind (arith, nat_tests, nobody-page, get_or-map-range_with_len, length-map-range_with_len, get_or_past)
 
 -- what the entry of a page permits to an identifier, in flat lines
 pub permits-flat : (owned : List Authority) (line tid : ℕ) (store : Bool)

@@ -1,5 +1,5 @@
 -- What a seat holds once it has taken what it asked for, and what it is granted then.
-use Rattle.activations.proofs.Common.{lowered-alike, granted-alike, or-parts, ◌≡◌, refl, ℕ, suc, ◌+◌, ◌*◌, ◌/◌, ◌%◌, ◌<◌, ◌==◌, ◌&&◌, ◌||◌, not, if◌then◌else◌, Bool, true, false, List, [], ◌∷◌, length, filter, map, slice_set, arith, ap, sym, ◌∙◌, subst, eqb-true, eq-eqb, and_right, or_left, or_right, length-set, list_any-append, is_fine_page, has, Lines, both, pages_of, with_whole_pages, within_page, is_whole_page, has-append, has-filter, list_any, reaches, has-whole_pages, Want, AreWithin, with_wants, flat_lines, lines_wanted, IsFlat, of_seat, flat-taken, Authority, AreAlike, owners_told, granted-told, lowered-told, alike-then, sitter, same-with, AreOfPage, Activity, authority_under, number_under, locks_in, IsSound, AreOfPages, AreSet, AreGranted, AreLowered, entry_given, entry_to_read, is_lowered, pages_lowered, locked, with_whole_page, stores_into, pages_wanted}
+use Rattle.activations.proofs.Common.{lowered-alike, granted-alike, ◌≡◌, refl, ℕ, suc, ◌+◌, ◌*◌, ◌/◌, ◌%◌, ◌<◌, ◌==◌, ◌&&◌, ◌||◌, not, if◌then◌else◌, Bool, true, List, [], ◌∷◌, length, filter, map, slice_set, arith, ap, sym, ◌∙◌, subst, eq-eqb, or_left, or_right, length-set, list_any-append, is_fine_page, has, Lines, both, pages_of, with_whole_pages, within_page, is_whole_page, has-append, has-filter, list_any, reaches, has-whole_pages, Want, AreWithin, with_wants, flat_lines, lines_wanted, IsFlat, of_seat, flat-taken, Authority, AreAlike, owners_told, granted-told, lowered-told, alike-then, sitter, same-with, AreOfPage, Activity, authority_under, number_under, locks_in, IsSound, AreOfPages, AreSet, AreGranted, AreLowered, entry_given, entry_to_read, is_lowered, pages_lowered, locked, with_whole_page, stores_into, pages_wanted, nat_tests}
 use Rattle.desk.specs.Instruction.{Attempt, authority_by, fine_authority_by, given, with_each, granted, to_read, lowered_pages, lowered}
 use Rattle.lockbit_rules.specs.Entries.{Entry}
 use Rattle.desk_law.proofs.EachPage.{each-alike}
@@ -22,6 +22,9 @@ both-alike a b c d first second = record {
   reads = λ line. has-append a.reads c.reads line ∙ (λ i. first.reads line i || second.reads line i) ∙ sym (has-append b.reads d.reads line);
   writes = λ line. has-append a.writes c.writes line ∙ (λ i. first.writes line i || second.writes line i) ∙ sym (has-append b.writes d.writes line);
 }
+
+or-parts : (p q r s : Bool) → ((p || q) || (r || s)) ≡ ((p || r) || (q || s))
+or-parts p q r s = grind arith
 
 -- whole pages of both are both with whole pages
 whole-both : (fine : ℕ → Bool) (one other : Lines) → AreAlike (both (with_whole_pages fine one) (with_whole_pages fine other)) (with_whole_pages fine (both one other))
@@ -114,22 +117,7 @@ module _ (a : Activity) (seat : ℕ) (attempt : Attempt) (locks : Lines) (wants 
     where
       each : (wants : List Want) → has (pages_wanted (filter (λ want. not (length want.writes == 0) && is_lowered a seat want.page) wants)) page ≡ (stores_into wants page && is_lowered a seat page)
       each [] = refl
-      each (want ∷ wants) = by_tests (not (length want.writes == 0)) (is_lowered a seat want.page) refl (want.page == page) refl (each wants)
-        where
-          by_tests : (some goes : Bool) → is_lowered a seat want.page ≡ goes → (here : Bool) → (want.page == page) ≡ here
-              → has (pages_wanted (filter (λ want. not (length want.writes == 0) && is_lowered a seat want.page) wants)) page ≡ (stores_into wants page && is_lowered a seat page)
-              → has (pages_wanted (if some && goes then want ∷ filter (λ want. not (length want.writes == 0) && is_lowered a seat want.page) wants else filter (λ want. not (length want.writes == 0) && is_lowered a seat want.page) wants)) page
-              ≡ (((here && some) || stores_into wants page) && is_lowered a seat page)
-          by_tests true true is true at rest =
-              or_left (want.page == page) (has (pages_wanted (filter (λ want. not (length want.writes == 0) && is_lowered a seat want.page) wants)) page) at
-              ∙ sym (ap (is_lowered a seat) (sym (eqb-true want.page page at)) ∙ is)
-          by_tests true true is false at rest = ap (λ (b : Bool). b || has (pages_wanted (filter (λ want. not (length want.writes == 0) && is_lowered a seat want.page) wants)) page) at ∙ rest
-          by_tests true false is true at rest =
-              let no : is_lowered a seat page ≡ false = ap (is_lowered a seat) (sym (eqb-true want.page page at)) ∙ is in
-              rest ∙ and_right (stores_into wants page) (is_lowered a seat page) no ∙ sym no
-          by_tests true false is false at rest = rest
-          by_tests false goes is true at rest = rest
-          by_tests false goes is false at rest = rest
+      each (want ∷ wants) = grind (arith, nat_tests, each wants)
 
   -- and so are they.
   pub lowered-all : (old new : List Authority) → ((page : ℕ) → has (pages_lowered a seat wants) page ≡ true → page < length old) → AreLowered a seat (pages_lowered a seat wants) old new

@@ -1,5 +1,6 @@
 -- One line of a page, or two neighbours, as flat lines.
-use Rattle.activations.proofs.Common.{◌==◌, ◌||◌, if◌then◌else◌, range_with_len, nat_tests, passing, between, append-nil, get_or-map-range_with_len, flat_lines, lines_wanted, lines_between, pages_of, ◌≡◌, ℕ, ◌+◌, ◌-◌, ◌*◌, ◌/◌, ◌%◌, ◌<◌, ◌≤◌, Bool, true, false, List, [], ◌∷◌, ◌++◌, refl, sym, ◌∙◌, ap, arith, map, get_or}
+use Rattle.std.proofs.lemmas.Bool.{cases_eq}
+use Rattle.activations.proofs.Common.{◌==◌, range_with_len, nat_tests, passing, between, append-nil, get_or-map-range_with_len, flat_lines, lines_wanted, lines_between, pages_of, ◌≡◌, ℕ, ◌+◌, ◌-◌, ◌*◌, ◌/◌, ◌%◌, ◌<◌, ◌≤◌, Bool, true, false, List, [], ◌∷◌, ◌++◌, refl, sym, ◌∙◌, ap, arith, map, get_or, inl, inr}
 
 -- two functions that are the same on the first numbers, as a table of them tells
 tabled : (f g : ℕ → List ℕ) (n i : ℕ) → map f (range_with_len 0 n) ≡ map g (range_with_len 0 n) → i < n → f i ≡ g i
@@ -58,19 +59,13 @@ one-page first last false sets order near one is =
 
 -- one line, or two neighbours in a page, have that page
 same_page : (first last : ℕ) → first ≤ last → last ≤ first + 1 → first / 16 ≡ last / 16 → pages_of (range_with_len first (last + 1 - first)) ≡ first / 16 ∷ []
-same_page first last order near one = by_test (last == first) refl
-  where
-    by_test : (same : Bool) → (last == first) ≡ same → pages_of (range_with_len first (last + 1 - first)) ≡ first / 16 ∷ []
-    by_test true e =
-        let count : last + 1 - first ≡ 1 = grind (arith, nat_tests) in
-        ap (λ (n : ℕ). pages_of (range_with_len first n)) count
-    by_test false e =
-        let count : last + 1 - first ≡ 2 = grind (arith, nat_tests) in
-        let next : (first + 1) / 16 ≡ first / 16 = grind (arith, nat_tests) in
-        let here : ((first + 1) / 16 == first / 16) ≡ true = grind (arith, nat_tests) in
-        ap (λ (n : ℕ). pages_of (range_with_len first n)) count
-        ∙ ap (λ (again : Bool). if again || false then (first + 1) / 16 ∷ [] else first / 16 ∷ (first + 1) / 16 ∷ []) here
-        ∙ ap (λ (page : ℕ). page ∷ []) next
+same_page first last order near one = elim (cases_eq last first) [
+  | inl same ↦ let count : last + 1 - first ≡ 1 = omega arith in ap (λ (n : ℕ). pages_of (range_with_len first n)) count
+  | inr apart ↦
+      let count : last + 1 - first ≡ 2 = omega arith in
+      let next : (first + 1) / 16 ≡ first / 16 = omega arith in
+      ap (λ (n : ℕ). pages_of (range_with_len first n)) count ∙ grind (arith, nat_tests, next)
+]
 
 pub page-between : (first last : ℕ) (store : Bool) → first ≤ last → last ≤ first + 1 → first / 16 ≡ last / 16
     → first / 16 ∷ [] ≡ pages_of ((lines_between first last store).reads ++ (lines_between first last store).writes)

@@ -1,5 +1,5 @@
 -- The lines that an access touches, page by page, and how many will have been written with them.
-use Rattle.activations.proofs.Common.{or_parts, range_with_len, arith, ap, sym, ◌∙◌, subst, eqb-true, eq-eqb, ne_eqb, leb-true, both_ways, nat_tests, append-nil, length-range_with_len, sum_by-le, All-nil, All-cons, All-head, All-tail, All-get_or, All-from_get_or, PageSize, Two, Four, Layout, start_of, length_of, byte_count, page_count, IsLegal, line_of, line_count, passing, between, difference, IsOfPage, line_bytes, of_page-where, line-below, segment-within, has, Lines, no_lines, pages_of, Want, lines_wanted, nothing, write_count, AreWithin, of_seat, held_at, Plain, Program, in_segment, in_window, in_register, located, lines_at, Registers, located_by, virtual_at, Access, lines_of_access, registers_of_program, TurnEnd, ending_told, Counts, AreConsistent, AreDistinct, filter-short, AreOfPage, Reach, private_segment, is_private, offset_of, place_at, Activity, live_in, program_in, entries, store_over, AreOfPages, IsSound, IsKept, IsToServe, AreTouched, attempt_in, lines_with, ComesToEnd, instruction_in, rolled, RollsBack, HasEnded, Touch, lines_between, pages_wanted, wants_of, AreWanted, ◌≡◌, refl, ℕ, zero, suc, ◌+◌, ◌-◌, ◌/◌, ◌%◌, ◌^◌, ◌<◌, ◌≤◌, ◌==◌, ◌||◌, ◌&&◌, nat_le, nat_lt, not, if◌then◌else◌, Bool, true, false, List, [], ◌∷◌, ◌++◌, length, slice_index_or, Option, Some, None, Result, Ok, Err}
+use Rattle.activations.proofs.Common.{or_parts, range_with_len, arith, ap, sym, ◌∙◌, subst, eq-eqb, ne_eqb, both_ways, nat_tests, append-nil, length-range_with_len, sum_by-le, All-nil, All-cons, All-head, All-tail, All-get_or, All-from_get_or, PageSize, Two, Four, Layout, start_of, length_of, byte_count, page_count, IsLegal, line_of, line_count, passing, between, difference, IsOfPage, line_bytes, of_page-where, line-below, segment-within, has, Lines, no_lines, pages_of, Want, lines_wanted, nothing, write_count, AreWithin, of_seat, held_at, Plain, Program, in_segment, in_window, in_register, located, lines_at, Registers, located_by, virtual_at, Access, lines_of_access, registers_of_program, TurnEnd, ending_told, Counts, AreConsistent, AreDistinct, filter-short, AreOfPage, Reach, private_segment, is_private, offset_of, place_at, Activity, live_in, program_in, entries, store_over, AreOfPages, IsSound, IsKept, IsToServe, AreTouched, attempt_in, lines_with, ComesToEnd, instruction_in, rolled, RollsBack, HasEnded, Touch, lines_between, pages_wanted, wants_of, AreWanted, ◌≡◌, refl, ℕ, zero, suc, ◌+◌, ◌-◌, ◌/◌, ◌%◌, ◌^◌, ◌<◌, ◌≤◌, ◌==◌, ◌||◌, ◌&&◌, nat_le, nat_lt, if◌then◌else◌, Bool, true, false, List, [], ◌∷◌, ◌++◌, length, slice_index_or, Option, Some, None, Result, Ok, Err}
 use Rattle.flat_machine.specs.declared.machine.Located.{Located}
 use Rattle.flat_machine.specs.declared.machine.Located.TheVariants.{Private, Shared, Refused}
 use Rattle.flat_machine.specs.declared.machine.Window.{Window}
@@ -52,18 +52,13 @@ wanted-one d want first last store page sets lines order near one below = record
 
 -- two neighbours on different pages have these pages
 two-pages : (first last : ℕ) → first ≤ last → last ≤ first + 1 → (first / 16 ≡ last / 16 → ⊥) → first / 16 ∷ last / 16 ∷ [] ≡ pages_of (range_with_len first (last + 1 - first))
-two-pages first last order near differs = by_test (last == first) refl
-  where
-    by_test : (same : Bool) → (last == first) ≡ same → first / 16 ∷ last / 16 ∷ [] ≡ pages_of (range_with_len first (last + 1 - first))
-    by_test true e = absurd (differs (ap (λ (n : ℕ). n / 16) (sym (eqb-true last first e))))
-    by_test false e =
-        let count : last + 1 - first ≡ 2 = grind (arith, nat_tests) in
-        let next : last ≡ first + 1 = grind (arith, nat_tests) in
-        let other : (last / 16 == first / 16) ≡ false = ne_eqb (last / 16) (first / 16) (λ same. differs (sym same)) in
-        let away : ((first + 1) / 16 == first / 16) ≡ false = ap (λ (n : ℕ). n / 16 == first / 16) (sym next) ∙ other in
-        ap (λ (n : ℕ). first / 16 ∷ n / 16 ∷ []) next
-        ∙ sym (ap (λ (again : Bool). if again || false then (first + 1) / 16 ∷ [] else first / 16 ∷ (first + 1) / 16 ∷ []) away)
-        ∙ sym (ap (λ (n : ℕ). pages_of (range_with_len first n)) count)
+two-pages first last order near differs =
+    let next : last ≡ first + 1 = omega arith in
+    let count : last + 1 - first ≡ 2 = omega arith in
+    let away : ((first + 1) / 16 == first / 16) ≡ false = grind (arith, nat_tests, next) in
+    ap (λ (n : ℕ). first / 16 ∷ n / 16 ∷ []) next
+    ∙ sym (ap (λ (again : Bool). if again || false then (first + 1) / 16 ∷ [] else first / 16 ∷ (first + 1) / 16 ∷ []) away)
+    ∙ sym (ap (λ (n : ℕ). pages_of (range_with_len first n)) count)
 
 two-between : (first last : ℕ) (store : Bool) → first ≤ last → last ≤ first + 1 → (first / 16 ≡ last / 16 → ⊥)
     → first / 16 ∷ last / 16 ∷ [] ≡ pages_of ((lines_between first last store).reads ++ (lines_between first last store).writes)
@@ -114,22 +109,10 @@ near-lines d at bytes some few within small =
 in-store : (d : Layout) (w : Window) (long : Option ℕ) (offset bytes : ℕ) (store : Bool) (at : ℕ) → length_of d w.segment ≡ long
     → in_segment d w long offset bytes store ≡ Shared at → at + bytes ≤ byte_count d
 in-store d w None offset bytes store at found is = absurd (cc)
-in-store d w (Some long) offset bytes store at found is = by_tests (nat_le (offset + bytes) long) (store && not w.write) refl is
-  where
-    by_tests : (inside refused : Bool) → nat_le (offset + bytes) long ≡ inside
-        → (if inside then (if refused then Refused 7 else Shared (start_of d w.segment + offset)) else Refused 2) ≡ Shared at → at + bytes ≤ byte_count d
-    by_tests true true fits is = absurd (cc)
-    by_tests true false fits is =
-        let here : start_of d w.segment + offset ≡ at = cc in
-        omega (arith, here, leb-true (offset + bytes) long fits, segment-within d w.segment long found)
-    by_tests false refused fits is = absurd (cc)
+in-store d w (Some long) offset bytes store at found is = let within = segment-within d w.segment long found in grind (arith, nat_tests, within)
 
 shared-ends : (p : Program) (d : Layout) (i offset bytes : ℕ) (store : Bool) (at : ℕ) → in_register p d i offset bytes store ≡ Shared at → at + bytes ≤ byte_count d
-shared-ends p d zero offset bytes store at is = by_test (nat_le (offset + bytes) 16384) is
-  where
-    by_test : (inside : Bool) → (if inside then Private offset else Refused 2) ≡ Shared at → at + bytes ≤ byte_count d
-    by_test true is = absurd (cc)
-    by_test false is = absurd (cc)
+shared-ends p d zero offset bytes store at is = grind arith
 shared-ends p d (suc i) offset bytes store at is = by_window (slice_index_or p.windows i None) is
   where
     by_window : (w : Option Window) → in_window d w offset bytes store ≡ Shared at → at + bytes ≤ byte_count d

@@ -1,5 +1,5 @@
 -- Pages that go out one after another, their lines forgotten.
-use Rattle.activations.proofs.Common.{or-false, and-true, ◌≡◌, refl, ℕ, ◌%◌, ◌<◌, ◌==◌, ◌&&◌, ◌||◌, not, if◌then◌else◌, Bool, true, false, List, [], ◌∷◌, ◌++◌, filter, length, slice_index, slice_index_or, slice_set, Option, Some, None, is_some, option_map_or, arith, ap, sym, ◌∙◌, get_or-set_same, get_or-set_other, eqb-true, eq-eqb, both_ways, or_left, or_right, Layout, byte_count, page_count, line_of, difference, is_in_where-below, has, page_of_line, taken_out, has-append, Pool, marks_at, frame_at, undone, settled, gone, is_line_marked, bytes_over, Fits, UndoForgets, is_among, is_of, WereUndone, AreAsCommitted, nat_tests}
+use Rattle.activations.proofs.Common.{◌≡◌, refl, ℕ, ◌%◌, ◌<◌, ◌==◌, ◌&&◌, ◌||◌, not, if◌then◌else◌, Bool, true, false, List, [], ◌∷◌, ◌++◌, filter, length, slice_index, slice_index_or, Option, Some, None, is_some, option_map_or, arith, ap, sym, ◌∙◌, get_or-set_same, get_or-set_other, Layout, byte_count, page_count, line_of, difference, is_in_where-below, has, page_of_line, taken_out, has-append, Pool, marks_at, frame_at, undone, settled, gone, is_line_marked, bytes_over, Fits, UndoForgets, is_among, is_of, WereUndone, AreAsCommitted, nat_tests}
 
 filter-then : (p q : ℕ → Bool) (xs : List ℕ) → filter p (filter q xs) ≡ filter (λ x. q x && p x) xs
 filter-then p q [] = refl
@@ -8,10 +8,9 @@ filter-then p q (x ∷ xs) = grind (arith, filter-then p q xs)
 pub filter-alike : (p q : ℕ → Bool) (xs : List ℕ) → ((x : ℕ) → has xs x ≡ true → p x ≡ q x) → filter p xs ≡ filter q xs
 filter-alike p q [] same = refl
 filter-alike p q (x ∷ xs) same =
-    λ i.
-    if same x (or_left (x == x) (has xs x) (eq-eqb x x refl)) i
-    then x ∷ filter-alike p q xs (λ y inside. same y (or_right (x == y) (has xs y) inside)) i
-    else filter-alike p q xs (λ y inside. same y (or_right (x == y) (has xs y) inside)) i
+    let here = same x (grind (arith, nat_tests)) in
+    let rest = filter-alike p q xs (λ y inside. same y (grind arith)) in
+    grind (arith, here, rest)
 
 -- what is in neither of two
 pub neither-of : (m a b : Bool) → ((m && not a) && not b) ≡ (m && not (a || b))
@@ -66,20 +65,11 @@ module _ (directory : Layout) (pool : Pool) (fits : Fits directory pool) (page :
 
   -- the marks of lines of the page go
   pub settled-marks : (line : ℕ) → is_line_marked (settled pool page lines) line ≡ (is_line_marked pool line && not ((page == page_of_line line) && has lines (line % 16)))
-  settled-marks line = by_test (page == page_of_line line) refl
-    where
-      by_test : (same : Bool) → (page == page_of_line line) ≡ same
-          → has (slice_index_or (slice_set pool.marked page (difference (marks_at pool page) lines)) (page_of_line line) []) (line % 16)
-          ≡ (has (marks_at pool (page_of_line line)) (line % 16) && not (same && has lines (line % 16)))
-      by_test true e =
-          let at : page ≡ page_of_line line = eqb-true page (page_of_line line) e in
-          ap (λ (p : ℕ). has (slice_index_or (slice_set pool.marked page (difference (marks_at pool page) lines)) p []) (line % 16)) (sym at)
-          ∙ ap (λ (set : List ℕ). has set (line % 16)) (get_or-set_same pool.marked page (difference (marks_at pool page) lines) [] marked-below)
-          ∙ is_in_where-below (λ x. has (marks_at pool page) x && not (has lines x)) (line % 16) (omega arith)
-          ∙ ap (λ (p : ℕ). has (marks_at pool p) (line % 16) && not (has lines (line % 16))) at
-      by_test false e =
-          ap (λ (set : List ℕ). has set (line % 16)) (get_or-set_other pool.marked page (page_of_line line) (difference (marks_at pool page) lines) [] (λ same. both_ways (page == page_of_line line) e (eq-eqb page (page_of_line line) (sym same))))
-          ∙ sym (and-true (has (marks_at pool (page_of_line line)) (line % 16)))
+  settled-marks line =
+      let gone = is_in_where-below (λ x. has (marks_at pool page) x && not (has lines x)) (line % 16) (omega arith) in
+      let there = get_or-set_same pool.marked page (difference (marks_at pool page) lines) [] marked-below in
+      let other = get_or-set_other pool.marked page (page_of_line line) (difference (marks_at pool page) lines) [] in
+      grind (arith, nat_tests, gone, there, other)
 
 -- One page more: its lines are forgotten too.
 module _ (directory : Layout) (lines : ℕ → List ℕ) (pages : List ℕ) (old pool : Pool) (fits : Fits directory pool) (page : ℕ) (below : page < page_count directory) where

@@ -1,16 +1,14 @@
 -- A seat that is left: its entry goes, and its pages are nobody's.
-use Rattle.activations.proofs.Common.{not-false, ◌≡◌, refl, ℕ, zero, suc, ◌+◌, ◌<◌, ◌≤◌, ◌==◌, not, nat_lt, if◌then◌else◌, Bool, true, false, List, [], ◌∷◌, length, map, slice_index_or, slice_set, range_with_len, arith, ap, sym, ◌∙◌, subst, inl, inr, get_or-set_same, get_or-set_other, eqb-true, eqb-false, both_ways, and_parts, and_from, and_cases, not-true, nat_tests, length-map, length-set, get_or-map, get_or_past, All-filter, passing, IsOfPage, has, has-filter, Authority, unowned, cleared_entry, nobody, StandsFor, owners_told, freed-told, others, told-others, sitter, number_in, left, taken-below, kept-left, same-with, other-with, of_page, nothing, of_seat, no_lines_of, released, Activity, authority_of, authority_at, authority_under, authority_told, number_under, entry_in, entries, IsSound, IsIdentified, AreOfPages, vacated}
+use Rattle.activations.proofs.SittingLemmas.{each_seat}
+use Rattle.std.proofs.lemmas.Bool.{cond_both}
+use Rattle.activations.proofs.Common.{◌≡◌, refl, ℕ, zero, suc, ◌+◌, ◌<◌, ◌≤◌, ◌==◌, not, nat_lt, if◌then◌else◌, Bool, true, false, List, [], ◌∷◌, length, map, slice_index_or, slice_set, range_with_len, arith, ap, sym, ◌∙◌, subst, inl, inr, get_or-set_same, get_or-set_other, eqb-false, and_parts, and_from, not-true, nat_tests, length-map, length-set, get_or-map, get_or_past, All-filter, passing, IsOfPage, has, has-filter, Authority, unowned, cleared_entry, nobody, StandsFor, owners_told, freed-told, others, told-others, sitter, number_in, left, taken-below, kept-left, same-with, other-with, of_page, nothing, of_seat, no_lines_of, released, Activity, authority_of, authority_at, authority_under, authority_told, number_under, entry_in, entries, IsSound, IsIdentified, AreOfPages, vacated}
 use Rattle.std.proofs.lemmas.Simd.{map-map}
 use Rattle.desk.specs.Desk as desk
 use Rattle.activations.proofs.TableLemmas.{nobody-page}
 
 -- an entry that is cleared is told as a page that is freed
 cleared-told : (page tid : ℕ) (one : Authority) → authority_of page (cleared_entry tid one) ≡ (if (authority_of page one).owner == tid then nobody else authority_of page one)
-cleared-told page tid one = by_test (one.tid == tid)
-  where
-    by_test : (mine : Bool) → authority_of page (if mine then unowned else one) ≡ (if mine then nobody else authority_of page one)
-    by_test true = nobody-page page
-    by_test false = refl
+cleared-told page tid one = grind (arith, nobody-page)
 
 pub map-range : (f g : ℕ → desk.Authority) (from count : ℕ) → ((page : ℕ) → from ≤ page → page < from + count → f page ≡ g page) → map f (range_with_len from count) ≡ map g (range_with_len from count)
 map-range f g from zero same = refl
@@ -64,18 +62,10 @@ module _ (a : Activity) (seat : ℕ) (sound : IsSound a) (taken : has a.seating.
   begun-other at differs = get_or-set_other a.reach.begun seat at false false (eqb-false at seat differs)
 
   identified-left : (one : Authority) → IsIdentified a.seating.taken one → IsIdentified (left a.seating seat).taken (cleared_entry (seat + 1) one)
-  identified-left one (inl none) = inl (by_test (one.tid == seat + 1))
-    where
-      by_test : (mine : Bool) → (if mine then unowned else one) ≡ unowned
-      by_test true = refl
-      by_test false = none
-  identified-left one (inr (other, inside, same)) = by_test (one.tid == seat + 1) refl
-    where
-      by_test : (mine : Bool) → (one.tid == seat + 1) ≡ mine → IsIdentified (left a.seating seat).taken (if mine then unowned else one)
-      by_test true e = inl refl
-      by_test false e =
-          let differs : (other == seat) ≡ false = grind (arith, nat_tests, e, same) in
-          inr (other, has-filter (λ other. not (other == seat)) a.seating.taken other ∙ and_from (has a.seating.taken other) (not (other == seat)) inside (ap not differs), same)
+  identified-left one (inl none) = inl (grind arith)
+  identified-left one (inr (other, inside, same)) = cond_both (one.tid == seat + 1) _ _ (IsIdentified (left a.seating seat).taken) (λ _. inl refl) (λ e.
+      let differs : (other == seat) ≡ false = grind (arith, nat_tests, e, same) in
+      inr (other, has-filter (λ other. not (other == seat)) a.seating.taken other ∙ and_from (has a.seating.taken other) (not (other == seat)) inside (ap not differs), same))
 
   pub sound-left : IsSound (vacated a seat)
   sound-left = record {
@@ -84,7 +74,9 @@ module _ (a : Activity) (seat : ℕ) (sound : IsSound a) (taken : has a.seating.
     numbers = All-filter (λ other. not (other == seat)) (λ at. number_in a.seating at < a.next) a.seating.taken sound.numbers;
     live = sound.live;
     pages = sound.pages;
-    lines = λ at. lines-left at (at == seat) refl;
+    lines = each_seat {P = λ at. AreOfPages (of_seat (released a.seating.holding seat) at)} seat
+        (subst AreOfPages (sym (same-with a.seating.holding seat (no_lines_of a.seating.holding.pages) sound.seating.whole below)) (none-of-pages a.seating.holding.pages))
+        (λ at e. subst AreOfPages (sym (other-with a.seating.holding seat (no_lines_of a.seating.holding.pages) sound.seating.whole at e)) (sound.lines at));
     requests = λ at request inside waits. sound.requests at request (left-taken at inside).0 waits;
     begun = length-set a.reach.begun seat false ∙ sound.begun;
     entries = length-map a.reach.entries (cleared_entry (seat + 1)) ∙ sound.entries;
@@ -92,28 +84,15 @@ module _ (a : Activity) (seat : ℕ) (sound : IsSound a) (taken : has a.seating.
         let (there, differs) = left-taken at inside in
         let was = sound.set_up at there in
         record { program = was.program; begun = begun-other at differs ∙ was.begun; registers = was.registers; printed = was.printed; few = was.few };
-    free = λ at gone. by_test at gone (at == seat) refl;
+    free = λ at gone.
+        let there = get_or-set_same a.reach.begun seat false false (omega (arith, sound.begun, below)) in
+        let is = has-filter (λ other. not (other == seat)) a.seating.taken at in
+        let was = sound.free at in
+        let other = begun-other at in
+        grind (arith, nat_tests, there, is, was, other);
     identified = λ page. by_page page (nat_lt page (length a.reach.entries)) refl;
   }
     where
-      lines-left : (at : ℕ) → (same : Bool) → (at == seat) ≡ same → AreOfPages (of_seat (released a.seating.holding seat) at)
-      lines-left at true e =
-          subst (λ (n : ℕ). AreOfPages (of_seat (released a.seating.holding seat) n)) (sym (eqb-true at seat e))
-          (subst AreOfPages (sym (same-with a.seating.holding seat (no_lines_of a.seating.holding.pages) sound.seating.whole below)) (none-of-pages a.seating.holding.pages))
-      lines-left at false e =
-          subst AreOfPages (sym (other-with a.seating.holding seat (no_lines_of a.seating.holding.pages) sound.seating.whole at e)) (sound.lines at)
-
-      by_test : (at : ℕ) → has (left a.seating seat).taken at ≡ false → (same : Bool) → (at == seat) ≡ same → slice_index_or (slice_set a.reach.begun seat false) at false ≡ false
-      by_test at gone true e =
-          ap (λ (n : ℕ). slice_index_or (slice_set a.reach.begun seat false) n false) (eqb-true at seat e) ∙ get_or-set_same a.reach.begun seat false false (omega (arith, sound.begun, below))
-      by_test at gone false e =
-          begun-other at e
-          ∙ sound.free at
-          (elim (and_cases (has a.seating.taken at) (not (at == seat)) (sym (has-filter (λ other. not (other == seat)) a.seating.taken at) ∙ gone)) [
-            | inl none ↦ none
-            | inr same ↦ absurd (both_ways (at == seat) e (not-false (at == seat) same))
-          ])
-
       out : (page : ℕ) → nat_lt page (length a.reach.entries) ≡ false → length (map (cleared_entry (seat + 1)) a.reach.entries) ≤ page
       out page e = let n : length (map (cleared_entry (seat + 1)) a.reach.entries) ≡ length a.reach.entries = length-map a.reach.entries (cleared_entry (seat + 1)) in grind (arith, nat_tests, e, n)
 

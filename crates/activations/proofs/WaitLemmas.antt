@@ -1,14 +1,11 @@
 -- Who holds what is asked for, and who waits for whom: of seats, as of the desk's entries.
-use Rattle.activations.proofs.Common.{◌≡◌, refl, ℕ, ◌==◌, ◌&&◌, not, Bool, true, List, [], ◌∷◌, filter, map, Option, Some, None, is_some, option_map_or, ap, sym, ◌∙◌, has, Lines, no_lines, conflicts, shown_cycle, Request, Want, lines_wanted, of_seat, Entry, AreAlike, by_number, kept_conflict, kept_waits, alike-same, conflicts-alike, filter-alike, conflicts-seats, waits-seats, sitter, number_in, numbers, holders, seat_waits, cycle_of, AreOfPage, holders-flat, waits-flat, waits-none, cycle-numbers, Activity, entry_in, entries, locks_in, request_in, IsSound}
+use Rattle.std.proofs.lemmas.Simd.{map-map}
+use Rattle.activations.proofs.Common.{◌≡◌, refl, ℕ, ◌==◌, ◌&&◌, not, Bool, true, List, filter, map, Option, Some, None, is_some, option_map_or, ap, sym, ◌∙◌, has, Lines, no_lines, conflicts, shown_cycle, Request, Want, lines_wanted, of_seat, Entry, AreAlike, by_number, kept_conflict, kept_waits, alike-same, conflicts-alike, filter-alike, conflicts-seats, waits-seats, sitter, number_in, numbers, holders, seat_waits, cycle_of, AreOfPage, holders-flat, waits-flat, waits-none, cycle-numbers, Activity, entry_in, entries, locks_in, request_in, IsSound}
 use Rattle.activations.proofs.HoldingLemmas.{held-flat}
 
 -- the numbers of the entries are those of the seats
 pub numbers-told : (a : Activity) → map (λ (entry : Entry). entry.number) (entries a) ≡ numbers a.seating
-numbers-told a = of_seats a.seating.taken
-  where
-    of_seats : (seats : List ℕ) → map (λ (entry : Entry). entry.number) (map (entry_in a) seats) ≡ map (number_in a.seating) seats
-    of_seats [] = refl
-    of_seats (seat ∷ seats) = ap (λ (rest : List ℕ). number_in a.seating seat ∷ rest) (of_seats seats)
+numbers-told a = map-map (λ (entry : Entry). entry.number) (entry_in a) a.seating.taken
 
 module _ (a : Activity) (sound : IsSound a) where
   -- the holders that a request of a seat conflicts with are those that the tables tell

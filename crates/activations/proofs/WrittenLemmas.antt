@@ -1,5 +1,5 @@
 -- The pages into which a seat wrote, one after another.
-use Rattle.activations.proofs.Common.{inr, inl, cases_lt, and-true, arith, ap, sym, ◌∙◌, subst, eq-eqb, both_ways, and_parts, and_from, or_left, or_right, nat_tests, append-nil, take_more, get_or_past, All-get_or, filter-append, Layout, byte_count, page_count, line_of, has, page_of_line, has-filter, holds_some, nothing, Holding, IsWhole, held_at, of_seat, has-at, Pool, undone, settled, Reach, IsClean, is_line_marked, bytes_over, Fits, Keeps, AreWritten, HasUndone, HasSettled, WereUndone, AreAsCommitted, WereSettled, ◌≡◌, refl, ℕ, suc, ◌+◌, ◌%◌, ◌<◌, ◌==◌, not, if◌then◌else◌, Bool, true, false, List, [], ◌∷◌, ◌++◌, filter, length, slice_index, take, slice_index_or}
+use Rattle.activations.proofs.Common.{and-true, arith, ap, sym, ◌∙◌, subst, eq-eqb, both_ways, and_parts, and_from, or_left, or_right, nat_tests, append-nil, take_more, get_or_past, All-get_or, filter-append, Layout, byte_count, page_count, line_of, has, page_of_line, has-filter, holds_some, nothing, Holding, IsWhole, held_at, of_seat, has-at, Pool, undone, settled, Reach, IsClean, is_line_marked, bytes_over, Fits, Keeps, AreWritten, HasUndone, HasSettled, WereUndone, AreAsCommitted, WereSettled, ◌≡◌, refl, ℕ, suc, ◌+◌, ◌%◌, ◌<◌, ◌==◌, not, if◌then◌else◌, Bool, true, false, List, [], ◌∷◌, ◌++◌, filter, length, slice_index, take, slice_index_or}
 use Rattle.storage_unit.proofs.UndoForgets.{undo-forgets}
 use Rattle.storage_unit.proofs.SettleKeeps.{settle-keeps}
 use Rattle.activations.proofs.CommitLemmas.{were-settled, settled-unseen}
@@ -87,13 +87,10 @@ written-more lines pages at before some wrote =
 
 -- a page of which something is held is one of the store's
 pub held-below : (holding : Holding) (seat page : ℕ) → IsWhole holding → seat < 16 → holds_some (held_at holding seat page) ≡ true → page < holding.pages
-held-below holding seat page whole below some = elim (cases_lt page holding.pages) [
-  | inl inside ↦ inside
-  | inr past ↦ absurd (both_ways (holds_some (held_at holding seat page)) (ap holds_some (get_or_past (of_seat holding seat) page nothing (omega (arith, past, long)))) some)
-]
-  where
-    long : length (of_seat holding seat) ≡ holding.pages
-    long = All-get_or (λ one. length one ≡ holding.pages) holding.seats seat [] (omega (arith, below, whole.0)) whole.1
+held-below holding seat page whole below some =
+    let long = All-get_or (λ one. length one ≡ holding.pages) holding.seats seat [] (omega (arith, below, whole.0)) whole.1 in
+    let past = get_or_past (of_seat holding seat) page nothing in
+    grind (arith, long, past, some)
 
 pub page-held : (holding locks : Holding) (seat : ℕ) (pages : List ℕ) (at : ℕ) → locks ≡ holding → IsWhole holding → seat < 16 → at < length pages
     → ((page : ℕ) → has pages page ≡ holds_some (held_at locks seat page)) → slice_index_or pages at 0 < holding.pages
