@@ -1,6 +1,5 @@
 -- A store of version 2 with what a store of version 1 has.
-use Rattle.store_calls.proofs.Common.{◌≡◌, inl, inr, ℕ, suc, ◌+◌, ◌*◌, ◌/◌, ◌%◌, ◌^◌, ◌<◌, ◌≤◌, false, List, [], ◌∷◌, ◌++◌, length, map, take, take-suc, get_or, drop, replicate, true≢false, refl, sym, ◌∙◌, ap, subst, arith, All, sum_by, cases_eq, length-append, length-drop, length-replicate, length-map, length-take, map-append, pow_pos, Layout, FlatStore, IsInRange, IsLegal, bytes_of, Two, number_at, page_of, Stands, stands, Ghosts, flat_of, KeptStore, Given, call, Status, IsNoEmpty, IsOfWriting, Written, HasOne, IsRenewed, Renewed, RenewedBy, is_version_two, renew_line, renewed_header, renewed_image, widened, widened_bytes, widened_segments}
-use Rattle.std.specs.List.Sorted.{IsStrictlyIncreasing}
+use Rattle.store_calls.proofs.Common.{◌≡◌, inl, inr, ℕ, suc, ◌+◌, ◌*◌, ◌/◌, ◌%◌, ◌^◌, ◌<◌, ◌≤◌, false, List, [], ◌∷◌, ◌++◌, length, map, take, take-suc, get_or, drop, replicate, true≢false, refl, sym, ◌∙◌, ap, subst, arith, All, sum_by, cases_eq, length-append, length-drop, length-replicate, length-map, length-take, map-append, pow_pos, Layout, FlatStore, IsInRange, IsLegal, bytes_of, Two, number_at, page_of, Stands, stands, Ghosts, flat_of, KeptStore, Given, call, Status, IsNoEmpty, IsOfWriting, Written, HasOne, IsRenewed, Renewed, RenewedBy, is_version_two, renew_line, renewed_header, renewed_image, widened, widened_bytes, widened_segments, nat_tests}
 use Rattle.std.proofs.lemmas.List.Sums.{sum_by-cons}
 use Rattle.std.proofs.lemmas.List.Elements.{All-nil, All-cons, All-head, All-tail}
 use Rattle.store_format.proofs.Fresh.{stored_stands}
@@ -16,8 +15,7 @@ fewer_pages : (segments : List (ℕ × ℕ)) → All IsInRange segments → sum_
 fewer_pages [] range = omega arith
 fewer_pages (segment ∷ segments) range =
     let here = All-head IsInRange segment segments range in
-    let rest = fewer_pages segments (All-tail IsInRange segment segments range) in
-    omega (arith, rest, here.2, sum_by-cons (λ (those : ℕ × ℕ). those.1) segment segments, sum_by-cons (λ (those : ℕ × ℕ). those.1) (segment.0, (segment.1 + 1) / 2) (widened_segments segments))
+    omega (arith, fewer_pages segments (All-tail IsInRange segment segments range), here.2, sum_by-cons (λ (those : ℕ × ℕ). those.1) segment segments, sum_by-cons (λ (those : ℕ × ℕ). those.1) (segment.0, (segment.1 + 1) / 2) (widened_segments segments))
 
 still_in_range : (segments : List (ℕ × ℕ)) → All IsInRange segments → All IsInRange (widened_segments segments)
 still_in_range [] range = All-nil IsInRange
@@ -28,15 +26,7 @@ still_in_range (segment ∷ segments) range =
     (still_in_range segments (All-tail IsInRange segment segments range))
 
 pub widened_legal : (segments : List (ℕ × ℕ)) → IsLegal segments → IsLegal (widened_segments segments)
-widened_legal segments legal =
-    let many : length (widened_segments segments) ≡ length segments = length-map segments (λ (segment : ℕ × ℕ). (segment.0, (segment.1 + 1) / 2)) in
-    record {
-      some = omega (arith, many, legal.some);
-      few = omega (arith, many, legal.few);
-      in_range = still_in_range segments legal.in_range;
-      ascending = subst IsStrictlyIncreasing (sym (named_same segments)) legal.ascending;
-      pages = omega (arith, fewer_pages segments legal.in_range, legal.pages);
-    }
+widened_legal segments legal = grind (arith, nat_tests, length-map, still_in_range, named_same, fewer_pages)
 
 -- one segment more
 pub widened_more : (segments : List (ℕ × ℕ)) (i : ℕ) (d : ℕ × ℕ) → i < length segments
@@ -92,15 +82,7 @@ stood_one text number store plain is =
 -- an old store with an image that was written, or couldn't be
 module _ {W : Type 0} (G : Ghosts W) (bank : ℕ) (given : Given) (before after : W) (read : given.faults_now ≡ given.faults) (old : KeptStore) (has : HasOne given old) (least : 4096 ≤ bank) (most : bank ≤ 131072) where
   renewed_from : (now : Status) → Written G (renewed_image bank old.number (flat_of old)) (renew_line (length (renewed_image bank old.number (flat_of old))) old.number) (call before after [] now) → IsRenewed G bank given (call before after [] now)
-  renewed_from now written = record {
-    text = has.text;
-    whole = has.whole;
-    number = old.number;
-    store = flat_of old;
-    stood = has.stood;
-    stands = renewed_stands bank old.number (flat_of old) least most has.low has.legal has.bytes;
-    written = written;
-  }
+  renewed_from now written = grind (arith, nat_tests, renewed_stands bank old.number (flat_of old) least most has.low has.legal has.bytes)
 
   -- what it did is what writing did, where the status is one of writing
   renewed_so : (now : Status) → Written G (renewed_image bank old.number (flat_of old)) (renew_line (length (renewed_image bank old.number (flat_of old))) old.number) (call before after [] now) → RenewedBy G bank given (call before after [] now) now → Renewed G bank given (call before after [] now)

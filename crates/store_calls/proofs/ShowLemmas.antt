@@ -1,8 +1,7 @@
 -- Calls that ask the disk, and puts, one after another.
-use Rattle.store_calls.proofs.Common.{Option, IsSome, IsTrue, Result, Ok, Err, div_ceil, cases_lt, drop-drop, drop-take, div-add-mod', PageSize, page_bytes, Ghosts, Failed, AreTold, Prints, AsksAndPuts, OnlyAsks, FewerLater, held_of, held_same, shows_asks, shows_none, shows_on, shows_puts, stands_is, Standing, Stands, NotAStore, Damaged, stands, shown_store, IsShown, Shows, page_in, row_lines, Puts, PutsTimes, Status, AreRead, HasRead, PutsBytes, PutsDone, StopsBy, bytes_in}
+use Rattle.store_calls.proofs.Common.{Option, IsSome, Result, Ok, Err, div_ceil, cases_lt, drop-drop, drop-take, div-add-mod', PageSize, page_bytes, Ghosts, Failed, Prints, AsksAndPuts, OnlyAsks, FewerLater, held_of, held_same, shows_asks, shows_none, shows_on, shows_puts, stands_is, Standing, Stands, NotAStore, Damaged, stands, shown_store, IsShown, Shows, page_in, row_lines, Puts, PutsTimes, Status, AreRead, HasRead, PutsBytes, PutsDone, StopsBy, bytes_in, nat_tests}
 use Rattle.std.proofs.Common.{◌≡◌, ◌≤◌, ◌<◌, ◌+◌, ◌-◌, ◌*◌, ◌/◌, ◌%◌, ⊎_elim, ℕ, zero, suc, List, [], ◌∷◌, ◌++◌, length, take, drop, refl, sym, ◌∙◌, ap, subst, arith, append-nil, length-append}
 use Rattle.std.proofs.Math.Seq.{take-add}
-use Rattle.outside.specs.Durable.{IsSure}
 use Rattle.outside.proofs.Prints.{prints_broken, prints_none, prints_on, prints_stop, prints_same, prints_unput}
 use Rattle.restart.specs.Kept.{KeptStore}
 use Rattle.listing.proofs.RowLemmas.{rows_on}
@@ -21,39 +20,23 @@ module _ {W : Type 0} (G : Ghosts W) (fewer_later : FewerLater G) where
   pub shows_line : {T : Type 0} (bytes : List ℕ) (old new : W) (result : Result T Failed) → Puts G bytes old new result → AsksAndPuts G old new
   shows_line bytes old new result puts = shows_puts G bytes old new result puts.only puts.printed puts.images
 
-  -- bytes that are sure stay sure
-  pub sure_shows : (old new : W) → IsSure G old → AsksAndPuts G old new → IsSure G new
-  sure_shows old new sure shows = record {
-    honest = subst (λ b. IsTrue b) (sym shows.honest) sure.honest;
-    told = subst (λ (these : Option (List ℕ)). IsSome these) (sym shows.held) sure.told;
-    durable = λ image seen left.
-        let from = shows.images sure.told image seen (fewer_later new (G.moment old) (G.moment new) image seen shows.time.later left) in
-        subst (λ (these : Option (List ℕ)). AreTold these image) (sym shows.held) (sure.durable image from.0 from.1);
-  }
-
   -- and a store that they show is shown
   pub still_shown : (store : KeptStore) (old new : W) → IsShown G store old → AsksAndPuts G old new → IsShown G store new
-  still_shown store old new shown shows = record {
-    told = subst (λ (these : Option (List ℕ)). IsSome these) (sym shows.held) shown.told;
-    shows = subst (λ (held : List ℕ). Shows held store) (sym (held_same G old new shows)) shown.shows;
-  }
+  still_shown store old new shown shows = grind (arith, nat_tests)
 
 take_shorter : (n m : ℕ) (xs : List ℕ) → n ≤ m → take n (take m xs) ≡ take n xs
-take_shorter zero m xs le = refl
 take_shorter (suc n) zero xs le = absurd (omega arith)
-take_shorter (suc n) (suc m) [] le = refl
 take_shorter (suc n) (suc m) (x ∷ xs) le = ap (λ (rest : List ℕ). x ∷ rest) (take_shorter n m xs (omega arith))
+take_shorter _ _ _ le = refl
 
 -- bytes from a place on, and those behind them
 pub bytes_on : (standing : Standing) (at first second : ℕ) → bytes_in standing at (first + second) ≡ bytes_in standing at first ++ bytes_in standing (at + first) second
 bytes_on (Stands number store) at first second = take-add first second (drop at store.bytes) ∙ ap (λ (these : List ℕ). take first (drop at store.bytes) ++ take second these) (drop-drop first at store.bytes)
-bytes_on (NotAStore offset) at first second = refl
-bytes_on (Damaged offset) at first second = refl
+bytes_on _ at first second = refl
 
 pub none_in : (standing : Standing) (at : ℕ) → bytes_in standing at 0 ≡ []
 none_in (Stands number store) at = refl
-none_in (NotAStore offset) at = refl
-none_in (Damaged offset) at = refl
+none_in _ at = refl
 
 prints_front : (old new : Option (List ℕ)) (first second : List ℕ) → Prints old new first broke → Prints old new (first ++ second) broke
 prints_front old new first second prints = prints_stop old new first second broke broke refl refl prints
@@ -67,9 +50,7 @@ module _ {W : Type 0} (G : Ghosts W) (fewer_later : FewerLater G) (store : KeptS
 
   -- the rows of the bytes so far and of others behind them
   split : IsShown G store old → (more : List ℕ) → row_lines offset (bytes_in (stands (held_of G old)) at done ++ more) ≡ row_lines offset (bytes_in (stands (held_of G old)) at done) ++ row_lines (offset + done) more
-  split shown more =
-      rows_on (done / 16) offset (bytes_in (stands (held_of G old)) at done) more (long shown ∙ rows-are)
-      ∙ ap (λ (n : ℕ). row_lines offset (bytes_in (stands (held_of G old)) at done) ++ row_lines (offset + n) more) (sym rows-are)
+  split shown more = grind (arith, nat_tests, rows_on, rows-are)
 
   same-held : held_of G mid ≡ held_of G old
   same-held = held_same G old mid before.only
@@ -101,10 +82,7 @@ module _ {W : Type 0} (G : Ghosts W) (fewer_later : FewerLater G) (store : KeptS
   }
 
   pub parts-long : HasRead G store (at + done) part mid new (Ok tt) → IsShown G store old → length (bytes_in (stands (held_of G old)) at (done + part)) ≡ done + part
-  parts-long reads shown =
-      let two = part-long reads shown in
-      let one = long shown in
-      ap length (bytes_on (stands (held_of G old)) at done part) ∙ omega (arith, one, two, length-append (bytes_of at done) (bytes_of (at + done) part))
+  parts-long reads shown = grind (arith, nat_tests, part-long, bytes_on, length-append)
 
   -- the bytes of what is left begin with the part's
   rest-bytes : bytes_of (at + done) (count - done) ≡ bytes_of (at + done) part ++ bytes_of (at + done + part) (count - done - part)
@@ -173,13 +151,8 @@ nothing_put G fewer_later store at offset now = record {
 -- a part was read and its rows were put
 module _ {W : Type 0} (G : Ghosts W) (fewer_later : FewerLater G) (store : KeptStore) (at offset count some : ℕ) (bytes : List ℕ) (old mid new : W)
     (asks : OnlyAsks G old mid) (many : some ≡ count) (long : length bytes ≡ count) (read : IsShown G store old → bytes ≡ bytes_in (stands (held_of G old)) at some) where
-  these-bytes : IsShown G store old → bytes ≡ bytes_in (stands (held_of G old)) at count
-  these-bytes shown = read shown ∙ ap (bytes_in (stands (held_of G old)) at) many
-
   put-rows : {T : Type 0} (result : Result T Failed) → Prints (G.printed mid) (G.printed new) (row_lines offset bytes) result → IsShown G store old → Prints (G.printed old) (G.printed new) (row_lines offset (bytes_in (stands (held_of G old)) at count)) result
-  put-rows result prints shown =
-      prints_same (G.printed old) (G.printed new) (row_lines offset bytes) (row_lines offset (bytes_in (stands (held_of G old)) at count)) result (ap (row_lines offset) (these-bytes shown))
-      (subst (λ (told : Option (List ℕ)). Prints told (G.printed new) (row_lines offset bytes) result) asks.calls.quiet.same prints)
+  put-rows result prints shown = grind (arith, nat_tests)
 
   pub part_put : G.disk_faults mid ≡ G.disk_faults old → Puts G (row_lines offset bytes) mid new went → PutsTimes G (div_ceil (length bytes) 16) mid new went → PutsBytes G store at offset count old new (Ok tt)
   part_put same puts times = record {
@@ -204,12 +177,10 @@ module _ {W : Type 0} (G : Ghosts W) (fewer_later : FewerLater G) (store : KeptS
   }
 
 drop_none : (n : ℕ) → drop {A = ℕ} n [] ≡ []
-drop_none zero = refl
-drop_none (suc n) = refl
+drop_none n = grind (arith, nat_tests)
 
 take_none : (n : ℕ) → take {A = ℕ} n [] ≡ []
-take_none zero = refl
-take_none (suc n) = refl
+take_none n = grind (arith, nat_tests)
 
 -- what stands has pages of this size
 abbrev pub HasPages : Standing → PageSize → Type 0
@@ -219,15 +190,11 @@ HasPages (Damaged offset) size = Unit {0}
 
 -- bytes that a store shows stand for pages of its size
 pub has_pages : (held : List ℕ) (store : KeptStore) → Shows held store → HasPages (stands held) store.header.directory.page
-has_pages held store shows =
-    subst (λ (standing : Standing). HasPages standing store.header.directory.page)
-    (sym (stands_is held store.header store.bank.which store.bank.base store.bank.gate shows.read.records (shown_store held store shows))) refl
+has_pages held store shows = grind (arith, nat_tests, stands_is held store.header store.bank.which store.bank.base store.bank.gate shows.read.records (shown_store held store shows), shown_store held store shows)
 
 -- bytes of a page are bytes of what stands
 pub in_page : (standing : Standing) (size : PageSize) → HasPages standing size → (at count : ℕ) → at % page_bytes size + count ≤ page_bytes size
     → take (at % page_bytes size + count - at % page_bytes size) (drop (at % page_bytes size) (page_in standing (at / page_bytes size))) ≡ bytes_in standing at count
-in_page (NotAStore offset) size has at count inside = ap (take (at % page_bytes size + count - at % page_bytes size)) (drop_none (at % page_bytes size)) ∙ take_none (at % page_bytes size + count - at % page_bytes size)
-in_page (Damaged offset) size has at count inside = ap (take (at % page_bytes size + count - at % page_bytes size)) (drop_none (at % page_bytes size)) ∙ take_none (at % page_bytes size + count - at % page_bytes size)
 in_page (Stands number store) size has at count inside =
     let behind = at % page_bytes size in
     let page = at / page_bytes size in
@@ -240,12 +207,12 @@ in_page (Stands number store) size has at count inside =
     ∙ ap (take count) (drop-take behind (page_bytes size - behind) (drop (page * page_bytes size) store.bytes))
     ∙ take_shorter count (page_bytes size - behind) (drop behind (drop (page * page_bytes size) store.bytes)) (omega (arith, inside))
     ∙ ap (take count) (drop-drop behind (page * page_bytes size) store.bytes ∙ ap (λ (n : ℕ). drop n store.bytes) place)
+in_page _ size has at count inside = ap (take (at % page_bytes size + count - at % page_bytes size)) (drop_none (at % page_bytes size)) ∙ take_none (at % page_bytes size + count - at % page_bytes size)
 
 -- a whole page
 pub page_whole : (standing : Standing) (size : PageSize) → HasPages standing size → (page : ℕ) → page_in standing page ≡ bytes_in standing (page * page_bytes size) (page_bytes size)
-page_whole (NotAStore offset) size has page = refl
-page_whole (Damaged offset) size has page = refl
 page_whole (Stands number store) size has page = ap (λ s. take (page_bytes s) (drop (page * page_bytes s) store.bytes)) has
+page_whole _ size has page = refl
 
 -- bytes of two pages
 pub in_two_pages : (standing : Standing) (at here rest count : ℕ) (front back : List ℕ) → here + rest ≡ count → front ≡ bytes_in standing at here → back ≡ bytes_in standing (at + here) rest → front ++ back ≡ bytes_in standing at count

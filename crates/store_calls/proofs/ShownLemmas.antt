@@ -1,6 +1,6 @@
 -- What printing a range of a store did.
-use Rattle.store_calls.proofs.Common.{◌≡◌, ◌⊎◌, inl, inr, ◌+◌, ℕ, List, [], refl, sym, ◌∙◌, ap, subst, Option, IsSome, IsTrue, Result, Ok, Err, unwrap_or, div_ceil, Ghosts, AreTold, Prints, bytes_at, AsksAndPuts, OnlyAsks, FewerLater, held_of, leaves_on, Layout, start_of, FlatStore, Stands, stands, stands_is, Shows, IsShown, shown_store, row_lines, call, Status, Range, HasRange, IsInside, PutsBytes, PutsDone, RangeShown, ShownBy, StopsBy, bytes_in, rows_of, held_same, shows_asks, shows_none, shows_on}
-use Rattle.std.proofs.Common.{⊎_elim}
+use Rattle.store_calls.proofs.Common.{◌≡◌, ◌⊎◌, inl, inr, ◌+◌, ℕ, List, [], refl, sym, ◌∙◌, ap, subst, Option, IsSome, IsTrue, Result, Ok, Err, unwrap_or, div_ceil, Ghosts, AreTold, Prints, bytes_at, AsksAndPuts, OnlyAsks, FewerLater, held_of, leaves_on, Layout, start_of, FlatStore, Stands, stands, stands_is, Shows, IsShown, shown_store, row_lines, call, Status, Range, HasRange, IsInside, PutsBytes, PutsDone, RangeShown, ShownBy, StopsBy, bytes_in, rows_of, held_same, shows_asks, shows_none, shows_on, nat_tests}
+use Rattle.std.proofs.Common.{⊎_elim, arith}
 use Rattle.outside.specs.Runs.{Leaves}
 use Rattle.outside.proofs.Durable.{leaves_held}
 use Rattle.outside.proofs.Prints.{prints_unput}
@@ -17,10 +17,7 @@ stood : (held : List ℕ) (store : KeptStore) → Shows held store → (number :
 stood held store shows = (_, _, stands_is held store.header store.bank.which store.bank.base store.bank.gate shows.read.records (shown_store held store shows), refl)
 
 same_directory : (held : List ℕ) (store : KeptStore) → Shows held store → (number : ℕ) (flat : FlatStore) → stands held ≡ Stands number flat → flat.directory ≡ store.header.directory
-same_directory held store shows number flat is =
-    let (one, first, stands_so, has) = stood held store shows in
-    let same : first ≡ flat = let both = sym stands_so ∙ is in cc in
-    ap (λ (those : FlatStore). those.directory) (sym same) ∙ has
+same_directory held store shows number flat is = grind (arith, nat_tests, stood held store shows)
 
 module _ {W : Type 0} (G : Ghosts W) (fewer_later : FewerLater G) (printed_now : (w : W) (image seen : List ℕ) → G.left_since w (G.moment w) image seen → AreTold (G.printed w) seen)
     (range : Range) (before start : W) (asks : OnlyAsks G before start) where

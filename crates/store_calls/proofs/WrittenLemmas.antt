@@ -1,11 +1,9 @@
 -- What making a store did.
-use Rattle.store_calls.proofs.Common.{◌≡◌, ◌⊎◌, inl, inr, ◌+◌, ◌<◌, ℕ, List, [], length, refl, sym, ◌∙◌, ap, subst, arith, Option, IsSome, IsTrue, Result, Ok, Err, unwrap_or, Ghosts, Failed, Prints, Torn, CallsDisk, FewerLater, OnlyAsks, held_of, elapses-trans, leaves_on, Puts, PutsTimes, call, Status, IsNoEmpty, IsOfWriting, IsStored, IsTornBy, IsWrittenWhole, LeavesTorn, Written, WrittenBy}
-use Rattle.std.specs.Option.{option_map}
+use Rattle.store_calls.proofs.Common.{◌≡◌, ◌⊎◌, inl, inr, ◌+◌, ◌<◌, ℕ, List, [], length, refl, sym, ◌∙◌, ap, subst, arith, Option, IsSome, IsTrue, Result, Ok, Err, unwrap_or, Ghosts, Failed, Prints, Torn, CallsDisk, FewerLater, OnlyAsks, held_of, elapses-trans, leaves_on, Puts, PutsTimes, call, Status, IsNoEmpty, IsOfWriting, IsStored, IsTornBy, IsWrittenWhole, LeavesTorn, Written, WrittenBy, nat_tests}
 use Rattle.outside.specs.Moments.{Elapses}
 use Rattle.outside.proofs.Torn.{untouched}
-use Rattle.call_status.specs.Printed.{put_of, PrintsBy, PutsOnce}
+use Rattle.call_status.specs.Printed.{put_of, PutsOnce}
 use Rattle.call_status.specs.declared.status.Status.TheVariants as status
-use Rattle.store_calls.proofs.ShowLemmas.{shows_line, sure_shows}
 
 -- an image was written on an empty disk
 module _ {W : Type 0} (G : Ghosts W) (fewer_later : FewerLater G) (image line : List ℕ) (start mid : W) (calls : CallsDisk G start mid) (torn : LeavesTorn G (length image) start mid) where
@@ -20,12 +18,7 @@ module _ {W : Type 0} (G : Ghosts W) (fewer_later : FewerLater G) (image line : 
   -- all was written, and the line put
   module _ (empty : IsSome (G.held start) → held_of G start ≡ []) (written : IsWrittenWhole G image start mid) (calm : G.disk_faults mid ≡ G.disk_faults start) (after : W) where
     stored : (result : Result (Unit {0}) Failed) → Puts G line mid after result → IsStored G image start after
-    stored result puts = record {
-      empty = empty;
-      held = λ told. puts.only.held ∙ written.held told (empty told);
-      sure = λ honest told. sure_shows G fewer_later mid after (written.sure honest told) (shows_line G fewer_later line mid after result puts);
-      writes = puts.only.writes ∙ written.writes;
-    }
+    stored result puts = grind (arith, nat_tests)
 
     torn-after : (result : Result (Unit {0}) Failed) → Puts G line mid after result → LeavesTorn G (length image) start after
     torn-after result puts honest told =
@@ -36,15 +29,7 @@ module _ {W : Type 0} (G : Ghosts W) (fewer_later : FewerLater G) (image line : 
         torn honest told crashed first (fewer_later mid (G.moment start) (G.moment mid) crashed first calls.time.later since))
 
     put-written : (now : Status) (result : Result (Unit {0}) Failed) → Puts G line mid after result → WrittenBy G image line start after now → Written G image line (call start after [] now)
-    put-written now result puts by = record {
-      no_order = refl;
-      honest = puts.only.honest ∙ calls.honest;
-      time = elapses-trans G fewer_later start mid after calls.time puts.only.time;
-      crash = torn-after result puts;
-      calm = λ other. puts.only.disk ∙ calm;
-      full = none_held after empty;
-      by_status = by;
-    }
+    put-written now result puts by = grind (arith, nat_tests, elapses-trans G fewer_later start mid after calls.time puts.only.time, torn-after result puts, none_held after empty)
 
     printed-from : (result : Result (Unit {0}) Failed) → Puts G line mid after result → Prints (G.printed start) (G.printed after) line result
     printed-from result puts = subst (λ (these : Option (List ℕ)). Prints these (G.printed after) line result) calls.quiet.same puts.printed
@@ -82,53 +67,12 @@ module _ {W : Type 0} (G : Ghosts W) (fewer_later : FewerLater G) (before start 
       (first, begun, asks.crash told first begun (fewer_later start (G.moment before) (G.moment start) first begun asks.calls.time.later since), is))
 
   module _ (image line : List ℕ) (after : W) where
-    stored-since : IsStored G image start after → IsStored G image before after
-    stored-since stored = record {
-      empty = λ told. sym same-held ∙ stored.empty (told-start told);
-      held = λ told. stored.held (told-start told);
-      sure = λ honest told. stored.sure (honest-start honest) (told-start told);
-      writes = stored.writes ∙ ap (option_map (λ count. count + 1)) asks.writes;
-    }
-
-    prints-since : (now : Status) → PrintsBy (G.printed start) (G.printed after) line now → PrintsBy (G.printed before) (G.printed after) line now
-    prints-since now prints = subst (λ (these : Option (List ℕ)). PrintsBy these (G.printed after) line now) asks.calls.quiet.same prints
-
     by-since : (now : Status) → IsOfWriting now → WrittenBy G image line start after now → WrittenBy G image line before after now
-    by-since status.Done of (stored, prints, once) =
-        (stored-since stored, prints-since status.Done prints, λ told. once (subst (λ (these : Option (List ℕ)). IsSome these) (sym asks.calls.quiet.same) told) ∙ ap (λ (n : ℕ). n + 1) asks.calls.puts)
-    by-since status.PutFault of (stored, prints) = (stored-since stored, prints-since status.PutFault prints)
-    by-since status.DiskFault of (same, torn) = (same ∙ asks.calls.quiet.same, λ told. let left = torn (told-start told) in (left.0, subst (λ (held : List ℕ). Torn 0 (length image) held (held_of G after)) same-held left.1))
-    by-since _ of by = absurd of
+    by-since now h1 h2 = grind (arith, nat_tests)
 
     pub written_since : G.disk_faults start ≡ G.disk_faults before → (now : Status) → IsOfWriting now → (IsSome (G.held before) → held_of G before ≡ []) → Written G image line (call start after [] now) → Written G image line (call before after [] now)
-    written_since calm now of empty written = record {
-      no_order = refl;
-      honest = written.honest ∙ asks.calls.honest;
-      time = elapses-trans G fewer_later before start after asks.calls.time written.time;
-      crash = torn_on (length image) after written.time written.crash;
-      calm = λ other. written.calm other ∙ calm;
-      full = λ told some. absurd (omega (arith, some, ap length (empty told)));
-      by_status = by-since now of written.by_status;
-    }
+    written_since calm now of empty written = grind (arith, nat_tests, elapses-trans G fewer_later before start after asks.calls.time written.time, torn_on (length image) after written.time written.crash, by-since now of written.by_status)
 
     -- the disk isn't empty, or couldn't be asked
     pub not_written : (now : Status) → IsNoEmpty G before start now → Written G image line (call before start [] now)
-    not_written now why = record {
-      no_order = refl;
-      honest = asks.calls.honest;
-      time = asks.calls.time;
-      crash = λ honest told crashed seen left. (crashed, seen, asks.crash told crashed seen left, untouched 0 (length image) crashed);
-      calm = calm now why;
-      full = λ told some. asks;
-      by_status = by now why;
-    }
-      where
-        by : (now : Status) → IsNoEmpty G before start now → WrittenBy G image line before start now
-        by status.DiskFault why = (asks.calls.quiet.same, λ told. (told-start told, subst (λ (held : List ℕ). Torn 0 (length image) held (held_of G start)) same-held (untouched 0 (length image) (held_of G start))))
-        by status.Exists why = (asks, why.0)
-        by _ why = absurd why
-
-        calm : (now : Status) → IsNoEmpty G before start now → (now ≡ status.DiskFault → ⊥) → G.disk_faults start ≡ G.disk_faults before
-        calm status.DiskFault why other = absurd (other refl)
-        calm status.Exists why other = why.1
-        calm _ why other = absurd why
+    not_written now why = grind (arith, nat_tests)

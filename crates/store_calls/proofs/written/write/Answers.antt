@@ -1,3 +1,5 @@
+use Rattle.std.proofs.Common.{arith}
+use Rattle.std.proofs.lemmas.Grind.{common_steps}
 use Rattle.store_calls.proofs.Common.{List, ℕ, length, Torn, leaves_same, still_told}
 use Rattle.store_calls.proofs.written.write.Goals as goal
 
@@ -11,3 +13,9 @@ returns-clause-crash g c = λ honest told.
     (λ (image seen : List ℕ). (start : List ℕ) × (begun : List ℕ) × G.left_since old (G.moment old) start begun × Torn 0 count start image)
     (λ image seen left. let from = c.write_at.ensures.crash honest told image seen left in (from.0, seen, from.1, from.2))
     (c.sync.ensures.crash (still_told (G.held old) (G.held mid) _ _ c.write_at.result told c.write_at.ensures.written))
+
+pub returns-clause-done : goal.returns-clause-done
+returns-clause-done g c = grind (arith, common_steps)
+
+pub returns-clause-torn : goal.returns-clause-torn
+returns-clause-torn g c = grind (arith, common_steps)
