@@ -1,6 +1,7 @@
 -- What a crash leaves of a run from an opening.
-use Rattle.run_law.proofs.Common.{false, true, not, Bool, ◌%◌, ◌^◌, take_at, map-append, Program, serial, Stands, Event, begun, IsSerial, standing_of, fine_step, Desk, opened, Word, Fine, Doubt, event_lines, run, step, IsRunOf, OpenBeforeEach}
-use Rattle.std.proofs.Common.{◌≡◌, ℕ, ◌+◌, List, [], ◌∷◌, ◌++◌, length, map, take, refl, sym, ap, ◌∙◌, arith, length-append, append-nil, append_assoc, Some, IsTrue}
+use Rattle.std.proofs.lemmas.Bool.Decides.{nat_tests}
+use Rattle.run_law.proofs.Common.{false, not, Bool, ◌%◌, ◌^◌, take_at, map-append, Program, serial, Stands, Event, begun, IsSerial, standing_of, fine_step, Desk, opened, Word, Fine, Doubt, event_lines, run, step, IsRunOf, OpenBeforeEach}
+use Rattle.std.proofs.Common.{◌≡◌, ℕ, ◌+◌, List, [], ◌∷◌, ◌++◌, length, take, refl, sym, ap, ◌∙◌, arith, length-append, append-nil, append_assoc, Some, IsTrue}
 use Rattle.line_geometry.specs.FlatStore.{FlatStore}
 use Rattle.desk.proofs.SerialLaw.{run-serial}
 use Rattle.run_law.specs.Headline.{LeftIsPrefix, DoubtIsWhole}
@@ -18,26 +19,7 @@ open_serial programs number frames most most_lines store events taken rest is_ru
     ap (λ (order : List (ℕ × ℕ)). serial (begun programs events) order store) (it.order_is ∙ ap (λ (back : List (ℕ × ℕ)). it.done ++ back) (it.none_open still) ∙ append-nil it.done) ∙ it.leaves
 
 pub left_is_prefix : LeftIsPrefix
-left_is_prefix programs number frames most most_lines store events taken rest text printed image seen is_run left =
-    let start = opened frames most most_lines store in
-    let stage = run programs left.stage start in
-    let order = (run programs taken start).order in
-    let stage_run : IsRunOf programs events start left.stage (left.after ++ rest) = record {
-      prefix = sym (append_assoc (map (λ (each : Event × Word). each.0) left.stage) left.after rest) ∙ ap (λ (front : List Event). front ++ rest) left.is_run.prefix ∙ is_run.prefix;
-      each_open = left.is_run.each_open;
-    } in
-    let cut : take (length stage.order) order ≡ stage.order = ap (λ (these : List (ℕ × ℕ)). take (length stage.order) these) (sym left.order_is) ∙ take_at stage.order left.later (length stage.order) refl in
-    let longer = ap (λ (these : List (ℕ × ℕ)). length these) left.order_is in
-    record {
-      j = length stage.order;
-      few = omega (arith, longer, length-append stage.order left.later);
-      since = take left.count text;
-      seen_is = left.seen_is;
-      told = omega (arith, left.told);
-      left = stage.committed;
-      leaves = ap (λ (these : List (ℕ × ℕ)). serial (begun programs events) these store) cut ∙ open_serial programs number frames most most_lines store events left.stage (left.after ++ rest) stage_run left.still_open;
-      stood = left.stood;
-    }
+left_is_prefix programs number frames most most_lines store events taken rest text printed image seen is_run left = grind (arith, nat_tests, append_assoc, take, take_at, length-append, open_serial)
 
 -- a run is open before each event whatever the last word is
 other_word : (programs : List Program) (front : List (Event × Word)) (event : Event) (one two : Word) (desk : Desk) → OpenBeforeEach programs (front ++ (event, one) ∷ []) desk → OpenBeforeEach programs (front ++ (event, two) ∷ []) desk
@@ -49,8 +31,7 @@ last_open programs [] event word desk each = each.0
 last_open programs (first ∷ front) event word desk each = last_open programs front event word (step programs first.0 first.1 desk).desk each.1
 
 open_is : (shut : Bool) → IsTrue (not shut) → shut ≡ false
-open_is true is = cc
-open_is false is = refl
+open_is shut h1 = grind (arith, nat_tests)
 
 pub doubt_is_whole : DoubtIsWhole
 doubt_is_whole programs number frames most most_lines store events front event rest is_run same =

@@ -1,5 +1,6 @@
 -- What a crash leaves of a run, from what it leaves of its parts.
-use Rattle.run_law.proofs.Common.{◌≡◌, ℕ, ◌+◌, ◌≤◌, List, [], ◌∷◌, ◌++◌, length, map, take, min, refl, sym, ap, ◌∙◌, subst, arith, append-nil, append_assoc, length-append, ⊎_elim, ◌⊎◌, false, not, take-append-le, take_min, map-append, Program, stands, Event, Desk, Word, Fine, Step, run, step, OpenBeforeEach, commits_seen, standing_of, fine_step, IsEitherOf, IsLeft}
+use Rattle.std.proofs.lemmas.Bool.Decides.{nat_tests}
+use Rattle.run_law.proofs.Common.{◌≡◌, ℕ, ◌+◌, ◌≤◌, List, [], ◌∷◌, ◌++◌, length, map, take, min, refl, sym, ap, ◌∙◌, subst, arith, append-nil, append_assoc, length-append, ⊎_elim, false, not, take-append-le, take_min, map-append, Program, stands, Event, Desk, Word, Fine, Step, run, step, OpenBeforeEach, commits_seen, standing_of, fine_step, IsEitherOf, IsLeft}
 use Rattle.std.proofs.Math.Seq.{take-append-add}
 use Rattle.run_law.proofs.SeenLemmas.{seen_cut}
 use Rattle.run_law.proofs.StepLemmas.{Stepped, step_by}
@@ -52,28 +53,20 @@ module _ (programs : List Program) (number : ℕ) where
       → ((rest : List ℕ) → commits_seen (first ++ rest) ≡ commits_seen first + commits_seen rest)
       → IsLeft programs number (run programs one start) two second (printed ++ first) image seen → IsLeft programs number start (one ++ two) (first ++ second) printed image seen
   left_behind start one two first second printed image seen each_open few adds left =
-      let same : run programs (one ++ left.stage) start ≡ run programs left.stage (run programs one start) = run_on programs one left.stage start in
-      let whole : take (length first + left.count) (first ++ second) ≡ first ++ take left.count second = take-append-add first second left.count in
-      record {
-        stage = one ++ left.stage;
-        after = left.after;
-        is_run = record {
-          prefix =
-              ap (λ (front : List Event). front ++ left.after) (map-append (λ (each : Event × Word). each.0) one left.stage) ∙ append_assoc (events_of one) (events_of left.stage) left.after
-              ∙ ap (λ (back : List Event). events_of one ++ back) left.is_run.prefix ∙ sym (map-append (λ (each : Event × Word). each.0) one two);
-          each_open = open_on programs one left.stage start each_open left.is_run.each_open;
-        };
-        still_open = ap (λ (desk : Desk). desk.closed) same ∙ left.still_open;
-        later = left.later;
-        order_is = ap (λ (desk : Desk). desk.order ++ left.later) same ∙ left.order_is ∙ ap (λ (desk : Desk). desk.order) (sym (run_on programs one two start));
-        stood = left.stood ∙ ap (standing_of number) (sym same);
-        count = length first + left.count;
-        seen_is = left.seen_is ∙ append_assoc printed first (take left.count second) ∙ ap (λ (these : List ℕ). printed ++ these) (sym whole);
-        told =
-            let seen_all : commits_seen (take (length first + left.count) (first ++ second)) ≡ commits_seen first + commits_seen (take left.count second) = ap commits_seen whole ∙ adds (take left.count second) in
-            let longer : length (run programs (one ++ left.stage) start).order ≡ length (run programs left.stage (run programs one start)).order = ap (λ (desk : Desk). length desk.order) same in
-            omega (arith, seen_all, longer, few, left.told);
-      }
+      grind (
+        arith,
+        nat_tests,
+        run_on programs one left.stage start,
+        run_on programs one two start,
+        take (length first + left.count) (first ++ second),
+        take left.count second,
+        take-append-add first second left.count,
+        map-append (λ (each : Event × Word). each.0) one left.stage,
+        map-append (λ (each : Event × Word). each.0) one two,
+        append_assoc (events_of one) (events_of left.stage) left.after,
+        append_assoc printed first (take left.count second),
+        open_on programs one left.stage start each_open left.is_run.each_open,
+      )
 
   module _ (event : Event) (word : Word) (names : List (List ℕ)) (old : Desk) (was_open : old.closed ≡ false) (text printed image : List ℕ) where
     abbrev pub went : Step

@@ -1,5 +1,6 @@
 -- Runs, one after another.
-use Rattle.run_law.proofs.Common.{◌≡◌, ℕ, ◌+◌, List, [], ◌∷◌, ◌++◌, refl, sym, ap, ◌∙◌, append_assoc, cond, not, flat_map, sum_by-append, Program, Event, Desk, Word, run, step, is_fine, faulted, OpenBeforeEach, Line, Open, line_text, number_after, happening_lines, closing_lines, lines_from, report, event_lines}
+use Rattle.std.proofs.lemmas.Bool.Decides.{nat_tests}
+use Rattle.run_law.proofs.Common.{◌≡◌, ℕ, ◌+◌, List, [], ◌∷◌, ◌++◌, refl, sym, ap, ◌∙◌, append_assoc, cond, not, flat_map, sum_by-append, Program, Event, Desk, Word, run, step, is_fine, faulted, OpenBeforeEach, Line, Open, line_text, number_after, happening_lines, closing_lines, lines_from, report, event_lines, arith}
 use Rattle.std.proofs.lemmas.Grind.{flat_map-append}
 
 module _ (programs : List Program) where
@@ -28,9 +29,7 @@ module _ (programs : List Program) where
 
     -- a report is the open line, the lines of the events and those of the end
     pub report_parts : (xs : List (Event × Word)) (left : List Event) (desk : Desk) → report names programs number xs left desk ≡ line_text (Open number) ++ (flat_map line_text (event_lines names programs number xs desk) ++ flat_map line_text (closing_lines number left (run programs xs desk)))
-    report_parts xs left desk =
-        ap (λ (lines : List Line). line_text (Open number) ++ flat_map line_text lines) (lines_end xs left desk)
-        ∙ ap (λ (bytes : List ℕ). line_text (Open number) ++ bytes) (flat_map-append line_text (event_lines names programs number xs desk) (closing_lines number left (run programs xs desk)))
+    report_parts xs left desk = grind (arith, nat_tests, lines_end, flat_map-append)
 
 pub faulted_on : (xs ys : List (Event × Word)) → faulted (xs ++ ys) ≡ faulted xs + faulted ys
 faulted_on xs ys = sum_by-append (λ (event : Event × Word). cond (not (is_fine event.1)) 1 0) xs ys

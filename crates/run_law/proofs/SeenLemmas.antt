@@ -1,7 +1,7 @@
 -- The commits that the bytes of a report tell of, also where it is cut.
+use Rattle.std.proofs.lemmas.Bool.Decides.{nat_tests}
 use Rattle.run_law.proofs.Common.{◌==◌, if◌then◌else◌, count_by, nat_eq, flat_map, starts_with, take-append-drop, sum_by-append, Line, line_text, is_commit, whole_lines, commits_seen, IsUnbroken}
 use Rattle.std.proofs.Common.{◌≡◌, ℕ, ◌+◌, ◌≤◌, Bool, true, false, List, [], ◌∷◌, ◌++◌, take, drop, refl, sym, ap, ◌∙◌, append_assoc, append-nil, cond, codes, arith}
-use Rattle.desk.specs.Lines as line
 use Rattle.run_law.proofs.Unbroken.{unbroken_first, unbroken_rest, body_of, text_is, IsPlain, body-unbroken}
 
 -- whether a line without its line feed is a commit's
@@ -32,35 +32,11 @@ seen_cut count bytes =
 -- a line and its line feed are a whole line
 whole_first : (line body rest : List ℕ) → IsUnbroken body → whole_lines line (body ++ 10 ∷ rest) ≡ (line ++ body) ∷ whole_lines [] rest
 whole_first line [] rest is = ap (λ (first : List ℕ). first ∷ whole_lines [] rest) (sym (append-nil line))
-whole_first line (x ∷ body) rest is =
-    let lines : List (List ℕ) = whole_lines [] (body ++ 10 ∷ rest) in
-    let later : List (List ℕ) = whole_lines (line ++ x ∷ []) (body ++ 10 ∷ rest) in
-    ap (λ (feed : Bool). if feed then line ∷ lines else later) (unbroken_first x body is)
-    ∙ whole_first (line ++ x ∷ []) body rest (unbroken_rest x body is)
-    ∙ ap (λ (first : List ℕ). first ∷ whole_lines [] rest) (append_assoc line (x ∷ []) body)
+whole_first line (x ∷ body) rest is = grind (arith, nat_tests, whole_first (line ++ x ∷ []) body rest (unbroken_rest x body is), unbroken_first, unbroken_rest, append_assoc)
 
 -- a line begins so exactly where it is a commit's
 tells_commit : (one : Line) → tells (body_of one) ≡ is_commit one
-tells_commit (line.Open number) = refl
-tells_commit (line.Begin activation name) = refl
-tells_commit (line.Busy activation name) = refl
-tells_commit (line.NoSegment activation name segment) = refl
-tells_commit (line.Idle activation) = refl
-tells_commit (line.Turn activation ran pages locks) = refl
-tells_commit (line.Cycle []) = refl
-tells_commit (line.Cycle (member ∷ members)) = refl
-tells_commit (line.Victim activation) = refl
-tells_commit (line.Commit activation number steps out) = refl
-tells_commit (line.Check activation code address) = refl
-tells_commit (line.Wait activation holders) = refl
-tells_commit (line.Journal activation lines limit) = refl
-tells_commit (line.Disk activation) = refl
-tells_commit (line.Doubt activation number) = refl
-tells_commit line.Closed = refl
-tells_commit (line.Stored number) = refl
-tells_commit (line.Lost activation) = refl
-tells_commit (line.Left activation) = refl
-tells_commit (line.End number) = refl
+tells_commit one = grind (arith, nat_tests)
 
 -- lines whose names have no line feed
 abbrev pub ArePlain : List Line → Type 0
@@ -88,12 +64,8 @@ seen_lines (first ∷ lines) rest are =
     let whole : commits_seen (line_text first ++ flat_map line_text lines ++ rest) ≡ count_by tells (body_of first ∷ []) + commits_seen tail =
     ap commits_seen bytes ∙ ap (count_by tells) (whole_first [] (body_of first) tail (body-unbroken first are.0)) ∙ counted_on (body_of first ∷ []) (whole_lines [] tail) in
     let head : count_by tells (body_of first ∷ []) ≡ commits_in (first ∷ []) = ap (λ (is : Bool). 0 + cond is 1 0) (tells_commit first) in
-    let later = seen_lines lines rest are.1 in
     let split : commits_in (first ∷ lines) ≡ commits_in (first ∷ []) + commits_in lines = commits_on (first ∷ []) lines in
-    omega (arith, whole, head, later, split)
+    omega (arith, whole, head, seen_lines lines rest are.1, split)
 
 pub seen_all : (lines : List Line) → ArePlain lines → commits_seen (flat_map line_text lines) ≡ commits_in lines
-seen_all lines are =
-    let all = seen_lines lines [] are in
-    let same : commits_seen (flat_map line_text lines ++ []) ≡ commits_seen (flat_map line_text lines) = ap commits_seen (append-nil (flat_map line_text lines)) in
-    omega (arith, all, same)
+seen_all lines are = grind (arith, nat_tests, seen_lines lines [] are, append-nil (flat_map line_text lines))

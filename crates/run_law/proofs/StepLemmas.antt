@@ -1,5 +1,6 @@
 -- What a step of an open desk does to its order, and the lines that it has.
-use Rattle.run_law.proofs.Common.{◌≡◌, ℕ, ◌+◌, ◌≤◌, List, [], ◌∷◌, ◌++◌, length, map, refl, sym, ap, ◌∙◌, subst, arith, append-nil, append_assoc, length-append, inl, inr, ⊎_elim, ◌⊎◌, flat_map, Program, Activation, Event, Desk, numbers, Word, Fine, ReadFailed, Unwritten, Doubt, Failed, Counts, Ending, Idle, Limit, Checked, Journal, Disk, Victim, Waits, Committed, CommitUnwritten, CommitDoubted, Turning, Going, Over, turn, Happening, Nothing, Begun, Busy, NoSegment, Turned, CheckpointMade, CheckpointFailed, Crashed, CrashFailed, Step, event_of, step, turned, run, begins, begin_if, absent_segment, OpenBeforeEach, Line, number_after, happening_lines, turn_lines, ending_lines, cycle_lines, event_lines, IsUnbroken, EndsInDoubt}
+use Rattle.std.proofs.lemmas.Bool.Decides.{nat_tests}
+use Rattle.run_law.proofs.Common.{◌≡◌, ℕ, ◌+◌, ◌≤◌, List, [], ◌∷◌, ◌++◌, length, map, refl, sym, ap, ◌∙◌, subst, arith, append-nil, append_assoc, length-append, inl, inr, ⊎_elim, ◌⊎◌, flat_map, Program, Activation, Event, Desk, numbers, Word, Fine, Doubt, Failed, Counts, Ending, Idle, Limit, Victim, Committed, CommitUnwritten, CommitDoubted, Turning, Going, Over, turn, Happening, Nothing, Busy, Turned, Crashed, CrashFailed, Step, event_of, step, turned, run, begins, begin_if, absent_segment, OpenBeforeEach, Line, number_after, happening_lines, turn_lines, ending_lines, cycle_lines, event_lines, IsUnbroken, EndsInDoubt}
 use Rattle.std.specs.Prelude.{Bool, true, false, not, if◌then◌else◌, Some, None, Option, IsTrue, slice_get, slice_index_or, nat_lt}
 use Rattle.desk.specs.declared.event.Event.TheVariants as event
 use Rattle.desk.specs.Lines as line
@@ -8,9 +9,7 @@ use Rattle.run_law.proofs.TurnLemmas.{StaysOpen, Ended, Ends, turn_ends}
 
 -- an open desk takes the event
 pub stepped : (programs : List Program) (event : Event) (word : Word) (desk : Desk) → desk.closed ≡ false → step programs event word desk ≡ event_of programs event word desk
-stepped programs event word desk was_open =
-    let stays : Step = record { desk = desk; happening = Nothing } in
-    ap (λ (shut : Bool). if shut then stays else event_of programs event word desk) was_open
+stepped programs event word desk was_open = grind (arith, nat_tests)
 
 -- the lines of rollbacks have no commit
 cycles_quiet : (cycles : List (List ℕ)) → commits_in (flat_map cycle_lines cycles) ≡ 0
@@ -18,11 +17,7 @@ cycles_quiet [] = refl
 cycles_quiet (cycle ∷ cycles) = let split = commits_on (cycle_lines cycle) (flat_map cycle_lines cycles) in let rest = cycles_quiet cycles in omega (arith, split, rest)
 
 pub counted_quiet : (activation : ℕ) (counts : Counts) (ends : List Line) → commits_in (line.Turn activation counts.ran counts.pages counts.locks ∷ (flat_map cycle_lines counts.cycles ++ ends)) ≡ commits_in ends
-counted_quiet activation counts ends =
-    let one = commits_on (line.Turn activation counts.ran counts.pages counts.locks ∷ []) (flat_map cycle_lines counts.cycles ++ ends) in
-    let two = commits_on (flat_map cycle_lines counts.cycles) ends in
-    let three = cycles_quiet counts.cycles in
-    omega (arith, one, two, three)
+counted_quiet activation counts ends = grind (arith, nat_tests, commits_on, cycles_quiet)
 
 -- what a step of an open desk did: its order grew, it has no more commit lines than it made commits and none where it closed the desk,
 -- as many where it left the desk open or its word is no doubt, and it leaves the desk open where its word is fine
@@ -37,34 +32,14 @@ pub record Stepped (word : Word) (order : List (ℕ × ℕ)) (names : List (List
 module _ (word : Word) (order : List (ℕ × ℕ)) (names : List (List ℕ)) where
   -- it stays open, with no commit line
   stayed : (after : Step) → StaysOpen order after.desk → ((number : ℕ) → commits_in (happening_lines names number after.happening) ≡ 0) → Stepped word order names after
-  stayed after is none = record {
-    more = [];
-    order_is = is.1 ∙ sym (append-nil order);
-    few = λ number. let no = none number in omega (arith, no);
-    quiet = λ shut number. none number;
-    settled = λ cause number. omega arith;
-    stays = λ fine. is.0;
-  }
+  stayed after is none = grind (arith, nat_tests, append-nil order)
 
   -- it closed, with no commit line
   shut_by : (after : Step) → after.desk.order ≡ order → (word ≡ Fine → ⊥) → ((number : ℕ) → commits_in (happening_lines names number after.happening) ≡ 0) → Stepped word order names after
-  shut_by after is broken none = record {
-    more = [];
-    order_is = is ∙ sym (append-nil order);
-    few = λ number. let no = none number in omega (arith, no);
-    quiet = λ shut number. none number;
-    settled = λ cause number. omega arith;
-    stays = λ fine. absurd (broken fine);
-  }
+  shut_by after is broken none = grind (arith, nat_tests, append-nil order)
 
   ended_by : (activation : ℕ) (desk : Desk) (counts : Counts) (ending : Ending) → Ended word order desk ending → Stepped word order names (record { desk = desk; happening = Turned activation counts ending })
   ended_by activation desk counts Idle ended = stayed (record { desk = desk; happening = Turned activation counts Idle }) ended (λ number. refl)
-  ended_by activation desk counts Limit ended = stayed (record { desk = desk; happening = Turned activation counts Limit }) ended (λ number. counted_quiet activation counts [])
-  ended_by activation desk counts (Checked code address) ended = stayed (record { desk = desk; happening = Turned activation counts (Checked code address) }) ended (λ number. counted_quiet activation counts (line.Check activation code address ∷ []))
-  ended_by activation desk counts (Journal lines limit) ended = stayed (record { desk = desk; happening = Turned activation counts (Journal lines limit) }) ended (λ number. counted_quiet activation counts (line.Journal activation lines limit ∷ []))
-  ended_by activation desk counts Disk ended = stayed (record { desk = desk; happening = Turned activation counts Disk }) ended (λ number. counted_quiet activation counts (line.Disk activation ∷ []))
-  ended_by activation desk counts Victim ended = stayed (record { desk = desk; happening = Turned activation counts Victim }) ended (λ number. counted_quiet activation counts [])
-  ended_by activation desk counts (Waits holders) ended = stayed (record { desk = desk; happening = Turned activation counts (Waits holders) }) ended (λ number. counted_quiet activation counts (line.Wait activation holders ∷ []))
   ended_by activation desk counts (Committed steps printed) ended = record {
     more = ended.1.0 ∷ [];
     order_is = ended.1.1;
@@ -82,6 +57,7 @@ module _ (word : Word) (order : List (ℕ × ℕ)) (names : List (List ℕ)) whe
     settled = λ cause number. absurd (⊎_elim (λ still. let no : true ≡ false = sym ended.0 ∙ still in cc) (λ never. never ended.2) cause);
     stays = λ fine. absurd (let no : Fine ≡ Doubt = sym fine ∙ ended.2 in cc);
   }
+  ended_by activation desk counts ending ended = stayed (record { desk = desk; happening = Turned activation counts ending }) ended (λ number. counted_quiet activation counts (ending_lines number activation ending))
 
   turned_by : (activation : ℕ) (turning : Turning) → Ends word order turning → Stepped word order names (turned activation turning)
   turned_by activation (Going desk counts) ends = absurd ends
@@ -110,18 +86,12 @@ pub lost_behind : (lost : List ℕ) (last : Line) → commits_in (last ∷ []) �
 lost_behind lost last none = let split = commits_on (map line.Lost lost) (last ∷ []) in let rest = lost_quiet lost in omega (arith, split, rest, none)
 
 checkpoint_by : (programs : List Program) (word : Word) (names : List (List ℕ)) (desk : Desk) → desk.closed ≡ false → Stepped word desk.order names (event_of programs event.Checkpoint word desk)
-checkpoint_by programs Fine names desk is = stayed Fine desk.order names (event_of programs event.Checkpoint Fine desk) (is, refl) (λ number. refl)
-checkpoint_by programs (ReadFailed page) names desk is = stayed (ReadFailed page) desk.order names (event_of programs event.Checkpoint (ReadFailed page) desk) (is, refl) (λ number. refl)
-checkpoint_by programs Unwritten names desk is = stayed Unwritten desk.order names (event_of programs event.Checkpoint Unwritten desk) (is, refl) (λ number. refl)
-checkpoint_by programs Doubt names desk is = stayed Doubt desk.order names (event_of programs event.Checkpoint Doubt desk) (is, refl) (λ number. refl)
 checkpoint_by programs Failed names desk is = shut_by Failed desk.order names (event_of programs event.Checkpoint Failed desk) refl (λ fine. cc) (λ number. refl)
+checkpoint_by programs word names desk is = stayed word desk.order names (event_of programs event.Checkpoint word desk) (is, refl) (λ number. refl)
 
 crash_by : (programs : List Program) (word : Word) (names : List (List ℕ)) (desk : Desk) → desk.closed ≡ false → Stepped word desk.order names (event_of programs event.Crash word desk)
-crash_by programs Fine names desk is = stayed Fine desk.order names (event_of programs event.Crash Fine desk) (is, refl) (λ number. lost_behind (numbers desk) (line.Open number) refl)
-crash_by programs (ReadFailed page) names desk is = stayed (ReadFailed page) desk.order names (event_of programs event.Crash (ReadFailed page) desk) (is, refl) (λ number. lost_behind (numbers desk) (line.Open number) refl)
-crash_by programs Unwritten names desk is = stayed Unwritten desk.order names (event_of programs event.Crash Unwritten desk) (is, refl) (λ number. lost_behind (numbers desk) (line.Open number) refl)
-crash_by programs Doubt names desk is = stayed Doubt desk.order names (event_of programs event.Crash Doubt desk) (is, refl) (λ number. lost_behind (numbers desk) (line.Open number) refl)
 crash_by programs Failed names desk is = shut_by Failed desk.order names (event_of programs event.Crash Failed desk) refl (λ fine. cc) (λ number. lost_behind (numbers desk) line.Closed refl)
+crash_by programs word names desk is = stayed word desk.order names (event_of programs event.Crash word desk) (is, refl) (λ number. lost_behind (numbers desk) (line.Open number) refl)
 
 event_by : (programs : List Program) (one : Event) (word : Word) (names : List (List ℕ)) (desk : Desk) → desk.closed ≡ false → Stepped word desk.order names (event_of programs one word desk)
 event_by programs (event.Begin program args) word names desk is = code_by word desk.order names program args (slice_get programs program) desk (is, refl)
@@ -144,14 +114,9 @@ cycles_plain (cycle ∷ cycles) = (tt, (tt, cycles_plain cycles))
 endings_plain : (number activation : ℕ) (ending : Ending) → ArePlain (ending_lines number activation ending)
 endings_plain number activation Idle = tt
 endings_plain number activation Limit = tt
-endings_plain number activation (Checked code address) = (tt, tt)
-endings_plain number activation (Journal lines limit) = (tt, tt)
-endings_plain number activation Disk = (tt, tt)
 endings_plain number activation Victim = tt
-endings_plain number activation (Waits holders) = (tt, tt)
-endings_plain number activation (Committed steps printed) = (tt, tt)
-endings_plain number activation CommitUnwritten = (tt, tt)
 endings_plain number activation CommitDoubted = (tt, (tt, tt))
+endings_plain number activation _ = (tt, tt)
 
 counted_plain : (number activation : ℕ) (counts : Counts) (ending : Ending) → ArePlain (line.Turn activation counts.ran counts.pages counts.locks ∷ (flat_map cycle_lines counts.cycles ++ ending_lines number activation ending))
 counted_plain number activation counts ending =
@@ -159,30 +124,17 @@ counted_plain number activation counts ending =
 
 turn_plain : (number activation : ℕ) (counts : Counts) (ending : Ending) → ArePlain (turn_lines number activation counts ending)
 turn_plain number activation counts Idle = (tt, tt)
-turn_plain number activation counts Limit = counted_plain number activation counts Limit
-turn_plain number activation counts (Checked code address) = counted_plain number activation counts (Checked code address)
-turn_plain number activation counts (Journal lines limit) = counted_plain number activation counts (Journal lines limit)
-turn_plain number activation counts Disk = counted_plain number activation counts Disk
-turn_plain number activation counts Victim = counted_plain number activation counts Victim
-turn_plain number activation counts (Waits holders) = counted_plain number activation counts (Waits holders)
-turn_plain number activation counts (Committed steps printed) = counted_plain number activation counts (Committed steps printed)
-turn_plain number activation counts CommitUnwritten = counted_plain number activation counts CommitUnwritten
-turn_plain number activation counts CommitDoubted = counted_plain number activation counts CommitDoubted
+turn_plain number activation counts ending = counted_plain number activation counts ending
 
 lost_plain : (lost : List ℕ) → ArePlain (map line.Lost lost)
 lost_plain [] = tt
 lost_plain (activation ∷ lost) = (tt, lost_plain lost)
 
 pub happening_plain : (names : List (List ℕ)) → AreNames names → (number : ℕ) (happening : Happening) → ArePlain (happening_lines names number happening)
-happening_plain names are number Nothing = tt
-happening_plain names are number (Begun activation program) = (are program, tt)
-happening_plain names are number (Busy activation program) = (are program, tt)
-happening_plain names are number (NoSegment activation program segment) = (are program, tt)
 happening_plain names are number (Turned activation counts ending) = turn_plain number activation counts ending
-happening_plain names are number CheckpointMade = (tt, tt)
-happening_plain names are number CheckpointFailed = (tt, tt)
 happening_plain names are number (Crashed lost) = plain_on (map line.Lost lost) (line.Open number ∷ []) (lost_plain lost) (tt, tt)
 happening_plain names are number (CrashFailed lost) = plain_on (map line.Lost lost) (line.Closed ∷ []) (lost_plain lost) (tt, tt)
+happening_plain names are number _ = grind (arith, are)
 
 module _ (programs : List Program) (names : List (List ℕ)) (number : ℕ) where
   -- the lines of a run have no line feed in a name
@@ -193,11 +145,7 @@ module _ (programs : List Program) (names : List (List ℕ)) (number : ℕ) wher
       plain_on (happening_lines names (number_after number after.desk) after.happening) (event_lines names programs number taken after.desk) (happening_plain names are (number_after number after.desk) after.happening) (run_plain are taken after.desk)
 
   open_is : (desk : Desk) → IsTrue (not desk.closed) → desk.closed ≡ false
-  open_is desk is = by_test desk.closed is
-    where
-      by_test : (shut : Bool) → IsTrue (not shut) → shut ≡ false
-      by_test true is = cc
-      by_test false is = refl
+  open_is desk is = grind (arith, nat_tests)
 
   -- a run that is open at its end, or whose last event didn't end in doubt
   abbrev pub IsSettled : List (Event × Word) → Desk → Type 0
@@ -228,14 +176,8 @@ module _ (programs : List Program) (names : List (List ℕ)) (number : ℕ) wher
       record {
         more = first.more ++ rest.more;
         order_is = rest.order_is ∙ ap (λ (front : List (ℕ × ℕ)). front ++ rest.more) first.order_is ∙ append_assoc desk.order first.more rest.more;
-        few =
-            let split = commits_on (happening_lines names (number_after number after.desk) after.happening) (event_lines names programs number taken after.desk) in
-            let here = first.few (number_after number after.desk) in
-            let later = rest.few in
-            omega (arith, split, here, later, length-append first.more rest.more);
+        few = omega (arith, commits_on (happening_lines names (number_after number after.desk) after.happening) (event_lines names programs number taken after.desk), first.few (number_after number after.desk), rest.few, length-append first.more rest.more);
         settled = λ cause.
-            let split = commits_on (happening_lines names (number_after number after.desk) after.happening) (event_lines names programs number taken after.desk) in
-            let here = first.settled (settled_first one taken desk each_open cause) (number_after number after.desk) in
             let later = rest.settled (settled_rest one taken desk cause) in
-            omega (arith, split, here, later, length-append first.more rest.more);
+            omega (arith, commits_on (happening_lines names (number_after number after.desk) after.happening) (event_lines names programs number taken after.desk), first.settled (settled_first one taken desk each_open cause) (number_after number after.desk), later, length-append first.more rest.more);
       }

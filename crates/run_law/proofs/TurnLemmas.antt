@@ -1,9 +1,10 @@
 -- What a turn leaves of a desk: whether it is closed, and what its order is.
-use Rattle.run_law.proofs.Common.{◌≡◌, ℕ, zero, suc, List, [], ◌∷◌, refl, ap, ◌+◌, ◌++◌, Desk, Entry, with_entry, rolled_back, wanted, conflicts_of, numbers, waits_for, Word, Fine, ReadFailed, Unwritten, Doubt, Failed, Counts, Ending, Committed, CommitUnwritten, CommitDoubted, Turning, Going, Over, Attempt, Contest, Contested, Settled, Lost, Fetching, Fetched, Broken, commits, takes_effect, goes_on, gets, with_grants, fetches_touched, breaks_cycle, breaks_cycles, waits_or_gets, contest_ends, asks, refused_pages, fetched_first, limited, is_over_limit, attempts, attempts_at, instruction, turns, turn, turn_of, no_counts}
-use Rattle.std.specs.Prelude.{Bool, true, false, Option, Some, None, find, ◌==◌, length}
-use Rattle.lock_rules.specs.Waits.{shown_cycle, victim_of}
+use Rattle.std.proofs.lemmas.Bool.Decides.{nat_tests}
+use Rattle.run_law.proofs.Common.{◌≡◌, ℕ, zero, suc, List, [], ◌∷◌, refl, ap, ◌+◌, ◌++◌, Desk, Entry, rolled_back, wanted, conflicts_of, numbers, waits_for, Word, Fine, Unwritten, Doubt, Counts, Ending, Committed, CommitUnwritten, CommitDoubted, Turning, Going, Over, Attempt, Contest, Contested, Settled, Lost, Fetching, Fetched, Broken, commits, takes_effect, goes_on, gets, with_grants, fetches_touched, breaks_cycle, breaks_cycles, waits_or_gets, contest_ends, asks, fetched_first, limited, is_over_limit, attempts, attempts_at, instruction, turns, turn, arith}
+use Rattle.std.specs.Prelude.{Bool, true, false, Option, Some, None, find, ◌==◌}
+use Rattle.lock_rules.specs.Waits.{shown_cycle}
 use Rattle.flat_machine.specs.declared.machine.Plain.{Plain}
-use Rattle.flat_machine.specs.Row.{Outcome, On, Commit, Check, row}
+use Rattle.flat_machine.specs.Row.{Outcome, Commit, Check, row}
 use Rattle.flat_machine.specs.After.{after}
 
 -- an open desk with this order
@@ -41,16 +42,13 @@ module _ (order : List (ℕ × ℕ)) where
   one_more attempt desk is = ((attempt.entry.number, attempt.entry.rows + 1), ap (λ (front : List (ℕ × ℕ)). front ++ (attempt.entry.number, attempt.entry.rows + 1) ∷ []) is)
 
   commits_keeps : (word : Word) (attempt : Attempt) (desk : Desk) (counts : Counts) → StaysOpen order desk → Keeps word order (commits word attempt desk counts)
-  commits_keeps Fine attempt desk counts was_open = (was_open.0, one_more attempt desk was_open.1)
-  commits_keeps (ReadFailed page) attempt desk counts was_open = (was_open.0, one_more attempt desk was_open.1)
   commits_keeps Unwritten attempt desk counts was_open = (refl, was_open.1, λ is. cc)
   commits_keeps Doubt attempt desk counts was_open = (refl, one_more attempt desk was_open.1, refl)
-  commits_keeps Failed attempt desk counts was_open = (was_open.0, one_more attempt desk was_open.1)
+  commits_keeps _ attempt desk counts was_open = (was_open.0, one_more attempt desk was_open.1)
 
   takes_effect_keeps : (word : Word) (attempt : Attempt) (outcome : Outcome) (desk : Desk) (counts : Counts) → StaysOpen order desk → Keeps word order (takes_effect word attempt outcome desk counts)
-  takes_effect_keeps word attempt (On after) desk counts was_open = was_open
   takes_effect_keeps word attempt Commit desk counts was_open = commits_keeps word attempt desk counts was_open
-  takes_effect_keeps word attempt (Check code) desk counts was_open = was_open
+  takes_effect_keeps word attempt _ desk counts was_open = was_open
 
   goes_on_keeps : (word : Word) (attempt : Attempt) (desk : Desk) (counts : Counts) (fetching : Fetching) → StaysOpen order desk → Keeps word order (goes_on word attempt desk counts fetching)
   goes_on_keeps word attempt desk counts (Fetched resident counted) was_open =
@@ -81,18 +79,13 @@ module _ (order : List (ℕ × ℕ)) where
   breaks_cycle_keeps : (number : ℕ) (cycle : Option (List ℕ)) (desk : Desk) (counts : Counts) → StaysOpen order desk → KeepsOpen order (breaks_cycle number cycle desk counts)
   unfolding without
   breaks_cycle_keeps number None desk counts was_open = was_open
-  breaks_cycle_keeps number (Some cycle) desk counts was_open =
-      let left = without desk (find (λ entry. entry.number == victim_of cycle) desk.active) in
-      let kept = without_keeps desk (find (λ entry. entry.number == victim_of cycle) desk.active) was_open in
-      judged_keeps left (record counts { cycles = counts.cycles ++ cycle ∷ [] }) (victim_of cycle == number) kept
+  breaks_cycle_keeps number (Some cycle) desk counts was_open = grind (arith, nat_tests, without, without_keeps, judged_keeps)
 
   breaks_cycles_keeps : (left number : ℕ) (contest : Contest) → KeepsOpen order contest → KeepsOpen order (breaks_cycles left number contest)
-  breaks_cycles_keeps zero number contest kept = kept
   breaks_cycles_keeps (suc left) number (Contested desk counts) kept =
       breaks_cycles_keeps left number (breaks_cycle number (shown_cycle (waits_for desk) (numbers desk) number) desk counts)
       (breaks_cycle_keeps number (shown_cycle (waits_for desk) (numbers desk) number) desk counts kept)
-  breaks_cycles_keeps (suc left) number (Settled desk counts) kept = kept
-  breaks_cycles_keeps (suc left) number (Lost desk counts) kept = kept
+  breaks_cycles_keeps _ number _ kept = kept
 
   waits_or_gets_keeps : (word : Word) (attempt : Attempt) (refused holders : List ℕ) (desk : Desk) (counts : Counts) → StaysOpen order desk → Keeps word order (waits_or_gets word attempt refused holders desk counts)
   waits_or_gets_keeps word attempt refused [] desk counts was_open = gets_keeps word attempt refused desk counts was_open
@@ -105,15 +98,10 @@ module _ (order : List (ℕ × ℕ)) where
 
   asks_keeps : (word : Word) (attempt : Attempt) (refused holders : List ℕ) (desk : Desk) (counts : Counts) → StaysOpen order desk → Keeps word order (asks word attempt refused holders desk counts)
   asks_keeps word attempt refused [] desk counts was_open = gets_keeps word attempt refused desk counts was_open
-  asks_keeps word attempt refused (holder ∷ holders) desk counts was_open =
-      contest_ends_keeps word attempt refused (breaks_cycles (length desk.active) attempt.entry.number (Contested (with_entry desk (record attempt.entry { waiting = true })) counts))
-      (breaks_cycles_keeps (length desk.active) attempt.entry.number (Contested (with_entry desk (record attempt.entry { waiting = true })) counts) was_open)
+  asks_keeps word attempt refused (holder ∷ holders) desk counts was_open = grind (arith, nat_tests, contest_ends_keeps, breaks_cycles_keeps)
 
   fetched_first_keeps : (word : Word) (attempt : Attempt) (desk : Desk) (counts : Counts) (fetching : Fetching) → StaysOpen order desk → Keeps word order (fetched_first word attempt desk counts fetching)
-  fetched_first_keeps word attempt desk counts (Fetched resident counted) was_open =
-      let there : Desk = record desk { resident = resident } in
-      let paged : Counts = record counts { pages = counted } in
-      asks_keeps word attempt (refused_pages attempt there) (conflicts_of there attempt.entry) there (record paged { locks = paged.locks + length (refused_pages attempt there) }) was_open
+  fetched_first_keeps word attempt desk counts (Fetched resident counted) was_open = grind (arith, nat_tests, asks_keeps)
   fetched_first_keeps word attempt desk counts (Broken counted) was_open = was_open
 
   limited_keeps : (over : Bool) (word : Word) (attempt : Attempt) (desk : Desk) (counts : Counts) → StaysOpen order desk → Keeps word order (limited over word attempt desk counts)
@@ -122,8 +110,7 @@ module _ (order : List (ℕ × ℕ)) where
 
   attempts_keeps : (word : Word) (attempt : Attempt) (outcome : Outcome) (desk : Desk) (counts : Counts) → StaysOpen order desk → Keeps word order (attempts word attempt outcome desk counts)
   attempts_keeps word attempt (Check code) desk counts was_open = was_open
-  attempts_keeps word attempt (On after) desk counts was_open = limited_keeps (is_over_limit attempt desk) word attempt desk counts was_open
-  attempts_keeps word attempt Commit desk counts was_open = limited_keeps (is_over_limit attempt desk) word attempt desk counts was_open
+  attempts_keeps word attempt _ desk counts was_open = limited_keeps (is_over_limit attempt desk) word attempt desk counts was_open
 
   attempts_at_keeps : (word : Word) (entry : Entry) (now : Option Plain) (desk : Desk) (counts : Counts) → StaysOpen order desk → Keeps word order (attempts_at word entry now desk counts)
   attempts_at_keeps word entry None desk counts was_open = was_open
@@ -146,8 +133,4 @@ module _ (order : List (ℕ × ℕ)) where
 
   -- each turn of an open desk comes to an end
   pub turn_ends : (word : Word) (number limit : ℕ) (desk : Desk) → StaysOpen order desk → Ends word order (turn word number limit desk)
-  turn_ends word number limit desk was_open = by_entry (find (λ (entry : Entry). entry.number == number) desk.active)
-    where
-      by_entry : (one : Option Entry) → Ends word order (turn_of one word number limit desk)
-      by_entry None = was_open
-      by_entry (Some entry) = turns_end word number limit (Going desk no_counts) was_open
+  turn_ends word number limit desk was_open = grind (arith, nat_tests, turns_end)

@@ -1,19 +1,17 @@
 -- Bytes without a line feed, and the lines of a report.
-use Rattle.run_law.proofs.Common.{◌==◌, ◌||◌, nat_lt, if◌then◌else◌, slice_index, decimal, list_any, join_with_byte, Line, line_text, printed, IsUnbroken}
-use Rattle.std.proofs.Common.{◌≡◌, ℕ, zero, suc, ◌+◌, ◌/◌, ◌%◌, Bool, true, false, List, [], ◌∷◌, ◌++◌, map, refl, codes, arith}
+use Rattle.std.proofs.lemmas.Bool.Decides.{nat_tests}
+use Rattle.run_law.proofs.Common.{◌==◌, ◌||◌, if◌then◌else◌, slice_index, decimal, list_any, join_with_byte, Line, line_text, printed, IsUnbroken}
+use Rattle.std.proofs.Common.{◌≡◌, ℕ, zero, suc, ◌/◌, ◌%◌, Bool, true, false, List, [], ◌∷◌, ◌++◌, map, refl, codes, arith, rules}
 use Rattle.std.specs.Fmt.{digits, digits_onto, digit_glyph}
-use Rattle.std.proofs.lemmas.Bool.{ne_eqb}
 use Rattle.byteorder.specs.Endian.{big_bytes}
 use Rattle.hex.specs.Hex.{encode_with, encode_lower, lower_digits}
 use Rattle.desk.specs.Lines as line
 
 or_parts : (a b : Bool) → a || b ≡ false → (a ≡ false) × (b ≡ false)
-or_parts true b is = cc
-or_parts false b is = (refl, is)
+or_parts a b h1 = grind (arith, nat_tests)
 
 or_both : (a b : Bool) → a ≡ false → b ≡ false → a || b ≡ false
-or_both true b one two = cc
-or_both false b one two = two
+or_both a b h1 h2 = grind (arith, nat_tests)
 
 pub unbroken_first : (x : ℕ) (xs : List ℕ) → IsUnbroken (x ∷ xs) → (x == 10) ≡ false
 unbroken_first x xs is = (or_parts (x == 10) (list_any (λ byte. byte == 10) xs) is).0
@@ -30,11 +28,7 @@ unbroken_on (x ∷ xs) ys one two = unbroken_more x (xs ++ ys) (unbroken_first x
 
 -- digits
 glyph-unbroken : (d : ℕ) → (digit_glyph false d == 10) ≡ false
-glyph-unbroken d = by_size (nat_lt d 10)
-  where
-    by_size : (small : Bool) → ((if small then 48 + d else 87 + d) == 10) ≡ false
-    by_size true = ne_eqb (48 + d) 10 (λ is. omega arith)
-    by_size false = ne_eqb (87 + d) 10 (λ is. omega arith)
+glyph-unbroken d = grind (arith, nat_tests)
 
 digits_onto-unbroken : (k n : ℕ) (acc : List ℕ) → IsUnbroken acc → IsUnbroken (digits_onto k 10 false n acc)
 digits_onto-unbroken zero n acc is = is
@@ -58,9 +52,7 @@ index-unbroken (x ∷ xs) (suc k) is = index-unbroken xs k (unbroken_rest x xs i
 hex-unbroken : (table bytes : List ℕ) → IsUnbroken table → IsUnbroken (encode_with table bytes)
 unfolding encode_with
 hex-unbroken table [] is = refl
-hex-unbroken table (byte ∷ bytes) is =
-    unbroken_more (slice_index table (byte / 16)) (slice_index table (byte % 16) ∷ encode_with table bytes) (index-unbroken table (byte / 16) is)
-    (unbroken_more (slice_index table (byte % 16)) (encode_with table bytes) (index-unbroken table (byte % 16) is) (hex-unbroken table bytes is))
+hex-unbroken table (byte ∷ bytes) is = grind (arith, nat_tests, hex-unbroken table bytes is, unbroken_more, index-unbroken)
 
 printed-unbroken : (bytes : List ℕ) → IsUnbroken (printed bytes)
 printed-unbroken [] = refl
@@ -112,25 +104,7 @@ abbrev pub body_of : Line → List ℕ
 body_of line = join_with_byte 32 (words_of line)
 
 pub text_is : (one : Line) → line_text one ≡ body_of one ++ 10 ∷ []
-text_is (line.Open number) = refl
-text_is (line.Begin activation name) = refl
-text_is (line.Busy activation name) = refl
-text_is (line.NoSegment activation name segment) = refl
-text_is (line.Idle activation) = refl
-text_is (line.Turn activation ran pages locks) = refl
-text_is (line.Cycle members) = refl
-text_is (line.Victim activation) = refl
-text_is (line.Commit activation number steps out) = refl
-text_is (line.Check activation code address) = refl
-text_is (line.Wait activation holders) = refl
-text_is (line.Journal activation lines limit) = refl
-text_is (line.Disk activation) = refl
-text_is (line.Doubt activation number) = refl
-text_is line.Closed = refl
-text_is (line.Stored number) = refl
-text_is (line.Lost activation) = refl
-text_is (line.Left activation) = refl
-text_is (line.End number) = refl
+text_is one = grind (arith, nat_tests)
 
 -- a line whose name, if it has one, has no line feed
 abbrev pub IsPlain : Line → Type 0
@@ -140,29 +114,13 @@ IsPlain (line.NoSegment activation name segment) = IsUnbroken name
 IsPlain _ = Unit {0}
 
 words-unbroken : (one : Line) → IsPlain one → AreUnbroken (words_of one)
-words-unbroken (line.Open number) is = (refl, (decimal-unbroken number, tt))
-words-unbroken (line.Begin activation name) is = (refl, (decimal-unbroken activation, (is, tt)))
-words-unbroken (line.Busy activation name) is = (refl, (decimal-unbroken activation, (is, tt)))
-words-unbroken (line.NoSegment activation name segment) is = (refl, (decimal-unbroken activation, (is, (decimal-unbroken segment, tt))))
-words-unbroken (line.Idle activation) is = (refl, (decimal-unbroken activation, tt))
-words-unbroken (line.Turn activation ran pages locks) is =
-    (refl, (decimal-unbroken activation, (refl, (decimal-unbroken ran, (refl, (decimal-unbroken pages, (refl, (decimal-unbroken locks, tt))))))))
 words-unbroken (line.Cycle members) is = (refl, decimals-unbroken members)
-words-unbroken (line.Victim activation) is = (refl, (decimal-unbroken activation, tt))
 words-unbroken (line.Commit activation number steps out) is =
     (refl, (decimal-unbroken activation, (refl, (decimal-unbroken number, (refl, (decimal-unbroken steps, (refl, (printed-unbroken out, tt))))))))
 words-unbroken (line.Check activation code address) is =
     (refl, (decimal-unbroken activation, (refl, (decimal-unbroken code, (refl, (hex-unbroken lower_digits (big_bytes 4 address) refl, tt))))))
 words-unbroken (line.Wait activation holders) is = (refl, (decimal-unbroken activation, (refl, decimals-unbroken holders)))
-words-unbroken (line.Journal activation lines limit) is =
-    (refl, (decimal-unbroken activation, (refl, (decimal-unbroken lines, (refl, (decimal-unbroken limit, tt))))))
-words-unbroken (line.Disk activation) is = (refl, (decimal-unbroken activation, tt))
-words-unbroken (line.Doubt activation number) is = (refl, (decimal-unbroken activation, (refl, (decimal-unbroken number, tt))))
-words-unbroken line.Closed is = (refl, tt)
-words-unbroken (line.Stored number) is = (refl, (decimal-unbroken number, tt))
-words-unbroken (line.Lost activation) is = (refl, (decimal-unbroken activation, tt))
-words-unbroken (line.Left activation) is = (refl, (decimal-unbroken activation, tt))
-words-unbroken (line.End number) is = (refl, (decimal-unbroken number, tt))
+words-unbroken _ is = search (rules, decimal-unbroken)
 
 pub body-unbroken : (one : Line) → IsPlain one → IsUnbroken (body_of one)
 body-unbroken one is = joined-unbroken (words_of one) (words-unbroken one is)
