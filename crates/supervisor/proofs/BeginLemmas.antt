@@ -1,6 +1,6 @@
 -- What a begin leaves of a session.
-use Rattle.supervisor.proofs.Common.{◌≡◌, ℕ, ◌+◌, ◌-◌, ◌*◌, ◌<◌, ◌≤◌, List, [], ◌∷◌, length, refl, sym, ◌∙◌, ap, subst, arith, Option, Some, None, length-append, Bool, true, false, ◌==◌, eqb-true, sitter, newcomer, next_seat, Begun, begun_told, Desk, Fine, Step, absent_segment, step, Activations, Activity, program_at, desk_over, IsBegin, begins, begins_by, KeepsDesk, AreRowsWithin, activity_of, Session, IsSound, activity, session_desk, order_of, ShowsDesk}
-use Rattle.seats.specs.declared.seat.Seat.{Seat}
+use Rattle.std.proofs.lemmas.Bool.Decides.{nat_tests}
+use Rattle.supervisor.proofs.Common.{◌≡◌, ℕ, ◌+◌, ◌-◌, ◌*◌, ◌<◌, ◌≤◌, List, [], ◌∷◌, length, refl, sym, ◌∙◌, ap, subst, arith, Option, Some, None, length-append, newcomer, next_seat, Begun, begun_told, Desk, Fine, Step, absent_segment, step, Activations, Activity, program_at, desk_over, IsBegin, begins, begins_by, KeepsDesk, AreRowsWithin, activity_of, Session, IsSound, activity, session_desk, order_of, ShowsDesk}
 use Rattle.activations.proofs.SittingLemmas.{sitter-there, sitter-other}
 use Rattle.desk.specs.declared.event.Event.TheVariants as event
 use Rattle.activations.specs.Follows as running
@@ -16,21 +16,11 @@ pub record HasGiven (old new : Activity) : Type 0 where
 
 module _ (a : Activity) (program : ℕ) (args : List ℕ) (sixteen : length a.seating.sitters ≡ 16) where
   rows-begun : (seat rows : ℕ) → AreRowsWithin a rows → AreRowsWithin (begins_by (Some seat) None a program args).1 rows
-  rows-begun seat rows within at below = by_test (at == seat) refl
-    where
-      who : Seat
-      who = newcomer a.next program args
-
-      by_test : (here : Bool) → (at == seat) ≡ here → (sitter (begins_by (Some seat) None a program args).1.seating at).rows ≤ rows
-      by_test true e =
-          let same : at ≡ seat = eqb-true at seat e in
-          let none : (sitter (begins_by (Some seat) None a program args).1.seating at).rows ≡ 0 =
-          ap (λ (one : Seat). one.rows) (ap (λ (n : ℕ). sitter (begins_by (Some seat) None a program args).1.seating n) same ∙ sitter-there a.seating seat who sixteen (omega (arith, same, below))) in
-          omega (arith, none)
-      by_test false e =
-          let stays = ap (λ (one : Seat). one.rows) (sitter-other a.seating seat who at e) in
-          let few = within at below in
-          omega (arith, stays, few)
+  rows-begun seat rows within at below =
+      let there = sitter-there a.seating seat (newcomer a.next program args) sixteen in
+      let other = sitter-other a.seating seat (newcomer a.next program args) at in
+      let few = within at below in
+      grind (arith, nat_tests, there, other, few)
 
   given-by : (free absent : Option ℕ) → HasGiven a (begins_by free absent a program args).1
   given-by None absent = record { programs = refl; most_lines = refl; directory = refl; next = refl; more = omega arith; rows = λ rows within. within }

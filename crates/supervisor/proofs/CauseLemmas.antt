@@ -7,17 +7,6 @@ use Rattle.desk.specs.declared.answers.Begun.TheVariants as begun
 use Rattle.desk.specs.declared.answers.TurnEnd.TheVariants as end
 use Rattle.activations.specs.Follows as running
 
--- the number that the answer to a begin tells, and the segment
-abbrev number_told : Begun → ℕ
-number_told (begun.Started number) = number
-number_told (begun.Busy number) = number
-number_told (begun.NoSegment number segment) = number
-number_told begun.Shut = 0
-
-abbrev segment_told : Begun → ℕ
-segment_told (begun.NoSegment number segment) = segment
-segment_told _ = 0
-
 none-next : (a : Activity) → running.IsSound a → next_seat a.seating ≡ None → 16 ≤ length a.seating.taken
 unfolding next_seat
 none-next a sound none = none-free (number_in a.seating) a.seating.taken sound.seating.ascending none
@@ -33,36 +22,17 @@ pub record IsAnswered (a : Activity) (program : ℕ) (answer : Begun) : Type 0 w
 
 module _ (a : Activity) (program : ℕ) (args : List ℕ) (sound : running.IsSound a) where
   answered-by : (free absent : Option ℕ) → next_seat a.seating ≡ free → lacking a program ≡ absent → IsAnswered a program (begins_by free absent a program args).0
-  answered-by None absent free lacks =
-      let full = none-next a sound free in
+  answered-by free absent is lacks =
+      let full = none-next a sound in
       let few = few-taken a.seating sound.seating in
+      let room = λ (seat : ℕ) (found : next_seat a.seating ≡ Some seat). (some-next a seat sound found).2 in
       record {
-        busy = λ number e. (omega (arith, full, few), sym (ap number_told e));
-        busy_back = λ number there same. ap begun.Busy (sym same);
-        no_segment = λ number segment e. absurd (cc (e));
-        no_segment_back = λ number segment place there same. absurd (omega (arith, full, place));
-        started = λ number e. absurd (cc (e));
-        started_back = λ number place there same. absurd (omega (arith, full, place));
-      }
-  answered-by (Some seat) (Some segment) free lacks =
-      let room = (some-next a seat sound free).2 in
-      record {
-        busy = λ number e. absurd (cc (e));
-        busy_back = λ number there same. absurd (omega (arith, there, room));
-        no_segment = λ number other e. (room, lacks ∙ ap Some (ap segment_told e), sym (ap number_told e));
-        no_segment_back = λ number other place there same. let alike : segment ≡ other = cc (lacks, there) in λ i. begun.NoSegment (sym same i) (alike i);
-        started = λ number e. absurd (cc (e));
-        started_back = λ number place there same. let no : Some segment ≡ None = sym lacks ∙ there in absurd (cc (no));
-      }
-  answered-by (Some seat) None free lacks =
-      let room = (some-next a seat sound free).2 in
-      record {
-        busy = λ number e. absurd (cc (e));
-        busy_back = λ number there same. absurd (omega (arith, there, room));
-        no_segment = λ number other e. absurd (cc (e));
-        no_segment_back = λ number other place there same. let no : None ≡ Some other = sym lacks ∙ there in absurd (cc (no));
-        started = λ number e. (room, lacks, sym (ap number_told e));
-        started_back = λ number place there same. ap begun.Started (sym same);
+        busy = λ number e. grind (arith, full, few, room);
+        busy_back = λ number there same. grind (arith, full, few, room);
+        no_segment = λ number segment e. grind (arith, full, few, room);
+        no_segment_back = λ number segment place there same. grind (arith, full, few, room);
+        started = λ number e. grind (arith, full, few, room);
+        started_back = λ number place there same. grind (arith, full, few, room);
       }
 
   pub answered : (answer : Begun) → answer ≡ (begins a program args).0 → IsAnswered a program answer
@@ -116,14 +86,4 @@ module _ {W : Type 0} (G : Ghosts W) (fewer_later : FewerLater G) (activation : 
   }
 
   pub closes-since : (ends : TurnEnd) → ClosesAsCommit G activation ends store new between after → ClosesAsCommit G activation ends store new before after
-  closes-since end.Idle closes = tt
-  closes-since end.Limit closes = tt
-  closes-since (end.Committed number steps) closes = tt
-  closes-since (end.Checked code address) closes = tt
-  closes-since (end.Waits waiter holders) closes = tt
-  closes-since end.Victim closes = tt
-  closes-since (end.Journal lines most) closes = tt
-  closes-since end.Disk closes = tt
-  closes-since (end.Closed None number) closes = closes-later _ closes
-  closes-since (end.Closed (Some doubt) number) closes = closes-later _ closes
-  closes-since end.Shut closes = tt
+  closes-since ends closes = grind (arith, closes-later)

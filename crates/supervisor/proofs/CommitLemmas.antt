@@ -1,6 +1,7 @@
 -- The commit of a session is one of the desk, and what the disk holds in it.
-use Rattle.supervisor.proofs.Common.{◌≡◌, ◌⊎◌, inl, inr, ⊎_elim, ℕ, ◌+◌, ◌*◌, ◌%◌, ◌^◌, ◌<◌, ◌≤◌, List, [], ◌∷◌, ◌++◌, length, refl, sym, ◌∙◌, ap, subst, arith, Option, Some, length-append, map-append, Layout, FlatStore, eq-eqb, has, Plain, after, Ghosts, Rose, IsSure, Leaves, held_of, Header, HasRanges, most_lines, RecordLine, Standing, Stands, stands, one_more, laid, IsMoreBy, KeptStore, number_of, with_begun, TracksStore, Committed, order_told, standing_of, Desk, Fine, Doubt, Unwritten, Over, ordered, WritesMore, number_after, IsState, over_all, committed_at, sitter, number_in, Activity, live_in, program_in, entry_in, store_over, desk_over, state_in, Live, KeepsDesk, AreRowsWithin, rolled, tally_counts, commit_call, Tally, Session, IsSound, activity, order_of, session_desk, IsOpenOver, HasCommitted, IsEitherSide, fine_desk, shows_begun}
-use Rattle.std.specs.Prelude.{◌==◌, ◌&&◌, not, filter, Bool, None, true, false, vec_len, vec_capacity, slice_set}
+use Rattle.std.proofs.lemmas.Bool.Decides.{nat_tests}
+use Rattle.supervisor.proofs.Common.{◌≡◌, ◌⊎◌, inl, inr, ⊎_elim, ℕ, ◌+◌, ◌*◌, ◌%◌, ◌^◌, ◌<◌, ◌≤◌, List, [], ◌∷◌, ◌++◌, length, refl, sym, ◌∙◌, ap, subst, arith, Option, Some, length-append, map-append, Layout, FlatStore, has, Plain, after, Ghosts, Rose, IsSure, Leaves, held_of, Header, HasRanges, most_lines, RecordLine, Standing, Stands, stands, one_more, laid, IsMoreBy, KeptStore, number_of, with_begun, TracksStore, Committed, order_told, standing_of, Desk, Fine, Doubt, Unwritten, Over, ordered, WritesMore, number_after, IsState, over_all, committed_at, sitter, number_in, Activity, live_in, program_in, entry_in, store_over, desk_over, state_in, Live, KeepsDesk, AreRowsWithin, rolled, tally_counts, commit_call, Tally, Session, IsSound, activity, order_of, session_desk, IsOpenOver, HasCommitted, IsEitherSide, fine_desk, shows_begun}
+use Rattle.std.specs.Prelude.{◌==◌, not, filter, None, true, false, vec_len, vec_capacity, slice_set}
 use Rattle.lock_rules.proofs.Sets.{has-filter}
 use Rattle.frame_pool.specs.declared.model.Pool.{Pool}
 use Rattle.redo_journal.specs.Tracks.{IsEither}
@@ -30,14 +31,7 @@ number-more opened number one other commit is more =
 
 -- who has left isn't among those that are left
 pub gone : (taken : List ℕ) (seat : ℕ) → has (filter (λ other. not (other == seat)) taken) seat ≡ false
-gone taken seat =
-    has-filter (λ other. not (other == seat)) taken seat
-    ∙ ap (λ (b : Bool). has taken seat && not b) (eq-eqb seat seat refl)
-    ∙ never (has taken seat)
-  where
-    never : (b : Bool) → (b && false) ≡ false
-    never true = refl
-    never false = refl
+gone taken seat = let is = has-filter (λ other. not (other == seat)) taken seat in grind (arith, nat_tests, is)
 
 -- What became of a session when who sat in a seat left it: parts are as before, there is a place less to keep in the order, and
 -- one commit more in it perhaps.

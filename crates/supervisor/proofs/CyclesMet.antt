@@ -1,5 +1,5 @@
 -- The cycles that a turn records, and the desks at which they were met.
-use Rattle.supervisor.proofs.Common.{Bool, true, false, Plain, Outcome, On, Commit, Check, row, after, Desk, Entry, with_entry, wanted, conflicts_of, numbers, waits_for, Word, Fine, ReadFailed, Unwritten, Doubt, Failed, Counts, Limit, Turning, Going, Over, Attempt, Contest, Contested, Settled, Lost, Fetching, Fetched, Broken, commits, takes_effect, goes_on, gets, with_grants, fetches_touched, breaks_cycle, breaks_cycles, waits_or_gets, contest_ends, asks, refused_pages, fetched_first, limited, is_over_limit, attempts, attempts_at, instruction, turns, turn, turn_of, no_counts, WasMet, WereMet, CyclesWereMet}
+use Rattle.supervisor.proofs.Common.{Bool, true, Plain, Outcome, row, after, Desk, Entry, with_entry, wanted, conflicts_of, numbers, waits_for, Word, Counts, Limit, Turning, Going, Over, Attempt, Contest, Contested, Settled, Lost, Fetching, Fetched, Broken, commits, takes_effect, goes_on, gets, with_grants, fetches_touched, breaks_cycle, breaks_cycles, waits_or_gets, contest_ends, asks, refused_pages, fetched_first, limited, attempts, attempts_at, instruction, turns, turn, turn_of, no_counts, WasMet, WereMet, CyclesWereMet}
 use Rattle.std.proofs.Common.{◌≡◌, ℕ, zero, suc, ◌+◌, ◌<◌, ◌==◌, List, [], ◌∷◌, ◌++◌, length, find, refl, sym, ◌∙◌, ap, subst, arith, Option, Some, None}
 use Rattle.lock_rules.specs.Waits.{shown_cycle}
 use Rattle.desk_law.specs.Causes.{turn_counts}
@@ -15,8 +15,7 @@ gone word number (suc rows) (Going desk counts) = gone word number rows (instruc
 -- that is where a turn with so many comes to
 gone-turns : (word : Word) (number rows : ℕ) (turning : Turning) (at : Desk) (counts : Counts) → gone word number rows turning ≡ Going at counts → turns word number rows turning ≡ Over at counts Limit
 unfolding turns
-gone-turns word number zero (Over desk more ending) at counts is = absurd (cc)
-gone-turns word number zero (Going desk more) at counts is = ap (turns word number 0) is
+gone-turns word number zero turning at counts is = ap (turns word number 0) is
 gone-turns word number (suc rows) (Over desk more ending) at counts is = absurd (cc)
 gone-turns word number (suc rows) (Going desk more) at counts is = gone-turns word number rows (instruction word (find (λ entry. entry.number == number) desk.active) desk more) at counts is
 
@@ -24,8 +23,7 @@ abbrev one-more : Word → (number : ℕ) → Turning → Turning
 one-more word number turning = gone word number 1 turning
 
 gone-more : (word : Word) (number rows : ℕ) (turning : Turning) (at : Desk) (counts : Counts) → gone word number rows turning ≡ Going at counts → gone word number (suc rows) turning ≡ instruction word (find (λ entry. entry.number == number) at.active) at counts
-gone-more word number zero (Over desk more ending) at counts is = absurd (cc)
-gone-more word number zero (Going desk more) at counts is = ap (one-more word number) is
+gone-more word number zero turning at counts is = ap (one-more word number) is
 gone-more word number (suc rows) (Over desk more ending) at counts is = absurd (cc)
 gone-more word number (suc rows) (Going desk more) at counts is = gone-more word number rows (instruction word (find (λ entry. entry.number == number) desk.active) desk more) at counts is
 
@@ -35,9 +33,7 @@ round number contest = breaks_cycles 1 number contest
 
 rounds-more : (number rounds : ℕ) (contest : Contest) (met : Desk) (counts : Counts) → breaks_cycles rounds number contest ≡ Contested met counts
     → breaks_cycles (suc rounds) number contest ≡ breaks_cycle number (shown_cycle (waits_for met) (numbers met) number) met counts
-rounds-more number zero (Settled desk more) met counts is = absurd (cc)
-rounds-more number zero (Lost desk more) met counts is = absurd (cc)
-rounds-more number zero (Contested desk more) met counts is = ap (round number) is
+rounds-more number zero contest met counts is = ap (round number) is
 rounds-more number (suc rounds) (Settled desk more) met counts is = absurd (cc)
 rounds-more number (suc rounds) (Lost desk more) met counts is = absurd (cc)
 rounds-more number (suc rounds) (Contested desk more) met counts is = rounds-more number rounds (breaks_cycle number (shown_cycle (waits_for desk) (numbers desk) number) desk more) met counts is
@@ -56,32 +52,22 @@ module _ (word : Word) (number limit : ℕ) (start : Desk) where
   -- one instruction of the turn, at a desk to which it came
   module _ (rows : ℕ) (few : rows < limit) (at : Desk) (counted : Counts) (came : turn word number rows start ≡ Over at counted Limit) (entry : Entry) (found : find (λ entry. entry.number == number) at.active ≡ Some entry) where
     commits-met : (how : Word) (attempt : Attempt) (desk : Desk) (counts : Counts) → Met counts → IsMet (commits how attempt desk counts)
-    commits-met Fine attempt desk counts met = met
-    commits-met (ReadFailed page) attempt desk counts met = met
-    commits-met Unwritten attempt desk counts met = met
-    commits-met Doubt attempt desk counts met = met
-    commits-met Failed attempt desk counts met = met
+    commits-met how attempt desk counts met = grind arith
 
     effect-met : (attempt : Attempt) (outcome : Outcome) (desk : Desk) (counts : Counts) → Met counts → IsMet (takes_effect word attempt outcome desk counts)
-    effect-met attempt (On after) desk counts met = met
-    effect-met attempt Commit desk counts met = commits-met word attempt desk counts met
-    effect-met attempt (Check code) desk counts met = met
+    effect-met attempt outcome desk counts met = grind (arith, commits-met)
 
     on-met : (attempt : Attempt) (desk : Desk) (counts : Counts) (fetching : Fetching) → Met counts → IsMet (goes_on word attempt desk counts fetching)
-    on-met attempt desk counts (Fetched resident paged) met = effect-met attempt attempt.outcome (record desk { resident = resident }) (record counts { pages = paged }) met
-    on-met attempt desk counts (Broken paged) met = met
+    on-met attempt desk counts fetching met = grind (arith, effect-met)
 
     gets-met : (attempt : Attempt) (refused : List ℕ) (desk : Desk) (counts : Counts) → Met counts → IsMet (gets word attempt refused desk counts)
     gets-met attempt refused desk counts met = on-met attempt (with_grants attempt refused desk) counts (fetches_touched word attempt (with_grants attempt refused desk) counts) met
 
     waits-met : (attempt : Attempt) (refused holders : List ℕ) (desk : Desk) (counts : Counts) → Met counts → IsMet (waits_or_gets word attempt refused holders desk counts)
-    waits-met attempt refused [] desk counts met = gets-met attempt refused desk counts met
-    waits-met attempt refused (holder ∷ holders) desk counts met = met
+    waits-met attempt refused holders desk counts met = grind (arith, gets-met)
 
     contest-met : (attempt : Attempt) (refused : List ℕ) (contest : Contest) → Met (contest_counts contest) → IsMet (contest_ends word attempt refused contest)
-    contest-met attempt refused (Lost desk counts) met = met
-    contest-met attempt refused (Settled desk counts) met = waits-met attempt refused (conflicts_of desk attempt.entry) desk counts met
-    contest-met attempt refused (Contested desk counts) met = waits-met attempt refused (conflicts_of desk attempt.entry) desk counts met
+    contest-met attempt refused contest met = grind (arith, waits-met)
 
     -- the rounds of its contest
     module _ (resident : List ℕ) (before : Counts) where
@@ -137,13 +123,10 @@ module _ (word : Word) (number limit : ℕ) (start : Desk) where
       first-met counts (Broken paged) met = met
 
       limited-met : (over : Bool) (counts : Counts) → Met counts → IsMet (limited over word attempt at counts)
-      limited-met true counts met = met
-      limited-met false counts met = first-met counts (fetches_touched word attempt at counts) met
+      limited-met over counts met = grind (arith, first-met)
 
       attempts-met : (outcome : Outcome) (counts : Counts) → Met counts → IsMet (attempts word attempt outcome at counts)
-      attempts-met (Check code) counts met = met
-      attempts-met (On after) counts met = limited-met (is_over_limit attempt at) counts met
-      attempts-met Commit counts met = limited-met (is_over_limit attempt at) counts met
+      attempts-met outcome counts met = grind (arith, limited-met)
 
     at-met : (now : Option Plain) (counts : Counts) → Met counts → IsMet (attempts_at word entry now at counts)
     at-met None counts met = met

@@ -1,6 +1,6 @@
 -- What holds of the desk that a session shows.
-use Rattle.supervisor.proofs.Common.{not, IsFalse, is_some, and_parts, cases_lt, get_or_past, page_count, FlatStore, has, Plain, after, Desk, Entry, opened, run, over_all, seat-told, Session, activity, session_desk, ShownIsConsistent, ShownIsIsolated}
-use Rattle.std.proofs.Common.{◌≡◌, ℕ, ◌+◌, ◌<◌, ◌≤◌, inl, inr, Bool, true, false, List, [], ◌∷◌, length, refl, sym, ◌∙◌, ap, subst, arith, Option, Some, None, get_or}
+use Rattle.supervisor.proofs.Common.{not, IsFalse, is_some, get_or_past, page_count, FlatStore, Plain, after, Desk, Entry, opened, run, over_all, seat-told, Session, activity, session_desk, ShownIsConsistent, ShownIsIsolated}
+use Rattle.std.proofs.Common.{◌≡◌, ℕ, ◌+◌, ◌<◌, ◌≤◌, Bool, true, false, List, [], ◌∷◌, length, refl, sym, ◌∙◌, ap, subst, arith, Option, Some, None, get_or}
 use Rattle.frame_pool.specs.Sound.{is_apart}
 use Rattle.desk_law.specs.Consistent.{IsAmong, AreDistinct, AreResident, IsConsistent}
 use Rattle.desk_law.specs.Current.{IsCurrent}
@@ -16,17 +16,11 @@ not-there false is = refl
 
 distinct : (xs : List ℕ) → is_apart xs ≡ true → AreDistinct xs
 distinct [] is = tt
-distinct (x ∷ xs) is =
-    let parts = and_parts (not (has xs x)) (is_apart xs) is in
-    (not-there (has xs x) parts.0, distinct xs parts.1)
+distinct (x ∷ xs) is = grind (arith, not-there, distinct xs)
 
 -- what has a place is within the places
 within-places : (places : List (Option ℕ)) (page : ℕ) → is_some (get_or places page None) ≡ true → page < length places
-within-places places page is =
-    elim (cases_lt page (length places)) [
-      | inl within ↦ within
-      | inr past ↦ absurd (let no : false ≡ true = sym (ap is_some (get_or_past places page None (omega (arith, past)))) ∙ is in cc)
-    ]
+within-places places page is = let past = get_or_past places page None in grind (arith, past)
 
 -- the pages of a session's frames
 pages-fit : (s : Session) (committed : List ℕ) → AreResident (session_desk s committed).frames (page_count (session_desk s committed).committed.directory) (session_desk s committed).resident

@@ -7,6 +7,7 @@ use Rattle.supervisor.proofs.CauseLemmas.{closes-now}
 use Rattle.supervisor.proofs.CommitLemmas.{order-more, writes-more, gone, has_place, sound-left, sound-closed, out-is, tracked, went-done, went-doubt, went-unwritten}
 use Rattle.desk.specs.Kept.{HoldsStore}
 use Rattle.store_format.specs.Header.{Header}
+use Rattle.activations.specs.Follows as running
 use Rattle.supervisor.proofs.session.Session.commit.Goals as goal
 
 pub returns-in-Err-clause-sound : goal.returns-in-Err-clause-sound
@@ -206,3 +207,15 @@ returns-in-Done-clause-stored g c =
       lines = begun_of there.bank;
       kept = ap (λ (n : Session). n.store.bank) others ∙ c.in-Done.ensures.kept ∙ ap (λ (store : KeptStore). with_record (roomy store.bank)) c.in_default.ensures.begun;
     }
+
+pub returns-in-Doubt-clause-writes : goal.returns-in-Doubt-clause-writes
+returns-in-Doubt-clause-writes g c = writes-more (g.W.Outside.writes c.args.outside.now) (g.W.Outside.writes c.commit.new.outside) 0 c.commit.ensures.only.writes
+
+pub returns-in-Unwritten-clause-writes : goal.returns-in-Unwritten-clause-writes
+returns-in-Unwritten-clause-writes g c = writes-more (g.W.Outside.writes c.args.outside.now) (g.W.Outside.writes c.commit.new.outside) 0 c.commit.ensures.only.writes
+
+pub returns-in-Done-clause-ordered : goal.returns-in-Done-clause-ordered
+returns-in-Done-clause-ordered g c = order-more c.args.self.now.order.items _ c.committed_in-committed.result _ _ c.enter_order.ensures.order (c.committed_in-committed.ensures.activation ∙ ap (λ (a : Activity). number_in a.seating c.args.seat) c.in_default.ensures.kept) refl
+
+pub commit-requires-in-Done-clause-sound : goal.commit-requires-in-Done-clause-sound
+commit-requires-in-Done-clause-sound g c = subst running.IsSound (sym (ap activity c.enter_order.ensures.others ∙ c.in_default.ensures.kept)) c.requires.sound.running

@@ -1,4 +1,4 @@
-use Rattle.supervisor.proofs.Common.{ℕ, List, length, ap, arith, sym, ◌∙◌, subst, sure_on, Cycle, few-taken, seat-found, TurnEnd, FailsCounted, turn_fails, activity, order_of, IfWaits, IfJournal, IfVictim, IsEndOfRows, number_of, TellsNumber, EntersOrder, ClosesAsCommit, asks_none}
+use Rattle.supervisor.proofs.Common.{ℕ, List, length, ap, arith, sym, ◌∙◌, subst, sure_on, Cycle, few-taken, seat-found, TurnEnd, FailsCounted, turn_fails, activity, order_of, IfWaits, IfJournal, IfVictim, IsEndOfRows, number_of, TellsNumber, EntersOrder, ClosesAsCommit, asks_none, total}
 use Rattle.redo_journal.proofs.WriteLemmas.{asks_only, writes_on}
 use Rattle.supervisor.proofs.TurnLemmas.{idle, ended, committed, nothing-counted, sound-ran, over-ran, store-over}
 use Rattle.supervisor.proofs.CauseLemmas.{closes-since, commit-told, rows-counted, rows-number}
@@ -89,3 +89,9 @@ returns-in-Ok-clause-end g c =
 
 pub returns-in-Ok-clause-failed : goal.returns-in-Ok-clause-failed
 returns-in-Ok-clause-failed g c = subst (λ (n : ℕ). FailsCounted (turn_fails c.commit.result) n (g.W.Outside.disk_faults c.commit.new.outside)) c.in-Ok.ensures.on.calm c.commit.ensures.failed
+
+pub returns-in-Err-clause-only : goal.returns-in-Err-clause-only
+returns-in-Err-clause-only g c = asks_only g.W.Outside c.args.outside.now c.run.new.outside c.run.ensures.keeps.asks
+
+pub commit-requires-clause-bytes : goal.commit-requires-clause-bytes
+commit-requires-clause-bytes g c = (asks_only g.W.Outside c.args.outside.now c.run.new.outside c.run.ensures.keeps.asks).longer (total c.args.self.now.store.header) c.requires.bytes
