@@ -1,5 +1,6 @@
+use Rattle.std.proofs.lemmas.Grind.{common_steps}
 use Rattle.supervisor.proofs.Common.{held_of, byte_count, FlatStore, Header, most_lines, opened, Begins, activity, Session}
-use Rattle.std.proofs.Common.{length, false, ◌≡◌, refl, sym, ◌∙◌, ap, subst}
+use Rattle.std.proofs.Common.{length, false, ◌≡◌, refl, sym, ◌∙◌, ap, subst, arith}
 use Rattle.supervisor.proofs.OpeningLemmas.{IsMade, idle-directory, made-opened, has-stood}
 use Rattle.supervisor.proofs.session.Session.open.Given as given
 use Rattle.supervisor.proofs.session.Session.open.Goals as goal
@@ -39,3 +40,9 @@ returns-clause-opened g c = λ honest told. made-opened c.args.frames (made_sess
 
 pub returns-clause-told : goal.returns-clause-told
 returns-clause-told g c = λ told. has-stood (held_of g.W.Outside c.args.outside.now) c.in_ok-store.store (c.in_ok-store.ensures.shows told)
+
+pub returns-clause-room : goal.returns-clause-room
+returns-clause-room g c = c.in_ok-store.ensures.room
+
+pub returns-in_err-printed-clause-fault : goal.returns-in_err-printed-clause-fault
+returns-in_err-printed-clause-fault g c = grind (arith, common_steps)
