@@ -1,6 +1,5 @@
-use Rattle.std.proofs.lemmas.Grind.{common_steps}
 use Rattle.supervisor.proofs.Common.{held_of, byte_count, FlatStore, Header, most_lines, opened, Begins, activity, Session}
-use Rattle.std.proofs.Common.{length, false, ◌≡◌, refl, sym, ◌∙◌, ap, subst, arith}
+use Rattle.std.proofs.Common.{length, false, ◌≡◌, refl, sym, ◌∙◌, ap, subst}
 use Rattle.supervisor.proofs.OpeningLemmas.{IsMade, idle-directory, made-opened, has-stood}
 use Rattle.supervisor.proofs.session.Session.open.Given as given
 use Rattle.supervisor.proofs.session.Session.open.Goals as goal
@@ -43,6 +42,3 @@ returns-clause-told g c = λ told. has-stood (held_of g.W.Outside c.args.outside
 
 pub returns-clause-room : goal.returns-clause-room
 returns-clause-room g c = c.in_ok-store.ensures.room
-
-pub returns-in_err-printed-clause-fault : goal.returns-in_err-printed-clause-fault
-returns-in_err-printed-clause-fault g c = grind (arith, common_steps)
