@@ -1,8 +1,9 @@
+use Rattle.std.proofs.lemmas.Grind.{common_steps}
 use Rattle.activations.proofs.Common.{Begun, reach_of, absent_segment, unit-sound, sound-fits, Activity, program_at, Program, first_registers, clear, registers_of_program, IsSound, activity_of, ◌≡◌, ◌+◌, length, refl, sym, ap, ◌∙◌, arith, subst, slice_set, []}
 use Rattle.storage_unit.specs.Served.{begun}
 use Rattle.activations.specs.Begins.{begins, begun_in, given, started}
 use Rattle.desk.specs.declared.answers.Begun.TheVariants
-use Rattle.activations.proofs.BeginLemmas.{begin-goes, begins-full, begins-refused, begins-started, sound-begins, is-code, is-fresh, has-room, some-next}
+use Rattle.activations.proofs.BeginLemmas.{begin-goes, begins-full, begins-refused, begins-started, sound-begins, is-code, is-fresh, has-room, some-next, sound-given}
 use Rattle.activations.proofs.activations.Activations.begin.Goals.{In-Some-sit}
 use Rattle.activations.proofs.activations.Activations.begin.Goals as goal
 
@@ -91,3 +92,12 @@ returns-clause-is_begin c =
     begin-goes (activity_of c.args.self.now) c.args.program c.args.args c.requires.sound _ _ c.requires.known
     (sound-fits (reach_of c.args.self.now.unit) (unit-sound c.args.self.now.unit))
     (returns-clause-answer c) (returns-clause-left c)
+
+pub returns-in-Some-clause-sound : goal.returns-in-Some-clause-sound
+returns-in-Some-clause-sound c = sound-given (activity_of c.args.self.now) c.requires.sound
+
+pub returns-then-taken-eq16-clause-sound : goal.returns-then-taken-eq16-clause-sound
+returns-then-taken-eq16-clause-sound c = sound-given (activity_of c.args.self.now) c.requires.sound
+
+pub returns-in_default-sit-clause-is_begin : goal.returns-in_default-sit-clause-is_begin
+returns-in_default-sit-clause-is_begin c = grind (arith, common_steps)

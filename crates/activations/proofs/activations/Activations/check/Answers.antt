@@ -1,4 +1,5 @@
-use Rattle.activations.proofs.Common.{sym, subst, Live, Activity, live_in, ComesToEnd, instruction_in, activity_of}
+use Rattle.std.proofs.lemmas.Grind.{common_steps}
+use Rattle.activations.proofs.Common.{sym, subst, Live, Activity, live_in, ComesToEnd, instruction_in, activity_of, arith}
 use Rattle.desk.specs.Instruction as desk
 use Rattle.activations.proofs.EndLemmas.{checked}
 use Rattle.activations.proofs.ExecuteLemmas.{runs-there}
@@ -13,3 +14,6 @@ returns-clause-checked c committed order counts selected follows goes printed =
     subst (λ (live : Live). ComesToEnd (instruction_in a seat committed order counts) (activity_of c.roll_back.new.self) committed order counts (desk.Checked c.args.code live.cpu.iar)) (sym was)
     (subst (λ (after : Activity). ComesToEnd (instruction_in a seat committed order counts) after committed order counts (desk.Checked c.args.code (live_in a seat).cpu.iar)) (sym c.roll_back.ensures.shape)
     (checked a seat pool c.args.code committed order counts c.requires.taken selected.runner follows goes (c.roll_back.ensures.rolls committed follows.orderly.active follows.kept)))
+
+pub index-requires : goal.index-requires
+index-requires c = grind (arith, common_steps)

@@ -1,3 +1,4 @@
+use Rattle.std.proofs.lemmas.Grind.{common_steps}
 use Rattle.activations.proofs.Common.{eq-eqb, ne_eqb, option_map, victim_of, number_in, seat_of, sitter, Seat, cycle_of, seat-found, Victim, Activity, activity_of, Cycle, has, rolled, ComesToEnd, Contests, tally_counts, KeepsParts, StaysSeated, ◌≡◌, ◌<◌, ◌==◌, true, false, ℕ, List, length, map, IsSome, refl, Some, sym, ◌∙◌, ap, arith, subst}
 use Rattle.activations.proofs.KeptLemmas.{keeps-itself, keeps-rolled, stays-itself, stays-rolled, tally-on}
 use Rattle.activations.proofs.ContendLemmas.{fewer, contests-on, contests-lost, stays-taken, recorded, victim-sits, told-settles, told-stays}
@@ -121,3 +122,9 @@ returns-then-victim-number-clause-ends c = record {
   ends = tt;
   victim = (c.loop-members.tally.cycles.items, _, c.push.ensures.items, sym c.greatest-victim.ensures ∙ c.if-victim-number.true ∙ ap (λ (who : Seat). who.number) c.sitter.ensures);
 }
+
+pub awaited-holders-requires-clause-seat : goal.awaited-holders-requires-clause-seat
+awaited-holders-requires-clause-seat c = grind (arith, common_steps)
+
+pub sitter-requires : goal.sitter-requires
+sitter-requires c = grind (arith, common_steps)

@@ -1,3 +1,4 @@
+use Rattle.std.proofs.lemmas.Grind.{common_steps}
 use Rattle.activations.proofs.Common.{nat_lt, nat_tests, TurnEnd, Activity, lines_with, wants_of, activity_of, ◌≡◌, true, ap, arith}
 use Rattle.activations.proofs.TouchingLemmas.{over-limit}
 use Rattle.activations.proofs.activations.Activations.keep_limit.Goals as goal
@@ -10,3 +11,6 @@ returns-then-lines-self-clause-over c =
     over-limit (activity_of c.args.self.now) (activity_of c.roll_back.new.self) c.args.seat (wants_of c.args.touch.now)
     (TurnEnd.Journal c.lines_with-lines.result c.roll_back.new.self.most_lines) c.roll_back.ensures.shape c.roll_back.ensures.rolls over
     (λ i. TurnEnd.Journal (c.lines_with-lines.ensures i) (most i))
+
+pub lines_with-lines-requires-clause-seat : goal.lines_with-lines-requires-clause-seat
+lines_with-lines-requires-clause-seat c = grind (arith, common_steps)

@@ -1,4 +1,5 @@
-use Rattle.activations.proofs.Common.{◌∙◌, located_by, activity_of}
+use Rattle.std.proofs.lemmas.Grind.{common_steps}
+use Rattle.activations.proofs.Common.{◌∙◌, located_by, activity_of, arith}
 use Rattle.activations.proofs.ExecuteLemmas.{runs-there}
 use Rattle.activations.proofs.activations.Activations.locate.Goals as goal
 
@@ -6,3 +7,6 @@ pub returns : goal.returns
 returns c =
     let runs = runs-there (activity_of c.args.self.now) c.args.seat c.requires.sound c.requires.taken c.index.result.now c.from.result c.from.ensures c.index.ensures in
     c.locate.ensures ∙ (λ i. located_by (runs i).registers c.args.access.address (c.from-2.ensures i) c.args.access.store)
+
+pub index-requires : goal.index-requires
+index-requires c = grind (arith, common_steps)

@@ -1,3 +1,5 @@
+use Rattle.store_format.specs.Header.{total}
+use Rattle.redo_journal.proofs.WriteLemmas.{asks_only}
 use Rattle.activations.proofs.Common.{number_in, has, asks_none, asks_on, Counts, Limit, TurnEnd, array_vec_len, Tally, Activity, KeepsDesk, KeepsParts, counted, ComesToEnd, instruction_in, tally_counts, IsStep, IsTurning, IsAtCommit, AreTurns, turn_in, activity_of, ◌≡◌, ◌+◌, ◌-◌, ◌^◌, ℕ, List, true, length, Result, Ok, refl, ap, arith, sym, ◌∙◌, subst}
 use Rattle.activations.specs.declared.instructions.Went.{Went}
 use Rattle.activations.proofs.BringLemmas.{store-on}
@@ -151,3 +153,32 @@ returns-clause-turned g c committed order store follows printed =
     let none : c.loop-left.left ≡ 0 = omega (arith, c.loop-left-test.false) in
     subst (λ (x : Activity). ComesToEnd (turn_in x seat c.args.limit committed order (tally_counts c.args.tally.now)) old committed order (tally_counts c.loop-left.tally) Limit) c.select.ensures.shape
     (turn-limit begins old seat committed order (tally_counts c.loop-left.tally) (subst (λ (n : ℕ). IsTurning begins old seat n committed order (tally_counts c.loop-left.tally)) none turning))
+
+pub come_back-requires-clause-can : goal.come_back-requires-clause-can
+come_back-requires-clause-can g c =
+    let inv = c.loop-left.invariant in
+    record {
+      fetch = record {
+        sound = inv.0;
+        directory = c.requires.can.directory ∙ sym (inv.6.directory ∙ ap (λ (x : Activity). x.reach.directory) c.select.ensures.shape);
+        room = (asks_only g.W.Outside c.args.outside.now c.loop-left.outside inv.4).longer (total c.args.store.now.header) c.requires.can.room;
+      };
+      taken = inv.1.taken;
+      selected = inv.2;
+    }
+
+pub instruct-requires-clause-can : goal.instruct-requires-clause-can
+instruct-requires-clause-can g c =
+    let inv = c.loop-left.invariant in
+    let keeps = c.come_back.ensures.keeps in
+    let stays = c.in_ok-shut_still.ensures.on.stays in
+    let room = (asks_only g.W.Outside c.args.outside.now c.loop-left.outside inv.4).longer (total c.args.store.now.header) c.requires.can.room in
+    record {
+      fetch = record {
+        sound = keeps.sound;
+        directory = c.requires.can.directory ∙ sym (keeps.parts.directory ∙ inv.6.directory ∙ ap (λ (x : Activity). x.reach.directory) c.select.ensures.shape);
+        room = (asks_only g.W.Outside c.loop-left.outside c.come_back.new.outside keeps.asks).longer (total c.args.store.now.header) room;
+      };
+      taken = stays.taken;
+      selected = stays.selected inv.2;
+    }

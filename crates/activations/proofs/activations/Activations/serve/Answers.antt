@@ -1,3 +1,5 @@
+use Rattle.store_format.specs.Header.{total}
+use Rattle.redo_journal.proofs.WriteLemmas.{asks_only}
 use Rattle.activations.proofs.Common.{number_in, TurnEnd, Tally, IsInstruction, instruction_in, tally_counts, activity_of, Result, ap, arith, sym, ◌∙◌}
 use Rattle.activations.proofs.BringLemmas.{store-on}
 use Rattle.activations.proofs.KeptLemmas.{keeps-all-on, keeps-all-then}
@@ -53,3 +55,14 @@ returns-clause-served g c committed order store follows =
     c.go_on.ensures.went _ committed order (tally_counts c.get.new.tally)
     (c.in_ok-get.ensures.served _ prepared.attempt prepared.next committed order (store-on g.W.Outside g.met.W.Outside.fewer_later c.args.store.now c.args.outside.now c.prepare.new.outside committed c.prepare.ensures.keeps.asks store)
     (prepared.asked.number ∙ sym c.in_ok-ask.ensures.stays.number) prepared.goes prepared.lines (c.in_ok-ask.ensures.settled _ prepared.attempt _ committed order prepared.asked))
+
+pub get-requires-clause-can : goal.get-requires-clause-can
+get-requires-clause-can g c = record {
+  fetch = record {
+    sound = c.ask.ensures.keeps.sound;
+    directory = c.requires.can.fetch.directory ∙ sym (c.ask.ensures.keeps.parts.directory ∙ c.prepare.ensures.keeps.parts.directory);
+    room = (asks_only g.W.Outside c.args.outside.now c.prepare.new.outside c.prepare.ensures.keeps.asks).longer (total c.args.store.now.header) c.requires.can.fetch.room;
+  };
+  taken = c.in_ok-ask.ensures.stays.taken;
+  selected = c.in_ok-ask.ensures.stays.selected (c.in_ok-touch.ensures.on.stays.selected c.requires.can.selected);
+}

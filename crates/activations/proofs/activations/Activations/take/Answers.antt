@@ -1,4 +1,5 @@
-use Rattle.activations.proofs.Common.{page_count, AreWithin, took, pages_picked, wants_of, with_whole_page, activity_of, ℕ, map, sym, ap, ◌∙◌, subst}
+use Rattle.std.proofs.lemmas.Grind.{common_steps}
+use Rattle.activations.proofs.Common.{page_count, AreWithin, took, pages_picked, wants_of, with_whole_page, activity_of, ℕ, map, sym, ap, ◌∙◌, subst, arith}
 use Rattle.activations.proofs.GrantingLemmas.{within-whole, sound-then}
 use Rattle.activations.proofs.activations.Activations.take.Goals as goal
 
@@ -12,3 +13,6 @@ pub returns-clause-sound : goal.returns-clause-sound
 returns-clause-sound c =
     sound-then (activity_of c.args.self.now) (activity_of c.grant_picked.new.self) c.args.seat (wants_of c.args.touch.now) (pages_picked c.args.touch.now c.args.refused) c.take.new.self
     c.requires.sound c.requires.taken (c.take.ensures ∙ ap (took c.args.self.now.seats c.args.seat) c.request-request.ensures) c.grant_picked.ensures.shape c.grant_picked.ensures.granted
+
+pub grant_picked-requires-clause-seat : goal.grant_picked-requires-clause-seat
+grant_picked-requires-clause-seat c = grind (arith, common_steps)

@@ -1,3 +1,4 @@
+use Rattle.supervisor.proofs.DesertedLemmas.{stored-sound}
 use Rattle.supervisor.proofs.Common.{◌≡◌, ◌+◌, ◌%◌, ◌^◌, ◌∙◌, ◌∷◌, [], length, refl, sym, ap, subst, arith, Some, length-append, true, false, has, Commit, row, begun_of, Kept, KeptStore, number_of, TracksStore, over_all, committed_at, sitter, number_in, taken-below, Activity, live_in, program_in, entry_in, store_over, desk_over, shown, KeepsDesk, rolled, reprinted, activity_of, Session, activity}
 use Rattle.flat_machine.specs.After.{after as after_rows}
 use Rattle.redo_journal.specs.declared.keep.Kept.TheVariants.{Unwritten, Doubt}
@@ -219,3 +220,6 @@ returns-in-Done-clause-ordered g c = order-more c.args.self.now.order.items _ c.
 
 pub commit-requires-in-Done-clause-sound : goal.commit-requires-in-Done-clause-sound
 commit-requires-in-Done-clause-sound g c = subst running.IsSound (sym (ap activity c.enter_order.ensures.others ∙ c.in_default.ensures.kept)) c.requires.sound.running
+
+pub committed_in-committed-requires-clause-sound : goal.committed_in-committed-requires-clause-sound
+committed_in-committed-requires-clause-sound g c = let s = c.args.self.now in stored-sound s c.requires.sound c.record.new.store (ap (λ (store : KeptStore). store.header) c.in_default.ensures.begun) c.record.new.self c.in_default.ensures.kept c.requires.open s.closed

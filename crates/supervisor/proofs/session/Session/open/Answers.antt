@@ -39,3 +39,6 @@ returns-clause-opened g c = λ honest told. made-opened c.args.frames (made_sess
 
 pub returns-clause-told : goal.returns-clause-told
 returns-clause-told g c = λ told. has-stood (held_of g.W.Outside c.args.outside.now) c.in_ok-store.store (c.in_ok-store.ensures.shows told)
+
+pub returns-clause-room : goal.returns-clause-room
+returns-clause-room g c = c.in_ok-store.ensures.room
