@@ -1,8 +1,9 @@
 -- Events, one after another.
-use Rattle.schedule_replay.proofs.Common.{◌≡◌, ℕ, zero, suc, ◌+◌, ◌<◌, ◌≤◌, List, [], ◌∷◌, ◌++◌, length, get_or, take, drop, cond, refl, sym, ◌∙◌, ap, subst, arith, rules, IsSome, false, Option, Result, Ok, Err, IsErr, All, unwrap_or, ForSome, take_all, take_more, take-append-drop, sum_by-append, Failed, Ghosts, FailsOnlyCounted, cause_since, FewerLater, elapses-trans, Program, Fixed, Header, total, bank_of, chosen, Event, HoldsStore, Line, Going, IsAsked, is_begin, is_turn, begins_in, turns_in, IsReady, Answered, GoesBy, GoesShut, Puts}
+use Rattle.std.proofs.lemmas.Bool.Decides.{nat_tests}
+use Rattle.schedule_replay.proofs.Common.{◌≡◌, ℕ, ◌+◌, ◌<◌, ◌≤◌, List, [], ◌∷◌, ◌++◌, length, get_or, take, drop, cond, sym, ◌∙◌, ap, subst, arith, rules, false, Result, Ok, Err, IsErr, unwrap_or, take_all, take_more, take-append-drop, sum_by-append, Failed, Ghosts, FailsOnlyCounted, cause_since, FewerLater, elapses-trans, Header, bank_of, chosen, Event, HoldsStore, Line, Going, is_begin, is_turn, begins_in, turns_in, IsReady, Answered, GoesBy, GoesShut, Puts}
 use Rattle.desk.specs.declared.supervisor.Supervisor as desk
 use Rattle.schedule_replay.specs.declared.events.Going.TheVariants as going
-use Rattle.schedule_replay.proofs.PutsLemmas.{done, no_time}
+use Rattle.schedule_replay.proofs.PutsLemmas.{done}
 
 begins_split : (xs ys : List Event) → begins_in (xs ++ ys) ≡ begins_in xs + begins_in ys
 begins_split xs ys = sum_by-append (λ event. cond (is_begin event) 1 0) xs ys
@@ -14,90 +15,50 @@ turns_split xs ys = sum_by-append (λ event. cond (is_turn event) 1 0) xs ys
 parted : (events : List Event) (i : ℕ) (event : Event) → i < length events → (take i events ++ get_or events i event ∷ []) ++ drop (i + 1) events ≡ events
 parted events i event lt = ap (λ (front : List Event). front ++ drop (i + 1) events) (sym (take_more events i event lt)) ∙ take-append-drop (i + 1) events
 
--- what holds of one holds of all in a list of one
-all_one : {A : Type 0} (P : A → Type 0) (x : A) → P x → All P (x ∷ [])
-all_one P x holds zero d below = holds
-all_one P x holds (suc k) d below = absurd (omega arith)
-
 module _ {D W : Type 0} (S : desk.Ghosts D) (G : Ghosts W) (fewer_later : FewerLater G) where
   -- some events were answered, and then some more
   pub answered_on : {T U : Type 0} (xs ys : List Event) (old mid new : D) (before between after : W) (value : T) (result : Result U Failed) → Answered S G xs old mid before between (Ok value) → Answered S G ys mid new between after result → Answered S G (xs ++ ys) old new before after result
-  answered_on xs ys old mid new before between after value result one two = record {
-    sound = two.sound;
-    fixed = two.fixed ∙ one.fixed;
-    given = omega (arith, one.given, two.given, begins_split xs ys);
-    turns = omega (arith, one.turns, two.turns, turns_split xs ys);
-    bytes = two.bytes;
-    honest = two.honest ∙ one.honest;
-    told = λ some. two.told (one.told some);
-    time = elapses-trans G fewer_later before between after one.time two.time;
-    disk = omega (arith, one.disk, two.disk);
-    cause = cause_since (G.put_faults before) (G.put_faults between) (G.put_faults after) value result one.cause two.cause;
-  }
+  answered_on xs ys old mid new before between after value result one two =
+      grind (
+        arith,
+        nat_tests,
+        begins_split xs ys,
+        turns_split xs ys,
+        elapses-trans G fewer_later before between after one.time two.time,
+        cause_since (G.put_faults before) (G.put_faults between) (G.put_faults after) value result one.cause two.cause,
+      )
 
   -- nothing was answered yet
   pub answered_none : (desk : D) (w : W) → S.sound desk → HoldsStore G (S.fixed desk).header w → Answered S G [] desk desk w w done
-  answered_none desk w sound bytes = record {
-    sound = sound;
-    fixed = refl;
-    given = omega arith;
-    turns = omega arith;
-    bytes = bytes;
-    honest = refl;
-    told = λ some. some;
-    time = no_time G w;
-    disk = omega arith;
-    cause = record { later = omega arith; failed = tt; done = refl };
-  }
+  answered_none desk w sound bytes = grind (arith, nat_tests)
 
   -- lines were put
   pub answered_puts : {T : Type 0} (lines : List Line) (desk : D) (before after : W) (result : Result T Failed) → S.sound desk → HoldsStore G (S.fixed desk).header before → Puts G lines before after result → Answered S G [] desk desk before after result
-  answered_puts lines desk before after result sound bytes puts = record {
-    sound = sound;
-    fixed = refl;
-    given = omega arith;
-    turns = omega arith;
-    bytes = subst (λ (held : Option (List ℕ)). ForSome held (λ bytes. total (S.fixed desk).header ≤ length bytes)) (sym puts.only.held) bytes;
-    honest = puts.only.honest;
-    told = λ some. subst (λ (held : Option (List ℕ)). IsSome held) (sym puts.only.held) some;
-    time = puts.only.time;
-    disk = omega (arith, puts.only.disk);
-    cause = puts.only.cause;
-  }
+  answered_puts lines desk before after result sound bytes puts = grind (arith, nat_tests)
 
   module _ (events : List Event) (i : ℕ) (event : Event) (lt : i < length events) (old mid : D) (before between : W) where
     -- the next event may be asked
     pub ready_next : IsReady S G events old before → Answered S G (take i events) old mid before between done → IsReady S G (get_or events i event ∷ []) mid between
     ready_next ready so_far =
-        let begins : begins_in events ≡ begins_in (take i events) + begins_in (get_or events i event ∷ []) + begins_in (drop (i + 1) events) = ap begins_in (sym (parted events i event lt)) ∙ begins_split (take i events ++ get_or events i event ∷ []) (drop (i + 1) events) ∙ ap (λ n. n + begins_in (drop (i + 1) events)) (begins_split (take i events) (get_or events i event ∷ [])) in
-        let turns : turns_in events ≡ turns_in (take i events) + turns_in (get_or events i event ∷ []) + turns_in (drop (i + 1) events) = ap turns_in (sym (parted events i event lt)) ∙ turns_split (take i events ++ get_or events i event ∷ []) (drop (i + 1) events) ∙ ap (λ n. n + turns_in (drop (i + 1) events)) (turns_split (take i events) (get_or events i event ∷ [])) in
-        record {
-          sound = so_far.sound;
-          asked = all_one (λ each. IsAsked (length (S.fixed mid).programs) each) (get_or events i event) (subst (λ (programs : List Program). IsAsked (length programs) (get_or events i event)) (ap (λ (fixed : Fixed). fixed.programs) (sym so_far.fixed)) (ready.asked i event lt));
-          begins = let room = ap (λ (fixed : Fixed). fixed.begins) so_far.fixed in omega (arith, so_far.given, room, ready.begins, begins);
-          turns = omega (arith, so_far.turns, ready.turns, turns);
-          bytes = so_far.bytes;
-        }
+        grind (
+          arith,
+          nat_tests,
+          take i events,
+          get_or events i event,
+          drop (i + 1) events,
+          parted events i event lt,
+          begins_split (take i events ++ get_or events i event ∷ []) (drop (i + 1) events),
+          begins_split (take i events) (get_or events i event ∷ []),
+          turns_split (take i events ++ get_or events i event ∷ []) (drop (i + 1) events),
+          turns_split (take i events) (get_or events i event ∷ []),
+        )
 
     pub answered_more : {T : Type 0} (new : D) (after : W) (result : Result T Failed) → Answered S G (take i events) old mid before between done → Answered S G (get_or events i event ∷ []) mid new between after result → Answered S G (take (i + 1) events) old new before after result
-    answered_more new after result one two =
-        subst (λ (these : List Event). Answered S G these old new before after result) (sym (take_more events i event lt))
-        (answered_on (take i events) (get_or events i event ∷ []) old mid new before between after 0 result one two)
+    answered_more new after result one two = grind (arith, nat_tests, take_more events i event lt, answered_on (take i events) (get_or events i event ∷ []) old mid new before between after 0 result one two, take i events, get_or events i event)
 
   -- another result, of which the screen's count says as much
   answered_as : {T U : Type 0} (events : List Event) (old new : D) (before after : W) (result : Result T Failed) (other : Result U Failed) → (FailsOnlyCounted (G.put_faults before) (G.put_faults after) result → FailsOnlyCounted (G.put_faults before) (G.put_faults after) other) → Answered S G events old new before after result → Answered S G events old new before after other
-  answered_as events old new before after result other turns is = record {
-    sound = is.sound;
-    fixed = is.fixed;
-    given = is.given;
-    turns = is.turns;
-    bytes = is.bytes;
-    honest = is.honest;
-    told = is.told;
-    time = is.time;
-    disk = is.disk;
-    cause = turns is.cause;
-  }
+  answered_as events old new before after result other turns is = grind (arith, nat_tests)
 
   -- another value, or a failure of another type
   pub answered_well : {T U : Type 0} (events : List Event) (old new : D) (before after : W) (value : T) (other : U) → Answered S G events old new before after (Ok value) → Answered S G events old new before after (Ok other)

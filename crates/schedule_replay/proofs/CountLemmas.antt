@@ -1,8 +1,9 @@
 -- What lines tell of records and of faults of the disk, and how many puts they are.
+use Rattle.desk.specs.Report.{ending_lines}
+use Rattle.std.proofs.lemmas.Bool.Decides.{nat_tests}
 use Rattle.schedule_replay.proofs.Common.{◌≡◌, ℕ, ◌+◌, ◌≤◌, List, [], ◌∷◌, ◌++◌, map, cond, refl, ap, ◌∙◌, arith, rules, Bool, true, false, if◌then◌else◌, count_by, Some, None, Result, Ok, Err, IsErr, OnOk, flat_map, sum_by-append, Failed, Begun, Turn, TurnEnd, Stored, Reopened, begun_told, turn_told, counts_told, stored_told, reopened_told, is_commit, Counts, Ending, most_records, records_after, is_stored, tells_fault, turn_fails, stored_fails, reopened_fails, Line, cycle_lines, turn_lines, happening_lines}
-use Rattle.desk.specs.Run.{Happening, Nothing, Begun as begins, Busy, NoSegment, Turned, CheckpointMade, CheckpointFailed, Crashed, CrashFailed}
+use Rattle.desk.specs.Run.{Happening, Turned, Crashed, CrashFailed}
 use Rattle.desk.specs.declared.answers.TurnEnd.TheVariants as end
-use Rattle.desk.specs.declared.answers.Stored.TheVariants as stored
 use Rattle.desk.specs.declared.answers.Reopened.TheVariants as reopened
 use Rattle.desk.specs.Instruction as turn
 use Rattle.desk.specs.Lines as line
@@ -57,67 +58,36 @@ module _ (names : List (List ℕ)) (number : ℕ) where
 
   ended_keep : (activation : ℕ) (counts : Counts) (ending : Ending) (records : ℕ) → records_after (Turned activation counts ending) records ≤ most_records (turn_lines number activation counts ending) records
   ended_keep activation counts turn.Idle records = omega arith
-  ended_keep activation counts turn.Limit records = let same = counted_keep activation counts [] records in omega (arith, same)
-  ended_keep activation counts (turn.Checked code address) records = let same = counted_keep activation counts (line.Check activation code address ∷ []) records in omega (arith, same)
-  ended_keep activation counts (turn.Journal lines limit) records = let same = counted_keep activation counts (line.Journal activation lines limit ∷ []) records in omega (arith, same)
-  ended_keep activation counts turn.Disk records = let same = counted_keep activation counts (line.Disk activation ∷ []) records in omega (arith, same)
-  ended_keep activation counts turn.Victim records = let same = counted_keep activation counts [] records in omega (arith, same)
-  ended_keep activation counts (turn.Waits holders) records = let same = counted_keep activation counts (line.Wait activation holders ∷ []) records in omega (arith, same)
-  ended_keep activation counts (turn.Committed steps out) records = let same = counted_keep activation counts (line.Commit activation number steps out ∷ []) records in omega (arith, same)
-  ended_keep activation counts turn.CommitUnwritten records = let same = counted_keep activation counts (line.Closed ∷ []) records in omega (arith, same)
-  ended_keep activation counts turn.CommitDoubted records = let same = counted_keep activation counts (line.Doubt activation number ∷ line.Closed ∷ []) records in omega (arith, same)
+  ended_keep activation counts ending records = let same = counted_keep activation counts (ending_lines number activation ending) records in omega (arith, same)
 
   lost_then : (lost : List ℕ) (last : Line) (records : ℕ) → most_records (last ∷ []) records ≡ records → records ≤ most_records (map line.Lost lost ++ last ∷ []) records
-  lost_then lost last records keeps =
-      let split = most_on (map line.Lost lost) (last ∷ []) records in
-      let same = ap (most_records (last ∷ [])) (lost_keep lost records) in
-      omega (arith, split, same, keeps)
+  lost_then lost last records keeps = grind (arith, nat_tests, most_on, lost_keep)
 
   -- what happened leaves no more records than its lines tell
   pub happened_keep : (told : Happening) (records : ℕ) → records_after told records ≤ most_records (happening_lines names number told) records
-  happened_keep Nothing records = omega arith
-  happened_keep (begins activation program) records = omega arith
-  happened_keep (Busy activation program) records = omega arith
-  happened_keep (NoSegment activation program segment) records = omega arith
   happened_keep (Turned activation counts ending) records = ended_keep activation counts ending records
-  happened_keep CheckpointMade records = omega arith
-  happened_keep CheckpointFailed records = omega arith
   happened_keep (Crashed lost) records = lost_then lost (line.Open number) records refl
   happened_keep (CrashFailed lost) records = lost_then lost line.Closed records refl
+  happened_keep _ records = omega arith
 
   counted_faults : (activation : ℕ) (counts : Counts) (ends : List Line) → faults_in (line.Turn activation counts.ran counts.pages counts.locks ∷ (flat_map cycle_lines counts.cycles ++ ends)) ≡ faults_in ends
-  counted_faults activation counts ends =
-      let one = faults_on (line.Turn activation counts.ran counts.pages counts.locks ∷ []) (flat_map cycle_lines counts.cycles ++ ends) in
-      let two = faults_on (flat_map cycle_lines counts.cycles) ends in
-      let three = cycles_calm counts.cycles in
-      omega (arith, one, two, three)
+  counted_faults activation counts ends = grind (arith, nat_tests, faults_on, cycles_calm)
 
   -- a turn whose lines tell of no fault didn't fail
   pub turn_calm : (activation : ℕ) (answer : Turn) (ends : TurnEnd) (printed : List ℕ) → faults_in (happening_lines names number (turn_told activation (record answer { end = ends }) printed)) ≡ 0 → turn_fails ends ≡ false
-  turn_calm activation answer end.Idle printed none = refl
-  turn_calm activation answer end.Limit printed none = refl
-  turn_calm activation answer (end.Committed told steps) printed none = refl
-  turn_calm activation answer (end.Checked code address) printed none = refl
-  turn_calm activation answer (end.Waits told holders) printed none = refl
-  turn_calm activation answer end.Victim printed none = refl
-  turn_calm activation answer (end.Journal lines limit) printed none = refl
   turn_calm activation answer end.Disk printed none = absurd (let some = counted_faults activation (counts_told answer) (line.Disk activation ∷ []) in omega (arith, some, none))
   turn_calm activation answer (end.Closed None told) printed none = absurd (let some = counted_faults activation (counts_told answer) (line.Closed ∷ []) in omega (arith, some, none))
   turn_calm activation answer (end.Closed (Some doubt) told) printed none = absurd (let some = counted_faults activation (counts_told answer) (line.Doubt activation number ∷ line.Closed ∷ []) in omega (arith, some, none))
-  turn_calm activation answer end.Shut printed none = refl
+  turn_calm activation answer _ printed none = refl
 
   -- nor a checkpoint
   pub stored_calm : (answer : Stored) → faults_in (happening_lines names number (stored_told answer)) ≡ 0 → stored_fails answer ≡ false
-  stored_calm (stored.Number told) none = refl
-  stored_calm stored.Closed none = absurd (omega (arith, none))
-  stored_calm stored.Shut none = refl
+  stored_calm answer h1 = grind (arith, nat_tests)
 
   -- nor a crash
   pub reopened_calm : (lost : List ℕ) (answer : Reopened) → faults_in (happening_lines names number (reopened_told lost answer)) ≡ 0 → reopened_fails answer ≡ false
-  reopened_calm lost (reopened.Number told) none = refl
-  reopened_calm lost (reopened.Damaged offset) none = refl
   reopened_calm lost reopened.DiskFault none = absurd (let split = faults_on (map line.Lost lost) (line.Closed ∷ []) in omega (arith, split, none))
-  reopened_calm lost reopened.Shut none = refl
+  reopened_calm lost _ none = refl
 
 -- a begin leaves as many records
 pub begun_keep : (program : ℕ) (answer : Begun) (records : ℕ) → records ≤ records_after (begun_told program answer) records
@@ -126,6 +96,5 @@ begun_keep program answer records = grind arith
 -- what is said of success is said of another result, which fails where this one does
 pub on_ok_as : {T U : Type 0} (P : Type 0) (result : Result T Failed) (other : Result U Failed) → (IsErr result → IsErr other) → OnOk result P → OnOk other P
 on_ok_as P (Ok value) (Ok other) so on = on
-on_ok_as P (Ok value) (Err failed) so on = tt
 on_ok_as P (Err failed) (Ok other) so on = absurd (let no = so refl in search (rules, no))
-on_ok_as P (Err failed) (Err other) so on = tt
+on_ok_as P _ _ so on = tt

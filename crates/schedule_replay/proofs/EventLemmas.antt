@@ -1,5 +1,6 @@
 -- What one event keeps, how it goes on, and the numbers in its lines.
-use Rattle.schedule_replay.proofs.Common.{◌≡◌, ℕ, ◌+◌, ◌*◌, ◌≤◌, List, [], ◌∷◌, length, refl, sym, ap, ◌∙◌, subst, arith, inl, IsSome, true, false, Bool, Option, unwrap_or, Result, Ok, Err, IfOk, ForSome, Failed, Ghosts, IsSure, OnlyAsks, FewerLater, held_of, cause_since, leaves_held, elapses-trans, Program, total, Faulty, bank_of, stands, chosen, Event, Begun, Turn, TurnEnd, Stored, Reopened, begun_told, turn_told, stored_told, reopened_told, turn_closes, turn_fails, stored_closes, stored_fails, reopened_closes, reopened_fails, HasNumbers, StoredNumber, IsReopened, Did, standing_of, Desk, numbers, Fine, CallsStore, FailsCounted, Fixed, StaysShut, HoldsStore, IsDamage, WritesMore, writes_due, records_in, Line, happening_lines, number_after, step, AreNames, Answered, GoesBy, Going, begins_in, turns_in, Puts, number_told, stored_number, reopened_number, WasStep, WentBy, going_if, going_begun, going_by, is_closed, is_damaged}
+use Rattle.std.proofs.lemmas.Bool.Decides.{nat_tests}
+use Rattle.schedule_replay.proofs.Common.{◌≡◌, ℕ, ◌+◌, ◌*◌, ◌≤◌, List, [], ◌∷◌, refl, sym, ap, ◌∙◌, subst, arith, true, false, Bool, Option, Result, Ok, Err, IfOk, Failed, Ghosts, IsSure, OnlyAsks, FewerLater, held_of, leaves_held, Program, stands, Event, Begun, Turn, TurnEnd, Stored, Reopened, begun_told, turn_told, stored_told, reopened_told, turn_closes, turn_fails, stored_closes, stored_fails, reopened_closes, reopened_fails, HasNumbers, StoredNumber, IsReopened, Did, standing_of, Desk, numbers, Fine, CallsStore, FailsCounted, Fixed, StaysShut, HoldsStore, IsDamage, WritesMore, writes_due, Line, happening_lines, number_after, step, AreNames, Answered, GoesBy, Going, begins_in, turns_in, Puts, number_told, stored_number, reopened_number, WasStep, WentBy, going_if, going_begun, going_by, is_closed, is_damaged}
 use Rattle.std.specs.Result.{result_and}
 use Rattle.desk.specs.declared.event.Event.TheVariants as event
 use Rattle.desk.specs.declared.answers.Begun.TheVariants as begun
@@ -46,13 +47,10 @@ undamaged_if shut = grind arith
 pub begun_closes : (answer : Begun) (old new : Bool) {same : Type 0} → new ≡ old → StaysShut old (answer ≡ begun.Shut) same → new ≡ is_closed (going_begun answer)
 begun_closes answer true new is stays = is ∙ sym (ap (λ (these : Begun). is_closed (going_begun these)) (stays.shut.1 refl))
 begun_closes begun.Shut false new is stays = is ∙ stays.shut.0 refl
-begun_closes (begun.Started activation) false new is stays = is
-begun_closes (begun.Busy activation) false new is stays = is
-begun_closes (begun.NoSegment activation segment) false new is stays = is
+begun_closes _ false new is stays = is
 
 pub if_closes : (shut : Bool) → shut ≡ is_closed (going_if shut)
-if_closes true = refl
-if_closes false = refl
+if_closes shut = grind (arith, nat_tests)
 
 pub crash_closes : (answer : Reopened) → reopened_closes answer ≡ is_closed (going_by answer)
 crash_closes answer = grind arith
@@ -60,26 +58,11 @@ crash_closes answer = grind arith
 module _ {D W : Type 0} (S : desk.Ghosts D) (G : Ghosts W) where
   -- the store of a supervisor stays where the disk is only asked
   pub store_asked : (old new : D) (before after : W) → S.fixed new ≡ S.fixed old → OnlyAsks G before after → HoldsStore G (S.fixed old).header before → CallsStore G (S.fixed new).header before after
-  store_asked old new before after fixed asks bytes = record {
-    calls = asks.calls;
-    told = λ some. subst (λ (held : Option (List ℕ)). IsSome held) (sym asks.held) some;
-    bytes = subst (λ (these : Fixed). HoldsStore G these.header after) (sym fixed) (subst (λ (held : Option (List ℕ)). ForSome held (λ bytes. total (S.fixed old).header ≤ length bytes)) (sym asks.held) bytes);
-  }
+  store_asked old new before after fixed asks bytes = grind (arith, nat_tests)
 
   answered_event : (fewer_later : FewerLater G) {T : Type 0} (events : List Event) (lines : List Line) (old new : D) (before between after : W) (result : Result T Failed) → S.sound new → S.fixed new ≡ S.fixed old → S.given new ≤ S.given old + begins_in events → S.turns new ≤ S.turns old + turns_in events
       → CallsStore G (S.fixed new).header before between → Puts G lines between after result → Answered S G events old new before after result
-  answered_event fewer_later events lines old new before between after result sound fixed given turns store puts = record {
-    sound = sound;
-    fixed = fixed;
-    given = given;
-    turns = turns;
-    bytes = subst (λ (held : Option (List ℕ)). ForSome held (λ bytes. total (S.fixed new).header ≤ length bytes)) (sym puts.only.held) store.bytes;
-    honest = puts.only.honest ∙ store.calls.honest;
-    told = λ some. subst (λ (held : Option (List ℕ)). IsSome held) (sym puts.only.held) (store.told some);
-    time = elapses-trans G fewer_later before between after store.calls.time puts.only.time;
-    disk = omega (arith, store.calls.disk, puts.only.disk);
-    cause = cause_since {T = ℕ} (G.put_faults before) (G.put_faults between) (G.put_faults after) 0 result (record { later = omega (arith, store.calls.put); failed = tt; done = store.calls.put }) puts.only.cause;
-  }
+  answered_event fewer_later events lines old new before between after result sound fixed given turns store puts = grind (arith, nat_tests)
 
   pub goes_if : (shut fails : Bool) {told same : Type 0} (old new : D) (before between after : W) → S.closed new ≡ shut → StaysShut (S.closed old) told same → (shut ≡ true → fails ≡ false → told) → FailsCounted fails (G.disk_faults before) (G.disk_faults between)
       → G.disk_faults after ≡ G.disk_faults between → GoesBy S G old new before after (going_if shut)
@@ -90,21 +73,14 @@ module _ {D W : Type 0} (S : desk.Ghosts D) (G : Ghosts W) where
   pub goes_crash : (answer : Reopened) (old new : D) (before between after : W) → S.closed new ≡ reopened_closes answer → StaysShut (S.closed old) (answer ≡ reopened.Shut) ((new ≡ old) × (between ≡ before)) → FailsCounted (reopened_fails answer) (G.disk_faults before) (G.disk_faults between) → IsDamage G (S.fixed old).header before answer
       → G.disk_faults after ≡ G.disk_faults between → G.held after ≡ G.held before → GoesBy S G old new before after (going_by answer)
   goes_crash (reopened.Number told) old new before between after closed stays rose damage disk held = λ was_open. closed
-  goes_crash (reopened.Damaged offset) old new before between after closed stays rose damage disk held = (
-    closed,
-    subst (λ (those : Option (List ℕ)). IsSome those → bank_of (unwrap_or those []) (S.fixed old).header (chosen (unwrap_or those [])) ≡ Faulty offset) (sym held) damage,
-  )
+  goes_crash (reopened.Damaged offset) old new before between after closed stays rose damage disk held = grind (arith, nat_tests)
   goes_crash reopened.DiskFault old new before between after closed stays rose damage disk held = (closed, λ was_open. omega (arith, rose, disk))
   goes_crash reopened.Shut old new before between after closed stays rose damage disk held = (closed, λ was_open. absurd (let is : S.closed old ≡ true = stays.shut.0 refl in let no : ⊥ = cc in no))
 
   -- a supervisor that closed at a begin was closed before
   pub goes_begin : (answer : Begun) {same : Type 0} (old new : D) (before after : W) → S.closed new ≡ S.closed old → StaysShut (S.closed old) (answer ≡ begun.Shut) same → GoesBy S G old new before after (going_begun answer)
-  goes_begin begun.Shut old new before after closed stays =
-      let was : S.closed old ≡ true = stays.shut.0 refl in
-      (closed ∙ was, λ was_open. absurd (let no : ⊥ = cc in no))
-  goes_begin (begun.Started activation) old new before after closed stays = λ was_open. closed ∙ was_open
-  goes_begin (begun.Busy activation) old new before after closed stays = λ was_open. closed ∙ was_open
-  goes_begin (begun.NoSegment activation segment) old new before after closed stays = λ was_open. closed ∙ was_open
+  goes_begin begun.Shut old new before after closed stays = grind (arith, nat_tests)
+  goes_begin _ old new before after closed stays = λ was_open. closed ∙ was_open
 
   module _ (names : List (List ℕ)) (programs : List Program) where
     -- a begin asks no disk
@@ -112,24 +88,7 @@ module _ {D W : Type 0} (S : desk.Ghosts D) (G : Ghosts W) where
         (program : ℕ) (args : List ℕ) (answer : Begun) (start : Desk) (old new : D) (w : W) → IsSure G w → S.shows old (held_of G w) start
         → (next : Desk) × (step programs (event.Begin program args) Fine start ≡ record { desk = next; happening = begun_told program answer }) × S.shows new (held_of G w) next
         → WasStep S G names programs (S.fixed old).opened (event.Begin program args) (happening_lines names 0 (begun_told program answer)) start new w w
-    begin_step stands_law open_law closed_law order_law program args answer start old new w sure shows (next, is, shown) = record {
-      told = begun_told program answer;
-      did = record {
-        word = Fine;
-        next = next;
-        stepped = is;
-        why = inl refl;
-        closes = closed_law new (held_of G w) next shown ∙ sym (open_law new (held_of G w) next shown);
-        ordered = order_law new (held_of G w) next shown;
-        still = λ still. (sure, shown);
-        records = λ still. begun_keep program answer (records_in (held_of G w));
-        crash = λ image seen left. inl (ap stands (leaves_held G w sure image seen left) ∙ stands_law old (held_of G w) start shows);
-        doubt = λ doubted. absurd (let no : ⊥ = cc in no);
-      };
-      lines_are = begun_numbered names program answer 0 (number_after (S.fixed old).opened next);
-      writes = subst (λ (n : ℕ). WritesMore (G.writes w) (G.writes w) (2 * n)) (sym (begin_writes names 0 program answer)) (writes_same (G.writes w));
-      calm = λ none. refl;
-    }
+    begin_step stands_law open_law closed_law order_law program args answer start old new w sure shows (next, is, shown) = grind (arith, nat_tests, begun_keep, leaves_held, begun_numbered, begin_writes, writes_same)
 
     module _ (number : ℕ) (start : Desk) (new : D) (before after : W) where
       pub turn_step : (activation limit : ℕ) (answer : Turn) (printed : List ℕ)

@@ -1,5 +1,6 @@
 -- Puts of lines, one after another.
-use Rattle.schedule_replay.proofs.Common.{◌≡◌, ⊎_elim, ℕ, ◌+◌, ◌<◌, List, [], ◌∷◌, ◌++◌, length, map, get_or, take, drop, min, refl, sym, ◌∙◌, ap, subst, append_assoc, append-nil, length-append, arith, rules, inl, IsSome, Option, None, Some, Result, Ok, Err, IsErr, unwrap_or, map-append, take_more, take-append-drop, take_min, take-append-le, flat_map-append, flat_map, Failed, Ghosts, Prints, AreTold, Elapses, Shows, OnlyPuts, FewerLater, prints_on, prints_stop, prints_same, prints_well, only_on, leaves_on, told_is, Cycle, Line, line_text, cycle_lines, Puts, PutsTimes, shown_of, BeginsWith}
+use Rattle.std.proofs.lemmas.Bool.Decides.{nat_tests}
+use Rattle.schedule_replay.proofs.Common.{◌≡◌, ⊎_elim, ℕ, ◌+◌, ◌<◌, List, [], ◌∷◌, ◌++◌, length, map, get_or, take, drop, min, refl, sym, ◌∙◌, ap, subst, append_assoc, append-nil, length-append, arith, rules, IsSome, Option, None, Some, Result, Ok, Err, IsErr, unwrap_or, map-append, take_more, take-append-drop, take_min, take-append-le, flat_map-append, flat_map, Failed, Ghosts, Prints, AreTold, Elapses, Shows, OnlyPuts, FewerLater, prints_on, prints_stop, prints_same, prints_well, only_on, leaves_on, told_is, Cycle, Line, line_text, cycle_lines, Puts, PutsTimes, shown_of, BeginsWith}
 use Rattle.std.proofs.Math.Seq.{take-append-add}
 use Rattle.std.specs.Result.{result_and}
 
@@ -56,21 +57,7 @@ module _ {W : Type 0} (G : Ghosts W) where
 
   -- another value
   pub puts_well : {T U : Type 0} (old new : W) (lines : List Line) (first : T) (second : U) → Puts G lines old new (Ok first) → Puts G lines old new (Ok second)
-  puts_well old new lines first second puts = record {
-    only = record {
-      held = puts.only.held;
-      writes = puts.only.writes;
-      honest = puts.only.honest;
-      time = puts.only.time;
-      cause = record { later = puts.only.cause.later; failed = tt; done = puts.only.cause.done };
-      calls = puts.only.calls;
-      disk = puts.only.disk;
-    };
-    printed = prints_well (G.printed old) (G.printed new) (text_of lines) first second puts.printed;
-    times = puts.times;
-    images = puts.images;
-    crash = puts.crash;
-  }
+  puts_well old new lines first second puts = grind (arith, nat_tests, prints_well)
 
   -- lines were put, and then a value is told where that went well
   pub puts_and : {T U : Type 0} (old new : W) (lines : List Line) (put : Result T Failed) (value : U) → Puts G lines old new put → Puts G lines old new (result_and put (Ok value))
@@ -80,19 +67,11 @@ module _ {W : Type 0} (G : Ghosts W) where
   -- the puts of lines, and then of lines
   pub times_on : {T U : Type 0} (old mid new : W) (first second : List Line) (value : T) (result : Result U Failed) → Prints (G.printed old) (G.printed mid) (text_of first) (Ok value) → PutsTimes {T = T} G (length first) old mid (Ok value) → PutsTimes G (length second) mid new result → PutsTimes G (length (first ++ second)) old new result
   times_on old mid new first second value (Err failed) prints one two = tt
-  times_on old mid new first second value (Ok other) prints one two = λ told.
-      let after = shown_after (G.printed old) (G.printed mid) (text_of first) value told prints in
-      let before = one told in
-      let behind = two after.0 in
-      omega (arith, before, behind, length-append first second)
+  times_on old mid new first second value (Ok other) prints one two = grind (arith, nat_tests, shown_after, length-append)
 
   -- no time goes by
   pub no_time : (w : W) → Elapses G.moment G.left_since w w
-  no_time w = record {
-    later = record { calls = omega arith; puts = omega arith; origin = refl };
-    nothing_else = λ t image seen before left. inl left;
-    keeps = λ t image seen before left. left;
-  }
+  no_time w = grind (arith, nat_tests)
 
   printed_none : {T : Type 0} (told : Option (List ℕ)) (value : T) → Prints told told [] (Ok value)
   printed_none None value = refl
@@ -101,38 +80,11 @@ module _ {W : Type 0} (G : Ghosts W) where
   module _ (printed_now : PrintedNow G) where
     -- nothing is put
     pub puts_none : {T : Type 0} (w : W) (value : T) → Puts G [] w w (Ok value)
-    puts_none w value = record {
-      only = record {
-        held = refl;
-        writes = refl;
-        honest = refl;
-        time = no_time w;
-        cause = record { later = omega arith; failed = tt; done = refl };
-        calls = refl;
-        disk = refl;
-      };
-      printed = printed_none (G.printed w) value;
-      times = λ told. omega arith;
-      images = λ image seen left. (seen, left);
-      crash = λ told image seen left.
-          let is : seen ≡ shown_of G w = told_is (G.printed w) seen told (printed_now w image seen left) in
-          (subst (λ (these : List ℕ). G.left_since w (G.moment w) image these) is left, (0, is ∙ sym (append-nil (shown_of G w))));
-    }
+    puts_none w value = grind (arith, nat_tests, no_time, printed_none, told_is, append-nil)
 
     -- one line
     pub puts_one : {T : Type 0} (line : Line) (old new : W) (result : Result T Failed) → OnlyPuts G old new result → Prints (G.printed old) (G.printed new) (line_text line) result → PutsTimes G 1 old new result → Shows (line_text line) G.moment G.left_since old new → Puts G (line ∷ []) old new result
-    puts_one line old new result only printed times shows = record {
-      only = only;
-      printed = prints_same (G.printed old) (G.printed new) (line_text line) (text_of (line ∷ [])) result (sym (append-nil (line_text line))) printed;
-      times = times;
-      images = λ image seen left. let from = shows image seen left in (from.0, from.1);
-      crash = λ told image seen left.
-          let from = shows image seen left in
-          let is : from.0 ≡ shown_of G old = told_is (G.printed old) from.0 told (printed_now old image from.0 from.1) in (
-            subst (λ (these : List ℕ). G.left_since old (G.moment old) image these) is from.1,
-            (from.2.0, from.2.1 ∙ ap (λ (these : List ℕ). these ++ take from.2.0 (line_text line)) is ∙ ap (λ (bytes : List ℕ). shown_of G old ++ take from.2.0 bytes) (sym (append-nil (line_text line)))),
-          );
-    }
+    puts_one line old new result only printed times shows = grind (arith, nat_tests, prints_same, append-nil, told_is, take)
 
     module _ (fewer_later : FewerLater G) where
       -- lines, and then lines
@@ -186,9 +138,7 @@ abbrev pub cycles_of : List Cycle → List Line
 cycles_of cycles = flat_map cycle_lines (map (λ each. each.members.items) cycles)
 
 pub cycles_split : (xs ys : List Cycle) → cycles_of (xs ++ ys) ≡ cycles_of xs ++ cycles_of ys
-cycles_split xs ys =
-    let items : Cycle → List ℕ = λ each. each.members.items in
-    ap (flat_map cycle_lines) (map-append items xs ys) ∙ flat_map-append cycle_lines (map items xs) (map items ys)
+cycles_split xs ys = grind (arith, nat_tests, map-append, flat_map-append)
 
 -- bytes that were put begin with none
 pub begins_none : {T : Type 0} (old new : Option (List ℕ)) (bytes : List ℕ) (result : Result T Failed) → Prints old new bytes result → BeginsWith old new []
@@ -204,17 +154,9 @@ begins_same (Some old) new same = ([], same ∙ ap (λ (all : List ℕ). Some al
 -- they still begin so with more behind them
 pub begins_on : (old mid new : Option (List ℕ)) (bytes : List ℕ) → BeginsWith old mid bytes → BeginsWith mid new [] → BeginsWith old new bytes
 begins_on None mid new bytes one two = tt
-begins_on (Some old) mid new bytes one two =
-    let more : (rest : List ℕ) × (new ≡ Some ((old ++ (bytes ++ one.0)) ++ rest)) = subst (λ (told : Option (List ℕ)). BeginsWith told new []) one.1 two in (
-      one.0 ++ more.0,
-      more.1 ∙ ap (λ (all : List ℕ). Some all) (append_assoc old (bytes ++ one.0) more.0 ∙ ap (λ (tail : List ℕ). old ++ tail) (append_assoc bytes one.0 more.0)),
-    )
+begins_on (Some old) mid new bytes one two = grind (arith, nat_tests, append_assoc)
 
 -- bytes in front of those that begin so
 pub begins_behind : {T : Type 0} (old mid new : Option (List ℕ)) (first second : List ℕ) (value : T) → Prints old mid first (Ok value) → BeginsWith mid new second → BeginsWith old new (first ++ second)
 begins_behind None mid new first second value one two = tt
-begins_behind (Some old) mid new first second value one two =
-    let more : (rest : List ℕ) × (new ≡ Some ((old ++ first) ++ (second ++ rest))) = subst (λ (told : Option (List ℕ)). BeginsWith told new second) one two in (
-      more.0,
-      more.1 ∙ ap (λ (all : List ℕ). Some all) (append_assoc old first (second ++ more.0) ∙ ap (λ (tail : List ℕ). old ++ tail) (sym (append_assoc first second more.0))),
-    )
+begins_behind (Some old) mid new first second value one two = grind (arith, nat_tests, append_assoc)

@@ -1,4 +1,5 @@
 -- Events without a report, one after another.
+use Rattle.std.proofs.lemmas.Bool.Decides.{nat_tests}
 use Rattle.schedule_replay.proofs.Common.{◌≡◌, ℕ, ◌+◌, ◌<◌, List, [], ◌∷◌, ◌++◌, length, cond, take, get_or, refl, sym, ap, ◌∙◌, subst, arith, false, not, count_by, Option, None, Some, IfSome, flat_map, fold, map-append, length-map, take_more, fold-append, sum_by-append, Ghosts, IsSure, CallsDisk, FewerLater, held_of, leaves_held, Program, stands, Turn, TurnEnd, Event, Begun, begun_told, turn_told, stored_told, counts_told, Stored, is_commit, standing_of, IsEitherOf, Desk, Word, Doubt, Line, cycle_lines, event_lines, happening_lines, Step, run, step, faulted, left_none, left_quiet, run_on, open_on, lines_on, faulted_on, Grew, Stepped, counted_quiet, run_grew, step_by, RanQuietly, Tells, WentQuietly, is_rollback, last_by, out_after, tally_begun, tally_by, tally_stored, InDoubt, RanTo, WasStep}
 use Rattle.schedule_replay.specs.declared.quietly.Tally.{Tally}
 use Rattle.desk.specs.declared.answers.TurnEnd.TheVariants as end
@@ -13,10 +14,7 @@ use Rattle.schedule_replay.proofs.WentLemmas.{last_is, one_event}
 -- the victims of cycles are rolled back
 cycles_roll : (cycles : List (List ℕ)) (ends : List Line) → count_by is_rollback (flat_map cycle_lines cycles ++ ends) ≡ length cycles + count_by is_rollback ends
 cycles_roll [] ends = omega arith
-cycles_roll (cycle ∷ cycles) ends =
-    let split = sum_by-append (λ each. cond (is_rollback each) 1 0) (cycle_lines cycle) (flat_map cycle_lines cycles ++ ends) in
-    let rest = cycles_roll cycles ends in
-    omega (arith, split, rest)
+cycles_roll (cycle ∷ cycles) ends = grind (arith, nat_tests, cycles_roll cycles ends, sum_by-append (λ each. cond (is_rollback each) 1 0) (cycle_lines cycle) (flat_map cycle_lines cycles ++ ends))
 
 -- and print nothing
 cycles_last : (last : List ℕ) (cycles : List (List ℕ)) (ends : List Line) → fold out_after last (flat_map cycle_lines cycles ++ ends) ≡ fold out_after last ends
@@ -24,23 +22,17 @@ cycles_last last [] ends = refl
 cycles_last last (cycle ∷ cycles) ends = cycles_last last cycles ends
 
 rolled : (activation : ℕ) (answer : Turn) (ends : List Line) → count_by is_rollback (line.Turn activation answer.ran answer.pages answer.locks ∷ (flat_map cycle_lines (counts_told answer).cycles ++ ends)) ≡ length answer.cycles.items + count_by is_rollback ends
-rolled activation answer ends =
-    let all = cycles_roll (counts_told answer).cycles ends in
-    let many = length-map answer.cycles.items (λ cycle. cycle.members.items) in
-    omega (arith, all, many)
+rolled activation answer ends = grind (arith, nat_tests, cycles_roll, length-map)
 
 -- the tally of a begin is that of its line
 pub begin_tells : (number program : ℕ) (answer : Begun) (last : List ℕ) → IfSome (tally_begun answer) (λ tally. Tells tally last last (happening_lines [] number (begun_told program answer)))
-begin_tells number program (begun.Started activation) last = record { commits = refl; rollbacks = refl; last = refl }
-begin_tells number program (begun.Busy activation) last = record { commits = refl; rollbacks = refl; last = refl }
-begin_tells number program (begun.NoSegment activation segment) last = record { commits = refl; rollbacks = refl; last = refl }
 begin_tells number program begun.Shut last = tt
+begin_tells number program _ last = record { commits = refl; rollbacks = refl; last = refl }
 
 -- and that of a checkpoint
 pub stored_tells : (number : ℕ) (answer : Stored) (last : List ℕ) → IfSome (tally_stored answer) (λ tally. Tells tally last last (happening_lines [] number (stored_told answer)))
 stored_tells number (stored.Number told) last = record { commits = refl; rollbacks = refl; last = refl }
-stored_tells number stored.Closed last = tt
-stored_tells number stored.Shut last = tt
+stored_tells number _ last = tt
 
 -- the tally of a turn's counts, its cycles and the lines of its end
 counted_tells : (activation commits rollbacks : ℕ) (answer : Turn) (ends : List Line) (old new : List ℕ) → commits ≡ count_by is_commit ends → rollbacks ≡ length answer.cycles.items + count_by is_rollback ends → new ≡ fold out_after old ends
@@ -54,30 +46,21 @@ counted_tells activation commits rollbacks answer ends old new one two last = re
 -- the tally of a turn is that of its lines
 pub turn_tells : (number activation : ℕ) (answer : Turn) (ends : TurnEnd) (printed last : List ℕ) → IfSome (tally_by ends (length answer.cycles.items)) (λ tally. Tells tally last (last_by ends printed last) (happening_lines [] number (turn_told activation (record answer { end = ends }) printed)))
 turn_tells number activation answer end.Idle printed last = record { commits = refl; rollbacks = refl; last = refl }
-turn_tells number activation answer end.Limit printed last = counted_tells activation 0 (length answer.cycles.items) answer [] last last refl (omega arith) refl
 turn_tells number activation answer (end.Committed told steps) printed last = counted_tells activation 1 (length answer.cycles.items) answer (line.Commit activation number steps printed ∷ []) last printed refl (omega arith) refl
 turn_tells number activation answer (end.Checked code address) printed last = counted_tells activation 0 (length answer.cycles.items + 1) answer (line.Check activation code address ∷ []) last last refl (omega arith) refl
 turn_tells number activation answer (end.Waits told holders) printed last = counted_tells activation 0 (length answer.cycles.items) answer (line.Wait activation holders.items ∷ []) last last refl (omega arith) refl
-turn_tells number activation answer end.Victim printed last = counted_tells activation 0 (length answer.cycles.items) answer [] last last refl (omega arith) refl
 turn_tells number activation answer (end.Journal lines limit) printed last = counted_tells activation 0 (length answer.cycles.items + 1) answer (line.Journal activation lines limit ∷ []) last last refl (omega arith) refl
 turn_tells number activation answer end.Disk printed last = counted_tells activation 0 (length answer.cycles.items + 1) answer (line.Disk activation ∷ []) last last refl (omega arith) refl
 turn_tells number activation answer (end.Closed doubt told) printed last = tt
 turn_tells number activation answer end.Shut printed last = tt
+turn_tells number activation answer _ printed last = counted_tells activation 0 (length answer.cycles.items) answer [] last last refl (omega arith) refl
 
 -- a tally and then another
 pub tells_on : (one two both : Tally) (old mid new : List ℕ) (xs ys lines : List Line) → lines ≡ xs ++ ys → both.commits ≡ one.commits + two.commits → both.rollbacks ≡ one.rollbacks + two.rollbacks → Tells one old mid xs → Tells two mid new ys → Tells both old new lines
-tells_on one two both old mid new xs ys lines is commits rollbacks first second = record {
-  commits = commits ∙ ap (λ n. n + two.commits) first.commits ∙ ap (λ n. count_by is_commit xs + n) second.commits ∙ sym (sum_by-append (λ each. cond (is_commit each) 1 0) xs ys) ∙ ap (λ (these : List Line). count_by is_commit these) (sym is);
-  rollbacks = rollbacks ∙ ap (λ n. n + two.rollbacks) first.rollbacks ∙ ap (λ n. count_by is_rollback xs + n) second.rollbacks ∙ sym (sum_by-append (λ each. cond (is_rollback each) 1 0) xs ys) ∙ ap (λ (these : List Line). count_by is_rollback these) (sym is);
-  last = second.last ∙ ap (λ (these : List ℕ). fold out_after these ys) first.last ∙ sym (fold-append out_after old xs ys) ∙ ap (λ (these : List Line). fold out_after old these) (sym is);
-}
+tells_on one two both old mid new xs ys lines is commits rollbacks first second = grind (arith, nat_tests, sum_by-append, cond, fold-append)
 
 pub tells_nothing : (last : List ℕ) (lines : List Line) → last ≡ [] → lines ≡ [] → Tells (record { commits = 0; rollbacks = 0 }) [] last lines
-tells_nothing last lines none is = record {
-  commits = ap (λ (these : List Line). count_by is_commit these) (sym is);
-  rollbacks = ap (λ (these : List Line). count_by is_rollback these) (sym is);
-  last = none ∙ ap (λ (these : List Line). fold out_after [] these) (sym is);
-}
+tells_nothing last lines none is = grind (arith, nat_tests)
 
 -- of a tally that is there
 if_some : {A : Type 0} (P Q : A → Type 0) (told : Option A) → ((one : A) → P one → Q one) → IfSome told P → IfSome told Q
@@ -88,11 +71,7 @@ module _ {D W : Type 0} (S : desk.Ghosts D) (G : Ghosts W) (fewer_later : FewerL
   -- an event went quietly whose step and tally are told
   pub went_quietly : (event one : Event) (lines : List Line) (start : Desk) (new : D) (before after : W) (old_last new_last last : List ℕ) (tally told : Option Tally) → event ≡ one → new_last ≡ last → tally ≡ told
       → WasStep S G [] programs number one lines start new before after → IfSome told (λ each. Tells each old_last last lines) → WentQuietly S G programs number event start new before after old_last new_last tally
-  went_quietly event one lines start new before after old_last new_last last tally told is_one is_last is_told step tells = record {
-    lines = lines;
-    step = subst (λ (e : Event). WasStep S G [] programs number e lines start new before after) (sym is_one) step;
-    tells = subst (λ (these : Option Tally). IfSome these (λ each. Tells each old_last new_last lines)) (sym is_told) (subst (λ (these : List ℕ). IfSome told (λ each. Tells each old_last these lines)) (sym is_last) tells);
-  }
+  went_quietly event one lines start new before after old_last new_last last tally told is_one is_last is_told step tells = grind (arith, nat_tests)
 
   -- nothing was run yet
   pub ran_nothing : (stands_law : (s : D) (held : List ℕ) (desk : Desk) → S.shows s held desk → stands held ≡ standing_of (S.fixed s).opened desk) (open_law : (s : D) (held : List ℕ) (desk : Desk) → S.shows s held desk → desk.closed ≡ false) (closed_law : (s : D) (held : List ℕ) (desk : Desk) → S.shows s held desk → S.closed s ≡ false) (order_law : (s : D) (held : List ℕ) (desk : Desk) → S.shows s held desk → S.order s ≡ desk.order)

@@ -1,7 +1,7 @@
 -- The runs of a supervisor, one event after another.
-use Rattle.schedule_replay.proofs.Common.{◌≡◌, ℕ, ◌+◌, ◌<◌, ◌≤◌, List, [], ◌∷◌, ◌++◌, length, map, get_or, take, drop, refl, sym, ap, ◌∙◌, subst, arith, length-append, append-nil, append_assoc, inl, inr, true, false, Option, None, Some, Result, Ok, IsErr, IfOk, flat_map, map-append, take_more, take-append-drop, flat_map-append, Failed, Ghosts, Prints, Elapses, IsSure, FewerLater, Leaves, held_of, told_is, leaves_held, stands, standing_of, elapses-trans, leaves_on, prints_same, prints_on, Program, Event, Desk, Word, Doubt, run, faulted, OpenBeforeEach, Line, line_text, event_lines, commits_seen, IsLeft, ArePlain, seen_lines, seen_all, AreNames, Grew, run_grew, run_plain, run_on, open_on, lines_on, faulted_on, left_none, left_more, left_behind, BeginsWith, PutsTimes, shown_of, Ran, PrintsEarlier, InDoubt, text_of, Fixed, Going, RanSome, RanTo, is_closed, is_damaged}
+use Rattle.std.proofs.lemmas.Bool.Decides.{nat_tests}
+use Rattle.schedule_replay.proofs.Common.{◌≡◌, ℕ, ◌+◌, ◌<◌, ◌≤◌, List, [], ◌∷◌, ◌++◌, length, map, get_or, take, drop, refl, sym, ap, ◌∙◌, subst, arith, length-append, append-nil, append_assoc, inl, inr, true, false, Option, None, Some, Result, Ok, IsErr, IfOk, flat_map, map-append, take_more, take-append-drop, flat_map-append, Failed, Ghosts, Prints, Elapses, IsSure, FewerLater, Leaves, held_of, told_is, leaves_held, stands, standing_of, elapses-trans, leaves_on, prints_same, prints_on, Program, Event, Desk, Word, Doubt, run, faulted, OpenBeforeEach, Line, line_text, event_lines, commits_seen, IsLeft, ArePlain, seen_lines, seen_all, AreNames, Grew, run_grew, run_plain, run_on, open_on, lines_on, faulted_on, left_none, left_more, left_behind, PutsTimes, shown_of, Ran, PrintsEarlier, InDoubt, text_of, Fixed, Going, RanSome, RanTo, is_closed, is_damaged}
 use Rattle.desk.specs.declared.supervisor.Supervisor as desk
-use Rattle.std.proofs.lemmas.Result.{IfOk-weaker}
 use Rattle.schedule_replay.proofs.CountLemmas.{on_ok_as}
 use Rattle.schedule_replay.proofs.PutsLemmas.{PrintedNow, done, no_time, times_on, shown_after, begins_none, begins_on, begins_behind}
 use Rattle.schedule_replay.proofs.WentLemmas.{last_is}
@@ -14,19 +14,12 @@ earlier_on : {T U : Type 0} (old mid new : Option (List ℕ)) (text other : List
 earlier_on old mid new text other one two value bytes result behind first second (inl no_one) (inl no_two) = inl (ap (λ (back : List (Event × Word)). one ++ back) no_two ∙ append-nil one ∙ no_one)
 earlier_on old mid new text other one two value bytes result behind first second (inr (front, last, is, begins)) (inl no_two) =
     inr (front, last, ap (λ (back : List (Event × Word)). one ++ back) no_two ∙ append-nil one ∙ is, begins_on old mid new (text front) begins (begins_none mid new bytes result second))
-earlier_on old mid new text other one two value bytes result behind first second before (inr (front, last, is, begins)) =
-    inr (
-      one ++ front,
-      last,
-      ap (λ (back : List (Event × Word)). one ++ back) is ∙ sym (append_assoc one front (last ∷ [])),
-      subst (λ (these : List ℕ). BeginsWith old new these) (sym (behind front)) (begins_behind old mid new (text one) (other front) value first begins),
-    )
+earlier_on old mid new text other one two value bytes result behind first second before (inr (front, last, is, begins)) = grind (arith, nat_tests, append_assoc one front (last ∷ []), begins_behind old mid new (text one) (other front) value first begins)
 
 -- a list with the events of one is a list of one
 one_of : (taken : List (Event × Word)) (event : Event) → map (λ (each : Event × Word). each.0) taken ≡ event ∷ [] → (word : Word) × (taken ≡ (event, word) ∷ [])
-one_of [] event is = absurd (let no : ⊥ = cc in no)
 one_of (one ∷ []) event is = (one.1, let same : one.0 ≡ event = cc in ap (λ (that : Event). (that, one.1) ∷ []) same)
-one_of (one ∷ two ∷ taken) event is = absurd (let no : ⊥ = cc in no)
+one_of _ event is = absurd (let no : ⊥ = cc in no)
 
 -- what a crash left of two parts, one after another
 module _ {W : Type 0} (G : Ghosts W) (fewer_later : FewerLater G) (programs : List Program) (number : ℕ) where
@@ -50,34 +43,17 @@ module _ {W : Type 0} (G : Ghosts W) (fewer_later : FewerLater G) (programs : Li
 
 -- the commits seen in lines, and in bytes behind them
 pub seen_behind : (lines : List Line) → ArePlain lines → (rest : List ℕ) → commits_seen (flat_map line_text lines ++ rest) ≡ commits_seen (flat_map line_text lines) + commits_seen rest
-seen_behind lines are rest =
-    let whole = seen_lines lines rest are in
-    let alone = seen_all lines are in
-    omega (arith, whole, alone)
+seen_behind lines are rest = grind (arith, nat_tests, seen_lines, seen_all)
 
 -- a run makes no fewer commits than its text tells
 pub seen_few : (names : List (List ℕ)) → AreNames names → (programs : List Program) (number : ℕ) (taken : List (Event × Word)) (start : Desk) → OpenBeforeEach programs taken start → length start.order + commits_seen (text_of names programs number taken start) ≤ length (run programs taken start).order
 seen_few names are programs number taken start each_open =
     let grew : Grew programs names number taken start = run_grew programs names number taken start each_open in
-    let all = seen_all (event_lines names programs number taken start) (run_plain programs names number are taken start) in
-    let longer = ap (λ (order : List (ℕ × ℕ)). length order) grew.order_is in
-    omega (arith, grew.few, all, longer, length-append start.order grew.more)
+    omega (arith, grew.few, seen_all (event_lines names programs number taken start) (run_plain programs names number are taken start), ap (λ (order : List (ℕ × ℕ)). length order) grew.order_is, length-append start.order grew.more)
 
 module _ {D W : Type 0} (S : desk.Ghosts D) (G : Ghosts W) (fewer_later : FewerLater G) (names : List (List ℕ)) (are : AreNames names) (programs : List Program) (number : ℕ) where
   pub ran_as : {T U : Type 0} (events : List Event) (start : Desk) (new : D) (before after : W) (result : Result T Failed) (other : Result U Failed) → ((one two : Option (List ℕ)) (bytes : List ℕ) → Prints one two bytes result → Prints one two bytes other) → (IsErr result → IsErr other) → Ran S G names programs number events start new before after result → Ran S G names programs number events start new before after other
-  ran_as events start new before after result other turns fails ran = record {
-    taken = ran.taken;
-    events_taken = ran.events_taken;
-    each_open = ran.each_open;
-    to = ran.to;
-    printed = turns (G.printed before) (G.printed after) (text_of names programs number ran.taken start) ran.printed;
-    times = on_ok_as _ result other fails ran.times;
-    earlier = ran.earlier;
-    time = ran.time;
-    images = ran.images;
-    left = ran.left;
-    doubt = ran.doubt;
-  }
+  ran_as events start new before after result other turns fails ran = grind (arith, nat_tests, on_ok_as _ result other fails ran.times)
 
   pub ran_on : {T U : Type 0} (xs : List Event) (event : Event) (start : Desk) (mid new : D) (before between after : W) (value : T) (result : Result U Failed) → S.closed mid ≡ false → (one : Ran S G names programs number xs start mid before between (Ok value)) → Ran S G names programs number (event ∷ []) (run programs one.taken start) new between after result → Ran S G names programs number (xs ++ event ∷ []) start new before after result
   ran_on {T} {U} xs event start mid new before between after value result was_open one two =
@@ -127,18 +103,19 @@ module _ {D W : Type 0} (S : desk.Ghosts D) (G : Ghosts W) (fewer_later : FewerL
 
   pub ran_more : {U : Type 0} (events : List Event) (i : ℕ) (event : Event) → i < length events → (start : Desk) (mid new : D) (before between after : W) (result : Result U Failed) → S.closed mid ≡ false → (one : Ran S G names programs number (take i events) start mid before between done) → Ran S G names programs number (get_or events i event ∷ []) (run programs one.taken start) new between after result → Ran S G names programs number (take (i + 1) events) start new before after result
   ran_more events i event lt start mid new before between after result was_open one two =
-      subst (λ (these : List Event). Ran S G names programs number these start new before after result) (sym (take_more events i event lt))
-      (ran_on (take i events) (get_or events i event) start mid new before between after 0 result was_open one two)
+      grind (
+        arith,
+        nat_tests,
+        take_more events i event lt,
+        ran_on (take i events) (get_or events i event) start mid new before between after 0 result was_open one two,
+        take i events,
+        get_or events i event,
+      )
 
   -- the next event is run from where the run is
   ran_next : {U : Type 0} (events : List Event) (i : ℕ) (event : Event) → i < length events → (start : Desk) (mid new : D) (before between after : W) (result : Result U Failed) → S.closed mid ≡ false → (S.fixed mid).programs ≡ programs → (S.fixed mid).opened ≡ number → Ran S G names programs number (take i events) start mid before between done
       → ((desk : Desk) → IsSure G between → S.shows mid (held_of G between) desk → Ran S G names (S.fixed mid).programs (S.fixed mid).opened (get_or events i event ∷ []) desk new between after result) → Ran S G names programs number (take (i + 1) events) start new before after result
-  ran_next events i event lt start mid new before between after result was_open same_programs same_number one next =
-      let kept = one.to.still (sym one.to.closes ∙ was_open) in
-      let two = next (run programs one.taken start) kept.0 kept.1 in
-      ran_more events i event lt start mid new before between after result was_open one
-      (subst (λ (n : ℕ). Ran S G names programs n (get_or events i event ∷ []) (run programs one.taken start) new between after result) same_number
-      (subst (λ (these : List Program). Ran S G names these (S.fixed mid).opened (get_or events i event ∷ []) (run programs one.taken start) new between after result) same_programs two))
+  ran_next events i event lt start mid new before between after result was_open same_programs same_number one next = grind (arith, nat_tests, ran_more, get_or)
 
 -- The events so far were run, from a supervisor that was open, and the next one was asked of it.
 module _ {D W : Type 0} (S : desk.Ghosts D) (G : Ghosts W) (fewer_later : FewerLater G) (names : List (List ℕ)) (are : AreNames names) (events : List Event) (i : ℕ) (event : Event) (lt : i < length events) (start : Desk) (old mid new : D) (before between after : W) (was_open : S.closed mid ≡ false) (fixed : S.fixed mid ≡ S.fixed old)
@@ -152,15 +129,7 @@ module _ {D W : Type 0} (S : desk.Ghosts D) (G : Ghosts W) (fewer_later : FewerL
   -- and none is asked behind it
   pub ran_last : (other : Result Going Failed) → ((one two : Option (List ℕ)) (bytes : List ℕ) → Prints one two bytes result → Prints one two bytes other) → (IsErr result → IsErr other)
       → IfOk other (λ going. S.closed new ≡ is_closed going) → IfOk other (λ going. is_damaged going ≡ false) → IfOk other (λ going. is_closed going ≡ true) → RanSome S G names (S.fixed old).programs (S.fixed old).opened events start new before after other
-  ran_last other turns fails closed sound shut = record {
-    front = take (i + 1) events;
-    rest = drop (i + 1) events;
-    whole = take-append-drop (i + 1) events;
-    ran = ran_further other turns fails;
-    closed = closed;
-    sound = sound;
-    all = IfOk-weaker other _ _ (λ going is goes_on. absurd (let never : true ≡ false = sym is ∙ goes_on in let no : ⊥ = cc in no)) shut;
-  }
+  ran_last other turns fails closed sound shut = grind (arith, nat_tests, take (i + 1) events, drop (i + 1) events, take-append-drop (i + 1) events, ran_further other turns fails)
 
 -- no event was run
 pub none_last : (front : List (Event × Word)) (last : Event × Word) → [] ≡ front ++ last ∷ [] → ⊥

@@ -1,30 +1,20 @@
 -- What runs leave, one after another.
-use Rattle.schedule_replay.proofs.Common.{◌≡◌, ℕ, ◌+◌, ◌*◌, ◌≤◌, ◌⊎◌, List, [], ◌∷◌, ◌++◌, refl, sym, ap, ◌∙◌, subst, arith, ⊎_elim, false, Option, unwrap_or, Ghosts, Rose, RoseBy, IsSure, held_of, Program, Event, Desk, WritesMore, records_in, most_records, Line, number_after, faulted, commits_in, commits_on, RanTo, WasStep}
-use Rattle.desk.specs.Instruction.{Word, Fine, ReadFailed, Unwritten, Doubt, Failed as broken_word}
+use Rattle.std.proofs.lemmas.Bool.Decides.{nat_tests}
+use Rattle.schedule_replay.proofs.Common.{◌≡◌, ℕ, ◌+◌, ◌*◌, ◌≤◌, ◌⊎◌, List, [], ◌∷◌, ◌++◌, sym, ap, ◌∙◌, subst, arith, ⊎_elim, false, Option, unwrap_or, Ghosts, Rose, RoseBy, IsSure, held_of, Program, Event, Desk, WritesMore, records_in, most_records, Line, number_after, faulted, commits_in, commits_on, RanTo, WasStep}
+use Rattle.desk.specs.Instruction.{Word, Fine}
 use Rattle.desk.specs.declared.supervisor.Supervisor as desk
 use Rattle.schedule_replay.proofs.CountLemmas.{faults_in, faults_front, faults_behind, happened_keep, most_on, most_le}
-use Rattle.schedule_replay.proofs.WriteLemmas.{writes_on, writes_same}
+use Rattle.schedule_replay.proofs.WriteLemmas.{writes_on}
 
 -- a word that isn't fine is counted where the disk's faults rose
 word_faults : (event : Event) (word : Word) (before after : ℕ) → before ≤ after → (word ≡ Fine) ⊎ Rose before after → RoseBy (faulted ((event, word) ∷ [])) before after
 word_faults event Fine before after le cause = omega arith
-word_faults event (ReadFailed page) before after le cause = ⊎_elim (λ (fine : ReadFailed page ≡ Fine). absurd (let no : ⊥ = cc in no)) (λ rose. omega (arith, rose)) cause
-word_faults event Unwritten before after le cause = ⊎_elim (λ (fine : Unwritten ≡ Fine). absurd (let no : ⊥ = cc in no)) (λ rose. omega (arith, rose)) cause
-word_faults event Doubt before after le cause = ⊎_elim (λ (fine : Doubt ≡ Fine). absurd (let no : ⊥ = cc in no)) (λ rose. omega (arith, rose)) cause
-word_faults event broken_word before after le cause = ⊎_elim (λ (fine : broken_word ≡ Fine). absurd (let no : ⊥ = cc in no)) (λ rose. omega (arith, rose)) cause
+word_faults event word before after le cause = ⊎_elim (λ (fine : word ≡ Fine). absurd (let no : ⊥ = cc in no)) (λ rose. omega (arith, rose)) cause
 
 module _ {D W : Type 0} (S : desk.Ghosts D) (G : Ghosts W) where
   -- nothing was run
   pub to_none : (start : Desk) (new : D) (w : W) → S.closed new ≡ false → start.closed ≡ false → S.order new ≡ start.order → IsSure G w → S.shows new (held_of G w) start → RanTo S G start [] 0 new w w
-  to_none start new w was_open is_open order sure shows = record {
-    closes = was_open ∙ sym is_open;
-    ordered = order;
-    still = λ still. (sure, shows);
-    records = λ still. omega arith;
-    faults = omega arith;
-    calm = λ none. refl;
-    writes = writes_same (G.writes w);
-  }
+  to_none start new w was_open is_open order sure shows = grind (arith, nat_tests)
 
   -- an event, by its word
   pub to_did : (programs : List Program) (number : ℕ) (event : Event) (names : List (List ℕ)) (lines : List Line) (start : Desk) (new : D) (before after : W) (was : WasStep S G names programs number event lines start new before after) → G.disk_faults before ≤ G.disk_faults after → RanTo S G was.did.next lines (faulted ((event, was.did.word) ∷ [])) new before after
@@ -32,11 +22,7 @@ module _ {D W : Type 0} (S : desk.Ghosts D) (G : Ghosts W) where
     closes = was.did.closes;
     ordered = was.did.ordered;
     still = was.did.still;
-    records = λ still.
-        let kept = was.did.records still in
-        let told = happened_keep names (number_after number was.did.next) was.told (records_in (held_of G before)) in
-        let same = ap (λ (these : List Line). most_records these (records_in (held_of G before))) was.lines_are in
-        omega (arith, kept, told, same);
+    records = λ still. omega (arith, was.did.records still, happened_keep names (number_after number was.did.next) was.told (records_in (held_of G before)), ap (λ (these : List Line). most_records these (records_in (held_of G before))) was.lines_are);
     faults = word_faults event was.did.word (G.disk_faults before) (G.disk_faults after) later was.did.why;
     calm = was.calm;
     writes = was.writes;
@@ -77,16 +63,13 @@ module _ {D W : Type 0} (S : desk.Ghosts D) (G : Ghosts W) where
     still = more.still;
     records = λ still.
         let kept = ran.records (sym ran.closes ∙ was_open) in
-        let later = more.records still in
-        let grown = most_le second (records_in (held_of G between)) (most_records first (records_in (held_of G before))) kept in
         let split = ap (λ (these : List Line). most_records these (records_in (held_of G before))) is ∙ most_on first second (records_in (held_of G before)) in
-        omega (arith, later, grown, split);
+        omega (arith, more.records still, most_le second (records_in (held_of G between)) (most_records first (records_in (held_of G before))) kept, split);
     faults = omega (arith, ran.faults, more.faults, sum);
     calm = λ none.
         let all : faults_in (first ++ second) ≡ 0 = ap faults_in (sym is) ∙ none in
         more.calm (faults_behind first second all) ∙ ran.calm (faults_front first second all);
     writes =
-        let split = ap commits_in is ∙ commits_on first second in
-        subst (λ (n : ℕ). WritesMore (G.writes before) (G.writes after) n) (let twice : 2 * commits_in first + 2 * commits_in second ≡ 2 * commits_in lines = omega (arith, split) in twice)
+        subst (λ (n : ℕ). WritesMore (G.writes before) (G.writes after) n) (let twice : 2 * commits_in first + 2 * commits_in second ≡ 2 * commits_in lines = omega (arith, ap commits_in is ∙ commits_on first second) in twice)
         (writes_on (G.writes before) (G.writes between) (G.writes after) (2 * commits_in first) (2 * commits_in second) ran.writes more.writes);
   }

@@ -1,5 +1,6 @@
 -- The report of a run, from its parts.
-use Rattle.schedule_replay.proofs.Common.{◌≡◌, ℕ, List, [], ◌∷◌, ◌++◌, length, map, refl, sym, ap, ◌∙◌, subst, inl, inr, arith, rules, append-nil, IsSome, Option, Bool, true, false, if◌then◌else◌, Result, Ok, Err, IsErr, IfOk, OnOk, flat_map, Failed, Ghosts, Prints, IsSure, Elapses, Leaves, held_of, prints_broken, prints_same, prints_well, prints_on, prints_stop, leaves_held, elapses-trans, leaves_on, Program, stands, Event, standing_of, Desk, numbers, Word, Line, Open, Left, End, line_text, number_after, closing_lines, report, event_lines, run, faulted, commits_seen, IsLeft, ArePlain, plain_on, commits_in, commits_on, seen_all, AreNames, Grew, run_grew, run_plain, report_parts, lines_end, left_none, left_more, Going, Puts, PutsTimes, BeginsWith, shown_of, Ran, HasOpened, PrintsEarlier, text_of, RanSome, Reports, Fixed, is_closed}
+use Rattle.std.proofs.lemmas.Bool.Decides.{nat_tests}
+use Rattle.schedule_replay.proofs.Common.{◌≡◌, ℕ, List, [], ◌∷◌, ◌++◌, length, map, refl, sym, ap, ◌∙◌, subst, inl, inr, arith, rules, append-nil, IsSome, Option, Bool, true, false, Result, Ok, Err, IsErr, IfOk, OnOk, flat_map, Failed, Ghosts, Prints, IsSure, Elapses, Leaves, held_of, prints_broken, prints_same, prints_well, prints_on, prints_stop, leaves_held, elapses-trans, leaves_on, Program, stands, Event, standing_of, Desk, Word, Line, Open, Left, line_text, number_after, closing_lines, report, event_lines, run, faulted, commits_seen, IsLeft, ArePlain, plain_on, commits_in, commits_on, seen_all, AreNames, Grew, run_grew, run_plain, report_parts, lines_end, left_none, left_more, Going, Puts, PutsTimes, BeginsWith, shown_of, Ran, HasOpened, PrintsEarlier, text_of, RanSome, Reports, Fixed, is_closed}
 use Rattle.desk.specs.declared.supervisor.Supervisor as desk
 use Rattle.std.proofs.lemmas.Result.{IfOk-weaker}
 use Rattle.schedule_replay.specs.declared.events.Going.TheVariants as going
@@ -20,17 +21,12 @@ if_ok_broken (Err failed) P is = tt
 
 -- what isn't to go on is closed
 pub not_on_closed : (how : Going) → (how ≡ going.On → ⊥) → is_closed how ≡ true
-not_on_closed going.On not_so = absurd (not_so refl)
-not_on_closed going.Closed not_so = refl
-not_on_closed (going.Damaged offset) not_so = refl
+not_on_closed how h1 = grind (arith, nat_tests)
 
 -- a closed desk has no lines of the end
 pub no_closing : (number : ℕ) (rest : List Event) (desk : Desk) → desk.closed ≡ true → closing_lines number rest desk ≡ []
 no_closing number (event ∷ rest) desk shut = refl
-no_closing number [] desk shut =
-    let lines : List Line = map Left (numbers desk) ++ End (number_after number desk) ∷ [] in
-    let none : List Line = [] in
-    ap (λ (closed : Bool). if closed then none else lines) shut
+no_closing number [] desk shut = grind (arith, nat_tests)
 
 -- the lines of the end have no commit
 left_plain : (activations : List ℕ) → ArePlain (map Left activations)
@@ -43,14 +39,7 @@ left_quiet (activation ∷ activations) = let split = commits_on (Left activatio
 
 closing_plain : (number : ℕ) (rest : List Event) (desk : Desk) → ArePlain (closing_lines number rest desk) × (commits_in (closing_lines number rest desk) ≡ 0)
 closing_plain number (event ∷ rest) desk = (tt, refl)
-closing_plain number [] desk = by_test desk.closed
-  where
-    by_test : (shut : Bool) → ArePlain (if shut then [] else map Left (numbers desk) ++ End (number_after number desk) ∷ []) × (commits_in (if shut then [] else map Left (numbers desk) ++ End (number_after number desk) ∷ []) ≡ 0)
-    by_test true = (tt, refl)
-    by_test false =
-        let split = commits_on (map Left (numbers desk)) (End (number_after number desk) ∷ []) in
-        let none = left_quiet (numbers desk) in
-        (plain_on (map Left (numbers desk)) (End (number_after number desk) ∷ []) (left_plain (numbers desk)) (tt, tt), omega (arith, split, none))
+closing_plain number [] desk = grind (arith, nat_tests, commits_in, commits_on, left_quiet, plain_on, left_plain)
 
 closing_quiet : (number : ℕ) (desk : Desk) → commits_seen (flat_map line_text (closing_lines number [] desk)) ≡ 0
 closing_quiet number desk = let closing = closing_plain number [] desk in seen_all (closing_lines number [] desk) closing.0 ∙ closing.1
@@ -81,10 +70,7 @@ module _ {D W : Type 0} (S : desk.Ghosts D) (G : Ghosts W) (laws : Laws S G) (na
     -- what a crash left while lines without a commit were put, from bytes that were sure and shown
     left_puts : {T : Type 0} (lines : List Line) (desk : Desk) (new : D) (before after : W) (result : Result T Failed) → (S.fixed new).opened ≡ number → commits_seen (flat_map line_text lines) ≡ 0 → IsSure G before → S.shows new (held_of G before) desk → Puts G lines before after result → IsSome (G.printed before)
         → Leaves G (IsLeft programs number desk [] (flat_map line_text lines) (shown_of G before)) before after
-    left_puts lines desk new before after result opened none sure shows puts told image seen left =
-        let from = image_is S G laws.later laws.printed lines before after result puts sure told image seen left in
-        left_none programs number desk (flat_map line_text lines) (shown_of G before) image seen from.1.0 (laws.open_desk new (held_of G before) desk shows)
-        (ap stands from.0 ∙ laws.standing new (held_of G before) desk shows ∙ ap (λ n. standing_of n desk) opened) from.1.1 none
+    left_puts lines desk new before after result opened none sure shows puts told image seen left = grind (arith, nat_tests, image_is, left_none)
 
     -- and the images of it, without a word on the screen
     images_puts : {T : Type 0} (lines : List Line) (desk : Desk) (new : D) (before after : W) (result : Result T Failed) → (S.fixed new).opened ≡ number → IsSure G before → S.shows new (held_of G before) desk → Puts G lines before after result → Leaves G (λ image seen. IsLeft programs number desk [] [] [] image []) before after
@@ -242,9 +228,7 @@ module _ {D W : Type 0} (S : desk.Ghosts D) (G : Ghosts W) (laws : Laws S G) (na
   -- The first line can't be put.
   pub reports_unopened : {T : Type 0} (old : D) (start : Desk) (before between : W) (number : ℕ) (events : List Event) (result : Result T Failed) (later : Result Going Failed) → HasOpened S G old before start → ((held : List ℕ) (desk : Desk) → S.shows old held desk → number ≡ number_after (S.fixed old).opened desk) → Puts G (Open number ∷ []) before between result
       → IsErr result → IsErr later → Reports S G names (S.fixed old).programs (S.fixed old).opened events start old before between is_closed later
-  reports_unopened old start before between number events result later opened tells put one two =
-      reports_none (S.fixed old).programs (S.fixed old).opened old refl start before between events result later one two (laws.open_itself old (held_of G before) start opened.shows) opened
-      (opens old before between start number result (tells (held_of G before) start opened.shows) opened put)
+  reports_unopened old start before between number events result later opened tells put one two = grind (arith, nat_tests, reports_none, opens)
 
   -- The first line is put, and then the lines of some events.
   module _ (old new : D) (start : Desk) (before between middle : W) (number : ℕ) (events : List Event) {T : Type 0} (value : T) (result : Result Going Failed) (opened : HasOpened S G old before start)
@@ -254,9 +238,7 @@ module _ {D W : Type 0} (S : desk.Ghosts D) (G : Ghosts W) (laws : Laws S G) (na
     first_put = opens old before between start number (Ok value) (tells (held_of G before) start opened.shows) opened put
 
     pub some_ran : RanSome S G names (S.fixed old).programs (S.fixed old).opened events start new between middle result
-    some_ran =
-        let sure = sure_puts S G laws.later laws.printed (Open (S.fixed old).opened ∷ []) before between (Ok value) first_put opened.sure in
-        ran start sure.0 (subst (λ (held : List ℕ). S.shows old held start) (sym sure.1) opened.shows)
+    some_ran = grind (arith, nat_tests)
 
     -- nothing is put behind them
     reports_still : (later : Result Going Failed) → Tail (S.fixed old).programs (S.fixed old).opened start some_ran.ran.taken some_ran.rest between middle later → IfOk later (λ going. S.closed new ≡ is_closed going) → IfOk later (λ going. is_closed going ≡ false → some_ran.rest ≡ [])

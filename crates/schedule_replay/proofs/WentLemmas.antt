@@ -1,14 +1,13 @@
 -- One event of a run, and its lines.
-use Rattle.schedule_replay.proofs.Common.{◌≡◌, ℕ, zero, suc, ◌+◌, ◌≤◌, List, [], ◌∷◌, ◌++◌, length, map, take, refl, sym, ap, ◌∙◌, subst, arith, length-append, ⊎_elim, append-nil, inr, IsTrue, IsSome, true, false, not, Bool, Option, unwrap_or, Result, Ok, Err, All, flat_map, Failed, Ghosts, Prints, AreTold, IsSure, CallsDisk, Leaves, FewerLater, held_of, elapses-trans, leaves_on, told_is, Program, stands, Event, Did, IsEitherOf, standing_of, Desk, Word, Doubt, Step, step, faulted, Line, line_text, number_after, happening_lines, event_lines, commits_seen, IsUnbroken, IsLeft, seen_cut, seen_all, commits_in, AreNames, Stepped, step_by, run_plain, left_quiet, left_open, Puts, PutsTimes, shown_of, Ran, InDoubt, WasStep, text_of, RanTo}
+use Rattle.std.proofs.lemmas.Bool.Decides.{nat_tests}
+use Rattle.schedule_replay.proofs.Common.{◌≡◌, ℕ, zero, suc, ◌+◌, ◌≤◌, List, [], ◌∷◌, ◌++◌, length, map, take, refl, sym, ap, ◌∙◌, subst, arith, length-append, ⊎_elim, append-nil, inr, IsSome, true, false, not, Bool, Option, unwrap_or, Result, Ok, Err, All, flat_map, Failed, Ghosts, Prints, IsSure, CallsDisk, Leaves, FewerLater, held_of, elapses-trans, leaves_on, told_is, Program, stands, Event, Did, IsEitherOf, standing_of, Desk, Word, Doubt, Step, step, faulted, Line, line_text, number_after, happening_lines, event_lines, commits_seen, IsUnbroken, IsLeft, seen_cut, seen_all, commits_in, AreNames, Stepped, step_by, run_plain, left_quiet, left_open, Puts, PutsTimes, shown_of, Ran, InDoubt, WasStep, text_of, RanTo}
 use Rattle.desk.specs.declared.supervisor.Supervisor as desk
 use Rattle.schedule_replay.proofs.PutsLemmas.{PrintedNow, puts_same, begins_none}
 use Rattle.schedule_replay.proofs.RanToLemmas.{to_did, to_later}
 
 -- the lines of one event are those of what happened at it
 pub one_event : (names : List (List ℕ)) (programs : List Program) (number : ℕ) (event : Event) (word : Word) (desk : Desk) (after : Step) → step programs event word desk ≡ after → event_lines names programs number ((event, word) ∷ []) desk ≡ happening_lines names (number_after number after.desk) after.happening
-one_event names programs number event word desk after is =
-    let these : Step → List Line = λ step. happening_lines names (number_after number step.desk) step.happening in
-    append-nil (these (step programs event word desk)) ∙ ap these is
+one_event names programs number event word desk after is = grind (arith, nat_tests, append-nil)
 
 -- the last of two lists that are one
 pub last_is : {A : Type 0} (xs ys : List A) (x y : A) → xs ++ x ∷ [] ≡ ys ++ y ∷ [] → (xs ≡ ys) × (x ≡ y)
@@ -42,16 +41,7 @@ pub record Laws {D W : Type 0} (S : desk.Ghosts D) (G : Ghosts W) : Type 0 where
 module _ {D W : Type 0} (S : desk.Ghosts D) (G : Ghosts W) (fewer_later : FewerLater G) (printed_now : PrintedNow G) where
   -- bytes that were sure are, after puts
   pub sure_puts : {T : Type 0} (lines : List Line) (before after : W) (result : Result T Failed) → Puts G lines before after result → IsSure G before → IsSure G after × (held_of G after ≡ held_of G before)
-  sure_puts lines before after result puts sure = (
-    record {
-      honest = subst (λ b. IsTrue b) (sym puts.only.honest) sure.honest;
-      told = subst (λ (those : Option (List ℕ)). IsSome those) (sym puts.only.held) sure.told;
-      durable = λ image seen left.
-          let from = puts.images image seen (fewer_later after (G.moment before) (G.moment after) image seen puts.only.time.later left) in
-          subst (λ (those : Option (List ℕ)). AreTold those image) (sym puts.only.held) (sure.durable image from.0 from.1);
-    },
-    ap (λ (those : Option (List ℕ)). unwrap_or those []) puts.only.held,
-  )
+  sure_puts lines before after result puts sure = grind (arith, nat_tests)
 
   -- a crash in a put leaves the bytes that were sure
   pub image_is : {T : Type 0} (lines : List Line) (before after : W) (result : Result T Failed) → Puts G lines before after result → IsSure G before → IsSome (G.printed before)
@@ -99,15 +89,11 @@ module _ {D W : Type 0} (S : desk.Ghosts D) (G : Ghosts W) (fewer_later : FewerL
 
       few : length start.order + commits_seen text ≤ length went.desk.order
       few =
-          let grown = ap (λ (order : List (ℕ × ℕ)). length order) steps.order_is in
           let some = steps.few (number_after number went.desk) in
-          omega (arith, grown, some, seen_is, length-append start.order steps.more)
+          omega (arith, ap (λ (order : List (ℕ × ℕ)). length order) steps.order_is, some, seen_is, length-append start.order steps.more)
 
       none : went.desk.closed ≡ true → (count : ℕ) → commits_seen (take count text) ≡ 0
-      none shut count =
-          let no = steps.quiet shut (number_after number went.desk) in
-          let cut = seen_cut count text in
-          omega (arith, no, cut, seen_is)
+      none shut count = omega (arith, steps.quiet shut (number_after number went.desk), seen_cut count text, seen_is)
 
       either : Leaves G (λ image seen. IsEitherOf programs number event start went.desk image) before between
       either image seen left = subst (λ (desk : Desk). IsEitherOf programs number event start desk image) (sym next_is) (did.crash image seen left)
@@ -193,8 +179,7 @@ module _ {D W : Type 0} (S : desk.Ghosts D) (G : Ghosts W) (fewer_later : FewerL
           times_since (Err failed) times = tt
           times_since (Ok value) times = λ told.
               let same : G.printed between ≡ G.printed before = calls.quiet.same in
-              let put = times (subst (λ (those : Option (List ℕ)). IsSome those) (sym same) told) in
-              omega (arith, put, calls.puts)
+              omega (arith, times (subst (λ (those : Option (List ℕ)). IsSome those) (sym same) told), calls.puts)
 
           printed_since : Prints (G.printed before) (G.printed after) text result
           printed_since = subst (λ (those : Option (List ℕ)). Prints those (G.printed after) text result) calls.quiet.same lines_put.printed

@@ -1,5 +1,5 @@
 -- The activations that begins make, from a place among the events on.
-use Rattle.serial_audit.proofs.Common.{◌≡◌, ◌≢◌, ℕ, zero, suc, ◌+◌, ◌<◌, List, [], ◌∷◌, length, drop, get_or, slice_get, Some, None, refl, sym, ap, add-one, drop-cons, arith, Program, Event, Begin, Turn, Checkpoint, Crash, begun}
+use Rattle.serial_audit.proofs.Common.{◌≡◌, ◌≢◌, ℕ, zero, suc, ◌+◌, ◌<◌, List, [], ◌∷◌, length, drop, get_or, slice_get, Some, None, refl, sym, ap, add-one, drop-cons, arith, Program, Event, Begin, begun}
 
 -- a begin of a program that is there
 pub begun_here : (programs : List Program) (events : List Event) (i place : ℕ) (args : List ℕ) (program : Program) (d : Event)
@@ -17,9 +17,7 @@ begun_none programs events i place args d here is found = rw (drop-cons events i
 not_begun : (programs : List Program) (event : Event) (events : List Event) → ((place : ℕ) (args : List ℕ) → event ≢ Begin place args)
     → begun programs (event ∷ events) ≡ begun programs events
 not_begun programs (Begin place args) events other = absurd (other place args refl)
-not_begun programs (Turn activation limit) events other = refl
-not_begun programs Checkpoint events other = refl
-not_begun programs Crash events other = refl
+not_begun programs _ events other = refl
 
 -- an event that is no begin
 pub begun_later : (programs : List Program) (events : List Event) (i : ℕ) (d : Event) → i < length events

@@ -1,5 +1,6 @@
 -- What a job says of its activations: the begins first, then the turns, then the marks of commits.
-use Rattle.serial_audit.proofs.Common.{◌≡◌, ◌≢◌, ℕ, zero, suc, ◌+◌, ◌-◌, ◌^◌, ◌<◌, ◌==◌, ◌||◌, ◌↔◌, Bool, true, false, IsTrue, List, [], ◌∷◌, ◌++◌, length, map, min, set, sum, take, get_or, slice_get, Option, Some, None, option_map, MatchOption, ◌⊎◌, inl, inr, refl, sym, ◌∙◌, ap, add-zero, zero-add, eq-eqb, ne_eqb, eqb, eqb-true, arith, All, Contains, eqb-false, get_or-set_same, length-set, map-append, take_more, slice_get-get_or, slice_get_within, Activation, numbered, Event, Begin, Turn, Checkpoint, Crash, Job, Entry, Told, activations_of, limit_of, IsEntry, IsFresh, IsIndex, activation_in, marked, with_turns}
+use Rattle.std.proofs.lemmas.Bool.Decides.{nat_tests}
+use Rattle.serial_audit.proofs.Common.{◌≡◌, ◌≢◌, ℕ, zero, suc, ◌+◌, ◌-◌, ◌^◌, ◌<◌, ◌==◌, ◌||◌, ◌↔◌, Bool, true, false, IsTrue, List, [], ◌∷◌, ◌++◌, length, map, min, set, sum, take, get_or, slice_get, Option, Some, None, option_map, MatchOption, ◌⊎◌, inl, inr, refl, sym, ◌∙◌, ap, add-zero, zero-add, eq-eqb, ne_eqb, eqb, eqb-true, arith, All, Contains, eqb-false, get_or-set_same, length-set, map-append, take_more, slice_get-get_or, slice_get_within, Activation, numbered, Event, Turn, Job, Entry, Told, activations_of, limit_of, IsEntry, IsFresh, IsIndex, activation_in, marked, with_turns}
 use Rattle.std.proofs.lemmas.List.Elements.{All-append, Contains-append_cases, Contains-append_left, Contains-append_right}
 use Rattle.std.proofs.lemmas.List.Sums.{sum_by-append}
 
@@ -9,11 +10,9 @@ set_here xs i y within =
     slice_get-get_or (set xs i y) i y (rw (length-set xs i y) within) ∙ ap Some (get_or-set_same xs i y y within)
 
 set_other : {X : Type 0} → (xs : List X) (i j : ℕ) (y : X) → j ≢ i → slice_get (set xs i y) j ≡ slice_get xs j
-set_other [] i j y other = refl
 set_other (x ∷ xs) zero zero y other = absurd (other refl)
-set_other (x ∷ xs) zero (suc j) y other = refl
-set_other (x ∷ xs) (suc i) zero y other = refl
 set_other (x ∷ xs) (suc i) (suc j) y other = set_other xs i j y (λ same. other (ap suc same))
+set_other _ _ _ y other = refl
 
 -- a turn of this activation, and of another one
 limit_its : (number other limit : ℕ) → number ≡ other → limit_of number (Turn other limit) ≡ limit
@@ -23,10 +22,8 @@ limit_none : (number other limit : ℕ) → number ≢ other → limit_of number
 limit_none number other limit differ = rw (ne_eqb number other differ) refl
 
 not_turn : (number : ℕ) (event : Event) → ((activation limit : ℕ) → event ≢ Turn activation limit) → limit_of number event ≡ 0
-not_turn number (Begin program args) other = refl
 not_turn number (Turn activation limit) other = absurd (other activation limit refl)
-not_turn number Checkpoint other = refl
-not_turn number Crash other = refl
+not_turn number _ other = refl
 
 -- the limits of one event more
 limits_more : (number : ℕ) (events : List Event) (i : ℕ) (d : Event) → i < length events
@@ -50,12 +47,7 @@ past_at : (events : List Event) (i : ℕ) (d : Event) → i < length events
     → ((entry : Entry) → found ≡ Some entry → limit_of (place + 1) (get_or events i d) ≡ 0)
     → found ≡ option_map (with_turns (take (i + 1) events) place) old
 past_at events i d within place None found now none = now
-past_at events i d within place (Some entry) found now none =
-    let more = limits_more (place + 1) events i d within in
-    let nothing = none (with_turns (take i events) place entry) now in
-    let same : sum (map (limit_of (place + 1)) (take (i + 1) events)) ≡ sum (map (limit_of (place + 1)) (take i events)) =
-    more ∙ rw nothing (add-zero (sum (map (limit_of (place + 1)) (take i events)))) in
-    now ∙ ap (λ (n : ℕ). Some (record entry { steps = min n (2 ^ 64 - 1) })) (sym same)
+past_at events i d within place (Some entry) found now none = grind (arith, nat_tests, limits_more, take, sum, add-zero, min)
 
 -- an event that is no turn of any of them
 past : (events : List Event) (i : ℕ) (d : Event) (old now : List Entry) → i < length events
@@ -84,13 +76,7 @@ turned_at : (events : List Event) (i : ℕ) (d : Event) → i < length events
     → limit_of (place + 1) (get_or events i d) ≡ limit
     → Some (record entry { steps = min (entry.steps + limit) (2 ^ 64 - 1) }) ≡ option_map (with_turns (take (i + 1) events) place) old
 turned_at events i d within place limit None entry now its = absurd (cc now)
-turned_at events i d within place limit (Some first) entry now its =
-    let same : entry ≡ with_turns (take i events) place first = cc now in
-    let s = sum (map (limit_of (place + 1)) (take i events)) in
-    rw same
-    (ap (λ (n : ℕ). Some (record first { steps = n }))
-    (held_twice s limit (2 ^ 64 - 1)
-    ∙ ap (λ (n : ℕ). min n (2 ^ 64 - 1)) (ap (λ (n : ℕ). s + n) (sym its) ∙ sym (limits_more (place + 1) events i d within))))
+turned_at events i d within place limit (Some first) entry now its = grind (arith, nat_tests, take, sum, held_twice, min, limits_more)
 
 -- two numbers are the same or not
 by_test : (a b : ℕ) (test : Bool) → eqb a b ≡ test → (a ≡ b) ⊎ (a ≢ b)
@@ -129,12 +115,10 @@ fresh_more entries entry fresh is = All-append IsFresh entries (entry ∷ []) fr
 
 -- an entry marked as that of the last line
 or_true : (b : Bool) → (b || true) ≡ true
-or_true true = refl
-or_true false = refl
+or_true b = grind (arith, nat_tests)
 
 or_cases : (b c : Bool) → IsTrue (b || c) → IsTrue b ⊎ IsTrue c
-or_cases true c is = inl is
-or_cases false c is = inr is
+or_cases b c h1 = grind (arith, nat_tests)
 
 last_has : (told : Told) (number : ℕ) → Contains (told.activation ∷ []) number → told.activation ≡ number
 last_has told number (zero, within, is) = is
@@ -162,11 +146,7 @@ entry_more : (job : Job) (before : List Told) (told : Told) (place : ℕ) (found
     → MatchOption found (slice_get (activations_of job) place ≡ None) (IsEntry job before place)
     → MatchOption (option_map (marked told.activation place) found) (slice_get (activations_of job) place ≡ None) (IsEntry job (before ++ told ∷ []) place)
 entry_more job before told place None is = is
-entry_more job before told place (Some entry) is = record {
-  begun = is.begun;
-  steps = is.steps;
-  committed = committed_more before told entry.committed (place + 1) is.committed;
-}
+entry_more job before told place (Some entry) is = grind (arith, nat_tests, committed_more before told entry.committed (place + 1) is.committed)
 
 -- an index behind one commit line more
 pub index_more : (job : Job) (before : List Told) (told : Told) (old now : List Entry) → IsIndex job before old
@@ -179,12 +159,7 @@ index_more job before told old now index mark = λ place.
 marked_none : (activation place : ℕ) (found : Option Entry) → ((entry : Entry) → found ≡ Some entry → place + 1 ≢ activation)
     → found ≡ option_map (marked activation place) found
 marked_none activation place None other = refl
-marked_none activation place (Some entry) other =
-    rw (ne_eqb (place + 1) activation (other entry refl)) (ap (λ (b : Bool). Some (record entry { committed = b })) (or_false entry.committed))
-  where
-    or_false : (b : Bool) → b ≡ (b || false)
-    or_false true = refl
-    or_false false = refl
+marked_none activation place (Some entry) other = grind (arith, nat_tests)
 
 pub none_marked : (entries : List Entry) (activation : ℕ) → ((place : ℕ) → place < length entries → place + 1 ≢ activation)
     → (place : ℕ) → slice_get entries place ≡ option_map (marked activation place) (slice_get entries place)
@@ -194,9 +169,7 @@ none_marked entries activation none place =
 -- the activation of a number is that of its entry
 numbered_at : (activations : List Activation) (place number : ℕ) → place + 1 ≡ number → numbered activations number ≡ slice_get activations place
 numbered_at activations place zero its = absurd (omega (arith, its))
-numbered_at activations place (suc n) its =
-    let same : n ≡ place = omega (arith, its) in
-    ap (slice_get activations) same
+numbered_at activations place (suc n) its = grind (arith, nat_tests)
 
 pub none_begun : (job : Job) (before : List Told) (entries : List Entry) (number : ℕ) (activation : Activation) → IsIndex job before entries
     → ((place : ℕ) → place < length entries → place + 1 ≢ number) → numbered (activations_of job) number ≡ Some activation → ⊥

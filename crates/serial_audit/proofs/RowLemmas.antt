@@ -6,14 +6,12 @@ use Rattle.flat_machine.specs.declared.machine.Went.TheVariants as went
 -- a row that doesn't go on has no state behind it
 pub stopped : (result : Went) (new : Plain) → result ≢ went.On → next_state (outcome_by result new) ≡ None
 stopped went.On new ends = absurd (ends refl)
-stopped went.Commit new ends = refl
-stopped (went.Check code) new ends = refl
+stopped _ new ends = refl
 
 -- a row that isn't the commit call commits nothing
 pub no_commit : (result : Went) (old new : Plain) → result ≢ went.Commit → if_commit (outcome_by result new) old ≡ None
-no_commit went.On old new ends = refl
 no_commit went.Commit old new ends = absurd (ends refl)
-no_commit (went.Check code) old new ends = refl
+no_commit _ old new ends = refl
 
 -- where there is no state, there is none later
 none_stays : (program : Program) (args : List ℕ) (store : FlatStore) (n more : ℕ) → after program args store n ≡ None → after program args store (more + n) ≡ None

@@ -1,11 +1,10 @@
 -- Equal directories.
-use Rattle.serial_audit.proofs.Common.{◌≡◌, ℕ, ◌==◌, ◌&&◌, ap, Decides, Decides-and, Decides-eqb, Layout}
+use Rattle.std.proofs.lemmas.Bool.Decides.{nat_tests}
+use Rattle.serial_audit.proofs.Common.{◌≡◌, ℕ, ◌==◌, ◌&&◌, Decides, Layout, arith}
 
 -- pairs are the same where their parts are
 pub pair_decides : (a b : ℕ × ℕ) → Decides ((a.0 == b.0) && (a.1 == b.1)) (a ≡ b)
-pair_decides (a, b) (c, d) =
-    let both = Decides-and (a == c) (b == d) (Decides-eqb a c) (Decides-eqb b d) in
-    (λ e. let parts = both.0 e in cc, λ e. both.1 (ap (λ p. p.0) e, ap (λ p. p.1) e))
+pair_decides (a, b) (c, d) = grind (arith, nat_tests)
 
 -- directories are the same where their pages and segments are
 pub layout_same : (a b : Layout) → a.page ≡ b.page → a.segments ≡ b.segments → a.fine ≡ b.fine → a ≡ b

@@ -1,6 +1,7 @@
 -- Commit lines one after another, and whether they are sound.
+use Rattle.std.proofs.lemmas.Bool.Decides.{nat_tests}
 use Rattle.serial_audit.proofs.Common.{◌≡◌, ℕ, ◌+◌, ◌%◌, ◌^◌, ◌<◌, ◌≤◌, Bool, true, false, List, [], ◌∷◌, ◌++◌, length, map, take, drop, get_or, slice_get, Option, Some, None, option_and_then, ◌⊎◌, inl, inr, refl, sym, ◌∙◌, ap, length-append, add-one, drop-cons, arith, map-append, take-append-drop, take_more, option_and_then_some, Layout, FlatStore, Plain, Activation, before_commit, committing, numbered, serial, Job, Entry, AreSound, IsSound, Told, activations_of, commits_told, flat_of, pair_of, report_told, steps_allowed, told_before, IsIndex, activation_in, IsTaken, MayFollow, Replays, Stands}
-use Rattle.desk.specs.Lines.{Line, Commit}
+use Rattle.desk.specs.Lines.{Line}
 use Rattle.report_text.specs.declared.owned.OwnedLine.{OwnedLine}
 use Rattle.report_text.specs.ReadLines.{owned_told}
 use Rattle.serial_audit.specs.declared.auditing.KeptStore.{KeptStore}
@@ -10,24 +11,14 @@ use Rattle.serial_audit.proofs.IndexLemmas.{begun_at, entry_at}
 -- the commits of lines behind others come behind theirs
 pub told-append : (lines others : List Line) → commits_told (lines ++ others) ≡ commits_told lines ++ commits_told others
 told-append [] others = refl
-told-append (line ∷ lines) others =
-    rw (told-append lines others) (before_all line (commits_told lines) (commits_told others))
-  where
-    before_all : (line : Line) (told others : List Told) → told_before line (told ++ others) ≡ told_before line told ++ others
-    before_all (Commit activation number steps out) told others = refl
-    before_all _ told others = refl
+told-append (line ∷ lines) others = grind (arith, nat_tests, told-append lines others)
 
 -- one commit more leaves its state's store
 pub serial_more : (activations : List Activation) (commits : List (ℕ × ℕ)) (commit : ℕ × ℕ) (store left : FlatStore)
     → serial activations commits store ≡ Some left
     → serial activations (commits ++ commit ∷ []) store
     ≡ option_and_then (λ (state : Plain). Some (record left { bytes = state.store })) (committing activations commit left)
-serial_more activations [] commit store left is =
-    ap (λ (begin : FlatStore). option_and_then (λ (state : Plain). Some (record begin { bytes = state.store })) (committing activations commit begin))
-    (some_same store left is)
-  where
-    some_same : (one other : FlatStore) → Some one ≡ Some other → one ≡ other
-    some_same one other same = cc same
+serial_more activations [] commit store left is = grind (arith, nat_tests)
 serial_more activations (first ∷ commits) commit store left is =
     by_state (λ begin same. serial_more activations commits commit begin left same) (committing activations first store) is
   where
@@ -49,16 +40,7 @@ pub sound_here : (job : Job) (opening : KeptStore) (before : List Told) (told : 
     → opening.directory ≡ directory → Stands job opening before progress → MayFollow job opening before told activation
     → before_commit activation told.steps (record { directory = directory; bytes = progress.store }) ≡ Some state → told.out ≡ state.out
     → IsSound job opening before told
-sound_here job opening before told activation progress directory state same stands follows commits prints = record {
-  number = follows.number;
-  first = follows.first;
-  allowed = follows.allowed;
-  left = record { directory = opening.directory; bytes = progress.store };
-  leaves = stands.leaves;
-  state = state;
-  commits = rw (same, follows.begun) commits;
-  prints = prints;
-}
+sound_here job opening before told activation progress directory state same stands follows commits prints = grind (arith, nat_tests)
 
 -- behind it the check stands at its number, one line more, the index with its activation marked, and what it leaves
 pub taken : (job : Job) (opening : KeptStore) (before : List Told) (told : Told) (activation : Activation) (progress next : Progress) (directory : Layout)
@@ -127,8 +109,7 @@ may_follow job opening before told progress place entry stands found its next op
       number = let number = stands.number_is in omega arith;
       first = λ has. not_true (sym open_yet ∙ is.committed.1 (rw its has));
       allowed =
-          let steps = is.steps in
-          let within : told.steps ≤ steps_allowed job (place + 1) = omega (arith, few, steps) in
+          let within : told.steps ≤ steps_allowed job (place + 1) = omega (arith, few, is.steps) in
           rw its at within;
       begun = begun_at job before place told.activation entry is its;
     }
@@ -159,9 +140,7 @@ last_or_within [] last (other ∷ first) told behind is = absurd (longer first t
     longer : (first : List Told) (told : Told) (behind : List Told) → [] ≡ first ++ told ∷ behind → ⊥
     longer [] told behind none = cc none
     longer (other ∷ first) told behind none = cc none
-last_or_within (head ∷ before) last [] told behind is =
-    let same : head ≡ told = cc is in
-    inr (before, rw same refl)
+last_or_within (head ∷ before) last [] told behind is = grind (arith, nat_tests)
 last_or_within (head ∷ before) last (other ∷ first) told behind is =
     let same : head ≡ other = cc is in
     let rest : before ++ last ∷ [] ≡ first ++ told ∷ behind = cc is in
@@ -186,9 +165,7 @@ none_sound job opening (other ∷ first) told behind is = absurd (cc is)
 -- what the first lines tell, one more
 pub told_more : (report : List OwnedLine) (i : ℕ) (line : OwnedLine) → i < length report → line ≡ get_or report i line
     → report_told (take (i + 1) report) ≡ report_told (take i report) ++ told_before (owned_told line) []
-told_more report i line within is =
-    rw (take_more report i line within, ← is, map-append owned_told (take i report) (line ∷ []))
-    (told-append (map owned_told (take i report)) (owned_told line ∷ []))
+told_more report i line within is = grind (arith, nat_tests, take_more report i line within, map-append owned_told (take i report) (line ∷ []), take i report, told-append (map owned_told (take i report)) (owned_told line ∷ []))
 
 -- what all lines tell, by the first, the next and the others
 pub told_all : (report : List OwnedLine) (i : ℕ) (line : OwnedLine) → i < length report → line ≡ get_or report i line

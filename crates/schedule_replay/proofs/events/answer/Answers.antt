@@ -1,3 +1,4 @@
+use Rattle.std.proofs.lemmas.Grind.{common_steps}
 use Rattle.schedule_replay.proofs.Common.{ℕ, List, map, ap, ◌∙◌, arith, asks_none, TurnEnd, Stored, begun_told, turn_told, stored_told, reopened_told, turn_closes, turn_fails, stored_closes, stored_fails, happening_lines, number_told, stored_number, reopened_number, going_begun, going_if, going_by}
 use Rattle.desk.specs.declared.event.Event.TheVariants as event
 use Rattle.schedule_replay.proofs.PutsLemmas.{puts_same}
@@ -66,3 +67,9 @@ returns-in-Crash g c =
     (λ start sure shows.
     let did = reopened.ensures.did start sure shows in
     (crash_step S G names (S.fixed old).programs (S.fixed old).opened start reopened.new.self w reopened.new.outside lost reopened.result (c.as_slice.ensures.value ∙ c.active-lost.ensures _ start shows) did reopened.ensures.asks reopened.ensures.failed, undamaged reopened.result _ did.1))
+
+pub put_begun-put-requires : goal.put_begun-put-requires
+put_begun-put-requires g c = grind (arith, common_steps)
+
+pub begin-begun-requires-clause-program : goal.begin-begun-requires-clause-program
+begin-begun-requires-clause-program g c = grind (arith, common_steps)

@@ -22,9 +22,7 @@ answer-requires-clause-ready g c =
     ready_next g.S.Supervisor g.W.Outside g.met.W.Outside.fewer_later c.args.events.now c.loop-event.event-index (Begin 0 []) c.loop-event-test.true c.args.desk.now c.loop-event.desk c.args.outside.now c.loop-event.outside c.requires.ready c.loop-event.invariant.answered
 
 pub answer-requires-clause-names : goal.answer-requires-clause-names
-answer-requires-clause-names g c =
-    let same = ap (λ (fixed : Fixed). length fixed.programs) c.loop-event.invariant.answered.fixed in
-    omega (arith, same, c.requires.names)
+answer-requires-clause-names g c = omega (arith, ap (λ (fixed : Fixed). length fixed.programs) c.loop-event.invariant.answered.fixed, c.requires.names)
 
 pub returns-in_err-going-clause-answered : goal.returns-in_err-going-clause-answered
 returns-in_err-going-clause-answered g c = (

@@ -1,3 +1,5 @@
+use Rattle.std.proofs.Common.{arith}
+use Rattle.std.proofs.lemmas.Grind.{common_steps}
 use Rattle.schedule_replay.proofs.Common.{map, ap, false, is_closed}
 use Rattle.schedule_replay.proofs.ReportLemmas.{reports_broken, reports_told}
 use Rattle.schedule_replay.proofs.events.replay.Goals as goal
@@ -11,3 +13,15 @@ returns-in-Err-clause-replays g c = λ start opened. (
   c.in-Err.field-0,
   reports_broken g.S.Supervisor g.W.Outside (map (λ name. name.items) c.args.names.now) (g.S.Supervisor.fixed c.args.desk.now).programs (g.S.Supervisor.fixed c.args.desk.now).opened c.args.events.now start c.put_report.new.desk c.args.outside.now c.put_report.new.outside c.in-Err.field-0 (c.in-Err.ensures.reports start opened),
 )
+
+pub returns-in-Ok-Damaged-clause-turns : goal.returns-in-Ok-Damaged-clause-turns
+returns-in-Ok-Damaged-clause-turns g c = grind (arith, common_steps)
+
+pub returns-in-Ok-On-clause-turns : goal.returns-in-Ok-On-clause-turns
+returns-in-Ok-On-clause-turns g c = grind (arith, common_steps)
+
+pub returns-in-Ok-Closed-clause-turns : goal.returns-in-Ok-Closed-clause-turns
+returns-in-Ok-Closed-clause-turns g c = grind (arith, common_steps)
+
+pub returns-in-Err-clause-turns : goal.returns-in-Err-clause-turns
+returns-in-Err-clause-turns g c = grind (arith, common_steps)

@@ -1,3 +1,5 @@
+use Rattle.std.proofs.Common.{arith}
+use Rattle.std.proofs.lemmas.Grind.{common_steps}
 use Rattle.schedule_replay.proofs.Common.{[], length, refl, begun_told, turn_told, stored_told, happening_lines, number_told, stored_number, last_by, tally_begun, tally_by, tally_stored}
 use Rattle.desk.specs.declared.event.Event.TheVariants as event
 use Rattle.schedule_replay.proofs.EventLemmas.{begin_step, turn_step, checkpoint_step}
@@ -41,3 +43,6 @@ returns-in-Checkpoint-clause-went g c =
     went_quietly S g.W.Outside g.met.W.Outside.fewer_later at.programs at.opened c.args.event event.Checkpoint (happening_lines [] (stored_number stored.result) (stored_told stored.result)) start stored.new.self c.args.outside.now stored.new.outside last last last c.tally_of_checkpoint.result (tally_stored stored.result) c.in-Checkpoint.is refl c.tally_of_checkpoint.ensures
     (checkpoint_step S g.W.Outside [] at.programs at.opened start stored.new.self c.args.outside.now stored.new.outside stored.result (stored.ensures.did start sure shows) stored.ensures.writes stored.ensures.failed)
     (stored_tells (stored_number stored.result) stored.result last)
+
+pub begin-requires-clause-program : goal.begin-requires-clause-program
+begin-requires-clause-program g c = grind (arith, common_steps)

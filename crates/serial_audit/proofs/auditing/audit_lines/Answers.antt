@@ -1,3 +1,4 @@
+use Rattle.std.proofs.lemmas.Grind.{common_steps}
 use Rattle.serial_audit.proofs.Common.{ℕ, ◌+◌, [], ◌++◌, take, drop, refl, ◌∙◌, ap, append-nil, arith, Told, report_told, told_of}
 use Rattle.std.specs.Prelude.{List}
 use Rattle.serial_audit.proofs.VerdictLemmas.{none_sound, sound_more, told_all, told_more}
@@ -37,12 +38,11 @@ loop-line-preserved c =
       | in-Some+in_ok-next-in-Some+in-Some-2 w ↦
           let now = more ∙ ap (λ (rest : List Told). report_told (take i lines) ++ rest) (w.in-Some.ensures []) in
           let taken = rw w.in-Some-2.is at (w.in_ok-next-in-Some.ensures.taken c.args.job.now c.args.opening.now (report_told (take i lines)) refl c.loop-line.invariant.stands) in
-          let one = rw w.in-Some-2.is at w.in_ok-next-in-Some.ensures.one in
           let whole = rw w.in-Some-2.is at w.in_ok-next-in-Some.ensures.whole in
           rw (now, w.progress-is) (record {
             sound = sound_more c.args.job.now c.args.opening.now (report_told (take i lines)) (told_of w.in-Some.commit) c.loop-line.invariant.sound taken.0;
             stands = taken.1;
-            few = omega (arith, c.loop-line.invariant.few, one);
+            few = omega (arith, c.loop-line.invariant.few, rw w.in-Some-2.is at w.in_ok-next-in-Some.ensures.one);
             whole = whole;
           })
       | in-None w ↦
@@ -54,3 +54,6 @@ loop-line-preserved c =
             whole = c.loop-line.invariant.whole;
           })
     ]
+
+pub returns-clause-sound : goal.returns-clause-sound
+returns-clause-sound c = grind (arith, common_steps)

@@ -1,3 +1,5 @@
+use Rattle.std.proofs.Common.{arith}
+use Rattle.std.proofs.lemmas.Grind.{common_steps}
 use Rattle.serial_audit.proofs.Common.{◌+◌, false, List, [], ◌∷◌, ◌++◌, map, drop, refl, sym, ◌∙◌, ap, append_assoc, map-append, slice_get_past, Begin, Activation, begun, Entry, activation_in}
 use Rattle.serial_audit.proofs.BegunLemmas.{begun_here, begun_later, begun_none, got}
 use Rattle.serial_audit.proofs.IndexLemmas.{fresh_more}
@@ -42,3 +44,6 @@ loop-event-preserved c =
             fresh = c.loop-event.invariant.fresh;
           })
     ]
+
+pub returns-clause-begun : goal.returns-clause-begun
+returns-clause-begun c = grind (arith, common_steps)

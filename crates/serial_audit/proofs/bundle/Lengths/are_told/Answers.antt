@@ -1,3 +1,5 @@
+use Rattle.std.proofs.Common.{arith}
+use Rattle.std.proofs.lemmas.Grind.{common_steps}
 use Rattle.serial_audit.proofs.Common.{◌≡◌, sym, ◌∙◌, Decides-eqb, slice_eq-Decides, head_text, sizes_of}
 use Rattle.serial_audit.proofs.BundleLemmas.{head_written}
 use Rattle.serial_audit.proofs.bundle.Lengths.are_told.Goals as goal
@@ -9,3 +11,6 @@ returns-clause-told c =
     (head_written (sizes_of c.args.self.now)) in
     let decides = slice_eq-Decides Decides-eqb c.args.line.now c.as_slice.result.now c.eq.result c.eq.ensures in
     (λ same. decides.0 same ∙ written, λ is. decides.1 (is ∙ sym written))
+
+pub returns-clause-short : goal.returns-clause-short
+returns-clause-short c = grind (arith, common_steps)
