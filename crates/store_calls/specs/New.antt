@@ -1,13 +1,14 @@
 -- What making a store did.
-use Rattle.std.specs.Prelude.{◌≡◌, ℕ, ◌+◌, ◌<◌, List, [], ◌++◌, codes, decimal, length, Some, IsSome, IsTrue}
+use Rattle.std.specs.Prelude.{◌≡◌, ◌⊎◌, ℕ, ◌+◌, ◌<◌, ◌≤◌, List, [], ◌++◌, codes, decimal, length, Some, IsSome, IsTrue}
 use Rattle.std.specs.Option.{option_map}
 use Rattle.outside.specs.declared.world.Outside.{Ghosts}
-use Rattle.outside.specs.Bytes.{Torn}
+use Rattle.outside.specs.Bytes.{Torn, written}
 use Rattle.outside.specs.Causes.{Rose}
 use Rattle.outside.specs.Durable.{IsSure}
 use Rattle.outside.specs.Moments.{Elapses}
 use Rattle.outside.specs.Runs.{OnlyAsks, Leaves, held_of}
 use Rattle.store_format.specs.Header.{Header, total, fresh}
+use Rattle.store_format.specs.Stands.{NotAStore, stands}
 use Rattle.call_status.specs.Call.{Call}
 use Rattle.call_status.specs.declared.status.Status.{Status}
 use Rattle.call_status.specs.declared.status.Status.TheVariants as status
@@ -17,28 +18,61 @@ use Rattle.call_status.specs.Printed.{PrintsBy, PutsOnce}
 abbrev pub new_line : Header → List ℕ
 new_line header = codes "new " ++ decimal (total header) ++ codes "\n"
 
--- The disk was empty, where it tells its bytes, and holds these now, which are sure where it is honest too; one write succeeded.
+-- The disk was empty, where it tells its bytes, and holds these now, which are sure where it is honest too; three writes succeeded.
 pub record IsWrittenWhole {W : Type 0} (G : Ghosts W) (bytes : List ℕ) (old new : W) : Type 0 where
   pub held : IsSome (G.held old) → held_of G old ≡ [] → G.held new ≡ Some bytes
   pub sure : IsTrue (G.is_honest old) → IsSome (G.held old) → IsSure G new
-  pub writes : G.writes new ≡ option_map (λ count. count + 1) (G.writes old)
+  pub writes : G.writes new ≡ option_map (λ count. count + 3) (G.writes old)
 
--- The bytes are this image, where they are told, and sure where the disk is honest too; one write succeeded on an empty disk.
+-- The bytes are this image, where they are told, and sure where the disk is honest too; three writes succeeded on an empty disk.
 pub record IsStored {W : Type 0} (G : Ghosts W) (image : List ℕ) (before after : W) : Type 0 where
   pub empty : IsSome (G.held before) → held_of G before ≡ []
   pub held : IsSome (G.held before) → G.held after ≡ Some image
   pub sure : IsTrue (G.is_honest before) → IsSome (G.held before) → IsSure G after
-  pub writes : G.writes after ≡ option_map (λ count. count + 1) (G.writes before)
+  pub writes : G.writes after ≡ option_map (λ count. count + 3) (G.writes before)
 
--- a disk that tells its bytes holds others now at most among so many from the front
+-- a disk that tells its bytes holds others now at most among so many from an offset on, or from the front
+abbrev pub IsTornAt : {W : Type 0} → Ghosts W → (at count : ℕ) → W → W → Type 0
+IsTornAt G at count old new = IsSome (G.held old) → IsSome (G.held new) × Torn at count (held_of G old) (held_of G new)
+
 abbrev pub IsTornBy : {W : Type 0} → Ghosts W → ℕ → W → W → Type 0
-IsTornBy G count old new = IsSome (G.held old) → IsSome (G.held new) × Torn 0 count (held_of G old) (held_of G new)
+IsTornBy G count old new = IsTornAt G 0 count old new
 
--- whenever a crash comes, it leaves what one may have left at the start, or that with any bytes among so many from the front
-abbrev pub LeavesTorn : {W : Type 0} → Ghosts W → ℕ → W → W → Type 0
-LeavesTorn G count before after =
+-- whenever a crash comes, it leaves what one may have left at the start, or that with any bytes among so many from an offset on, or from the front
+abbrev pub LeavesTornAt : {W : Type 0} → Ghosts W → (at count : ℕ) → W → W → Type 0
+LeavesTornAt G at count before after =
     IsTrue (G.is_honest before) → IsSome (G.held before)
-    → Leaves G (λ image seen. (start : List ℕ) × (begun : List ℕ) × G.left_since before (G.moment before) start begun × Torn 0 count start image) before after
+    → Leaves G (λ image seen. (start : List ℕ) × (begun : List ℕ) × G.left_since before (G.moment before) start begun × Torn at count start image) before after
+
+abbrev pub LeavesTorn : {W : Type 0} → Ghosts W → ℕ → W → W → Type 0
+LeavesTorn G count before after = LeavesTornAt G 0 count before after
+
+-- these bytes were written at an offset and are sure where the disk is honest and tells its bytes; one write succeeded
+pub record IsPutDown {W : Type 0} (G : Ghosts W) (at : ℕ) (bytes : List ℕ) (old new : W) : Type 0 where
+  pub held : IsSome (G.held old) → G.held new ≡ Some (written (held_of G old) at bytes)
+  pub sure : IsTrue (G.is_honest old) → IsSome (G.held old) → IsSure G new
+  pub writes : G.writes new ≡ option_map (λ count. count + 1) (G.writes old)
+
+-- an image was filled in behind the place of its name, and named; two writes succeeded
+pub record IsFilled {W : Type 0} (G : Ghosts W) (image : List ℕ) (old new : W) : Type 0 where
+  pub held : IsSome (G.held old) → G.held new ≡ Some image
+  pub sure : IsTrue (G.is_honest old) → IsSome (G.held old) → IsSure G new
+  pub writes : G.writes new ≡ option_map (λ count. count + 2) (G.writes old)
+
+-- an image is no store
+abbrev pub IsNoStore : List ℕ → Type 0
+IsNoStore image = (offset : ℕ) × (stands image ≡ NotAStore offset)
+
+-- an image that is being written: no longer than it will be, and no store or the whole one
+pub record IsOnTheWay (image left : List ℕ) : Type 0 where
+  pub few : length left ≤ length image
+  pub which : IsNoStore left ⊎ (left ≡ image)
+
+-- where a crash at the start leaves an empty disk, one at any moment since leaves no store, or the whole image
+abbrev pub LeavesWhole : {W : Type 0} → Ghosts W → List ℕ → W → W → Type 0
+LeavesWhole G image before after =
+    IsTrue (G.is_honest before) → IsSome (G.held before) → Leaves G (λ left seen. left ≡ []) before before
+    → Leaves G (λ left seen. IsNoStore left ⊎ (left ≡ image)) before after
 
 -- what writing an image and then a line did, by the status; other statuses don't come
 abbrev pub WrittenBy : {W : Type 0} → Ghosts W → (image line : List ℕ) → W → W → Status → Type 0
@@ -68,6 +102,7 @@ pub record Written {W : Type 0} (G : Ghosts W) (image line : List ℕ) (call : C
   pub honest : G.is_honest call.after ≡ G.is_honest call.before
   pub time : Elapses G.moment G.left_since call.before call.after
   pub crash : LeavesTorn G (length image) call.before call.after
+  pub whole : LeavesWhole G image call.before call.after
   pub calm : (call.status ≡ status.DiskFault → ⊥) → G.disk_faults call.after ≡ G.disk_faults call.before
   -- a disk that holds bytes is only asked
   pub full : IsSome (G.held call.before) → 0 < length (held_of G call.before) → OnlyAsks G call.before call.after

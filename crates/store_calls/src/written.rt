@@ -1,14 +1,22 @@
 // An image that is written on an empty disk, and a line that tells it.
-ghost use Rattle.std.specs.Prelude.{◌≡◌, ◌⊎◌, [], length, IsSome, IfOk, IfErr, OnOk};
+ghost use Rattle.std.specs.Prelude.{◌≡◌, ◌⊎◌, ◌≤◌, [], codes, length, replicate, take, IsSome, IfOk, IfErr, OnOk};
+ghost use Rattle.std.specs.Option.{ForSome};
 ghost use Rattle.outside.specs.Causes.{Rose, FailsOnlyCounted};
-ghost use Rattle.outside.specs.Runs.{CallsDisk, OnlyAsks, held_of};
+ghost use Rattle.outside.specs.Durable.{IsSure};
+ghost use Rattle.outside.specs.Runs.{CallsDisk, Leaves, OnlyAsks, held_of};
 ghost use Rattle.listing.specs.Puts.{Puts, PutsTimes};
 ghost use Rattle.call_status.specs.Call.{call};
 ghost use Rattle.call_status.specs.Printed.{put_of};
-ghost use Rattle.store_calls.specs.New.{IsNoEmpty, IsOfWriting, IsTornBy, IsWrittenWhole, LeavesTorn, Written};
+ghost use Rattle.store_calls.specs.New.{IsFilled, IsNoEmpty, IsOfWriting, IsOnTheWay, IsPutDown, IsTornAt, IsTornBy, IsWrittenWhole, LeavesTorn, LeavesTornAt, LeavesWhole, Written};
 
 use call_status::Status;
 use outside::{Failed, Outside};
+
+/// How many bytes the name has with which a store begins (docs/FORMATS.md, "Store").
+const NAME: u64 = 8;
+
+/// What stands there until the rest is sure.
+const UNNAMED: [u8; 8] = [0; 8];
 
 /// Asks whether the disk is empty.
 ///
@@ -39,6 +47,7 @@ fn length<W: Outside>(outside: &mut W) -> Result<u64, Failed>
 
 /// Writes an image on an empty disk, and puts a line.
 pub(super) fn write_store<W: Outside>(image: &[u8], line: &[u8], outside: &mut W) -> Status
+    requires named { take 8 image.now ≡ codes "801STORE" }
     requires empty { IsSome (W.held outside.old) → held_of W.Outside outside.old ≡ [] }
     ensures written { Written W.Outside image.now line.now (call outside.old outside.new [] result) }
     ensures unfailed { result ≡ Status.Done → W.put_faults outside.new ≡ W.put_faults outside.old }
@@ -52,15 +61,47 @@ pub(super) fn write_store<W: Outside>(image: &[u8], line: &[u8], outside: &mut W
     }
 }
 
-/// Writes the bytes over the front of the disk and makes them sure.
-fn write<W: Outside>(bytes: &[u8], outside: &mut W) -> Result<(), Failed>
+/// Writes an image on an empty disk and makes it sure. Zeros come first where its name will be, then the rest, and last the name,
+/// each made sure before the next: so whenever a crash comes, it leaves no store or the whole one (docs/FORMATS.md, "Protocols").
+fn write<W: Outside>(image: &[u8], outside: &mut W) -> Result<(), Failed>
+    requires named { take 8 image.now ≡ codes "801STORE" }
+    requires empty { IsSome (W.held outside.old) → held_of W.Outside outside.old ≡ [] }
     ensures calls { CallsDisk W.Outside outside.old outside.new }
     ensures cause { FailsOnlyCounted (W.disk_faults outside.old) (W.disk_faults outside.new) result }
-    ensures done { OnOk result (IsWrittenWhole W.Outside bytes.now outside.old outside.new) }
-    ensures torn { IsTornBy W.Outside (length bytes.now) outside.old outside.new }
-    ensures crash { LeavesTorn W.Outside (length bytes.now) outside.old outside.new }
+    ensures done { OnOk result (IsWrittenWhole W.Outside image.now outside.old outside.new) }
+    ensures torn { IsTornBy W.Outside (length image.now) outside.old outside.new }
+    ensures crash { LeavesTorn W.Outside (length image.now) outside.old outside.new }
+    ensures whole { LeavesWhole W.Outside image.now outside.old outside.new }
 {
-    outside.write_at(0, bytes)?;
+    write_sure(0, &UNNAMED, outside)?;
+    fill(image, outside)
+}
+
+/// Writes the rest of an image behind the place of its name, and then the name.
+fn fill<W: Outside>(image: &[u8], outside: &mut W) -> Result<(), Failed>
+    requires named { take 8 image.now ≡ codes "801STORE" }
+    requires begun { IsSome (W.held outside.old) → held_of W.Outside outside.old ≡ replicate 8 0 }
+    ensures calls { CallsDisk W.Outside outside.old outside.new }
+    ensures cause { FailsOnlyCounted (W.disk_faults outside.old) (W.disk_faults outside.new) result }
+    ensures done { OnOk result (IsFilled W.Outside image.now outside.old outside.new) }
+    ensures told { IsSome (W.held outside.old) → IsSome (W.held outside.new) × (length (held_of W.Outside outside.new) ≤ length image.now) }
+    ensures left { IsSure W.Outside outside.old → Leaves W.Outside (λ left seen. IsOnTheWay image.now left) outside.old outside.new }
+{
+    write_sure(NAME, &image[NAME as usize..], outside)?;
+    write_sure(0, &image[..NAME as usize], outside)
+}
+
+/// Writes bytes at an offset and makes them sure.
+fn write_sure<W: Outside>(at: u64, bytes: &[u8], outside: &mut W) -> Result<(), Failed>
+    requires { ForSome (W.held outside.old) (λ held. at ≤ length held) }
+    ensures calls { CallsDisk W.Outside outside.old outside.new }
+    ensures cause { FailsOnlyCounted (W.disk_faults outside.old) (W.disk_faults outside.new) result }
+    ensures done { OnOk result (IsPutDown W.Outside at bytes.now outside.old outside.new) }
+    ensures untold { IsSome (W.held outside.new) → IsSome (W.held outside.old) }
+    ensures torn { IsTornAt W.Outside at (length bytes.now) outside.old outside.new }
+    ensures crash { LeavesTornAt W.Outside at (length bytes.now) outside.old outside.new }
+{
+    outside.write_at(at, bytes)?;
     outside.sync()
 }
 

@@ -1,5 +1,5 @@
 use Rattle.store_calls.proofs.Common.{◌≡◌, ℕ, List, [], ◌++◌, ◌∙◌, ap, subst, codes, decimal, fresh, call, Written, new_line}
-use Rattle.store_calls.proofs.WrittenLemmas.{written_since}
+use Rattle.store_calls.proofs.WrittenLemmas.{written_since, not_written, unmade}
 use Rattle.store_calls.proofs.new.make_store.Goals as goal
 
 pub returns-clause-made : goal.returns-clause-made
@@ -13,3 +13,11 @@ returns-clause-made g c =
     subst (λ (bytes : List ℕ). Written G bytes (new_line header) (call before after [] c.write_store.result)) image
     (subst (λ (bytes : List ℕ). Written G c.as_slice.result.now bytes (call before after [] c.write_store.result)) line
     (written_since G g.met.W.Outside.fewer_later before c.ask_empty.new.outside c.in_default.ensures.asks c.as_slice.result.now c.as_slice-2.result.now after c.in_default.ensures.calm c.write_store.result c.write_store.ensures.only c.in_default.ensures.empty c.write_store.ensures.written))
+
+pub returns-in-Err-clause-made : goal.returns-in-Err-clause-made
+returns-in-Err-clause-made g c =
+    not_written g.W.Outside g.met.W.Outside.fewer_later c.args.outside.now c.ask_empty.new.outside c.in-Err.ensures.asks (fresh c.args.header.now) (new_line c.args.header.now) c.ask_empty.new.outside c.in-Err.status c.in-Err.ensures.refused
+
+pub returns-in-Err-fresh-clause-made : goal.returns-in-Err-fresh-clause-made
+returns-in-Err-fresh-clause-made g c =
+    unmade g.W.Outside g.met.W.Outside.fewer_later c.args.outside.now c.ask_empty.new.outside c.in_default.ensures.asks (fresh c.args.header.now) (new_line c.args.header.now) c.ask_empty.new.outside c.in_default.ensures.calm
