@@ -1,4 +1,5 @@
 -- The lines of a trace are those that the agreement law asks for.
+use Rattle.std.proofs.lemmas.Bool.Decides.{nat_tests}
 use Rattle.touch_trace.proofs.Common.{◌≡◌, ℕ, zero, suc, ◌+◌, ◌<◌, ◌||◌, Bool, true, false, List, [], ◌∷◌, ◌++◌, map, Some, refl, sym, ◌∙◌, ap, arith, map-append, FlatStore, Lines, both, Plain, after, touched_next, touched_within, Outcome, On, Commit, Check, row, Activation, if_commit, Touch, touch_at, touches, touches_of_step}
 use Rattle.std.proofs.lemmas.Bool.{true≢false}
 use Rattle.std.proofs.lemmas.Option.{same_Some, option_and_then_some, none-some}
@@ -15,49 +16,25 @@ lines_of_kind step store [] = refl
 lines_of_kind step store (line ∷ lines) = ap (λ (rest : List ℕ). line ∷ rest) (lines_of_kind step store lines)
 
 lines_of_step : (step : ℕ) (lines : Lines) → lines_touched (touches_of_step step lines) ≡ all_of lines
-lines_of_step step lines =
-    map-append (λ (touch : Touch). touch.line) (map (touch_at step false) lines.reads) (map (touch_at step true) lines.writes)
-    ∙ rw (lines_of_kind step false lines.reads, lines_of_kind step true lines.writes) refl
+lines_of_step step lines = grind (arith, nat_tests, map-append, lines_of_kind)
 
 swapped : (a b c d : Bool) → ((a || b) || (c || d)) ≡ ((a || c) || (b || d))
-swapped true b true d = refl
-swapped true b false d = refl
-swapped false true true d = refl
-swapped false true false d = refl
-swapped false false c d = refl
+swapped a b c d = grind (arith, nat_tests)
 
 in_both : (first second : Lines) (x : ℕ) → (has (all_of first) x || has (all_of second) x) ≡ has (all_of (both first second)) x
-in_both first second x =
-    rw (
-      has-append first.reads first.writes x,
-      has-append second.reads second.writes x,
-      has-append (first.reads ++ second.reads) (first.writes ++ second.writes) x,
-      has-append first.reads second.reads x,
-      has-append first.writes second.writes x,
-    )
-    (swapped (has first.reads x) (has first.writes x) (has second.reads x) (has second.writes x))
+in_both first second x = grind (arith, nat_tests, has-append, swapped)
 
 -- whether a line is in the trace, one step more
 in_more : (activation : Activation) (store : FlatStore) (n x : ℕ)
     → has (lines_touched (touches activation store (suc n))) x
     ≡ (has (lines_touched (touches activation store n)) x || has (all_of (touched_next activation.program activation.args store n)) x)
-in_more activation store n x =
-    let new = touches_of_step (n + 1) (touched_next activation.program activation.args store n) in
-    ap (λ (list : List Touch). has (lines_touched list) x) (touches_more activation store n)
-    ∙ ap (λ (lines : List ℕ). has lines x) (map-append (λ (touch : Touch). touch.line) (touches activation store n) new)
-    ∙ has-append (lines_touched (touches activation store n)) (lines_touched new) x
-    ∙ ap (λ (lines : List ℕ). has (lines_touched (touches activation store n)) x || has lines x)
-    (lines_of_step (n + 1) (touched_next activation.program activation.args store n))
+in_more activation store n x = grind (arith, nat_tests, touches_more, map-append, has-append, lines_of_step)
 
 -- a trace has just the lines that its rows touch
 in_trace : (activation : Activation) (store : FlatStore) (n x : ℕ)
     → has (lines_touched (touches activation store n)) x ≡ has (all_of (touched_within activation.program activation.args store n)) x
 in_trace activation store zero x = refl
-in_trace activation store (suc n) x =
-    let new = touched_next activation.program activation.args store n in
-    in_more activation store n x
-    ∙ ap (λ (earlier : Bool). earlier || has (all_of new) x) (in_trace activation store n x)
-    ∙ in_both (touched_within activation.program activation.args store n) new x
+in_trace activation store (suc n) x = grind (arith, nat_tests, in_trace activation store n x, in_more, in_both)
 
 agree_within : (activation : Activation) (store other : FlatStore) (n : ℕ)
     → AgreeOn store.directory (lines_touched (touches activation store (suc n))) store.bytes other.bytes
@@ -77,26 +54,20 @@ touches_alike activation store other (suc n) alike =
 
 -- the row of a commit, and its state
 committed : (outcome : Outcome) (reached state : Plain) → if_commit outcome reached ≡ Some state → (outcome ≡ Commit) × (reached ≡ state)
-committed (On next) reached state is = absurd (none-some state is)
 committed Commit reached state is = (refl, same_Some reached state is)
-committed (Check code) reached state is = absurd (none-some state is)
+committed _ reached state is = absurd (none-some state is)
 
 also_commits : (outcome : Outcome) → SameWay Commit outcome → outcome ≡ Commit
-also_commits (On next) same = absurd same
-also_commits Commit same = refl
-also_commits (Check code) same = absurd same
+also_commits outcome h1 = grind (arith, nat_tests)
 
 or_last : (a b : Bool) → b ≡ true → (a || b) ≡ true
-or_last true b is = refl
-or_last false b is = is
+or_last a b h1 = grind (arith, nat_tests)
 
 no_last : (a b : Bool) → (a || b) ≡ false → b ≡ false
-no_last true b is = absurd (true≢false is)
-no_last false b is = is
+no_last a b h1 = grind (arith, nat_tests)
 
 no_first : (a b : Bool) → (a || b) ≡ false → a ≡ false
-no_first true b is = absurd (true≢false is)
-no_first false b is = refl
+no_first a b h1 = grind (arith, nat_tests)
 
 -- the stores agree in the end on each line of the trace: one that a row wrote, and one that none did, which is as it was
 agree_at_line : (activation : Activation) (store other : FlatStore) (n : ℕ) (reached : Plain) (bytes : List ℕ)
@@ -105,9 +76,7 @@ agree_at_line : (activation : Activation) (store other : FlatStore) (n : ℕ) (r
     → (line : ℕ) → has (lines_touched (touches activation store (suc n))) line ≡ true
     → (is_written : Bool) → has (touched_within activation.program activation.args store n).writes line ≡ is_written
     → line_in store.directory reached.store line ≡ line_in store.directory bytes line
-agree_at_line activation store other n reached bytes same agree line inside true is =
-    let within = touched_within activation.program activation.args store n in
-    same.agrees line (has-append within.reads within.writes line ∙ or_last (has within.reads line) (has within.writes line) is)
+agree_at_line activation store other n reached bytes same agree line inside true is = grind (arith, nat_tests, has-append, or_last)
 agree_at_line activation store other n reached bytes same agree line inside false is =
     sym (same.kept line is) ∙ agree line inside ∙ same.kept_on_other line is
 
@@ -115,13 +84,7 @@ agree_at_line activation store other n reached bytes same agree line inside fals
 not_written : (activation : Activation) (store : FlatStore) (n line : ℕ)
     → has (lines_touched (touches activation store (suc n))) line ≡ false
     → has (touched_within activation.program activation.args store n).writes line ≡ false
-not_written activation store n line outside =
-    let within = touched_within activation.program activation.args store n in
-    no_last (has within.reads line) (has within.writes line)
-    (sym (has-append within.reads within.writes line)
-    ∙ sym (in_trace activation store n line)
-    ∙ no_first (has (lines_touched (touches activation store n)) line) (has (all_of (touched_next activation.program activation.args store n)) line)
-    (sym (in_more activation store n line) ∙ outside))
+not_written activation store n line outside = grind (arith, nat_tests, no_last, has-append, in_trace, no_first, in_more)
 
 pub trace-enough : TraceIsEnough
 trace-enough activation zero store other state whole whole_other one commits agree = absurd (none-some state commits)

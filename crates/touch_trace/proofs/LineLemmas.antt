@@ -1,4 +1,5 @@
 -- Commit lines up to one of them, and that one.
+use Rattle.std.proofs.lemmas.Bool.Decides.{nat_tests}
 use Rattle.touch_trace.proofs.Common.{◌≡◌, ◌≢◌, ℕ, zero, suc, List, [], ◌∷◌, ◌++◌, map, Some, inl, inr, ◌∙◌, ap, append_assoc, arith, Contains, map-append, Layout, Plain, Activation, before_commit, IsFirstUnsound, IsSound, Told, sound_here, Touch, AreTouches, touches}
 use Rattle.std.proofs.lemmas.List.Elements.{Contains-append_cases}
 use Rattle.job_text.specs.declared.job.Job.{Job}
@@ -22,15 +23,7 @@ none_more lines told activation none other has =
 -- the first unsound line is so with others behind
 pub unsound_among : (job : Job) (opening : KeptStore) (lines behind : List Told) (place : ℕ)
     → IsFirstUnsound job opening lines place → IsFirstUnsound job opening (lines ++ behind) place
-unsound_among job opening lines behind place unsound = record {
-  before = unsound.before;
-  told = unsound.told;
-  behind = unsound.behind ++ behind;
-  lines_are = ap (λ (first : List Told). first ++ behind) unsound.lines_are ∙ append_assoc unsound.before (unsound.told ∷ unsound.behind) behind;
-  place = unsound.place;
-  sound = unsound.sound;
-  unsound = unsound.unsound;
-}
+unsound_among job opening lines behind place unsound = grind (arith, nat_tests, append_assoc unsound.before (unsound.told ∷ unsound.behind) behind)
 
 -- a line whose activation commits as it tells is sound, and has these touches
 pub traced_sound : (job : Job) (opening : KeptStore) (before : List Told) (told : Told) (activation : Activation) (progress : Progress) (directory : Layout)

@@ -1,4 +1,5 @@
 -- The touches of steps, one step more.
+use Rattle.std.proofs.lemmas.Bool.Decides.{nat_tests}
 use Rattle.touch_trace.proofs.Common.{◌≡◌, ℕ, zero, suc, ◌+◌, ◌-◌, ◌<◌, ◌≤◌, Bool, List, [], ◌∷◌, ◌++◌, map, Option, Some, sym, ◌∙◌, ap, append_assoc, append-nil, arith, flat_map, range_with_len, FlatStore, no_lines, Plain, after, touched_next, Activation, Touch, touch_at, touches, touches_of_step}
 use Rattle.std.specs.Option.{option_map_or}
 use Rattle.std.proofs.lemmas.Grind.{flat_map-append}
@@ -18,9 +19,7 @@ told_more step store first line old now above is =
 
 range_more : (a n : ℕ) → range_with_len a (suc n) ≡ range_with_len a n ++ (a + n) ∷ []
 range_more a zero = let e : a ≡ a + 0 = omega arith in ap (λ (x : ℕ). x ∷ []) e
-range_more a (suc n) =
-    let e : (a + 1) + n ≡ a + suc n = omega arith in
-    ap (λ (xs : List ℕ). a ∷ xs) (range_more (a + 1) n ∙ ap (λ (x : ℕ). range_with_len (a + 1) n ++ x ∷ []) e)
+range_more a (suc n) = grind (arith, nat_tests, range_more (a + 1) n)
 
 -- one step more
 pub touches_more : (activation : Activation) (store : FlatStore) (n : ℕ)
@@ -41,12 +40,4 @@ pub touches_next : (activation : Activation) (store : FlatStore) (step : ℕ) (s
     → after activation.program activation.args store (step - 1) ≡ Some state → list ≡ touches activation store (step - 1)
     → list ++ touches_of_step step (touched activation.program store.directory state) ≡ touches activation store step
 touches_next activation store zero state list some reached is = absurd (omega arith)
-touches_next activation store (suc n) state list some reached is =
-    let rows : suc n - 1 ≡ n = omega arith in
-    let step : suc n ≡ n + 1 = omega arith in
-    let at = rw rows at reached in
-    let so = rw rows at is in
-    let next = ap (λ (found : Option Plain). option_map_or (touched activation.program store.directory) found no_lines) at in
-    rw so (ap (λ lines. touches activation store n ++ touches_of_step (suc n) lines) (sym next)
-    ∙ ap (λ (s : ℕ). touches activation store n ++ touches_of_step s (touched_next activation.program activation.args store n)) step
-    ∙ sym (touches_more activation store n))
+touches_next activation store (suc n) state list some reached is = grind (arith, nat_tests, touches_more)
