@@ -69,11 +69,7 @@ held-others store later entries authority gone one_directory same held = record 
         ]
 
     covered : (a : Authority) (page number : ℕ) (locks : Lines) → IsCovered a page number locks → IsCovered (freed gone.number a) page number locks
-    covered a page number locks old = by_test (a.owner == gone.number)
-      where
-        by_test : (is_gone : Bool) → IsCovered (if is_gone then nobody else a) page number locks
-        by_test true = nobody-covers page number locks
-        by_test false = old
+    covered a page number locks old = grind (arith, nat_tests, nobody-covers page number locks)
 
 -- after one entry changed
 pub held-replaced :

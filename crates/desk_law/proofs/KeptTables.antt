@@ -66,9 +66,7 @@ module _ (desk : Desk) (locks requests : ℕ → Lines) (are : AreKept desk.comm
       by_mark entry false e among = none (entry.number == from) entry.waiting _ _ e
         where
           none : (a mark b c : Bool) → mark ≡ false → (a && mark && b) ≡ (a && mark && c)
-          none a true b c e = absurd (cc)
-          none true false b c e = refl
-          none false false b c e = refl
+          none a mark b c e = grind (arith, nat_tests)
 
   -- the cycle that is shown is that of the tables
   pub cycle-kept : (number : ℕ) → shown_cycle (kept_waits locks requests desk.active) (numbers desk) number ≡ shown_cycle (waits_for desk) (numbers desk) number

@@ -37,14 +37,7 @@ pub held-free : (desk : Desk) (entry : Entry) → IsOrderly desk → IsAmong des
     → conflicts_of desk entry ≡ []
 held-free desk entry is here part =
     nobody-else (conflicts_with desk entry) desk.active
-    (λ other among. by_test other among (other.number == entry.number) refl)
-  where
-    by_test : (other : Entry) → IsAmong desk.active other → (same : Bool) → (other.number == entry.number) ≡ same
-        → (not same && conflicts (request desk entry) (held desk other)) ≡ false
-    by_test other among true e = refl
-    by_test other among false e =
-        part-free (request desk entry) (due_to desk.committed entry) (held desk other) part
-        (let apart = is.active.apart other entry among here e in record { first_writes = apart.second_writes; second_writes = apart.first_writes })
+    (λ other among. grind (arith, nat_tests, part-free (request desk entry) (due_to desk.committed entry) (held desk other) part, is.active.apart other entry among here))
 
 -- the lines written stay so many
 pub held-written : (desk : Desk) (entry : Entry) → ArePart (request desk entry) (due_to desk.committed entry)
@@ -72,8 +65,7 @@ fine-rows desk entry fine line =
     ∙ or_none (has (wanted desk entry).writes line))
   where
     or_none : (b : Bool) → (b || false) ≡ b
-    or_none true = refl
-    or_none false = refl
+    or_none b = grind (arith, nat_tests)
 
     by_page : (into : Bool) → list_any (λ w. page_of_line w == page_of_line line) (wanted desk entry).writes ≡ into → (into && not (is_fine_page desk.committed.directory (page_of_line line))) ≡ false
     by_page true e =
@@ -88,7 +80,4 @@ write-bits desk entry page line is here owner on at =
     (eq-eqb (slice_index_or desk.authority page nobody).owner entry.number owner) on)
   where
     may : (same write bit : Bool) → same ≡ true → write ≡ true → permits same write bit false ≡ true
-    may true true true e f = refl
-    may true true false e f = refl
-    may true false bit e f = absurd (cc)
-    may false write bit e f = absurd (cc)
+    may same write bit e f = grind (arith, nat_tests)

@@ -34,10 +34,7 @@ find-seat (one ∷ taken) all entry_of at apart inside =
   where
     step : (a b : Bool) → (one == at) ≡ a → b ≡ (one == at) → (a || has taken at) ≡ true → (has taken at ≡ true → find (λ other. (entry_of other).number == (entry_of at).number) taken ≡ Some at)
         → (if b then Some one else find (λ other. (entry_of other).number == (entry_of at).number) taken) ≡ Some at
-    step true true e same inside rest = ap Some (eqb-true one at e)
-    step true false e same inside rest = absurd (both_ways (one == at) (sym same) e)
-    step false true e same inside rest = absurd (both_ways (one == at) e (sym same))
-    step false false e same inside rest = rest inside
+    step a b e same inside rest = grind (arith, nat_tests)
 
 pub at-number : {A : Type 0} → (taken : List ℕ) (entry_of : ℕ → Entry) (table : ℕ → A) (else_this : A) (at : ℕ) → AreSeats taken entry_of → has taken at ≡ true
     → by_number taken entry_of table else_this (entry_of at).number ≡ table at
