@@ -37,10 +37,7 @@ module _ (numbers : ℕ → ℕ) (none : numbers 0 ≡ 0) where
       λ i. first (one.owner == identifier) (numbers one.owner == number) (stands.alone 0) i ∷ freed-told identifier number authority (record { is = stands.is; alone = λ page. stands.alone (suc page) }) i
     where
       first : (a b : Bool) → a ≡ b → owner_told numbers (if a then nobody else one) ≡ (if b then nobody else owner_told numbers one)
-      first true true e = λ i. record { owner = none i; write = false; lines = [] }
-      first true false e = absurd (cc)
-      first false true e = absurd (cc)
-      first false false e = refl
+      first a b e = grind (arith, nat_tests, none)
 
   told-set : (authority : List Authority) (page : ℕ) (new : Authority) → owners_told numbers (slice_set authority page new) ≡ slice_set (owners_told numbers authority) page (owner_told numbers new)
   told-set [] page new = refl

@@ -63,10 +63,7 @@ module _ (desk : Desk) (locks requests : ℕ → Lines) (are : AreKept desk.comm
           ap (λ (b : Bool). entry.number == from && entry.waiting && b)
           (any-entries (λ other. other.number == to && kept_conflict (requests entry.number) locks entry.number other) (λ other. other.number == to && conflicts_with desk entry other) desk.active
           (λ other there. ap (λ (b : Bool). other.number == to && b) (conflict-kept (requests entry.number) entry other (are.asked entry among e) there)))
-      by_mark entry false e among = none (entry.number == from) entry.waiting _ _ e
-        where
-          none : (a mark b c : Bool) → mark ≡ false → (a && mark && b) ≡ (a && mark && c)
-          none a mark b c e = grind (arith, nat_tests)
+      by_mark entry false e among = grind (arith, nat_tests)
 
   -- the cycle that is shown is that of the tables
   pub cycle-kept : (number : ℕ) → shown_cycle (kept_waits locks requests desk.active) (numbers desk) number ≡ shown_cycle (waits_for desk) (numbers desk) number

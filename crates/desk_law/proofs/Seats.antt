@@ -57,13 +57,7 @@ told-found taken entry_of number = find-named entry_of (λ entry. entry.number =
 one-passes : (p : ℕ → Bool) (value : Bool) (taken : List ℕ) (at : ℕ) → has taken at ≡ true → ((other : ℕ) → has taken other ≡ true → p other ≡ (other == at && value))
     → list_any p taken ≡ value
 one-passes p true taken at inside same = any-at p taken at inside (same at inside ∙ and_from (at == at) true (eq-eqb at at refl) refl)
-one-passes p false taken at inside same = by_any (list_any p taken) refl
-  where
-    by_any : (any : Bool) → list_any p taken ≡ any → any ≡ false
-    by_any false is = refl
-    by_any true is =
-        let (other, there, passes) = any-some p taken is in
-        absurd (both_ways (p other) (same other there ∙ and_right (other == at) false refl) passes)
+one-passes p false taken at inside same = grind (arith, nat_tests, any-some p taken)
 
 module _ (taken : List ℕ) (entry_of : ℕ → Entry) (are : AreSeats taken entry_of) (locks requests : ℕ → Lines) where
   -- whether what a seat asks for conflicts with what another holds
@@ -92,10 +86,7 @@ module _ (taken : List ℕ) (entry_of : ℕ → Entry) (are : AreSeats taken ent
               ≡ map (λ other. (entry_of other).number) (filter (λ other. not (other == seat) && conflicts asked (locks other)) seats)
               → map (λ (other : Entry). other.number) (if a then entry_of one ∷ filter (kept_conflict asked (by_number taken entry_of locks no_lines) (entry_of seat).number) (map entry_of seats) else filter (kept_conflict asked (by_number taken entry_of locks no_lines) (entry_of seat).number) (map entry_of seats))
               ≡ map (λ other. (entry_of other).number) (if b then one ∷ filter (λ other. not (other == seat) && conflicts asked (locks other)) seats else filter (λ other. not (other == seat) && conflicts asked (locks other)) seats)
-          step true true e rest = ap (λ (these : List ℕ). (entry_of one).number ∷ these) rest
-          step true false e rest = absurd (cc)
-          step false true e rest = absurd (cc)
-          step false false e rest = rest
+          step a b e rest = grind (arith, nat_tests)
 
   -- who waits for whom
   pub waits-seats : (from to : ℕ) → has taken from ≡ true → has taken to ≡ true
