@@ -1,5 +1,5 @@
 -- The laws of the bytes as they are now.
-use Rattle.desk_law.proofs.Common.{◌≡◌, refl, ℕ, ◌+◌, if◌then◌else◌, Bool, true, false, List, [], ◌++◌, Some, arith, ap, ◌∙◌, has, size, Plain, On, row, after, line_in, Desk, Entry, with_entry, rolled_back, wanted, held, conflicts_of, FlatStore, IsWhole, gone_on, IsAmong, AreConsistent, current, current_bytes, touched_of, nat_tests}
+use Rattle.desk_law.proofs.Common.{◌≡◌, refl, ℕ, ◌+◌, if◌then◌else◌, Bool, true, false, List, [], ◌++◌, Some, arith, ap, ◌∙◌, has, size, Plain, On, row, after, line_in, Desk, Entry, with_entry, wanted, conflicts_of, FlatStore, IsWhole, gone_on, IsAmong, AreConsistent, current, current_bytes, touched_of, nat_tests}
 use Rattle.desk_law.specs.CurrentLaws.{OneListIsCurrent, HoldersSeeCurrent, RowsChangeTheirLines, RowsRunOnCurrent, CommitsChangeNoLine, RollbacksGiveBack, CommitsLeaveOthers}
 use Rattle.desk_law.proofs.Entries.{replaced}
 use Rattle.desk_law.proofs.Others.{another-same, after-row}
@@ -65,12 +65,7 @@ pub commits-change-no-line : CommitsChangeNoLine
 commits-change-no-line desk entry now line is here at = commit-current desk.committed desk.most_lines desk.next desk.active entry now line is.whole is.active here at
 
 pub rollbacks-give-back : RollbacksGiveBack
-rollbacks-give-back desk entry line is here = by_written (has (held desk entry).writes line) refl
-  where
-    by_written : (wrote : Bool) → has (held desk entry).writes line ≡ wrote
-        → current (rolled_back desk entry) line ≡ (if wrote then line_in desk.committed.directory desk.committed.bytes line else current desk line)
-    by_written true e = rollback-written desk.committed desk.most_lines desk.next desk.active entry line is.active here e
-    by_written false e = rollback-others desk.committed desk.most_lines desk.next desk.active entry line is.active here e
+rollbacks-give-back desk entry line is here = grind (arith, nat_tests, rollback-written desk.committed desk.most_lines desk.next desk.active entry line is.active here, rollback-others desk.committed desk.most_lines desk.next desk.active entry line is.active here)
 
 pub commits-leave-others : CommitsLeaveOthers
 commits-leave-others desk entry other now state is here there differ at also = grind (arith, nat_tests, another-same desk.committed entry other now state is.whole)

@@ -1,5 +1,5 @@
 -- A shown cycle closes, where only the waits of its number close one.
-use Rattle.desk_law.proofs.Common.{◌≡◌, refl, ℕ, zero, suc, ◌<◌, ◌≤◌, ◌==◌, ◌&&◌, ◌||◌, not, if◌then◌else◌, Bool, true, false, List, [], ◌∷◌, ◌++◌, length, filter, find, Option, Some, None, option_map_or, arith, ap, sym, ◌∙◌, inl, inr, eqb-true, both_ways, and_parts, and_from, cases_Bool, not_from_false, none-some, has, leads, next_shown, shown_after, shown_cycle, victim_of, found-has, found-passes, has-filter, Desk, Entry, with_entry, rolled_back, numbers, waits_for, Counts, Contested, Settled, Lost, breaks_cycle, breaks_cycles, IsAmong, HasNoCycle, EndsWith, ContestedCyclesClose, except, IsContending, nat_tests}
+use Rattle.desk_law.proofs.Common.{◌≡◌, refl, ℕ, zero, suc, ◌<◌, ◌≤◌, ◌==◌, ◌&&◌, not, if◌then◌else◌, Bool, true, false, List, [], ◌∷◌, ◌++◌, length, filter, find, Option, Some, None, option_map_or, arith, ap, sym, ◌∙◌, inl, inr, eqb-true, and_parts, and_from, cases_Bool, not_from_false, none-some, has, leads, next_shown, shown_after, shown_cycle, victim_of, found-has, found-passes, has-filter, Desk, Entry, with_entry, rolled_back, numbers, waits_for, Counts, Contested, Settled, Lost, breaks_cycle, breaks_cycles, IsAmong, HasNoCycle, EndsWith, ContestedCyclesClose, except, IsContending, nat_tests}
 use Rattle.desk_law.proofs.Entries.{new-among}
 use Rattle.desk_law.proofs.Orderly.{orderly}
 use Rattle.desk_law.proofs.Walks.{first-step, one-step, leads-more, walk-short, all-pass}
@@ -31,15 +31,7 @@ some-found test all x inside passes = by_found (find test all) refl
   where
     none-there : (all : List ℕ) → find test all ≡ None → has all x ≡ true → ⊥
     none-there [] none inside = cc
-    none-there (y ∷ all) none inside = by_test (test y) refl none (none-there all)
-      where
-        by_test : (yes : Bool) → test y ≡ yes → (if yes then Some y else find test all) ≡ None → (find test all ≡ None → has all x ≡ true → ⊥) → ⊥
-        by_test true e none later = cc
-        by_test false e none later =
-            elim (cases_Bool (y == x)) [
-              | inl same ↦ both_ways (test y) e (ap test (eqb-true y x same) ∙ passes)
-              | inr apart ↦ later none (sym (ap (λ (b : Bool). b || has all x) apart) ∙ inside)
-            ]
+    none-there (y ∷ all) none inside = grind (arith, nat_tests, none-there all, passes)
 
     by_found : (found : Option ℕ) → find test all ≡ found → (y : ℕ) × (find test all ≡ Some y)
     by_found None none = absurd (none-there all none inside)

@@ -1,5 +1,5 @@
 -- Entries that are told from seats: what becomes of them as one seat changes or is left, and tables by seat as tables by number.
-use Rattle.desk_law.proofs.Common.{◌≡◌, refl, ℕ, ◌==◌, ◌&&◌, ◌||◌, not, if◌then◌else◌, Bool, true, false, List, [], ◌∷◌, map, filter, find, Some, list_any, option_map, ap, sym, ◌∙◌, inl, inr, eqb-true, eq-eqb, both_ways, and_from, and_right, or_left, or_right, FlatStore, has, Lines, no_lines, conflicts, any-at, any-some, any-named, find-named, Entry, AreAlike, requested, AreKept, AreSeats, by_number, kept_conflict, kept_waits, IsAmong, due_to, nat_tests, arith}
+use Rattle.desk_law.proofs.Common.{◌≡◌, refl, ℕ, ◌==◌, ◌&&◌, ◌||◌, not, if◌then◌else◌, Bool, true, false, List, [], ◌∷◌, map, filter, find, Some, list_any, option_map, ap, sym, ◌∙◌, inl, inr, eqb-true, eq-eqb, and_from, or_left, or_right, FlatStore, has, Lines, no_lines, conflicts, any-at, any-some, any-named, find-named, Entry, AreAlike, requested, AreKept, AreSeats, by_number, kept_conflict, kept_waits, IsAmong, due_to, nat_tests, arith}
 use Rattle.desk_law.proofs.Entries.{replaced}
 use Rattle.desk_law.proofs.Others.{others}
 
