@@ -25,13 +25,6 @@ at_or_after (suc a) zero = inr (omega arith)
 at_or_after (suc a) (suc b) = ⊎_elim (λ le. inl (omega (arith, le))) (λ more. inr (omega (arith, more))) (at_or_after a b)
 
 -- where nothing was done
-pub passes_same : (first : List ℕ) (deeds : List Deed) (first' : List ℕ) (deeds' : List Deed) → first' ≡ first → deeds' ≡ deeds → Passes moment_of images_of (first, deeds) (first', deeds')
-passes_same first deeds first' deeds' is_first is_deeds = record {
-  later = omega (arith, ap length is_deeds);
-  nothing_else = λ t image before left. subst (λ (these : List ℕ). images_at these deeds t image) is_first (subst (λ (these : List Deed). images_at first' these t image) is_deeds left);
-  keeps = λ t image before left. subst (λ (these : List Deed). images_at first' these t image) (sym is_deeds) (subst (λ (these : List ℕ). images_at these deeds t image) (sym is_first) left);
-}
-
 pub adds_same : (first : List ℕ) (deeds : List Deed) (first' : List ℕ) (deeds' : List Deed) → first' ≡ first → deeds' ≡ deeds → AddsNoImage moment_of images_of (first, deeds) (first', deeds')
 adds_same first deeds first' deeds' is_first is_deeds t image since by_now left =
     let is_now : t ≡ length deeds = omega (arith, since, by_now, ap length is_deeds) in
