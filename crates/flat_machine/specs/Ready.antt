@@ -80,12 +80,16 @@ work_made doing r cs b x y z i = work_of_two doing cs b x y z i
 abbrev pub goes_if : Bool → (to after : ℕ) → (registers : List ℕ) → Cs → Plan
 goes_if taken to after registers status = Does registers status Act.Nothing (if taken then to else after) None
 
+-- control goes to an address, and a register gets the one after the row; nothing else changes
+abbrev pub goes_with_link : (to b after : ℕ) → (registers : List ℕ) → Cs → Plan
+goes_with_link to b after registers status = Does registers status Act.Nothing to (Some (b, after))
+
 -- the rows that go to the address that a register has, with or without a link, and those that do no branch
 abbrev pub done_by_register : Ready → (registers : List ℕ) → Cs → (after y : ℕ) → Doing → Plan
 done_by_register row r cs after y Doing.GoTo = goes_if true (even y) after r cs
 done_by_register row r cs after y Doing.GoToIf = goes_if (condition cs row.b) (even y) after r cs
 done_by_register row r cs after y Doing.GoToUnless = goes_if (not (condition cs row.b)) (even y) after r cs
-done_by_register row r cs after y Doing.LinkTo = Does r cs Act.Nothing (even y) (Some (row.b, after))
+done_by_register row r cs after y Doing.LinkTo = goes_with_link (even y) row.b after r cs
 done_by_register row r cs after y doing =
     plan_alone (worked r cs (work_made doing r cs row.b (slice_index r row.b) y (base r row.c) row.i)) after
 
@@ -103,7 +107,7 @@ done_by row r cs after Doing.GoUnlessEqual = goes_if (not cs.eq) row.i after r c
 done_by row r cs after Doing.GoUnlessGreater = goes_if (not cs.gt) row.i after r cs
 done_by row r cs after Doing.GoUnlessCarry = goes_if (not cs.c0) row.i after r cs
 done_by row r cs after Doing.GoUnlessOverflow = goes_if (not cs.ov) row.i after r cs
-done_by row r cs after Doing.Link = Does r cs Act.Nothing row.i (Some (row.b, after))
+done_by row r cs after Doing.Link = goes_with_link row.i row.b after r cs
 done_by row r cs after doing = done_by_register row r cs after (slice_index r row.c) doing
 
 -- what a row made ready comes to at an address
