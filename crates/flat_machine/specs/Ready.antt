@@ -1,5 +1,6 @@
 -- Rows made ready: decoded once, each with its operand as it is used.
 use Rattle.std.specs.Prelude.{◌≡◌, ℕ, ◌+◌, ◌-◌, ◌*◌, ◌%◌, ◌==◌, nat_lt, nat_le, not, if◌then◌else◌, Bool, true, false, List, slice_index, Option, Some, None, bit_and, bit_or, bit_xor}
+use Rattle.romp_table.specs.declared.inst.Inst.{Inst}
 use Rattle.flat_machine.specs.declared.machine.Cs.{Cs}
 use Rattle.flat_machine.specs.declared.machine.Act.{Act}
 use Rattle.flat_machine.specs.declared.ready.Doing.{Doing}
@@ -9,7 +10,7 @@ use Rattle.flat_machine.specs.Words.{is_negative, extended, complement, biased, 
 use Rattle.flat_machine.specs.Work.{base, loads_byte, loads_half, loads_words, stores_byte, stores_half, stores_words, traps, is_masked}
 use Rattle.flat_machine.specs.Branches.{condition, even}
 use Rattle.flat_machine.specs.Effect.{worked}
-use Rattle.flat_machine.specs.Row.{plan, plan_alone}
+use Rattle.flat_machine.specs.Row.{plan, plan_of, plan_alone}
 
 -- whether a row made ready has a second halfword
 abbrev pub has_second : Ready → Bool
@@ -113,6 +114,19 @@ done_by row r cs after doing = done_by_register row r cs after (slice_index r ro
 -- what a row made ready comes to at an address
 abbrev pub done : Ready → (registers : List ℕ) → Cs → (iar : ℕ) → Plan
 done row registers status iar = done_by row registers status (iar + row.bytes) row.doing
+
+-- what goes on to the row after it, whatever it computes
+abbrev pub GoesOn : Doing → Type 0
+GoesOn doing =
+    (row : Ready) (registers : List ℕ) (status : Cs) (after : ℕ)
+    → done_by row registers status after doing
+    ≡ plan_alone (worked registers status (work_made doing registers status row.b (slice_index registers row.b) (slice_index registers row.c) (base registers row.c) row.i)) after
+
+-- a row made ready of an instruction of as many bytes: it comes to what the instruction is to do
+abbrev pub IsOf : Ready → Inst → (iar : ℕ) → Type 0
+IsOf row inst iar =
+    (halfword_at : ℕ → Option ℕ) (registers : List ℕ) (status : Cs)
+    → plan_of halfword_at inst row.bytes registers status iar ≡ done row registers status iar
 
 -- a row made ready of two halfwords at an address: where they stand there, it comes to what the plan says; the second counts where it has one
 abbrev pub IsRowOf : Ready → (first second iar : ℕ) → Type 0
