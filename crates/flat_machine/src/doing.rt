@@ -1,5 +1,5 @@
 //! How a row made ready is done.
-ghost use Rattle.std.specs.Prelude.{◌≡◌, ◌<◌, List, ℕ, None, length};
+ghost use Rattle.std.specs.Prelude.{◌≡◌, ◌<◌, ◌==◌, if◌then◌else◌, List, ℕ, None, length};
 ghost use Rattle.flat_machine.specs.declared.machine.Cs.{Cs};
 ghost use Rattle.flat_machine.specs.Plans.{Does};
 ghost use Rattle.flat_machine.specs.Access.{IsAccess};
@@ -10,7 +10,7 @@ use super::branches::holds;
 use super::machine::{Act, Cs, Pending};
 use super::ready::{Doing, Ready};
 use super::row_table::{
-    base_of, carry_of, compare_with, half_at, load, masks, put, signed, store, sum, trap, word_at,
+    carry_of, compare_with, half_at, load, masks, put, signed, store, sum, trap, word_at,
 };
 use super::words::{
     add, bias, extend, invert, magnitude, shift_left, shift_right, shift_signed, subtract,
@@ -31,7 +31,7 @@ pub fn start_ready(row: Ready, regs: &mut [u32; 16], cs: &mut Cs, iar: u32) -> P
     let i = row.i;
     let x = regs[usize::from(b)];
     let y = regs[usize::from(row.c)];
-    let z = base_of(regs, row.c);
+    let z = based(row.c, y);
     let address = add(z, i, 0);
     match row.doing {
         Doing::Stay => return go(false, i, after),
@@ -100,6 +100,13 @@ pub fn start_ready(row: Ready, regs: &mut [u32; 16], cs: &mut Cs, iar: u32) -> P
         Doing::StoreWords => return wants(store(word_at(address), 4 * (16 - b), b), after),
     }
     wants(Act::Nothing, after)
+}
+
+/// The value of a base register that has a value, where field 0 means zero.
+fn based(c: u8, y: u32) -> u32
+    ensures { result ≡ (if c == 0 then 0 else y) }
+{
+    if c == 0 { 0 } else { y }
 }
 
 /// Control goes to the address after the row once what it wants is done.

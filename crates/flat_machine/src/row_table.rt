@@ -211,7 +211,10 @@ pub fn signed(to: u8, value: u32, regs: &mut [u32; 16], cs: &mut Cs)
     ensures status { cs.new ≡ signed_status value cs.old }
 {
     regs[usize::from(to)] = value;
-    *cs = sign_flags(value, *cs);
+    let told = sign_flags(value, *cs);
+    cs.lt = told.lt;
+    cs.eq = told.eq;
+    cs.gt = told.gt;
 }
 
 /// A register gets the sum of two words and a carry, and the whole status tells of the sum.
@@ -229,7 +232,10 @@ pub fn sum(to: u8, x: u32, y: u32, carry: u32, regs: &mut [u32; 16], cs: &mut Cs
 pub fn compare_with(x: u32, y: u32, cs: &mut Cs)
     ensures { cs.new ≡ compared_status x y cs.old }
 {
-    *cs = compare(x, y, *cs);
+    let told = compare(x, y, *cs);
+    cs.lt = told.lt;
+    cs.eq = told.eq;
+    cs.gt = told.gt;
 }
 
 /// The address of a halfword.
