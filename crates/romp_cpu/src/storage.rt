@@ -1,6 +1,7 @@
-ghost use Rattle.std.specs.Prelude.{◌≡◌, ℕ, Bool, true, false, List, Option, length};
+ghost use Rattle.std.specs.Prelude.{◌≡◌, ℕ, Bool, true, false, List, Option, IfSome, length};
 ghost use Rattle.flat_machine.specs.Access.{FitsFrom};
 ghost use Rattle.flat_machine.specs.Effect.{filled};
+ghost use Rattle.flat_machine.specs.Ready.{IsReadyAt};
 ghost use Rattle.flat_machine.specs.Row.{stored_bytes};
 ghost use Rattle.segment_regs.specs.Registers.{Registers};
 ghost use Rattle.segment_regs.specs.declared.registers.Virtual.{Virtual};
@@ -9,7 +10,7 @@ ghost use Rattle.romp_cpu.specs.declared.storage.Probe.{Probe};
 ghost use Rattle.romp_cpu.specs.Shown.{bytes_from, halfword_of, access_to};
 ghost use Rattle.romp_cpu.specs.Answers.{answer_in, if_permitted, IsOutside};
 
-use flat_machine::{fill, gather};
+use flat_machine::{Ready, fill, gather};
 use segment_regs::Virtual;
 
 /// What an instruction or its subject accesses: so many bytes from an effective address on, to load or to store.
@@ -64,6 +65,18 @@ pub trait Storage {
     /// The halfword at an address, the higher byte first. None exactly where it is outside the 16,384 bytes of register 0.
     fn fetch(&self, address: u32) -> Option<u16>
         ensures { result ≡ halfword_of (byte_at (state self.now)) address };
+
+    /// The row made ready at an address, if one is known there.
+    fn ready(&self, address: u32) -> Option<Ready>
+        ensures { IfSome result (λ row. IsReadyAt row (halfword_of (byte_at (state self.now))) address) }
+    {
+        None
+    }
+
+    /// Makes the row at an address ready, where it is one that can be. The state stays.
+    fn prepare(&mut self, address: u32)
+        ensures { state self.new ≡ state self.old }
+    {}
 
     /// Whether an access may be made: a check as it is located; else the first page by address that is in no frame; else the
     /// first whose entry refuses. It may arrange things for itself, but the state stays.

@@ -1,0 +1,88 @@
+//! Rows that were decoded once.
+ghost use Rattle.std.specs.Prelude.{◌<◌, ◌≤◌};
+
+/// What a row made ready does, with its operand where it has one: rows that differ in how their operand is written alone are
+/// one here, and a jump is one for each condition.
+#[derive(Clone, Copy)]
+pub enum Doing {
+    Stay,
+    Go,
+    GoIfLess,
+    GoIfEqual,
+    GoIfGreater,
+    GoIfCarry,
+    GoIfOverflow,
+    GoUnlessLess,
+    GoUnlessEqual,
+    GoUnlessGreater,
+    GoUnlessCarry,
+    GoUnlessOverflow,
+    /// To the operand, with a link.
+    Link,
+    /// To the address that register C has, always or by the condition of field B, or with a link.
+    GoTo,
+    GoToIf,
+    GoToUnless,
+    LinkTo,
+    Take,
+    Increase,
+    Decrease,
+    Address,
+    AddressOfTwo,
+    AddOperand,
+    AddOperandCarry,
+    AddOperandOne,
+    SubtractFromOperand,
+    AndOperand,
+    OrOperand,
+    DifferOperand,
+    ShiftLeftBy,
+    ShiftRightBy,
+    ShiftSignedBy,
+    CompareOperand,
+    CompareSignedOperand,
+    TrapIfMasked,
+    Add,
+    AddCarry,
+    Subtract,
+    SubtractCarry,
+    SubtractFrom,
+    Negate,
+    Magnitude,
+    Invert,
+    Extend,
+    And,
+    Or,
+    Differ,
+    ShiftLeft,
+    ShiftRight,
+    ShiftSigned,
+    Compare,
+    CompareSigned,
+    TrapIfBelow,
+    TrapUnlessBelow,
+    LoadByte,
+    LoadHalf,
+    LoadHalfSigned,
+    LoadHalfAt,
+    LoadWord,
+    LoadWords,
+    StoreByte,
+    StoreHalf,
+    StoreWord,
+    StoreWords,
+}
+
+/// A row made ready: what it does, how many bytes it has, its fields B and C, and its operand as it is used, so where a jump
+/// goes or what is added.
+#[derive(Clone, Copy)]
+pub struct Ready {
+    pub doing: Doing,
+    pub bytes: u8,
+    pub b: u8,
+    pub c: u8,
+    pub i: u32,
+    ghost bytes_are_few: { bytes ≤ 4 },
+    ghost b_is_narrow: { b < 16 },
+    ghost c_is_narrow: { c < 16 },
+}
