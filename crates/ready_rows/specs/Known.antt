@@ -1,7 +1,7 @@
 -- The rows that are known, by their addresses.
 use Rattle.std.specs.Prelude.{◌≡◌, ℕ, ◌+◌, ◌/◌, ◌%◌, ◌==◌, ◌&&◌, nat_lt, if◌then◌else◌, Bool, List, slice_index, slice_get, Option, Some, None}
-use Rattle.ready_rows.specs.declared.ready.Ready.{Ready}
-use Rattle.ready_rows.specs.Ready.{has_second}
+use Rattle.flat_machine.specs.declared.ready.Ready.{Ready}
+use Rattle.ready_rows.specs.Tags.{bytes_of}
 use Rattle.ready_rows.specs.declared.rows.ReadyRows.{ReadyRows}
 
 -- the place of the row at an address
@@ -20,10 +20,6 @@ known rows address = row_in rows.tags.items rows.rows.items address
 -- no row is known
 abbrev pub KnowsNothing : ReadyRows → Type 0
 KnowsNothing rows = (address : ℕ) → known rows address ≡ None
-
--- how many bytes a row has
-abbrev pub bytes_of : Ready → ℕ
-bytes_of row = if has_second row then 4 else 2
 
 -- whether a row at an address and so many bytes from an offset on overlap
 abbrev pub is_met : (offset bytes address : ℕ) → Ready → Bool

@@ -1,6 +1,7 @@
 ghost use Rattle.std.specs.Prelude.{◌≡◌, ℕ, ◌+◌, ◌≤◌, ◌<◌, vec_len, IfOk};
+ghost use Rattle.ready_rows.specs.Tags.{is_tag_met};
 
-use super::ready::{Doing, Ready};
+use flat_machine::{Doing, Ready};
 use std::alloc::{AllocError, Global};
 
 /// Rows made ready, each at one of 512 places by its address. A place has the address and one for a tag, or 0 where it has
@@ -95,11 +96,19 @@ impl ReadyRows {
         ensures { (address : ℕ) → known self.new address ≡ with_place place offset bytes address (known self.old address) }
     {
         let index = place as usize;
-        let tag = u32::from(self.tags[index]);
-        if tag <= offset + bytes
-            && (offset < tag + 1 || (offset < tag + 3 && self.rows[index].is_long()))
-        {
+        if is_tag_met(self.tags[index], &self.rows[index], offset, bytes) {
             self.tags[index] = 0;
         }
     }
+}
+
+/// Whether the row of a tag has one of so many bytes from an offset on. A row of two bytes is looked at only where one of
+/// four would have one of them.
+#[inline(always)]
+fn is_tag_met(tag: u16, row: &Ready, offset: u32, bytes: u32) -> bool
+    requires { offset + bytes ≤ 16384 }
+    ensures { result ≡ is_tag_met tag row.now offset bytes }
+{
+    let from = u32::from(tag);
+    from <= offset + bytes && (offset < from + 1 || (offset < from + 3 && row.is_long()))
 }
