@@ -1,10 +1,15 @@
 -- A page that comes in: the frame that is lent is filled, and its kept lines are laid over it.
-use Rattle.storage_unit.proofs.Common.{◌≡◌, refl, ℕ, ◌+◌, ◌*◌, ◌<◌, ◌≤◌, ◌==◌, true, List, [], ◌∷◌, length, Option, Some, None, is_some, range_with_len, slice_index_or, get_or-set_same, page_count, frame_at, marks_at, with_room, ap, arith, sym, subst, ◌∙◌, eq-eqb, length-take, length-drop, page_bytes, Layout, has, Pool, pool_of, IsSeen, frame_bytes, Brought, emptied, laid, with_bytes, with_frame_part, lent-part, page_part, Fits, filled, Reach, reach_of, Unit, nat_tests}
+use Rattle.storage_unit.proofs.Common.{◌≡◌, refl, ℕ, ◌+◌, ◌*◌, ◌<◌, ◌≤◌, ◌==◌, true, List, [], ◌∷◌, length, Option, Some, None, is_some, range_with_len, slice_index_or, get_or-set_same, page_count, frame_at, marks_at, with_room, ap, arith, sym, subst, ◌∙◌, eq-eqb, length-take, length-drop, page_bytes, Layout, has, Pool, pool_of, IsSeen, frame_bytes, Brought, emptied, laid, with_bytes, with_frame_part, lent-part, page_part, Fits, filled, private_frames, Reach, reach_of, Unit, nat_tests}
 use Rattle.std.proofs.lemmas.Bool.{both_ways, or_left}
 use Rattle.line_geometry.specs.LineSets.{bits_of, lines_of_bits}
 use Rattle.line_geometry.proofs.LineSetLemmas.{bits_of-lines}
 use Rattle.frame_pool.proofs.LayLemmas.{laid-anyway}
 use Rattle.storage_unit.specs.Incoming.{IsFilled, IsKept, HasGoneOut}
+use Rattle.storage_unit.specs.ReadyRows.{AreReady}
+use Rattle.storage_unit.proofs.SizeLemmas.{frame-high}
+use Rattle.storage_unit.proofs.StoreLemmas.{all-private}
+use Rattle.storage_unit.proofs.LaidLemmas.{over-low}
+use Rattle.storage_unit.proofs.ReadyLemmas.{ready-kept}
 use Rattle.storage_unit.proofs.LeaveLemmas.{emptied-frame}
 use Rattle.storage_unit.proofs.StateLemmas.{laid-bytes, room-stays}
 use Rattle.storage_unit.proofs.UnitLemmas.{sound-fits, unit-sound}
@@ -39,6 +44,22 @@ module _ (unit brought_in : Unit) (page : ℕ) (keep : Option ℕ) (frame : ℕ)
 
   whole : length lent ≡ page_bytes brought_in.pool.places.page
   whole = ap length lends ∙ simp (length-take, length-drop) (omega (arith, inside))
+
+  -- the rows that it knows are ready, whatever fills the frame
+  pub still-ready : (part : List ℕ) → length part ≡ length lent
+      → AreReady brought_in.rows (pool_of (with_frame_part brought_in.pool (frame * page_bytes brought_in.pool.places.page) part)).bytes brought_in.runner
+  still-ready part keeps_length =
+      subst (λ (list : List ℕ). AreReady brought_in.rows list brought_in.runner)
+      (sym (ap (λ (p : Pool). p.bytes) (lent-part brought_in.pool (frame * page_bytes brought_in.pool.places.page) part (omega (arith, inside, whole, keeps_length)))))
+      (ready-kept brought_in.rows (pool_of brought_in.pool).bytes _ brought_in.runner brought_in.selected.few
+      (λ k low.
+      over-low (pool_of brought_in.pool).bytes (frame * page_bytes brought_in.pool.places.page) part k (omega (arith, low, high)) (omega (arith, low, all-private (reach_of brought_in) (unit-sound brought_in)))) brought_in.ready)
+    where
+      page_stays : brought_in.pool.places.page ≡ (reach_of unit).pool.page
+      page_stays = ap (λ (p : Pool). p.page) came.rest ∙ (room-stays (reach_of unit).pool keep (unit-sound unit).seen).1.page
+
+      high : 262144 ≤ frame * page_bytes brought_in.pool.places.page
+      high = frame-high brought_in.pool.places.page frame (subst (λ s. private_frames s ≤ frame) (sym page_stays) came.above)
 
   -- each of its lines is kept
   pub is-kept : (now : Unit) → reach_of now ≡ record (reach_of brought_in) { pool = laid (reach_of brought_in).pool page } → range_with_len 0 16 ≡ marks_at (reach_of brought_in).pool page

@@ -25,6 +25,9 @@ pub mod FoundLemmas
 pub mod OpenLemmas
 pub mod GatheredLemmas
 pub mod LeftLemmas
+pub mod LaidLemmas
+pub mod ReadyLemmas
+pub mod WrittenLemmas
 pub mod RowLemmas
 pub mod BringKeeps
 pub mod FailedBringKeeps

@@ -2,9 +2,10 @@ pub mod Places
 pub mod Bytes
 pub mod Reach
 pub mod Held
+pub mod PlanCodes
+pub mod ReadyRows
 pub mod Reached
 pub mod View
-pub mod UnitLending
 pub mod Served
 pub mod Rows
 pub mod Accesses

@@ -65,7 +65,7 @@ impl Unit {
             self.lay_kept(page);
             return Ok(());
         }
-        let read = pages.read_page(outside, page, self.page_mut(slot.frame));
+        let read = pages.read_page(outside, page, self.pool.page_mut(slot.frame));
         self.lay_kept(page);
         match read {
             Ok(()) => Ok(()),

@@ -5,6 +5,7 @@ mod incoming;
 pub mod laws;
 mod model;
 mod private;
+mod rows;
 mod serving;
 mod sizes;
 mod storage;

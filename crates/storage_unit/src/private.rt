@@ -7,6 +7,7 @@ ghost use Rattle.tlb_model.specs.declared.tlb.Pair.{Pair};
 ghost use Rattle.tlb_model.specs.Buffer.{IsOfTable};
 ghost use Rattle.storage_unit.specs.Held.{AreReached, first_keys};
 
+use super::rows::forget_unless;
 use super::serving::clear_frame;
 use super::sizes::{first_frame, seat_pages};
 use super::unit::Unit;
@@ -35,6 +36,7 @@ impl Unit {
             seat_pages(page),
             PRIVATE + u16::from(seat),
         );
+        self.rows.forget();
         lay_image(self.pool.private_mut(seat), image);
         self.begun[usize::from(seat)] = true;
     }
@@ -53,6 +55,7 @@ impl Unit {
         );
         self.begun[usize::from(seat)] = false;
         if self.runner == seat + 1 {
+            self.rows.forget();
             self.registers = SegmentRegs::none(page);
             self.runner = 0;
         }
@@ -66,6 +69,7 @@ impl Unit {
         requires registers { AreReached (reach_of self.old).directory seat regs.now }
         ensures { reach_of self.new ≡ record (reach_of self.old) { registers = regs.now; runner = seat + 1 } }
     {
+        forget_unless(&mut self.rows, self.runner == seat + 1);
         self.registers = *regs;
         self.runner = seat + 1;
     }

@@ -1,16 +1,14 @@
 // Pages that come in and go out, and entries that are set.
-ghost use Rattle.std.specs.Prelude.{◌≡◌, ℕ, ◌*◌, ◌<◌, ◌≤◌, false, length, fold, slice_set, option_and_then};
+ghost use Rattle.std.specs.Prelude.{◌≡◌, ℕ, ◌<◌, ◌≤◌, false, length, fold, slice_set, option_and_then};
 ghost use Rattle.std.specs.Option.{option_map_or};
 ghost use Rattle.inverted_table.specs.Placed.{look_up, without_frame};
 ghost use Rattle.tlb_model.specs.Buffer.{IsOfTable};
 ghost use Rattle.frame_pool.specs.View.{pool_of};
 ghost use Rattle.storage_unit.specs.Held.{keys_without};
-ghost use Rattle.std.specs.Borrow.{sem};
 ghost use Rattle.line_geometry.specs.Directory.{page_count};
-ghost use Rattle.line_geometry.specs.Segments.{page_bytes};
 ghost use Rattle.lock_rules.specs.Sets.{has};
 ghost use Rattle.frame_pool.specs.Sizes.{frame_count};
-ghost use Rattle.frame_pool.specs.Pool.{Brought, frame_at, page_out, frame_bytes, settled, undone, emptied, laid};
+ghost use Rattle.frame_pool.specs.Pool.{Brought, frame_at, page_out, settled, undone, emptied, laid};
 ghost use Rattle.storage_unit.specs.Places.{key_among};
 ghost use Rattle.storage_unit.specs.Served.{released};
 
@@ -22,7 +20,6 @@ use lockbit_rules::Authority;
 use tlb_model::Tlb;
 
 impl Unit {
-    ghost use Rattle.storage_unit.specs.UnitLending.{LendsPage};
     ghost use Rattle.storage_unit.specs.View.{reach_of};
 
     /// Brings in a page that isn't resident, as the pool does. What its frame held is still there: it is to be filled, and
@@ -41,16 +38,6 @@ impl Unit {
         let key = key_among(self.directory.segments(), page);
         self.table.enter(slot.frame, key.segment, key.page);
         slot
-    }
-
-    /// Lends a frame, to be filled. Nothing else can be written through a part of the unit that is lent.
-    #[inline(always)]
-    pub(crate) fn page_mut(&mut self, frame: u16) -> &mut [u8]
-        requires { frame < frame_count (reach_of self.old).pool.page (reach_of self.old).pool.frames }
-        ensures* writes_back { sem 𝓛 (LendsPage self.entry (frame * page_bytes (reach_of self.entry.now).pool.page) result) }
-        ensures value { result.now ≡ frame_bytes (reach_of self.old).pool frame }
-    {
-        self.pool.page_mut(frame)
     }
 
     /// The kept lines of a page lie over those of its frame.

@@ -7,6 +7,8 @@ ghost use Rattle.line_geometry.specs.Directory.{byte_count, start_of};
 ghost use Rattle.line_geometry.specs.Lines.{line_of};
 ghost use Rattle.romp_cpu.specs.Answers.{answer_in, answered_at, answer_of, if_permitted, IsRefusal};
 ghost use Rattle.romp_cpu.specs.Shown.{bytes_from};
+ghost use Rattle.flat_machine.specs.Ready.{IsRowOf};
+ghost use Rattle.storage_unit.specs.ReadyRows.{private_half};
 ghost use Rattle.flat_machine.specs.Access.{FitsFrom};
 ghost use Rattle.flat_machine.specs.Effect.{filled};
 ghost use Rattle.flat_machine.specs.Row.{stored_bytes};
@@ -24,10 +26,11 @@ ghost use Rattle.inverted_table.specs.Placed.{look_up};
 
 use super::model::Reach;
 use super::private::PRIVATE;
+use super::rows::drop_rows;
 use super::sizes::{byte_past, first_frame, is_in_line, line_in_page, offset_of, rest_of_line};
 use super::unit::Unit;
 use byteorder::{BigEndian, ByteOrder};
-use flat_machine::{fill, gather};
+use flat_machine::{Ready, fill, gather, ready_of};
 use romp_cpu::{Access, Attempt, Cpu, Fault, Probe, Storage};
 use segment_regs::{Check, Virtual};
 
@@ -356,6 +359,8 @@ impl Unit {
         ensures { reach_of self.new ≡ put_at (reach_of self.old) (place_of (reach_of self.old).directory first) from.now }
     {
         if let Some(frame) = self.frame_at(first) {
+            let page = self.directory.page();
+            drop_rows(&mut self.rows, page, first, from.len() as u32);
             self.pool
                 .part_mut(frame, usize::from(first.byte), from.len())
                 .copy_from_slice(from);
@@ -371,6 +376,8 @@ impl Unit {
         requires frame { look_up (table_of (reach_of self.old)).keys (key_of first) ≡ Some frame }
         ensures { reach_of self.new ≡ put_at (reach_of self.old) (place_of (reach_of self.old).directory first) (stored_bytes regs.now bytes from) }
     {
+        let page = self.directory.page();
+        drop_rows(&mut self.rows, page, first, u32::from(bytes));
         gather(
             from,
             regs,
@@ -456,6 +463,21 @@ impl Storage for Unit {
     }
 
     #[inline(always)]
+    fn ready(&self, address: u32) -> Option<Ready> {
+        self.rows.at(address)
+    }
+
+    #[inline(never)]
+    fn prepare(&mut self, address: u32) {
+        if self.runner == 0 {
+            return;
+        }
+        if let Some(row) = self.row_at(address) {
+            self.rows.keep(address, row);
+        }
+    }
+
+    #[inline(always)]
     fn probe(&mut self, wants: &Access) -> Probe {
         let bytes = u32::from(wants.bytes);
         match self.registers.locate(wants.address, bytes, wants.store) {
@@ -513,6 +535,17 @@ impl Storage for Unit {
 impl Unit {
     ghost use Rattle.storage_unit.specs.Reach.{byte_at, stored};
     ghost use Rattle.storage_unit.specs.View.{reach_of};
+
+    /// The row at an address made ready, if it is one that can be. A row of the last halfword alone isn't.
+    fn row_at(&self, address: u32) -> Option<Ready>
+        requires { 1 ≤ (reach_of self.now).runner }
+        ensures within { IfSome result (λ row. address + 4 ≤ 16384) }
+        ensures row { IfSome result (λ row. IsRowOf row (private_half (reach_of self.now).pool.bytes (reach_of self.now).runner address) (private_half (reach_of self.now).pool.bytes (reach_of self.now).runner (address + 2)) address) }
+    {
+        let first = self.fetch(address)?;
+        let second = self.fetch(address + 2)?;
+        ready_of(first, second, address)
+    }
 
     /// Fills registers with bytes, as they are probed and loaded, by a call.
     #[inline(always)]

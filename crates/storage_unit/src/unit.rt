@@ -7,11 +7,15 @@ ghost use Rattle.inverted_table.specs.Keys.{key_of};
 ghost use Rattle.inverted_table.specs.Placed.{look_up};
 ghost use Rattle.tlb_model.specs.Buffer.{IsOfTable, found, after_found};
 ghost use Rattle.storage_unit.specs.Held.{keys_of, AreOfPages, IsSelected, table_of};
+ghost use Rattle.storage_unit.specs.PlanCodes.{plan_set};
+ghost use Rattle.storage_unit.specs.ReadyRows.{AreReady};
+ghost use Rattle.std.proofs.Props.{props};
 ghost use Rattle.storage_unit.specs.Served.{made};
 
 use frame_pool::{FramePool, private_frames};
 use inverted_table::Table;
 use line_geometry::Directory;
+use ready_rows::ReadyRows;
 use segment_regs::{SegmentRegs, Virtual};
 use std::alloc::{AllocError, Global};
 use store_format::Header;
@@ -20,7 +24,8 @@ use tlb_model::Tlb;
 /// Frames, page table and look-aside buffer of a store, with the segment registers of the seat that is selected
 /// (docs/MODEL.md). They agree: the table has a page of the store in a frame exactly where the pool has
 /// it there, and a seat's private pages in its private frames exactly where it is begun; and each pair of the buffer is in
-/// the table. So no part is lent to be written, but the bytes of a frame.
+/// the table. Each row that is known is made ready of the private bytes of who is selected. So no part is lent to be
+/// written.
 #[derive(Drop)]
 pub struct Unit {
     pub(crate) pool: FramePool,
@@ -30,6 +35,7 @@ pub struct Unit {
     pub(crate) directory: Directory,
     pub(crate) registers: SegmentRegs,
     pub(crate) runner: u8,
+    pub(crate) rows: ReadyRows,
     ghost sixteen: { length begun ≡ 16 },
     ghost legal: { IsLegal directory.segments },
     ghost pool_size: { (pool_of pool).page ≡ directory.page },
@@ -39,6 +45,7 @@ pub struct Unit {
     ghost held: { table.keys ≡ keys_of directory begun (pool_of pool).frames (pool_of pool).page_in },
     ghost remembered: { IsOfTable buffer table.keys },
     ghost selected: { IsSelected directory begun runner registers },
+    ghost ready: { AreReady rows (pool_of pool).bytes runner } by { Prim.hlevel (props, plan_set) },
 }
 
 impl Unit {
@@ -67,6 +74,7 @@ impl Unit {
             directory,
             registers: SegmentRegs::none(page),
             runner: 0,
+            rows: ReadyRows::new(alloc)?,
         })
     }
 

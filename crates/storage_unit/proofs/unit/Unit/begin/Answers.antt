@@ -5,6 +5,7 @@ use Rattle.storage_unit.proofs.HeldLemmas.{key-at, keys-long, held-private, find
 use Rattle.storage_unit.proofs.PrivateLemmas.{first-long, begun-other, holds-first, free-at}
 use Rattle.storage_unit.proofs.StoreLemmas.{all-private}
 use Rattle.storage_unit.proofs.UnitLemmas.{unit-sound}
+use Rattle.storage_unit.proofs.ReadyLemmas.{ready-none}
 use Rattle.storage_unit.proofs.unit.Unit.begin.Goals as goal
 
 -- the seat isn't begun
@@ -100,6 +101,7 @@ invariant_of-self c =
               old.1,
             );
       };
+      ready = ready-none c.forget.new.self _ unit.runner c.forget.ensures;
     }
 
 pub returns : goal.returns

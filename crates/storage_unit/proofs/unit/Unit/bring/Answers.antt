@@ -1,6 +1,7 @@
 use Rattle.storage_unit.proofs.Common.{◌≡◌, ℕ, ◌<◌, ◌≤◌, false, List, length, sym, ◌∙◌, ap, subst, arith, Option, Some, None, slice_set, option_and_then, option_map_or, Key, Placed, key_in, look_up, without_frame, IsOfTable, of_table-entered, Pool, private_frames, frame_count, frame_at, page_out, with_room, Brought, IsSeen, has, page_count, length-set, pool_of, pool-seen, Stays, Unit, key_among, key_of_page, keys_of, pages_begun, AreOfPages, nat_tests}
 use Rattle.storage_unit.proofs.HeldLemmas.{key-at, keys-long, held-store, finds-page, keys-store}
 use Rattle.storage_unit.proofs.StateLemmas.{frames-held, room-stays, room-none, absent-frame, keys-room, without-keys, without-entries}
+use Rattle.storage_unit.specs.ReadyRows.{AreReady}
 use Rattle.storage_unit.proofs.unit.Unit.bring.Goals as goal
 
 module _ (unit : Unit) (page : ℕ) (keep : Option ℕ) where
@@ -121,4 +122,5 @@ invariant_of-self c =
           (unfound unit c.args.page c.args.keep new frame came c.requires.page c.requires.absent)
           (subst (λ (list : List (Option Key)). IsOfTable c.leave_frame.new.buffer list) keys c.leave_frame.ensures.of_table));
       selected = unit.selected;
+      ready = subst (λ (list : List ℕ). AreReady unit.rows list unit.runner) (sym (ap (λ (p : Pool). p.bytes) came.rest ∙ old.bytes)) unit.ready;
     }

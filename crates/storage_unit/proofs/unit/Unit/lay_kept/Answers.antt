@@ -1,5 +1,9 @@
-use Rattle.storage_unit.proofs.Common.{◌≡◌, sym, ◌∙◌, ap, subst, List, ℕ, length, arith, Pool, pool_of, AreOfPages, keys_of}
+use Rattle.storage_unit.proofs.Common.{◌≡◌, sym, ◌∙◌, ap, subst, List, ℕ, length, arith, Pool, pool_of, AreOfPages, keys_of, reach_of}
 use Rattle.storage_unit.proofs.StateLemmas.{laid-bytes}
+use Rattle.storage_unit.specs.ReadyRows.{AreReady}
+use Rattle.storage_unit.proofs.LaidLemmas.{laid-low}
+use Rattle.storage_unit.proofs.ReadyLemmas.{ready-kept}
+use Rattle.storage_unit.proofs.UnitLemmas.{unit-sound}
 use Rattle.storage_unit.proofs.unit.Unit.lay_kept.Goals as goal
 
 pub lay_kept-requires : goal.lay_kept-requires
@@ -19,4 +23,7 @@ invariant_of-self c =
       held = unit.held ∙ ap (λ (p : Pool). keys_of unit.directory unit.begun p.frames p.page_in) (sym new);
       remembered = unit.remembered;
       selected = unit.selected;
+      ready =
+          subst (λ (list : List ℕ). AreReady unit.rows list unit.runner) (sym (ap (λ (p : Pool). p.bytes) c.lay_kept.ensures))
+          (ready-kept unit.rows (pool_of unit.pool).bytes _ unit.runner unit.selected.few (laid-low (reach_of unit) (unit-sound unit) c.args.page) unit.ready);
     }

@@ -1,9 +1,12 @@
 use Rattle.std.proofs.lemmas.Grind.{common_steps}
-use Rattle.storage_unit.proofs.Common.{ℕ, ◌+◌, ◌*◌, List, length, sym, ◌∙◌, ap, subst, page_bytes, Pool, marked_in, with_bytes, lines_of_part, pool_of, Reach, keys_of, AreOfPages, reach_of, nat_tests, arith}
+use Rattle.storage_unit.proofs.Common.{ℕ, List, length, sym, ◌∙◌, ap, subst, Pool, lines_of_part, pool_of, put_at, place_of, keys_of, AreOfPages, reach_of, nat_tests, arith}
+use Rattle.ready_rows.specs.Known.{known}
+use Rattle.storage_unit.specs.ReadyRows.{after_store}
 use Rattle.storage_unit.proofs.CopyLemmas.{found-below, found-some, none-of}
-use Rattle.storage_unit.proofs.StoreLemmas.{marked-of_pages, put-found}
+use Rattle.storage_unit.proofs.StoreLemmas.{marked-of_pages}
 use Rattle.storage_unit.proofs.UnitLemmas.{unit-sound}
 use Rattle.storage_unit.proofs.PartLemmas.{part-long, pool-after, marked-same, marked-keys}
+use Rattle.storage_unit.proofs.WrittenLemmas.{stored-part, ready-part}
 use Rattle.storage_unit.proofs.unit.Unit.put_part.Goals as goal
 
 pub part_mut-requires-clause-frame : goal.part_mut-requires-clause-frame
@@ -34,20 +37,15 @@ invariant_of-self c =
       held = unit.held ∙ sym (ap (λ (p : Pool). keys_of unit.directory unit.begun p.frames p.page_in) new ∙ marked-keys unit.directory unit.begun (pool_of unit.pool) frame lines);
       remembered = unit.remembered;
       selected = unit.selected;
+      ready = ready-part unit c.args.first frame c.from.result n is c.from.ensures c.requires.within c.requires.some c.requires.lies c.copy_from_slice.new.self (ap length c.copy_from_slice.ensures.after) c.drop_rows.new.rows
+          (λ address. c.drop_rows.ensures address ∙ ap (λ s. after_store s c.args.first n address (known unit.rows address)) c.page-page.ensures);
     }
 
 pub returns-in-Some : goal.returns-in-Some
 returns-in-Some c =
     let unit = c.args.self.now in
-    let frame = c.in-Some.frame in
-    let n = length c.args.from.now in
-    let is = sym c.frame_at.ensures ∙ c.in-Some.is in
-    let lines : List ℕ = lines_of_part unit.pool.places.page c.from.result n in
-    let new = pool-after unit c.args.first frame c.from.result n is c.from.ensures c.requires.within lines c.copy_from_slice.new.self (ap length c.copy_from_slice.ensures.after) in
-    ap (λ (p : Pool). (let now : Reach = record (reach_of unit) { pool = p } in now)) new
-    ∙ ap (λ (part : List ℕ). (let now : Reach = record (reach_of unit) { pool = with_bytes (marked_in (pool_of unit.pool) frame lines) (frame * page_bytes unit.pool.places.page + c.from.result) part } in now)) c.copy_from_slice.ensures.after
-    ∙ ap (λ b. (let now : Reach = record (reach_of unit) { pool = with_bytes (marked_in (pool_of unit.pool) frame (lines_of_part unit.pool.places.page b n)) (frame * page_bytes unit.pool.places.page + b) c.args.from.now } in now)) c.from.ensures
-    ∙ put-found (reach_of unit) (unit-sound unit) c.args.first c.args.from.now c.requires.some c.requires.lies c.requires.within frame is
+    stored-part unit c.args.first c.in-Some.frame c.from.result (length c.args.from.now) (sym c.frame_at.ensures ∙ c.in-Some.is) c.from.ensures c.requires.within c.requires.some c.requires.lies c.copy_from_slice.new.self (ap length c.copy_from_slice.ensures.after)
+    ∙ ap (put_at (reach_of unit) (place_of unit.directory c.args.first)) c.copy_from_slice.ensures.after
 
 pub returns-in_default : goal.returns-in_default
 returns-in_default c =

@@ -1,5 +1,6 @@
-use Rattle.storage_unit.proofs.Common.{◌≡◌, subst, ℕ, true, arith, AreReached}
+use Rattle.storage_unit.proofs.Common.{◌≡◌, ◌+◌, subst, ℕ, true, arith, AreReached}
 use Rattle.std.specs.Prelude.{slice_index_or, false}
+use Rattle.storage_unit.proofs.ReadyLemmas.{ready-selected}
 use Rattle.storage_unit.proofs.unit.Unit.select.Goals as goal
 
 pub invariant_of-self-clause-selected : goal.invariant_of-self-clause-selected
@@ -10,3 +11,8 @@ invariant_of-self-clause-selected c = record {
       let same : c.args.seat ≡ seat = omega (arith, is) in
       subst (λ (s : ℕ). (slice_index_or c.args.self.now.begun s false ≡ true) × AreReached c.args.self.now.directory s c.args.regs.now) same (c.requires.begun, c.requires.registers);
 }
+
+pub invariant_of-self-clause-ready : goal.invariant_of-self-clause-ready
+invariant_of-self-clause-ready c =
+    let unit = c.args.self.now in
+    ready-selected unit.rows c.forget_unless.new.rows unit.pool.bytes.items.items unit.runner (c.args.seat + 1) unit.ready c.forget_unless.ensures

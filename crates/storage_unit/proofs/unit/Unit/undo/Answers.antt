@@ -1,6 +1,7 @@
 use Rattle.storage_unit.proofs.Common.{sym, ◌∙◌, ap, subst, List, ℕ, length, Option, None, arith, slice_set, option_map_or, Key, Placed, Pool, IsSeen, frame_at, marks_at, settled, pool_of, pool-seen, gone-stays, AreOfPages, keys_of, pages_begun}
 use Rattle.storage_unit.proofs.LeaveLemmas.{seen-settled}
 use Rattle.storage_unit.proofs.StateLemmas.{frames-held, marks-settled, keys-gone, without-keys, without-entries}
+use Rattle.storage_unit.specs.ReadyRows.{AreReady}
 use Rattle.storage_unit.proofs.unit.Unit.undo.Goals as goal
 
 pub leave_frame-requires-clause-room : goal.leave_frame-requires-clause-room
@@ -35,4 +36,5 @@ invariant_of-self c =
           ∙ ap (λ (p : Pool). keys_of unit.directory unit.begun p.frames p.page_in) (sym new);
       remembered = c.leave_frame.ensures.of_table;
       selected = unit.selected;
+      ready = subst (λ (list : List ℕ). AreReady unit.rows list unit.runner) (sym (ap (λ (p : Pool). p.bytes) new ∙ stays.bytes)) unit.ready;
     }

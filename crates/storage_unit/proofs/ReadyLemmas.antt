@@ -1,0 +1,195 @@
+-- The rows that a unit knows stay ready where none of their bytes changes.
+use Rattle.storage_unit.proofs.Common.{◌≡◌, ℕ, ◌+◌, ◌-◌, ◌*◌, ◌/◌, ◌%◌, ◌<◌, ◌≤◌, ◌⊎◌, ◌==◌, Bool, true, false, List, length, refl, sym, ◌∙◌, ap, subst, arith, inl, inr, Option, Some, None, IfSome, cond, nat_le, if◌then◌else◌, slice_index, nat_tests, page_bytes, bytes_from, halfword_of, Located, Private, Shared, Refused, Virtual, Reach, offset_of, place_at, place_of, seat_of, byte_of, byte_at, put_at, put_in_store, IsSound, Lies, eqb-true, leb-true}
+use Rattle.byteorder.specs.Endian.{big_number}
+use Rattle.flat_machine.specs.declared.ready.Ready.{Ready}
+use Rattle.flat_machine.specs.Ready.{has_second, IsRowOf, IsReadyAt}
+use Rattle.ready_rows.specs.declared.rows.ReadyRows.{ReadyRows}
+use Rattle.ready_rows.specs.Known.{known, KnowsNothing, is_met, unless_met, with_row, place_of as row_place}
+use Rattle.ready_rows.specs.Tags.{bytes_of}
+use Rattle.storage_unit.specs.ReadyRows.{AreReady, after_store, private_byte, private_half}
+use Rattle.storage_unit.proofs.SizeLemmas.{rest-below, place-is}
+use Rattle.storage_unit.proofs.FillLemmas.{over-part}
+use Rattle.storage_unit.proofs.LocatedLemmas.{private-at}
+use Rattle.storage_unit.proofs.PlaceLemmas.{Selected, selected, is-private, is-shared, never-refused}
+use Rattle.storage_unit.proofs.PutLemmas.{spot-none}
+use Rattle.storage_unit.proofs.StoreLemmas.{all-private, low-frame}
+use Rattle.storage_unit.proofs.AfterLemmas.{own-located}
+use Rattle.storage_unit.proofs.LeftLemmas.{private-fits}
+
+-- two bytes are a halfword
+half-same : (f g : ℕ → ℕ) (offset : ℕ) → g offset ≡ f offset → g (offset + 1) ≡ f (offset + 1) → bytes_from g offset 2 ≡ bytes_from f offset 2
+half-same f g offset first second = grind (arith, nat_tests)
+
+-- the halfwords of a row may differ where it doesn't have them
+row-same : (row : Ready) (first next second other address : ℕ) → next ≡ first → (has_second row ≡ true → other ≡ second) → IsRowOf row first second address → IsRowOf row next other address
+row-same row first next second other address same told is =
+    λ halves registers status at_first at_second. is halves registers status (at_first ∙ ap Some same) (λ long. at_second long ∙ ap Some (told long))
+
+-- a row has two bytes, or four
+two : (row : Ready) → 2 ≤ bytes_of row
+two row = grind (arith, nat_tests)
+
+four : (row : Ready) → bytes_of row ≤ 4
+four row = grind (arith, nat_tests)
+
+-- rows that are known were known before, and their bytes stayed
+pub ready-after :
+    (rows after : ReadyRows) (old new : List ℕ) (runner : ℕ) → AreReady rows old runner
+    → ((address : ℕ) (row : Ready) → known after address ≡ Some row
+    → (known rows address ≡ Some row) × ((offset : ℕ) → address ≤ offset → offset < address + bytes_of row → private_byte new runner offset ≡ private_byte old runner offset))
+    → AreReady after new runner
+ready-after rows after old new runner ready told = record {
+  selected = λ address row is. ready.selected address row (told address row is).0;
+  within = λ address row is. ready.within address row (told address row is).0;
+  of_row = λ address row is.
+      let (was, same) = told address row is in
+      let short : 2 ≤ bytes_of row = two row in
+      row-same row (private_half old runner address) (private_half new runner address) (private_half old runner (address + 2)) (private_half new runner (address + 2)) address
+      (ap (big_number 2) (half-same (private_byte old runner) (private_byte new runner) address (same address (omega arith) (omega arith)) (same (address + 1) (omega arith) (omega arith))))
+      (λ long.
+      let all : bytes_of row ≡ 4 = ap (λ b. if b then 4 else 2) long in
+      ap (big_number 2) (half-same (private_byte old runner) (private_byte new runner) (address + 2) (same (address + 2) (omega arith) (omega arith)) (same (address + 2 + 1) (omega arith) (omega arith))))
+      (ready.of_row address row was);
+}
+
+-- where none is known, all are ready
+pub ready-none : (rows : ReadyRows) (bytes : List ℕ) (runner : ℕ) → KnowsNothing rows → AreReady rows bytes runner
+ready-none rows bytes runner none = record { selected = λ address row is. absurd (never address row is); within = λ address row is. absurd (never address row is); of_row = λ address row is. absurd (never address row is) }
+  where
+    never : (address : ℕ) (row : Ready) → known rows address ≡ Some row → ⊥
+    never address row is = let clash : None ≡ Some row = sym (none address) ∙ is in cc
+
+-- they stay where all private bytes do
+pub ready-kept :
+    (rows : ReadyRows) (old new : List ℕ) (runner : ℕ) → runner < 17 → ((k : ℕ) → k < 262144 → slice_index new k ≡ slice_index old k)
+    → AreReady rows old runner → AreReady rows new runner
+ready-kept rows old new runner few same ready =
+    ready-after rows rows old new runner ready
+    (λ address row is. (is, λ offset from to. same ((runner - 1) * 16384 + offset) (omega (arith, to, few, ready.within address row is, four row))))
+
+-- what is known after a store was known before, and apart from its bytes
+unless-some : (offset bytes address : ℕ) (o : Option Ready) (row : Ready) → unless_met offset bytes address o ≡ Some row → (o ≡ Some row) × (is_met offset bytes address row ≡ false)
+unless-some offset bytes address None row is = absurd (cc)
+unless-some offset bytes address (Some found) row is = by_test (is_met offset bytes address found) refl is
+  where
+    by_test : (b : Bool) → is_met offset bytes address found ≡ b → cond b None (Some found) ≡ Some row → (Some found ≡ Some row) × (is_met offset bytes address row ≡ false)
+    by_test true met told = absurd (let clash : None ≡ Some row = told in cc)
+    by_test false met told = let same : found ≡ row = cc in (told, ap (is_met offset bytes address) (sym same) ∙ met)
+
+-- bytes that are put, where the rows that have private ones of them are known no more
+module _ (state : Reach) (sound : IsSound state) (at : Virtual) (bytes : List ℕ) (lies : Lies state at (length bytes)) (rows after : ReadyRows) (ready : AreReady rows state.pool.bytes state.runner)
+    (left : (address : ℕ) → known after address ≡ after_store state.directory.page at (length bytes) address (known rows address)) where
+  pub ready-put : AreReady after (put_at state (place_of state.directory at) bytes).pool.bytes state.runner
+  ready-put = by_place (place_of state.directory at) refl
+    where
+      by_place : (place : Located) → place_of state.directory at ≡ place → AreReady after (put_at state place bytes).pool.bytes state.runner
+      by_place (Private a) is =
+          let (own, offset) = is-private state.directory at a is in
+          let (few, runner, fits) = private-fits state at (length bytes) a lies is in
+          ready-after rows after state.pool.bytes (put_at state (Private a) bytes).pool.bytes state.runner ready
+          (λ address row found.
+          let was = sym (left address) ∙ found in
+          let gone : unless_met a (length bytes) address (known rows address) ≡ Some row =
+          sym (ap (λ n. unless_met n (length bytes) address (known rows address)) offset)
+          ∙ sym (ap (λ b. cond b (unless_met (offset_of state.directory.page at) (length bytes) address (known rows address)) (known rows address)) own) ∙ was in
+          let (before, apart) = unless-some a (length bytes) address (known rows address) row gone in (
+            before,
+            λ offset from to.
+                over-part state.pool.bytes (seat_of state * 16384 + a) bytes (seat_of state * 16384 + offset) (omega (arith, few, fits, all-private state sound))
+                (λ j less same. absurd (let clash : is_met a (length bytes) address row ≡ true = grind (arith, nat_tests) in let both : true ≡ false = sym clash ∙ apart in cc)),
+          ))
+      by_place (Shared a) is =
+          let (own, place) = is-shared state.directory at a is in
+          ready-after rows after state.pool.bytes (put_at state (Shared a) bytes).pool.bytes state.runner ready
+          (λ address row found.
+          let before : known rows address ≡ Some row = sym (left address ∙ ap (λ b. cond b (unless_met (offset_of state.directory.page at) (length bytes) address (known rows address)) (known rows address)) own) ∙ found in (
+            before,
+            λ offset from to.
+                let spot = (state.runner - 1) * 16384 + offset in
+                let low : spot < 262144 = omega (arith, to, sound.selected.few, ready.within address row before, four row) in
+                let split : spot / page_bytes state.directory.page * page_bytes state.directory.page + spot % page_bytes state.directory.page ≡ spot = place-is state.directory.page spot in
+                ap (slice_index (put_in_store state.directory state.pool a bytes).bytes) (sym split)
+                ∙ spot-none state.directory state.pool a bytes (spot / page_bytes state.directory.page) (spot % page_bytes state.directory.page) (low-frame state sound spot low) (rest-below state.directory.page spot) (omega (arith, low, all-private state sound, split))
+                ∙ ap (slice_index state.pool.bytes) split,
+          ))
+      by_place (Refused code) is = absurd (never-refused state.directory at code is)
+
+-- they stay where the same seat is selected
+pub ready-selected :
+    (rows after : ReadyRows) (bytes : List ℕ) (runner next : ℕ) → AreReady rows bytes runner → ((address : ℕ) → known after address ≡ (if runner == next then known rows address else None))
+    → AreReady after bytes next
+ready-selected rows after bytes runner next ready left = by_test (runner == next) refl left
+  where
+    by_test : (b : Bool) → (runner == next) ≡ b → ((address : ℕ) → known after address ≡ (if b then known rows address else None)) → AreReady after bytes next
+    by_test true same told =
+        subst (AreReady after bytes) (eqb-true runner next same) (ready-after rows after bytes bytes runner ready (λ address row is. (sym (told address) ∙ is, λ offset from to. refl)))
+    by_test false differs told = ready-none after bytes next told
+
+-- a row more is known
+pub ready-with :
+    (rows after : ReadyRows) (bytes : List ℕ) (runner at : ℕ) (row : Ready) → 1 ≤ runner → at + 4 ≤ 16384 → IsRowOf row (private_half bytes runner at) (private_half bytes runner (at + 2)) at
+    → ((address : ℕ) → known after address ≡ with_row at row address (known rows address)) → AreReady rows bytes runner → AreReady after bytes runner
+ready-with rows after bytes runner at row some fits of left ready = record {
+  selected = λ address found is. some;
+  within = λ address found is. elim (which address found is) [ inl new ↦ omega (arith, new.0, fits) | inr old ↦ ready.within address found old ];
+  of_row = λ address found is. elim (which address found is) [
+    | inl new ↦ subst (λ r. IsRowOf r (private_half bytes runner address) (private_half bytes runner (address + 2)) address) new.1 (subst (λ n. IsRowOf row (private_half bytes runner n) (private_half bytes runner (n + 2)) n) (sym new.0) of)
+    | inr old ↦ ready.of_row address found old
+  ];
+}
+  where
+    which : (address : ℕ) (found : Ready) → known after address ≡ Some found → ((address ≡ at) × (row ≡ found)) ⊎ (known rows address ≡ Some found)
+    which address found is = by_tests (address == at) (row_place address == row_place at) refl (sym (left address) ∙ is)
+      where
+        by_tests : (here near : Bool) → (address == at) ≡ here → cond here (Some row) (cond near None (known rows address)) ≡ Some found → ((address ≡ at) × (row ≡ found)) ⊎ (known rows address ≡ Some found)
+        by_tests true near same told = inl (eqb-true address at same, cc)
+        by_tests false true same told = absurd (let clash : None ≡ Some found = told in cc)
+        by_tests false false same told = inr told
+
+-- the private bytes of who is selected are shown at the lowest addresses
+pub own-byte : (state : Reach) (sound : IsSound state) (offset : ℕ) → 1 ≤ state.runner → offset < 16384 → byte_at state offset ≡ private_byte state.pool.bytes state.runner offset
+own-byte state sound offset some below =
+    let one : Selected state = selected state sound some in
+    ap (λ located. byte_of state (place_at state.directory located)) (own-located state one.seat offset 1 one.reached (omega (arith, below)))
+    ∙ ap (byte_of state) (private-at state.directory sound.legal one.seat offset)
+
+pub own-half : (state : Reach) (sound : IsSound state) (address : ℕ) → 1 ≤ state.runner → address + 2 ≤ 16384 → halfword_of (byte_at state) address ≡ Some (private_half state.pool.bytes state.runner address)
+own-half state sound address some fits =
+    let inside : nat_le (address + 2) 16384 ≡ true = grind (arith, nat_tests, fits) in
+    ap (λ b. if b then Some (big_number 2 (bytes_from (byte_at state) address 2)) else None) inside
+    ∙ ap (λ list. Some (big_number 2 list)) (half-same (private_byte state.pool.bytes state.runner) (byte_at state) address (own-byte state sound address some (omega (arith, fits))) (own-byte state sound (address + 1) some (omega (arith, fits))))
+
+-- so a row that is known is ready there
+pub is-ready : (state : Reach) (sound : IsSound state) (rows : ReadyRows) → AreReady rows state.pool.bytes state.runner → (address : ℕ) (found : Option Ready) → found ≡ known rows address
+    → IfSome found (λ row. IsReadyAt row (halfword_of (byte_at state)) address)
+is-ready state sound rows ready address None is = tt
+is-ready state sound rows ready address (Some row) is =
+    let some = ready.selected address row (sym is) in
+    let fits = ready.within address row (sym is) in
+    record {
+      first = private_half state.pool.bytes state.runner address;
+      second = private_half state.pool.bytes state.runner (address + 2);
+      at_first = own-half state sound address some (omega (arith, fits));
+      at_second = λ long. own-half state sound (address + 2) some (omega (arith, fits));
+      of_row = ready.of_row address row (sym is);
+    }
+
+-- a row that is made of the halfwords that are shown is one of private ones
+pub row-found :
+    (state : Reach) (sound : IsSound state) (address first second : ℕ) (found : Option Ready) → 1 ≤ state.runner
+    → Some first ≡ halfword_of (byte_at state) address → Some second ≡ halfword_of (byte_at state) (address + 2) → IfSome found (λ row. IsRowOf row first second address)
+    → IfSome found (λ row. IsRowOf row (private_half state.pool.bytes state.runner address) (private_half state.pool.bytes state.runner (address + 2)) address)
+row-found state sound address first second None some here there is = tt
+row-found state sound address first second (Some row) some here there is =
+    row-same row first (private_half state.pool.bytes state.runner address) second (private_half state.pool.bytes state.runner (address + 2)) address
+    (half address first here) (λ long. half (address + 2) second there) is
+  where
+    within : (at n : ℕ) → Some n ≡ halfword_of (byte_at state) at → at + 2 ≤ 16384
+    within at n shown = by_test (nat_le (at + 2) 16384) refl shown
+      where
+        by_test : (b : Bool) → nat_le (at + 2) 16384 ≡ b → Some n ≡ (if b then Some (big_number 2 (bytes_from (byte_at state) at 2)) else None) → at + 2 ≤ 16384
+        by_test true fits told = leb-true (at + 2) 16384 fits
+        by_test false past told = absurd (let clash : Some n ≡ None = told in cc)
+
+    half : (at n : ℕ) → Some n ≡ halfword_of (byte_at state) at → private_half state.pool.bytes state.runner at ≡ n
+    half at n shown = let both : Some n ≡ Some (private_half state.pool.bytes state.runner at) = shown ∙ own-half state sound at some (within at n shown) in cc

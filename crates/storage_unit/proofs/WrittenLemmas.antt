@@ -1,0 +1,28 @@
+-- A unit in which a part of a frame was written.
+use Rattle.storage_unit.proofs.Common.{◌≡◌, ℕ, ◌+◌, ◌*◌, ◌<◌, ◌≤◌, List, length, sym, ◌∙◌, ap, subst, arith, Some, page_bytes, Virtual, key_of, look_up, Pool, marked_in, with_bytes, lines_of_part, with_frame_part, with_marked, pool_of, Reach, place_of, put_at, table_of, Lies, Unit, reach_of}
+use Rattle.ready_rows.specs.declared.rows.ReadyRows.{ReadyRows}
+use Rattle.ready_rows.specs.Known.{known}
+use Rattle.storage_unit.specs.ReadyRows.{AreReady, after_store}
+use Rattle.storage_unit.proofs.PartLemmas.{pool-after}
+use Rattle.storage_unit.proofs.ReadyLemmas.{ready-put}
+use Rattle.storage_unit.proofs.StoreLemmas.{put-found}
+use Rattle.storage_unit.proofs.UnitLemmas.{unit-sound}
+
+module _ (unit : Unit) (at : Virtual) (frame byte n : ℕ) (is : look_up (table_of (reach_of unit)).keys (key_of at) ≡ Some frame) (same : byte ≡ at.byte) (within : at.byte + n ≤ page_bytes unit.directory.page)
+    (some : 0 < n) (lies : Lies (reach_of unit) at n) (part : List ℕ) (long : length part ≡ n) where
+  -- its state
+  pub stored-part : (let now : Reach = record (reach_of unit) { pool = pool_of (with_frame_part (with_marked unit.pool frame (lines_of_part unit.pool.places.page byte n)) (frame * page_bytes unit.pool.places.page + byte) part) } in now)
+      ≡ put_at (reach_of unit) (place_of unit.directory at) part
+  stored-part =
+      ap (λ (p : Pool). (let now : Reach = record (reach_of unit) { pool = p } in now)) (pool-after unit at frame byte n is same within (lines_of_part unit.pool.places.page byte n) part long)
+      ∙ ap (λ b. (let now : Reach = record (reach_of unit) { pool = with_bytes (marked_in (pool_of unit.pool) frame (lines_of_part unit.pool.places.page b n)) (frame * page_bytes unit.pool.places.page + b) part } in now)) same
+      ∙ ap (λ m. (let now : Reach = record (reach_of unit) { pool = with_bytes (marked_in (pool_of unit.pool) frame (lines_of_part unit.pool.places.page at.byte m)) (frame * page_bytes unit.pool.places.page + at.byte) part } in now)) (sym long)
+      ∙ put-found (reach_of unit) (unit-sound unit) at part (omega (arith, long, some)) (subst (Lies (reach_of unit) at) (sym long) lies) (omega (arith, long, within)) frame is
+
+  -- the rows that it knows are ready
+  pub ready-part : (after : ReadyRows) → ((address : ℕ) → known after address ≡ after_store unit.directory.page at n address (known unit.rows address))
+      → AreReady after (pool_of (with_frame_part (with_marked unit.pool frame (lines_of_part unit.pool.places.page byte n)) (frame * page_bytes unit.pool.places.page + byte) part)).bytes unit.runner
+  ready-part after left =
+      subst (λ (list : List ℕ). AreReady after list unit.runner) (sym (ap (λ (r : Reach). r.pool.bytes) stored-part))
+      (ready-put (reach_of unit) (unit-sound unit) at part (subst (Lies (reach_of unit) at) (sym long) lies) unit.rows after unit.ready
+      (λ address. left address ∙ ap (λ m. after_store unit.directory.page at m address (known unit.rows address)) (sym long)))

@@ -1,0 +1,29 @@
+-- The rows that a unit knows: each is made ready of the private bytes of who is selected.
+use Rattle.std.specs.Prelude.{◌≡◌, ℕ, ◌+◌, ◌-◌, ◌*◌, ◌≤◌, if◌then◌else◌, List, slice_index, Option, Some}
+use Rattle.byteorder.specs.Endian.{big_number}
+use Rattle.line_geometry.specs.declared.directory.PageSize.{PageSize}
+use Rattle.flat_machine.specs.declared.ready.Ready.{Ready}
+use Rattle.flat_machine.specs.Ready.{IsRowOf}
+use Rattle.segment_regs.specs.declared.registers.Virtual.{Virtual}
+use Rattle.romp_cpu.specs.Shown.{bytes_from}
+use Rattle.ready_rows.specs.declared.rows.ReadyRows.{ReadyRows}
+use Rattle.ready_rows.specs.Known.{known, unless_met}
+use Rattle.storage_unit.specs.Places.{is_private, offset_of}
+
+-- the private byte at an offset of the seat with this identifier, and the halfword
+abbrev pub private_byte : List ℕ → (runner offset : ℕ) → ℕ
+private_byte bytes runner offset = slice_index bytes ((runner - 1) * 16384 + offset)
+
+abbrev pub private_half : List ℕ → (runner offset : ℕ) → ℕ
+private_half bytes runner offset = big_number 2 (bytes_from (private_byte bytes runner) offset 2)
+
+-- each row that is known is made ready of the private bytes of who is selected; where nobody is, none is known
+pub record AreReady (rows : ReadyRows) (bytes : List ℕ) (runner : ℕ) : Type 0 where
+  pub selected : (address : ℕ) (row : Ready) → known rows address ≡ Some row → 1 ≤ runner
+  pub within : (address : ℕ) (row : Ready) → known rows address ≡ Some row → address + 4 ≤ 16384
+  pub of_row : (address : ℕ) (row : Ready) → known rows address ≡ Some row → IsRowOf row (private_half bytes runner address) (private_half bytes runner (address + 2)) address
+
+-- what is known at an address after so many bytes were stored from a byte on: where that one is private, no row that has one of them
+abbrev pub after_store : PageSize → Virtual → (bytes address : ℕ) → Option Ready → Option Ready
+after_store page first bytes address before =
+    if is_private first.segment then unless_met (offset_of page first) bytes address before else before
