@@ -1,5 +1,6 @@
 -- Rows made ready: decoded once, each with its operand as it is used.
 use Rattle.std.specs.Prelude.{◌≡◌, ℕ, ◌+◌, ◌-◌, ◌*◌, ◌%◌, ◌==◌, nat_lt, nat_le, not, if◌then◌else◌, Bool, true, false, List, slice_index, Option, Some, None, bit_and, bit_or, bit_xor}
+use Rattle.romp_table.specs.declared.inst.Inst.{Inst}
 use Rattle.flat_machine.specs.declared.machine.Cs.{Cs}
 use Rattle.flat_machine.specs.declared.machine.Act.{Act}
 use Rattle.flat_machine.specs.declared.ready.Doing.{Doing}
@@ -9,7 +10,7 @@ use Rattle.flat_machine.specs.Words.{is_negative, extended, complement, biased, 
 use Rattle.flat_machine.specs.Work.{base, loads_byte, loads_half, loads_words, stores_byte, stores_half, stores_words, traps, is_masked}
 use Rattle.flat_machine.specs.Branches.{condition, even}
 use Rattle.flat_machine.specs.Effect.{worked}
-use Rattle.flat_machine.specs.Row.{plan, plan_alone}
+use Rattle.flat_machine.specs.Row.{plan, plan_of, plan_alone}
 
 -- whether a row made ready has a second halfword
 abbrev pub has_second : Ready → Bool
@@ -80,12 +81,16 @@ work_made doing r cs b x y z i = work_of_two doing cs b x y z i
 abbrev pub goes_if : Bool → (to after : ℕ) → (registers : List ℕ) → Cs → Plan
 goes_if taken to after registers status = Does registers status Act.Nothing (if taken then to else after) None
 
+-- control goes to an address, and a register gets the one after the row; nothing else changes
+abbrev pub goes_with_link : (to b after : ℕ) → (registers : List ℕ) → Cs → Plan
+goes_with_link to b after registers status = Does registers status Act.Nothing to (Some (b, after))
+
 -- the rows that go to the address that a register has, with or without a link, and those that do no branch
 abbrev pub done_by_register : Ready → (registers : List ℕ) → Cs → (after y : ℕ) → Doing → Plan
 done_by_register row r cs after y Doing.GoTo = goes_if true (even y) after r cs
 done_by_register row r cs after y Doing.GoToIf = goes_if (condition cs row.b) (even y) after r cs
 done_by_register row r cs after y Doing.GoToUnless = goes_if (not (condition cs row.b)) (even y) after r cs
-done_by_register row r cs after y Doing.LinkTo = Does r cs Act.Nothing (even y) (Some (row.b, after))
+done_by_register row r cs after y Doing.LinkTo = goes_with_link (even y) row.b after r cs
 done_by_register row r cs after y doing =
     plan_alone (worked r cs (work_made doing r cs row.b (slice_index r row.b) y (base r row.c) row.i)) after
 
@@ -103,12 +108,25 @@ done_by row r cs after Doing.GoUnlessEqual = goes_if (not cs.eq) row.i after r c
 done_by row r cs after Doing.GoUnlessGreater = goes_if (not cs.gt) row.i after r cs
 done_by row r cs after Doing.GoUnlessCarry = goes_if (not cs.c0) row.i after r cs
 done_by row r cs after Doing.GoUnlessOverflow = goes_if (not cs.ov) row.i after r cs
-done_by row r cs after Doing.Link = Does r cs Act.Nothing row.i (Some (row.b, after))
+done_by row r cs after Doing.Link = goes_with_link row.i row.b after r cs
 done_by row r cs after doing = done_by_register row r cs after (slice_index r row.c) doing
 
 -- what a row made ready comes to at an address
 abbrev pub done : Ready → (registers : List ℕ) → Cs → (iar : ℕ) → Plan
 done row registers status iar = done_by row registers status (iar + row.bytes) row.doing
+
+-- what goes on to the row after it, whatever it computes
+abbrev pub GoesOn : Doing → Type 0
+GoesOn doing =
+    (row : Ready) (registers : List ℕ) (status : Cs) (after : ℕ)
+    → done_by row registers status after doing
+    ≡ plan_alone (worked registers status (work_made doing registers status row.b (slice_index registers row.b) (slice_index registers row.c) (base registers row.c) row.i)) after
+
+-- a row made ready of an instruction of as many bytes: it comes to what the instruction is to do
+abbrev pub IsOf : Ready → Inst → (iar : ℕ) → Type 0
+IsOf row inst iar =
+    (halfword_at : ℕ → Option ℕ) (registers : List ℕ) (status : Cs)
+    → plan_of halfword_at inst row.bytes registers status iar ≡ done row registers status iar
 
 -- a row made ready of two halfwords at an address: where they stand there, it comes to what the plan says; the second counts where it has one
 abbrev pub IsRowOf : Ready → (first second iar : ℕ) → Type 0

@@ -132,7 +132,7 @@ fn has_subject(op: Op) -> bool
 }
 
 /// The value of a condition field.
-fn holds(cs: &Cs, field: u8) -> bool
+pub fn holds(cs: &Cs, field: u8) -> bool
     ensures { result ≡ condition cs.now field }
 {
     match field {

@@ -37,7 +37,7 @@ pub fn act_s(op: Op, k: u8, b: u8, z: u32) -> Act
 }
 
 /// So many bytes are loaded.
-fn load(address: u32, bytes: u8, to: u8, sign: bool) -> Act
+pub fn load(address: u32, bytes: u8, to: u8, sign: bool) -> Act
     requires { FitsFrom bytes to }
     ensures value { result ≡ Load address bytes to sign }
     ensures access { IsAccess result }
@@ -51,7 +51,7 @@ fn load(address: u32, bytes: u8, to: u8, sign: bool) -> Act
 }
 
 /// So many bytes are stored.
-fn store(address: u32, bytes: u8, from: u8) -> Act
+pub fn store(address: u32, bytes: u8, from: u8) -> Act
     requires { FitsFrom bytes from }
     ensures value { result ≡ Store address bytes from }
     ensures access { IsAccess result }
@@ -197,7 +197,7 @@ pub fn do_d(op: Op, b: u8, c: u8, i: u16, regs: &mut [u32; 16], cs: &mut Cs) -> 
 }
 
 /// A register gets a value, and the status stays.
-fn put(to: u8, value: u32, regs: &mut [u32; 16])
+pub fn put(to: u8, value: u32, regs: &mut [u32; 16])
     requires { to < 16 }
     ensures { regs.new ≡ slice_set regs.old to value }
 {
@@ -205,17 +205,20 @@ fn put(to: u8, value: u32, regs: &mut [u32; 16])
 }
 
 /// A register gets a value, and less, equal and greater tell its sign.
-fn signed(to: u8, value: u32, regs: &mut [u32; 16], cs: &mut Cs)
+pub fn signed(to: u8, value: u32, regs: &mut [u32; 16], cs: &mut Cs)
     requires { to < 16 }
     ensures registers { regs.new ≡ slice_set regs.old to value }
     ensures status { cs.new ≡ signed_status value cs.old }
 {
     regs[usize::from(to)] = value;
-    *cs = sign_flags(value, *cs);
+    let told = sign_flags(value, *cs);
+    cs.lt = told.lt;
+    cs.eq = told.eq;
+    cs.gt = told.gt;
 }
 
 /// A register gets the sum of two words and a carry, and the whole status tells of the sum.
-fn sum(to: u8, x: u32, y: u32, carry: u32, regs: &mut [u32; 16], cs: &mut Cs)
+pub fn sum(to: u8, x: u32, y: u32, carry: u32, regs: &mut [u32; 16], cs: &mut Cs)
     requires to { to < 16 }
     requires carry { carry ≤ 1 }
     ensures registers { regs.new ≡ slice_set regs.old to (sum_of x y carry) }
@@ -226,28 +229,31 @@ fn sum(to: u8, x: u32, y: u32, carry: u32, regs: &mut [u32; 16], cs: &mut Cs)
 }
 
 /// Less, equal and greater tell how one number stands to another.
-fn compare_with(x: u32, y: u32, cs: &mut Cs)
+pub fn compare_with(x: u32, y: u32, cs: &mut Cs)
     ensures { cs.new ≡ compared_status x y cs.old }
 {
-    *cs = compare(x, y, *cs);
+    let told = compare(x, y, *cs);
+    cs.lt = told.lt;
+    cs.eq = told.eq;
+    cs.gt = told.gt;
 }
 
 /// The address of a halfword.
-fn half_at(address: u32) -> u32
+pub fn half_at(address: u32) -> u32
     ensures { result ≡ half_address address }
 {
     address - address % 2
 }
 
 /// The address of a word.
-fn word_at(address: u32) -> u32
+pub fn word_at(address: u32) -> u32
     ensures { result ≡ word_address address }
 {
     address - address % 4
 }
 
 /// A trap: check 3 where it is taken.
-fn trap(taken: bool) -> Act
+pub fn trap(taken: bool) -> Act
     ensures value { traps taken ≡ Want result }
     ensures access { IsAccess result }
 {
@@ -255,14 +261,14 @@ fn trap(taken: bool) -> Act
 }
 
 /// Whether one number stands to another in a way that a mask has.
-fn masks(mask: u8, x: u32, y: u32) -> bool
+pub fn masks(mask: u8, x: u32, y: u32) -> bool
     ensures { result ≡ is_masked mask x y }
 {
     (mask / 4 % 2 == 1 && x < y) || (mask / 2 % 2 == 1 && x == y) || (mask % 2 == 1 && y < x)
 }
 
 /// The carry as a number.
-fn carry_of(cs: Cs) -> u32
+pub fn carry_of(cs: Cs) -> u32
     ensures value { result ≡ bit cs.c0 }
     ensures small { result ≤ 1 }
 {

@@ -9,7 +9,7 @@ ghost use Rattle.romp_cpu.specs.Tried.{linked, seen_in, tried, tried_act};
 ghost use Rattle.romp_cpu.specs.Attempts.{GivesEveryRow, UndoesUnlessWent, IsOfFewBytes, StoresAll};
 
 use super::storage::{Access, Fault, Probe, Storage};
-use flat_machine::{Act, Cs, Fetch, Pending, start_row};
+use flat_machine::{Act, Cs, Fetch, Pending, start_ready, start_row};
 
 /// A processor: sixteen registers, the condition status, the address of the next instruction, and how many bytes were
 /// printed.
@@ -88,13 +88,31 @@ impl Cpu {
 
     /// Does to registers and status what the next instruction does, and tells what is left of it.
     #[inline(always)]
-    fn start<S: Storage>(&mut self, storage: &S) -> Pending
-        ensures value { plan (halfword_of (S.byte_at (S.state storage.now))) self.old.regs self.old.cs self.old.iar ≡ planned self.new.regs self.new.cs result }
+    fn start<S: Storage>(&mut self, storage: &mut S) -> Pending
+        ensures value { plan (halfword_of (S.byte_at (S.state storage.old))) self.old.regs self.old.cs self.old.iar ≡ planned self.new.regs self.new.cs result }
         ensures others { self.new ≡ record self.old { regs = self.new.regs; cs = self.new.cs } }
+        ensures state { S.state storage.new ≡ S.state storage.old }
         ensures stays { StaysIfPending result self.old.regs self.new.regs self.old.cs self.new.cs }
         ensures sound { IsSoundPending result }
         ensures long { length self.new.regs ≡ 16 }
     {
+        match storage.ready(self.iar) {
+            Some(row) => start_ready(row, &mut self.regs, &mut self.cs, self.iar),
+            None => self.start_anew(storage),
+        }
+    }
+
+    /// The same where no row made ready is known there: one is asked for, and this time the instruction is decoded.
+    #[inline(never)]
+    fn start_anew<S: Storage>(&mut self, storage: &mut S) -> Pending
+        ensures value { plan (halfword_of (S.byte_at (S.state storage.old))) self.old.regs self.old.cs self.old.iar ≡ planned self.new.regs self.new.cs result }
+        ensures others { self.new ≡ record self.old { regs = self.new.regs; cs = self.new.cs } }
+        ensures state { S.state storage.new ≡ S.state storage.old }
+        ensures stays { StaysIfPending result self.old.regs self.new.regs self.old.cs self.new.cs }
+        ensures sound { IsSoundPending result }
+        ensures long { length self.new.regs ≡ 16 }
+    {
+        storage.prepare(self.iar);
         start_row(&Shown { storage }, &mut self.regs, &mut self.cs, self.iar)
     }
 
