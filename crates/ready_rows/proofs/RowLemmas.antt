@@ -1,10 +1,10 @@
 -- What a tag and a row that are written leave of what is known.
 use Rattle.std.proofs.Common.{Bool, subst, ◌≡◌, ◌≢◌, ℕ, zero, suc, ◌+◌, ◌<◌, ◌≤◌, ◌∙◌, List, [], ◌∷◌, length, refl, sym, ap, arith, true, false, Some, None, ◌⊎◌, inl, inr}
-use Rattle.std.proofs.lemmas.Bool.{cases_lt}
+use Rattle.std.proofs.lemmas.Bool.{cases_eq, cases_lt, eqb-true}
 use Rattle.std.proofs.lemmas.Bool.Decides.{nat_tests}
-use Rattle.std.proofs.lemmas.List.{get_or-set_other, get_or-set_same, length-set, get_or_read_under}
+use Rattle.std.proofs.lemmas.List.{get_or-set_other, get_or-set_same, length-set, get_or_read_under, get_or-replicate, get_or_past, length-replicate}
 use Rattle.std.proofs.lemmas.Option.{slice_get-get_or, slice_get_read}
-use Rattle.std.specs.Prelude.{Option, slice_get, slice_index, slice_index_or, slice_set, cond, ◌/◌, ◌%◌, ◌-◌, ◌==◌}
+use Rattle.std.specs.Prelude.{Option, slice_get, slice_index, slice_index_or, slice_set, cond, max, replicate, ◌/◌, ◌%◌, ◌-◌, ◌==◌}
 use Rattle.flat_machine.specs.declared.ready.Ready.{Ready}
 use Rattle.ready_rows.specs.Tags.{is_tag_met}
 use Rattle.ready_rows.specs.Known.{place_of, row_in, unless_met, with_row, with_place}
@@ -105,3 +105,32 @@ on_way-ends first half offset bytes address before now way from to = by_first (c
     by_first : (address / 2 < first) ⊎ (first ≤ address / 2) → now ≡ unless_met offset bytes address before
     by_first (inl early) = as_was way.some (unmet offset bytes address before (inr (omega arith)))
     by_first (inr there) = by_half (cases_lt (address / 2) half) there
+
+-- tags stay below the top
+pub set-below : (tags : List ℕ) (place tag top : ℕ) → ((other : ℕ) → slice_index tags other ≤ top) → place < length tags → (other : ℕ) → slice_index (slice_set tags place tag) other ≤ max top tag
+set-below tags place tag top below inside other = elim (cases_eq other place) [
+  | inl same ↦ omega (arith, ap (slice_index (slice_set tags place tag)) same, get_or-set_same tags place tag 0 inside)
+  | inr apart ↦ omega (arith, get_or-set_other tags place other tag 0 apart, below other)
+]
+
+-- no row is met by bytes behind all tags
+pub above-top :
+    (tags : List ℕ) (rows : List Ready) (top offset bytes address : ℕ) → ((place : ℕ) → slice_index tags place ≤ top) → top ≤ offset - 3
+    → row_in tags rows address ≡ unless_met offset bytes address (row_in tags rows address)
+above-top tags rows top offset bytes address below past = by_row (row_in tags rows address) refl
+  where
+    tag_is : (row : Ready) (b : Bool) → (slice_index tags (place_of address) == address + 1) ≡ b → cond b (slice_get rows (place_of address)) None ≡ Some row → slice_index tags (place_of address) ≡ address + 1
+    tag_is row true same is = eqb-true (slice_index tags (place_of address)) (address + 1) same
+    tag_is row false same is = absurd (cc)
+
+    by_row : (o : Option Ready) → row_in tags rows address ≡ o → o ≡ unless_met offset bytes address o
+    by_row None is = refl
+    by_row (Some row) is =
+        sym (unmet offset bytes address (Some row) (inr (omega (arith, past, below (place_of address), tag_is row (slice_index tags (place_of address) == address + 1) refl is))))
+
+-- where all tags are zeros none is above any top
+pub zeros-below : (tags : List ℕ) (n : ℕ) → tags ≡ replicate n 0 → (place : ℕ) → slice_index tags place ≤ 0
+zeros-below tags n zeros place = elim (cases_lt place n) [
+  | inl inside ↦ omega (arith, ap (λ (list : List ℕ). slice_index list place) zeros, get_or-replicate {A = ℕ} n place 0 0 inside)
+  | inr past ↦ omega (arith, get_or_past tags place 0 (omega (arith, past, ap length zeros, length-replicate {A = ℕ} n 0)))
+]

@@ -1,28 +1,30 @@
-ghost use Rattle.std.specs.Prelude.{◌≡◌, ℕ, ◌+◌, ◌≤◌, ◌<◌, vec_len, IfOk};
+ghost use Rattle.std.specs.Prelude.{◌≡◌, ℕ, ◌+◌, ◌≤◌, ◌<◌, slice_index, vec_len, IfOk};
 ghost use Rattle.ready_rows.specs.Tags.{is_tag_met};
 
 use flat_machine::{Doing, Ready};
 use std::alloc::{AllocError, Global};
 
 /// Rows made ready, each at one of 512 places by its address. A place has the address and one for a tag, or 0 where it has
-/// no row.
+/// no row. No tag is above the top.
 #[derive(Drop)]
 pub struct ReadyRows {
     tags: Vec<u16>,
     rows: Vec<Ready>,
+    top: u32,
     ghost tags_sized: { vec_len tags ≡ 512 },
     ghost rows_sized: { vec_len rows ≡ 512 },
+    ghost below: { (place : ℕ) → slice_index tags.items place ≤ top },
 }
 
 impl ReadyRows {
     ghost use Rattle.ready_rows.specs.Known.{known, KnowsNothing, unless_met, with_row, with_place};
 
-    #[tactic(auto, unfolding(crate::specs::Known::known))]
     /// No row is known. It takes all memory that will be needed.
     ///
     /// # Errors
     ///
     /// There is no memory.
+    #[tactic(auto, unfolding(crate::specs::Known::known))]
     pub fn new(alloc: Global) -> Result<ReadyRows, AllocError>
         ensures { IfOk result KnowsNothing }
     {
@@ -36,6 +38,7 @@ impl ReadyRows {
         Ok(ReadyRows {
             tags: vec![in alloc; 0; 512]?,
             rows: vec![in alloc; none; 512]?,
+            top: 0,
         })
     }
 
@@ -63,6 +66,7 @@ impl ReadyRows {
         let place = (address / 2 % 512) as usize;
         self.tags[place] = address as u16 + 1;
         self.rows[place] = row;
+        self.top = self.top.max(address + 1);
     }
 
     /// No row is known any more.
@@ -72,6 +76,7 @@ impl ReadyRows {
         ensures { KnowsNothing self.new }
     {
         self.tags.fill(0);
+        self.top = 0;
     }
 
     /// The rows that have one of so many bytes from an offset on are known no more; all others stay.
@@ -80,7 +85,11 @@ impl ReadyRows {
         requires { offset + bytes ≤ 16384 }
         ensures { (address : ℕ) → known self.new address ≡ unless_met offset bytes address (known self.old address) }
     {
-        let first = offset.saturating_sub(3) / 2;
+        let low = offset.saturating_sub(3);
+        if low >= self.top {
+            return;
+        }
+        let first = low / 2;
         let end = (offset + bytes + 1) / 2;
         for half in first..end {
             self.drop_place(half % 512, offset, bytes);
@@ -109,6 +118,6 @@ fn is_tag_met(tag: u16, row: &Ready, offset: u32, bytes: u32) -> bool
     requires { offset + bytes ≤ 16384 }
     ensures { result ≡ is_tag_met tag row.now offset bytes }
 {
-    let from = u32::from(tag);
-    from <= offset + bytes && (offset < from + 1 || (offset < from + 3 && row.is_long()))
+    let past = (u32::from(tag) + 2).wrapping_sub(offset);
+    past <= bytes + 2 && (past > 1 || row.is_long())
 }

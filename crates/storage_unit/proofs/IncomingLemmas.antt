@@ -1,5 +1,5 @@
 -- A page that comes in: the frame that is lent is filled, and its kept lines are laid over it.
-use Rattle.storage_unit.proofs.Common.{◌≡◌, refl, ℕ, ◌+◌, ◌*◌, ◌<◌, ◌≤◌, ◌==◌, true, List, [], ◌∷◌, length, Option, Some, None, is_some, range_with_len, slice_index_or, get_or-set_same, page_count, frame_at, marks_at, with_room, ap, arith, sym, subst, ◌∙◌, eq-eqb, length-take, length-drop, page_bytes, Layout, has, Pool, pool_of, IsSeen, frame_bytes, Brought, emptied, laid, with_bytes, with_frame_part, lent-part, page_part, Fits, filled, private_frames, Reach, reach_of, Unit, nat_tests}
+use Rattle.storage_unit.proofs.Common.{◌≡◌, refl, ℕ, ◌+◌, ◌*◌, ◌<◌, ◌≤◌, ◌==◌, true, List, [], ◌∷◌, length, Option, Some, None, is_some, range_with_len, slice_index, slice_index_or, get_or-set_same, page_count, frame_at, marks_at, with_room, ap, arith, sym, subst, ◌∙◌, eq-eqb, length-take, length-drop, page_bytes, Layout, has, Pool, pool_of, IsSeen, frame_bytes, Brought, emptied, laid, with_bytes, with_frame_part, lent-part, page_part, Fits, filled, private_frames, Reach, reach_of, Unit, nat_tests}
 use Rattle.std.proofs.lemmas.Bool.{both_ways, or_left}
 use Rattle.line_geometry.specs.LineSets.{bits_of, lines_of_bits}
 use Rattle.line_geometry.proofs.LineSetLemmas.{bits_of-lines}
@@ -10,6 +10,8 @@ use Rattle.storage_unit.proofs.SizeLemmas.{frame-high}
 use Rattle.storage_unit.proofs.StoreLemmas.{all-private}
 use Rattle.storage_unit.proofs.LaidLemmas.{over-low}
 use Rattle.storage_unit.proofs.ReadyLemmas.{ready-kept}
+use Rattle.storage_unit.specs.Cleared.{AreClear}
+use Rattle.storage_unit.proofs.ClearLemmas.{clear-kept}
 use Rattle.storage_unit.proofs.LeaveLemmas.{emptied-frame}
 use Rattle.storage_unit.proofs.StateLemmas.{laid-bytes, room-stays}
 use Rattle.storage_unit.proofs.UnitLemmas.{sound-fits, unit-sound}
@@ -45,21 +47,26 @@ module _ (unit brought_in : Unit) (page : ℕ) (keep : Option ℕ) (frame : ℕ)
   whole : length lent ≡ page_bytes brought_in.pool.places.page
   whole = ap length lends ∙ simp (length-take, length-drop) (omega (arith, inside))
 
-  -- the rows that it knows are ready, whatever fills the frame
-  pub still-ready : (part : List ℕ) → length part ≡ length lent
-      → AreReady brought_in.rows (pool_of (with_frame_part brought_in.pool (frame * page_bytes brought_in.pool.places.page) part)).bytes brought_in.runner
-  still-ready part keeps_length =
-      subst (λ (list : List ℕ). AreReady brought_in.rows list brought_in.runner)
-      (sym (ap (λ (p : Pool). p.bytes) (lent-part brought_in.pool (frame * page_bytes brought_in.pool.places.page) part (omega (arith, inside, whole, keeps_length)))))
-      (ready-kept brought_in.rows (pool_of brought_in.pool).bytes _ brought_in.runner brought_in.selected.few
-      (λ k low.
-      over-low (pool_of brought_in.pool).bytes (frame * page_bytes brought_in.pool.places.page) part k (omega (arith, low, high)) (omega (arith, low, all-private (reach_of brought_in) (unit-sound brought_in)))) brought_in.ready)
+  -- private bytes stay, whatever fills the frame
+  filled-low : (part : List ℕ) → length part ≡ length lent → (k : ℕ) → k < 262144
+      → slice_index (pool_of (with_frame_part brought_in.pool (frame * page_bytes brought_in.pool.places.page) part)).bytes k ≡ slice_index (pool_of brought_in.pool).bytes k
+  filled-low part keeps_length k low =
+      ap (λ (p : Pool). slice_index p.bytes k) (lent-part brought_in.pool (frame * page_bytes brought_in.pool.places.page) part (omega (arith, inside, whole, keeps_length)))
+      ∙ over-low (pool_of brought_in.pool).bytes (frame * page_bytes brought_in.pool.places.page) part k (omega (arith, low, high)) (omega (arith, low, all-private (reach_of brought_in) (unit-sound brought_in)))
     where
       page_stays : brought_in.pool.places.page ≡ (reach_of unit).pool.page
       page_stays = ap (λ (p : Pool). p.page) came.rest ∙ (room-stays (reach_of unit).pool keep (unit-sound unit).seen).1.page
 
       high : 262144 ≤ frame * page_bytes brought_in.pool.places.page
       high = frame-high brought_in.pool.places.page frame (subst (λ s. private_frames s ≤ frame) (sym page_stays) came.above)
+
+  pub still-ready : (part : List ℕ) → length part ≡ length lent
+      → AreReady brought_in.rows (pool_of (with_frame_part brought_in.pool (frame * page_bytes brought_in.pool.places.page) part)).bytes brought_in.runner
+  still-ready part keeps_length = ready-kept brought_in.rows (pool_of brought_in.pool).bytes _ brought_in.runner brought_in.selected.few (filled-low part keeps_length) brought_in.ready
+
+  pub still-clear : (part : List ℕ) → length part ≡ length lent
+      → AreClear brought_in.used (pool_of (with_frame_part brought_in.pool (frame * page_bytes brought_in.pool.places.page) part)).bytes
+  still-clear part keeps_length = clear-kept brought_in.used (pool_of brought_in.pool).bytes _ (filled-low part keeps_length) brought_in.clear
 
   -- each of its lines is kept
   pub is-kept : (now : Unit) → reach_of now ≡ record (reach_of brought_in) { pool = laid (reach_of brought_in).pool page } → range_with_len 0 16 ≡ marks_at (reach_of brought_in).pool page

@@ -27,6 +27,7 @@ pub mod GatheredLemmas
 pub mod LeftLemmas
 pub mod LaidLemmas
 pub mod ReadyLemmas
+pub mod ClearLemmas
 pub mod WrittenLemmas
 pub mod RowLemmas
 pub mod BringKeeps

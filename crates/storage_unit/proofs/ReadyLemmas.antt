@@ -1,5 +1,5 @@
 -- The rows that a unit knows stay ready where none of their bytes changes.
-use Rattle.storage_unit.proofs.Common.{◌≡◌, ℕ, ◌+◌, ◌-◌, ◌*◌, ◌/◌, ◌%◌, ◌<◌, ◌≤◌, ◌⊎◌, ◌==◌, Bool, true, false, List, length, refl, sym, ◌∙◌, ap, subst, arith, inl, inr, Option, Some, None, IfSome, cond, nat_le, if◌then◌else◌, slice_index, nat_tests, page_bytes, bytes_from, halfword_of, Located, Private, Shared, Refused, Virtual, Reach, offset_of, place_at, place_of, seat_of, byte_of, byte_at, put_at, put_in_store, IsSound, Lies, eqb-true, leb-true}
+use Rattle.storage_unit.proofs.Common.{◌≡◌, ℕ, ◌+◌, ◌-◌, ◌*◌, ◌/◌, ◌%◌, ◌<◌, ◌≤◌, ◌⊎◌, ◌==◌, Bool, true, false, List, length, refl, sym, ◌∙◌, ap, subst, arith, inl, inr, Option, Some, None, IfSome, cond, nat_le, if◌then◌else◌, slice_index, nat_tests, page_bytes, bytes_from, halfword_of, Located, Private, Shared, Refused, Virtual, Reach, is_private, offset_of, place_at, place_of, seat_of, byte_of, byte_at, put_at, put_in_store, IsSound, Lies, eqb-true, leb-true}
 use Rattle.byteorder.specs.Endian.{big_number}
 use Rattle.flat_machine.specs.declared.ready.Ready.{Ready}
 use Rattle.flat_machine.specs.Ready.{has_second, IsRowOf, IsReadyAt}
@@ -10,7 +10,7 @@ use Rattle.storage_unit.specs.ReadyRows.{AreReady, after_store, private_byte, pr
 use Rattle.storage_unit.proofs.SizeLemmas.{rest-below, place-is}
 use Rattle.storage_unit.proofs.FillLemmas.{over-part}
 use Rattle.storage_unit.proofs.LocatedLemmas.{private-at}
-use Rattle.storage_unit.proofs.PlaceLemmas.{Selected, selected, is-private, is-shared, never-refused}
+use Rattle.storage_unit.proofs.PlaceLemmas.{Selected, selected, is-private, never-refused}
 use Rattle.storage_unit.proofs.PutLemmas.{spot-none}
 use Rattle.storage_unit.proofs.StoreLemmas.{all-private, low-frame}
 use Rattle.storage_unit.proofs.AfterLemmas.{own-located}
@@ -76,43 +76,51 @@ unless-some offset bytes address (Some found) row is = by_test (is_met offset by
     by_test true met told = absurd (let clash : None ≡ Some row = told in cc)
     by_test false met told = let same : found ≡ row = cc in (told, ap (is_met offset bytes address) (sym same) ∙ met)
 
+-- private bytes that aren't among those that are put stay
+pub put-low :
+    (state : Reach) (sound : IsSound state) (at : Virtual) (bytes : List ℕ) (lies : Lies state at (length bytes)) (k : ℕ) → k < 262144
+    → (is_private at.segment ≡ true → seat_of state * 16384 + offset_of state.directory.page at ≤ k → k < seat_of state * 16384 + offset_of state.directory.page at + length bytes → ⊥)
+    → slice_index (put_at state (place_of state.directory at) bytes).pool.bytes k ≡ slice_index state.pool.bytes k
+put-low state sound at bytes lies k low outside = by_place (place_of state.directory at) refl
+  where
+    by_place : (place : Located) → place_of state.directory at ≡ place → slice_index (put_at state place bytes).pool.bytes k ≡ slice_index state.pool.bytes k
+    by_place (Private a) is =
+        let (own, offset) = is-private state.directory at a is in
+        let (few, runner, fits) = private-fits state at (length bytes) a lies is in
+        over-part state.pool.bytes (seat_of state * 16384 + a) bytes k (omega (arith, few, fits, all-private state sound))
+        (λ j less same. outside own (omega (arith, offset, same)) (omega (arith, offset, same, less)))
+    by_place (Shared a) is =
+        let split : k / page_bytes state.directory.page * page_bytes state.directory.page + k % page_bytes state.directory.page ≡ k = place-is state.directory.page k in
+        ap (slice_index (put_in_store state.directory state.pool a bytes).bytes) (sym split)
+        ∙ spot-none state.directory state.pool a bytes (k / page_bytes state.directory.page) (k % page_bytes state.directory.page) (low-frame state sound k low) (rest-below state.directory.page k) (omega (arith, low, all-private state sound, split))
+        ∙ ap (slice_index state.pool.bytes) split
+    by_place (Refused code) is = absurd (never-refused state.directory at code is)
+
 -- bytes that are put, where the rows that have private ones of them are known no more
-module _ (state : Reach) (sound : IsSound state) (at : Virtual) (bytes : List ℕ) (lies : Lies state at (length bytes)) (rows after : ReadyRows) (ready : AreReady rows state.pool.bytes state.runner)
-    (left : (address : ℕ) → known after address ≡ after_store state.directory.page at (length bytes) address (known rows address)) where
-  pub ready-put : AreReady after (put_at state (place_of state.directory at) bytes).pool.bytes state.runner
-  ready-put = by_place (place_of state.directory at) refl
-    where
-      by_place : (place : Located) → place_of state.directory at ≡ place → AreReady after (put_at state place bytes).pool.bytes state.runner
-      by_place (Private a) is =
-          let (own, offset) = is-private state.directory at a is in
-          let (few, runner, fits) = private-fits state at (length bytes) a lies is in
-          ready-after rows after state.pool.bytes (put_at state (Private a) bytes).pool.bytes state.runner ready
-          (λ address row found.
-          let was = sym (left address) ∙ found in
-          let gone : unless_met a (length bytes) address (known rows address) ≡ Some row =
-          sym (ap (λ n. unless_met n (length bytes) address (known rows address)) offset)
-          ∙ sym (ap (λ b. cond b (unless_met (offset_of state.directory.page at) (length bytes) address (known rows address)) (known rows address)) own) ∙ was in
-          let (before, apart) = unless-some a (length bytes) address (known rows address) row gone in (
-            before,
-            λ offset from to.
-                over-part state.pool.bytes (seat_of state * 16384 + a) bytes (seat_of state * 16384 + offset) (omega (arith, few, fits, all-private state sound))
-                (λ j less same. absurd (let clash : is_met a (length bytes) address row ≡ true = grind (arith, nat_tests) in let both : true ≡ false = sym clash ∙ apart in cc)),
-          ))
-      by_place (Shared a) is =
-          let (own, place) = is-shared state.directory at a is in
-          ready-after rows after state.pool.bytes (put_at state (Shared a) bytes).pool.bytes state.runner ready
-          (λ address row found.
-          let before : known rows address ≡ Some row = sym (left address ∙ ap (λ b. cond b (unless_met (offset_of state.directory.page at) (length bytes) address (known rows address)) (known rows address)) own) ∙ found in (
-            before,
-            λ offset from to.
-                let spot = (state.runner - 1) * 16384 + offset in
-                let low : spot < 262144 = omega (arith, to, sound.selected.few, ready.within address row before, four row) in
-                let split : spot / page_bytes state.directory.page * page_bytes state.directory.page + spot % page_bytes state.directory.page ≡ spot = place-is state.directory.page spot in
-                ap (slice_index (put_in_store state.directory state.pool a bytes).bytes) (sym split)
-                ∙ spot-none state.directory state.pool a bytes (spot / page_bytes state.directory.page) (spot % page_bytes state.directory.page) (low-frame state sound spot low) (rest-below state.directory.page spot) (omega (arith, low, all-private state sound, split))
-                ∙ ap (slice_index state.pool.bytes) split,
-          ))
-      by_place (Refused code) is = absurd (never-refused state.directory at code is)
+pub ready-put :
+    (state : Reach) (sound : IsSound state) (at : Virtual) (bytes : List ℕ) → Lies state at (length bytes) → (rows after : ReadyRows) → AreReady rows state.pool.bytes state.runner
+    → ((address : ℕ) → known after address ≡ after_store state.directory.page at (length bytes) address (known rows address))
+    → AreReady after (put_at state (place_of state.directory at) bytes).pool.bytes state.runner
+ready-put state sound at bytes lies rows after ready left =
+    ready-after rows after state.pool.bytes (put_at state (place_of state.directory at) bytes).pool.bytes state.runner ready
+    (λ address row found. by_test (is_private at.segment) refl address row (sym (left address) ∙ found))
+  where
+    low : (address : ℕ) (row : Ready) (o : ℕ) → known rows address ≡ Some row → o < address + bytes_of row → seat_of state * 16384 + o < 262144
+    low address row o is below = omega (arith, below, sound.selected.few, ready.within address row is, four row)
+
+    by_test : (own : Bool) → is_private at.segment ≡ own → (address : ℕ) (row : Ready) → (if own then unless_met (offset_of state.directory.page at) (length bytes) address (known rows address) else known rows address) ≡ Some row
+        → (known rows address ≡ Some row) × ((o : ℕ) → address ≤ o → o < address + bytes_of row → private_byte (put_at state (place_of state.directory at) bytes).pool.bytes state.runner o ≡ private_byte state.pool.bytes state.runner o)
+    by_test true own address row told =
+        let (before, apart) = unless-some (offset_of state.directory.page at) (length bytes) address (known rows address) row told in (
+          before,
+          λ o from to.
+              put-low state sound at bytes lies (seat_of state * 16384 + o) (low address row o before to)
+              (λ again above under. let clash : is_met (offset_of state.directory.page at) (length bytes) address row ≡ true = grind (arith, nat_tests) in let both : true ≡ false = sym clash ∙ apart in cc),
+        )
+    by_test false shared address row told = (
+      told,
+      λ o from to. put-low state sound at bytes lies (seat_of state * 16384 + o) (low address row o told to) (λ own above under. let clash : false ≡ true = sym shared ∙ own in cc),
+    )
 
 -- they stay where the same seat is selected
 pub ready-selected :

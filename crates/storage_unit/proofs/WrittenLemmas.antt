@@ -1,8 +1,10 @@
 -- A unit in which a part of a frame was written.
-use Rattle.storage_unit.proofs.Common.{◌≡◌, ℕ, ◌+◌, ◌*◌, ◌<◌, ◌≤◌, List, length, sym, ◌∙◌, ap, subst, arith, Some, page_bytes, Virtual, key_of, look_up, Pool, marked_in, with_bytes, lines_of_part, with_frame_part, with_marked, pool_of, Reach, place_of, put_at, table_of, Lies, Unit, reach_of}
+use Rattle.storage_unit.proofs.Common.{◌≡◌, ℕ, ◌+◌, ◌-◌, ◌*◌, ◌<◌, ◌≤◌, List, length, sym, ◌∙◌, ap, subst, arith, Some, page_bytes, Virtual, key_of, look_up, Pool, marked_in, with_bytes, lines_of_part, with_frame_part, with_marked, pool_of, Reach, place_of, put_at, is_private, offset_of, true, false, table_of, Lies, Unit, reach_of}
 use Rattle.ready_rows.specs.declared.rows.ReadyRows.{ReadyRows}
 use Rattle.ready_rows.specs.Known.{known}
 use Rattle.storage_unit.specs.ReadyRows.{AreReady, after_store}
+use Rattle.storage_unit.specs.Cleared.{AreClear, AreUsed}
+use Rattle.storage_unit.proofs.ClearLemmas.{clear-put}
 use Rattle.storage_unit.proofs.PartLemmas.{pool-after}
 use Rattle.storage_unit.proofs.ReadyLemmas.{ready-put}
 use Rattle.storage_unit.proofs.StoreLemmas.{put-found}
@@ -26,3 +28,11 @@ module _ (unit : Unit) (at : Virtual) (frame byte n : ℕ) (is : look_up (table_
       subst (λ (list : List ℕ). AreReady after list unit.runner) (sym (ap (λ (r : Reach). r.pool.bytes) stored-part))
       (ready-put (reach_of unit) (unit-sound unit) at part (subst (Lies (reach_of unit) at) (sym long) lies) unit.rows after unit.ready
       (λ address. left address ∙ ap (λ m. after_store unit.directory.page at m address (known unit.rows address)) (sym long)))
+
+  -- the private bytes behind those that were used are zeros
+  pub clear-part : (after : List ℕ) → (is_private at.segment ≡ false → after ≡ unit.used) → (is_private at.segment ≡ true → AreUsed unit.used after (at.segment - 3840) (offset_of unit.directory.page at + n))
+      → AreClear after (pool_of (with_frame_part (with_marked unit.pool frame (lines_of_part unit.pool.places.page byte n)) (frame * page_bytes unit.pool.places.page + byte) part)).bytes
+  clear-part after stays more =
+      subst (λ (list : List ℕ). AreClear after list) (sym (ap (λ (r : Reach). r.pool.bytes) stored-part))
+      (clear-put (reach_of unit) (unit-sound unit) at part (subst (Lies (reach_of unit) at) (sym long) lies) unit.used after unit.clear stays
+      (λ own. subst (λ m. AreUsed unit.used after (at.segment - 3840) (offset_of unit.directory.page at + m)) (sym long) (more own)))

@@ -1,5 +1,5 @@
 // The private storage of sixteen seats, and which of them is selected.
-ghost use Rattle.std.specs.Prelude.{◌≡◌, ℕ, List, None, ◌+◌, ◌<◌, ◌≤◌, ◌-◌, ◌++◌, false, true, length, slice_index_or, replicate};
+ghost use Rattle.std.specs.Prelude.{◌≡◌, ℕ, List, None, ◌+◌, ◌<◌, ◌≤◌, ◌-◌, ◌++◌, false, true, length, slice_index, slice_index_or, replicate};
 ghost use Rattle.owned_list.specs.Overlay.{overlaid};
 ghost use Rattle.inverted_table.specs.Keys.{key_to};
 ghost use Rattle.inverted_table.specs.Placed.{key_in, look_up};
@@ -37,8 +37,11 @@ impl Unit {
             PRIVATE + u16::from(seat),
         );
         self.rows.forget();
-        lay_image(self.pool.private_mut(seat), image);
-        self.begun[usize::from(seat)] = true;
+        let place = usize::from(seat);
+        let used = self.used[place] as usize;
+        lay_image(self.pool.private_mut(seat), image, used);
+        self.used[place] = image.len() as u32;
+        self.begun[place] = true;
     }
 
     /// A seat is begun no more. If it was selected, no address is reached until the next one is.
@@ -104,12 +107,23 @@ fn leave_pages(table: &mut Table, buffer: &mut Tlb, first: u16, count: u16)
     }
 }
 
-/// Bytes become those of an image, and zeros after it.
-fn lay_image(bytes: &mut [u8], image: &[u8])
-    requires { length image.now ≤ length bytes.old }
+/// Bytes become those of an image, and zeros after it. Behind those that were used they are zeros already.
+fn lay_image(bytes: &mut [u8], image: &[u8], used: usize)
+    requires image { length image.now ≤ length bytes.old }
+    requires used { used ≤ length bytes.old }
+    requires clear { (offset : ℕ) → used ≤ offset → slice_index bytes.old offset ≡ 0 }
     ensures { bytes.new ≡ image.now ++ replicate (length bytes.old - length image.now) 0 }
 {
     let (front, back) = bytes.split_at_mut(image.len());
     front.copy_from_slice(image);
-    back.fill(0);
+    clear_front(back, used.saturating_sub(image.len()));
+}
+
+/// Bytes become zeros, of which so many may be others.
+fn clear_front(bytes: &mut [u8], count: usize)
+    requires few { count ≤ length bytes.old }
+    requires clear { (offset : ℕ) → count ≤ offset → slice_index bytes.old offset ≡ 0 }
+    ensures { bytes.new ≡ replicate (length bytes.old) 0 }
+{
+    bytes[..count].fill(0);
 }

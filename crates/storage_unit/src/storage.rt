@@ -26,7 +26,7 @@ ghost use Rattle.inverted_table.specs.Placed.{look_up};
 
 use super::model::Reach;
 use super::private::PRIVATE;
-use super::rows::drop_rows;
+use super::rows::{drop_rows, use_bytes};
 use super::sizes::{byte_past, first_frame, is_in_line, line_in_page, offset_of, rest_of_line};
 use super::unit::Unit;
 use byteorder::{BigEndian, ByteOrder};
@@ -361,6 +361,7 @@ impl Unit {
         if let Some(frame) = self.frame_at(first) {
             let page = self.directory.page();
             drop_rows(&mut self.rows, page, first, from.len() as u32);
+            use_bytes(&mut self.used, page, first, from.len() as u32);
             self.pool
                 .part_mut(frame, usize::from(first.byte), from.len())
                 .copy_from_slice(from);
@@ -377,7 +378,9 @@ impl Unit {
         ensures { reach_of self.new ≡ put_at (reach_of self.old) (place_of (reach_of self.old).directory first) (stored_bytes regs.now bytes from) }
     {
         let page = self.directory.page();
-        drop_rows(&mut self.rows, page, first, u32::from(bytes));
+        let count = u32::from(bytes);
+        drop_rows(&mut self.rows, page, first, count);
+        use_bytes(&mut self.used, page, first, count);
         gather(
             from,
             regs,

@@ -9,6 +9,7 @@ ghost use Rattle.tlb_model.specs.Buffer.{IsOfTable, found, after_found};
 ghost use Rattle.storage_unit.specs.Held.{keys_of, AreOfPages, IsSelected, table_of};
 ghost use Rattle.storage_unit.specs.PlanCodes.{plan_set};
 ghost use Rattle.storage_unit.specs.ReadyRows.{AreReady};
+ghost use Rattle.storage_unit.specs.Cleared.{AreClear};
 ghost use Rattle.std.proofs.Props.{props};
 ghost use Rattle.storage_unit.specs.Served.{made};
 
@@ -24,7 +25,8 @@ use tlb_model::Tlb;
 /// Frames, page table and look-aside buffer of a store, with the segment registers of the seat that is selected
 /// (docs/MODEL.md). They agree: the table has a page of the store in a frame exactly where the pool has
 /// it there, and a seat's private pages in its private frames exactly where it is begun; and each pair of the buffer is in
-/// the table. Each row that is known is made ready of the private bytes of who is selected. So no part is lent to be
+/// the table. Each row that is known is made ready of the private bytes of who is selected, and the private
+/// bytes of a seat behind those that were used are zeros. So no part is lent to be
 /// written.
 #[derive(Drop)]
 pub struct Unit {
@@ -36,6 +38,7 @@ pub struct Unit {
     pub(crate) registers: SegmentRegs,
     pub(crate) runner: u8,
     pub(crate) rows: ReadyRows,
+    pub(crate) used: [u32; 16],
     ghost sixteen: { length begun ≡ 16 },
     ghost legal: { IsLegal directory.segments },
     ghost pool_size: { (pool_of pool).page ≡ directory.page },
@@ -46,6 +49,7 @@ pub struct Unit {
     ghost remembered: { IsOfTable buffer table.keys },
     ghost selected: { IsSelected directory begun runner registers },
     ghost ready: { AreReady rows (pool_of pool).bytes runner } by { Prim.hlevel (props, plan_set) },
+    ghost clear: { AreClear used (pool_of pool).bytes },
 }
 
 impl Unit {
@@ -75,6 +79,7 @@ impl Unit {
             registers: SegmentRegs::none(page),
             runner: 0,
             rows: ReadyRows::new(alloc)?,
+            used: [0; 16],
         })
     }
 

@@ -1,6 +1,6 @@
 use Rattle.std.proofs.Common.{arith}
 use Rattle.ready_rows.specs.Known.{known}
-use Rattle.ready_rows.proofs.RowLemmas.{on_way-begins, on_way-goes, on_way-ends}
+use Rattle.ready_rows.proofs.RowLemmas.{above-top, on_way-begins, on_way-goes, on_way-ends}
 use Rattle.ready_rows.proofs.rows.ReadyRows.drop_at.Goals as goal
 
 pub loop-half-init : goal.loop-half-init
@@ -11,3 +11,9 @@ loop-half-preserved c address = on_way-goes _ _ _ _ _ _ (known c.loop-half.self 
 
 pub returns : goal.returns
 returns c address = on_way-ends _ _ _ _ _ _ _ (c.loop-half.invariant address) (omega arith) c.loop-half-test.false
+
+pub returns-then-low-self : goal.returns-then-low-self
+unfolding known
+returns-then-low-self c address =
+    let rows = c.args.self.now in
+    above-top rows.tags.items rows.rows.items rows.top c.args.offset c.args.bytes address rows.below (omega arith)

@@ -1,10 +1,12 @@
-use Rattle.storage_unit.proofs.Common.{◌≡◌, ℕ, ◌+◌, ◌-◌, ◌*◌, ◌<◌, ◌≤◌, Bool, true, false, List, ◌++◌, length, replicate, sym, ◌∙◌, ap, subst, arith, Option, None, inl, inr, cases_eq, nat_tests, get_or_default, get_or-set_same, get_or-set_other, length-set, length-take, length-drop, length-append, length-replicate, overlaid, Key, key_to, Placed, key_in, look_up, Pool, pool_of, pool-seen, private_frames, with_bytes, with_frame_part, lent-part, reach_of, Unit, private_segment, seat_pages, keys_of, pages_begun, first_keys, AreOfPages}
+use Rattle.storage_unit.proofs.Common.{◌≡◌, ℕ, ◌+◌, ◌-◌, ◌*◌, ◌<◌, ◌≤◌, Bool, true, false, List, ◌++◌, length, replicate, sym, ◌∙◌, ap, subst, arith, Option, None, inl, inr, cases_eq, nat_tests, get_or_default, get_or-set_same, get_or-set_other, length-set, length-take, length-drop, length-append, length-replicate, overlaid, Key, key_to, Placed, key_in, look_up, Pool, pool_of, pool-seen, private_frames, with_bytes, with_frame_part, lent-part, reach_of, Unit, private_segment, seat_pages, keys_of, pages_begun, first_keys, AreOfPages, slice_index}
 use Rattle.std.specs.Prelude.{nat_lt, if◌then◌else◌, slice_set, slice_range, slice_index_or, Some}
 use Rattle.storage_unit.proofs.SizeLemmas.{seat-frame, seat-room}
 use Rattle.storage_unit.proofs.HeldLemmas.{key-at, keys-long, held-private, finds-private, keys-seat}
 use Rattle.storage_unit.proofs.PrivateLemmas.{first-long, begun-other, holds-first, free-at}
 use Rattle.storage_unit.proofs.StoreLemmas.{all-private}
 use Rattle.storage_unit.proofs.UnitLemmas.{unit-sound}
+use Rattle.storage_unit.specs.Cleared.{AreClear}
+use Rattle.storage_unit.proofs.ClearLemmas.{clear-begun, seat-clear}
 use Rattle.storage_unit.proofs.ReadyLemmas.{ready-none}
 use Rattle.storage_unit.proofs.unit.Unit.begin.Goals as goal
 
@@ -53,10 +55,21 @@ filled unit seat image lent bytes few short borrowed is =
     long : length bytes ≡ 16384
     long = ap length whole ∙ length-append image (replicate (16384 - length image) 0) ∙ omega (arith, short, length-replicate {A = ℕ} (16384 - length image) 0)
 
-pub lay_image-requires : goal.lay_image-requires
-lay_image-requires c =
+pub lay_image-requires-clause-image : goal.lay_image-requires-clause-image
+lay_image-requires-clause-image c =
     let unit = c.args.self.now in
     omega (arith, c.requires.image, ap length c.private_mut.ensures.value, lent-long unit c.args.seat c.requires.seat)
+
+pub lay_image-requires-clause-used : goal.lay_image-requires-clause-used
+lay_image-requires-clause-used c =
+    let unit = c.args.self.now in
+    omega (arith, unit.clear.few c.from-place.result, ap length c.private_mut.ensures.value, lent-long unit c.args.seat c.requires.seat)
+
+pub lay_image-requires-clause-clear : goal.lay_image-requires-clause-clear
+lay_image-requires-clause-clear c offset past =
+    let unit = c.args.self.now in
+    ap (λ (list : List ℕ). slice_index list offset) c.private_mut.ensures.value
+    ∙ seat-clear unit.used (pool_of unit.pool).bytes c.args.seat c.requires.seat unit.clear offset (omega (arith, past, ap (slice_index unit.used) c.from-place.ensures))
 
 pub invariant_of-self : goal.invariant_of-self
 invariant_of-self c =
@@ -65,12 +78,12 @@ invariant_of-self c =
     let seat = c.args.seat in
     let inside : seat < length unit.begun = omega (arith, c.requires.seat, unit.sixteen) in
     let page = unit.directory.page in
-    let at : c.from-2.result ≡ seat = c.from-2.ensures in
+    let at : c.from-place.result ≡ seat = c.from-place.ensures in
     let first : c.first_frame.result ≡ seat * seat_pages page = c.first_frame.ensures.value ∙ ap (λ s. seat * seat_pages s) c.page-page.ensures in
     let count : c.seat_pages.result ≡ seat_pages page = c.seat_pages.ensures.value ∙ ap seat_pages c.page-page.ensures in
     let new = filled unit seat c.args.image.now c.private_mut.result.now c.lay_image.new.bytes c.requires.seat c.requires.image c.private_mut.ensures.value c.lay_image.ensures in
     record {
-      sixteen = length-set unit.begun c.from-2.result true ∙ unit.sixteen;
+      sixteen = length-set unit.begun c.from-place.result true ∙ unit.sixteen;
       legal = unit.legal;
       pool_size = ap (λ (p : Pool). p.page) new ∙ unit.pool_size;
       pages = ap (λ (p : Pool). length p.frame_of) new ∙ unit.pages;
@@ -85,23 +98,27 @@ invariant_of-self c =
           ∙ keys-seat unit.directory (pages_begun unit.directory.page unit.begun) (pages_begun unit.directory.page (slice_set unit.begun seat true)) pool.frames pool.page_in seat (first_keys (private_segment seat) (seat_pages page)) c.requires.seat
           (first-long (private_segment seat) (seat_pages page)) (λ index small e. holds-first page unit.begun seat index e inside small) (λ other apart. begun-other page unit.begun seat other true apart)
           ∙ ap (λ n. keys_of unit.directory (slice_set unit.begun n true) pool.frames pool.page_in) (sym at)
-          ∙ ap (λ (p : Pool). keys_of unit.directory (slice_set unit.begun c.from-2.result true) p.frames p.page_in) (sym new);
+          ∙ ap (λ (p : Pool). keys_of unit.directory (slice_set unit.begun c.from-place.result true) p.frames p.page_in) (sym new);
       remembered = c.enter_pages.ensures.of_table unit.buffer unit.remembered;
       selected = record {
         none = unit.selected.none;
         few = unit.selected.few;
         seat = λ other is.
             let old = unit.selected.seat other is in (
-              elim (cases_eq other c.from-2.result) [
+              elim (cases_eq other c.from-place.result) [
                 | inl same ↦
-                    ap (λ n. slice_index_or (slice_set unit.begun c.from-2.result true) n false) same
-                    ∙ get_or-set_same unit.begun c.from-2.result true false (omega (arith, inside, at))
-                | inr apart ↦ get_or-set_other unit.begun c.from-2.result other true false apart ∙ old.0
+                    ap (λ n. slice_index_or (slice_set unit.begun c.from-place.result true) n false) same
+                    ∙ get_or-set_same unit.begun c.from-place.result true false (omega (arith, inside, at))
+                | inr apart ↦ get_or-set_other unit.begun c.from-place.result other true false apart ∙ old.0
               ],
               old.1,
             );
       };
       ready = ready-none c.forget.new.self _ unit.runner c.forget.ensures;
+      clear =
+          subst (λ (list : List ℕ). AreClear (slice_set unit.used c.from-place.result (length c.args.image.now)) list) (sym (ap (λ (p : Pool). p.bytes) new))
+          (subst (λ n. AreClear (slice_set unit.used n (length c.args.image.now)) (overlaid pool.bytes (seat * 16384) (c.args.image.now ++ replicate (16384 - length c.args.image.now) 0))) (sym at)
+          (clear-begun unit.used pool.bytes c.args.image.now seat c.requires.seat c.requires.image (all-private (reach_of unit) (unit-sound unit)) unit.clear));
     }
 
 pub returns : goal.returns

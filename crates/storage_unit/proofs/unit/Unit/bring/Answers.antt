@@ -2,6 +2,7 @@ use Rattle.storage_unit.proofs.Common.{◌≡◌, ℕ, ◌<◌, ◌≤◌, false
 use Rattle.storage_unit.proofs.HeldLemmas.{key-at, keys-long, held-store, finds-page, keys-store}
 use Rattle.storage_unit.proofs.StateLemmas.{frames-held, room-stays, room-none, absent-frame, keys-room, without-keys, without-entries}
 use Rattle.storage_unit.specs.ReadyRows.{AreReady}
+use Rattle.storage_unit.specs.Cleared.{AreClear}
 use Rattle.storage_unit.proofs.unit.Unit.bring.Goals as goal
 
 module _ (unit : Unit) (page : ℕ) (keep : Option ℕ) where
@@ -123,4 +124,5 @@ invariant_of-self c =
           (subst (λ (list : List (Option Key)). IsOfTable c.leave_frame.new.buffer list) keys c.leave_frame.ensures.of_table));
       selected = unit.selected;
       ready = subst (λ (list : List ℕ). AreReady unit.rows list unit.runner) (sym (ap (λ (p : Pool). p.bytes) came.rest ∙ old.bytes)) unit.ready;
+      clear = subst (λ (list : List ℕ). AreClear unit.used list) (sym (ap (λ (p : Pool). p.bytes) came.rest ∙ old.bytes)) unit.clear;
     }

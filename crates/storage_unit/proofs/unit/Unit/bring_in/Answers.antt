@@ -3,7 +3,7 @@ use Rattle.std.proofs.lemmas.Bool.Decides.{nat_tests}
 use Rattle.storage_unit.proofs.Common.{refl, sym, ◌∙◌, ap, inl, inr}
 use Rattle.line_geometry.specs.LineSets.{lines_of_bits}
 use Rattle.frame_pool.proofs.LayLemmas.{all-lines}
-use Rattle.storage_unit.proofs.IncomingLemmas.{is-filled, is-kept, all-marked, has-gone-out, still-ready}
+use Rattle.storage_unit.proofs.IncomingLemmas.{is-filled, is-kept, all-marked, has-gone-out, still-ready, still-clear}
 use Rattle.storage_unit.proofs.unit.Unit.bring_in.Goals as goal
 
 pub returns-then-bits-clause-came : goal.returns-then-bits-clause-came
@@ -52,4 +52,5 @@ invariant_of-self g c =
       remembered = unit.remembered;
       selected = unit.selected;
       ready = still-ready c.args.self.now unit c.args.page c.args.keep c.bring-slot.result.frame c.page_mut.result.now c.bring-slot.ensures.brought c.bring-slot.ensures.rest c.page_mut.ensures.value c.read_page-read.new.into c.read_page-read.auto.into;
+      clear = still-clear c.args.self.now unit c.args.page c.args.keep c.bring-slot.result.frame c.page_mut.result.now c.bring-slot.ensures.brought c.bring-slot.ensures.rest c.page_mut.ensures.value c.read_page-read.new.into c.read_page-read.auto.into;
     }

@@ -37,6 +37,7 @@ invariant_of-self c =
       remembered = c.leave_pages.ensures.of_table;
       selected = record { none = λ is. c.none-self.ensures ∙ ap (λ page. (let none : Registers = record { page = page; list = replicate 16 None } in none)) c.page-page.ensures; few = omega arith; seat = λ other is. absurd (omega (arith, is)) };
       ready = ready-none c.forget.new.self (pool_of unit.pool).bytes 0 c.forget.ensures;
+      clear = unit.clear;
     }
 
 pub invariant_of-self-else-self-seat : goal.invariant_of-self-else-self-seat
@@ -61,4 +62,5 @@ invariant_of-self-else-self-seat c =
             (get_or-set_other unit.begun c.from.result other false false apart ∙ old.0, old.1);
       };
       ready = unit.ready;
+      clear = unit.clear;
     }

@@ -1,11 +1,12 @@
-use Rattle.storage_unit.proofs.Common.{◌≡◌, ℕ, ◌+◌, ◌≤◌, List, length, sym, ◌∙◌, ap, subst, arith, page_bytes, stored_bytes, stored_bytes-long, Pool, lines_of_part, pool_of, put_at, place_of, keys_of, AreOfPages, Lies, reach_of, nat_tests}
+use Rattle.storage_unit.proofs.Common.{◌≡◌, ℕ, ◌+◌, ◌≤◌, List, length, sym, ◌∙◌, ap, subst, arith, page_bytes, stored_bytes, stored_bytes-long, Pool, lines_of_part, pool_of, put_at, place_of, keys_of, AreOfPages, Lies, reach_of, nat_tests, offset_of, ◌-◌}
 use Rattle.ready_rows.specs.Known.{known}
 use Rattle.storage_unit.specs.ReadyRows.{after_store}
+use Rattle.storage_unit.specs.Cleared.{AreUsed}
 use Rattle.storage_unit.proofs.CopyLemmas.{found-below}
 use Rattle.storage_unit.proofs.PartLemmas.{part-long, pool-after, marked-same, marked-keys}
 use Rattle.storage_unit.proofs.StoreLemmas.{marked-of_pages}
 use Rattle.storage_unit.proofs.UnitLemmas.{unit-sound}
-use Rattle.storage_unit.proofs.WrittenLemmas.{stored-part, ready-part}
+use Rattle.storage_unit.proofs.WrittenLemmas.{stored-part, ready-part, clear-part}
 use Rattle.storage_unit.proofs.unit.Unit.gather_in.Goals as goal
 
 pub part_mut-requires-clause-frame : goal.part_mut-requires-clause-frame
@@ -20,13 +21,13 @@ pub invariant_of-self : goal.invariant_of-self
 invariant_of-self c =
     let unit = c.args.self.now in
     let frame = c.args.frame in
-    let n = c.from-3.result in
-    let fits : c.args.first.byte + n ≤ page_bytes unit.directory.page = omega (arith, c.requires.within, c.from-3.ensures) in
-    let lines : List ℕ = lines_of_part unit.pool.places.page c.from-2.result n in
-    let part : length c.part_mut.result.now ≡ n = ap length c.part_mut.ensures.value ∙ part-long unit c.args.first frame c.from-2.result n c.requires.frame c.from-2.ensures fits in
+    let n = c.from-2.result in
+    let fits : c.args.first.byte + n ≤ page_bytes unit.directory.page = omega (arith, c.requires.within, c.from-2.ensures) in
+    let lines : List ℕ = lines_of_part unit.pool.places.page c.from.result n in
+    let part : length c.part_mut.result.now ≡ n = ap length c.part_mut.ensures.value ∙ part-long unit c.args.first frame c.from.result n c.requires.frame c.from.ensures fits in
     let long : length c.gather.new.into ≡ n =
-    ap length (c.gather.ensures ∙ ap (λ m. stored_bytes c.args.regs.now m c.args.from) (part ∙ c.from-3.ensures)) ∙ stored_bytes-long c.args.regs.now c.args.bytes c.args.from c.told-regs c.requires.fits ∙ sym c.from-3.ensures in
-    let new = pool-after unit c.args.first frame c.from-2.result n c.requires.frame c.from-2.ensures fits lines c.gather.new.into long in
+    ap length (c.gather.ensures ∙ ap (λ m. stored_bytes c.args.regs.now m c.args.from) (part ∙ c.from-2.ensures)) ∙ stored_bytes-long c.args.regs.now c.args.bytes c.args.from c.told-regs c.requires.fits ∙ sym c.from-2.ensures in
+    let new = pool-after unit c.args.first frame c.from.result n c.requires.frame c.from.ensures fits lines c.gather.new.into long in
     let same = marked-same (pool_of unit.pool) frame lines in
     record {
       sixteen = unit.sixteen;
@@ -39,20 +40,23 @@ invariant_of-self c =
       held = unit.held ∙ sym (ap (λ (p : Pool). keys_of unit.directory unit.begun p.frames p.page_in) new ∙ marked-keys unit.directory unit.begun (pool_of unit.pool) frame lines);
       remembered = unit.remembered;
       selected = unit.selected;
-      ready = ready-part unit c.args.first frame c.from-2.result n c.requires.frame c.from-2.ensures fits (omega (arith, c.from-3.ensures, c.requires.fits.some)) (subst (Lies (reach_of unit) c.args.first) (sym c.from-3.ensures) c.requires.lies) c.gather.new.into long c.drop_rows.new.rows
-          (λ address. c.drop_rows.ensures address ∙ ap (λ s. after_store s c.args.first c.from.result address (known unit.rows address)) c.page-page.ensures
-          ∙ ap (λ m. after_store unit.directory.page c.args.first m address (known unit.rows address)) (c.from.ensures ∙ sym c.from-3.ensures));
+      ready = ready-part unit c.args.first frame c.from.result n c.requires.frame c.from.ensures fits (omega (arith, c.from-2.ensures, c.requires.fits.some)) (subst (Lies (reach_of unit) c.args.first) (sym c.from-2.ensures) c.requires.lies) c.gather.new.into long c.drop_rows.new.rows
+          (λ address. c.drop_rows.ensures address ∙ ap (λ s. after_store s c.args.first c.from-count.result address (known unit.rows address)) c.page-page.ensures
+          ∙ ap (λ m. after_store unit.directory.page c.args.first m address (known unit.rows address)) (c.from-count.ensures ∙ sym c.from-2.ensures));
+      clear = clear-part unit c.args.first frame c.from.result n c.requires.frame c.from.ensures fits (omega (arith, c.from-2.ensures, c.requires.fits.some)) (subst (Lies (reach_of unit) c.args.first) (sym c.from-2.ensures) c.requires.lies) c.gather.new.into long c.use_bytes.new.used c.use_bytes.ensures.shared
+          (λ own. subst (λ m. AreUsed unit.used c.use_bytes.new.used (c.args.first.segment - 3840) (offset_of unit.directory.page c.args.first + m)) (c.from-count.ensures ∙ sym c.from-2.ensures)
+          (subst (λ s. AreUsed unit.used c.use_bytes.new.used (c.args.first.segment - 3840) (offset_of s c.args.first + c.from-count.result)) c.page-page.ensures (c.use_bytes.ensures.private own)));
     }
 
 pub returns : goal.returns
 returns c =
     let unit = c.args.self.now in
     let frame = c.args.frame in
-    let n = c.from-3.result in
+    let n = c.from-2.result in
     let list : List ℕ = stored_bytes c.args.regs.now c.args.bytes c.args.from in
-    let fits : c.args.first.byte + n ≤ page_bytes unit.directory.page = omega (arith, c.requires.within, c.from-3.ensures) in
-    let part : length c.part_mut.result.now ≡ n = ap length c.part_mut.ensures.value ∙ part-long unit c.args.first frame c.from-2.result n c.requires.frame c.from-2.ensures fits in
+    let fits : c.args.first.byte + n ≤ page_bytes unit.directory.page = omega (arith, c.requires.within, c.from-2.ensures) in
+    let part : length c.part_mut.result.now ≡ n = ap length c.part_mut.ensures.value ∙ part-long unit c.args.first frame c.from.result n c.requires.frame c.from.ensures fits in
     let whole : length list ≡ c.args.bytes = stored_bytes-long c.args.regs.now c.args.bytes c.args.from c.told-regs c.requires.fits in
-    let is : c.gather.new.into ≡ list = c.gather.ensures ∙ ap (λ m. stored_bytes c.args.regs.now m c.args.from) (part ∙ c.from-3.ensures) in
-    stored-part unit c.args.first frame c.from-2.result n c.requires.frame c.from-2.ensures fits (omega (arith, c.from-3.ensures, c.requires.fits.some)) (subst (Lies (reach_of unit) c.args.first) (sym c.from-3.ensures) c.requires.lies) c.gather.new.into (ap length is ∙ whole ∙ sym c.from-3.ensures)
+    let is : c.gather.new.into ≡ list = c.gather.ensures ∙ ap (λ m. stored_bytes c.args.regs.now m c.args.from) (part ∙ c.from-2.ensures) in
+    stored-part unit c.args.first frame c.from.result n c.requires.frame c.from.ensures fits (omega (arith, c.from-2.ensures, c.requires.fits.some)) (subst (Lies (reach_of unit) c.args.first) (sym c.from-2.ensures) c.requires.lies) c.gather.new.into (ap length is ∙ whole ∙ sym c.from-2.ensures)
     ∙ ap (put_at (reach_of unit) (place_of unit.directory c.args.first)) is

@@ -1,6 +1,8 @@
 use Rattle.storage_unit.proofs.Common.{◌≡◌, sym, ◌∙◌, ap, subst, List, ℕ, length, arith, Pool, pool_of, AreOfPages, keys_of, reach_of}
 use Rattle.storage_unit.proofs.StateLemmas.{laid-bytes}
 use Rattle.storage_unit.specs.ReadyRows.{AreReady}
+use Rattle.storage_unit.specs.Cleared.{AreClear}
+use Rattle.storage_unit.proofs.ClearLemmas.{clear-kept}
 use Rattle.storage_unit.proofs.LaidLemmas.{laid-low}
 use Rattle.storage_unit.proofs.ReadyLemmas.{ready-kept}
 use Rattle.storage_unit.proofs.UnitLemmas.{unit-sound}
@@ -26,4 +28,7 @@ invariant_of-self c =
       ready =
           subst (λ (list : List ℕ). AreReady unit.rows list unit.runner) (sym (ap (λ (p : Pool). p.bytes) c.lay_kept.ensures))
           (ready-kept unit.rows (pool_of unit.pool).bytes _ unit.runner unit.selected.few (laid-low (reach_of unit) (unit-sound unit) c.args.page) unit.ready);
+      clear =
+          subst (λ (list : List ℕ). AreClear unit.used list) (sym (ap (λ (p : Pool). p.bytes) c.lay_kept.ensures))
+          (clear-kept unit.used (pool_of unit.pool).bytes _ (laid-low (reach_of unit) (unit-sound unit) c.args.page) unit.clear);
     }

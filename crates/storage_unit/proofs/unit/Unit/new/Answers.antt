@@ -2,6 +2,8 @@ use Rattle.storage_unit.proofs.Common.{ℕ, ◌+◌, List, length, replicate, sy
 use Rattle.std.specs.Prelude.{false}
 use Rattle.storage_unit.proofs.PrivateLemmas.{keys-bare}
 use Rattle.storage_unit.proofs.StateLemmas.{none-of_table, marks-none}
+use Rattle.storage_unit.specs.Cleared.{AreClear}
+use Rattle.storage_unit.proofs.ClearLemmas.{clear-fresh}
 use Rattle.storage_unit.proofs.ReadyLemmas.{ready-none}
 use Rattle.storage_unit.proofs.unit.Unit.new.Goals as goal
 
@@ -25,4 +27,5 @@ invariant_of-result c =
       remembered = subst (λ (classes : List (List Pair)). IsOfTable classes c.in_ok-new-2.field-0.keys) (sym c.new-3.ensures) (none-of_table c.in_ok-new-2.field-0.keys);
       selected = record { none = λ is. c.none.ensures ∙ ap (λ page. (let none : Registers = record { page = page; list = replicate 16 None } in none)) c.page-page.ensures; few = omega arith; seat = λ seat is. absurd (omega (arith, is)) };
       ready = ready-none c.in_ok-new-3.field-0 (pool_of c.in_ok-new.field-0).bytes 0 c.in_ok-new-3.ensures;
+      clear = subst (λ (list : List ℕ). AreClear (replicate 16 0) list) (sym (ap (λ (p : Pool). p.bytes) pool)) (clear-fresh _);
     }

@@ -1,12 +1,13 @@
 use Rattle.std.proofs.lemmas.Grind.{common_steps}
-use Rattle.storage_unit.proofs.Common.{ℕ, List, length, sym, ◌∙◌, ap, subst, Pool, lines_of_part, pool_of, put_at, place_of, keys_of, AreOfPages, reach_of, nat_tests, arith}
+use Rattle.storage_unit.proofs.Common.{ℕ, List, length, sym, ◌∙◌, ap, subst, Pool, lines_of_part, pool_of, put_at, place_of, keys_of, AreOfPages, reach_of, nat_tests, arith, offset_of, ◌-◌, ◌+◌}
 use Rattle.ready_rows.specs.Known.{known}
 use Rattle.storage_unit.specs.ReadyRows.{after_store}
+use Rattle.storage_unit.specs.Cleared.{AreUsed}
 use Rattle.storage_unit.proofs.CopyLemmas.{found-below, found-some, none-of}
 use Rattle.storage_unit.proofs.StoreLemmas.{marked-of_pages}
 use Rattle.storage_unit.proofs.UnitLemmas.{unit-sound}
 use Rattle.storage_unit.proofs.PartLemmas.{part-long, pool-after, marked-same, marked-keys}
-use Rattle.storage_unit.proofs.WrittenLemmas.{stored-part, ready-part}
+use Rattle.storage_unit.proofs.WrittenLemmas.{stored-part, ready-part, clear-part}
 use Rattle.storage_unit.proofs.unit.Unit.put_part.Goals as goal
 
 pub part_mut-requires-clause-frame : goal.part_mut-requires-clause-frame
@@ -39,6 +40,8 @@ invariant_of-self c =
       selected = unit.selected;
       ready = ready-part unit c.args.first frame c.from.result n is c.from.ensures c.requires.within c.requires.some c.requires.lies c.copy_from_slice.new.self (ap length c.copy_from_slice.ensures.after) c.drop_rows.new.rows
           (λ address. c.drop_rows.ensures address ∙ ap (λ s. after_store s c.args.first n address (known unit.rows address)) c.page-page.ensures);
+      clear = clear-part unit c.args.first frame c.from.result n is c.from.ensures c.requires.within c.requires.some c.requires.lies c.copy_from_slice.new.self (ap length c.copy_from_slice.ensures.after) c.use_bytes.new.used c.use_bytes.ensures.shared
+          (λ own. subst (λ s. AreUsed unit.used c.use_bytes.new.used (c.args.first.segment - 3840) (offset_of s c.args.first + n)) c.page-page.ensures (c.use_bytes.ensures.private own));
     }
 
 pub returns-in-Some : goal.returns-in-Some
