@@ -1,7 +1,7 @@
-ghost use Rattle.std.specs.Prelude.{◌≡◌, ◌<◌, length};
+ghost use Rattle.std.specs.Prelude.{◌≡◌, ◌<◌};
 ghost use Rattle.std.specs.Option.{ForSome};
 ghost use Rattle.flat_machine.specs.Access.{IsAccess};
-ghost use Rattle.flat_machine.specs.Pending.{planned, IsSoundPending, StaysIfPending};
+ghost use Rattle.flat_machine.specs.Pending.{planned, IsSoundPending};
 ghost use Rattle.flat_machine.specs.Row.{plan};
 ghost use Rattle.romp_cpu.specs.Shown.{halfword_of};
 ghost use Rattle.romp_cpu.specs.Answers.{answer_in};
@@ -75,7 +75,43 @@ impl Cpu {
         ensures few { IsOfFewBytes result }
         ensures whole { StoresAll (plan (halfword_of (S.byte_at (S.state storage.old))) self.old.regs self.old.cs self.old.iar) }
     {
-        match self.start(storage) {
+        match storage.ready(self.iar) {
+            Some(row) => {
+                let pending = start_ready(row, &mut self.regs, &mut self.cs, self.iar);
+                self.finish(storage, pending)
+            }
+            None => {
+                let attempt = self.carry_out_anew(storage);
+                attempt
+            }
+        }
+    }
+
+    /// The same where no row made ready is known there: one is asked for, and this time the instruction is decoded.
+    #[inline(never)]
+    fn carry_out_anew<S: Storage>(&mut self, storage: &mut S) -> Attempt
+        ensures tried { record { attempt = result; cpu = self.new; state = S.state storage.new } ≡ tried (seen_in S.byte_at (answer_in S.registers S.is_in_frame S.refuses) S.stored (S.state storage.old)) self.old (plan (halfword_of (S.byte_at (S.state storage.old))) self.old.regs self.old.cs self.old.iar) }
+        ensures few { IsOfFewBytes result }
+        ensures whole { StoresAll (plan (halfword_of (S.byte_at (S.state storage.old))) self.old.regs self.old.cs self.old.iar) }
+    {
+        storage.prepare(self.iar);
+        let pending = start_row(
+            &Shown { storage: &*storage },
+            &mut self.regs,
+            &mut self.cs,
+            self.iar,
+        );
+        self.finish(storage, pending)
+    }
+
+    /// What is left of an instruction whose registers and status are as it makes them.
+    #[inline(always)]
+    fn finish<S: Storage>(&mut self, storage: &mut S, pending: Pending) -> Attempt
+        requires sound { IsSoundPending pending }
+        ensures tried { record { attempt = result; cpu = self.new; state = S.state storage.new } ≡ tried (seen_in S.byte_at (answer_in S.registers S.is_in_frame S.refuses) S.stored (S.state storage.old)) self.old (planned self.old.regs self.old.cs pending) }
+        ensures few { IsOfFewBytes result }
+    {
+        match pending {
             Pending::Fails(code) => Attempt::Check(code),
             Pending::Does {
                 act: Act::Nothing,
@@ -84,36 +120,6 @@ impl Cpu {
             } => self.go_on(next, link),
             Pending::Does { act, next, link } => self.act(storage, act, next, link),
         }
-    }
-
-    /// Does to registers and status what the next instruction does, and tells what is left of it.
-    #[inline(always)]
-    fn start<S: Storage>(&mut self, storage: &mut S) -> Pending
-        ensures value { plan (halfword_of (S.byte_at (S.state storage.old))) self.old.regs self.old.cs self.old.iar ≡ planned self.new.regs self.new.cs result }
-        ensures others { self.new ≡ record self.old { regs = self.new.regs; cs = self.new.cs } }
-        ensures state { S.state storage.new ≡ S.state storage.old }
-        ensures stays { StaysIfPending result self.old.regs self.new.regs self.old.cs self.new.cs }
-        ensures sound { IsSoundPending result }
-        ensures long { length self.new.regs ≡ 16 }
-    {
-        match storage.ready(self.iar) {
-            Some(row) => start_ready(row, &mut self.regs, &mut self.cs, self.iar),
-            None => self.start_anew(storage),
-        }
-    }
-
-    /// The same where no row made ready is known there: one is asked for, and this time the instruction is decoded.
-    #[inline(never)]
-    fn start_anew<S: Storage>(&mut self, storage: &mut S) -> Pending
-        ensures value { plan (halfword_of (S.byte_at (S.state storage.old))) self.old.regs self.old.cs self.old.iar ≡ planned self.new.regs self.new.cs result }
-        ensures others { self.new ≡ record self.old { regs = self.new.regs; cs = self.new.cs } }
-        ensures state { S.state storage.new ≡ S.state storage.old }
-        ensures stays { StaysIfPending result self.old.regs self.new.regs self.old.cs self.new.cs }
-        ensures sound { IsSoundPending result }
-        ensures long { length self.new.regs ≡ 16 }
-    {
-        storage.prepare(self.iar);
-        start_row(&Shown { storage }, &mut self.regs, &mut self.cs, self.iar)
     }
 
     /// What is left of an instruction that has done its registers and status.
