@@ -89,7 +89,16 @@ impl ReadyRows {
         if low >= self.top {
             return;
         }
-        let first = low / 2;
+        self.drop_met(offset, bytes);
+    }
+
+    /// The same, place by place.
+    #[inline(never)]
+    fn drop_met(&mut self, offset: u32, bytes: u32)
+        requires { offset + bytes ≤ 16384 }
+        ensures { (address : ℕ) → known self.new address ≡ unless_met offset bytes address (known self.old address) }
+    {
+        let first = offset.saturating_sub(3) / 2;
         let end = (offset + bytes + 1) / 2;
         for half in first..end {
             self.drop_place(half % 512, offset, bytes);
