@@ -75,6 +75,9 @@ impl ReadyRows {
     pub fn forget(&mut self)
         ensures { KnowsNothing self.new }
     {
+        if self.top == 0 {
+            return;
+        }
         self.tags.fill(0);
         self.top = 0;
     }
