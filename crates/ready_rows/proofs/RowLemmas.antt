@@ -134,3 +134,7 @@ zeros-below tags n zeros place = elim (cases_lt place n) [
   | inl inside ↦ omega (arith, ap (λ (list : List ℕ). slice_index list place) zeros, get_or-replicate {A = ℕ} n place 0 0 inside)
   | inr past ↦ omega (arith, get_or_past tags place 0 (omega (arith, past, ap length zeros, length-replicate {A = ℕ} n 0)))
 ]
+
+-- and none has a row
+pub none-below : (tags : List ℕ) (rows : List Ready) (top : ℕ) → top ≡ 0 → ((place : ℕ) → slice_index tags place ≤ top) → (address : ℕ) → row_in tags rows address ≡ None
+none-below tags rows top none below address = let low : slice_index tags (place_of address) ≤ top = below (place_of address) in grind (arith, nat_tests)

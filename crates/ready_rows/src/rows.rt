@@ -75,6 +75,9 @@ impl ReadyRows {
     pub fn forget(&mut self)
         ensures { KnowsNothing self.new }
     {
+        if self.top == 0 {
+            return;
+        }
         self.tags.fill(0);
         self.top = 0;
     }
@@ -89,7 +92,16 @@ impl ReadyRows {
         if low >= self.top {
             return;
         }
-        let first = low / 2;
+        self.drop_met(offset, bytes);
+    }
+
+    /// The same, place by place.
+    #[inline(never)]
+    fn drop_met(&mut self, offset: u32, bytes: u32)
+        requires { offset + bytes ≤ 16384 }
+        ensures { (address : ℕ) → known self.new address ≡ unless_met offset bytes address (known self.old address) }
+    {
+        let first = offset.saturating_sub(3) / 2;
         let end = (offset + bytes + 1) / 2;
         for half in first..end {
             self.drop_place(half % 512, offset, bytes);

@@ -1,7 +1,7 @@
 use Rattle.std.proofs.Common.{ℕ}
 use Rattle.ready_rows.specs.Known.{known}
 use Rattle.ready_rows.proofs.RowLemmas.{IsOnWay}
-use Rattle.ready_rows.proofs.rows.ReadyRows.drop_at.Given as goal
+use Rattle.ready_rows.proofs.rows.ReadyRows.drop_met.Given as goal
 
 abbrev pub invariant-loop-half : goal.invariant-loop-half
 invariant-loop-half l =
