@@ -7,7 +7,6 @@ use Rattle.flat_machine.specs.declared.machine.Window.{Window as Sight}
 use Rattle.asm_parse.specs.Answers.{IsTextFaultOf}
 use Rattle.asm_parse.specs.Text.{at_line}
 use Rattle.romp_asm.specs.declared.output.Output.{Output}
-use denote.Ref.{Bor}
 
 -- a label's address is that of its place
 pub address_same : (index at : ℕ) (statements : List Statement) (word : List ℕ) → option_map (λ (place : Place). place.address) (place_from index at statements word) ≡ option_map pos (address_from at statements word)

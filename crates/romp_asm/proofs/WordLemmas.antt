@@ -1,5 +1,5 @@
 -- A table after a word was put into it.
-use Rattle.romp_asm.proofs.Common.{◌≡◌, ℕ, Bool, true, false, cond, List, Option, refl, sym, ap, subst, ◌∙◌, arith, bytes_eq, BTreeMap, found_in}
+use Rattle.romp_asm.proofs.Common.{◌≡◌, ℕ, Bool, cond, List, Option, refl, ap, ◌∙◌, arith, bytes_eq, BTreeMap, found_in}
 use Rattle.std.proofs.lemmas.Bool.Decides.{nat_tests}
 use Rattle.std.proofs.lemmas.Slice.Eq.{bytes_eq-Decides}
 use Rattle.std.proofs.lemmas.Map.Text.{is_eq-slice_cmp}
