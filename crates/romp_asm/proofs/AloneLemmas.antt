@@ -1,20 +1,21 @@
 -- Labels that stand nowhere before.
-use Rattle.romp_asm.proofs.Common.{◌≡◌, ℕ, ◌+◌, ◌<◌, ◌≤◌, ◌||◌, Bool, true, false, List, length, get_or, Bor, Option, refl, sym, ap, ◌∙◌, arith, inl, inr, HashMap, le-ltb, cases_lt, get_or_default, Statement, Place, is_labelled, found_in, stands_before, repeated_in, noted, IsNew, AreAlone}
+use Rattle.romp_asm.proofs.Common.{◌≡◌, ℕ, ◌+◌, ◌<◌, ◌≤◌, ◌||◌, Bool, true, false, List, length, get_or, Option, refl, sym, ap, ◌∙◌, arith, inl, inr, BTreeMap, le-ltb, cases_lt, get_or_default, Statement, Place, is_labelled, found_in, stands_before, repeated_in, noted, IsNew, AreAlone}
 use Rattle.std.proofs.lemmas.Bool.Decides.{nat_tests}
+use Rattle.romp_asm.specs.Labels.{LabelKey}
 
 -- neither of two
 pub or_none : (one two : Bool) → (one || two) ≡ false → (one ≡ false) × (two ≡ false)
 or_none true two none = absurd (let no : ⊥ = cc in no)
 or_none false two none = (refl, none)
 
-abbrev Labels : Type 0 → Type 0
-Labels S = HashMap (Bor (List ℕ)) Place S
+abbrev Labels : Type 0
+Labels = BTreeMap LabelKey Place
 
 -- what doesn't stand before a statement doesn't so once a later one is noted
 stays_alone : (index : ℕ) (found : Option Place) (labelled : Bool) (place : Place) → index ≤ place.statement → stands_before index found ≡ false → stands_before index (noted found labelled place) ≡ false
 stays_alone index found labelled place le is = grind (arith, nat_tests, le-ltb)
 
-module _ {S : Type 0} (old new : Labels S) (statement : Statement) (place : Place) (noted_is : (word : List ℕ) → found_in new word ≡ noted (found_in old word) (is_labelled word statement) place) where
+module _ (old new : Labels) (statement : Statement) (place : Place) (noted_is : (word : List ℕ) → found_in new word ≡ noted (found_in old word) (is_labelled word statement) place) where
   repeated_on : (other : Statement) (index : ℕ) → index ≤ place.statement → repeated_in old index other ≡ false → repeated_in new index other ≡ false
   repeated_on other index le is = grind (arith, nat_tests, stays_alone)
 

@@ -8,7 +8,7 @@ pub use Rattle.std.proofs.lemmas.Int.{ints, to_z-of_z}
 pub use Rattle.std.proofs.lemmas.List.{drop_all, get_or-map, get_or_append_left, get_or_default, get_or_push, length-map, length-replicate, length-take-le, map-append, set_at, take-append-le, take-map, take_all, take_more}
 pub use Rattle.std.proofs.lemmas.List.Sums.{fold_push, sum_by-append, sum_by-cons, sum_by-take-le, sum_by_push}
 pub use Rattle.std.proofs.lemmas.Result.{err_from_is_err_and}
-pub use Rattle.std.specs.HashMap.{HashMap}
+pub use Rattle.std.specs.BTreeMap.{BTreeMap}
 pub use Rattle.std.specs.List.{AllByRecursion, fold, list_any}
 pub use Rattle.std.specs.Option.{IsSomeAnd, option_map, option_map_or, option_or}
 pub use Rattle.std.specs.Prelude.{option_and_then, slice_get}

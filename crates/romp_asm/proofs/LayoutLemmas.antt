@@ -1,12 +1,12 @@
 -- A program, as its statements are laid one after the other.
-use Rattle.romp_asm.proofs.Common.{◌≡◌, ℕ, ℤ, pos, suc, zero, ◌+◌, ◌<◌, ◌≤◌, nat_lt, Bool, true, false, is_some, List, [], ◌∷◌, ◌++◌, length, take, drop, get_or, Option, Some, None, Result, Ok, Err, refl, sym, ap, subst, ◌∙◌, arith, append_assoc, append-nil, add-one, length-append, replicate, unwrap_or, option_map, option_or, fun_ext, drop-cons, nat_tests, drop_all, get_or_default, take_all, take_more, sum_by_push, fold_push, Statement, Body, Place, HashMap, addresses_in, found_in, place_from, place_of, repeated_in, stands_before, AreReadAs, IsLaid, IsReadAs, LaidTo, image_joined, Scope, Table, option_and_then, slice_get, Parts, assembled, entry_of, has_label_of, image_behind, parts_of, piece_before, piece_of, windows_of, with_entry, with_image, with_window, size_of, total, address_from, addresses_of}
+use Rattle.romp_asm.specs.Labels.{LabelKey}
+use Rattle.romp_asm.proofs.Common.{◌≡◌, ℕ, ℤ, pos, suc, zero, ◌+◌, ◌<◌, ◌≤◌, nat_lt, Bool, true, false, is_some, List, [], ◌∷◌, ◌++◌, length, take, drop, get_or, Option, Some, None, Result, Ok, Err, refl, sym, ap, subst, ◌∙◌, arith, append_assoc, append-nil, add-one, length-append, replicate, unwrap_or, option_map, option_or, fun_ext, drop-cons, nat_tests, drop_all, get_or_default, take_all, take_more, sum_by_push, fold_push, Statement, Body, Place, BTreeMap, addresses_in, found_in, place_from, place_of, repeated_in, stands_before, AreReadAs, IsLaid, IsReadAs, LaidTo, image_joined, Scope, Table, option_and_then, slice_get, Parts, assembled, entry_of, has_label_of, image_behind, parts_of, piece_before, piece_of, windows_of, with_entry, with_image, with_window, size_of, total, address_from, addresses_of}
 use Rattle.asm_parse.specs.declared.fault.AsmFault.{AsmFault}
 use Rattle.flat_machine.specs.declared.machine.Program.{Program}
 use Rattle.flat_machine.specs.declared.machine.Window.{Window as Sight}
 use Rattle.asm_parse.specs.Answers.{IsTextFaultOf}
 use Rattle.asm_parse.specs.Text.{at_line}
 use Rattle.romp_asm.specs.declared.output.Output.{Output}
-use denote.Ref.{Bor}
 
 -- a label's address is that of its place
 pub address_same : (index at : ℕ) (statements : List Statement) (word : List ℕ) → option_map (λ (place : Place). place.address) (place_from index at statements word) ≡ option_map pos (address_from at statements word)
@@ -48,7 +48,7 @@ all_addresses scope statements table none =
     alone (Some place) = refl
 
 -- the table tells whether a statement's label stands before it
-pub repeated_told : {S : Type 0} (labels : HashMap (Bor (List ℕ)) Place S) (statements : List Statement) (i : ℕ) (statement : Statement) → ((word : List ℕ) → found_in labels word ≡ place_of statements word) → repeated_in labels i statement ≡ has_label_of (take i statements) statement
+pub repeated_told : (labels : BTreeMap LabelKey Place) (statements : List Statement) (i : ℕ) (statement : Statement) → ((word : List ℕ) → found_in labels word ≡ place_of statements word) → repeated_in labels i statement ≡ has_label_of (take i statements) statement
 repeated_told labels statements i statement table = grind (arith, nat_tests, among_first)
 
 joined_more : (image bytes : List ℕ) (line : ℕ) (others : Result (List ℕ) (ℕ × ℕ)) → image_joined (image ++ bytes) others ≡ image_joined image (piece_before line (Ok bytes) others)

@@ -2,6 +2,7 @@ pub mod Common
 pub mod LegalLemmas
 pub mod ValueLemmas
 pub mod NoteLemmas
+pub mod WordLemmas
 pub mod LayLemmas
 pub mod LayoutLemmas
 pub mod AloneLemmas

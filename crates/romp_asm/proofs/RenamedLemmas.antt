@@ -3,9 +3,7 @@ use Rattle.romp_asm.proofs.Common.{◌≡◌, ℕ, ℤ, Bool, List, [], ◌∷�
 use Rattle.flat_machine.specs.declared.machine.Window.{Window as Sight}
 use Rattle.asm_parse.specs.declared.statement.Operand.{Operand}
 use Rattle.asm_parse.specs.declared.statement.Expr.{Expr}
-use Rattle.asm_parse.specs.declared.statement.Operand.TheVariants as operand
 use Rattle.asm_parse.specs.declared.statement.Expr.TheVariants as expr
-use Rattle.romp_asm.specs.declared.value.Known.TheVariants as known
 use Rattle.std.proofs.lemmas.Bool.Decides.{nat_tests}
 use Rattle.std.proofs.Common.{arith}
 

@@ -1,9 +1,11 @@
 -- The labels as they are looked up.
-use Rattle.std.specs.Prelude.{◌≡◌, ℕ, ℤ, pos, ◌<◌, IfSome, slice_get, slice_index_or, length, take, sum_by, option_and_then, ◌+◌, nat_lt, false, if◌then◌else◌, Bool, List, [], ◌∷◌, Option, Some, None}
+use Rattle.std.specs.Prelude.{◌≡◌, ℕ, ℤ, pos, ◌*◌, ◌%◌, ◌^◌, ◌<◌, IfSome, slice_get, slice_index_or, length, take, sum_by, option_and_then, ◌+◌, nat_lt, false, if◌then◌else◌, Bool, List, [], ◌∷◌, Option, Some, None}
 use Rattle.std.specs.Option.{option_map, option_map_or, option_or}
 use denote.Ref.{Bor}
-use Rattle.std.specs.HashMap.{HashMap, get_by}
-use Rattle.std.specs.Str.{bytes_eq}
+use Rattle.std.specs.BTreeMap.{BTreeMap, get_by}
+use Rattle.std.specs.Cmp.Lexicographic.{slice_cmp}
+use Rattle.std.specs.List.{fold}
+use Rattle.std.specs.Ordering.{nat_cmp, ordering_then}
 use Rattle.asm_parse.specs.declared.statement.Statement.{Statement}
 use Rattle.romp_asm.specs.Size.{size_of, total}
 use Rattle.romp_asm.specs.Value.{is_labelled}
@@ -11,9 +13,17 @@ use Rattle.romp_asm.specs.declared.value.Place.{Place}
 use Rattle.romp_asm.specs.declared.value.Scope.{Scope}
 use Rattle.romp_asm.specs.declared.value.Table.{Table}
 
+-- a number of a word's bytes, by which most words differ
+abbrev pub word_number : List ℕ → ℕ
+word_number word = fold (λ number byte. (number * 0x100000001B3 % 2 ^ 64 + byte) % 2 ^ 64) 0 word
+
+-- a word's number and the word
+abbrev pub LabelKey : Type 0
+LabelKey = ℕ × Bor (List ℕ)
+
 -- what a table has at a word
-abbrev pub found_in : {V S : Type 0} → HashMap (Bor (List ℕ)) V S → List ℕ → Option V
-found_in labels word = get_by (λ key. bytes_eq word key.now) labels
+abbrev pub found_in : {V : Type 0} → BTreeMap LabelKey V → List ℕ → Option V
+found_in labels word = get_by (λ key. ordering_then (nat_cmp (word_number word) key.0) (slice_cmp nat_cmp word key.1.now)) labels
 
 -- where a word stands in the source that gives it to the others
 abbrev pub given_in : Scope → List ℕ → Option Place
@@ -31,15 +41,15 @@ stands_before index (Some place) = nat_lt place.statement index
 stands_before index None = false
 
 -- whether a statement's label stands before the statement with this number
-abbrev pub repeated_in : {S : Type 0} → HashMap (Bor (List ℕ)) Place S → ℕ → Statement → Bool
+abbrev pub repeated_in : BTreeMap LabelKey Place → ℕ → Statement → Bool
 repeated_in labels index statement = option_map_or (λ label. stands_before index (found_in labels label)) statement.label false
 
 -- a statement's label, if it has one, is in no table yet
-abbrev pub IsNew : {S : Type 0} → HashMap (Bor (List ℕ)) Place S → Statement → Type 0
+abbrev pub IsNew : BTreeMap LabelKey Place → Statement → Type 0
 IsNew labels statement = IfSome statement.label (λ label. found_in labels label ≡ None)
 
 -- the labels of so many of the first statements stand nowhere before them
-abbrev pub AreAlone : {S : Type 0} → HashMap (Bor (List ℕ)) Place S → List Statement → ℕ → Type 0
+abbrev pub AreAlone : BTreeMap LabelKey Place → List Statement → ℕ → Type 0
 AreAlone labels statements count =
     (index : ℕ) (statement : Statement) → index < count → statement ≡ slice_index_or statements index statement → repeated_in labels index statement ≡ false
 

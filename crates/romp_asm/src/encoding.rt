@@ -25,7 +25,7 @@ pub(crate) enum Piece {
 }
 
 /// The bytes of a statement at an address.
-pub(crate) fn piece_of(scope: &Scope<'_, '_, '_, '_>, at: u32, body: &Body) -> Result<Piece, u8>
+pub(crate) fn piece_of<'a>(scope: &Scope<'_, '_, 'a>, at: u32, body: &'a Body) -> Result<Piece, u8>
     ensures value { IsReading result (encoding_of (addresses_in scope.now) at body.now) }
     ensures size { IfOk result (λ piece. length (piece_bytes piece) ≡ size_of body.now) }
 {
@@ -39,11 +39,11 @@ pub(crate) fn piece_of(scope: &Scope<'_, '_, '_, '_>, at: u32, body: &Body) -> R
 }
 
 /// The bytes of an instruction.
-fn inst_piece(
-    scope: &Scope<'_, '_, '_, '_>,
+fn inst_piece<'a>(
+    scope: &Scope<'_, '_, 'a>,
     at: u32,
     op: Op,
-    operands: &ArrayVec<Operand, 4>,
+    operands: &'a ArrayVec<Operand, 4>,
 ) -> Result<Piece, u8>
     ensures value { IsReading result (encoding_of (addresses_in scope.now) at (body_is.Inst op operands.now)) }
     ensures size { IfOk result (λ piece. length (piece_bytes piece) ≡ form_size (form_of op)) }
@@ -68,7 +68,7 @@ fn code_piece(inst: &Inst) -> Piece
 }
 
 /// The bytes of a value.
-fn data_piece(scope: &Scope<'_, '_, '_, '_>, count: u8, value: &Expr) -> Result<Piece, u8>
+fn data_piece<'a>(scope: &Scope<'_, '_, 'a>, count: u8, value: &'a Expr) -> Result<Piece, u8>
     ensures value { IsReading result (encoding_of (addresses_in scope.now) 0 (body_is.Data count value.now)) }
     ensures size { IfOk result (λ piece. length (piece_bytes piece) ≡ count) }
 {
@@ -135,7 +135,7 @@ fn byte_of(value: i64) -> u8
 }
 
 /// No bytes, if a value may be the entry address.
-fn entry_piece(scope: &Scope<'_, '_, '_, '_>, value: &Expr) -> Result<Piece, u8>
+fn entry_piece<'a>(scope: &Scope<'_, '_, 'a>, value: &'a Expr) -> Result<Piece, u8>
     ensures value { IsReading result (encoding_of (addresses_in scope.now) 0 (body_is.Entry value.now)) }
     ensures size { IfOk result (λ piece. length (piece_bytes piece) ≡ 0) }
 {

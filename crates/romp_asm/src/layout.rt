@@ -10,11 +10,11 @@ ghost use Rattle.romp_asm.specs.Sources.{joined};
 ghost use Rattle.romp_asm.specs.Layout.{assembled, parts_of, piece_of};
 
 use super::output::Output;
-use super::value::{Givers, Labels, Scope, labels_of, tables_of};
+use super::value::{Givers, Labels, Scope, label_key, labels_of, tables_of};
 use asm_parse::{AsmFault, LineFault, Part, Statement, Statements, parse};
 use flat_machine::Program;
 use std::alloc::Global;
-use std::collections::HashMap;
+use std::collections::BTreeMap;
 
 /// The program of a source.
 ///
@@ -49,7 +49,7 @@ pub fn assemble(alloc: Global, statements: &[Statement]) -> Result<Program, AsmF
     ensures { IsAnswer parts_of result (assembled statements.now) }
 {
     let table = labels_of(alloc, statements)?;
-    let givers = HashMap::new(alloc);
+    let givers = BTreeMap::new(alloc);
     let scope = Scope {
         own: &table,
         tables: &[],
@@ -66,10 +66,10 @@ pub fn assemble(alloc: Global, statements: &[Statement]) -> Result<Program, AsmF
 /// # Errors
 ///
 /// As [`assemble`].
-pub fn assemble_sources(
+pub fn assemble_sources<'a>(
     alloc: Global,
-    sources: &[Statements],
-    givers: &Givers<'_>,
+    sources: &'a [Statements],
+    givers: &Givers<'a>,
 ) -> Result<Program, AsmFault>
     requires { sum_by (λ source. length source) sources.now ≤ 2 ^ 30 }
     ensures { IsAnswer parts_of result (assembled (joined (found_in givers.now) sources.now)) }
@@ -89,10 +89,10 @@ pub fn assemble_sources(
 }
 
 /// Lays the statements of a text.
-fn add_text(
+fn add_text<'a>(
     output: &mut Output,
-    scope: &Scope<'_, '_, '_, '_>,
-    statements: &[Statement],
+    scope: &Scope<'_, '_, 'a>,
+    statements: &'a [Statement],
 ) -> Result<(), AsmFault>
     requires { scope.now.own.now.repeats ≡ false → AreAlone scope.now.own.now.labels statements.now (length statements.now) }
     ensures { (all before rest named : List Stated) → AreReadAs scope.now statements.now all before named → LaidTo all before (named ++ rest) output.old →
@@ -105,10 +105,10 @@ fn add_text(
 }
 
 /// Lays the statements of a source behind the others.
-fn add_source(
+fn add_source<'a>(
     output: &mut Output,
-    scope: &Scope<'_, '_, '_, '_>,
-    statements: &Statements,
+    scope: &Scope<'_, '_, 'a>,
+    statements: &'a Statements,
 ) -> Result<(), AsmFault>
     requires { scope.now.own.now.repeats ≡ false → AreAlone scope.now.own.now.labels statements.now (length statements.now) }
     ensures { (all before rest named : List Stated) → AreReadAs scope.now statements.now all before named → LaidTo all before (named ++ rest) output.old →
@@ -121,11 +121,11 @@ fn add_source(
 }
 
 /// Lays one statement behind the others.
-fn add(
+fn add<'a>(
     output: &mut Output,
-    scope: &Scope<'_, '_, '_, '_>,
+    scope: &Scope<'_, '_, 'a>,
     index: usize,
-    part: &Part<'_>,
+    part: &Part<'a>,
 ) -> Result<(), AsmFault>
     requires alone { scope.now.own.now.repeats ≡ false → repeated_in scope.now.own.now.labels index (stated part.now) ≡ false }
     ensures { let statement = stated part.now in
@@ -145,7 +145,7 @@ fn add(
 }
 
 /// Whether an earlier statement than the one with this number has its label too.
-fn is_repeated(labels: &Labels<'_>, index: usize, part: &Part<'_>) -> bool
+fn is_repeated<'a>(labels: &Labels<'a>, index: usize, part: &Part<'a>) -> bool
     ensures { result ≡ repeated_in labels.now index (stated part.now) }
 {
     match part.label {
@@ -155,10 +155,10 @@ fn is_repeated(labels: &Labels<'_>, index: usize, part: &Part<'_>) -> bool
 }
 
 /// Whether an earlier statement than the one with this number has a label.
-fn stands_before(labels: &Labels<'_>, index: usize, word: &[u8]) -> bool
+fn stands_before<'a>(labels: &Labels<'a>, index: usize, word: &'a [u8]) -> bool
     ensures { result ≡ stands_before index (found_in labels.now word.now) }
 {
-    match labels.get(word) {
+    match labels.get(&label_key(word)) {
         Some(place) => place.statement < index,
         None => false,
     }

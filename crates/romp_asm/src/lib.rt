@@ -12,4 +12,4 @@ mod value;
 
 pub use law::size_is_by_mnemonic;
 pub use layout::{assemble, assemble_sources, assemble_text};
-pub use value::Givers;
+pub use value::{Givers, LabelKey, label_key};

@@ -46,11 +46,11 @@ impl Output {
     }
 
     /// Lays a statement behind the others. `repeated` says whether its label stood before.
-    pub fn add(
+    pub fn add<'a>(
         &mut self,
-        scope: &Scope<'_, '_, '_, '_>,
+        scope: &Scope<'_, '_, 'a>,
         repeated: bool,
-        body: &Body,
+        body: &'a Body,
     ) -> Result<(), LineFault>
         ensures { let reading = piece_of (addresses_in scope.now) repeated (length self.old.image.items) self.old.entry self.old.windows body.now in
             MatchResult result (λ _. IsLaid (addresses_in scope.now) self.old self.new body.now reading) (λ fault. IsFaultOf fault reading) }
@@ -74,7 +74,7 @@ impl Output {
     }
 
     /// Notes an entry address or a window.
-    fn note(&mut self, scope: &Scope<'_, '_, '_, '_>, body: &Body)
+    fn note<'a>(&mut self, scope: &Scope<'_, '_, 'a>, body: &'a Body)
         requires { takes_window self.old.windows body.now ≡ true }
         ensures image { self.new.image ≡ self.old.image }
         ensures entry { self.new.entry ≡ with_entry (addresses_in scope.now) self.old.entry body.now }
@@ -141,7 +141,7 @@ fn is_entry(body: &Body) -> bool
 }
 
 /// The entry address that a value is.
-fn entry_in(scope: &Scope<'_, '_, '_, '_>, value: &Expr) -> Option<u16>
+fn entry_in<'a>(scope: &Scope<'_, '_, 'a>, value: &'a Expr) -> Option<u16>
     ensures value { result ≡ entry_by (value_of (addresses_in scope.now) value.now) }
     ensures fits { unwrap_or result 0 < 16384 }
     ensures even { unwrap_or result 0 % 2 ≡ 0 }

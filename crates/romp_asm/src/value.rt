@@ -3,14 +3,14 @@ ghost use Rattle.std.specs.Option.{option_map};
 ghost use Rattle.asm_parse.specs.Kept.{stated};
 ghost use Rattle.romp_asm.specs.Value.{is_labelled, known_of, knowns_of, least_kind, value_of, within_reach};
 ghost use Rattle.romp_asm.specs.Size.{total};
-ghost use Rattle.romp_asm.specs.Labels.{addresses_in, found_in, given_in, noted, place_of, AreAlone, AreTables, IsNew, IsTable};
+ghost use Rattle.romp_asm.specs.Labels.{addresses_in, found_in, given_in, noted, place_of, AreAlone, AreTables, IsNew, IsTable, word_number};
 
 use super::field::{OUT_OF_REACH, UNKNOWN_LABEL};
 use super::size::size_of;
 use arrayvec::ArrayVec;
 use asm_parse::{Expr, Operand, Part, Statement, Statements};
 use std::alloc::{AllocError, Global};
-use std::collections::HashMap;
+use std::collections::BTreeMap;
 
 /// Where a label stands: its statement, counted from 0, and its address.
 #[derive(Clone, Copy)]
@@ -19,11 +19,33 @@ pub(crate) struct Place {
     pub address: i64,
 }
 
+/// A word as a table has it: a number of its bytes, by which most words differ, and the bytes. So a look-up compares few
+/// bytes, and words that agree in their numbers cost no more than a look at their bytes (docs/SPEED.md).
+pub type LabelKey<'a> = (u64, &'a [u8]);
+
 /// The labels of statements, each where it stands first.
-pub(crate) type Labels<'a> = HashMap<&'a [u8], Place>;
+pub(crate) type Labels<'a> = BTreeMap<LabelKey<'a>, Place>;
 
 /// The source that gives a word to the others, by its number.
-pub type Givers<'a> = HashMap<&'a [u8], usize>;
+pub type Givers<'a> = BTreeMap<LabelKey<'a>, usize>;
+
+/// A word as a table has it.
+pub fn label_key(bytes: &[u8]) -> LabelKey<'_>
+    ensures { result ≡ (word_number bytes.now, bytes.entry) }
+{
+    (word_number(bytes), bytes)
+}
+
+/// A number of a word's bytes, by which most words differ.
+fn word_number(bytes: &[u8]) -> u64
+    ensures { result ≡ word_number bytes.now }
+{
+    bytes.iter().fold(0, |number: u64, byte| {
+        number
+            .wrapping_mul(0x100_0000_01B3)
+            .wrapping_add(u64::from(*byte))
+    })
+}
 
 /// The labels of statements, whether one of them stands twice, and where the statements end.
 #[derive(Drop)]
@@ -35,10 +57,10 @@ pub(crate) struct Table<'a> {
 
 /// The labels that the statements of a source may name: its own, and those that other sources give.
 #[derive(Clone, Copy)]
-pub(crate) struct Scope<'s, 'g, 'a, 'b> {
+pub(crate) struct Scope<'s, 'g, 'a> {
     pub own: &'s Table<'a>,
     pub tables: &'s [Table<'a>],
-    pub givers: &'g Givers<'b>,
+    pub givers: &'g Givers<'a>,
 }
 
 /// An operand whose labels are replaced by their addresses.
@@ -66,7 +88,7 @@ pub(crate) fn labels_of(alloc: Global, statements: &[Statement]) -> Result<Table
     ensures found { IfOk result (λ table. (word : List ℕ) → found_in table.labels word ≡ place_of statements.now word) }
     ensures alone { IfOk result (λ table. table.repeats ≡ false → AreAlone table.labels statements.now (length statements.now)) }
 {
-    let mut labels = HashMap::new(alloc);
+    let mut labels = BTreeMap::new(alloc);
     let mut repeats = false;
     let mut address: u64 = 0;
     for (index, statement) in statements.iter().enumerate() {
@@ -106,7 +128,7 @@ fn labels_kept(alloc: Global, statements: &Statements, start: u64) -> Result<Tab
     ensures table { IfOk result (λ table. IsTable table start statements.now) }
     ensures small { IfOk result (λ table. total statements.now ≤ length statements.now * 2 ^ 32) }
 {
-    let mut labels = HashMap::new(alloc);
+    let mut labels = BTreeMap::new(alloc);
     let mut repeats = false;
     let mut address = start;
     for index in 0..statements.len() {
@@ -135,17 +157,18 @@ fn note<'a>(labels: &mut Labels<'a>, part: &Part<'a>, place: Place) -> Result<bo
     let Some(label) = part.label else {
         return Ok(false);
     };
-    match labels.insert(label.as_bytes(), place)? {
+    let key = label_key(label.as_bytes());
+    match labels.insert(key, place)? {
         None => Ok(false),
         Some(first) => {
-            labels.insert(label.as_bytes(), first)?;
+            labels.insert(key, first)?;
             Ok(true)
         }
     }
 }
 
 /// The value of an expression.
-pub(crate) fn value_of(scope: &Scope<'_, '_, '_, '_>, value: &Expr) -> Result<i64, u8>
+pub(crate) fn value_of<'a>(scope: &Scope<'_, '_, 'a>, value: &'a Expr) -> Result<i64, u8>
     ensures { result ≡ value_of (addresses_in scope.now) value.now }
 {
     match value {
@@ -158,22 +181,23 @@ pub(crate) fn value_of(scope: &Scope<'_, '_, '_, '_>, value: &Expr) -> Result<i6
 }
 
 /// The address of a label: the source's own, or that of the source that gives it.
-fn address_in(scope: &Scope<'_, '_, '_, '_>, word: &[u8]) -> Option<i64>
+fn address_in<'a>(scope: &Scope<'_, '_, 'a>, word: &'a [u8]) -> Option<i64>
     ensures { result ≡ addresses_in scope.now word.now }
 {
-    match scope.own.labels.get(word) {
+    match scope.own.labels.get(&label_key(word)) {
         Some(place) => Some(place.address),
         None => given_in(scope, word),
     }
 }
 
 /// The address of a label that a source gives to the others.
-fn given_in(scope: &Scope<'_, '_, '_, '_>, word: &[u8]) -> Option<i64>
+fn given_in<'a>(scope: &Scope<'_, '_, 'a>, word: &'a [u8]) -> Option<i64>
     ensures { result ≡ option_map (λ place. place.address) (given_in scope.now word.now) }
 {
-    let source = scope.givers.get(word)?;
+    let key = label_key(word);
+    let source = scope.givers.get(&key)?;
     let table = scope.tables.get(*source)?;
-    let place = table.labels.get(word)?;
+    let place = table.labels.get(&key)?;
     Some(place.address)
 }
 
@@ -188,7 +212,7 @@ fn sum_of(address: i64, more: i64) -> Result<i64, u8>
 }
 
 /// An operand with its value.
-fn known_of(scope: &Scope<'_, '_, '_, '_>, operand: &Operand) -> Result<Known, u8>
+fn known_of<'a>(scope: &Scope<'_, '_, 'a>, operand: &'a Operand) -> Result<Known, u8>
     ensures { result ≡ known_of (addresses_in scope.now) operand.now }
 {
     match operand {
@@ -206,9 +230,9 @@ fn known_of(scope: &Scope<'_, '_, '_, '_>, operand: &Operand) -> Result<Known, u
 }
 
 /// Operands with their values, or the least kind of those that have none.
-pub(crate) fn knowns_of(
-    scope: &Scope<'_, '_, '_, '_>,
-    operands: &[Operand],
+pub(crate) fn knowns_of<'a>(
+    scope: &Scope<'_, '_, 'a>,
+    operands: &'a [Operand],
 ) -> Result<ArrayVec<Known, 4>, u8>
     requires { length operands.now ≤ 4 }
     ensures { MatchResult result (λ knowns. knowns_of (addresses_in scope.now) operands.now ≡ Ok knowns.items)

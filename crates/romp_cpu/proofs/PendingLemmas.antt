@@ -6,7 +6,7 @@ use Rattle.flat_machine.specs.declared.ready.Ready.{Ready}
 use Rattle.flat_machine.specs.declared.machine.Pending.{Pending}
 
 -- one that wants something finds the processor as it was
-whole : (old : Cpu) (regs : List ℕ) (cs : Cs) → (regs ≡ old.regs) × (cs ≡ old.cs) → record old { regs = regs; cs = cs } ≡ old
+pub whole : (old : Cpu) (regs : List ℕ) (cs : Cs) → (regs ≡ old.regs) × (cs ≡ old.cs) → record old { regs = regs; cs = cs } ≡ old
 whole old regs cs stays = ap (λ (regs : List ℕ). record old { regs = regs; cs = cs }) stays.0 ∙ ap (λ (cs : Cs). record old { cs = cs }) stays.1
 
 from_old :

@@ -2,6 +2,7 @@ ghost use Rattle.std.specs.Prelude.{◌≡◌, ◌<◌};
 ghost use Rattle.std.specs.Option.{ForSome};
 ghost use Rattle.flat_machine.specs.Access.{IsAccess};
 ghost use Rattle.flat_machine.specs.Pending.{planned, IsSoundPending};
+ghost use Rattle.flat_machine.specs.Ready.{IsReadyAt};
 ghost use Rattle.flat_machine.specs.Row.{plan};
 ghost use Rattle.romp_cpu.specs.Shown.{halfword_of};
 ghost use Rattle.romp_cpu.specs.Answers.{answer_in};
@@ -9,7 +10,7 @@ ghost use Rattle.romp_cpu.specs.Tried.{linked, seen_in, tried, tried_act};
 ghost use Rattle.romp_cpu.specs.Attempts.{GivesEveryRow, UndoesUnlessWent, IsOfFewBytes, StoresAll};
 
 use super::storage::{Access, Fault, Probe, Storage};
-use flat_machine::{Act, Cs, Fetch, Pending, start_ready, start_row};
+use flat_machine::{Act, Cs, Fetch, Pending, Ready, do_alone, start_row, start_wanting};
 
 /// A processor: sixteen registers, the condition status, the address of the next instruction, and how many bytes were
 /// printed.
@@ -76,10 +77,30 @@ impl Cpu {
         ensures whole { StoresAll (plan (halfword_of (S.byte_at (S.state storage.old))) self.old.regs self.old.cs self.old.iar) }
     {
         match storage.ready(self.iar) {
-            Some(row) => {
-                let pending = start_ready(row, &mut self.regs, &mut self.cs, self.iar);
-                self.finish(storage, pending)
+            Some(row) => match do_alone(&row, &mut self.regs, &mut self.cs, self.iar) {
+                Some(next) => {
+                    self.iar = next;
+                    Attempt::Went
+                }
+                None => self.carry_out_wanting(storage, &row),
+            },
+            None => {
+                let attempt = self.carry_out_anew(storage);
+                attempt
             }
+        }
+    }
+
+    /// The same of a row made ready that wants something beside registers and status, or leaves a link.
+    #[inline(always)]
+    fn carry_out_wanting<S: Storage>(&mut self, storage: &mut S, row: &Ready) -> Attempt
+        requires { IsReadyAt row.now (halfword_of (S.byte_at (S.state storage.old))) self.old.iar }
+        ensures tried { record { attempt = result; cpu = self.new; state = S.state storage.new } ≡ tried (seen_in S.byte_at (answer_in S.registers S.is_in_frame S.refuses) S.stored (S.state storage.old)) self.old (plan (halfword_of (S.byte_at (S.state storage.old))) self.old.regs self.old.cs self.old.iar) }
+        ensures few { IsOfFewBytes result }
+        ensures whole { StoresAll (plan (halfword_of (S.byte_at (S.state storage.old))) self.old.regs self.old.cs self.old.iar) }
+    {
+        match start_wanting(row, &self.regs, self.iar) {
+            Some(pending) => self.finish(storage, pending),
             None => {
                 let attempt = self.carry_out_anew(storage);
                 attempt

@@ -1,10 +1,9 @@
 -- What is kept of exports.
 use Rattle.std.specs.Prelude.{◌≡◌, ℕ, List, [], Option, is_some}
 use Rattle.std.specs.Option.{option_map}
-use Rattle.std.specs.HashMap.{HashMap}
-use denote.Ref.{Bor}
+use Rattle.std.specs.BTreeMap.{BTreeMap}
 use Rattle.asm_parse.specs.declared.statement.Statement.{Statement}
-use Rattle.romp_asm.specs.Labels.{found_in}
+use Rattle.romp_asm.specs.Labels.{LabelKey, found_in}
 use Rattle.romp_asm.specs.Sources.{defines}
 use Rattle.romp_link.specs.Linked.{exporter, fault_behind}
 use Rattle.romp_link.specs.declared.exports.Exports.{Exports}
@@ -20,5 +19,5 @@ pub record AreExports (exports : Exports) (sources : List (List Statement)) : Ty
   pub fault : told_of exports.fault ≡ fault_behind [] sources
 
 -- a set has the labels of statements
-abbrev pub HasLabels : {V S : Type 0} → HashMap (Bor (List ℕ)) V S → List Statement → Type 0
+abbrev pub HasLabels : {V : Type 0} → BTreeMap LabelKey V → List Statement → Type 0
 HasLabels labels statements = (word : List ℕ) → is_some (found_in labels word) ≡ defines statements word

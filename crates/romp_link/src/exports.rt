@@ -9,9 +9,9 @@ ghost use Rattle.romp_link.specs.Linked.{exported};
 ghost use Rattle.romp_link.specs.Exported.{AreExports, HasLabels, told_of};
 
 use asm_parse::{Body, Part, Statements};
-use romp_asm::Givers;
+use romp_asm::{Givers, LabelKey, label_key};
 use std::alloc::{AllocError, Global};
-use std::collections::HashMap;
+use std::collections::BTreeMap;
 
 /// The source of an export lacks the label.
 const NO_EXPORT: u8 = 15;
@@ -19,7 +19,7 @@ const NO_EXPORT: u8 = 15;
 const DOUBLE_EXPORT: u8 = 16;
 
 /// The labels of a source.
-type Labels<'a> = HashMap<&'a [u8], ()>;
+type Labels<'a> = BTreeMap<LabelKey<'a>, ()>;
 
 /// Why a line can't export a label.
 #[derive(Clone, Copy)]
@@ -40,7 +40,7 @@ pub(crate) fn exports_of(alloc: Global, sources: &[Statements]) -> Result<Export
     ensures { IfOk result (λ exports. AreExports exports sources.now) }
 {
     let mut exports = Exports {
-        givers: HashMap::new(alloc),
+        givers: BTreeMap::new(alloc),
         fault: None,
     };
     for (source, statements) in sources.iter().enumerate() {
@@ -78,11 +78,11 @@ fn has_exports(statements: &Statements) -> bool
 fn labels_of(alloc: Global, statements: &Statements) -> Result<Labels<'_>, AllocError>
     ensures { IfOk result (λ labels. HasLabels labels statements.now) }
 {
-    let mut labels = HashMap::new(alloc);
+    let mut labels = BTreeMap::new(alloc);
     for index in 0..statements.len() {
         match statements.at(index).label {
             Some(label) => {
-                labels.insert(label.as_bytes(), ())?;
+                labels.insert(label_key(label.as_bytes()), ())?;
             }
             None => {}
         }
@@ -93,7 +93,7 @@ fn labels_of(alloc: Global, statements: &Statements) -> Result<Labels<'_>, Alloc
 /// Adds the exports of a source, which stands behind others.
 fn add_exports<'a>(
     exports: &mut Exports<'a>,
-    labels: &Labels<'_>,
+    labels: &Labels<'a>,
     source: usize,
     statements: &'a Statements,
 ) -> Result<(), AllocError>
@@ -114,7 +114,7 @@ impl<'a> Exports<'a> {
     /// Adds the export of a label by a line of a source.
     fn add(
         &mut self,
-        labels: &Labels<'_>,
+        labels: &Labels<'a>,
         source: usize,
         line: u32,
         label: &'a [u8],
@@ -123,11 +123,12 @@ impl<'a> Exports<'a> {
         ensures fault { OnOk result (told_of self.new.fault ≡ option_or (told_of self.old.fault)
             (if is_some (found_in labels.now label.now) then (if is_some (found_in self.old.givers label.now) then Some (line, 16) else None) else Some (line, 15))) }
     {
-        let again = self.givers.contains_key(label);
-        let fault = fault_of(line, labels.contains_key(label), again);
+        let key = label_key(label);
+        let again = self.givers.contains_key(&key);
+        let fault = fault_of(line, labels.contains_key(&key), again);
         self.fault = self.fault.or(fault);
         if !again {
-            self.givers.insert(label, source)?;
+            self.givers.insert(key, source)?;
         }
         Ok(())
     }

@@ -1,4 +1,4 @@
-use Rattle.romp_link.proofs.Common.{ℕ, List, Option, Bor, is_some, take, arith, sym, ap, ◌∙◌, option_map, option_map_or, bytes_eq, take_all, hash_map_updates_str, stated, Statement, found_in, defines}
+use Rattle.romp_link.proofs.Common.{ℕ, List, Option, Bor, is_some, take, arith, sym, ap, ◌∙◌, option_map, option_map_or, bytes_eq, take_all, word_updates, stated, Statement, found_in, defines}
 use Rattle.std.specs.Prelude.{false, ◌||◌, Bool}
 use Rattle.romp_link.proofs.ExportLemmas.{label_more, label_none, labels_on}
 use Rattle.romp_link.proofs.exports.labels_of.Goals as goal
@@ -14,7 +14,7 @@ loop-index-preserved c = λ word.
     elim c.match-at.branch [
       | in-Some+in_ok-insert-in-Some w ↦
           ap (λ labels. is_some (found_in labels word)) w.labels-is
-          ∙ ap is_some (hash_map_updates_str w.as_bytes.result.now c.loop-index.labels w.insert.new.self _ w.in_ok-insert-in-Some.ensures.updates word)
+          ∙ ap is_some (word_updates w.as_bytes.result.now w.label_key.result c.loop-index.labels w.insert.new.self _ (ap (λ it. it.0) w.label_key.ensures) (ap (λ it. it.1.now) w.label_key.ensures) w.in_ok-insert-in-Some.ensures.updates word)
           ∙ label_more (found_in c.loop-index.labels word) _ (bytes_eq w.as_bytes.result.now word) before (c.loop-index.invariant word)
           ∙ ap (λ (test : Bool). before || test) (ap (λ (text : List ℕ). bytes_eq text word) w.as_bytes.ensures.value ∙ sym (ap labelled w.in-Some.is))
           ∙ sym more

@@ -1,20 +1,13 @@
-use Rattle.romp_cpu.proofs.Common.{sym, subst, ◌∙◌, StoresAll, answer_in, seen_in}
-use Rattle.romp_cpu.proofs.WholeLemmas.{pending-stores}
-use Rattle.romp_cpu.proofs.PendingLemmas.{finished, plan_of_ready}
+use Rattle.romp_cpu.proofs.Common.{◌≡◌, subst, Cpu, answer_in, plan, seen_in, tried}
+use Rattle.romp_cpu.specs.Shown.{halfword_of}
+use Rattle.romp_cpu.proofs.PendingLemmas.{whole}
 use Rattle.romp_cpu.proofs.cpu.Cpu.carry_out.Goals as goal
 
-pub returns-in-Some-clause-tried : goal.returns-in-Some-clause-tried
-returns-in-Some-clause-tried g c =
+pub returns-in-None-do_alone-clause-tried : goal.returns-in-None-do_alone-clause-tried
+returns-in-None-do_alone-clause-tried g c =
     let s = g.S.Storage in
-    let seen = seen_in s.byte_at (answer_in s.registers s.is_in_frame s.refuses) s.stored (s.state c.args.storage.now) in
-    let started = c.start_ready-pending in
-    let cpu = c.args.self.now in
-    let value = plan_of_ready _ _ cpu.regs cpu.cs cpu.iar c.in-Some.ensures ∙ started.ensures.value in
-    c.finish.ensures.tried ∙ finished seen cpu started.new.regs started.new.cs started.result _ value started.ensures.stays
-
-pub returns-in-Some-clause-whole : goal.returns-in-Some-clause-whole
-returns-in-Some-clause-whole g c =
-    let started = c.start_ready-pending in
-    let cpu = c.args.self.now in
-    let value = plan_of_ready _ _ cpu.regs cpu.cs cpu.iar c.in-Some.ensures ∙ started.ensures.value in
-    subst StoresAll (sym value) (pending-stores started.result started.new.regs started.new.cs started.ensures.long started.ensures.sound)
+    let state = s.state c.args.storage.now in
+    let seen = seen_in s.byte_at (answer_in s.registers s.is_in_frame s.refuses) s.stored state in
+    let told = c.carry_out_wanting in
+    subst (λ (cpu : Cpu). record { attempt = told.result; cpu = told.new.self; state = s.state told.new.storage } ≡ tried seen cpu (plan (halfword_of (s.byte_at state)) cpu.regs cpu.cs cpu.iar))
+    (whole c.args.self.now c.do_alone.new.regs c.do_alone.new.cs c.in-None-do_alone.ensures.stays) told.ensures.tried

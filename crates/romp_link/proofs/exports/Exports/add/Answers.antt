@@ -1,8 +1,14 @@
-use Rattle.romp_link.proofs.Common.{sym, ◌∙◌, hash_map_updates_str, found_in}
+use Rattle.romp_link.proofs.Common.{ap, is_some, sym, ◌∙◌, found_in, word_updates}
+use Rattle.romp_asm.proofs.WordLemmas.{found_by_key}
 use Rattle.romp_link.proofs.ExportLemmas.{given_more}
 use Rattle.romp_link.proofs.exports.Exports.add.Goals as goal
 
 pub returns-in_ok-insert-clause-givers : goal.returns-in_ok-insert-clause-givers
 returns-in_ok-insert-clause-givers c = λ word.
-    hash_map_updates_str c.args.label.now c.args.self.now.givers c.insert.new.self _ c.in_ok-insert.ensures.updates word
-    ∙ given_more (found_in c.args.self.now.givers) c.args.label.now word c.args.source (sym c.contains_key-again.ensures ∙ c.if-not-again.true)
+    let label = c.args.label.now in
+    let key = c.label_key-key.result in
+    let number = ap (λ it. it.0) c.label_key-key.ensures in
+    let bytes = ap (λ it. it.1.now) c.label_key-key.ensures in
+    let givers = c.args.self.now.givers in
+    word_updates label key givers c.insert.new.self _ number bytes c.in_ok-insert.ensures.updates word
+    ∙ given_more (found_in givers) label word c.args.source (ap is_some (sym (found_by_key label key givers number bytes)) ∙ sym c.contains_key-again.ensures ∙ c.if-not-again.true)

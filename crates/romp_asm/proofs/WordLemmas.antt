@@ -1,0 +1,26 @@
+-- A table after a word was put into it.
+use Rattle.romp_asm.proofs.Common.{◌≡◌, ℕ, Bool, cond, List, Option, refl, ap, ◌∙◌, arith, bytes_eq, BTreeMap, found_in}
+use Rattle.std.proofs.lemmas.Bool.Decides.{nat_tests}
+use Rattle.std.proofs.lemmas.Slice.Eq.{bytes_eq-Decides}
+use Rattle.std.proofs.lemmas.Map.Text.{is_eq-slice_cmp}
+use Rattle.std.specs.BTreeMap.{UpdatesBy, get_by}
+use Rattle.std.specs.Cmp.Lexicographic.{slice_cmp}
+use Rattle.std.specs.Ordering.{is_eq, nat_cmp, ordering_then}
+use Rattle.romp_asm.specs.Labels.{LabelKey, word_number}
+
+-- two words are the same in a table exactly where their bytes are
+same_word : (word other : List ℕ) → is_eq (ordering_then (nat_cmp (word_number word) (word_number other)) (slice_cmp nat_cmp word other)) ≡ bytes_eq word other
+same_word word other = grind (arith, nat_tests, bytes_eq-Decides, is_eq-slice_cmp)
+
+-- what a table has at a word's key
+pub found_by_key : {V : Type 0} (word : List ℕ) (key : LabelKey) (m : BTreeMap LabelKey V) → key.0 ≡ word_number word → key.1.now ≡ word
+    → get_by (λ k. ordering_then (nat_cmp key.0 k.0) (slice_cmp nat_cmp key.1.now k.1.now)) m ≡ found_in m word
+found_by_key word key m number bytes = rw (number, bytes) refl
+
+-- what a table has at any word after one was put into it or changed
+pub word_updates : {V : Type 0} (word : List ℕ) (key : LabelKey) (m n : BTreeMap LabelKey V) (value : Option V) → key.0 ≡ word_number word → key.1.now ≡ word
+    → UpdatesBy (λ x y. ordering_then (nat_cmp x.0 y.0) (slice_cmp nat_cmp x.1.now y.1.now)) (λ k. ordering_then (nat_cmp key.0 k.0) (slice_cmp nat_cmp key.1.now k.1.now)) m n value
+    → (other : List ℕ) → found_in n other ≡ cond (bytes_eq word other) value (found_in m other)
+word_updates word key m n value number bytes updates other =
+    updates.0 (word_number other, record { ref_ptr = key.1.ref_ptr; now = other })
+    ∙ ap (λ (test : Bool). cond test value (found_in m other)) (rw (number, bytes) (same_word word other))
