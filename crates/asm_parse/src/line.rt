@@ -16,7 +16,7 @@ use super::word::Word;
 use romp_table::by_name;
 use std::alloc::Global;
 
-/// The statements of a text. What stands behind its last line feed is a line too.
+/// The statements of a text. What comes after its last line feed is a line too.
 ///
 /// The rules of a line are in docs/FORMATS.md, "Assembler".
 ///
@@ -63,7 +63,7 @@ fn push_line(
     push_body(statements, number, label, rest)
 }
 
-/// The first line of a text, and what stands behind its line feed, if it has one.
+/// The first line of a text, and what comes after its line feed, if it has one.
 ///
 /// Lines are those of docs/FORMATS.md, "Assembler".
 pub fn first_line(text: &[u8]) -> (&[u8], Option<&[u8]>)
@@ -84,7 +84,7 @@ fn feed_in(text: &[u8]) -> Option<usize>
     text.iter().position(|byte| *byte == b'\n')
 }
 
-/// The label that tokens begin with, if they do, and the tokens behind it.
+/// The label that tokens begin with, if they do, and the tokens after it.
 pub(crate) fn split_label(tokens: &[Token]) -> (Option<Word>, &[Token])
     ensures label { result.0 ≡ label_of tokens.now }
     ensures behind { result.1.now ≡ behind_label tokens.now }
@@ -97,7 +97,7 @@ pub(crate) fn split_label(tokens: &[Token]) -> (Option<Word>, &[Token])
     }
 }
 
-/// Appends a statement with what tokens say behind its label.
+/// Appends a statement with what tokens say after its label.
 pub(crate) fn push_body(
     statements: &mut Vec<Statement>,
     line: u32,

@@ -40,7 +40,7 @@ pub(crate) fn operands_of(sorts: &[Sort], tokens: &[Token]) -> Option<ArrayVec<O
     }
 }
 
-/// What stands before the first comma, and what stands behind it, if there is one.
+/// What comes before the first comma, and what comes after it, if there is one.
 fn first_part(tokens: &[Token]) -> (&[Token], Option<&[Token]>)
     ensures first { result.0.now ≡ before_first is_comma tokens.now }
     ensures behind { option_map (λ part. part.now) result.1 ≡ behind_first is_comma tokens.now }

@@ -11,7 +11,7 @@ pub struct Statement {
     pub body: Body,
 }
 
-/// What a line says behind its label.
+/// What a line says after its label.
 #[derive(Drop)]
 pub enum Body {
     /// Nothing.

@@ -88,7 +88,7 @@ impl Statements {
         Ok(())
     }
 
-    /// Appends a statement with what tokens say behind its label, whole.
+    /// Appends a statement with what tokens say after its label, whole.
     fn push_whole(
         &mut self,
         line: u32,

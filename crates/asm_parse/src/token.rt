@@ -13,7 +13,7 @@ use super::word::Word;
 /// What a line is made of (docs/FORMATS.md, "Assembler").
 #[derive(Drop)]
 pub enum Token {
-    /// A letter, `_` or `.`, and the letters, digits and `_` behind it.
+    /// A letter, `_` or `.`, and the letters, digits and `_` after it.
     Word(Word),
     /// A number in decimal or hexadecimal.
     Number(u32),
@@ -31,7 +31,7 @@ pub(crate) enum Begin {
     Blank,
     /// The rest of the line is a comment.
     Comment,
-    /// A token, and how many bytes of it stand behind the first.
+    /// A token, and how many bytes of it stand after the first.
     Takes(Token, usize),
     /// No token, with the kind of this fault.
     Bad(u8),
@@ -89,7 +89,7 @@ fn begin_of(left: &[u8], first: u8, rest: &[u8]) -> Begin
     mark_begins(first)
 }
 
-/// A word that has so many bytes behind the first.
+/// A word that has so many bytes after the first.
 fn word_begins(left: &[u8], more: usize) -> Begin
     requires inside { more < length left.now }
     requires ascii { IsAscii (take (more + 1) left.now) }
@@ -101,7 +101,7 @@ fn word_begins(left: &[u8], more: usize) -> Begin
     }
 }
 
-/// A number that has so many bytes behind the first.
+/// A number that has so many bytes after the first.
 fn number_begins(left: &[u8], more: usize) -> Begin
     requires { more < length left.now }
     ensures { result ≡ number_begins more (number_of (take (more + 1) left.now)) }

@@ -41,7 +41,7 @@ impl From<AllocError> for TextFault {
     }
 }
 
-/// Reads a source to its end, or to the first byte behind so many.
+/// Reads a source to its end, or to the first byte after so many.
 ///
 /// # Errors
 ///

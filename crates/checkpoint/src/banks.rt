@@ -161,7 +161,7 @@ impl Banks {
         self.bank.append(outside)
     }
 
-    /// Adds the record that is begun and makes it sure, behind a checkpoint where it doesn't fit the rest of the bank. It
+    /// Adds the record that is begun and makes it durable, after a checkpoint where it doesn't fit the rest of the bank. It
     /// takes no memory. No record is begun afterwards. After [`Kept::Unwritten`] and [`Kept::Doubt`] the banks have to be
     /// reopened before they are used again (docs/FORMATS.md, "Protocols").
     pub fn commit<W: Outside>(&mut self, outside: &mut W) -> Kept

@@ -41,7 +41,7 @@ pub fn read_selector<W: Outside>(outside: &mut W) -> Result<Which, Failed>
     }
 }
 
-/// Chooses a bank, and makes it sure.
+/// Chooses a bank, and makes it durable.
 pub fn write_selector<W: Outside>(outside: &mut W, which: Which) -> Result<(), Failed>
     requires room { HoldsAtLeast W.Outside 129 outside.old }
     ensures only { OnlyWrites W.Outside outside.old outside.new }

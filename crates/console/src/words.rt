@@ -12,7 +12,7 @@ use store_format::Header;
 /// The most numbers that a form has: the bytes of a bank, and fifteen segments with their pages.
 const MOST_NUMBERS: usize = 31;
 
-/// The letter behind the pages of a fine segment.
+/// The letter after the pages of a fine segment.
 const FINE: char = 'f';
 
 /// What the words ask for (docs/FORMATS.md, "Words").
@@ -32,7 +32,7 @@ pub enum Command {
     New(Header),
     /// A store of version 1 that the source has is made one of version 2 in a file, with a bank of so many bytes.
     Renew(u32),
-    /// The records that a store in a file keeps behind a number are printed.
+    /// The records that a store in a file keeps after a number are printed.
     Ship(u64),
     /// The records of the source's ship text are committed to a store in a file.
     Follow,
@@ -273,7 +273,7 @@ fn numbers_of(words: &[String]) -> Option<ArrayVec<(u32, bool), MOST_NUMBERS>>
     Some(numbers)
 }
 
-/// The number that a word says, if it does, and whether the mark of a fine segment stands behind its digits.
+/// The number that a word says, if it does, and whether the mark of a fine segment stands after its digits.
 fn marked_of(word: &str) -> Option<(u32, bool)>
     ensures { result ≡ marked_of word.now }
 {

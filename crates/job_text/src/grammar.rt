@@ -38,7 +38,7 @@ pub fn read_job(alloc: Global, text: &[u8]) -> Result<Job, JobFault>
     finish(reader, number, left)
 }
 
-/// The first line, and what stands behind its line feed; none where there is no line feed.
+/// The first line, and what comes after its line feed; none where there is no line feed.
 fn next_line(left: &[u8]) -> Option<(&[u8], &[u8])>
     ensures { MatchOption result (lines_of left.now ≡ left.now ∷ [])
         (λ found. (lines_of left.now ≡ found.0.now ∷ lines_of found.1.now) × (length found.1.now < length left.now)) }
@@ -50,7 +50,7 @@ fn next_line(left: &[u8]) -> Option<(&[u8], &[u8])>
     }
 }
 
-/// The job that was read, at what stands behind the last line feed.
+/// The job that was read, at what comes after the last line feed.
 fn finish(reader: Reader, number: u32, left: &[u8]) -> Result<Job, JobFault>
     ensures { IsJobAnswer result (last_part (reading_of reader) number left.now) }
 {

@@ -17,7 +17,7 @@ pub fn a_text_has_one_answer()
     ensures fault { (text : List ℕ) (content : Content) (fault : ℕ × ℕ) → IsJobText text content → ¬ (job_of text ≡ Err fault) }
 {}
 
-/// The first fault from the top ends the reading: it is kind 10 of what stands behind the last line feed, or it stays,
+/// The first fault from the top ends the reading: it is kind 10 of what comes after the last line feed, or it stays,
 /// whatever follows the lines of the text.
 pub fn faults_end_the_reading()
     ensures { FaultsEndTheReading }

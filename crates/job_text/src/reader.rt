@@ -320,7 +320,7 @@ impl Reader {
         Ok(())
     }
 
-    /// Nothing behind the schedule's `end`.
+    /// Nothing after the schedule's `end`.
     fn ended_line(&mut self, tokens: &[Token]) -> Result<(), LineFault>
         ensures read { IsStep result self.new (ended_line (reading_of self.old) tokens.now) }
         ensures few { held self.new ≤ held self.old }

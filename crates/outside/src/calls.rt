@@ -5,7 +5,7 @@ ghost use Rattle.outside.specs.Record.{calls_of, is_write};
 use crate::record::Entry;
 use std::alloc::{AllocError, Global};
 
-/// A call that did more than ask, behind so many that asked alone.
+/// A call that did more than ask, after so many that asked alone.
 #[derive(Drop)]
 pub struct Run {
     pub asked: u64,

@@ -19,7 +19,7 @@ pub struct Refusal {
     pub call: Call,
     /// The first byte of the range.
     pub from: u64,
-    /// The end of the range, which is behind its last byte.
+    /// The end of the range, which is after its last byte.
     pub to: u64,
     /// How many such calls pass before it.
     pub skip: u32,

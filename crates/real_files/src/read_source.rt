@@ -19,7 +19,7 @@ pub struct ReadSource {
 impl ReadSource {
     ghost use Rattle.std.specs.Prelude.{◌≡◌, Some};
 
-    /// A source of these bytes. `is_cut` says that it fails behind them.
+    /// A source of these bytes. `is_cut` says that it fails after them.
     pub fn new(bytes: Vec<u8>, is_cut: bool) -> Self
         ensures left { ⟦<ReadSource as Source>⟧.left result ≡ Some bytes.items }
         ensures faults { ⟦<ReadSource as Source>⟧.faults result ≡ 0 }

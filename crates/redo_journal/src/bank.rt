@@ -219,8 +219,8 @@ impl Bank {
         }
     }
 
-    /// The record whose gate lies at a place of the area: at 0 the first, and where one was found, at what lies behind it
-    /// the next. One that with a gate behind it doesn't fit the area is given with no lines and nothing behind it; where
+    /// The record whose gate lies at a place of the area: at 0 the first, and where one was found, at what lies after it
+    /// the next. One that with a gate after it doesn't fit the area is given with no lines and nothing after it; where
     /// the disk's bytes are told and are those of the bank, there is none such.
     ///
     /// # Errors
@@ -313,7 +313,7 @@ impl Bank {
         self.begun = Some(begun + 1);
     }
 
-    /// Adds the record that is begun to the bank, and makes it sure. Full where the record and the gate behind it don't
+    /// Adds the record that is begun to the bank, and makes it durable. Full where the record and the gate after it don't
     /// fit the rest of the bank: nothing is written, and the record stays begun. After any other answer no record is,
     /// and after [`Appended::Unwritten`] and [`Appended::Doubt`] the bank has to be reopened before it is used again
     /// (docs/FORMATS.md, "Protocols").
@@ -349,7 +349,7 @@ impl Bank {
     }
 }
 
-/// The number that so many records behind a base lead to.
+/// The number that so many records after a base lead to.
 fn number_of(base: u64, count: u32) -> u64
     ensures { result ≡ (base + count) % 2 ^ 64 }
 {

@@ -12,7 +12,7 @@ use line_geometry::PageSize;
 use outside::{Failed, Outside};
 use store_format::entries_bytes;
 
-/// A record of a bank: where in the area its gate lies, how many lines it has, and where the gate behind it lies.
+/// A record of a bank: where in the area its gate lies, how many lines it has, and where the gate after it lies.
 #[derive(Clone, Copy)]
 pub struct Record {
     pub place: u32,
@@ -20,8 +20,8 @@ pub struct Record {
     pub next: u32,
 }
 
-/// Reads how many lines the record has whose gate lies at a place of an area. One that with a gate behind it doesn't
-/// fit the area is given with no lines, and nothing behind it.
+/// Reads how many lines the record has whose gate lies at a place of an area. One that with a gate after it doesn't
+/// fit the area is given with no lines, and nothing after it.
 pub fn read_record<W: Outside>(
     outside: &mut W,
     page: PageSize,

@@ -30,7 +30,7 @@ pub enum Kept {
 pub enum Appended {
     /// As [`Kept::Done`].
     Done,
-    /// The record and the gate behind it don't fit the rest of the bank: nothing was written.
+    /// The record and the gate after it don't fit the rest of the bank: nothing was written.
     Full,
     /// As [`Kept::Unwritten`].
     Unwritten,
@@ -54,7 +54,7 @@ impl Appended {
     }
 }
 
-/// Writes a body behind a closed gate, makes it sure, and then opens the gate and makes that sure.
+/// Writes a body after a closed gate, makes it durable, and then opens the gate and makes that durable.
 pub fn keep_body<W: Outside>(outside: &mut W, gate: u64, body: &[u8]) -> Kept
     requires room { HoldsAtLeast W.Outside (gate + 1 + length body.now) outside.old }
     requires few { gate < 2 ^ 63 }

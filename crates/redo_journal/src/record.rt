@@ -11,7 +11,7 @@ use line_geometry::PageSize;
 use owned_list::OwnedList;
 use store_format::entries_bytes;
 
-/// Fills in the count and the number of a record, and the closed gate behind it.
+/// Fills in the count and the number of a record, and the closed gate after it.
 pub fn fill(body: &mut OwnedList<u8>, page: PageSize, count: u16, due: u64)
     requires { 11 + entry_bytes page * count ≤ length body.old }
     ensures len { length body.new ≡ length body.old }
@@ -53,7 +53,7 @@ pub fn word(number: u32) -> [u8; 4]
     bytes
 }
 
-/// Notes the places of the lines of a record behind a gate.
+/// Notes the places of the lines of a record after a gate.
 pub fn note(newest: &mut OwnedList<Option<u64>>, body: &[u8], page: PageSize, gate: u64, count: u16)
     requires gate { gate < 2 ^ 20 }
     requires body { 10 + entry_bytes page * count ≤ length body.now }

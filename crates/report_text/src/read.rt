@@ -69,7 +69,7 @@ pub fn read_lines(alloc: Global, text: &[u8]) -> Result<Vec<OwnedLine>, LinesFau
     Ok(lines)
 }
 
-/// The line that a text begins with, and what stands behind it; none where it begins with no line.
+/// The line that a text begins with, and what comes after it; none where it begins with no line.
 fn next_line<'a>(
     alloc: Global,
     room: &mut TextLine,

@@ -12,7 +12,7 @@ use hex::FromHexError;
 use std::alloc::{AllocError, Global};
 use text_line::{number, place_of};
 
-/// The first word of a text, and what stands behind the space after it.
+/// The first word of a text, and what comes after the space after it.
 pub(crate) fn split(text: &[u8]) -> (&[u8], &[u8])
     ensures first { result.0.now ≡ before_first is_space text.now }
     ensures rest { result.1.now ≡ after_first is_space text.now }
@@ -26,7 +26,7 @@ pub(crate) fn split(text: &[u8]) -> (&[u8], &[u8])
     }
 }
 
-/// What stands behind the first word of a text.
+/// What comes after the first word of a text.
 pub fn behind(text: &[u8]) -> &[u8]
     ensures value { result.now ≡ after_first is_space text.now }
     ensures parts { (word : List ℕ) (words : List (List ℕ)) → IsOneWord word
@@ -42,7 +42,7 @@ pub(crate) fn small(word: &[u8]) -> u32
     u32::try_from(number(word)).unwrap_or(0)
 }
 
-/// The number that a text begins with, anything where its first word is none; and what stands behind that word.
+/// The number that a text begins with, anything where its first word is none; and what comes after that word.
 pub fn first_number(text: &[u8]) -> (u64, &[u8])
     ensures rest { result.1.now ≡ after_first is_space text.now }
     ensures parts { (n : ℕ) (words : List (List ℕ)) → n < 2 ^ 64
@@ -52,7 +52,7 @@ pub fn first_number(text: &[u8]) -> (u64, &[u8])
     (number(word), rest)
 }
 
-/// The number of 32 bits that a text begins with, and what stands behind it.
+/// The number of 32 bits that a text begins with, and what comes after it.
 pub(crate) fn first_small(text: &[u8]) -> (u32, &[u8])
     ensures parts { (n : ℕ) (words : List (List ℕ)) → n < 2 ^ 32
         → text.now ≡ join_with_byte 32 (decimal n ∷ words) → (result.0 ≡ n) × (result.1.now ≡ join_with_byte 32 words) }

@@ -147,7 +147,7 @@ impl Durable {
         self.banks.record_line(line, bytes);
     }
 
-    /// Adds the record that is begun and makes it sure, behind a checkpoint where it doesn't fit the rest of the bank.
+    /// Adds the record that is begun and makes it durable, after a checkpoint where it doesn't fit the rest of the bank.
     /// It takes no memory. No record is begun afterwards. After [`Kept::Unwritten`] and [`Kept::Doubt`] the store has
     /// to be reopened before it is used again (docs/FORMATS.md, "Protocols").
     pub fn commit<W: Outside>(&mut self, outside: &mut W) -> Kept
@@ -195,8 +195,8 @@ impl Durable {
     }
 
     /// The record of the chosen bank whose gate lies at a place of its area: at 0 the first, and where one was found, at what
-    /// lies behind it the next. One that with a gate behind it doesn't fit the area is given with no lines and nothing
-    /// behind it; where the disk's bytes are told and are those of the bank, there is none such.
+    /// lies after it the next. One that with a gate after it doesn't fit the area is given with no lines and nothing
+    /// after it; where the disk's bytes are told and are those of the bank, there is none such.
     ///
     /// # Errors
     ///

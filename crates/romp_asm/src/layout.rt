@@ -104,7 +104,7 @@ fn add_text<'a>(
     Ok(())
 }
 
-/// Lays the statements of a source behind the others.
+/// Lays the statements of a source after the others.
 fn add_source<'a>(
     output: &mut Output,
     scope: &Scope<'_, '_, 'a>,
@@ -120,7 +120,7 @@ fn add_source<'a>(
     Ok(())
 }
 
-/// Lays one statement behind the others.
+/// Lays one statement after the others.
 fn add<'a>(
     output: &mut Output,
     scope: &Scope<'_, '_, 'a>,

@@ -45,7 +45,7 @@ impl Output {
         }
     }
 
-    /// Lays a statement behind the others. `repeated` says whether its label stood before.
+    /// Lays a statement after the others. `repeated` says whether its label stood before.
     pub fn add<'a>(
         &mut self,
         scope: &Scope<'_, '_, 'a>,
@@ -155,7 +155,7 @@ fn entry_in<'a>(scope: &Scope<'_, '_, 'a>, value: &'a Expr) -> Option<u16>
     }
 }
 
-/// Whether a statement may stand behind these windows.
+/// Whether a statement may stand after these windows.
 fn takes_window(windows: &[Option<Window>], body: &Body) -> bool
     ensures { result ≡ takes_window windows.now body.now }
 {

@@ -107,7 +107,7 @@ pub(crate) fn labels_of(alloc: Global, statements: &[Statement]) -> Result<Table
     })
 }
 
-/// The tables of sources, which stand one behind the other.
+/// The tables of sources, which stand one after the other.
 pub(crate) fn tables_of(alloc: Global, sources: &[Statements]) -> Result<Vec<Table<'_>>, AllocError>
     requires { sum_by (λ source. length source) sources.now ≤ 2 ^ 30 }
     ensures { IfOk result (λ tables. AreTables tables.items sources.now) }

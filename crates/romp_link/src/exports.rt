@@ -90,7 +90,7 @@ fn labels_of(alloc: Global, statements: &Statements) -> Result<Labels<'_>, Alloc
     Ok(labels)
 }
 
-/// Adds the exports of a source, which stands behind others.
+/// Adds the exports of a source, which stands after others.
 fn add_exports<'a>(
     exports: &mut Exports<'a>,
     labels: &Labels<'a>,

@@ -126,7 +126,7 @@ impl<'j> Progress<'j> {
         })
     }
 
-    /// Behind one commit line more, if it is sound. Its program runs on the store itself, so where it isn't sound there is no
+    /// After one commit line more, if it is sound. Its program runs on the store itself, so where it isn't sound there is no
     /// way back to where the check stood.
     fn take(
         self,

@@ -11,7 +11,7 @@ const MOST_JOB: u64 = 1_048_576;
 /// The most bytes of a report or of a store.
 const MOST: u64 = 33_554_432;
 
-/// A part of a bundle: the place of its first byte, and the place behind its last.
+/// A part of a bundle: the place of its first byte, and the place after its last.
 #[derive(Clone, Copy)]
 pub struct Span {
     pub from: u32,
@@ -40,7 +40,7 @@ struct Lengths {
 ///
 /// # Errors
 ///
-/// 0 where the first line is of another form or a length is too large, and 5 where the bytes behind it aren't as many as
+/// 0 where the first line is of another form or a length is too large, and 5 where the bytes after it aren't as many as
 /// the four lengths together.
 pub fn split_bundle(bytes: &[u8]) -> Result<Bundle, u8>
     ensures { MatchResult result (λ bundle. IsBundle bytes.now bundle) (λ part. IsWrongAt bytes.now part) }
@@ -99,7 +99,7 @@ impl Lengths {
         line == text.as_slice()
     }
 
-    /// The parts one behind the other from a place on, if they end at this end.
+    /// The parts one after the other from a place on, if they end at this end.
     fn parts(&self, begin: u64, end: u64) -> Option<Bundle>
         requires allowed { AreAllowed (sizes_of self.now) }
         requires begin { begin ≤ 100 }

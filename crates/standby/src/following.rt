@@ -41,7 +41,7 @@ pub enum Followed {
     PutFault,
 }
 
-/// Commits the records of a text behind the store's number, each with a line that tells of it once it is sure, and tells
+/// Commits the records of a text after the store's number, each with a line that tells of it once it is durable, and tells
 /// the number at the end (docs/FORMATS.md, "Ship text"). It takes no memory.
 pub fn follow<W: Outside>(durable: &mut Durable, ship: &Ship, outside: &mut W) -> Followed
     requires ship { IsShip ship.now }

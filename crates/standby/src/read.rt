@@ -75,7 +75,7 @@ fn read_records(
     }
 }
 
-/// The record of so many lines that a text goes on with behind so many lines, and what stands behind it.
+/// The record of so many lines that a text goes on with after so many lines, and what comes after it.
 fn read_record<'a>(
     alloc: Global,
     room: &mut TextLine,
@@ -112,7 +112,7 @@ fn read_record<'a>(
     Ok((record, left))
 }
 
-/// What the first line of a text tells, and what stands behind it; none where it is no head.
+/// What the first line of a text tells, and what comes after it; none where it is no head.
 fn head_of<'a>(room: &mut TextLine, text: &'a [u8]) -> Option<(u16, u32, u64, &'a [u8])>
     ensures { MatchOption result
         ((bytes lines start : ℕ) (rest : List ℕ) → 1 ≤ bytes → bytes < 2 ^ 16 → lines < 2 ^ 32 → start < 2 ^ 64 → text.now ≢ head_line bytes lines start ++ rest)
@@ -134,7 +134,7 @@ fn head_of<'a>(room: &mut TextLine, text: &'a [u8]) -> Option<(u16, u32, u64, &'
 }
 
 /// How many lines the record with this number has whose first line a text begins with, at most so many, and what stands
-/// behind it; none where it begins with none.
+/// after it; none where it begins with none.
 fn count_of<'a>(
     room: &mut TextLine,
     number: u64,
@@ -159,7 +159,7 @@ fn count_of<'a>(
 }
 
 /// The number and the bytes of the line of a record that a text begins with, the number within bounds, and what stands
-/// behind it; none where it begins with none.
+/// after it; none where it begins with none.
 fn line_of<'a>(
     alloc: Global,
     room: &mut TextLine,
@@ -189,7 +189,7 @@ fn line_of<'a>(
     }
 }
 
-/// The bytes of a line whose digits a text begins with, to the end of a line of text, and what stands behind it.
+/// The bytes of a line whose digits a text begins with, to the end of a line of text, and what comes after it.
 fn held_of<'a>(
     alloc: Global,
     line_bytes: u16,

@@ -26,7 +26,7 @@ use text_line::TextLine;
 pub enum Shipped {
     /// To the last.
     Done,
-    /// Not at all: the bank doesn't keep all records behind the number.
+    /// Not at all: the bank doesn't keep all records after the number.
     NotKept,
     /// To one that the disk didn't give.
     DiskFault,
@@ -34,7 +34,7 @@ pub enum Shipped {
     PutFault,
 }
 
-/// Puts the records that the chosen bank has behind a number, as a ship text (docs/FORMATS.md, "Ship text"). It only asks
+/// Puts the records that the chosen bank has after a number, as a ship text (docs/FORMATS.md, "Ship text"). It only asks
 /// the disk, and takes no memory.
 pub fn ship<W: Outside>(durable: &Durable, outside: &mut W, from: u64) -> Shipped
     requires room { HoldsAtLeast W.Outside (total durable.now.header) outside.old }
@@ -58,7 +58,7 @@ pub fn ship<W: Outside>(durable: &Durable, outside: &mut W, from: u64) -> Shippe
     }
 }
 
-/// Puts the text of the records behind so many, the last of which has this number.
+/// Puts the text of the records after so many, the last of which has this number.
 fn put_text<W: Outside>(
     durable: &Durable,
     passed: u32,
@@ -101,7 +101,7 @@ fn put_text<W: Outside>(
     put_line(text.as_slice(), outside)
 }
 
-/// The place of the gate behind so many records.
+/// The place of the gate after so many records.
 fn place_behind<W: Outside>(durable: &Durable, passed: u32, outside: &mut W) -> Result<u32, Shipped>
     requires room { HoldsAtLeast W.Outside (total durable.now.header) outside.old }
     requires some { 0 < durable.now.header.bank_bytes }
@@ -122,7 +122,7 @@ fn place_behind<W: Outside>(durable: &Durable, passed: u32, outside: &mut W) -> 
     Ok(place)
 }
 
-/// Puts the records behind so many, the first of which has its gate at a place.
+/// Puts the records after so many, the first of which has its gate at a place.
 fn put_records<W: Outside>(
     durable: &Durable,
     passed: u32,

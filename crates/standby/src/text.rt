@@ -4,7 +4,7 @@ ghost use Rattle.standby.specs.declared.text.ShipFault.TheVariants.{Memory as me
 
 use std::alloc::{AllocError, AllocFailed};
 
-/// A record: the numbers of its lines, ascending, and their bytes, one line behind another.
+/// A record: the numbers of its lines, ascending, and their bytes, one line after another.
 #[derive(Drop)]
 pub struct ShipRecord {
     pub lines: Vec<u32>,

@@ -7,7 +7,7 @@ use hex::FromHexError;
 use std::alloc::{AllocError, Global};
 use text_line::{number, place_of};
 
-/// What stands in a text behind so many bytes; nothing where it has fewer.
+/// What stands in a text after so many bytes; nothing where it has fewer.
 pub fn skip(count: usize, text: &[u8]) -> &[u8]
     ensures { result.now ≡ drop count text.now }
 {
@@ -18,7 +18,7 @@ pub fn skip(count: usize, text: &[u8]) -> &[u8]
     }
 }
 
-/// The number that a text begins with in front of a byte, and what stands behind that; anything where it begins with none.
+/// The number that a text begins with in front of a byte, and what comes after that; anything where it begins with none.
 pub fn number_to(stop: u8, text: &[u8]) -> (u64, &[u8])
     requires { stop ≤ 32 }
     ensures { (n : ℕ) (rest : List ℕ) → n < 2 ^ 64 → text.now ≡ decimal n ++ stop ∷ rest → (result.0 ≡ n) × (result.1.now ≡ rest) }
@@ -29,7 +29,7 @@ pub fn number_to(stop: u8, text: &[u8]) -> (u64, &[u8])
     }
 }
 
-/// What stands in a text behind bytes; none where it doesn't begin with them.
+/// What stands in a text after bytes; none where it doesn't begin with them.
 pub fn behind<'a>(line: &[u8], text: &'a [u8]) -> Option<&'a [u8]>
     ensures { MatchOption result ((rest : List ℕ) → text.now ≢ line.now ++ rest) (λ rest. text.now ≡ line.now ++ rest.now) }
 {

@@ -10,7 +10,7 @@ use restart::Durable;
 use standby::{Shipped, ship};
 use std::alloc::Global;
 
-/// Prints the records that the disk's store keeps behind a number, as a ship text (docs/FORMATS.md, "Ship text").
+/// Prints the records that the disk's store keeps after a number, as a ship text (docs/FORMATS.md, "Ship text").
 pub fn ship_store<W: Outside>(alloc: Global, from: u64, outside: &mut W) -> Status
     ensures shipped { ShippedFrom W.Outside from (call outside.old outside.new [] result) }
     ensures unfailed { result ≡ Status.Done → W.put_faults outside.new ≡ W.put_faults outside.old }

@@ -107,7 +107,7 @@ fn leave_pages(table: &mut Table, buffer: &mut Tlb, first: u16, count: u16)
     }
 }
 
-/// Bytes become those of an image, and zeros after it. Behind those that were used they are zeros already.
+/// Bytes become those of an image, and zeros after it. After those that were used they are zeros already.
 fn lay_image(bytes: &mut [u8], image: &[u8], used: usize)
     requires image { length image.now ≤ length bytes.old }
     requires used { used ≤ length bytes.old }

@@ -26,7 +26,7 @@ use tlb_model::Tlb;
 /// (docs/MODEL.md). They agree: the table has a page of the store in a frame exactly where the pool has
 /// it there, and a seat's private pages in its private frames exactly where it is begun; each pair of the buffer is in
 /// the table; each row that is known is made ready of the private bytes of who is selected; and the private bytes of a seat
-/// behind those that were used are zeros. So no part is lent to be written.
+/// after those that were used are zeros. So no part is lent to be written.
 #[derive(Drop)]
 pub struct Unit {
     pub(crate) pool: FramePool,

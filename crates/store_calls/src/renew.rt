@@ -22,7 +22,7 @@ use text_line::TextLine;
 const OLD_PAGE: usize = 2_048;
 
 /// Makes a store of version 2 with a bank of so many bytes on an empty disk, from the store of version 1 that a source has:
-/// the same number and the same bytes, each segment with half as many pages of twice the size, and zeros behind its bytes
+/// the same number and the same bytes, each segment with half as many pages of twice the size, and zeros after its bytes
 /// where it had an odd page (docs/FORMATS.md, "Words"). One line tells how many bytes it has, and its number.
 pub fn renew_store<S: Source, W: Outside>(
     alloc: Global,
@@ -98,7 +98,7 @@ fn widened(old: &Directory) -> Directory
     }
 }
 
-/// Adds the bytes of these segments, each with zeros behind them up to a whole page of 4,096 bytes.
+/// Adds the bytes of these segments, each with zeros after them up to a whole page of 4,096 bytes.
 fn add_widened(segments: &[(u16, u16)], bytes: &[u8], image: &mut Vec<u8>) -> Result<(), AllocError>
     requires { length bytes.now ≡ sum_by (bytes_of 2048) segments.now }
     ensures { OnOk result (image.new.items ≡ image.old.items ++ widened_bytes segments.now bytes.now) }

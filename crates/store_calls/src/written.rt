@@ -15,7 +15,7 @@ use outside::{Failed, Outside};
 /// How many bytes the name has with which a store begins (docs/FORMATS.md, "Store").
 const NAME: u64 = 8;
 
-/// What stands there until the rest is sure.
+/// What stands there until the rest is durable.
 const UNNAMED: [u8; 8] = [0; 8];
 
 /// Asks whether the disk is empty.
@@ -61,8 +61,8 @@ pub(super) fn write_store<W: Outside>(image: &[u8], line: &[u8], outside: &mut W
     }
 }
 
-/// Writes an image on an empty disk and makes it sure. Zeros come first where its name will be, then the rest, and last the name,
-/// each made sure before the next: so whenever a crash comes, it leaves no store or the whole one (docs/FORMATS.md, "Protocols").
+/// Writes an image on an empty disk and makes it durable. Zeros come first where its name will be, then the rest, and last the name,
+/// each made durable before the next: so whenever a crash comes, it leaves no store or the whole one (docs/FORMATS.md, "Protocols").
 fn write<W: Outside>(image: &[u8], outside: &mut W) -> Result<(), Failed>
     requires named { take 8 image.now ≡ codes "801STORE" }
     requires empty { IsSome (W.held outside.old) → held_of W.Outside outside.old ≡ [] }
@@ -77,7 +77,7 @@ fn write<W: Outside>(image: &[u8], outside: &mut W) -> Result<(), Failed>
     fill(image, outside)
 }
 
-/// Writes the rest of an image behind the place of its name, and then the name.
+/// Writes the rest of an image after the place of its name, and then the name.
 fn fill<W: Outside>(image: &[u8], outside: &mut W) -> Result<(), Failed>
     requires named { take 8 image.now ≡ codes "801STORE" }
     requires begun { IsSome (W.held outside.old) → held_of W.Outside outside.old ≡ replicate 8 0 }

@@ -87,7 +87,7 @@ fn header_fault(head: &[u8; HEADER_BYTES], length: u64) -> Option<u64>
         .or(spare_fault(head, length, page_of(version), listed))
 }
 
-/// The first fault behind so many entries: in the unused ones, the flags, and the zeros.
+/// The first fault after so many entries: in the unused ones, the flags, and the zeros.
 fn spare_fault(head: &[u8; HEADER_BYTES], length: u64, page: PageSize, listed: u16) -> Option<u64>
     requires { listed ≤ 15 }
     ensures { result ≡ first_fault length (spare_fields page head.now listed) }

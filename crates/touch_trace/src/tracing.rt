@@ -72,7 +72,7 @@ fn first_commit<'a>(report: &'a [OwnedLine], activation: u32) -> Option<(usize, 
     None
 }
 
-/// The touches of a commit line behind others, if it is sound. Its program runs on the store of the check itself.
+/// The touches of a commit line after others, if it is sound. Its program runs on the store of the check itself.
 fn touches_of(
     alloc: Global,
     directory: &Directory,

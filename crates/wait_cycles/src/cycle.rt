@@ -7,7 +7,7 @@ ghost use Rattle.wait_cycles.specs.Rows.{is_on, waits_in, places, places_of};
 use arrayvec::ArrayVec;
 
 /// The shown cycle from a place: it begins with it, and each next member is the least place that the last one waits for
-/// and from which waits lead back. It ends with the place where every cycle of waits goes through it, and anyway behind
+/// and from which waits lead back. It ends with the place where every cycle of waits goes through it, and anyway after
 /// as many steps as there are rows. None exactly where waits don't lead from the place to itself. There are sixteen rows
 /// at most, and place i waits for place j where bit j of row i is on; places ascend by activation. It takes no memory
 /// (docs/MODEL.md, "Lines, locks and waits").

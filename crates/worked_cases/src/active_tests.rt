@@ -48,7 +48,7 @@ const AFTER_NOON: &str =
     begin 11 move\nbegin 12 dep\nturn 9 ran 4 page 1 lock 2\ncommit 9 number 8 steps 11 out -\n\
     turn 12 ran 5 page 0 lock 2\nlost 11\nlost 12\n";
 
-/// A schedule, the frames for its pages, the call that the disk refuses, and what it comes to: the parts of its report behind
+/// A schedule, the frames for its pages, the call that the disk refuses, and what it comes to: the parts of its report after
 /// the line that opens it, and the number with which the store opens then, where that is asked.
 struct Row {
     name: &'static str,
