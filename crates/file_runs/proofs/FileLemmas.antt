@@ -1,5 +1,5 @@
 -- From what the console did on an outside to what it did on the file and the screen behind it.
-use Rattle.outside.proofs.Common.{◌≡◌, ℕ, ◌+◌, ◌≤◌, List, [], ◌∷◌, length, drop, refl, sym, ◌∙◌, ap, subst, arith, suc, AreTold, Option, Result, Some, IsSome, unwrap_or, Leaves, AsksAndPuts, OnlyAsks, None}
+use Rattle.outside.proofs.Common.{◌≡◌, ℕ, ◌+◌, ◌≤◌, List, [], ◌∷◌, length, length-append, take, drop, refl, sym, ◌∙◌, ap, subst, arith, suc, AreTold, Option, Result, Some, IsSome, unwrap_or, Leaves, AsksAndPuts, OnlyAsks, None}
 use Rattle.std.proofs.lemmas.List.{nil_from_length}
 use Rattle.outside.specs.declared.world.Outside.{Ghosts}
 use Rattle.std.specs.Prelude.{count_by}
@@ -27,7 +27,7 @@ use Rattle.outside.specs.Runs.{held_of}
 use Rattle.job_calls.specs.Headline.{Happened, RanJob, Refused, job_desk, names_of}
 use Rattle.real_files.specs.Deeds.{Deed, images_at, is_write}
 use Rattle.real_files.specs.Shown.{bytes_of, printed_of, marks_of}
-use Rattle.file_runs.specs.FileRun.{AreBehind, Hands, IsBehind, IsSeenAt, KeepsFile, LeavesAt, LeavesLast, OnlyAsked, RanOnFile, RanOnScreen, RunsFrom, RunsOnFile, begun_by}
+use Rattle.file_runs.specs.FileRun.{AreBehind, Hands, IsBehind, IsSeenAt, KeepsFile, LeavesAlways, LeavesAt, LeavesLast, OnlyAsked, RanOnFile, RanOnScreen, RunsFrom, RunsOnFile, begun_by}
 
 -- nothing was printed before the first put
 none_before : (puts : List Deed) → printed_before (marks_of 0 puts) (length (printed_of puts)) 0 ≡ 0
@@ -43,6 +43,30 @@ told_is None left has is = cc
 pub marks_counted : (before : ℕ) (puts : List Deed) → length (marks_of before puts) ≡ length puts
 marks_counted before [] = refl
 marks_counted before (put ∷ puts) = ap suc (marks_counted (before + length (bytes_of put)) puts)
+
+-- no fewer bytes stood before a put than before the first
+from_first : (before : ℕ) (puts : List Deed) (count at : ℕ) → before + length (printed_of puts) ≤ count → before ≤ printed_before (marks_of before puts) count at
+from_first before [] count at few = omega (arith, few)
+from_first before (put ∷ puts) count at few =
+    let all = length-append (bytes_of put) (printed_of puts) in
+    let rest = from_first (before + length (bytes_of put)) puts count at (omega (arith, few, all)) in
+    grind (arith, nat_tests)
+
+-- nor before the first put at one deed more
+later_more : (before : ℕ) (puts : List Deed) (count at : ℕ) → before + length (printed_of puts) ≤ count → printed_before (marks_of before puts) count at ≤ printed_before (marks_of before puts) count (at + 1)
+later_more before [] count at few = omega arith
+later_more before (put ∷ puts) count at few =
+    let all = length-append (bytes_of put) (printed_of puts) in
+    let enough : before + length (bytes_of put) + length (printed_of puts) ≤ count = omega (arith, few, all) in
+    let rest = later_more (before + length (bytes_of put)) puts count at enough in
+    let least = from_first (before + length (bytes_of put)) puts count (at + 1) enough in
+    grind (arith, nat_tests)
+
+-- so at each number of deeds something may have been seen
+seen_at : (puts : List Deed) (done : ℕ) → (seen : List ℕ) × IsSeenAt puts done seen
+seen_at puts done =
+    let count = printed_before (marks_of 0 puts) (length (printed_of puts)) done in
+    (take count (printed_of puts), record { count = count; is_seen = refl; ended = omega arith; not_begun = later_more 0 puts (length (printed_of puts)) done (omega arith) })
 
 module _ {W : Type 0} (G : Ghosts W) (before after : W) (first : List ℕ) (puts : List Deed) (behind : IsBehind G before after first puts) where
   pub told : IsSome (G.held before)
@@ -135,6 +159,11 @@ module _ {W : Type 0} (G : Ghosts W) (before after : W) (first : List ℕ) (deed
   pub leaves_at : (P : List ℕ → List ℕ → Type 0) → Leaves G P before after → LeavesAt first deeds puts P
   leaves_at P leaves done image seen within is_image seen_at = leaves image seen (since_start done image seen within is_image seen_at)
 
+  pub leaves_always : (P : List ℕ → Type 0) → Leaves G (λ image seen. P image) before after → LeavesAlways first deeds P
+  leaves_always P leaves done image within is_image =
+      let its = seen_at puts done in
+      leaves image its.0 (since_start done image its.0 within is_image its.1)
+
   -- where as many writes succeeded as before, none did
   unwritten : G.writes after ≡ G.writes before → count_by is_write deeds ≡ 0
   unwritten same =
@@ -142,10 +171,10 @@ module _ {W : Type 0} (G : Ghosts W) (before after : W) (first : List ℕ) (deed
       cc
 
   -- where each pair has an image of the start, the file keeps its bytes
-  pub keeps : AsksAndPuts G before after → KeepsFile first deeds puts
+  pub keeps : AsksAndPuts G before after → KeepsFile first deeds
   keeps only = record {
     unwritten = unwritten only.writes;
-    kept = leaves_at (λ image seen. image ≡ first) (λ image seen was.
+    kept = leaves_always (λ image. image ≡ first) (λ image seen was.
         let begun = only.images (told G before after first puts behind.screen) image seen was in
         behind.screen.left image begun.0 begun.1);
   }
@@ -155,7 +184,7 @@ module _ {W : Type 0} (G : Ghosts W) (before after : W) (first : List ℕ) (deed
     unput = unput G before after first puts behind.screen asks.calls.puts;
     keeps = record {
       unwritten = unwritten asks.writes;
-      kept = leaves_at (λ image seen. image ≡ first) (λ image seen was. behind.screen.left image seen (asks.crash (told G before after first puts behind.screen) image seen was));
+      kept = leaves_always (λ image. image ≡ first) (λ image seen was. behind.screen.left image seen (asks.crash (told G before after first puts behind.screen) image seen was));
     };
   }
 

@@ -9,7 +9,7 @@ use Rattle.store_calls.specs.Renewed.{IsRenewed, Renewed}
 use Rattle.real_files.specs.Deeds.{Deed}
 use Rattle.file_runs.specs.FileRun.{AreBehind, LeavesLast}
 use Rattle.file_runs.specs.FileMade.{RenewedOnFile, WritesBy, WroteWidened, WrittenOnFile}
-use Rattle.file_runs.proofs.FileLemmas.{handed, held_is, leaves_at, nothing, only_asked, sure_last, told, unprinted}
+use Rattle.file_runs.proofs.FileLemmas.{handed, held_is, leaves_always, nothing, only_asked, sure_last, told, unprinted}
 
 module _ {W : Type 0} (G : Ghosts W) (before after : W) (first : List ℕ) (deeds puts : List Deed) (behind : AreBehind G before after first deeds puts) where
   has_told : IsSome (G.held before)
@@ -35,8 +35,8 @@ module _ {W : Type 0} (G : Ghosts W) (before after : W) (first : List ℕ) (deed
 
     pub write_on_file : (order : List (ℕ × ℕ)) (end : Status) → Written G image line (call before after order end) → WrittenOnFile image line first deeds puts end
     write_on_file order end did = record {
-      whole = λ none. leaves_at G before after first deeds puts behind (λ left seen. IsNoStore left ⊎ (left ≡ image)) (did.whole behind.screen.honest has_told (λ left seen was. behind.screen.left left seen was ∙ none));
-      torn = leaves_at G before after first deeds puts behind (λ left seen. Torn 0 (length image) first left) (λ left seen was.
+      whole = λ none. leaves_always G before after first deeds puts behind (λ left. IsNoStore left ⊎ (left ≡ image)) (did.whole behind.screen.honest has_told (λ left seen was. behind.screen.left left seen was ∙ none));
+      torn = leaves_always G before after first deeds puts behind (λ left. Torn 0 (length image) first left) (λ left seen was.
           let its = did.crash behind.screen.honest has_told left seen was in
           subst (λ (start : List ℕ). Torn 0 (length image) start left) (behind.screen.left its.0 its.1 its.2) its.3);
       full = λ some. only_asked G before after first deeds puts behind (did.full has_told (subst (λ (bytes : List ℕ). 0 < length bytes) (sym same) some));

@@ -11,7 +11,7 @@ use Rattle.store_calls.specs.New.{IsNoStore}
 use Rattle.store_calls.specs.Renewed.{IsNoOne, renew_line, renewed_image, standing_as_one, widened}
 use Rattle.real_files.specs.Deeds.{Deed}
 use Rattle.real_files.specs.Shown.{printed_of}
-use Rattle.file_runs.specs.FileRun.{Hands, LeavesAt, LeavesLast, OnlyAsked}
+use Rattle.file_runs.specs.FileRun.{Hands, LeavesAlways, LeavesLast, OnlyAsked}
 
 -- How writing an image and then a line ended: the file gave no bytes, and the image is left and nothing else; or a call of the file failed, and nothing was
 -- handed to the screen; or the file was only asked, as there are bytes in it or no memory. Other ends don't come.
@@ -26,9 +26,9 @@ WritesBy image line first deeds puts _ = ⊥
 -- An image was written into a file that gave these bytes, and told by a line.
 pub record WrittenOnFile (image line first : List ℕ) (deeds puts : List Deed) (end : Status) : Type 0 where
   -- where the file gave none, whenever the machine stops no store is left, or the whole one
-  pub whole : first ≡ [] → LeavesAt first deeds puts (λ left seen. IsNoStore left ⊎ (left ≡ image))
+  pub whole : first ≡ [] → LeavesAlways first deeds (λ left. IsNoStore left ⊎ (left ≡ image))
   -- and in any case what the file gave, but for the range of the new store
-  pub torn : LeavesAt first deeds puts (λ left seen. Torn 0 (length image) first left)
+  pub torn : LeavesAlways first deeds (λ left. Torn 0 (length image) first left)
   -- a file that gave some keeps them
   pub full : 0 < length first → OnlyAsked first deeds puts
   pub by_end : WritesBy image line first deeds puts end

@@ -38,19 +38,23 @@ pub record IsSeenAt (puts : List Deed) (deeds : ℕ) (seen : List ℕ) : Type 0 
 abbrev pub LeavesAt : (first : List ℕ) (deeds puts : List Deed) → (List ℕ → List ℕ → Type 0) → Type 0
 LeavesAt first deeds puts P = (done : ℕ) (image seen : List ℕ) → done ≤ length deeds → images_at first deeds done image → IsSeenAt puts done seen → P image seen
 
--- each image that all deeds may leave has this
+-- so has each image that any number of the deeds may leave
+abbrev pub LeavesAlways : (first : List ℕ) (deeds : List Deed) → (List ℕ → Type 0) → Type 0
+LeavesAlways first deeds P = (done : ℕ) (image : List ℕ) → done ≤ length deeds → images_at first deeds done image → P image
+
+-- and each that all of them may leave
 abbrev pub LeavesLast : (first : List ℕ) (deeds : List Deed) → (List ℕ → Type 0) → Type 0
 LeavesLast first deeds P = (image : List ℕ) → images_at first deeds (length deeds) image → P image
 
--- No write of the file succeeded, and whenever the machine stops the bytes that it gave are left: it was asked for syncs, or for a failed write of nothing.
-pub record KeepsFile (first : List ℕ) (deeds puts : List Deed) : Type 0 where
+-- No write of the file succeeded, and whenever the machine stops the bytes that it gave are left.
+pub record KeepsFile (first : List ℕ) (deeds : List Deed) : Type 0 where
   pub unwritten : count_by is_write deeds ≡ 0
-  pub kept : LeavesAt first deeds puts (λ image seen. image ≡ first)
+  pub kept : LeavesAlways first deeds (λ image. image ≡ first)
 
 -- and nothing was handed to the screen
 pub record OnlyAsked (first : List ℕ) (deeds puts : List Deed) : Type 0 where
   pub unput : puts ≡ []
-  pub keeps : KeepsFile first deeds puts
+  pub keeps : KeepsFile first deeds
 
 -- this text was handed to the screen, or a first part of it where the end isn't Done
 abbrev pub Hands : (puts : List Deed) (text : List ℕ) (end : Status) → Type 0

@@ -40,7 +40,7 @@ ShowsBy range first puts _ = ⊥
 
 -- `show` on a file that gave these bytes, which it keeps.
 pub record ShownOnFile (range : Range) (first : List ℕ) (deeds puts : List Deed) (end : Status) : Type 0 where
-  pub keeps : KeepsFile first deeds puts
+  pub keeps : KeepsFile first deeds
   pub shows : ShowsBy range first puts end
 
 -- The bytes show a store that keeps all records behind the number, and the ship text of these was handed to the screen.
@@ -71,5 +71,5 @@ ShipsBy from first puts _ = ⊥
 
 -- `ship` on a file that gave these bytes, which it keeps.
 pub record ShippedOnFile (from : ℕ) (first : List ℕ) (deeds puts : List Deed) (end : Status) : Type 0 where
-  pub keeps : KeepsFile first deeds puts
+  pub keeps : KeepsFile first deeds
   pub ships : ShipsBy from first puts end
