@@ -1,8 +1,11 @@
 -- From what the console did on an outside to what it did on the file and the screen behind it.
-use Rattle.outside.proofs.Common.{◌≡◌, ℕ, ◌+◌, ◌≤◌, List, [], ◌∷◌, length, length-append, take, drop, refl, sym, ◌∙◌, ap, subst, arith, suc, AreTold, Option, Result, Some, IsSome, unwrap_or, Leaves, AsksAndPuts, OnlyAsks, None}
-use Rattle.std.proofs.lemmas.List.{nil_from_length}
+use Rattle.outside.proofs.Common.{◌≡◌, ◌⊎◌, inl, inr, ⊎_elim, zero, ℕ, ◌+◌, ◌≤◌, List, [], ◌∷◌, ◌++◌, append_assoc, Torn, written, length, length-append, take, drop, refl, sym, ◌∙◌, ap, subst, arith, suc, AreTold, Option, Result, Some, IsSome, unwrap_or, Leaves, AsksAndPuts, OnlyAsks, None}
+use Rattle.std.proofs.lemmas.List.{append_cancel_left, nil_from_length, take_all}
+use Rattle.std.proofs.lemmas.List.Elements.{All-nil, All-cons}
+use Rattle.outside.proofs.Torn.{torn_by_written, untouched}
 use Rattle.outside.specs.declared.world.Outside.{Ghosts}
-use Rattle.std.specs.Prelude.{count_by}
+use Rattle.std.specs.Prelude.{All, cond, count_by}
+use Rattle.std.proofs.lemmas.List.Sums.{sum_by-cons}
 use Rattle.std.proofs.lemmas.Bool.Decides.{nat_tests}
 use Rattle.outside.specs.Clock.{printed_before}
 use Rattle.outside.specs.Moments.{Moment}
@@ -25,9 +28,9 @@ use Rattle.outside.specs.Bytes.{Prints}
 use Rattle.outside.specs.declared.failed.Failed.{Failed}
 use Rattle.outside.specs.Runs.{held_of}
 use Rattle.job_calls.specs.Headline.{Happened, RanJob, Refused, job_desk, names_of}
-use Rattle.real_files.specs.Deeds.{Deed, images_at, is_write}
+use Rattle.real_files.specs.Deeds.{Deed, Wrote, Tore, Synced, Unsynced, images_after, images_at, images_by, is_write}
 use Rattle.real_files.specs.Shown.{bytes_of, printed_of, marks_of}
-use Rattle.file_runs.specs.FileRun.{AreBehind, Hands, IsBehind, IsSeenAt, KeepsFile, LeavesAlways, LeavesAt, LeavesLast, OnlyAsked, RanOnFile, RanOnScreen, RunsFrom, RunsOnFile, begun_by}
+use Rattle.file_runs.specs.FileRun.{AreBehind, Hands, IsBehind, IsQuiet, IsSeenAt, KeepsFile, LeavesAlways, LeavesAt, LeavesLast, OnlyAsked, RanOnFile, RanOnScreen, RunsFrom, RunsOnFile, begun_by}
 
 -- nothing was printed before the first put
 none_before : (puts : List Deed) → printed_before (marks_of 0 puts) (length (printed_of puts)) 0 ≡ 0
@@ -43,6 +46,51 @@ told_is None left has is = cc
 pub marks_counted : (before : ℕ) (puts : List Deed) → length (marks_of before puts) ≡ length puts
 marks_counted before [] = refl
 marks_counted before (put ∷ puts) = ap suc (marks_counted (before + length (bytes_of put)) puts)
+
+-- a number is at most another, or more
+at_or_after : (a b : ℕ) → (a ≤ b) ⊎ (b + 1 ≤ a)
+at_or_after zero b = inl (omega arith)
+at_or_after (suc a) zero = inr (omega arith)
+at_or_after (suc a) (suc b) = ⊎_elim (λ le. inl (omega (arith, le))) (λ more. inr (omega (arith, more))) (at_or_after a b)
+
+-- a failed write of some bytes may leave two images
+no_bytes : (first held : List ℕ) (images : List ℕ → Type 0) (at : ℕ) (bytes : List ℕ) → images held → ((image : List ℕ) → images_by (Tore at bytes) held images image → image ≡ first) → bytes ≡ []
+no_bytes first held images at [] now kept = refl
+no_bytes first held images at (b ∷ bs) now kept =
+    let rest = drop (at + length (b ∷ bs)) held in
+    let one : written held at (b ∷ bs) ≡ first = kept (written held at (b ∷ bs)) (inl refl) in
+    ⊎_elim
+    (λ within.
+    let torn : Torn at (length (b ∷ bs)) held (written held at (suc b ∷ bs)) = torn_by_written held at (suc b ∷ bs) within (length (b ∷ bs)) (omega arith) in
+    let other : written held at (suc b ∷ bs) ≡ first = kept (written held at (suc b ∷ bs)) (inr (held, now, torn)) in
+    let both : take at held ++ (b ∷ (bs ++ rest)) ≡ take at held ++ (suc b ∷ (bs ++ rest)) = sym (append_assoc (take at held) (b ∷ bs) rest) ∙ one ∙ sym other ∙ append_assoc (take at held) (suc b ∷ bs) rest in
+    let same : b ∷ (bs ++ rest) ≡ suc b ∷ (bs ++ rest) = append_cancel_left (take at held) (b ∷ (bs ++ rest)) (suc b ∷ (bs ++ rest)) both in
+    let heads : b ≡ suc b = cc in
+    absurd (omega (arith, heads)))
+    (λ beyond.
+    let other : held ≡ first = kept held (inr (held, now, untouched at (length (b ∷ bs)) held)) in
+    let longer : length (written held at (b ∷ bs)) ≡ length held = ap (λ (these : List ℕ). length these) (one ∙ sym other) in
+    let all : length (take at held) ≡ length held = ap (λ (these : List ℕ). length these) (take_all at held (omega (arith, beyond))) in
+    absurd (omega (arith, longer, all, length-append (take at held ++ (b ∷ bs)) rest, length-append (take at held) (b ∷ bs))))
+    (at_or_after at (length held))
+
+-- so where no write succeeded and one image alone may be left, the deeds change nothing
+quiet_by : (first held : List ℕ) (images : List ℕ → Type 0) (deeds : List Deed) → images held → count_by is_write deeds ≡ 0
+    → ((done : ℕ) (image : List ℕ) → done ≤ length deeds → images_after held images (take done deeds) image → image ≡ first) → All IsQuiet deeds
+quiet_by first held images [] now none kept = All-nil IsQuiet
+quiet_by first held images (Wrote at bytes ∷ deeds) now none kept =
+    let more : count_by is_write (Wrote at bytes ∷ deeds) ≡ 1 + count_by is_write deeds = sum_by-cons (λ deed. cond (is_write deed) 1 0) (Wrote at bytes) deeds in
+    absurd (omega (arith, more, none))
+quiet_by first held images (Tore at bytes ∷ deeds) now none kept =
+    All-cons IsQuiet (Tore at bytes) deeds (no_bytes first held images at bytes now (λ image left. kept 1 image (omega arith) left))
+    (quiet_by first (written held at bytes) (images_by (Tore at bytes) held images) deeds (inl refl) none (λ done image few left. kept (suc done) image (omega (arith, few)) left))
+quiet_by first held images (Synced ∷ deeds) now none kept =
+    All-cons IsQuiet Synced deeds tt (quiet_by first held (λ image. image ≡ held) deeds refl none (λ done image few left. kept (suc done) image (omega (arith, few)) left))
+quiet_by first held images (Unsynced ∷ deeds) now none kept =
+    All-cons IsQuiet Unsynced deeds tt (quiet_by first held images deeds now none (λ done image few left. kept (suc done) image (omega (arith, few)) left))
+
+keeps_file : (first : List ℕ) (deeds : List Deed) → count_by is_write deeds ≡ 0 → LeavesAlways first deeds (λ image. image ≡ first) → KeepsFile first deeds
+keeps_file first deeds none kept = record { quiet = quiet_by first first (λ image. image ≡ first) deeds refl none kept; kept = kept }
 
 -- no fewer bytes stood before a put than before the first
 from_first : (before : ℕ) (puts : List Deed) (count at : ℕ) → before + length (printed_of puts) ≤ count → before ≤ printed_before (marks_of before puts) count at
@@ -172,20 +220,15 @@ module _ {W : Type 0} (G : Ghosts W) (before after : W) (first : List ℕ) (deed
 
   -- where each pair has an image of the start, the file keeps its bytes
   pub keeps : AsksAndPuts G before after → KeepsFile first deeds
-  keeps only = record {
-    unwritten = unwritten only.writes;
-    kept = leaves_always (λ image. image ≡ first) (λ image seen was.
-        let begun = only.images (told G before after first puts behind.screen) image seen was in
-        behind.screen.left image begun.0 begun.1);
-  }
+  keeps only = keeps_file first deeds (unwritten only.writes) (leaves_always (λ image. image ≡ first) (λ image seen was.
+      let begun = only.images (told G before after first puts behind.screen) image seen was in
+      behind.screen.left image begun.0 begun.1))
 
   pub only_asked : OnlyAsks G before after → OnlyAsked first deeds puts
   only_asked asks = record {
     unput = unput G before after first puts behind.screen asks.calls.puts;
-    keeps = record {
-      unwritten = unwritten asks.writes;
-      kept = leaves_always (λ image. image ≡ first) (λ image seen was. behind.screen.left image seen (asks.crash (told G before after first puts behind.screen) image seen was));
-    };
+    keeps = keeps_file first deeds (unwritten asks.writes) (leaves_always (λ image. image ≡ first) (λ image seen was.
+        behind.screen.left image seen (asks.crash (told G before after first puts behind.screen) image seen was)));
   }
 
   -- where nothing was called, nothing was asked

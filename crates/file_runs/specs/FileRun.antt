@@ -1,5 +1,5 @@
 -- What a run left of a file and a screen, in the words of what was asked of them.
-use Rattle.std.specs.Prelude.{◌≡◌, ℕ, ◌+◌, ◌≤◌, List, [], length, take, count_by, Option, None, Some, Result, Ok, IsTrue}
+use Rattle.std.specs.Prelude.{◌≡◌, ℕ, ◌+◌, ◌≤◌, List, [], length, take, count_by, All, Option, None, Some, Result, Ok, IsTrue}
 use Rattle.outside.specs.declared.failed.Failed.{Failed}
 use Rattle.outside.specs.Bytes.{Prints}
 use Rattle.outside.specs.declared.world.Outside.{Ghosts}
@@ -24,7 +24,7 @@ use Rattle.call_status.specs.Opening.{IsFaultAt}
 use Rattle.call_status.specs.Printed.{PrintsBy}
 use Rattle.supervisor.specs.declared.session.Session.{Session}
 use Rattle.job_calls.specs.Headline.{ByOpening, job_desk, names_of, put_by}
-use Rattle.real_files.specs.Deeds.{Deed, images_at, is_write}
+use Rattle.real_files.specs.Deeds.{Deed, Wrote, Tore, Synced, Unsynced, images_at, is_write}
 use Rattle.real_files.specs.Shown.{printed_of, marks_of}
 
 -- What may have been seen of these puts when so many deeds were done: all that were made at fewer, and of those made at that many a first part.
@@ -46,9 +46,16 @@ LeavesAlways first deeds P = (done : ℕ) (image : List ℕ) → done ≤ length
 abbrev pub LeavesLast : (first : List ℕ) (deeds : List Deed) → (List ℕ → Type 0) → Type 0
 LeavesLast first deeds P = (image : List ℕ) → images_at first deeds (length deeds) image → P image
 
--- No write of the file succeeded, and whenever the machine stops the bytes that it gave are left.
+-- a deed that changes nothing: a sync, or a failed write of no bytes
+abbrev pub IsQuiet : Deed → Type 0
+IsQuiet (Wrote at bytes) = ⊥
+IsQuiet (Tore at bytes) = bytes ≡ []
+IsQuiet Synced = Unit {0}
+IsQuiet Unsynced = Unit {0}
+
+-- Nothing else was asked of the file, and whenever the machine stops the bytes that it gave are left.
 pub record KeepsFile (first : List ℕ) (deeds : List Deed) : Type 0 where
-  pub unwritten : count_by is_write deeds ≡ 0
+  pub quiet : All IsQuiet deeds
   pub kept : LeavesAlways first deeds (λ image. image ≡ first)
 
 -- and nothing was handed to the screen
