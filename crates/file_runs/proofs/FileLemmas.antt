@@ -1,16 +1,22 @@
 -- From what the console did on an outside to what it did on the file and the screen behind it.
-use Rattle.outside.proofs.Common.{◌≡◌, ℕ, ◌+◌, ◌≤◌, List, [], ◌∷◌, length, drop, refl, sym, ◌∙◌, ap, subst, arith, Option, Some, IsSome, unwrap_or, Leaves}
+use Rattle.outside.proofs.Common.{◌≡◌, ◌⊎◌, inl, inr, ⊎_elim, zero, ℕ, ◌+◌, ◌≤◌, List, [], ◌∷◌, ◌++◌, append_assoc, Torn, written, length, length-append, take, drop, refl, sym, ◌∙◌, ap, subst, arith, suc, AreTold, Option, Result, Some, IsSome, unwrap_or, Leaves, AsksAndPuts, OnlyAsks, None}
+use Rattle.std.proofs.lemmas.List.{append_cancel_left, nil_from_length, take_all}
+use Rattle.std.proofs.lemmas.List.Elements.{All-nil, All-cons}
+use Rattle.outside.proofs.Torn.{torn_by_written, untouched}
 use Rattle.outside.specs.declared.world.Outside.{Ghosts}
-use Rattle.std.specs.Prelude.{IsTrue}
+use Rattle.std.specs.Prelude.{All, cond, count_by}
+use Rattle.std.proofs.lemmas.List.Sums.{sum_by-cons}
 use Rattle.std.proofs.lemmas.Bool.Decides.{nat_tests}
-use Rattle.outside.specs.Clock.{LeftAt, printed_before}
+use Rattle.outside.specs.Clock.{printed_before}
 use Rattle.outside.specs.Moments.{Moment}
+use Rattle.outside.specs.Durable.{IsSure}
 use Rattle.line_geometry.specs.FlatStore.{FlatStore}
 use Rattle.store_format.specs.Stands.{Stands, stands}
 use Rattle.desk.specs.Commits.{begun, IsSerial}
 use Rattle.run_law.specs.Headline.{IsPrefix}
-use Rattle.call_status.specs.Call.{Call, Given, call}
-use Rattle.call_status.specs.Opening.{StandsAt}
+use Rattle.call_status.specs.Call.{Given, call}
+use Rattle.call_status.specs.Opening.{IsFaultAt, StandsAt}
+use Rattle.call_status.specs.Printed.{PrintsBy}
 use Rattle.call_status.specs.declared.status.Status.{Status}
 use Rattle.call_status.specs.declared.status.Status.TheVariants as status
 use Rattle.supervisor.specs.declared.session.Session.{Session}
@@ -19,34 +25,171 @@ use Rattle.desk.specs.Desk.{Desk}
 use Rattle.desk.specs.Run.{IsRunOf, run}
 use Rattle.desk.specs.Lines.{Line}
 use Rattle.outside.specs.Bytes.{Prints}
+use Rattle.outside.specs.declared.failed.Failed.{Failed}
 use Rattle.outside.specs.Runs.{held_of}
-use Rattle.job_calls.specs.Headline.{ByOpening, DidBy, Happened, Untouched, RanJob, job_desk, names_of}
-use Rattle.real_files.specs.Deeds.{Deed, images_at}
-use Rattle.real_files.specs.Shown.{printed_of, marks_of}
-use Rattle.file_runs.specs.FileRun.{IsSeenAt, RanOnFile, begun_by}
+use Rattle.job_calls.specs.Headline.{Happened, RanJob, Refused, job_desk, names_of}
+use Rattle.real_files.specs.Deeds.{Deed, Wrote, Tore, Synced, Unsynced, images_after, images_at, images_by, is_write}
+use Rattle.real_files.specs.Shown.{bytes_of, printed_of, marks_of}
+use Rattle.file_runs.specs.FileRun.{AreBehind, Hands, IsBehind, IsQuiet, IsSeenAt, KeepsFile, LeavesAlways, LeavesAt, LeavesLast, OnlyAsked, RanOnFile, RanOnScreen, RunsFrom, RunsOnFile, begun_by}
 
 -- nothing was printed before the first put
 none_before : (puts : List Deed) → printed_before (marks_of 0 puts) (length (printed_of puts)) 0 ≡ 0
 none_before [] = refl
 none_before (put ∷ puts) = grind (arith, nat_tests)
 
-module _ {W : Type 0} (G : Ghosts W) (before after : W) (first : List ℕ) (deeds puts : List Deed)
-    (honest : IsTrue (G.is_honest before)) (held : G.held before ≡ Some first) (none : G.printed before ≡ Some []) (shown : G.printed after ≡ Some (printed_of puts))
-    (left : Leaves G (λ image seen. image ≡ first) before before) (moment : G.moment before ≡ begun_by first)
-    (now : (t : Moment) (image seen : List ℕ) → LeftAt (length deeds) (images_at first deeds) (marks_of 0 puts) (printed_of puts) t image seen → G.left_since after t image seen) where
+-- bytes that are told are the ones
+told_is : (those : Option (List ℕ)) (left : List ℕ) → IsSome those → AreTold those left → left ≡ unwrap_or those []
+told_is (Some bytes) left has is = is
+told_is None left has is = cc
+
+-- a mark for each put
+pub marks_counted : (before : ℕ) (puts : List Deed) → length (marks_of before puts) ≡ length puts
+marks_counted before [] = refl
+marks_counted before (put ∷ puts) = ap suc (marks_counted (before + length (bytes_of put)) puts)
+
+-- a number is at most another, or more
+at_or_after : (a b : ℕ) → (a ≤ b) ⊎ (b + 1 ≤ a)
+at_or_after zero b = inl (omega arith)
+at_or_after (suc a) zero = inr (omega arith)
+at_or_after (suc a) (suc b) = ⊎_elim (λ le. inl (omega (arith, le))) (λ more. inr (omega (arith, more))) (at_or_after a b)
+
+-- a failed write of some bytes may leave two images
+no_bytes : (first held : List ℕ) (images : List ℕ → Type 0) (at : ℕ) (bytes : List ℕ) → images held → ((image : List ℕ) → images_by (Tore at bytes) held images image → image ≡ first) → bytes ≡ []
+no_bytes first held images at [] now kept = refl
+no_bytes first held images at (b ∷ bs) now kept =
+    let rest = drop (at + length (b ∷ bs)) held in
+    let one : written held at (b ∷ bs) ≡ first = kept (written held at (b ∷ bs)) (inl refl) in
+    ⊎_elim
+    (λ within.
+    let torn : Torn at (length (b ∷ bs)) held (written held at (suc b ∷ bs)) = torn_by_written held at (suc b ∷ bs) within (length (b ∷ bs)) (omega arith) in
+    let other : written held at (suc b ∷ bs) ≡ first = kept (written held at (suc b ∷ bs)) (inr (held, now, torn)) in
+    let both : take at held ++ (b ∷ (bs ++ rest)) ≡ take at held ++ (suc b ∷ (bs ++ rest)) = sym (append_assoc (take at held) (b ∷ bs) rest) ∙ one ∙ sym other ∙ append_assoc (take at held) (suc b ∷ bs) rest in
+    let same : b ∷ (bs ++ rest) ≡ suc b ∷ (bs ++ rest) = append_cancel_left (take at held) (b ∷ (bs ++ rest)) (suc b ∷ (bs ++ rest)) both in
+    let heads : b ≡ suc b = cc in
+    absurd (omega (arith, heads)))
+    (λ beyond.
+    let other : held ≡ first = kept held (inr (held, now, untouched at (length (b ∷ bs)) held)) in
+    let longer : length (written held at (b ∷ bs)) ≡ length held = ap (λ (these : List ℕ). length these) (one ∙ sym other) in
+    let all : length (take at held) ≡ length held = ap (λ (these : List ℕ). length these) (take_all at held (omega (arith, beyond))) in
+    absurd (omega (arith, longer, all, length-append (take at held ++ (b ∷ bs)) rest, length-append (take at held) (b ∷ bs))))
+    (at_or_after at (length held))
+
+-- so where no write succeeded and one image alone may be left, the deeds change nothing
+quiet_by : (first held : List ℕ) (images : List ℕ → Type 0) (deeds : List Deed) → images held → count_by is_write deeds ≡ 0
+    → ((done : ℕ) (image : List ℕ) → done ≤ length deeds → images_after held images (take done deeds) image → image ≡ first) → All IsQuiet deeds
+quiet_by first held images [] now none kept = All-nil IsQuiet
+quiet_by first held images (Wrote at bytes ∷ deeds) now none kept =
+    let more : count_by is_write (Wrote at bytes ∷ deeds) ≡ 1 + count_by is_write deeds = sum_by-cons (λ deed. cond (is_write deed) 1 0) (Wrote at bytes) deeds in
+    absurd (omega (arith, more, none))
+quiet_by first held images (Tore at bytes ∷ deeds) now none kept =
+    All-cons IsQuiet (Tore at bytes) deeds (no_bytes first held images at bytes now (λ image left. kept 1 image (omega arith) left))
+    (quiet_by first (written held at bytes) (images_by (Tore at bytes) held images) deeds (inl refl) none (λ done image few left. kept (suc done) image (omega (arith, few)) left))
+quiet_by first held images (Synced ∷ deeds) now none kept =
+    All-cons IsQuiet Synced deeds tt (quiet_by first held (λ image. image ≡ held) deeds refl none (λ done image few left. kept (suc done) image (omega (arith, few)) left))
+quiet_by first held images (Unsynced ∷ deeds) now none kept =
+    All-cons IsQuiet Unsynced deeds tt (quiet_by first held images deeds now none (λ done image few left. kept (suc done) image (omega (arith, few)) left))
+
+keeps_file : (first : List ℕ) (deeds : List Deed) → count_by is_write deeds ≡ 0 → LeavesAlways first deeds (λ image. image ≡ first) → KeepsFile first deeds
+keeps_file first deeds none kept = record { quiet = quiet_by first first (λ image. image ≡ first) deeds refl none kept; kept = kept }
+
+-- no fewer bytes stood before a put than before the first
+from_first : (before : ℕ) (puts : List Deed) (count at : ℕ) → before + length (printed_of puts) ≤ count → before ≤ printed_before (marks_of before puts) count at
+from_first before [] count at few = omega (arith, few)
+from_first before (put ∷ puts) count at few =
+    let all = length-append (bytes_of put) (printed_of puts) in
+    let rest = from_first (before + length (bytes_of put)) puts count at (omega (arith, few, all)) in
+    grind (arith, nat_tests)
+
+-- nor before the first put at one deed more
+later_more : (before : ℕ) (puts : List Deed) (count at : ℕ) → before + length (printed_of puts) ≤ count → printed_before (marks_of before puts) count at ≤ printed_before (marks_of before puts) count (at + 1)
+later_more before [] count at few = omega arith
+later_more before (put ∷ puts) count at few =
+    let all = length-append (bytes_of put) (printed_of puts) in
+    let enough : before + length (bytes_of put) + length (printed_of puts) ≤ count = omega (arith, few, all) in
+    let rest = later_more (before + length (bytes_of put)) puts count at enough in
+    let least = from_first (before + length (bytes_of put)) puts count (at + 1) enough in
+    grind (arith, nat_tests)
+
+-- so at each number of deeds something may have been seen
+seen_at : (puts : List Deed) (done : ℕ) → (seen : List ℕ) × IsSeenAt puts done seen
+seen_at puts done =
+    let count = printed_before (marks_of 0 puts) (length (printed_of puts)) done in
+    (take count (printed_of puts), record { count = count; is_seen = refl; ended = omega arith; not_begun = later_more 0 puts (length (printed_of puts)) done (omega arith) })
+
+module _ {W : Type 0} (G : Ghosts W) (before after : W) (first : List ℕ) (puts : List Deed) (behind : IsBehind G before after first puts) where
+  pub told : IsSome (G.held before)
+  told = subst (λ (those : Option (List ℕ)). IsSome those) (sym behind.held) refl
+
+  pub printed_told : IsSome (G.printed before)
+  printed_told = subst (λ (those : Option (List ℕ)). IsSome those) (sym behind.none) refl
+
+  pub held_is : held_of G before ≡ first
+  held_is = ap (λ (those : Option (List ℕ)). unwrap_or those []) behind.held
+
   -- the premises on the disk
-  stands_at : (number : ℕ) (store : FlatStore) → stands first ≡ Stands number store → StandsAt G before number store
+  pub stands_at : (number : ℕ) (store : FlatStore) → stands first ≡ Stands number store → StandsAt G before number store
   stands_at number store stood = record {
-    honest = honest;
-    told = subst (λ (those : Option (List ℕ)). IsSome those) (sym held) refl;
-    stood = ap (λ (those : Option (List ℕ)). stands (unwrap_or those [])) held ∙ stood;
-    images = λ image seen was. ap stands (left image seen was) ∙ stood;
+    honest = behind.honest;
+    told = told;
+    stood = ap stands held_is ∙ stood;
+    images = λ image seen was. ap stands (behind.left image seen was) ∙ stood;
   }
 
+  -- what was printed since is what was handed to the screen
+  pub handed : (text : List ℕ) (end : Status) → PrintsBy (G.printed before) (G.printed after) text end → Hands puts text end
+  handed text end prints =
+      subst (λ (those : Option (List ℕ)). PrintsBy (Some []) those text end) behind.shown (subst (λ (those : Option (List ℕ)). PrintsBy those (G.printed after) text end) behind.none prints)
+
+  pub printed_so : (text : List ℕ) {T : Type 0} (put : Result T Failed) → Prints (G.printed before) (G.printed after) text put → Prints (Some []) (Some (printed_of puts)) text put
+  printed_so text put prints =
+      subst (λ (those : Option (List ℕ)). Prints (Some []) those text put) behind.shown (subst (λ (those : Option (List ℕ)). Prints those (G.printed after) text put) behind.none prints)
+
+  -- where nothing was printed since, it is nothing, and where no put was recorded there is none
+  pub unprinted : G.printed after ≡ G.printed before → printed_of puts ≡ []
+  unprinted same =
+      let is : Some (printed_of puts) ≡ Some [] = sym behind.shown ∙ same ∙ behind.none in
+      cc
+
+  pub unput : (G.moment after).puts ≡ (G.moment before).puts → puts ≡ []
+  unput same =
+      let none : length puts ≡ 0 = sym behind.count ∙ same ∙ behind.unput in
+      nil_from_length puts none
+
+  pub ran_on_screen : (given : Given) (order : List (ℕ × ℕ)) (status : Status) (session : Option Session) → RanJob G given (call before after order status) session
+      → (number : ℕ) (store : FlatStore) → stands first ≡ Stands number store → RanOnScreen given number store first puts order status
+  ran_on_screen given order status session ran number store stood =
+      let did = ran.has_run number store (stands_at number store stood) in
+      let acts = begun ran.job.programs.items ran.job.events.items in
+      let programs = ran.job.programs.items in
+      let taken = did.ran.taken in
+      let desk = λ (bytes : List ℕ). job_desk ran.job bytes store in
+      record {
+        text = ran.text;
+        whole = ran.whole;
+        job = ran.job;
+        means = ran.means;
+        taken = taken;
+        rest = did.ran.rest;
+        is_run = subst (λ (bytes : List ℕ). IsRunOf programs ran.job.events.items (desk bytes) taken did.ran.rest) held_is did.ran.is_run;
+        order_is = did.ran.order_is ∙ ap (λ (end : Desk). end.order) did.ran.end_is ∙ ap (λ (bytes : List ℕ). (run programs taken (desk bytes)).order) held_is;
+        all = did.all;
+        serial_run =
+            let with_end = subst (λ (end : Desk). IsSerial acts number store order did.ran.lines end.committed end.closed) did.ran.end_is did.ran.serial_run in
+            let with_lines = subst (λ (lines : List Line). IsSerial acts number store order lines (run programs taken (desk (held_of G before))).committed (run programs taken (desk (held_of G before))).closed) did.ran.lines_are with_end in
+            let with_names = subst (λ (names : List (List ℕ)). IsSerial acts number store order (event_lines names programs number taken (desk (held_of G before))) (run programs taken (desk (held_of G before))).committed (run programs taken (desk (held_of G before))).closed) did.named with_lines in
+            subst (λ (bytes : List ℕ). IsSerial acts number store order (event_lines (names_of ran.job) programs number taken (desk bytes)) (run programs taken (desk bytes)).committed (run programs taken (desk bytes)).closed) held_is with_names;
+        put = did.put;
+        put_is = did.put_is;
+        printed =
+            let text = λ (bytes : List ℕ). report (names_of ran.job) programs number taken did.ran.rest (desk bytes) in
+            subst (λ (bytes : List ℕ). Prints (Some []) (Some (printed_of puts)) (text bytes) did.put) held_is (printed_so (text (held_of G before)) did.put did.printed);
+      }
+
+module _ {W : Type 0} (G : Ghosts W) (before after : W) (first : List ℕ) (deeds puts : List Deed) (behind : AreBehind G before after first deeds puts) where
   -- the file's images after so many deeds, and what may have been seen then, are a pair that a crash may have left since the start
   since_start : (done : ℕ) (image seen : List ℕ) → done ≤ length deeds → images_at first deeds done image → IsSeenAt puts done seen → G.left_since after (G.moment before) image seen
   since_start done image seen within is_image seen_at =
-      subst (λ (t : Moment). G.left_since after t image seen) (sym moment) (now (begun_by first) image seen (record {
+      subst (λ (t : Moment). G.left_since after t image seen) (sym behind.moment) (behind.since (begun_by first) image seen (record {
         at = done;
         count = seen_at.count;
         since = omega arith;
@@ -60,57 +203,75 @@ module _ {W : Type 0} (G : Ghosts W) (before after : W) (first : List ℕ) (deed
         not_begun = seen_at.not_begun;
       }))
 
+  -- so what each pair since the start has, the deeds leave
+  pub leaves_at : (P : List ℕ → List ℕ → Type 0) → Leaves G P before after → LeavesAt first deeds puts P
+  leaves_at P leaves done image seen within is_image seen_at = leaves image seen (since_start done image seen within is_image seen_at)
+
+  pub leaves_always : (P : List ℕ → Type 0) → Leaves G (λ image seen. P image) before after → LeavesAlways first deeds P
+  leaves_always P leaves done image within is_image =
+      let its = seen_at puts done in
+      leaves image its.0 (since_start done image its.0 within is_image its.1)
+
+  -- where as many writes succeeded as before, none did
+  unwritten : G.writes after ≡ G.writes before → count_by is_write deeds ≡ 0
+  unwritten same =
+      let is : Some (count_by is_write deeds) ≡ Some 0 = sym behind.writes ∙ same ∙ behind.unwritten in
+      cc
+
+  -- where each pair has an image of the start, the file keeps its bytes
+  pub keeps : AsksAndPuts G before after → KeepsFile first deeds
+  keeps only = keeps_file first deeds (unwritten only.writes) (leaves_always (λ image. image ≡ first) (λ image seen was.
+      let begun = only.images (told G before after first puts behind.screen) image seen was in
+      behind.screen.left image begun.0 begun.1))
+
+  pub only_asked : OnlyAsks G before after → OnlyAsked first deeds puts
+  only_asked asks = record {
+    unput = unput G before after first puts behind.screen asks.calls.puts;
+    keeps = keeps_file first deeds (unwritten asks.writes) (leaves_always (λ image. image ≡ first) (λ image seen was.
+        behind.screen.left image seen (asks.crash (told G before after first puts behind.screen) image seen was)));
+  }
+
+  -- where nothing was called, nothing was asked
+  pub nothing : after ≡ before → (deeds ≡ []) × (puts ≡ [])
+  nothing is =
+      let no_calls : length deeds ≡ 0 = sym behind.calls ∙ ap (λ (w : W). (G.moment w).calls) is ∙ ap (λ (moment : Moment). moment.calls) behind.moment in
+      (nil_from_length deeds no_calls, unput G before after first puts behind.screen (ap (λ (w : W). (G.moment w).puts) is))
+
+  -- where the bytes held are sure, all deeds leave them alone
+  pub sure_now : IsSure G after → LeavesLast first deeds (λ left. left ≡ held_of G after)
+  sure_now sure left is_left =
+      let its = behind.now left is_left in
+      told_is (G.held after) left sure.told (sure.durable left its.0 its.1)
+
+  pub sure_last : (image : List ℕ) → G.held after ≡ Some image → IsSure G after → LeavesLast first deeds (λ left. left ≡ image)
+  sure_last image held sure left is_left =
+      let its = behind.now left is_left in
+      subst (λ (those : Option (List ℕ)). AreTold those left) held (sure.durable left its.0 its.1)
+
   pub ran_on_file : (given : Given) (order : List (ℕ × ℕ)) (status : Status) (session : Option Session) → RanJob G given (call before after order status) session
-      → (number : ℕ) (store : FlatStore) → stands first ≡ Stands number store → RanOnFile given number store first deeds puts order status
+      → RunsFrom first (λ number store. RanOnFile given number store first deeds puts order status)
+  unfolding ran_on_screen
   ran_on_file given order status session ran number store stood =
-      let did = ran.has_run number store (stands_at number store stood) in
+      let did = ran.has_run number store (stands_at G before after first puts behind.screen number store stood) in
       let acts = begun ran.job.programs.items ran.job.events.items in
-      let told : IsSome (G.printed before) = subst (λ (those : Option (List ℕ)). IsSome those) (sym none) refl in
-      let empty : unwrap_or (G.printed before) [] ≡ [] = ap (λ (those : Option (List ℕ)). unwrap_or those []) none in
-      let same : held_of G before ≡ first = ap (λ (those : Option (List ℕ)). unwrap_or those []) held in
-      let programs = ran.job.programs.items in
-      let taken = did.ran.taken in
-      let desk = λ (bytes : List ℕ). job_desk ran.job bytes store in
+      let empty : unwrap_or (G.printed before) [] ≡ [] = ap (λ (those : Option (List ℕ)). unwrap_or those []) behind.screen.none in
       record {
-        text = ran.text;
-        whole = ran.whole;
-        job = ran.job;
-        means = ran.means;
-        taken = taken;
-        rest = did.ran.rest;
-        is_run = subst (λ (bytes : List ℕ). IsRunOf programs ran.job.events.items (desk bytes) taken did.ran.rest) same did.ran.is_run;
-        order_is = did.ran.order_is ∙ ap (λ (end : Desk). end.order) did.ran.end_is ∙ ap (λ (bytes : List ℕ). (run programs taken (desk bytes)).order) same;
-        all = did.all;
-        serial_run =
-            let with_end = subst (λ (end : Desk). IsSerial acts number store order did.ran.lines end.committed end.closed) did.ran.end_is did.ran.serial_run in
-            let with_lines = subst (λ (lines : List Line). IsSerial acts number store order lines (run programs taken (desk (held_of G before))).committed (run programs taken (desk (held_of G before))).closed) did.ran.lines_are with_end in
-            let with_names = subst (λ (names : List (List ℕ)). IsSerial acts number store order (event_lines names programs number taken (desk (held_of G before))) (run programs taken (desk (held_of G before))).committed (run programs taken (desk (held_of G before))).closed) did.named with_lines in
-            subst (λ (bytes : List ℕ). IsSerial acts number store order (event_lines (names_of ran.job) programs number taken (desk bytes)) (run programs taken (desk bytes)).committed (run programs taken (desk bytes)).closed) same with_names;
-        crash = λ done image seen within is_image seen_at.
-            subst (λ (printed : List ℕ). IsPrefix acts number store order printed image seen) empty (did.seen told image seen (since_start done image seen within is_image seen_at));
-        put = did.put;
-        put_is = did.put_is;
-        printed =
-            let text = λ (bytes : List ℕ). report (names_of ran.job) programs number taken did.ran.rest (desk bytes) in
-            let with_shown = subst (λ (those : Option (List ℕ)). Prints (Some []) those (text (held_of G before)) did.put) shown (subst (λ (those : Option (List ℕ)). Prints those (G.printed after) (text (held_of G before)) did.put) none did.printed) in
-            subst (λ (bytes : List ℕ). Prints (Some []) (Some (printed_of puts)) (text bytes) did.put) same with_shown;
+        ran = ran_on_screen G before after first puts behind.screen given order status session ran number store stood;
+        crash = leaves_at (IsPrefix acts number store order []) (λ image seen was.
+            subst (λ (printed : List ℕ). IsPrefix acts number store order printed image seen) empty (did.seen (printed_told G before after first puts behind.screen) image seen was));
       }
 
-  pub from_done : (given : Given) (order : List (ℕ × ℕ)) (this : Status) (session : Option Session) → Happened G given (call before after order this) session → this ≡ status.Done
-      → (number : ℕ) (store : FlatStore) → stands first ≡ Stands number store → RanOnFile given number store first deeds puts order status.Done
-  from_done given order this session did is number store stood =
-      let ran : RanJob G given (call before after order this) session = subst (λ (that : Status). DidBy G (RanJob G given (call before after order this) session) (call before after order this) session that) is did.by_status in
-      subst (λ (that : Status). RanOnFile given number store first deeds puts order that) is (ran_on_file given order this session ran number store stood)
+  module _ (given : Given) (order : List (ℕ × ℕ)) where
+    -- where a call was refused, the file was only asked
+    refused : (end : Status) → Refused G (call before after order end) → OnlyAsked first deeds puts
+    refused end is = only_asked is.untouched.asks
 
-  pub from_put_fault : (given : Given) (order : List (ℕ × ℕ)) (this : Status) (session : Option Session) → Happened G given (call before after order this) session → this ≡ status.PutFault
-      → (number : ℕ) (store : FlatStore) → stands first ≡ Stands number store → RanOnFile given number store first deeds puts order status.PutFault
-  from_put_fault given order this session did is number store stood =
-      let ran : RanJob G given (call before after order this) session = subst (λ (that : Status). DidBy G (RanJob G given (call before after order this) session) (call before after order this) session that) is did.by_status in
-      subst (λ (that : Status). RanOnFile given number store first deeds puts order that) is (ran_on_file given order this session ran number store stood)
-
-  pub from_disk_fault : (given : Given) (order : List (ℕ × ℕ)) (this : Status) (session : Option Session) (its : Session) → Happened G given (call before after order this) session → this ≡ status.DiskFault → session ≡ Some its
-      → (number : ℕ) (store : FlatStore) → stands first ≡ Stands number store → RanOnFile given number store first deeds puts order status.DiskFault
-  from_disk_fault given order this session its did is opened number store stood =
-      let at_fault = subst (λ (that : Status). DidBy G (RanJob G given (call before after order this) session) (call before after order this) session that) is did.by_status in
-      let ran : RanJob G given (call before after order this) session = subst (λ (those : Option Session). ByOpening those (RanJob G given (call before after order this) session) (Untouched G (call before after order this))) opened at_fault in
-      subst (λ (that : Status). RanOnFile given number store first deeds puts order that) is (ran_on_file given order this session ran number store stood)
+    pub run_on_file : (session : Option Session) (end : Status) → Happened G given (call before after order end) session → RunsOnFile given first deeds puts order session end
+    run_on_file session status.Done did = ran_on_file given order status.Done session did.by_status
+    run_on_file session status.PutFault did = ran_on_file given order status.PutFault session did.by_status
+    run_on_file (Some session) status.DiskFault did = ran_on_file given order status.DiskFault (Some session) did.by_status
+    run_on_file None status.DiskFault did = only_asked did.by_status.asks
+    run_on_file (Some session) (status.Store offset) did = λ number store stood. did.by_status number store (stands_at G before after first puts behind.screen number store stood)
+    run_on_file None (status.Store offset) did =
+        (refused (status.Store offset) did.by_status.refused, subst (λ (bytes : List ℕ). IsFaultAt bytes offset) (held_is G before after first puts behind.screen) (did.by_status.fault (told G before after first puts behind.screen)))
+    run_on_file session end did = refused end did.by_status

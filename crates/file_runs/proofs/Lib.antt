@@ -1,1 +1,6 @@
 mod FileLemmas
+mod FollowedLemmas
+mod MadeLemmas
+mod ScreenLemmas
+mod ShownLemmas
+mod WordLemmas

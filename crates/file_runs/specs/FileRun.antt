@@ -1,5 +1,5 @@
 -- What a run left of a file and a screen, in the words of what was asked of them.
-use Rattle.std.specs.Prelude.{◌≡◌, ℕ, ◌+◌, ◌≤◌, List, [], length, take, None, Some, Result, Ok, IsTrue}
+use Rattle.std.specs.Prelude.{◌≡◌, ℕ, ◌+◌, ◌≤◌, List, [], length, take, count_by, All, Option, None, Some, Result, Ok, IsTrue}
 use Rattle.outside.specs.declared.failed.Failed.{Failed}
 use Rattle.outside.specs.Bytes.{Prints}
 use Rattle.outside.specs.declared.world.Outside.{Ghosts}
@@ -20,8 +20,11 @@ use Rattle.call_status.specs.Call.{Given}
 use Rattle.call_status.specs.declared.status.Status.{Status}
 use Rattle.call_status.specs.declared.status.Status.TheVariants as status
 use Rattle.call_status.specs.SourceText.{IsWhole}
-use Rattle.job_calls.specs.Headline.{job_desk, names_of, put_by}
-use Rattle.real_files.specs.Deeds.{Deed, images_at}
+use Rattle.call_status.specs.Opening.{IsFaultAt}
+use Rattle.call_status.specs.Printed.{PrintsBy}
+use Rattle.supervisor.specs.declared.session.Session.{Session}
+use Rattle.job_calls.specs.Headline.{ByOpening, job_desk, names_of, put_by}
+use Rattle.real_files.specs.Deeds.{Deed, Wrote, Tore, Synced, Unsynced, images_at, is_write}
 use Rattle.real_files.specs.Shown.{printed_of, marks_of}
 
 -- What may have been seen of these puts when so many deeds were done: all that were made at fewer, and of those made at that many a first part.
@@ -31,8 +34,41 @@ pub record IsSeenAt (puts : List Deed) (deeds : ℕ) (seen : List ℕ) : Type 0 
   pub ended : printed_before (marks_of 0 puts) (length (printed_of puts)) deeds ≤ count
   pub not_begun : count ≤ printed_before (marks_of 0 puts) (length (printed_of puts)) (deeds + 1)
 
--- A job was run on a file that gave these bytes, which stood for this number and this store.
-pub record RanOnFile (given : Given) (number : ℕ) (store : FlatStore) (first : List ℕ) (deeds puts : List Deed) (order : List (ℕ × ℕ)) (end : Status) : Type 0 where
+-- The machine may stop after any number of the deeds: each image that these may leave, with what may have been seen by then, has this.
+abbrev pub LeavesAt : (first : List ℕ) (deeds puts : List Deed) → (List ℕ → List ℕ → Type 0) → Type 0
+LeavesAt first deeds puts P = (done : ℕ) (image seen : List ℕ) → done ≤ length deeds → images_at first deeds done image → IsSeenAt puts done seen → P image seen
+
+-- so has each image that any number of the deeds may leave
+abbrev pub LeavesAlways : (first : List ℕ) (deeds : List Deed) → (List ℕ → Type 0) → Type 0
+LeavesAlways first deeds P = (done : ℕ) (image : List ℕ) → done ≤ length deeds → images_at first deeds done image → P image
+
+-- and each that all of them may leave
+abbrev pub LeavesLast : (first : List ℕ) (deeds : List Deed) → (List ℕ → Type 0) → Type 0
+LeavesLast first deeds P = (image : List ℕ) → images_at first deeds (length deeds) image → P image
+
+-- a deed that changes nothing: a sync, or a failed write of no bytes
+abbrev pub IsQuiet : Deed → Type 0
+IsQuiet (Wrote at bytes) = ⊥
+IsQuiet (Tore at bytes) = bytes ≡ []
+IsQuiet Synced = Unit {0}
+IsQuiet Unsynced = Unit {0}
+
+-- Nothing else was asked of the file, and whenever the machine stops the bytes that it gave are left.
+pub record KeepsFile (first : List ℕ) (deeds : List Deed) : Type 0 where
+  pub quiet : All IsQuiet deeds
+  pub kept : LeavesAlways first deeds (λ image. image ≡ first)
+
+-- and nothing was handed to the screen
+pub record OnlyAsked (first : List ℕ) (deeds puts : List Deed) : Type 0 where
+  pub unput : puts ≡ []
+  pub keeps : KeepsFile first deeds
+
+-- this text was handed to the screen, or a first part of it where the end isn't Done
+abbrev pub Hands : (puts : List Deed) (text : List ℕ) (end : Status) → Type 0
+Hands puts text end = PrintsBy (Some []) (Some (printed_of puts)) text end
+
+-- A job was run on a disk that held these bytes, which stood for this number and this store, and on a screen.
+pub record RanOnScreen (given : Given) (number : ℕ) (store : FlatStore) (first : List ℕ) (puts : List Deed) (order : List (ℕ × ℕ)) (end : Status) : Type 0 where
   -- the text that the source gave means a job
   pub text : List ℕ
   pub whole : IsWhole given.left given.left_now text
@@ -47,27 +83,54 @@ pub record RanOnFile (given : Given) (number : ℕ) (store : FlatStore) (first :
   -- they are those of the job's activations, one after another on the opening store, and so are the commit lines
   pub serial_run : IsSerial (begun job.programs.items job.events.items) number store order (event_lines (names_of job) job.programs.items number taken (job_desk job first store))
       (run job.programs.items taken (job_desk job first store)).committed (run job.programs.items taken (job_desk job first store)).closed
-  -- the machine may stop after any number of the deeds: each image that these may leave stands for the first commits, and no fewer than were seen
-  pub crash : (done : ℕ) (image seen : List ℕ) → done ≤ length deeds → images_at first deeds done image → IsSeenAt puts done seen → IsPrefix (begun job.programs.items job.events.items) number store order [] image seen
   -- what was handed to the screen is the report of that run, or after a failed put a first part of it
   pub put : Result ℕ Failed
   pub put_is : put_by end put
   pub printed : Prints (Some []) (Some (printed_of puts)) (report (names_of job) job.programs.items number taken rest (job_desk job first store)) put
 
+-- A job was run so on a file that gave these bytes.
+pub record RanOnFile (given : Given) (number : ℕ) (store : FlatStore) (first : List ℕ) (deeds puts : List Deed) (order : List (ℕ × ℕ)) (end : Status) : Type 0 where
+  pub ran : RanOnScreen given number store first puts order end
+  -- the machine may stop after any number of the deeds: each image that these may leave stands for the first commits, and no fewer than were seen
+  pub crash : LeavesAt first deeds puts (IsPrefix (begun ran.job.programs.items ran.job.events.items) number store order [])
+
 -- this holds from whatever number and store the bytes stand for
 abbrev pub RunsFrom : List ℕ → (ℕ → FlatStore → Type 0) → Type 0
 RunsFrom first P = (number : ℕ) (store : FlatStore) → stands first ≡ Stands number store → P number store
+
+-- the bytes stand for no number and store
+abbrev pub StandsForNone : List ℕ → Type 0
+StandsForNone first = RunsFrom first (λ number store. ⊥)
+
+-- What `run` did, by its end: the job was run, or no event was, and the file was only asked; an event may end in a disk fault, and so may the opening.
+abbrev pub RunsOnFile : Given → (first : List ℕ) (deeds puts : List Deed) (order : List (ℕ × ℕ)) → Option Session → (end : Status) → Type 0
+RunsOnFile given first deeds puts order session status.Done = RunsFrom first (λ number store. RanOnFile given number store first deeds puts order status.Done)
+RunsOnFile given first deeds puts order session status.PutFault = RunsFrom first (λ number store. RanOnFile given number store first deeds puts order status.PutFault)
+RunsOnFile given first deeds puts order session status.DiskFault =
+    ByOpening session (RunsFrom first (λ number store. RanOnFile given number store first deeds puts order status.DiskFault)) (OnlyAsked first deeds puts)
+RunsOnFile given first deeds puts order session (status.Store offset) = ByOpening session (StandsForNone first) (OnlyAsked first deeds puts × IsFaultAt first offset)
+RunsOnFile given first deeds puts order session _ = OnlyAsked first deeds puts
 
 -- the moment of a file that gave these bytes and of a screen, before anything was asked of them
 abbrev pub begun_by : List ℕ → Moment
 begun_by first = record { calls = 0; puts = 0; origin = record { first = first; stop = None } }
 
--- An outside is a file that gave these bytes and a screen, of which nothing was asked yet, and after its calls these are the deeds and the puts.
-pub record AreBehind {W : Type 0} (G : Ghosts W) (before after : W) (first : List ℕ) (deeds puts : List Deed) : Type 0 where
+-- An outside holds these bytes, which alone a crash leaves, and nothing is printed yet; after its calls these are the puts of its screen.
+pub record IsBehind {W : Type 0} (G : Ghosts W) (before after : W) (first : List ℕ) (puts : List Deed) : Type 0 where
   pub honest : IsTrue (G.is_honest before)
   pub held : G.held before ≡ Some first
   pub none : G.printed before ≡ Some []
   pub shown : G.printed after ≡ Some (printed_of puts)
   pub left : Leaves G (λ image seen. image ≡ first) before before
+  pub unput : (G.moment before).puts ≡ 0
+  pub count : (G.moment after).puts ≡ length puts
+
+-- An outside is a file that gave these bytes and a screen, of which nothing was asked yet, and after its calls these are the deeds and the puts.
+pub record AreBehind {W : Type 0} (G : Ghosts W) (before after : W) (first : List ℕ) (deeds puts : List Deed) : Type 0 where
+  pub screen : IsBehind G before after first puts
   pub moment : G.moment before ≡ begun_by first
-  pub now : (t : Moment) (image seen : List ℕ) → LeftAt (length deeds) (images_at first deeds) (marks_of 0 puts) (printed_of puts) t image seen → G.left_since after t image seen
+  pub calls : (G.moment after).calls ≡ length deeds
+  pub unwritten : G.writes before ≡ Some 0
+  pub writes : G.writes after ≡ Some (count_by is_write deeds)
+  pub since : (t : Moment) (image seen : List ℕ) → LeftAt (length deeds) (images_at first deeds) (marks_of 0 puts) (printed_of puts) t image seen → G.left_since after t image seen
+  pub now : (image : List ℕ) → images_at first deeds (length deeds) image → (seen : List ℕ) × G.left_since after (G.moment after) image seen

@@ -1,1 +1,6 @@
+pub mod FileFollowed
+pub mod FileMade
 pub mod FileRun
+pub mod FileShown
+pub mod FileWords
+pub mod ScreenWords

@@ -1,29 +1,28 @@
 // The console on a file and a screen.
-ghost use Rattle.std.specs.Prelude.{◌≡◌, [], ℕ, List, Some};
-ghost use Rattle.desk.specs.Answers.{order_told};
+ghost use Rattle.std.specs.Prelude.{◌≡◌, [], List, ℕ};
 ghost use Rattle.call_status.specs.Call.{given};
-ghost use Rattle.supervisor.specs.declared.session.Session.{Session};
 ghost use Rattle.console.specs.Words.{IsForm};
 ghost use Rattle.console.specs.declared.words.Command.{Command};
-ghost use Rattle.file_runs.specs.FileRun.{AreBehind, RanOnFile, RunsFrom};
+ghost use Rattle.file_runs.specs.FileRun.{AreBehind, IsBehind};
+ghost use Rattle.file_runs.specs.FileWords.{DidOnFile, IsOnFile};
+ghost use Rattle.file_runs.specs.ScreenWords.{DidOnScreen};
 ghost use Rattle.real_files.specs.Deeds.{Deed};
 
-use console::{Ended, Status, console};
-use outside::{Outside, Source};
-use real_files::{RawFile, RawScreen, outside_of, raw_of};
+use console::{Ended, console};
+use outside::{Joint, MemoryDisk, Outside, Source};
+use real_files::{NotedScreen, RawFile, RawScreen, outside_of, raw_of};
 use std::alloc::Global;
 
-/// The console on an outside, behind which there may be a file and a screen.
+/// The console on an outside, behind which there may be a file and a screen, or a screen alone.
 fn console_behind<S: Source, W: Outside>(
     alloc: Global,
     words: &[String],
     job: &mut S,
     outside: &mut W,
 ) -> Ended
-    ensures same { IsForm Command.Run words.now → (W.moment outside.new).origin ≡ (W.moment outside.old).origin }
-    ensures done { IsForm Command.Run words.now → result.status ≡ Status.Done → (first : List ℕ) (deeds puts : List Deed) → AreBehind W.Outside outside.old outside.new first deeds puts → RunsFrom first (λ number store. RanOnFile (given S.Source job.old job.new) number store first deeds puts (order_told result.order.items) Status.Done) }
-    ensures failed { IsForm Command.Run words.now → result.status ≡ Status.PutFault → (first : List ℕ) (deeds puts : List Deed) → AreBehind W.Outside outside.old outside.new first deeds puts → RunsFrom first (λ number store. RanOnFile (given S.Source job.old job.new) number store first deeds puts (order_told result.order.items) Status.PutFault) }
-    ensures shut { IsForm Command.Run words.now → result.status ≡ Status.DiskFault → (session : Session) → result.session ≡ Some session → (first : List ℕ) (deeds puts : List Deed) → AreBehind W.Outside outside.old outside.new first deeds puts → RunsFrom first (λ number store. RanOnFile (given S.Source job.old job.new) number store first deeds puts (order_told result.order.items) Status.DiskFault) }
+    ensures same { (form : Command) → IsForm form words.now → IsOnFile form → (W.moment outside.new).origin ≡ (W.moment outside.old).origin }
+    ensures did { (form : Command) → IsForm form words.now → (first : List ℕ) (deeds puts : List Deed) → AreBehind W.Outside outside.old outside.new first deeds puts → DidOnFile form (given S.Source job.old job.new) first deeds puts result }
+    ensures shown { (form : Command) → IsForm form words.now → (first : List ℕ) (puts : List Deed) → IsBehind W.Outside outside.old outside.new first puts → DidOnScreen form (given S.Source job.old job.new) first puts result }
 {
     console(alloc, words, job, outside)
 }
@@ -40,13 +39,29 @@ pub fn console_on_file<S: Source, F: RawFile, R: RawScreen>(
     requires first { F.first file ≡ bytes.items }
     requires deeds { F.deeds file ≡ [] }
     requires puts { R.puts screen ≡ [] }
-    ensures same { IsForm Command.Run words.now → F.first result.1 ≡ bytes.items }
-    ensures done { IsForm Command.Run words.now → result.0.status ≡ Status.Done → RunsFrom bytes.items (λ number store. RanOnFile (given S.Source job.old job.new) number store bytes.items (F.deeds result.1) (R.puts result.2) (order_told result.0.order.items) Status.Done) }
-    ensures failed { IsForm Command.Run words.now → result.0.status ≡ Status.PutFault → RunsFrom bytes.items (λ number store. RanOnFile (given S.Source job.old job.new) number store bytes.items (F.deeds result.1) (R.puts result.2) (order_told result.0.order.items) Status.PutFault) }
-    ensures shut { IsForm Command.Run words.now → result.0.status ≡ Status.DiskFault → (session : Session) → result.0.session ≡ Some session → RunsFrom bytes.items (λ number store. RanOnFile (given S.Source job.old job.new) number store bytes.items (F.deeds result.1) (R.puts result.2) (order_told result.0.order.items) Status.DiskFault) }
+    ensures same { (form : Command) → IsForm form words.now → IsOnFile form → F.first result.1 ≡ bytes.items }
+    ensures did { (form : Command) → IsForm form words.now → IsOnFile form → DidOnFile form (given S.Source job.old job.new) bytes.items (F.deeds result.1) (R.puts result.2) result.0 }
 {
     let mut outside = outside_of(file, bytes, screen);
     let ended = console_behind(alloc, words, job, &mut outside);
     let (file, screen) = raw_of(outside);
     (ended, file, screen)
+}
+
+/// The console on a disk in memory that holds these bytes, and a screen to which nothing was handed yet. The screen is handed back.
+pub fn console_on_screen<S: Source, R: RawScreen>(
+    alloc: Global,
+    words: &[String],
+    job: &mut S,
+    bytes: Vec<u8>,
+    screen: R,
+) -> (Ended, R)
+    requires { R.puts screen ≡ [] }
+    ensures { (form : Command) → IsForm form words.now → DidOnScreen form (given S.Source job.old job.new) bytes.items (R.puts result.1) result.0 }
+{
+    let disk = MemoryDisk::new(alloc, bytes, Vec::new(alloc));
+    let mut outside = Joint::new(disk, NotedScreen::new(screen));
+    let ended = console_behind(alloc, words, job, &mut outside);
+    let (_, noted) = outside.into_parts();
+    (ended, noted.into_screen())
 }

@@ -3,4 +3,4 @@
 
 mod command;
 
-pub use command::console_on_file;
+pub use command::{console_on_file, console_on_screen};

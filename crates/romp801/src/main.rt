@@ -8,8 +8,8 @@ ghost use Rattle.call_status.specs.Statuses.{number_of};
 use console::{
     DiskKind, Ended, Status, console, disk_of, path_of, reads_source, status_text, try_store,
 };
-use file_runs::console_on_file;
-use outside::{Disk, Joint, MemoryDisk};
+use file_runs::{console_on_file, console_on_screen};
+use outside::Joint;
 use real_files::{AbsentDisk, FileUse, NotedScreen, ReadSource, StdFile, StdOut};
 use std::process::ExitCode;
 use std::{env, io};
@@ -64,35 +64,26 @@ fn on_file(
             let (ended, _, _) = console_on_file(rt.alloc(), words, job, file, bytes, screen);
             Ok(ended)
         }
-        Err(_) => call_on(rt, words, job, AbsentDisk::new()),
+        Err(_) => on_nothing(rt, words, job),
     }
 }
 
-/// The console on a disk in memory that holds these bytes.
+/// The console on a disk in memory that holds these bytes, and the standard output.
 fn on_bytes(
     rt: &HostRuntime,
     words: &[String],
     job: &mut ReadSource,
     bytes: Vec<u8>,
 ) -> Result<Ended, Status> {
-    let alloc = rt.alloc();
-    call_on(
-        rt,
-        words,
-        job,
-        MemoryDisk::new(alloc, bytes, Vec::new(alloc)),
-    )
+    let screen = StdOut::new(rt.clone()?);
+    let (ended, _) = console_on_screen(rt.alloc(), words, job, bytes, screen);
+    Ok(ended)
 }
 
-/// The console on this disk and the standard output.
-fn call_on<D: Disk + Drop>(
-    rt: &HostRuntime,
-    words: &[String],
-    job: &mut ReadSource,
-    disk: D,
-) -> Result<Ended, Status> {
+/// The console on a disk that isn't there, and the standard output.
+fn on_nothing(rt: &HostRuntime, words: &[String], job: &mut ReadSource) -> Result<Ended, Status> {
     let screen = NotedScreen::new(StdOut::new(rt.clone()?));
-    let mut outside = Joint::new(disk, screen);
+    let mut outside = Joint::new(AbsentDisk::new(), screen);
     Ok(console(rt.alloc(), words, job, &mut outside))
 }
 

@@ -1,0 +1,73 @@
+-- From what `follow` did on an outside to what it did on the file and the screen behind it.
+use Rattle.outside.proofs.Common.{◌≡◌, ◌⊎◌, inl, inr, ⊎_elim, ℕ, List, [], length, ap, ◌∙◌, subst, IsSome, Option, Some, held_of}
+use Rattle.outside.specs.declared.world.Outside.{Ghosts}
+use Rattle.outside.specs.Durable.{IsSure}
+use Rattle.line_geometry.specs.FlatStore.{FlatStore}
+use Rattle.store_format.specs.Stands.{Standing, stands}
+use Rattle.standby.specs.Followed.{IsAtNumber, followed_text, kept_text, well}
+use Rattle.standby.specs.State.{due}
+use Rattle.standby.specs.Text.{Content}
+use Rattle.standby_calls.specs.Followed.{EndsOn, FollowedFrom, FollowsOn, IsDue, OnStore}
+use Rattle.call_status.specs.Call.{Given, call}
+use Rattle.call_status.specs.Opening.{IsFaultAt}
+use Rattle.call_status.specs.declared.status.Status.{Status}
+use Rattle.call_status.specs.declared.status.Status.TheVariants as status
+use Rattle.real_files.specs.Deeds.{Deed}
+use Rattle.real_files.specs.Shown.{printed_of}
+use Rattle.file_runs.specs.FileRun.{AreBehind, LeavesLast, RunsFrom}
+use Rattle.file_runs.specs.FileFollowed.{EndsAt, FollowedOnFile, FollowedText, FollowsBy, IsDueAt}
+use Rattle.file_runs.proofs.FileLemmas.{handed, held_is, leaves_at, nothing, only_asked, printed_so, stands_at, sure_now, told}
+
+module _ {W : Type 0} (G : Ghosts W) (before after : W) (first : List ℕ) (deeds puts : List Deed) (behind : AreBehind G before after first deeds puts) where
+  has_told : IsSome (G.held before)
+  has_told = told G before after first puts behind.screen
+
+  same : held_of G before ≡ first
+  same = held_is G before after first puts behind.screen
+
+  -- what the bytes that are sure stand for, all that the deeds leave stands for
+  stand_last : (stood : Standing) → IsSure G after → stands (held_of G after) ≡ stood → LeavesLast first deeds (λ image. stands image ≡ stood)
+  stand_last stood sure are left is_left = ap stands (sure_now G before after first deeds puts behind sure left is_left) ∙ are
+
+  module _ (content : Content) where
+    ends_at : (number : ℕ) (store : FlatStore) (end : Status) → EndsOn G content number store before after end → EndsAt content number store first deeds puts end
+    ends_at number store status.Done did = (stand_last _ did.1 did.2, did.3)
+    ends_at number store status.PutFault did = (did.0, did.1, stand_last _ did.2 did.3)
+    ends_at number store status.DiskFault did =
+        let is : Some (printed_of puts) ≡ Some (kept_text number did.0.count) = printed_so G before after first puts behind.screen (kept_text number did.0.count) well did.0.printed in
+        (did.0.count, cc, λ left is_left. let its = behind.now left is_left in did.0.left left its.0 its.1)
+    ends_at number store _ did = tt
+
+    follows_on : (end : Status) → FollowsOn G content before after end → RunsFrom first (λ number store. FollowedText content number store first deeds puts end)
+    follows_on end did number store stood =
+        let its = did number store (stands_at G before after first puts behind.screen number store stood) in
+        record {
+          crash = leaves_at G before after first deeds puts behind (IsAtNumber content.line_bytes number store (due content number) (Some [])) (λ image seen was.
+              subst (λ (those : Option (List ℕ)). IsAtNumber content.line_bytes number store (due content number) those image seen) behind.screen.none (its.crash image seen was));
+          handed = handed G before after first puts behind.screen (followed_text number (length (due content number))) end its.printed;
+          ends = ends_at number store end its.ends;
+        }
+
+    is_due : (end : Status) → (IsSome (G.held before) → IsDue G content before end) → IsDueAt content first end
+    is_due end has =
+        let its = has has_told in
+        let there : IsDueAt content (held_of G before) end = record { store = its.store; shows = its.shows; due_on = its.due_on } in
+        subst (λ (bytes : List ℕ). IsDueAt content bytes end) same there
+
+    follows_by : (end : Status) → OnStore G content before after end → FollowsBy content first deeds puts end
+    follows_by status.Done did = (is_due status.Done did.0, follows_on status.Done did.1)
+    follows_by status.PutFault did = (is_due status.PutFault did.0, follows_on status.PutFault did.1)
+    follows_by status.DiskFault did =
+        (⊎_elim (λ asks. inl (only_asked G before after first deeds puts behind asks)) (λ has. inr (is_due status.DiskFault has)) did.0, follows_on status.DiskFault did.1)
+    follows_by (status.Stream place kind) did = (only_asked G before after first deeds puts behind did.1, did.0, is_due (status.Stream place kind) did.2)
+    follows_by (status.NotKept start last) did = (only_asked G before after first deeds puts behind did.0, is_due (status.NotKept start last) did.1)
+    follows_by (status.Store offset) did = (only_asked G before after first deeds puts behind did.0, subst (λ (bytes : List ℕ). IsFaultAt bytes offset) same (did.1 has_told))
+    follows_by status.NoMemory did = only_asked G before after first deeds puts behind did
+    follows_by _ did = did
+
+  pub follow_on_file : (given : Given) (order : List (ℕ × ℕ)) (end : Status) → FollowedFrom G given (call before after order end) → FollowedOnFile given first deeds puts end
+  follow_on_file given order end did =
+      ⊎_elim
+      (λ none. let asked = nothing G before after first deeds puts behind none.0 in inl (asked.0, asked.1, none.1))
+      (λ has. inr (has.0, has.1, follows_by has.0 end has.2))
+      did.by_status

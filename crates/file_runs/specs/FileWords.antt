@@ -1,0 +1,34 @@
+-- What each word left of a file and a screen.
+use Rattle.std.specs.Prelude.{List, ℕ}
+use Rattle.desk.specs.Answers.{order_told}
+use Rattle.call_status.specs.Call.{Given}
+use Rattle.job_calls.specs.declared.ended.Ended.{Ended}
+use Rattle.console.specs.declared.words.Command.{Command}
+use Rattle.console.specs.declared.words.Command.TheVariants as command
+use Rattle.real_files.specs.Deeds.{Deed}
+use Rattle.store_format.specs.Header.{fresh}
+use Rattle.store_calls.specs.New.{new_line}
+use Rattle.file_runs.specs.FileFollowed.{FollowedOnFile}
+use Rattle.file_runs.specs.FileMade.{RenewedOnFile, WrittenOnFile}
+use Rattle.file_runs.specs.FileRun.{RunsOnFile}
+use Rattle.file_runs.specs.FileShown.{ShippedOnFile, ShownOnFile}
+
+-- A word on a file that gave these bytes did what it does, as it ended: these are its deeds and its puts. The words without a file are no such.
+abbrev pub DidOnFile : Command → Given → (first : List ℕ) (deeds puts : List Deed) → Ended → Type 0
+DidOnFile command.Run given first deeds puts ended = RunsOnFile given first deeds puts (order_told ended.order.items) ended.session ended.status
+DidOnFile (command.Show range) given first deeds puts ended = ShownOnFile range first deeds puts ended.status
+DidOnFile (command.Ship from) given first deeds puts ended = ShippedOnFile from first deeds puts ended.status
+DidOnFile (command.New header) given first deeds puts ended = WrittenOnFile (fresh header) (new_line header) first deeds puts ended.status
+DidOnFile (command.Renew bank) given first deeds puts ended = RenewedOnFile bank given first deeds puts ended.status
+DidOnFile command.Follow given first deeds puts ended = FollowedOnFile given first deeds puts ended.status
+DidOnFile _ given first deeds puts ended = Unit {0}
+
+-- it is a word on a file
+abbrev pub IsOnFile : Command → Type 0
+IsOnFile command.Run = Unit {0}
+IsOnFile (command.Show range) = Unit {0}
+IsOnFile (command.Ship from) = Unit {0}
+IsOnFile (command.New header) = Unit {0}
+IsOnFile (command.Renew bank) = Unit {0}
+IsOnFile command.Follow = Unit {0}
+IsOnFile _ = ⊥
