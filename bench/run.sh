@@ -14,7 +14,9 @@ export PYTHONDONTWRITEBYTECODE=1
 gcc -O2 -Wall -Wextra -o "$scratch/interp-O2" interp.c
 gcc -O3 -Wall -Wextra -o "$scratch/interp-O3" interp.c
 gcc -O2 -DMOVES -Wall -Wextra -o "$scratch/interp-moves" interp.c
+gcc -O2 -Wall -o "$scratch/interp-fast" fast.c
 gcc -O2 -static -Wall -Wextra -o "$scratch/once" once.c
 python3 jobs.py "$scratch/jobs"
 python3 check.py "$program" "$scratch/interp-O2" "$scratch" 2000
+python3 check.py "$program" "$scratch/interp-fast" "$scratch" 400
 python3 table.py "$program" "$scratch"

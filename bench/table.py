@@ -64,7 +64,7 @@ def counted(words, source, name):
 
 
 def per_row(name):
-    """Instructions per row, of the program by function, and of interp: 100,000 rows more against 20,000."""
+    """Instructions per row, of the program by function, and of interp and fast: 100,000 rows more against 20,000."""
     found = {}
     frames = jobs.LOOPS[name][0]
     for limit in (20_000, 120_000):
@@ -72,31 +72,31 @@ def per_row(name):
         with open(job, "w") as file:
             file.write(jobs.loop(name, 1, limit))
         found[limit] = (counted([program, "try"], job, f"{name}-{limit}"),
-                        counted(interp("O2", frames, 1, 1, limit), path(name + ".list"), f"{name}-{limit}-interp"))
-    (few, few_by), (few_c, _) = found[20_000]
-    (many, many_by), (many_c, _) = found[120_000]
+                        *(counted(interp(kind, frames, 1, 1, limit), path(name + ".list"), f"{name}-{limit}-{kind}") for kind in ("O2", "fast")))
+    (few, few_by), *few_c = found[20_000]
+    (many, many_by), *many_c = found[120_000]
     by_function = {f: (n - few_by.get(f, 0)) / 100_000 for f, n in many_by.items()}
-    return (many - few) / 100_000, (many_c - few_c) / 100_000, by_function
+    return (many - few) / 100_000, [(m[0] - f[0]) / 100_000 for m, f in zip(many_c, few_c)], by_function
 
 
 def loops():
     print("Times are of the processor, user and system; rates too.\n")
-    print("| Loop | romp801, million rows/s: best, median | interp -O2 | interp -O3 | -O2 / romp801 |"
-          " ns a row: romp801, -O2 | instructions a row: romp801, -O2 |")
-    print("|---|---|---|---|---|---|---|")
+    print("| Loop | romp801, million rows/s: best, median | interp -O2 | interp -O3 | fast -O2 | romp801's time to interp's, to fast's |"
+          " ns a row: romp801, interp, fast | instructions a row: romp801, interp, fast |")
+    print("|---|---|---|---|---|---|---|---|")
     profiles = {}
     for name, (frames, *_) in jobs.LOOPS.items():
         source = listing(name)
         words = interp("O2", frames, 1, jobs.TURNS, jobs.MILLION)
-        ours, o2, o3 = rounds([([program, "try"], path("jobs", name + ".job")), (words, source),
-                               ([path("interp-O3"), *words[1:]], source)])
+        ours, o2, o3, fast = rounds([([program, "try"], path("jobs", name + ".job")), (words, source),
+                                     ([path("interp-O3"), *words[1:]], source), ([path("interp-fast"), *words[1:]], source)])
         counts = "-"
         if shutil.which("valgrind"):
-            total, other, profiles[name] = per_row(name)
-            counts = f"{total:.0f}, {other:.0f}"
-        rate = [f"{ROWS / t[0] / 1000:.1f}, {ROWS / t[1] / 1000:.1f}" for t in (ours, o2, o3)]
-        print(f"| {name} | {rate[0]} | {rate[1]} | {rate[2]} | {ours[0] / o2[0]:.1f} |"
-              f" {ours[0] * 1e6 / ROWS:.1f}, {o2[0] * 1e6 / ROWS:.1f} | {counts} |", flush=True)
+            total, (other, quick), profiles[name] = per_row(name)
+            counts = f"{total:.0f}, {other:.0f}, {quick:.0f}"
+        rate = [f"{ROWS / t[0] / 1000:.1f}, {ROWS / t[1] / 1000:.1f}" for t in (ours, o2, o3, fast)]
+        each = ", ".join(f"{t[0] * 1e6 / ROWS:.1f}" for t in (ours, o2, fast))
+        print(f"| {name} | {' | '.join(rate)} | {ours[0] / o2[0]:.2f}, {ours[0] / fast[0]:.2f} | {each} | {counts} |", flush=True)
     return profiles
 
 
