@@ -1,16 +1,18 @@
 //! The program: it makes the real parts, calls the console once, and ends with the status's number.
 #![tactic(auto)]
 
-ghost use Rattle.std.specs.Prelude.{◌≡◌};
+ghost use Rattle.std.specs.Prelude.{◌≡◌, ◌++◌, [], ◌∷◌, ℕ, take, OnOk, OnErr};
 ghost use Rattle.std.specs.Process.{exit_status};
-ghost use Rattle.call_status.specs.Statuses.{number_of};
+ghost use Rattle.call_status.specs.Statuses.{number_of, text_of};
+ghost use Rattle.real_files.specs.Deeds as deed;
+ghost use Rattle.real_files.specs.Shown.{printed_of};
 
 use console::{
     DiskKind, Ended, Status, console, disk_of, path_of, reads_source, status_text, try_store,
 };
 use file_runs::{console_on_file, console_on_screen};
-use outside::Joint;
-use real_files::{AbsentDisk, FileUse, NotedScreen, ReadSource, StdFile, StdOut};
+use outside::{Failed, Joint};
+use real_files::{AbsentDisk, FileUse, NotedScreen, RawScreen, ReadSource, StdFile, StdOut};
 use std::process::ExitCode;
 use std::{env, io};
 
@@ -23,9 +25,18 @@ fn main(rt: HostRuntime) -> ExitCode {
         Err(status) => status,
     };
     if status != Status::Done {
-        let _ = eprintln!(rt; "{}", status_text(&status).as_str());
+        let _ = tell(&status, &mut StdOut::new(rt.stderr()));
     }
     code_of(&status)
+}
+
+/// Tells a status: its text and a line feed are handed to the screen, or a first part of them where a put fails.
+fn tell<R: RawScreen>(status: &Status, screen: &mut R) -> Result<(), Failed>
+    ensures done { OnOk result (R.puts screen.new ≡ R.puts screen.old ++ deed.Wrote 0 (text_of status.now) ∷ deed.Wrote 0 (10 ∷ []) ∷ []) }
+    ensures failed { OnErr result ((count : ℕ) × (printed_of (R.puts screen.new) ≡ printed_of (R.puts screen.old) ++ take count (text_of status.now ++ 10 ∷ []))) }
+{
+    screen.put(status_text(status).as_str().as_bytes(), 0)?;
+    screen.put(b"\n", 0)
 }
 
 /// How a call with this status ends the program: with its number.
