@@ -56,9 +56,9 @@ impl Session {
         ensures told { IfOk result (λ session. IsSome (W.held outside.old) → HasStood (header_of_session session) (held_of W.Outside outside.old)) }
     {
         let store = Durable::open(alloc, outside)?;
-        let activations = Activations::new(alloc, store.header(), frames, programs)?;
         let printed = Printed::new(alloc)?;
         let order = Vec::with_capacity(alloc, begins as usize)?;
+        let activations = Activations::new(alloc, store.header(), frames, programs)?;
         let opened = store.number();
         Ok(Session {
             store,
