@@ -6,7 +6,7 @@ ghost use Rattle.console.specs.declared.words.Command.{Command};
 ghost use Rattle.file_runs.specs.FileRun.{AreBehind, IsBehind};
 ghost use Rattle.file_runs.specs.FileWords.{DidOnFile, IsOnFile};
 ghost use Rattle.file_runs.specs.ScreenWords.{DidOnScreen};
-ghost use Rattle.real_files.specs.Deeds.{Deed};
+ghost use Rattle.real_files.specs.Deeds.{Deed, StopsAtFailure};
 
 use console::{Ended, console};
 use outside::{Joint, MemoryDisk, Outside, Source};
@@ -27,7 +27,8 @@ fn console_behind<S: Source, W: Outside>(
     console(alloc, words, job, outside)
 }
 
-/// The console on a file that gave these bytes, and a screen: nothing was asked of them yet. They are handed back.
+/// The console on a file that gave these bytes, and a screen: nothing was asked of them yet. They are handed back; where a call on the
+/// file failed, that was the last.
 pub fn console_on_file<S: Source, F: RawFile, R: RawScreen>(
     alloc: Global,
     words: &[String],
@@ -40,6 +41,7 @@ pub fn console_on_file<S: Source, F: RawFile, R: RawScreen>(
     requires deeds { F.deeds file ≡ [] }
     requires puts { R.puts screen ≡ [] }
     ensures same { (form : Command) → IsForm form words.now → IsOnFile form → F.first result.1 ≡ bytes.items }
+    ensures stops { StopsAtFailure (F.deeds result.1) }
     ensures did { (form : Command) → IsForm form words.now → IsOnFile form → DidOnFile form (given S.Source job.old job.new) bytes.items (F.deeds result.1) (R.puts result.2) result.0 }
 {
     let mut outside = outside_of(file, bytes, screen);

@@ -1,11 +1,12 @@
 -- What one deed more adds to the crash images of a file.
 use Rattle.outside.proofs.Common.{◌≡◌, ◌⊎◌, inl, inr, ⊎_elim, ℕ, zero, suc, ◌+◌, ◌≤◌, List, [], ◌∷◌, ◌++◌, length, refl, sym, ◌∙◌, ap, subst, arith, length-append, written, Torn, Passes, ImagesFollow, AddsNoImage}
-use Rattle.std.specs.Prelude.{count_by, Bool, true, false, cond, Result, Ok, Err, OnOk, IsErr, is_err, Some}
+use Rattle.std.specs.Prelude.{◌-◌, count_by, take, Bool, true, false, cond, Result, Ok, Err, OnOk, IsErr, is_err, Some}
 use Rattle.outside.specs.declared.failed.Failed.{Failed}
 use Rattle.outside.specs.Bytes.{Writes}
 use Rattle.std.proofs.lemmas.List.Sums.{sum_by-append}
+use Rattle.std.proofs.Math.Seq.{take-append_seam}
 use Rattle.outside.proofs.Torn.{untouched, torn_by_written}
-use Rattle.real_files.specs.Deeds.{Deed, Wrote, Tore, Synced, Unsynced, held_by, images_by, held_after, images_at, is_write}
+use Rattle.real_files.specs.Deeds.{Deed, Wrote, Tore, Synced, Unsynced, held_by, images_by, held_after, images_at, is_failed, StopsAtFailure}
 use Rattle.real_files.specs.DeedLaws.{past, stays, newest, left_now, held_after-append}
 
 -- the bytes first, and the deeds since
@@ -100,11 +101,22 @@ module _ (first held : List ℕ) (deeds : List Deed) (replayed : held ≡ held_a
         (λ (tore : deed ≡ Tore at bytes). subst (λ (that : Deed). images_by that held (images_at first deeds (length deeds)) image) tore step) is))
         (adds t image since by_now left)
 
--- how many of them wrote all their bytes
-pub count_more : (deeds deeds' : List Deed) (deed : Deed) → deeds' ≡ deeds ++ deed ∷ [] → count_by is_write deeds' ≡ count_by is_write deeds + cond (is_write deed) 1 0
-count_more deeds deeds' deed is =
-    let more : count_by is_write deeds' ≡ count_by is_write deeds + (0 + cond (is_write deed) 1 0) = ap (count_by is_write) is ∙ sum_by-append (λ deed. cond (is_write deed) 1 0) deeds (deed ∷ []) in
+-- how many of them are such
+pub count_more : (p : Deed → Bool) (deeds deeds' : List Deed) (deed : Deed) → deeds' ≡ deeds ++ deed ∷ [] → count_by p deeds' ≡ count_by p deeds + cond (p deed) 1 0
+count_more p deeds deeds' deed is =
+    let more : count_by p deeds' ≡ count_by p deeds + (0 + cond (p deed) 1 0) = ap (count_by p) is ∙ sum_by-append (λ deed. cond (p deed) 1 0) deeds (deed ∷ []) in
     omega (arith, more)
+
+-- behind deeds of which none failed
+module _ (deeds deeds' : List Deed) (deed : Deed) (is : deeds' ≡ deeds ++ deed ∷ []) (unfailed : count_by is_failed deeds ≡ 0) where
+  pub still_unfailed : is_failed deed ≡ false → count_by is_failed deeds' ≡ 0
+  still_unfailed fine = count_more is_failed deeds deeds' deed is ∙ ap (λ (n : ℕ). n + cond (is_failed deed) 1 0) unfailed ∙ ap (λ (b : Bool). 0 + cond b 1 0) fine
+
+  pub still_stops : StopsAtFailure deeds'
+  still_stops =
+      let more : length deeds' - 1 ≡ length deeds = omega (arith, ap length is, length-append deeds (deed ∷ [])) in
+      ap (λ (n : ℕ). count_by is_failed (take n deeds')) more ∙ ap (λ (these : List Deed). count_by is_failed (take (length deeds) these)) is
+      ∙ ap (count_by is_failed) (take-append_seam deeds (deed ∷ [])) ∙ unfailed
 
 -- what holds of a result that is no error
 pub where_ok : {T E P : Type 0} (result : Result T E) → is_err result ≡ false → OnOk result P → P

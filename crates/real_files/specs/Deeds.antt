@@ -1,6 +1,6 @@
 -- What is asked of a file that may change it, and what that makes of its bytes and of what a crash may leave.
 use mathlib.Core.Path.{refl}
-use Rattle.std.specs.Prelude.{◌≡◌, ℕ, zero, suc, List, [], ◌∷◌, length, take, Bool, true, false}
+use Rattle.std.specs.Prelude.{◌≡◌, ℕ, zero, suc, ◌-◌, List, [], ◌∷◌, length, take, count_by, Bool, true, false}
 use Rattle.std.specs.Coded.{Coded, code_by, coded×, coded_ℕ, coded_list}
 use Rattle.outside.specs.Bytes.{written}
 use Rattle.outside.specs.Record.{MayTear}
@@ -48,6 +48,17 @@ is_write (Wrote at bytes) = true
 is_write (Tore at bytes) = false
 is_write Synced = false
 is_write Unsynced = false
+
+-- the call failed
+abbrev pub is_failed : Deed → Bool
+is_failed (Wrote at bytes) = false
+is_failed (Tore at bytes) = true
+is_failed Synced = false
+is_failed Unsynced = true
+
+-- a call that failed was the last: nothing was asked behind it, so one failed at most
+abbrev pub StopsAtFailure : List Deed → Type 0
+StopsAtFailure deeds = count_by is_failed (take (length deeds - 1) deeds) ≡ 0
 
 -- how the logic keeps one
 abbrev parts_of : Deed → ℕ × (ℕ × List ℕ)

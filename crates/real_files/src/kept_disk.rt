@@ -1,7 +1,7 @@
 // A disk that is a file whose bytes are in memory.
-ghost use Rattle.std.specs.Prelude.{◌≡◌, ◌≤◌, [], length, OnOk, OnErr};
+ghost use Rattle.std.specs.Prelude.{◌≡◌, ◌≤◌, [], length, count_by, false, OnOk, OnErr};
 ghost use Rattle.outside.specs.Bytes.{written};
-ghost use Rattle.real_files.specs.Deeds.{held_after};
+ghost use Rattle.real_files.specs.Deeds.{held_after, is_failed, StopsAtFailure};
 
 use crate::{RawFile, fault};
 use outside::{Disk, Failed};
@@ -18,6 +18,8 @@ pub struct KeptDisk<F: RawFile> {
     faults: u64,
     ghost replayed: { held.items ≡ held_after (F.first file) (F.deeds file) },
     ghost counted: { length (F.deeds file) ≡ number },
+    ghost unfailed: { is_stopped ≡ false → count_by is_failed (F.deeds file) ≡ 0 },
+    ghost stops: { StopsAtFailure (F.deeds file) },
 }
 
 impl<F: RawFile> KeptDisk<F> {
@@ -41,9 +43,10 @@ impl<F: RawFile> KeptDisk<F> {
         }
     }
 
-    /// The file.
+    /// The file. Where a call on it failed, that was the last.
     pub fn into_file(self) -> F
-        ensures { result ≡ self.file }
+        ensures file { result ≡ self.file }
+        ensures stops { StopsAtFailure (F.deeds result) }
     {
         self.file
     }

@@ -3,7 +3,7 @@ ghost use Rattle.std.specs.Prelude.{◌≡◌, ◌↔◌, ℕ, List, [], length,
 ghost use Rattle.outside.specs.Runs.{Leaves};
 ghost use Rattle.outside.specs.Clock.{LeftAt};
 ghost use Rattle.outside.specs.Moments.{Moment};
-ghost use Rattle.real_files.specs.Deeds.{images_at};
+ghost use Rattle.real_files.specs.Deeds.{images_at, StopsAtFailure};
 ghost use Rattle.real_files.specs.Shown.{printed_of, marks_of};
 
 use crate::{KeptDisk, NotedScreen, RawFile, RawScreen};
@@ -34,6 +34,7 @@ pub fn outside_of<F: RawFile, R: RawScreen>(
 pub fn raw_of<F: RawFile, R: RawScreen>(outside: Joint<KeptDisk<F>, NotedScreen<R>>) -> (F, R)
     ensures file { result.0 ≡ outside.disk.file }
     ensures screen { result.1 ≡ outside.screen.screen }
+    ensures stops { StopsAtFailure (F.deeds result.0) }
     ensures printed { ⟦<Joint<KeptDisk<F>, NotedScreen<R>> as Outside>⟧.printed outside ≡ Some (printed_of (R.puts result.1)) }
     ensures origin { (⟦<Joint<KeptDisk<F>, NotedScreen<R>> as Outside>⟧.moment outside).origin ≡ record { first = F.first result.0; stop = None } }
     ensures left { (t : Moment) (image seen : List ℕ) → ⟦<Joint<KeptDisk<F>, NotedScreen<R>> as Outside>⟧.left_since outside t image seen ↔ LeftAt (length (F.deeds result.0)) (images_at (F.first result.0) (F.deeds result.0)) (marks_of 0 (R.puts result.1)) (printed_of (R.puts result.1)) t image seen }

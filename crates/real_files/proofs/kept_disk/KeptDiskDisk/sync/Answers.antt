@@ -1,6 +1,6 @@
 use Rattle.outside.proofs.Common.{inl, inr, refl, arith}
 use Rattle.real_files.specs.Deeds.{Synced, Unsynced}
-use Rattle.real_files.proofs.DeedSteps.{still_replayed, counted, passes, sync_adds, synced_leaves}
+use Rattle.real_files.proofs.DeedSteps.{still_replayed, counted, still_unfailed, still_stops, passes, sync_adds, synced_leaves}
 use Rattle.real_files.proofs.kept_disk.KeptDiskDisk.sync.Goals as goal
 
 pub invariant_of-self-in-Ok : goal.invariant_of-self-in-Ok
@@ -10,6 +10,8 @@ invariant_of-self-in-Ok g c =
     record {
       replayed = still_replayed (file.first disk.file) disk.held.items (file.deeds disk.file) disk.replayed (file.first c.sync.new.self) (file.deeds c.sync.new.self) Synced c.in-Ok.ensures.first c.in-Ok.ensures.done disk.held.items refl;
       counted = omega (arith, disk.counted, counted (file.first disk.file) disk.held.items (file.deeds disk.file) disk.replayed (file.first c.sync.new.self) (file.deeds c.sync.new.self) Synced c.in-Ok.ensures.first c.in-Ok.ensures.done);
+      unfailed = λ goes. still_unfailed (file.deeds disk.file) (file.deeds c.sync.new.self) Synced c.in-Ok.ensures.done (disk.unfailed c.if-self.false) refl;
+      stops = still_stops (file.deeds disk.file) (file.deeds c.sync.new.self) Synced c.in-Ok.ensures.done (disk.unfailed c.if-self.false);
     }
 
 pub invariant_of-self-in-Err : goal.invariant_of-self-in-Err
@@ -19,6 +21,8 @@ invariant_of-self-in-Err g c =
     record {
       replayed = still_replayed (file.first disk.file) disk.held.items (file.deeds disk.file) disk.replayed (file.first c.sync.new.self) (file.deeds c.sync.new.self) Unsynced c.in-Err.ensures.first c.in-Err.ensures.failed disk.held.items refl;
       counted = omega (arith, disk.counted, counted (file.first disk.file) disk.held.items (file.deeds disk.file) disk.replayed (file.first c.sync.new.self) (file.deeds c.sync.new.self) Unsynced c.in-Err.ensures.first c.in-Err.ensures.failed);
+      unfailed = λ goes. absurd (cc);
+      stops = still_stops (file.deeds disk.file) (file.deeds c.sync.new.self) Unsynced c.in-Err.ensures.failed (disk.unfailed c.if-self.false);
     }
 
 pub returns-in-Ok-clause-durable : goal.returns-in-Ok-clause-durable

@@ -1,6 +1,6 @@
 use Rattle.outside.proofs.Common.{inl, inr, refl, sym, ◌∙◌, arith}
 use Rattle.real_files.specs.Deeds.{Wrote, Tore}
-use Rattle.real_files.proofs.DeedSteps.{still_replayed, counted, write_follows, where_ok, wrote_some}
+use Rattle.real_files.proofs.DeedSteps.{still_replayed, counted, still_unfailed, still_stops, write_follows, where_ok, wrote_some}
 use Rattle.real_files.proofs.kept_disk.KeptDiskDisk.write_at.Goals as goal
 
 pub invariant_of-self-in-Ok : goal.invariant_of-self-in-Ok
@@ -11,6 +11,8 @@ invariant_of-self-in-Ok g c =
     record {
       replayed = still_replayed (file.first disk.file) disk.held.items (file.deeds disk.file) disk.replayed (file.first c.write_at.new.self) (file.deeds c.write_at.new.self) (Wrote c.args.at c.args.bytes.now) c.in-Ok.ensures.first c.in-Ok.ensures.done c.overwrite.new.held.items held;
       counted = omega (arith, disk.counted, counted (file.first disk.file) disk.held.items (file.deeds disk.file) disk.replayed (file.first c.write_at.new.self) (file.deeds c.write_at.new.self) (Wrote c.args.at c.args.bytes.now) c.in-Ok.ensures.first c.in-Ok.ensures.done);
+      unfailed = λ goes. still_unfailed (file.deeds disk.file) (file.deeds c.write_at.new.self) (Wrote c.args.at c.args.bytes.now) c.in-Ok.ensures.done (disk.unfailed c.if-self.false) refl;
+      stops = still_stops (file.deeds disk.file) (file.deeds c.write_at.new.self) (Wrote c.args.at c.args.bytes.now) c.in-Ok.ensures.done (disk.unfailed c.if-self.false);
     }
 
 pub invariant_of-self-in-Err : goal.invariant_of-self-in-Err
@@ -21,6 +23,8 @@ invariant_of-self-in-Err g c =
     record {
       replayed = still_replayed (file.first disk.file) disk.held.items (file.deeds disk.file) disk.replayed (file.first c.write_at.new.self) (file.deeds c.write_at.new.self) (Tore c.args.at c.args.bytes.now) c.in-Err.ensures.first c.in-Err.ensures.failed c.overwrite.new.held.items held;
       counted = omega (arith, disk.counted, counted (file.first disk.file) disk.held.items (file.deeds disk.file) disk.replayed (file.first c.write_at.new.self) (file.deeds c.write_at.new.self) (Tore c.args.at c.args.bytes.now) c.in-Err.ensures.first c.in-Err.ensures.failed);
+      unfailed = λ goes. absurd (cc);
+      stops = still_stops (file.deeds disk.file) (file.deeds c.write_at.new.self) (Tore c.args.at c.args.bytes.now) c.in-Err.ensures.failed (disk.unfailed c.if-self.false);
     }
 
 pub returns-in-Ok-clause-crash : goal.returns-in-Ok-clause-crash
