@@ -127,8 +127,8 @@ contest-rounds (suc rounds) entry desk met counts counted is here comes =
             later (rolled_back desk victim) (record counts { cycles = counts.cycles ++ cycle ∷ [] }) (rolled-contending entry.number desk victim is)
             (asker-left desk entry victim cycle here found e) comes
 
-pub contested-cycles-close : ContestedCyclesClose
-contested-cycles-close desk met entry counts counted rounds cycle is here comes shown =
+pub contested_cycles_close : ContestedCyclesClose
+contested_cycles_close desk met entry counts counted rounds cycle is here comes shown =
     let marked = record entry { waiting = true } in
     let (contends, there) =
     contest-rounds rounds marked (with_entry desk marked) met counts counted (marked-contending desk entry true here (contending entry.number desk (orderly desk is)))

@@ -187,5 +187,5 @@ acc-turns word before number (suc left) (Going desk counts) accounted =
         wrong : false ≡ true → ⊥
         wrong same = cc
 
-pub ends-have-causes : EndsHaveCauses
-ends-have-causes word number limit desk entry here = grind (arith, nat_tests, has-number, acc-turns)
+pub ends_have_causes : EndsHaveCauses
+ends_have_causes word number limit desk entry here = grind (arith, nat_tests, has-number, acc-turns)

@@ -1,10 +1,5 @@
 -- An instruction stage by stage, as one that serves a fault goes through them.
-use Rattle.desk_law.proofs.Common.{◌≡◌, refl, ℕ, ◌+◌, Bool, false, List, length, Option, Some, ap, is_fine_page, Plain, Outcome, On, Commit, Check, row, after, Desk, Entry, wanted, conflicts_of, Word, Fine, Counts, Going, Attempt, Fetched, Broken, Settled, fetches, instruction, attempts, attempts_at, limited, is_over_limit, fetched_first, fetches_touched, asks, gets, takes_effect, touched_pages, refused_pages, granted, locks_with, commits, breaks, contest_ends, waits_or_gets, Reads, row_done, nat_tests, arith}
-
--- the instruction of an entry at its state
-abbrev pub attempt_of : Desk → Entry → Plain → Attempt
-attempt_of desk entry now =
-    record { entry = entry; now = now; outcome = row entry.runs.program desk.committed.directory now; lines = wanted desk entry }
+use Rattle.desk_law.proofs.Common.{◌≡◌, refl, ℕ, ◌+◌, Bool, false, List, length, Option, Some, ap, is_fine_page, Plain, Outcome, On, Commit, Check, after, Desk, Entry, conflicts_of, Word, Fine, Counts, Going, Attempt, Fetched, Broken, Settled, fetches, instruction, attempts, attempts_at, limited, is_over_limit, fetched_first, fetches_touched, asks, gets, takes_effect, touched_pages, refused_pages, granted, locks_with, commits, breaks, contest_ends, waits_or_gets, Reads, row_done, nat_tests, arith, next_attempt}
 
 -- a row that goes on, or is the commit call
 abbrev pub GoesOn : Outcome → Type 0
@@ -17,7 +12,7 @@ reads-all counted page few = refl
 -- an instruction at a state, by its row
 pub instruction-at : (word : Word) (entry : Entry) (desk : Desk) (counts : Counts) (now : Plain)
     → after entry.runs.program entry.runs.args desk.committed entry.rows ≡ Some now
-    → instruction word (Some entry) desk counts ≡ attempts word (attempt_of desk entry now) (attempt_of desk entry now).outcome desk counts
+    → instruction word (Some entry) desk counts ≡ attempts word (next_attempt desk entry now) (next_attempt desk entry now).outcome desk counts
 unfolding instruction
 instruction-at word entry desk counts now is = ap (λ (state : Option Plain). attempts_at word entry state desk counts) is
 

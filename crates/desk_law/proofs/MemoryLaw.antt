@@ -1,5 +1,5 @@
 -- The law of isolation.
-use Rattle.desk_law.proofs.Common.{◌≤◌, ◌≡◌, refl, ℕ, zero, suc, ◌+◌, ◌<◌, ◌==◌, ◌||◌, nat_lt, not, if◌then◌else◌, Bool, true, false, List, [], ◌∷◌, ◌++◌, length, map, find, Option, Some, None, slice_get, arith, ap, sym, ◌∙◌, subst, inl, inr, eqb-true, eq-eqb, ne_eqb, ltb-true, or_cases, or_left, or_right, not_from_false, cond-false, FlatStore, IsWhole, has, Program, start, after, Event, Begin, Turn, Checkpoint, Crash, Desk, Entry, opened, numbers, Word, Fine, ReadFailed, Unwritten, Doubt, Failed, Counts, Turning, Going, Over, Idle, Committed, Attempt, instruction, turns, turn_of, no_counts, Turned, Busy, Nothing, turned, begin_if, begins, absent_segment, restarted, event_of, step, run, gone_on, row_done, IsAmong, IsConsistent, current_bytes, turn_desk, Machine, Memory, first_machine, with_machine, given_back, row_of, after_instruction, after_turns, after_event, memory_after, memory_of, IsAlone, IsMemory, FindTheirOwn, RunsAreIsolated, CommitsTellTheMachine, SideBySideIsSerial, IsOrderly, nat_tests}
+use Rattle.desk_law.proofs.Common.{◌≤◌, ◌≡◌, refl, ℕ, zero, suc, ◌+◌, ◌<◌, ◌==◌, ◌||◌, nat_lt, not, if◌then◌else◌, Bool, true, false, List, [], ◌∷◌, ◌++◌, length, map, find, Option, Some, None, slice_get, arith, ap, sym, ◌∙◌, subst, inl, inr, eqb-true, eq-eqb, ne_eqb, ltb-true, or_cases, or_left, or_right, not_from_false, cond-false, FlatStore, IsWhole, has, Program, start, after, Event, Begin, Turn, Checkpoint, Crash, Desk, Entry, opened, numbers, Word, Fine, ReadFailed, Unwritten, Doubt, Failed, Counts, Turning, Going, Over, Idle, Committed, Attempt, instruction, turns, turn_of, no_counts, Turned, Busy, Nothing, turned, begin_if, begins, absent_segment, restarted, event_of, step, run, gone_on, row_done, IsAmong, IsConsistent, current_bytes, turn_desk, Machine, Memory, first_machine, with_machine, given_back, row_of, after_instruction, after_turns, after_event, memory_after, memory_of, IsAlone, IsMemory, FindTheirOwn, RunsAreIsolated, CommitsTellTheMachine, SideBySideIsSerial, IsOrderly, nat_tests, next_attempt}
 use Rattle.flat_machine.proofs.Whole.{serial-whole}
 use Rattle.desk.specs.Commits.{begun, IsSerial}
 use Rattle.desk.specs.Report.{event_lines}
@@ -11,12 +11,11 @@ use Rattle.desk_law.proofs.Waiting.{number-of, has-number}
 use Rattle.desk_law.proofs.GoesOn.{IsGranted}
 use Rattle.desk_law.proofs.Endings.{first_entry, with_first, begins-consistent}
 use Rattle.desk_law.proofs.Instructions.{From, RowDone, CommitDone, NoRowDone, Did}
-use Rattle.desk_law.proofs.InstructionStages.{attempt_of}
 use Rattle.desk_law.proofs.TurnsStay.{Stays, Instructed, instructed}
 use Rattle.desk_law.proofs.ConsistentLaw.{stays-consistent, runs-consistent}
 use Rattle.desk_law.proofs.KeptTables.{both-imply}
 use Rattle.desk_law.proofs.CurrentBytes.{bytes-current, one-current}
-use Rattle.desk_law.proofs.CurrentLaw.{holders-see-current}
+use Rattle.desk_law.proofs.CurrentLaw.{holders_see_current}
 use Rattle.desk_law.proofs.CurrentSteps.{current-begun, current-quiet}
 use Rattle.desk_law.proofs.MemorySteps.{AreFewer, memory-current, given-back, at-own, row-done, commit-done}
 
@@ -146,7 +145,7 @@ memory-turns word number most (suc left) (Going desk counts) memory stays of =
     memory-turns word number most left next (after_instruction number desk next memory)
     (subst (λ (n : ℕ). Stays n most next) by.own by.goes.0)
     (subst (λ (n : ℕ). TurnMemory n next (after_instruction n desk next memory)) by.own
-    (an-instruction desk (attempt_of desk by.entry by.now) most memory next stays.0 by.here by.at by.goes.0 by.goes.1 of))
+    (an-instruction desk (next_attempt desk by.entry by.now) most memory next stays.0 by.here by.at by.goes.0 by.goes.1 of))
 
 -- a turn of nobody
 same-fewer : (desk : Desk) → AreFewer desk desk
@@ -305,7 +304,7 @@ memory-runs programs frames most_active most_lines store events whole two =
 
 -- an entry's own lines are in the bytes of all
 own-found : (desk : Desk) (memory : Memory) → IsConsistent desk → IsMemory desk memory → FindTheirOwn desk memory
-own-found desk memory is of entry state here at line holds = grind (arith, nat_tests, memory-current desk memory is.whole of, holders-see-current desk entry state line is here)
+own-found desk memory is of entry state here at line holds = grind (arith, nat_tests, memory-current desk memory is.whole of, holders_see_current desk entry state line is here)
 
 pub runs-are-isolated : RunsAreIsolated
 runs-are-isolated programs frames most_active most_lines store events whole two = grind (arith, nat_tests, memory-runs, own-found, runs-consistent)
@@ -330,7 +329,7 @@ printed-by number (Going desk some) memory counts steps printed of happened = ab
 printed-by number _ memory counts steps printed of happened = absurd (cc)
 
 -- a turn that committed
-commit-told : (programs : List Program) (desk : Desk) (memory : Memory) (number limit : ℕ) (word : Word) (counts : Counts) (steps : ℕ) (printed : List ℕ) → IsConsistent desk → IsMemory desk memory
+pub commit-told : (programs : List Program) (desk : Desk) (memory : Memory) (number limit : ℕ) (word : Word) (counts : Counts) (steps : ℕ) (printed : List ℕ) → IsConsistent desk → IsMemory desk memory
     → (step programs (Turn number limit) word desk).happening ≡ Turned number counts (Committed steps printed)
     → (machine : Machine) × ((if desk.closed then memory else after_event programs (Turn number limit) word desk memory).machines number ≡ Some machine) × (machine.state.out ≡ printed)
 commit-told programs desk memory number limit word counts steps printed is of happened = by_closed desk.closed happened
@@ -358,8 +357,8 @@ commits-tell-the-machine programs frames most_active most_lines store events num
     (memory-runs programs frames most_active most_lines store events whole two) happened in
     (machine, ap (λ (memory : Memory). memory.machines number) (memory-more programs events (Turn number limit, word) start_desk (memory_of store)) ∙ is, told)
 
-pub side-by-side-is-serial : SideBySideIsSerial
-side-by-side-is-serial names programs number frames most_active most_lines store events taken rest whole two is_run =
+pub side_by_side_is_serial : SideBySideIsSerial
+side_by_side_is_serial names programs number frames most_active most_lines store events taken rest whole two is_run =
     subst
     (λ (committed : FlatStore). IsSerial (begun programs events) number store (run programs taken (opened frames most_active most_lines store)).order
     (event_lines names programs number taken (opened frames most_active most_lines store)) committed (run programs taken (opened frames most_active most_lines store)).closed)

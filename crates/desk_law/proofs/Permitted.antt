@@ -52,12 +52,12 @@ held-written desk entry part =
     })
     (record { among = λ x inside. has_left (touched_of desk.committed entry).writes (wanted desk entry).writes x inside })
 
-pub permitted-is-free : PermittedIsFree
-permitted-is-free desk entry is here are = held-free desk entry (orderly desk is) here (permitted-held desk entry (orderly desk is) here are)
+pub permitted_is_free : PermittedIsFree
+permitted_is_free desk entry is here are = held-free desk entry (orderly desk is) here (permitted-held desk entry (orderly desk is) here are)
 
 -- A row that writes into fine pages alone asks for what it touches.
-pub fine-rows : FineRowsAskForTheirLines
-fine-rows desk entry fine line =
+pub fine_rows : FineRowsAskForTheirLines
+fine_rows desk entry fine line =
     has-whole_pages (is_fine_page desk.committed.directory) (wanted desk entry) line
     ∙ ap (λ (b : Bool). has (wanted desk entry).reads line || b)
     (any-or (is_fine_page desk.committed.directory) line (wanted desk entry).writes
@@ -74,8 +74,8 @@ fine-rows desk entry fine line =
     by_page false e = refl
 
 -- Between two instructions the lines of a page whose write bit is on are held.
-pub write-bits : WriteBitsHoldPages
-write-bits desk entry page line is here owner on at =
+pub write_bits : WriteBitsHoldPages
+write_bits desk entry page line is here owner on at =
     (is.held.covered page entry here).loads line at (may ((slice_index_or desk.authority page nobody).owner == entry.number) (slice_index_or desk.authority page nobody).write (has (slice_index_or desk.authority page nobody).lines line)
     (eq-eqb (slice_index_or desk.authority page nobody).owner entry.number owner) on)
   where

@@ -1,10 +1,9 @@
 -- Each end of a turn has its cause.
-use Rattle.desk_law.proofs.Common.{◌≡◌, refl, ℕ, zero, suc, ◌+◌, ◌<◌, ◌==◌, Bool, true, false, List, [], ◌∷◌, ◌++◌, length, find, Option, Some, None, arith, ap, sym, ◌∙◌, subst, eqb-true, ltb-true, brought, shown_cycle, victim_of, Plain, Outcome, On, Commit, Check, row, after, Desk, Entry, with_entry, conflicts_of, numbers, waits_for, Word, ReadFailed, Unwritten, Doubt, Counts, Turning, Going, Over, Idle, Limit, Checked, Journal, Disk, Victim, Waits, Committed, CommitUnwritten, CommitDoubted, Attempt, Fetching, Fetched, Broken, Contest, Contested, Settled, Lost, attempts, attempts_at, instruction, turns, turn_of, no_counts, can't_be_read, fetches, limited, is_over_limit, lines_written, fetched_first, fetches_touched, asks, gets, goes_on, takes_effect, commits, contest_ends, waits_or_gets, with_grants, refused_pages, breaks_cycle, breaks_cycles, RowIs, lines_by, EndsForCause, IsOverFor, TurnsEndForCause, turn_desk, gone_on, IsAmong, IsConsistent, nat_tests}
+use Rattle.desk_law.proofs.Common.{◌≡◌, refl, ℕ, zero, suc, ◌+◌, ◌<◌, ◌==◌, Bool, true, false, List, [], ◌∷◌, ◌++◌, length, find, Option, Some, None, arith, ap, sym, ◌∙◌, subst, eqb-true, ltb-true, brought, shown_cycle, victim_of, Plain, Outcome, On, Commit, Check, row, after, Desk, Entry, with_entry, conflicts_of, numbers, waits_for, Word, ReadFailed, Unwritten, Doubt, Counts, Turning, Going, Over, Idle, Limit, Checked, Journal, Disk, Victim, Waits, Committed, CommitUnwritten, CommitDoubted, Attempt, Fetching, Fetched, Broken, Contest, Contested, Settled, Lost, attempts, attempts_at, instruction, turns, turn_of, no_counts, can't_be_read, fetches, limited, is_over_limit, lines_written, fetched_first, fetches_touched, asks, gets, goes_on, takes_effect, commits, contest_ends, waits_or_gets, with_grants, refused_pages, breaks_cycle, breaks_cycles, RowIs, lines_by, EndsForCause, IsOverFor, TurnsEndForCause, turn_desk, gone_on, IsAmong, IsConsistent, nat_tests, next_attempt}
 use Rattle.desk_law.proofs.Entries.{found-among, new-among}
 use Rattle.desk_law.proofs.Contest.{breaks-keep, left_over}
 use Rattle.desk_law.proofs.ContestRounds.{asker-left}
 use Rattle.desk_law.proofs.ConsistentLaw.{instruction-consistent}
-use Rattle.desk_law.proofs.InstructionStages.{attempt_of}
 
 -- a page that can't be read is the last one counted
 abbrev FetchCause : Word → Fetching → Type 0
@@ -152,11 +151,11 @@ module _ (word : Word) (attempt : Attempt) (old : Desk) (base : Counts) where
 -- an instruction of an active entry
 come-instruction : (word : Word) (desk : Desk) (counts : Counts) (entry : Entry) (now : Plain) → IsAmong desk.active entry
     → after entry.runs.program entry.runs.args desk.committed entry.rows ≡ Some now
-    → Comes word (attempt_of desk entry now) desk counts (instruction word (Some entry) desk counts)
+    → Comes word (next_attempt desk entry now) desk counts (instruction word (Some entry) desk counts)
 unfolding instruction
 come-instruction word desk counts entry now here at =
-    subst (λ (state : Option Plain). Comes word (attempt_of desk entry now) desk counts (attempts_at word entry state desk counts)) (sym at)
-    (come-attempt word (attempt_of desk entry now) desk counts (row entry.runs.program desk.committed.directory now) refl
+    subst (λ (state : Option Plain). Comes word (next_attempt desk entry now) desk counts (attempts_at word entry state desk counts)) (sym at)
+    (come-attempt word (next_attempt desk entry now) desk counts (row entry.runs.program desk.committed.directory now) refl
     (record { committed = refl; limit = refl; ran = refl; mark = entry.waiting; here = here }))
 
 -- a turn under way: the entry has done so many rows more
@@ -181,10 +180,10 @@ module _ (word : Word) (limit left : ℕ) (start : Desk) (first : Entry) (desk :
   its-row : (ran : ℕ) (outcome : Outcome) → ran ≡ counts.ran → row under.entry.runs.program desk.committed.directory now ≡ outcome → RowIs start.committed first ran now outcome
   its-row ran outcome same went = grind (arith, nat_tests)
 
-  its-lines : (ran : ℕ) → ran ≡ counts.ran → lines_written (attempt_of desk under.entry now) desk ≡ lines_by start.committed first ran
+  its-lines : (ran : ℕ) → ran ≡ counts.ran → lines_written (next_attempt desk under.entry now) desk ≡ lines_by start.committed first ran
   its-lines ran same = grind (arith, nat_tests)
 
-  cause-instruction : (turning : Turning) → IsConsistent (turn_desk turning) → Comes word (attempt_of desk under.entry now) desk counts turning → IsUnder word limit left start first turning
+  cause-instruction : (turning : Turning) → IsConsistent (turn_desk turning) → Comes word (next_attempt desk under.entry now) desk counts turning → IsUnder word limit left start first turning
   cause-instruction (Going later more) is comes = record {
     is = is;
     committed = comes.1 ∙ under.committed;
