@@ -34,8 +34,7 @@ some-found test all x inside passes = by_found (find test all) refl
     none-there (y ∷ all) none inside = grind (arith, nat_tests, none-there all, passes)
 
     by_found : (found : Option ℕ) → find test all ≡ found → (y : ℕ) × (find test all ≡ Some y)
-    by_found None none = absurd (none-there all none inside)
-    by_found (Some y) found = (y, found)
+    by_found found none = grind (arith, nat_tests, none-there)
 
 module _ (waits : ℕ → ℕ → Bool) (all : List ℕ) (first : ℕ) (none : HasNoCycle (except first waits) all) (here : has all first ≡ true) (round : leads waits all (length all) first first ≡ true) where
   -- there is a next member as long as waits lead to the first
@@ -84,8 +83,7 @@ module _ (waits : ℕ → ℕ → Bool) (all : List ℕ) (first : ℕ) (none : H
         where
           by_round : (closes : Bool) → (next == first) ≡ closes → ((next == first) ≡ false → EndsWith first (next ∷ shown_after waits all steps first next))
               → EndsWith first (next ∷ (if closes then [] else shown_after waits all steps first next))
-          by_round true e rest = eqb-true next first e
-          by_round false e rest = rest e
+          by_round closes e rest = grind (arith, nat_tests, eqb-true)
 
   -- and from the first on
   pub first-closes : (steps : ℕ) → length all ≡ steps → EndsWith first (first ∷ shown_after waits all steps first first)

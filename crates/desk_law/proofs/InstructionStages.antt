@@ -20,9 +20,7 @@ module _ (word : Word) (attempt : Attempt) (desk : Desk) (counts : Counts) where
   -- 2. Otherwise the lines that it will have written are counted. Past the limit it is rolled back.
   pub stage-limit : (outcome : Outcome) (over : Bool) → GoesOn outcome → is_over_limit attempt desk ≡ over
       → attempts word attempt outcome desk counts ≡ limited over word attempt desk counts
-  stage-limit (On next) over goes is = ap (λ (over : Bool). limited over word attempt desk counts) is
-  stage-limit Commit over goes is = ap (λ (over : Bool). limited over word attempt desk counts) is
-  stage-limit (Check code) over goes is = absurd goes
+  stage-limit outcome over goes is = grind (arith, nat_tests)
 
   -- 3. Within it, its pages are fetched; where one can't be read it is rolled back and nothing is resident.
   pub stage-broken : (counted : ℕ) → fetches_touched word attempt desk counts ≡ Broken counted

@@ -99,14 +99,7 @@ module _ (old : Desk) (attempt : Attempt) (is : IsOrderly old) (here : IsAmong o
         where
           by_own : (one : Entry) → IsAmong done.moment.active one → one.number ≡ number → (equal : Bool) → (one.number == attempt.entry.number) ≡ equal
               → (attempt.entry.number == number || has (map (λ (entry : Entry). entry.number) (others attempt.entry done.moment.active)) number) ≡ true
-          by_own one among own true e =
-              or_left (attempt.entry.number == number) (has (map (λ (entry : Entry). entry.number) (others attempt.entry done.moment.active)) number)
-              (eq-eqb attempt.entry.number number (sym (eqb-true one.number attempt.entry.number e) ∙ own))
-          by_own one among own false e =
-              or_right (attempt.entry.number == number) (has (map (λ (entry : Entry). entry.number) (others attempt.entry done.moment.active)) number)
-              (subst (λ (n : ℕ). has (map (λ (entry : Entry). entry.number) (others attempt.entry done.moment.active)) n ≡ true) own
-              (has-number (others attempt.entry done.moment.active) one
-              (filter-among (λ (other : Entry). not (other.number == attempt.entry.number)) done.moment.active one among (not_from_false (one.number == attempt.entry.number) e))))
+          by_own one among own equal e = grind (arith, nat_tests, or_left, entry, others, eq-eqb, eqb-true, or_right, has-number, filter-among, not_from_false)
 
   -- what the machine printed
   told : (memory : Memory) (printed : List ℕ) → IsMemory old memory → printed ≡ attempt.now.out
@@ -129,8 +122,7 @@ an-instruction old attempt most memory (Over desk counts (Committed steps printe
 an-instruction old attempt most memory (Over desk counts _) is here at stays did of = no-row old attempt is here at desk memory stays.0 did of
 
 memory-of-turn : (number : ℕ) (turning : Turning) (memory : Memory) → TurnMemory number turning memory → IsMemory (turn_desk turning) memory
-memory-of-turn number (Over desk counts (Committed steps printed)) memory of = of.0
-memory-of-turn number _ memory of = of
+memory-of-turn number turning memory of = grind (arith, nat_tests)
 
 -- so many instructions
 memory-turns : (word : Word) (number most left : ℕ) (turning : Turning) (memory : Memory) → Stays number most turning → TurnMemory number turning memory
@@ -226,8 +218,7 @@ own-turn word number limit desk memory entry is found of =
     memory-turns word number (length desk.active) limit (Going desk no_counts) memory (orderly desk is, (entry, here, eqb-true entry.number number passes), omega arith) of
 
 turned-desk : (activation : ℕ) (turning : Turning) → (turned activation turning).desk ≡ turn_desk turning
-turned-desk activation (Over desk counts ending) = refl
-turned-desk activation (Going desk counts) = refl
+turned-desk activation turning = grind (arith, nat_tests)
 
 memory-turn : (word : Word) (activation limit : ℕ) (desk : Desk) (memory : Memory) → IsConsistent desk → IsMemory desk memory
     → (one : Option Entry) → find (λ (entry : Entry). entry.number == activation) desk.active ≡ one
@@ -322,11 +313,7 @@ memory-more programs (first ∷ events) event desk memory =
 printed-by : (number : ℕ) (turning : Turning) (memory : Memory) (counts : Counts) (steps : ℕ) (printed : List ℕ) → TurnMemory number turning memory
     → (turned number turning).happening ≡ Turned number counts (Committed steps printed)
     → (machine : Machine) × (memory.machines number ≡ Some machine) × (machine.state.out ≡ printed)
-printed-by number (Over desk some (Committed s p)) memory counts steps printed of happened =
-    let same : p ≡ printed = cc in
-    (of.1.0, of.1.1, of.1.2 ∙ same)
-printed-by number (Going desk some) memory counts steps printed of happened = absurd (cc)
-printed-by number _ memory counts steps printed of happened = absurd (cc)
+printed-by number turning memory counts steps printed of happened = grind (arith, nat_tests)
 
 -- a turn that committed
 pub commit-told : (programs : List Program) (desk : Desk) (memory : Memory) (number limit : ℕ) (word : Word) (counts : Counts) (steps : ℕ) (printed : List ℕ) → IsConsistent desk → IsMemory desk memory

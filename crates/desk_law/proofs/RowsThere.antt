@@ -63,9 +63,7 @@ open-due desk entry part = record { reads = reads; writes = writes }
     due = due-more desk.committed entry
 
     alike : (a b : Bool) → (a ≡ true → b ≡ true) → (b ≡ true → a ≡ true) → a ≡ b
-    alike true b there back = sym (there refl)
-    alike false true there back = back refl
-    alike false false there back = refl
+    alike a b there back = grind (arith, nat_tests, there)
 
     old : ArePart (due_to desk.committed entry) (with_whole_pages (is_fine_page desk.committed.directory) (both (touched_of desk.committed entry) (wanted desk entry)))
     old = part-whole_pages (is_fine_page desk.committed.directory) (touched_of desk.committed entry) (both (touched_of desk.committed entry) (wanted desk entry)) (part-both (touched_of desk.committed entry) (wanted desk entry))
