@@ -55,8 +55,7 @@ GoesOrderly (Going desk counts) = IsOrderly desk
 GoesOrderly (Over desk counts ending) = Unit {0}
 
 goes-orderly : (number most : ℕ) (turning : Turning) → Stays number most turning → GoesOrderly turning
-goes-orderly number most (Going desk counts) stays = stays.0
-goes-orderly number most (Over desk counts ending) stays = tt
+goes-orderly number most turning stays = grind (arith, nat_tests)
 
 module _ (word : Word) (number : ℕ) where
   -- one instruction of whoever has the number

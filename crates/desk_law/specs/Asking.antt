@@ -28,9 +28,9 @@ abbrev pub asks_for : (refused holders : List ℕ) → Asking
 asks_for [] holders word attempt desk counts = gets word attempt [] desk counts
 asks_for refused holders word attempt desk counts = asks word attempt refused holders desk (record counts { locks = counts.locks + length refused })
 
--- asks where it is refused, by a rule that says whom an entry conflicts with
+-- asks where it is refused, by a rule that says whom an entry conflicts with; what comes of a conflict is the desk's own
 abbrev pub asks_refused_by : (Desk → Entry → List ℕ) → Asking
-asks_refused_by conflicting word attempt desk counts = asks_for (refused_pages attempt desk) (conflicting desk attempt.entry) word attempt desk counts
+asks_refused_by holders_of word attempt desk counts = asks_for (refused_pages attempt desk) (holders_of desk attempt.entry) word attempt desk counts
 
 -- asks where it is refused, by the desk's own rule
 abbrev pub asks_refused : Asking
