@@ -47,7 +47,7 @@ pub use Rattle.desk_law.specs.Causes.{EndsHaveCauses, EndsForCause, IsAccounted,
 pub use Rattle.desk_law.specs.Changes.{committed_at, gone_on, left_by, row_done}
 pub use Rattle.desk_law.specs.Consistent.{AreApart, AreConsistent, AreDistinct, AreResident, Ascend, HasNoCycle, IsAmong, IsConsistent, IsCovered, IsHeld, IsLive, IsOwned, due_to, permitted}
 pub use Rattle.desk_law.specs.Current.{IsCurrent, bytes_of, current, current_bytes, current_of, writer}
-pub use Rattle.desk_law.specs.Laws.{ArePermitted, BrokenCyclesWere, ContestedCyclesClose, EachWaits, EndsWith, FineRowsAskForTheirLines, IdleWhereInactive, IsActive, IsNotIdle, PermittedIsFree, RunsStayConsistent, SomebodyCanGoOn, StaysConsistent, WriteBitsHoldPages, contest_counts}
+pub use Rattle.desk_law.specs.Laws.{ArePermitted, BrokenCyclesWere, ContestedCyclesClose, EachWaits, EndsWith, FineRowsAskForTheirLines, IdleWhereInactive, IsActive, IsNotIdle, PermittedIsFree, RunsStayConsistent, SomebodyCanGoOn, StaysConsistent, WriteBitsHoldPages, contest_counts, next_attempt}
 pub use Rattle.desk_law.specs.Memory.{CommitsTellTheMachine, FindTheirOwn, IsAlone, IsMemory, Machine, Memory, RunsAreIsolated, SideBySideIsSerial, after_event, after_instruction, after_turns, commit_of, does_row, first_machine, given_back, laid, memory_after, memory_of, row_of, went_on, with_machine, wrote_by}
 pub use Rattle.desk_law.specs.Orderly.{IsOrderly}
 pub use Rattle.desk_law.specs.UnderWay.{IsContending, IsReady, IsUnderWay, KeepsPages, contest, except, marked, served_attempt, touched_of}

@@ -1,5 +1,5 @@
 -- A consistent desk stays so.
-use Rattle.desk_law.proofs.Common.{◌≡◌, refl, ℕ, ◌+◌, ◌<◌, ◌==◌, nat_lt, if◌then◌else◌, Bool, true, false, List, [], ◌∷◌, length, find, Option, Some, None, slice_get, arith, ap, subst, eqb-true, eq-eqb, both_ways, ltb-true, page_count, Program, Event, Begin, Turn, Checkpoint, Crash, Desk, Entry, opened, Word, Fine, ReadFailed, Unwritten, Doubt, Failed, Counts, Turning, Going, Over, Idle, instruction, turns, turn, turn_of, no_counts, turned, begin_if, begins, absent_segment, restarted, event_of, step, run, Busy, IsAmong, Ascend, IsConsistent, turn_desk, StaysConsistent, IsActive, IsNotIdle, IdleWhereInactive, RunsStayConsistent, IsOrderly, nat_tests}
+use Rattle.desk_law.proofs.Common.{◌≡◌, refl, ℕ, ◌+◌, ◌<◌, ◌==◌, nat_lt, if◌then◌else◌, Bool, true, List, [], ◌∷◌, length, find, Option, Some, None, slice_get, arith, subst, eqb-true, eq-eqb, both_ways, ltb-true, page_count, Program, Event, Begin, Turn, Checkpoint, Crash, Desk, Entry, opened, Word, Fine, ReadFailed, Unwritten, Doubt, Failed, Counts, Turning, Going, instruction, turns, turn, turn_of, no_counts, turned, begin_if, begins, absent_segment, restarted, event_of, step, run, Busy, IsAmong, Ascend, IsConsistent, turn_desk, StaysConsistent, IsActive, IsNotIdle, IdleWhereInactive, RunsStayConsistent, IsOrderly, nat_tests}
 use Rattle.desk_law.proofs.Orderly.{orderly}
 use Rattle.desk_law.proofs.Entries.{among-found, none-found, found-among}
 use Rattle.desk_law.proofs.Endings.{begins-consistent, refused-consistent, quiet-consistent, opened-consistent}
@@ -29,23 +29,13 @@ turn-stays : (word : Word) (number limit : ℕ) (desk : Desk) → IsOrderly desk
 turn-stays word number limit desk is active = stays-turns word number (length desk.active) limit (Going desk no_counts) (is, active, omega arith)
 
 not-idle : (number most : ℕ) (turning : Turning) → Stays number most turning → IsNotIdle turning
-not-idle number most (Going desk counts) is = tt
-not-idle number most (Over desk counts Idle) is = is.1
-not-idle number most (Over desk counts ending) is = tt
+not-idle number most turning is = grind (arith, nat_tests)
 
 pub idle-where-inactive : IdleWhereInactive
-idle-where-inactive word number limit desk is = (
-  λ active. by_entry active (find (λ (entry : Entry). entry.number == number) desk.active) refl,
-  λ inactive. ap (λ (one : Option Entry). turn_of one word number limit desk) (inactive-none desk number inactive),
-)
-  where
-    by_entry : IsActive desk number → (one : Option Entry) → find (λ (entry : Entry). entry.number == number) desk.active ≡ one → IsNotIdle (turn_of one word number limit desk)
-    by_entry active None found = absurd (both_ways (active.0.number == number) (none-found (λ (entry : Entry). entry.number == number) desk.active found active.0 active.1) (eq-eqb active.0.number number active.2))
-    by_entry active (Some entry) found = not-idle number (length desk.active) (turns word number limit (Going desk no_counts)) (turn-stays word number limit desk (orderly desk is) active)
+idle-where-inactive word number limit desk is = grind (arith, nat_tests, inactive-none, both_ways, none-found, eq-eqb, not-idle, turn-stays, orderly)
 
 stays-turned : (activation most : ℕ) (turning : Turning) → Stays activation most turning → TurnFits turning → IsConsistent (turned activation turning).desk
-stays-turned activation most (Over desk counts ending) is fit = consistent desk is.0 fit
-stays-turned activation most (Going desk counts) is fit = consistent desk is.0 fit
+stays-turned activation most turning is fit = grind (arith, nat_tests, consistent)
 
 stays-turn : (word : Word) (activation limit : ℕ) (desk : Desk) → IsConsistent desk → IsConsistent (turned activation (turn word activation limit desk)).desk
 stays-turn word activation limit desk is = by_entry (find (λ (entry : Entry). entry.number == activation) desk.active) refl
@@ -67,8 +57,7 @@ instruction-consistent word desk counts entry is here =
     (fits-instruction word (Some entry) desk counts (fits desk is))
   where
     by_turning : (turning : Turning) → Stays entry.number (length counts.cycles + length desk.active) turning → TurnFits turning → IsConsistent (turn_desk turning)
-    by_turning (Going next more) stays fit = consistent next stays.0 fit
-    by_turning (Over next more ending) stays fit = consistent next stays.0 fit
+    by_turning turning stays fit = grind (arith, nat_tests, consistent)
 
 -- a begin
 refused : (desk : Desk) → IsConsistent desk → IsConsistent (record desk { next = desk.next + 1 })
@@ -87,8 +76,7 @@ stays-begin program args (Some code) desk is = by_room (nat_lt (length desk.acti
     by_room : (room : Bool) → nat_lt (length desk.active) desk.most_active ≡ room
         → IsConsistent (if room then begins (absent_segment desk.committed.directory code.windows) program (record { program = code; args = args }) desk
         else record { desk = record desk { next = desk.next + 1 }; happening = Busy desk.next program }).desk
-    by_room true e = by_segment (ltb-true (length desk.active) desk.most_active e) (absent_segment desk.committed.directory code.windows) refl
-    by_room false e = refused desk is
+    by_room room e = grind (arith, nat_tests, by_segment, ltb-true, refused)
 
 -- a crash
 stays-crash : (desk : Desk) → IsConsistent desk → IsConsistent (restarted desk)

@@ -97,12 +97,10 @@ gone-consistent one desk is gone = record {
 }
 
 pub stays-settled : (left one : ℕ) (desk : Desk) (counts : Counts) → breaks_cycles left one (Settled desk counts) ≡ Settled desk counts
-stays-settled zero one desk counts = refl
-stays-settled (suc left) one desk counts = refl
+stays-settled left one desk counts = grind (arith, nat_tests)
 
 pub stays-lost : (left one : ℕ) (desk : Desk) (counts : Counts) → breaks_cycles left one (Lost desk counts) ≡ Lost desk counts
-stays-lost zero one desk counts = refl
-stays-lost (suc left) one desk counts = refl
+stays-lost left one desk counts = grind (arith, nat_tests)
 
 -- what is left of a contest by its victim
 abbrev pub without : Desk → Option Entry → Desk

@@ -56,12 +56,7 @@ enough (suc left) (suc right) entry desk counts here few also =
       where
         by_victim : (victim : Option Entry) → entry_with (victim_of cycle) desk ≡ victim → (lost : Bool) → (victim_of cycle == entry.number) ≡ lost
             → breaks_cycles left entry.number (left_over desk (with_cycle counts cycle) victim lost) ≡ breaks_cycles right entry.number (left_over desk (with_cycle counts cycle) victim lost)
-        by_victim victim found true e = stays-lost left entry.number (without desk victim) (with_cycle counts cycle) ∙ sym (stays-lost right entry.number (without desk victim) (with_cycle counts cycle))
-        by_victim None none false e =
-            let (victim, found) = victim-there desk entry cycle here shown in absurd (cc)
-        by_victim (Some victim) found false e =
-            let fewer = fewer-left desk victim (victim_of cycle) found in
-            later (rolled_back desk victim) (with_cycle counts cycle) (asker-left desk entry victim cycle here found e) (omega (arith, fewer, few)) (omega (arith, fewer, also))
+        by_victim victim found lost e = grind (arith, nat_tests, stays-lost, without, victim-there, fewer-left, asker-left)
 
 module _ (desk : Desk) (counts : Counts) (entry : Entry) (here : IsAmong desk.active entry) where
   first-step : (m : ℕ) × (length desk.active ≡ suc m)

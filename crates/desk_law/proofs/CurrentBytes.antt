@@ -1,5 +1,5 @@
 -- All lines as they are now, end to end.
-use Rattle.desk_law.proofs.Common.{Bool, true, false, if◌then◌else◌, ◌≡◌, refl, ℕ, zero, suc, ◌+◌, ◌*◌, ◌/◌, ◌<◌, ◌≤◌, List, [], ◌++◌, length, take, drop, slice_range, Option, Some, None, flat_map, range_with_len, option_map_or, arith, ap, sym, ◌∙◌, length-append, same_number_lists, length-take, length-drop, take_at, line_bytes, Layout, byte_count, FlatStore, IsWhole, line_count, line_in, after-whole, in_line, Desk, Entry, has, laid, bytes_of, writer, current, IsCurrent, current_bytes, nat_tests}
+use Rattle.desk_law.proofs.Common.{Bool, if◌then◌else◌, ◌≡◌, refl, ℕ, zero, suc, ◌+◌, ◌*◌, ◌/◌, ◌<◌, ◌≤◌, List, [], ◌++◌, length, take, drop, slice_range, Option, flat_map, range_with_len, option_map_or, arith, ap, sym, ◌∙◌, length-append, same_number_lists, length-take, length-drop, take_at, line_bytes, Layout, byte_count, FlatStore, IsWhole, line_count, line_in, after-whole, in_line, Desk, Entry, has, laid, bytes_of, IsCurrent, current_bytes, nat_tests}
 use Rattle.std.proofs.Math.ListN.{drop_of_length-le}
 use Rattle.std.proofs.Math.Nat.{mul-le-mul_right}
 use Rattle.std.proofs.Math.Seq.{drop-append-add, take-nil}
@@ -40,8 +40,7 @@ line-beyond d xs line whole beyond = grind (arith, nat_tests, mul-le-mul_right, 
 
 -- whoever wrote a line has a whole store
 writer-whole : (store : FlatStore) (one : Option Entry) → IsWhole store → length (option_map_or (bytes_of store) one store.bytes) ≡ byte_count store.directory
-writer-whole store None whole = whole
-writer-whole store (Some entry) whole = grind (arith, nat_tests, after-whole)
+writer-whole store one whole = grind (arith, nat_tests, after-whole)
 
 -- pieces that are lines, end to end
 pub lines-joined : (d : Layout) (f : ℕ → List ℕ) → ((line : ℕ) → line < line_count d → length (f line) ≡ line_bytes d.page) → ((line : ℕ) → line_count d ≤ line → f line ≡ [])
@@ -59,17 +58,7 @@ same-lines d bytes other long also same =
     )
 
 pub bytes-current : (desk : Desk) → IsWhole desk.committed → IsCurrent desk.committed desk.active (current_bytes desk)
-bytes-current desk whole =
-    let (long, lines) =
-    lines-joined desk.committed.directory (current desk) (λ line below. line-long desk.committed.directory (its line) line (its_whole line) below)
-    (λ line beyond. line-beyond desk.committed.directory (its line) line (its_whole line) beyond) in
-    record { long = long; lines = lines }
-  where
-    its : ℕ → List ℕ
-    its line = option_map_or (bytes_of desk.committed) (writer desk.committed desk.active line) desk.committed.bytes
-
-    its_whole : (line : ℕ) → length (option_map_or (bytes_of desk.committed) (writer desk.committed desk.active line) desk.committed.bytes) ≡ byte_count desk.committed.directory
-    its_whole line = writer-whole desk.committed (writer desk.committed desk.active line) whole
+bytes-current desk whole = grind (arith, nat_tests, lines-joined, line-long, line-beyond, writer-whole)
 
 -- two lists of bytes that are current are one
 pub one-current : (store : FlatStore) (entries : List Entry) (bytes other : List ℕ) → IsCurrent store entries bytes → IsCurrent store entries other → bytes ≡ other
@@ -86,5 +75,4 @@ laid-is d lines from onto new from_long onto_long long each =
     same-lines d (laid d lines from onto) new joined_long long (λ line. joined line ∙ sym (each line))
   where
     by_test : (P : List ℕ → Type 0) (b : Bool) (x y : List ℕ) → P x → P y → P (if b then x else y)
-    by_test P true x y p q = p
-    by_test P false x y p q = q
+    by_test P b x y p q = grind (arith, nat_tests)

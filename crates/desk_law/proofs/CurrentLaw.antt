@@ -52,20 +52,20 @@ one-list-is-current desk is = (
   λ bytes current. one-current desk.committed desk.active bytes (current_bytes desk) current (bytes-current desk is.whole),
 )
 
-pub holders-see-current : HoldersSeeCurrent
-holders-see-current desk entry state line is here at holds = grind (arith, nat_tests, current-held desk.committed desk.most_lines desk.next desk.active is.active entry state line is.whole here)
+pub holders_see_current : HoldersSeeCurrent
+holders_see_current desk entry state line is here at holds = grind (arith, nat_tests, current-held desk.committed desk.most_lines desk.next desk.active is.active entry state line is.whole here)
 
-pub rows-change-their-lines : RowsChangeTheirLines
-rows-change-their-lines desk entry now next line is here at went none = row-changes desk desk.most_lines entry entry.waiting now next is.whole is.active here at went none line
+pub rows_change_their_lines : RowsChangeTheirLines
+rows_change_their_lines desk entry now next line is here at went none = row-changes desk desk.most_lines entry entry.waiting now next is.whole is.active here at went none line
 
-pub rows-run-on-current : RowsRunOnCurrent
-rows-run-on-current desk entry now next is here at went none = row-runs desk desk.most_lines entry entry.waiting now next is.whole is.active here at went none
+pub rows_run_on_current : RowsRunOnCurrent
+rows_run_on_current desk entry now next is here at went none = row-runs desk desk.most_lines entry entry.waiting now next is.whole is.active here at went none
 
-pub commits-change-no-line : CommitsChangeNoLine
-commits-change-no-line desk entry now line is here at = commit-current desk.committed desk.most_lines desk.next desk.active entry now line is.whole is.active here at
+pub commits_change_no_line : CommitsChangeNoLine
+commits_change_no_line desk entry now line is here at = commit-current desk.committed desk.most_lines desk.next desk.active entry now line is.whole is.active here at
 
-pub rollbacks-give-back : RollbacksGiveBack
-rollbacks-give-back desk entry line is here = grind (arith, nat_tests, rollback-written desk.committed desk.most_lines desk.next desk.active entry line is.active here, rollback-others desk.committed desk.most_lines desk.next desk.active entry line is.active here)
+pub rollbacks_give_back : RollbacksGiveBack
+rollbacks_give_back desk entry line is here = grind (arith, nat_tests, rollback-written desk.committed desk.most_lines desk.next desk.active entry line is.active here, rollback-others desk.committed desk.most_lines desk.next desk.active entry line is.active here)
 
-pub commits-leave-others : CommitsLeaveOthers
-commits-leave-others desk entry other now state is here there differ at also = grind (arith, nat_tests, another-same desk.committed entry other now state is.whole)
+pub commits_leave_others : CommitsLeaveOthers
+commits_leave_others desk entry other now state is here there differ at also = grind (arith, nat_tests, another-same desk.committed entry other now state is.whole)

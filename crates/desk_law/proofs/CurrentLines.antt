@@ -53,18 +53,7 @@ module _ (store : FlatStore) (most_lines next : ℕ) (entries : List Entry) (are
   -- (a) an active entry sees what it holds as it is now
   pub current-held : (entry : Entry) (state : Plain) (line : ℕ) → IsWhole store → IsAmong entries entry → after entry.runs.program entry.runs.args store entry.rows ≡ Some state
       → has (all_of (due_to store entry)) line ≡ true → current_of store entries line ≡ line_in store.directory state.store line
-  current-held entry state line whole here is holds =
-      elim (cases_Bool (has (touched_of store entry).writes line)) [
-        | inl wrote ↦ current-written entry state line here is wrote
-        | inr didn't ↦
-            current-unwritten line
-            (λ other there.
-            false_from_ne_true (has (touched_of store other).writes line)
-            (λ wrote.
-            both_ways (has (touched_of store entry).writes line) didn't
-            (ap (λ (x : Entry). has (touched_of store x).writes line) (sym (holder-or-none entry other line here there holds wrote)) ∙ wrote)))
-            ∙ after-kept entry.runs.program entry.runs.args store entry.rows state whole is line didn't
-      ]
+  current-held entry state line whole here is holds = grind (arith, nat_tests, cases_Bool, current-written, current-unwritten, false_from_ne_true, both_ways, holder-or-none, after-kept)
 
   -- somebody wrote a line, or nobody
   pub somebody : (line : ℕ) → ((entry : Entry) × IsAmong entries entry × (has (touched_of store entry).writes line ≡ true)) ⊎ ((entry : Entry) → IsAmong entries entry → has (touched_of store entry).writes line ≡ false)

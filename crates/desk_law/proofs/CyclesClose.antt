@@ -34,8 +34,7 @@ some-found test all x inside passes = by_found (find test all) refl
     none-there (y ∷ all) none inside = grind (arith, nat_tests, none-there all, passes)
 
     by_found : (found : Option ℕ) → find test all ≡ found → (y : ℕ) × (find test all ≡ Some y)
-    by_found None none = absurd (none-there all none inside)
-    by_found (Some y) found = (y, found)
+    by_found found none = grind (arith, nat_tests, none-there)
 
 module _ (waits : ℕ → ℕ → Bool) (all : List ℕ) (first : ℕ) (none : HasNoCycle (except first waits) all) (here : has all first ≡ true) (round : leads waits all (length all) first first ≡ true) where
   -- there is a next member as long as waits lead to the first
@@ -84,8 +83,7 @@ module _ (waits : ℕ → ℕ → Bool) (all : List ℕ) (first : ℕ) (none : H
         where
           by_round : (closes : Bool) → (next == first) ≡ closes → ((next == first) ≡ false → EndsWith first (next ∷ shown_after waits all steps first next))
               → EndsWith first (next ∷ (if closes then [] else shown_after waits all steps first next))
-          by_round true e rest = eqb-true next first e
-          by_round false e rest = rest e
+          by_round closes e rest = grind (arith, nat_tests, eqb-true)
 
   -- and from the first on
   pub first-closes : (steps : ℕ) → length all ≡ steps → EndsWith first (first ∷ shown_after waits all steps first first)
@@ -127,8 +125,8 @@ contest-rounds (suc rounds) entry desk met counts counted is here comes =
             later (rolled_back desk victim) (record counts { cycles = counts.cycles ++ cycle ∷ [] }) (rolled-contending entry.number desk victim is)
             (asker-left desk entry victim cycle here found e) comes
 
-pub contested-cycles-close : ContestedCyclesClose
-contested-cycles-close desk met entry counts counted rounds cycle is here comes shown =
+pub contested_cycles_close : ContestedCyclesClose
+contested_cycles_close desk met entry counts counted rounds cycle is here comes shown =
     let marked = record entry { waiting = true } in
     let (contends, there) =
     contest-rounds rounds marked (with_entry desk marked) met counts counted (marked-contending desk entry true here (contending entry.number desk (orderly desk is)))

@@ -285,8 +285,7 @@ quiet-consistent desk whole next none free = record {
     at (suc n) (suc page) = at n page
 
     nowhere : (steps number : ℕ) → leads (waits_for desk) [] steps number number ≡ false
-    nowhere zero number = refl
-    nowhere (suc steps) number = refl
+    nowhere steps number = grind (arith, nat_tests)
 
 -- the desk as it opens
 pub opened-consistent : (frames most most_lines : ℕ) (store : FlatStore) → IsWhole store → IsOrderly (opened frames most most_lines store)

@@ -1,5 +1,5 @@
 -- Who ends in a turn: victims, and the turn's own activation.
-use Rattle.desk_law.proofs.Common.{◌≡◌, refl, ℕ, zero, suc, ◌+◌, ◌==◌, ◌⊎◌, not, Bool, true, false, List, [], ◌∷◌, ◌++◌, length, map, filter, find, Option, Some, None, ap, sym, ◌∙◌, subst, inl, inr, eqb-true, eq-eqb, or_cases, or_left, or_right, not_from_false, cases_Bool, has, shown_cycle, victim_of, Plain, Outcome, On, Commit, Check, row, after, Desk, Entry, with_entry, wanted, conflicts_of, numbers, waits_for, Word, Fine, ReadFailed, Unwritten, Doubt, Failed, Counts, Turning, Going, Over, Attempt, Fetching, Fetched, Broken, Contest, Contested, Settled, Lost, attempts, attempts_at, instruction, turns, limited, is_over_limit, fetched_first, fetches_touched, asks, gets, goes_on, takes_effect, commits, contest_ends, waits_or_gets, with_grants, refused_pages, breaks_cycle, breaks_cycles, gone_on, turn_desk, turn_counts, ends_own, IsAccounted, EndsHaveCauses, nat_tests, arith}
+use Rattle.desk_law.proofs.Common.{◌≡◌, refl, ℕ, zero, suc, ◌+◌, ◌==◌, ◌⊎◌, not, Bool, true, false, List, [], ◌∷◌, ◌++◌, length, map, filter, find, Option, Some, None, ap, sym, ◌∙◌, inl, inr, eqb-true, eq-eqb, or_cases, or_left, or_right, not_from_false, cases_Bool, has, shown_cycle, victim_of, Plain, Outcome, On, Commit, Check, after, Desk, Entry, with_entry, conflicts_of, numbers, waits_for, Word, Fine, ReadFailed, Unwritten, Doubt, Failed, Counts, Turning, Going, Over, Attempt, Fetching, Fetched, Broken, Contest, Contested, Settled, Lost, attempts, attempts_at, instruction, turns, limited, is_over_limit, fetched_first, fetches_touched, asks, gets, goes_on, takes_effect, commits, contest_ends, waits_or_gets, with_grants, refused_pages, breaks_cycle, breaks_cycles, gone_on, turn_desk, turn_counts, ends_own, IsAccounted, EndsHaveCauses, nat_tests, arith}
 use Rattle.desk_law.proofs.Entries.{among-found, filter-among, numbers-replaced}
 use Rattle.desk_law.proofs.Waiting.{number-of, has-number}
 use Rattle.desk_law.proofs.Contest.{breaks-keep, left_over, without}
@@ -23,28 +23,13 @@ ContestKept before (Lost desk counts) = AreKept before desk counts
 -- after an end of one, the others are active
 left-active : (desk : Desk) (gone other : ℕ) → has (numbers desk) other ≡ true
     → (has (map (λ (entry : Entry). entry.number) (filter (λ (entry : Entry). not (entry.number == gone)) desk.active)) other ≡ true) ⊎ ((other == gone) ≡ true)
-left-active desk gone other inside =
-    let (entry, among, own) = number-of desk.active other inside in
-    elim (cases_Bool (entry.number == gone)) [
-      | inl same ↦ inr (eq-eqb other gone (sym own ∙ eqb-true entry.number gone same))
-      | inr apart ↦
-          inl
-          (subst (λ (n : ℕ). has (map (λ (entry : Entry). entry.number) (filter (λ (entry : Entry). not (entry.number == gone)) desk.active)) n ≡ true) own
-          (has-number (filter (λ (entry : Entry). not (entry.number == gone)) desk.active) entry
-          (filter-among (λ (entry : Entry). not (entry.number == gone)) desk.active entry among (not_from_false (entry.number == gone) apart))))
-    ]
+left-active desk gone other inside = grind (arith, nat_tests, number-of, cases_Bool, eq-eqb, eqb-true, has-number, filter-among, not_from_false)
 
 -- one that ended itself
 own-ended : (before : List ℕ) (gone : ℕ) (desk : Desk) (counts : Counts) (turning : Turning) → AreKept before desk counts
     → (turn_desk turning).active ≡ filter (λ (entry : Entry). not (entry.number == gone)) desk.active → (turn_counts turning).cycles ≡ counts.cycles → ends_own turning ≡ true
     → AreAccounted before gone turning
-own-ended before gone desk counts turning kept active cycles ends other inside = elim (kept other inside) [
-  | inl there ↦ elim (left-active desk gone other there) [
-    | inl stays ↦ inl (ap (λ (these : List Entry). has (map (λ (entry : Entry). entry.number) these) other) active ∙ stays)
-    | inr same ↦ inr (inr (same, ends))
-  ]
-  | inr lost ↦ inr (inl (ap (λ (these : List (List ℕ)). has (map victim_of these) other) cycles ∙ lost))
-]
+own-ended before gone desk counts turning kept active cycles ends other inside = grind (arith, nat_tests, left-active)
 
 has-more : (cycles : List (List ℕ)) (cycle : List ℕ) (other : ℕ) → has (map victim_of cycles) other ≡ true → has (map victim_of (cycles ++ cycle ∷ [])) other ≡ true
 has-more [] cycle other inside = absurd (cc)
@@ -81,8 +66,7 @@ breaks-kept before left number contest kept = breaks-keep (ContestKept before) n
         ]
 
         by_lost : (cycle : List ℕ) (lost : Bool) → ContestKept before (left_over desk (record counts { cycles = counts.cycles ++ cycle ∷ [] }) (find (λ (entry : Entry). entry.number == victim_of cycle) desk.active) lost)
-        by_lost cycle true = more cycle (find (λ (entry : Entry). entry.number == victim_of cycle) desk.active) refl
-        by_lost cycle false = more cycle (find (λ (entry : Entry). entry.number == victim_of cycle) desk.active) refl
+        by_lost cycle lost = grind (arith, nat_tests, more)
 
         by_cycle : (cycle : Option (List ℕ)) → ContestKept before (breaks_cycle number cycle desk counts)
         by_cycle None = kept
@@ -90,8 +74,7 @@ breaks-kept before left number contest kept = breaks-keep (ContestKept before) n
 
 module _ (word : Word) (attempt : Attempt) (before : List ℕ) where
   accounts : (desk : Desk) (counts : Counts) (other : ℕ) → IsKept desk counts other → IsAccounted attempt.entry.number (Going desk counts) other
-  accounts desk counts other (inl there) = inl there
-  accounts desk counts other (inr lost) = inr (inl lost)
+  accounts desk counts other out = grind (arith, nat_tests)
 
   acc-commit : (word : Word) (desk : Desk) (counts : Counts) → AreKept before desk counts → AreAccounted before attempt.entry.number (commits word attempt desk counts)
   acc-commit Unwritten desk counts kept = λ other inside. accounts desk counts other (kept other inside)
@@ -117,9 +100,7 @@ module _ (word : Word) (attempt : Attempt) (before : List ℕ) where
   acc-wait refused (holder ∷ holders) desk counts kept = λ other inside. accounts desk counts other (kept other inside)
 
   acc-contest : (refused : List ℕ) (contest : Contest) → ContestKept before contest → AreAccounted before attempt.entry.number (contest_ends word attempt refused contest)
-  acc-contest refused (Lost desk counts) kept = λ other inside. accounts desk counts other (kept other inside)
-  acc-contest refused (Settled desk counts) kept = acc-wait refused (conflicts_of desk attempt.entry) desk counts kept
-  acc-contest refused (Contested desk counts) kept = acc-wait refused (conflicts_of desk attempt.entry) desk counts kept
+  acc-contest refused contest kept = grind (arith, nat_tests, accounts, acc-wait)
 
   acc-ask : (refused holders : List ℕ) (desk : Desk) (counts : Counts) → AreKept before desk counts → AreAccounted before attempt.entry.number (asks word attempt refused holders desk counts)
   acc-ask refused [] desk counts kept = acc-get refused desk counts kept
@@ -159,15 +140,7 @@ acc-instruction word before number (Some entry) desk counts found kept = by_stat
     own = eqb-true entry.number number (among-found (λ (entry : Entry). entry.number == number) desk.active entry found).1
 
     by_state : (state : Option Plain) → AreAccounted before number (attempts_at word entry state desk counts)
-    by_state None = λ other inside. elim (kept other inside) [
-      | inl there ↦ inl there
-      | inr lost ↦ inr (inl lost)
-    ]
-    by_state (Some now) =
-        subst (λ (n : ℕ). AreAccounted before n (attempts_at word entry (Some now) desk counts)) own
-        (acc-attempt word
-        (record { entry = entry; now = now; outcome = row entry.runs.program desk.committed.directory now; lines = wanted desk entry })
-        before (row entry.runs.program desk.committed.directory now) desk counts kept)
+    by_state state = grind (arith, nat_tests, own, acc-attempt)
 
 -- so many instructions
 acc-turns : (word : Word) (before : List ℕ) (number left : ℕ) (turning : Turning) → AreAccounted before number turning → AreAccounted before number (turns word number left turning)
@@ -187,5 +160,5 @@ acc-turns word before number (suc left) (Going desk counts) accounted =
         wrong : false ≡ true → ⊥
         wrong same = cc
 
-pub ends-have-causes : EndsHaveCauses
-ends-have-causes word number limit desk entry here = grind (arith, nat_tests, has-number, acc-turns)
+pub ends_have_causes : EndsHaveCauses
+ends_have_causes word number limit desk entry here = grind (arith, nat_tests, has-number, acc-turns)

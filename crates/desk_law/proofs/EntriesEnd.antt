@@ -1,19 +1,18 @@
 -- The ends of an entry, from what an attempt over the bytes of all tells: its commit call, its program check, and any rollback.
-use Rattle.desk_law.proofs.Common.{◌≡◌, ℕ, ◌+◌, List, Some, Lines, Plain, Commit, Check, row, after, Desk, Entry, ended, rolled_back, Word, Fine, Counts, Over, Checked, Committed, instruction, ordered, commits, IsLaid, IsTold, over_all, IsAmong, due_to, IsOrderly, nat_tests, arith}
+use Rattle.desk_law.proofs.Common.{◌≡◌, ℕ, ◌+◌, List, Some, Lines, Plain, Commit, Check, row, after, Desk, Entry, ended, rolled_back, Word, Fine, Counts, Over, Checked, Committed, instruction, ordered, commits, IsLaid, IsTold, over_all, IsAmong, due_to, IsOrderly, nat_tests, arith, next_attempt}
 use Rattle.desk_law.proofs.AttemptsOnCurrent.{own-commit, own-check, ends-consistent}
 use Rattle.desk_law.proofs.Contest.{rolled-consistent}
-use Rattle.desk_law.proofs.InstructionStages.{attempt_of}
 use Rattle.desk_law.proofs.RowsThere.{commit-row, check-row}
 use Rattle.desk_law.proofs.ToldSteps.{HasCommitted, told-commit, told-rollback}
 
 -- the desk after the commit of an entry at a state
 abbrev pub committed_desk : Desk → Entry → Plain → Desk
 committed_desk desk entry now =
-    record (ended (ordered desk (attempt_of desk entry now)) entry.number) { committed = record desk.committed { bytes = now.store } }
+    record (ended (ordered desk (next_attempt desk entry now)) entry.number) { committed = record desk.committed { bytes = now.store } }
 
 -- what a commit call comes to
 pub record Commits (desk : Desk) (counts : Counts) (entry : Entry) (now : Plain) (locks requests : ℕ → Lines) (states : ℕ → Plain) (bytes : List ℕ) : Type 0 where
-  pub comes : (word : Word) → instruction word (Some entry) desk counts ≡ commits word (attempt_of desk entry now) desk counts
+  pub comes : (word : Word) → instruction word (Some entry) desk counts ≡ commits word (next_attempt desk entry now) desk counts
   pub record_lines : IsLaid desk.committed (due_to desk.committed entry).writes bytes desk.committed.bytes now.store
   pub consistent : IsOrderly (committed_desk desk entry now)
   pub told : IsTold (committed_desk desk entry now).committed (committed_desk desk entry now).active locks requests states bytes
@@ -35,7 +34,7 @@ commit-ends desk counts entry now locks requests states bytes is here at told we
     own : row entry.runs.program desk.committed.directory now ≡ Commit
     own = own-commit entry.runs.program desk.committed.directory now bytes went
 
-    comes : (word : Word) → instruction word (Some entry) desk counts ≡ commits word (attempt_of desk entry now) desk counts
+    comes : (word : Word) → instruction word (Some entry) desk counts ≡ commits word (next_attempt desk entry now) desk counts
     comes word = commit-row word desk counts entry now is here at own
 
     done : HasCommitted desk.committed desk.active locks requests states bytes entry now

@@ -16,8 +16,7 @@ inside-page lines line inside = has-within_page (page_of_line line) lines line �
 
 by-reads : (attempt : Attempt) (locks : Lines) (line : ℕ) (writes : List ℕ) → has locks.reads line ≡ true
     → permitted (authority_by attempt.entry.number (within_page (page_of_line line) locks.reads) writes) attempt.entry.number line false ≡ true
-by-reads attempt locks line [] inside = read-here (attempt.entry.number == attempt.entry.number) (has (within_page (page_of_line line) locks.reads) line) (eq-eqb attempt.entry.number attempt.entry.number refl) (inside-page locks.reads line inside)
-by-reads attempt locks line (one ∷ more) inside = read-there (attempt.entry.number == attempt.entry.number) (has (one ∷ more) line) (eq-eqb attempt.entry.number attempt.entry.number refl)
+by-reads attempt locks line writes inside = grind (arith, nat_tests, read-here, eq-eqb, inside-page, read-there)
 
 given-reads : (fine : ℕ → Bool) (attempt : Attempt) (locks : Lines) (line : ℕ) → has locks.reads line ≡ true → permitted (given fine attempt locks (page_of_line line)) attempt.entry.number line false ≡ true
 given-reads fine attempt locks line inside = grind (arith, nat_tests, read-there, by-reads)

@@ -159,8 +159,7 @@ pub other-covers : (authority : Authority) (page number : ℕ) (locks : Lines) �
 other-covers authority page number locks other = grind (arith, nat_tests)
 
 owner-by : (number : ℕ) (reads writes : List ℕ) → (authority_by number reads writes).owner ≡ number
-owner-by number reads [] = refl
-owner-by number reads (line ∷ lines) = refl
+owner-by number reads writes = grind (arith, nat_tests)
 
 -- a page is granted to the activation
 pub given-owner : (fine : ℕ → Bool) (attempt : Attempt) (locks : Lines) (page : ℕ) → (given fine attempt locks page).owner ≡ attempt.entry.number

@@ -58,8 +58,7 @@ module _ (numbers : ℕ → ℕ) (none : numbers 0 ≡ 0) where
       (λ page. by_fine page (fine page) (has (pages_of attempt.lines.writes) page))
     where
       by_writes : (page : ℕ) (writes : List ℕ) → owner_told numbers (authority_by identifier (within_page page locks.reads) writes) ≡ authority_by attempt.entry.number (within_page page locks.reads) writes
-      by_writes page [] = λ i. record { owner = is i; write = false; lines = within_page page locks.reads }
-      by_writes page (line ∷ writes) = λ i. record { owner = is i; write = true; lines = line ∷ writes }
+      by_writes page writes = grind (arith, nat_tests)
 
       by_fine : (page : ℕ) (is_fine storing : Bool)
           → owner_told numbers

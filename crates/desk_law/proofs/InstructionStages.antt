@@ -1,10 +1,5 @@
 -- An instruction stage by stage, as one that serves a fault goes through them.
-use Rattle.desk_law.proofs.Common.{◌≡◌, refl, ℕ, ◌+◌, Bool, false, List, length, Option, Some, ap, is_fine_page, Plain, Outcome, On, Commit, Check, row, after, Desk, Entry, wanted, conflicts_of, Word, Fine, Counts, Going, Attempt, Fetched, Broken, Settled, fetches, instruction, attempts, attempts_at, limited, is_over_limit, fetched_first, fetches_touched, asks, gets, takes_effect, touched_pages, refused_pages, granted, locks_with, commits, breaks, contest_ends, waits_or_gets, Reads, row_done, nat_tests, arith}
-
--- the instruction of an entry at its state
-abbrev pub attempt_of : Desk → Entry → Plain → Attempt
-attempt_of desk entry now =
-    record { entry = entry; now = now; outcome = row entry.runs.program desk.committed.directory now; lines = wanted desk entry }
+use Rattle.desk_law.proofs.Common.{◌≡◌, refl, ℕ, ◌+◌, Bool, false, List, length, Option, Some, ap, is_fine_page, Plain, Outcome, On, Commit, Check, after, Desk, Entry, conflicts_of, Word, Fine, Counts, Going, Attempt, Fetched, Broken, Settled, fetches, instruction, attempts, attempts_at, limited, is_over_limit, fetched_first, fetches_touched, asks, gets, takes_effect, touched_pages, refused_pages, granted, locks_with, commits, breaks, contest_ends, waits_or_gets, Reads, row_done, nat_tests, arith, next_attempt}
 
 -- a row that goes on, or is the commit call
 abbrev pub GoesOn : Outcome → Type 0
@@ -17,7 +12,7 @@ reads-all counted page few = refl
 -- an instruction at a state, by its row
 pub instruction-at : (word : Word) (entry : Entry) (desk : Desk) (counts : Counts) (now : Plain)
     → after entry.runs.program entry.runs.args desk.committed entry.rows ≡ Some now
-    → instruction word (Some entry) desk counts ≡ attempts word (attempt_of desk entry now) (attempt_of desk entry now).outcome desk counts
+    → instruction word (Some entry) desk counts ≡ attempts word (next_attempt desk entry now) (next_attempt desk entry now).outcome desk counts
 unfolding instruction
 instruction-at word entry desk counts now is = ap (λ (state : Option Plain). attempts_at word entry state desk counts) is
 
@@ -25,9 +20,7 @@ module _ (word : Word) (attempt : Attempt) (desk : Desk) (counts : Counts) where
   -- 2. Otherwise the lines that it will have written are counted. Past the limit it is rolled back.
   pub stage-limit : (outcome : Outcome) (over : Bool) → GoesOn outcome → is_over_limit attempt desk ≡ over
       → attempts word attempt outcome desk counts ≡ limited over word attempt desk counts
-  stage-limit (On next) over goes is = ap (λ (over : Bool). limited over word attempt desk counts) is
-  stage-limit Commit over goes is = ap (λ (over : Bool). limited over word attempt desk counts) is
-  stage-limit (Check code) over goes is = absurd goes
+  stage-limit outcome over goes is = grind (arith, nat_tests)
 
   -- 3. Within it, its pages are fetched; where one can't be read it is rolled back and nothing is resident.
   pub stage-broken : (counted : ℕ) → fetches_touched word attempt desk counts ≡ Broken counted

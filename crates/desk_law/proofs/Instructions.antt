@@ -1,5 +1,5 @@
 -- What an instruction of an entry does to the entries and to what is committed.
-use Rattle.desk_law.proofs.Common.{◌≡◌, refl, ℕ, ◌+◌, ◌==◌, not, Bool, true, false, List, [], ◌∷◌, ◌++◌, find, Option, Some, None, ap, sym, ◌∙◌, inl, inr, eqb-true, eq-eqb, both_ways, not-true, shown_cycle, victim_of, Plain, On, Desk, Entry, with_entry, rolled_back, numbers, waits_for, Counts, Turning, Going, Over, Committed, Attempt, Contest, Contested, Settled, Lost, breaks_cycle, breaks_cycles, row_done, left_by, IsAmong, AreConsistent, nat_tests, arith}
+use Rattle.desk_law.proofs.Common.{◌≡◌, refl, ℕ, ◌+◌, ◌==◌, not, Bool, true, false, List, [], ◌∷◌, ◌++◌, find, Option, Some, None, ap, sym, ◌∙◌, eqb-true, eq-eqb, both_ways, not-true, shown_cycle, victim_of, Plain, On, Desk, Entry, with_entry, rolled_back, numbers, waits_for, Counts, Turning, Going, Over, Committed, Attempt, Contest, Contested, Settled, Lost, breaks_cycle, breaks_cycles, row_done, left_by, IsAmong, AreConsistent, nat_tests, arith}
 use Rattle.desk_law.proofs.Entries.{among-filter, among-found, none-found, among-replaced, one-entry}
 use Rattle.desk_law.proofs.Others.{others}
 use Rattle.desk_law.proofs.Contest.{breaks-keep, left_over}
@@ -49,10 +49,7 @@ Did old attempt (Over desk counts ending) = NoRowDone old attempt desk
 
 -- a rollback of the entry
 pub rolled-from : (number : ℕ) (old desk : Desk) (gone : Entry) → From number old desk → From number old (rolled_back desk gone)
-rolled-from number old desk gone from = record {
-  committed = from.committed;
-  others = λ other among differ. from.others other (among-filter (λ (other : Entry). not (other.number == gone.number)) desk.active other among).0 differ;
-}
+rolled-from number old desk gone from = grind (arith, nat_tests, others, among-filter)
 
 pub rolled-left : (desk : Desk) (gone : Entry) → HasLeft gone.number (rolled_back desk gone)
 rolled-left desk gone other among = not-true (other.number == gone.number) (among-filter (λ (other : Entry). not (other.number == gone.number)) desk.active other among).1
@@ -68,13 +65,7 @@ pub marked-before : (entry : Entry) (mark : Bool) (desk : Desk) → AreConsisten
 marked-before entry mark desk are here other among same = grind (arith, nat_tests, one-entry)
 
 pub marked-from : (old desk : Desk) (entry new : Entry) → new.number ≡ entry.number → From entry.number old desk → From entry.number old (with_entry desk new)
-marked-from old desk entry new same from = record {
-  committed = from.committed;
-  others = λ other among differ. elim (among-replaced new desk.active other among) [
-    | inl it ↦ absurd (both_ways (other.number == entry.number) differ (eq-eqb other.number entry.number (ap (λ (x : Entry). x.number) (sym it) ∙ same)))
-    | inr before ↦ from.others other before.0 differ
-  ];
-}
+marked-from old desk entry new same from = grind (arith, nat_tests, others, among-replaced, both_ways, eq-eqb)
 
 -- what a contest does
 abbrev pub ContestDid : (number : ℕ) (old : Desk) → Contest → Type 0

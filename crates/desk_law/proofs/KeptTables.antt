@@ -1,5 +1,5 @@
 -- The locks and the requests of active entries as a supervisor keeps them, and what steps do to them.
-use Rattle.desk_law.proofs.Common.{◌≡◌, refl, ℕ, ◌==◌, ◌&&◌, ◌||◌, not, if◌then◌else◌, Bool, true, false, List, [], ◌∷◌, ◌++◌, filter, map, Some, list_any, ap, sym, ◌∙◌, subst, inl, inr, not-true, is_fine_page, FlatStore, IsWhole, has, meets, Lines, conflicts, with_whole_pages, shown_cycle, has-append, any-some, meets-at, Plain, after, Desk, Entry, request, conflicts_with, conflicts_of, waits_for, numbers, AreAlike, requested, AreKept, IsTableBut, kept_conflict, kept_waits, left_by, gone_on, IsAmong, due_to, AreConsistent, nat_tests, arith}
+use Rattle.desk_law.proofs.Common.{◌≡◌, refl, ℕ, ◌==◌, ◌&&◌, ◌||◌, not, if◌then◌else◌, Bool, true, List, [], ◌∷◌, filter, map, Some, list_any, ap, sym, ◌∙◌, subst, inl, inr, not-true, is_fine_page, FlatStore, IsWhole, has, meets, Lines, conflicts, with_whole_pages, shown_cycle, has-append, any-some, meets-at, Plain, after, Desk, Entry, request, conflicts_with, conflicts_of, waits_for, numbers, AreAlike, requested, AreKept, IsTableBut, kept_conflict, kept_waits, left_by, gone_on, IsAmong, due_to, AreConsistent, nat_tests, arith}
 use Rattle.desk_law.proofs.Entries.{replaced, among-replaced, among-filter}
 use Rattle.desk_law.proofs.Others.{others, another-stays, StaysSame}
 
@@ -21,13 +21,7 @@ meets-alike a b c d first second = grind (arith, nat_tests, both-imply, any-some
 
 -- whether sets conflict doesn't depend on how they are listed
 pub conflicts-alike : (asked request holds locks : Lines) → AreAlike asked request → AreAlike holds locks → conflicts asked holds ≡ conflicts request locks
-conflicts-alike asked request holds locks first second =
-    λ i.
-    meets-alike asked.writes request.writes (holds.reads ++ holds.writes) (locks.reads ++ locks.writes) first.writes all i
-    || meets-alike asked.reads request.reads holds.writes locks.writes first.reads second.writes i
-  where
-    all : (x : ℕ) → has (holds.reads ++ holds.writes) x ≡ has (locks.reads ++ locks.writes) x
-    all x = has-append holds.reads holds.writes x ∙ (λ i. second.reads x i || second.writes x i) ∙ sym (has-append locks.reads locks.writes x)
+conflicts-alike asked request holds locks first second = grind (arith, nat_tests, meets-alike, has-append)
 
 pub filter-alike : (p q : Entry → Bool) (entries : List Entry) → ((entry : Entry) → IsAmong entries entry → p entry ≡ q entry) → filter p entries ≡ filter q entries
 filter-alike p q [] same = refl
@@ -59,11 +53,7 @@ module _ (desk : Desk) (locks requests : ℕ → Lines) (are : AreKept desk.comm
       by_mark : (entry : Entry) (mark : Bool) → entry.waiting ≡ mark → IsAmong desk.active entry
           → (entry.number == from && entry.waiting && list_any (λ other. other.number == to && kept_conflict (requests entry.number) locks entry.number other) desk.active)
           ≡ (entry.number == from && entry.waiting && list_any (λ other. other.number == to && conflicts_with desk entry other) desk.active)
-      by_mark entry true e among =
-          ap (λ (b : Bool). entry.number == from && entry.waiting && b)
-          (any-entries (λ other. other.number == to && kept_conflict (requests entry.number) locks entry.number other) (λ other. other.number == to && conflicts_with desk entry other) desk.active
-          (λ other there. ap (λ (b : Bool). other.number == to && b) (conflict-kept (requests entry.number) entry other (are.asked entry among e) there)))
-      by_mark entry false e among = grind (arith, nat_tests)
+      by_mark entry mark e among = grind (arith, nat_tests, any-entries, conflict-kept)
 
   -- the cycle that is shown is that of the tables
   pub cycle-kept : (number : ℕ) → shown_cycle (kept_waits locks requests desk.active) (numbers desk) number ≡ shown_cycle (waits_for desk) (numbers desk) number

@@ -49,3 +49,5 @@ pub mod CyclesClose
 pub mod EndsCaused
 pub mod TurnCauses
 mod Unrefused
+pub mod AskingLaw
+mod RuleRows

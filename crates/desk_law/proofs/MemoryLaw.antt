@@ -1,5 +1,5 @@
 -- The law of isolation.
-use Rattle.desk_law.proofs.Common.{◌≤◌, ◌≡◌, refl, ℕ, zero, suc, ◌+◌, ◌<◌, ◌==◌, ◌||◌, nat_lt, not, if◌then◌else◌, Bool, true, false, List, [], ◌∷◌, ◌++◌, length, map, find, Option, Some, None, slice_get, arith, ap, sym, ◌∙◌, subst, inl, inr, eqb-true, eq-eqb, ne_eqb, ltb-true, or_cases, or_left, or_right, not_from_false, cond-false, FlatStore, IsWhole, has, Program, start, after, Event, Begin, Turn, Checkpoint, Crash, Desk, Entry, opened, numbers, Word, Fine, ReadFailed, Unwritten, Doubt, Failed, Counts, Turning, Going, Over, Idle, Committed, Attempt, instruction, turns, turn_of, no_counts, Turned, Busy, Nothing, turned, begin_if, begins, absent_segment, restarted, event_of, step, run, gone_on, row_done, IsAmong, IsConsistent, current_bytes, turn_desk, Machine, Memory, first_machine, with_machine, given_back, row_of, after_instruction, after_turns, after_event, memory_after, memory_of, IsAlone, IsMemory, FindTheirOwn, RunsAreIsolated, CommitsTellTheMachine, SideBySideIsSerial, IsOrderly, nat_tests}
+use Rattle.desk_law.proofs.Common.{◌≤◌, ◌≡◌, refl, ℕ, zero, suc, ◌+◌, ◌<◌, ◌==◌, ◌||◌, nat_lt, not, if◌then◌else◌, Bool, true, false, List, [], ◌∷◌, ◌++◌, length, map, find, Option, Some, None, slice_get, arith, ap, sym, ◌∙◌, subst, inl, inr, eqb-true, eq-eqb, ne_eqb, ltb-true, or_cases, or_left, or_right, not_from_false, cond-false, FlatStore, IsWhole, has, Program, start, after, Event, Begin, Turn, Checkpoint, Crash, Desk, Entry, opened, numbers, Word, Fine, ReadFailed, Unwritten, Doubt, Failed, Counts, Turning, Going, Over, Idle, Committed, Attempt, instruction, turns, turn_of, no_counts, Turned, Busy, Nothing, turned, begin_if, begins, absent_segment, restarted, event_of, step, run, gone_on, row_done, IsAmong, IsConsistent, current_bytes, turn_desk, Machine, Memory, first_machine, with_machine, given_back, row_of, after_instruction, after_turns, after_event, memory_after, memory_of, IsAlone, IsMemory, FindTheirOwn, RunsAreIsolated, CommitsTellTheMachine, SideBySideIsSerial, IsOrderly, nat_tests, next_attempt}
 use Rattle.flat_machine.proofs.Whole.{serial-whole}
 use Rattle.desk.specs.Commits.{begun, IsSerial}
 use Rattle.desk.specs.Report.{event_lines}
@@ -11,12 +11,11 @@ use Rattle.desk_law.proofs.Waiting.{number-of, has-number}
 use Rattle.desk_law.proofs.GoesOn.{IsGranted}
 use Rattle.desk_law.proofs.Endings.{first_entry, with_first, begins-consistent}
 use Rattle.desk_law.proofs.Instructions.{From, RowDone, CommitDone, NoRowDone, Did}
-use Rattle.desk_law.proofs.InstructionStages.{attempt_of}
 use Rattle.desk_law.proofs.TurnsStay.{Stays, Instructed, instructed}
 use Rattle.desk_law.proofs.ConsistentLaw.{stays-consistent, runs-consistent}
 use Rattle.desk_law.proofs.KeptTables.{both-imply}
 use Rattle.desk_law.proofs.CurrentBytes.{bytes-current, one-current}
-use Rattle.desk_law.proofs.CurrentLaw.{holders-see-current}
+use Rattle.desk_law.proofs.CurrentLaw.{holders_see_current}
 use Rattle.desk_law.proofs.CurrentSteps.{current-begun, current-quiet}
 use Rattle.desk_law.proofs.MemorySteps.{AreFewer, memory-current, given-back, at-own, row-done, commit-done}
 
@@ -100,14 +99,7 @@ module _ (old : Desk) (attempt : Attempt) (is : IsOrderly old) (here : IsAmong o
         where
           by_own : (one : Entry) → IsAmong done.moment.active one → one.number ≡ number → (equal : Bool) → (one.number == attempt.entry.number) ≡ equal
               → (attempt.entry.number == number || has (map (λ (entry : Entry). entry.number) (others attempt.entry done.moment.active)) number) ≡ true
-          by_own one among own true e =
-              or_left (attempt.entry.number == number) (has (map (λ (entry : Entry). entry.number) (others attempt.entry done.moment.active)) number)
-              (eq-eqb attempt.entry.number number (sym (eqb-true one.number attempt.entry.number e) ∙ own))
-          by_own one among own false e =
-              or_right (attempt.entry.number == number) (has (map (λ (entry : Entry). entry.number) (others attempt.entry done.moment.active)) number)
-              (subst (λ (n : ℕ). has (map (λ (entry : Entry). entry.number) (others attempt.entry done.moment.active)) n ≡ true) own
-              (has-number (others attempt.entry done.moment.active) one
-              (filter-among (λ (other : Entry). not (other.number == attempt.entry.number)) done.moment.active one among (not_from_false (one.number == attempt.entry.number) e))))
+          by_own one among own equal e = grind (arith, nat_tests, or_left, entry, others, eq-eqb, eqb-true, or_right, has-number, filter-among, not_from_false)
 
   -- what the machine printed
   told : (memory : Memory) (printed : List ℕ) → IsMemory old memory → printed ≡ attempt.now.out
@@ -130,8 +122,7 @@ an-instruction old attempt most memory (Over desk counts (Committed steps printe
 an-instruction old attempt most memory (Over desk counts _) is here at stays did of = no-row old attempt is here at desk memory stays.0 did of
 
 memory-of-turn : (number : ℕ) (turning : Turning) (memory : Memory) → TurnMemory number turning memory → IsMemory (turn_desk turning) memory
-memory-of-turn number (Over desk counts (Committed steps printed)) memory of = of.0
-memory-of-turn number _ memory of = of
+memory-of-turn number turning memory of = grind (arith, nat_tests)
 
 -- so many instructions
 memory-turns : (word : Word) (number most left : ℕ) (turning : Turning) (memory : Memory) → Stays number most turning → TurnMemory number turning memory
@@ -146,7 +137,7 @@ memory-turns word number most (suc left) (Going desk counts) memory stays of =
     memory-turns word number most left next (after_instruction number desk next memory)
     (subst (λ (n : ℕ). Stays n most next) by.own by.goes.0)
     (subst (λ (n : ℕ). TurnMemory n next (after_instruction n desk next memory)) by.own
-    (an-instruction desk (attempt_of desk by.entry by.now) most memory next stays.0 by.here by.at by.goes.0 by.goes.1 of))
+    (an-instruction desk (next_attempt desk by.entry by.now) most memory next stays.0 by.here by.at by.goes.0 by.goes.1 of))
 
 -- a turn of nobody
 same-fewer : (desk : Desk) → AreFewer desk desk
@@ -227,8 +218,7 @@ own-turn word number limit desk memory entry is found of =
     memory-turns word number (length desk.active) limit (Going desk no_counts) memory (orderly desk is, (entry, here, eqb-true entry.number number passes), omega arith) of
 
 turned-desk : (activation : ℕ) (turning : Turning) → (turned activation turning).desk ≡ turn_desk turning
-turned-desk activation (Over desk counts ending) = refl
-turned-desk activation (Going desk counts) = refl
+turned-desk activation turning = grind (arith, nat_tests)
 
 memory-turn : (word : Word) (activation limit : ℕ) (desk : Desk) (memory : Memory) → IsConsistent desk → IsMemory desk memory
     → (one : Option Entry) → find (λ (entry : Entry). entry.number == activation) desk.active ≡ one
@@ -305,7 +295,7 @@ memory-runs programs frames most_active most_lines store events whole two =
 
 -- an entry's own lines are in the bytes of all
 own-found : (desk : Desk) (memory : Memory) → IsConsistent desk → IsMemory desk memory → FindTheirOwn desk memory
-own-found desk memory is of entry state here at line holds = grind (arith, nat_tests, memory-current desk memory is.whole of, holders-see-current desk entry state line is here)
+own-found desk memory is of entry state here at line holds = grind (arith, nat_tests, memory-current desk memory is.whole of, holders_see_current desk entry state line is here)
 
 pub runs-are-isolated : RunsAreIsolated
 runs-are-isolated programs frames most_active most_lines store events whole two = grind (arith, nat_tests, memory-runs, own-found, runs-consistent)
@@ -323,14 +313,10 @@ memory-more programs (first ∷ events) event desk memory =
 printed-by : (number : ℕ) (turning : Turning) (memory : Memory) (counts : Counts) (steps : ℕ) (printed : List ℕ) → TurnMemory number turning memory
     → (turned number turning).happening ≡ Turned number counts (Committed steps printed)
     → (machine : Machine) × (memory.machines number ≡ Some machine) × (machine.state.out ≡ printed)
-printed-by number (Over desk some (Committed s p)) memory counts steps printed of happened =
-    let same : p ≡ printed = cc in
-    (of.1.0, of.1.1, of.1.2 ∙ same)
-printed-by number (Going desk some) memory counts steps printed of happened = absurd (cc)
-printed-by number _ memory counts steps printed of happened = absurd (cc)
+printed-by number turning memory counts steps printed of happened = grind (arith, nat_tests)
 
 -- a turn that committed
-commit-told : (programs : List Program) (desk : Desk) (memory : Memory) (number limit : ℕ) (word : Word) (counts : Counts) (steps : ℕ) (printed : List ℕ) → IsConsistent desk → IsMemory desk memory
+pub commit-told : (programs : List Program) (desk : Desk) (memory : Memory) (number limit : ℕ) (word : Word) (counts : Counts) (steps : ℕ) (printed : List ℕ) → IsConsistent desk → IsMemory desk memory
     → (step programs (Turn number limit) word desk).happening ≡ Turned number counts (Committed steps printed)
     → (machine : Machine) × ((if desk.closed then memory else after_event programs (Turn number limit) word desk memory).machines number ≡ Some machine) × (machine.state.out ≡ printed)
 commit-told programs desk memory number limit word counts steps printed is of happened = by_closed desk.closed happened
@@ -358,8 +344,8 @@ commits-tell-the-machine programs frames most_active most_lines store events num
     (memory-runs programs frames most_active most_lines store events whole two) happened in
     (machine, ap (λ (memory : Memory). memory.machines number) (memory-more programs events (Turn number limit, word) start_desk (memory_of store)) ∙ is, told)
 
-pub side-by-side-is-serial : SideBySideIsSerial
-side-by-side-is-serial names programs number frames most_active most_lines store events taken rest whole two is_run =
+pub side_by_side_is_serial : SideBySideIsSerial
+side_by_side_is_serial names programs number frames most_active most_lines store events taken rest whole two is_run =
     subst
     (λ (committed : FlatStore). IsSerial (begun programs events) number store (run programs taken (opened frames most_active most_lines store)).order
     (event_lines names programs number taken (opened frames most_active most_lines store)) committed (run programs taken (opened frames most_active most_lines store)).closed)

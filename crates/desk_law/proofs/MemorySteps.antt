@@ -286,10 +286,4 @@ module _ (moment desk : Desk) (attempt : Attempt) (memory : Memory) (granted : I
       record { it = was.it; is = was.is; bytes = bytes; at = same.state_on_other; wrote = was.wrote ∙ ap (λ (l : Lines). l.writes) (sym same.due) }
 
   pub commit-done : IsMemory desk (commit_of desk.committed.directory attempt.entry.number memory)
-  commit-done = record {
-    committed = committed;
-    bytes = is.bytes ∙ current_then;
-    alone = λ entry among.
-        subst (λ (store : FlatStore). IsAlone store entry (memory.machines entry.number)) (sym store_is)
-        (still-alone entry (subst (λ (entries : List Entry). IsAmong entries entry) active_is among));
-  }
+  commit-done = grind (arith, nat_tests, committed, current_then, still-alone)

@@ -1,5 +1,5 @@
 -- A commit of one activation leaves the others as they were.
-use Rattle.desk_law.proofs.Common.{◌+◌, ◌≡◌, ℕ, ◌==◌, not, Bool, true, false, List, filter, Some, arith, ap, sym, subst, not-true, FlatStore, IsWhole, has, size, Lines, with_whole_pages, has-append, has_left, has_right, Plain, after, On, row, touched_next, all_of, DoesTheSame, agreement-enough, after-whole, after-kept, Entry, left_by, IsAmong, due_to, IsLive, AreApart, AreConsistent, nat_tests}
+use Rattle.desk_law.proofs.Common.{◌+◌, ◌≡◌, ℕ, ◌==◌, not, Bool, true, false, List, filter, Some, arith, sym, subst, not-true, FlatStore, IsWhole, has, Lines, with_whole_pages, has-append, has_left, has_right, Plain, after, On, row, touched_next, all_of, DoesTheSame, agreement-enough, after-whole, after-kept, Entry, left_by, IsAmong, due_to, IsLive, AreApart, AreConsistent, nat_tests}
 use Rattle.desk_law.proofs.Entries.{among-filter, ascend-filter}
 
 -- the state after a row more
@@ -46,16 +46,7 @@ another-live :
     → AreConsistent store most_lines next entries → IsAmong entries entry → IsAmong entries other → (other.number == entry.number) ≡ false
     → after entry.runs.program entry.runs.args store entry.rows ≡ Some now
     → IsLive (left_by store now) most_lines other
-another-live store most_lines next entries entry other now whole are here there differ is =
-    let live : IsLive store most_lines other = are.live other there in
-    let apart : AreApart (due_to store other) (due_to store entry) = are.apart other entry there here differ in
-    let (bytes, same) = another-same store entry other now live.state whole is live.is (record { first_writes = apart.second_writes; second_writes = apart.first_writes }) in
-    record {
-      state = record live.state { store = bytes };
-      is = same.state_on_other;
-      few = omega (arith, live.few, ap (λ (lines : Lines). size lines.writes) same.due);
-      present = live.present;
-    }
+another-live store most_lines next entries entry other now whole are here there differ is = grind (arith, nat_tests, another-same)
 
 -- the entries that are left
 abbrev pub others : Entry → List Entry → List Entry

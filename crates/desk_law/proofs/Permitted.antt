@@ -1,5 +1,5 @@
 -- What is permitted is held, and what is held conflicts with nobody.
-use Rattle.desk_law.proofs.Common.{◌≡◌, refl, ℕ, ◌==◌, ◌&&◌, ◌||◌, not, Bool, true, false, List, [], ◌∷◌, ◌++◌, map, filter, slice_index_or, list_any, ap, sym, ◌∙◌, inl, inr, eqb-true, eq-eqb, or_cases, is_fine_page, has, size, Lines, conflicts, page_of_line, has-append, has_left, any-some, size-alike, permits, ArePart, reaches, any-or, whole-reached, has-whole_pages, Desk, Entry, nobody, wanted, request, held, conflicts_with, conflicts_of, IsAmong, due_to, AreApart, ArePermitted, PermittedIsFree, FineRowsAskForTheirLines, WriteBitsHoldPages, IsOrderly, touched_of, nat_tests, arith}
+use Rattle.desk_law.proofs.Common.{◌≡◌, refl, ℕ, ◌==◌, Bool, true, false, List, [], ◌∷◌, ◌++◌, map, filter, slice_index_or, list_any, sym, ◌∙◌, inl, inr, eqb-true, eq-eqb, or_cases, is_fine_page, has, size, Lines, conflicts, page_of_line, has-append, has_left, any-some, size-alike, permits, ArePart, reaches, any-or, whole-reached, has-whole_pages, Desk, Entry, nobody, wanted, request, held, conflicts_with, conflicts_of, IsAmong, due_to, AreApart, ArePermitted, PermittedIsFree, FineRowsAskForTheirLines, WriteBitsHoldPages, IsOrderly, touched_of, nat_tests, arith}
 use Rattle.desk_law.proofs.Orderly.{orderly}
 
 -- where none passes
@@ -52,30 +52,16 @@ held-written desk entry part =
     })
     (record { among = λ x inside. has_left (touched_of desk.committed entry).writes (wanted desk entry).writes x inside })
 
-pub permitted-is-free : PermittedIsFree
-permitted-is-free desk entry is here are = held-free desk entry (orderly desk is) here (permitted-held desk entry (orderly desk is) here are)
+pub permitted_is_free : PermittedIsFree
+permitted_is_free desk entry is here are = held-free desk entry (orderly desk is) here (permitted-held desk entry (orderly desk is) here are)
 
 -- A row that writes into fine pages alone asks for what it touches.
-pub fine-rows : FineRowsAskForTheirLines
-fine-rows desk entry fine line =
-    has-whole_pages (is_fine_page desk.committed.directory) (wanted desk entry) line
-    ∙ ap (λ (b : Bool). has (wanted desk entry).reads line || b)
-    (any-or (is_fine_page desk.committed.directory) line (wanted desk entry).writes
-    ∙ ap (λ (b : Bool). has (wanted desk entry).writes line || b) (by_page (list_any (λ w. page_of_line w == page_of_line line) (wanted desk entry).writes) refl)
-    ∙ or_none (has (wanted desk entry).writes line))
-  where
-    or_none : (b : Bool) → (b || false) ≡ b
-    or_none b = grind (arith, nat_tests)
-
-    by_page : (into : Bool) → list_any (λ w. page_of_line w == page_of_line line) (wanted desk entry).writes ≡ into → (into && not (is_fine_page desk.committed.directory (page_of_line line))) ≡ false
-    by_page true e =
-        let (w, written, at) = any-some (λ w. page_of_line w == page_of_line line) (wanted desk entry).writes e in
-        ap not (ap (is_fine_page desk.committed.directory) (sym (eqb-true (page_of_line w) (page_of_line line) at)) ∙ fine w written)
-    by_page false e = refl
+pub fine_rows : FineRowsAskForTheirLines
+fine_rows desk entry fine line = grind (arith, nat_tests, has-whole_pages, any-or, any-some, eqb-true)
 
 -- Between two instructions the lines of a page whose write bit is on are held.
-pub write-bits : WriteBitsHoldPages
-write-bits desk entry page line is here owner on at =
+pub write_bits : WriteBitsHoldPages
+write_bits desk entry page line is here owner on at =
     (is.held.covered page entry here).loads line at (may ((slice_index_or desk.authority page nobody).owner == entry.number) (slice_index_or desk.authority page nobody).write (has (slice_index_or desk.authority page nobody).lines line)
     (eq-eqb (slice_index_or desk.authority page nobody).owner entry.number owner) on)
   where

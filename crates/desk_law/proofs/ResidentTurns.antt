@@ -1,5 +1,5 @@
 -- A turn leaves resident pages that fit.
-use Rattle.desk_law.proofs.Common.{◌≡◌, refl, ℕ, zero, suc, ◌<◌, ◌≤◌, ◌==◌, Bool, true, false, List, [], ◌∷◌, ◌++◌, length, find, Option, Some, None, option_map_or, arith, ap, sym, ◌∙◌, eqb-true, Layout, page_count, line_count, has, no_lines, page_of_line, shown_cycle, victim_of, any-some, has-pages_of, Plain, Program, Outcome, On, Commit, Check, row, after, touched, all_of, touched-below, Desk, Entry, with_entry, rolled_back, wanted, conflicts_of, numbers, waits_for, Word, Unwritten, Counts, Turning, Going, Over, Attempt, Fetching, Fetched, Broken, Contest, Contested, Settled, Lost, attempts, attempts_at, instruction, turns, touched_pages, limited, is_over_limit, fetched_first, fetches_touched, asks, gets, goes_on, takes_effect, commits, contest_ends, waits_or_gets, with_grants, breaks_cycle, breaks_cycles, AreResident, nat_tests}
+use Rattle.desk_law.proofs.Common.{◌≡◌, refl, ℕ, zero, suc, ◌<◌, ◌≤◌, ◌==◌, Bool, true, false, List, [], ◌∷◌, ◌++◌, length, find, Option, Some, None, option_map_or, arith, ap, sym, ◌∙◌, eqb-true, Layout, page_count, line_count, has, no_lines, page_of_line, shown_cycle, victim_of, any-some, has-pages_of, Plain, Program, Outcome, On, Commit, Check, row, after, touched, all_of, touched-below, Desk, Entry, with_entry, rolled_back, wanted, numbers, waits_for, Word, Counts, Turning, Going, Over, Attempt, Fetching, Contest, Contested, Settled, Lost, attempts, attempts_at, instruction, turns, touched_pages, limited, is_over_limit, fetched_first, fetches_touched, asks, gets, goes_on, takes_effect, commits, contest_ends, waits_or_gets, breaks_cycle, breaks_cycles, AreResident, nat_tests}
 use Rattle.desk_law.proofs.Contest.{breaks-keep, left_over}
 use Rattle.desk_law.proofs.ResidentPages.{FetchFits, fetches-resident, taken-resident, none-resident}
 
@@ -28,8 +28,7 @@ touched-within program directory state page attempt same inside =
     omega (arith, low, eqb-true (page_of_line line) page here)
   where
     by_state : (state : Option Plain) (line : ℕ) → has (all_of (option_map_or (touched program directory) state no_lines)) line ≡ true → line < line_count directory
-    by_state None line there = absurd (cc)
-    by_state (Some now) line there = touched-below program directory now line there
+    by_state state line there = grind (arith, nat_tests, touched-below)
 
 -- a rollback
 pub rolled-fits : (desk : Desk) (entry : Entry) → Fits desk → Fits (rolled_back desk entry)
@@ -63,8 +62,7 @@ module _ (word : Word) (attempt : Attempt) (directory : Layout) (below : (page :
       (λ page inside. omega (arith, below page inside, ap page_count same))
 
   fits-commit : (word : Word) (desk : Desk) (counts : Counts) → Fits desk → TurnFits (commits word attempt desk counts)
-  fits-commit Unwritten desk counts is = record { frames = is.frames; resident = is.resident }
-  fits-commit _ desk counts is = record { frames = is.frames; resident = is.resident }
+  fits-commit word desk counts is = grind (arith, nat_tests)
 
   fits-effect : (desk : Desk) (counts : Counts) (outcome : Outcome) → Fits desk → TurnFits (takes_effect word attempt outcome desk counts)
   fits-effect desk counts (On next) is = record { frames = is.frames; resident = is.resident }
@@ -72,22 +70,17 @@ module _ (word : Word) (attempt : Attempt) (directory : Layout) (below : (page :
   fits-effect desk counts (Check code) is = rolled-fits desk attempt.entry is
 
   fits-on : (desk : Desk) (counts : Counts) (fetching : Fetching) → Fits desk → FetchFits desk.frames (page_count desk.committed.directory) fetching → TurnFits (goes_on word attempt desk counts fetching)
-  fits-on desk counts (Fetched resident counted) is are = fits-effect (record desk { resident = resident }) (record counts { pages = counted }) attempt.outcome (resident-fits desk resident is are)
-  fits-on desk counts (Broken counted) is are = record { frames = is.frames; resident = none-resident desk.frames (page_count desk.committed.directory) }
+  fits-on desk counts fetching is are = grind (arith, nat_tests, fits-effect, resident-fits, none-resident)
 
   fits-get : (refused : List ℕ) (desk : Desk) (counts : Counts) → desk.committed.directory ≡ directory → Fits desk → TurnFits (gets word attempt refused desk counts)
-  fits-get refused desk counts same is =
-      let there : Fits (with_grants attempt refused desk) = record { frames = is.frames; resident = is.resident } in
-      fits-on (with_grants attempt refused desk) counts (fetches_touched word attempt (with_grants attempt refused desk) counts) there (fits-fetched (with_grants attempt refused desk) counts same there)
+  fits-get refused desk counts same is = grind (arith, nat_tests, fits-on, fits-fetched)
 
   fits-wait : (refused holders : List ℕ) (desk : Desk) (counts : Counts) → desk.committed.directory ≡ directory → Fits desk → TurnFits (waits_or_gets word attempt refused holders desk counts)
   fits-wait refused [] desk counts same is = fits-get refused desk counts same is
   fits-wait refused (holder ∷ holders) desk counts same is = is
 
   fits-contest : (refused : List ℕ) (contest : Contest) → ContestFits directory contest → TurnFits (contest_ends word attempt refused contest)
-  fits-contest refused (Lost desk counts) is = is.0
-  fits-contest refused (Settled desk counts) is = fits-wait refused (conflicts_of desk attempt.entry) desk counts is.1 is.0
-  fits-contest refused (Contested desk counts) is = fits-wait refused (conflicts_of desk attempt.entry) desk counts is.1 is.0
+  fits-contest refused contest is = grind (arith, nat_tests, fits-wait)
 
   fits-ask : (refused holders : List ℕ) (desk : Desk) (counts : Counts) → desk.committed.directory ≡ directory → Fits desk → TurnFits (asks word attempt refused holders desk counts)
   fits-ask refused [] desk counts same is = fits-get refused desk counts same is
@@ -99,8 +92,7 @@ module _ (word : Word) (attempt : Attempt) (directory : Layout) (below : (page :
 
   fits-first : (desk : Desk) (counts : Counts) (fetching : Fetching) → desk.committed.directory ≡ directory → Fits desk → FetchFits desk.frames (page_count desk.committed.directory) fetching
       → TurnFits (fetched_first word attempt desk counts fetching)
-  fits-first desk counts (Fetched resident counted) same is are = grind (arith, nat_tests, fits-ask, resident-fits)
-  fits-first desk counts (Broken counted) same is are = record { frames = is.frames; resident = none-resident desk.frames (page_count desk.committed.directory) }
+  fits-first desk counts fetching same is are = grind (arith, nat_tests, fits-ask, resident-fits, none-resident)
 
   fits-limit : (over : Bool) (desk : Desk) (counts : Counts) → desk.committed.directory ≡ directory → Fits desk → TurnFits (limited over word attempt desk counts)
   fits-limit true desk counts same is = rolled-fits desk attempt.entry is

@@ -1,18 +1,18 @@
 -- An instruction of a consistent desk whose lines are all there: nothing is counted but the row, and nothing else changes.
-use Rattle.desk_law.proofs.Common.{nat_lt, ◌≡◌, refl, ℕ, ◌+◌, Bool, true, false, List, [], ◌++◌, length, filter, Some, slice_index_or, arith, ap, sym, ◌∙◌, subst, inl, inr, list_any, or_cases, is_fine_page, has, size, Lines, both, with_whole_pages, pages_of, has-append, has_left, any-some, ArePart, reaches, whole-reached, part-both, part-whole_pages, has-whole_pages, Plain, On, Commit, Check, row, after, Desk, Entry, nobody, with_entry, rolled_back, wanted, request, conflicts_of, Word, Counts, Going, Over, Checked, Attempt, Fetched, fetches, instruction, lines_written, refuses, lines_within, gets, takes_effect, commits, nat_tests, AreThere, AreAlike, gone_on, IsAmong, due_to, IsOrderly, touched_of}
+use Rattle.desk_law.proofs.Common.{nat_lt, ◌≡◌, refl, ℕ, ◌+◌, Bool, true, false, List, [], ◌++◌, length, filter, Some, slice_index_or, arith, ap, sym, ◌∙◌, subst, inl, inr, list_any, or_cases, is_fine_page, has, size, Lines, both, with_whole_pages, pages_of, has-append, has_left, any-some, ArePart, reaches, whole-reached, part-both, part-whole_pages, has-whole_pages, Plain, On, Commit, Check, row, after, Desk, Entry, nobody, with_entry, rolled_back, wanted, request, conflicts_of, Word, Counts, Going, Over, Checked, Attempt, Fetched, fetches, instruction, lines_written, refuses, lines_within, gets, takes_effect, commits, nat_tests, AreThere, AreAlike, gone_on, IsAmong, due_to, IsOrderly, touched_of, next_attempt}
 use Rattle.desk_law.proofs.GoesOn.{due-more}
-use Rattle.desk_law.proofs.InstructionStages.{attempt_of, GoesOn, instruction-at, stage-limit, stage-fetched, stage-gets, stage-on, stage-commit}
+use Rattle.desk_law.proofs.InstructionStages.{GoesOn, instruction-at, stage-limit, stage-fetched, stage-gets, stage-on, stage-commit}
 use Rattle.desk_law.proofs.LinesThere.{filter-none, fetches-none, there-resident, there-unrefused, there-held, there-lowered}
 use Rattle.desk_law.proofs.Permitted.{held-free, held-written}
 use Rattle.desk_law.proofs.Endings.{wanted-commit}
 
 -- What an instruction comes to that goes through with nothing fetched, refused or met.
 pub effect-there :
-    (word : Word) (desk : Desk) (counts : Counts) (entry : Entry) (now : Plain) → GoesOn (attempt_of desk entry now).outcome
+    (word : Word) (desk : Desk) (counts : Counts) (entry : Entry) (now : Plain) → GoesOn (next_attempt desk entry now).outcome
     → after entry.runs.program entry.runs.args desk.committed entry.rows ≡ Some now
     → AreThere desk entry.number (wanted desk entry) → conflicts_of desk entry ≡ []
-    → nat_lt desk.most_lines (lines_written (attempt_of desk entry now) desk) ≡ false
-    → instruction word (Some entry) desk counts ≡ takes_effect word (attempt_of desk entry now) (attempt_of desk entry now).outcome desk counts
+    → nat_lt desk.most_lines (lines_written (next_attempt desk entry now) desk) ≡ false
+    → instruction word (Some entry) desk counts ≡ takes_effect word (next_attempt desk entry now) (next_attempt desk entry now).outcome desk counts
 effect-there word desk counts entry now goes at there alone within =
     instruction-at word entry desk counts now at
     ∙ stage-limit word attempt desk counts attempt.outcome false goes within
@@ -48,8 +48,8 @@ pub open-row :
 open-row word desk counts entry now next is here at went there =
     effect-there word desk counts entry now (subst GoesOn (sym went) tt) at there (held-free desk entry is here held)
     (ap (nat_lt desk.most_lines) (held-written desk entry held) ∙ within-most desk entry is here)
-    ∙ stage-on word (attempt_of desk entry now) desk counts (attempt_of desk entry now).outcome next went
-    ∙ ap (λ (d : Desk). Going (with_entry d (gone_on entry)) (record counts { ran = counts.ran + 1 })) (there-lowered desk entry (attempt_of desk entry now) refl refl is here there)
+    ∙ stage-on word (next_attempt desk entry now) desk counts (next_attempt desk entry now).outcome next went
+    ∙ ap (λ (d : Desk). Going (with_entry d (gone_on entry)) (record counts { ran = counts.ran + 1 })) (there-lowered desk entry (next_attempt desk entry now) refl refl is here there)
   where
     held : ArePart (request desk entry) (due_to desk.committed entry)
     held = there-held desk entry is here there
@@ -63,9 +63,7 @@ open-due desk entry part = record { reads = reads; writes = writes }
     due = due-more desk.committed entry
 
     alike : (a b : Bool) → (a ≡ true → b ≡ true) → (b ≡ true → a ≡ true) → a ≡ b
-    alike true b there back = sym (there refl)
-    alike false true there back = back refl
-    alike false false there back = refl
+    alike a b there back = grind (arith, nat_tests, there)
 
     old : ArePart (due_to desk.committed entry) (with_whole_pages (is_fine_page desk.committed.directory) (both (touched_of desk.committed entry) (wanted desk entry)))
     old = part-whole_pages (is_fine_page desk.committed.directory) (touched_of desk.committed entry) (both (touched_of desk.committed entry) (wanted desk entry)) (part-both (touched_of desk.committed entry) (wanted desk entry))
@@ -106,11 +104,11 @@ pub commit-row :
     (word : Word) (desk : Desk) (counts : Counts) (entry : Entry) (now : Plain) → IsOrderly desk → IsAmong desk.active entry
     → after entry.runs.program entry.runs.args desk.committed entry.rows ≡ Some now
     → row entry.runs.program desk.committed.directory now ≡ Commit
-    → instruction word (Some entry) desk counts ≡ commits word (attempt_of desk entry now) desk counts
+    → instruction word (Some entry) desk counts ≡ commits word (next_attempt desk entry now) desk counts
 commit-row word desk counts entry now is here at went =
     effect-there word desk counts entry now (subst GoesOn (sym went) tt) at there (held-free desk entry is here held)
     (ap (nat_lt desk.most_lines) (held-written desk entry held) ∙ within-most desk entry is here)
-    ∙ stage-commit word (attempt_of desk entry now) desk counts (attempt_of desk entry now).outcome went
+    ∙ stage-commit word (next_attempt desk entry now) desk counts (next_attempt desk entry now).outcome went
   where
     there : AreThere desk entry.number (wanted desk entry)
     there = subst (AreThere desk entry.number) (sym (wanted-commit desk entry now at went)) (record { reads = λ line inside. absurd (cc); writes = λ line inside. absurd (cc) })
@@ -124,4 +122,4 @@ pub check-row :
     → after entry.runs.program entry.runs.args desk.committed entry.rows ≡ Some now
     → row entry.runs.program desk.committed.directory now ≡ Check code
     → instruction word (Some entry) desk counts ≡ Over (rolled_back desk entry) counts (Checked code now.iar)
-check-row word desk counts entry now code at went = grind (arith, nat_tests, instruction-at word entry desk counts now, attempt_of desk entry now)
+check-row word desk counts entry now code at went = grind (arith, nat_tests, instruction-at word entry desk counts now, next_attempt desk entry now)

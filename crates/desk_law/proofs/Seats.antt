@@ -1,5 +1,5 @@
 -- Entries that are told from seats: what becomes of them as one seat changes or is left, and tables by seat as tables by number.
-use Rattle.desk_law.proofs.Common.{◌≡◌, refl, ℕ, ◌==◌, ◌&&◌, ◌||◌, not, if◌then◌else◌, Bool, true, false, List, [], ◌∷◌, map, filter, find, Some, list_any, option_map, ap, sym, ◌∙◌, inl, inr, eqb-true, eq-eqb, and_from, or_left, or_right, FlatStore, has, Lines, no_lines, conflicts, any-at, any-some, any-named, find-named, Entry, AreAlike, requested, AreKept, AreSeats, by_number, kept_conflict, kept_waits, IsAmong, due_to, nat_tests, arith}
+use Rattle.desk_law.proofs.Common.{◌≡◌, refl, ℕ, ◌==◌, ◌&&◌, ◌||◌, not, if◌then◌else◌, Bool, true, false, List, [], ◌∷◌, map, filter, find, Some, list_any, option_map, ◌∙◌, inl, inr, eqb-true, eq-eqb, and_from, or_left, or_right, FlatStore, has, Lines, no_lines, conflicts, any-at, any-some, any-named, find-named, Entry, AreAlike, requested, AreKept, AreSeats, by_number, kept_conflict, kept_waits, IsAmong, due_to, nat_tests, arith}
 use Rattle.desk_law.proofs.Entries.{replaced}
 use Rattle.desk_law.proofs.Others.{others}
 
@@ -126,10 +126,4 @@ module _ (taken : List ℕ) (entry_of : ℕ → Entry) (are : AreSeats taken ent
 
       by_test : (at : ℕ) → has taken at ≡ true → (same : Bool) → (at == from) ≡ same
           → asks at ≡ (at == from && ((entry_of from).waiting && (not (to == from) && conflicts (requests from) (locks to))))
-      by_test at inside true e =
-          ap asks (eqb-true at from e)
-          ∙ (λ i. eq-eqb (entry_of from).number (entry_of from).number refl i && (entry_of from).waiting && here-meets i)
-          ∙ sym (ap (λ (same : Bool). same && ((entry_of from).waiting && (not (to == from) && conflicts (requests from) (locks to)))) e)
-      by_test at inside false e =
-          (λ i. (are.apart at from inside here ∙ e) i && (entry_of at).waiting && meets at)
-          ∙ sym (ap (λ (same : Bool). same && ((entry_of from).waiting && (not (to == from) && conflicts (requests from) (locks to)))) e)
+      by_test at inside same e = grind (arith, nat_tests, eqb-true, eq-eqb, here-meets)

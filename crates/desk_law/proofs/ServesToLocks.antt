@@ -101,10 +101,4 @@ pub serve-ends :
     → fetches Fine desk.frames (touched_pages attempt) (touched_pages attempt) desk.resident counts.pages ≡ Fetched resident counted
     → (word : Word) → Reads word counted
     → begins word ≡ Going (row_done attempt (got attempt refused resident desk)) (record counts { pages = counted; ran = counts.ran + 1 })
-serve-ends begins attempt refused resident desk counts counted locks requests states shown comes served fetched word reads =
-    grind (
-      arith,
-      nat_tests,
-      fetched-few Fine desk.frames (touched_pages attempt) (touched_pages attempt) desk.resident resident counts.pages counted fetched,
-      fetched-for word desk.frames (touched_pages attempt) (touched_pages attempt) desk.resident resident counts.pages counted fetched reads,
-    )
+serve-ends begins attempt refused resident desk counts counted locks requests states shown comes served fetched word reads = grind (arith, nat_tests, fetched-few, fetched-for)

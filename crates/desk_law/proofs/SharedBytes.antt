@@ -1,5 +1,5 @@
 -- One store of bytes for all entries: it holds every line as it is now, and each row may run over it.
-use Rattle.desk_law.proofs.Common.{◌≡◌, refl, ℕ, ◌+◌, ◌==◌, not, true, false, List, [], ◌++◌, length, Option, Some, option_map_or, ap, sym, ◌∙◌, subst, inl, inr, eqb-true, both_ways, or_cases, or_parts, and_cases, cases_Bool, not_from_false, false_from_ne_true, byte_count, FlatStore, IsWhole, has, meets, Lines, conflicts, has-append, has_left, has_right, meets-at, Plain, Plan, Does, Fails, Outcome, On, plan_at, row, touched, touched_by, after, line_in, all_of, after-whole, after-kept, on, Keeps, Steps, lines_of_plan, row-steps, Desk, Entry, wanted, request, held, conflicts_with, conflicts_of, gone_on, IsAmong, AreConsistent, current_of, current, IsCurrent, touched_of}
+use Rattle.desk_law.proofs.Common.{◌≡◌, ℕ, ◌+◌, ◌==◌, not, true, false, List, [], ◌++◌, length, Option, Some, option_map_or, ap, sym, ◌∙◌, subst, inl, inr, eqb-true, both_ways, or_cases, or_parts, and_cases, cases_Bool, not_from_false, false_from_ne_true, byte_count, FlatStore, IsWhole, has, meets, Lines, conflicts, has-append, has_left, has_right, meets-at, Plain, Plan, Outcome, On, plan_at, row, touched, touched_by, after, line_in, all_of, after-whole, after-kept, on, Keeps, Steps, lines_of_plan, row-steps, Desk, Entry, wanted, request, held, conflicts_with, conflicts_of, gone_on, IsAmong, AreConsistent, current_of, current, IsCurrent, touched_of, arith, nat_tests}
 use Rattle.desk_law.proofs.Entries.{replaced, one-entry}
 use Rattle.desk_law.proofs.Others.{after-row}
 use Rattle.desk_law.proofs.GoesOn.{nobody-conflicts}
@@ -92,8 +92,7 @@ row-on-current desk most entry now next bytes whole are later here is went none 
     after_next = after-row desk.committed entry now next is went
 
     by_plan : (plan : Plan) → touched_by entry.runs.program desk.committed.directory (On next) plan ≡ lines_of_plan entry.runs.program desk.committed.directory plan
-    by_plan (Does registers status act address link) = refl
-    by_plan (Fails code) = refl
+    by_plan plan = grind (arith, nat_tests)
 
     lines : wanted desk entry ≡ lines_of_plan entry.runs.program desk.committed.directory (plan_at now)
     lines =

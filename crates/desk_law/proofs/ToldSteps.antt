@@ -20,22 +20,14 @@ module _ (store : FlatStore) (entries : List Entry) (states : ℕ → Plain) (ar
   ]
 
   pub states-mark : (entry : Entry) (mark : Bool) → IsAmong entries entry → AreStates store (replaced (record entry { waiting = mark }) entries) states
-  states-mark entry mark here other among = elim (among-replaced (record entry { waiting = mark }) entries other among) [
-    | inl it ↦ subst (λ (x : Entry). IsState store x (states x.number)) it (let is = are entry here in record { bytes = is.bytes; at = is.at })
-    | inr old ↦ are other old.0
-  ]
+  states-mark entry mark here other among = grind (arith, nat_tests, among-replaced)
 
   pub states-rollback : (gone : Entry) → AreStates store (others gone entries) states
   states-rollback gone other among = are other (among-filter (λ (other : Entry). not (other.number == gone.number)) entries other among).0
 
   pub states-commit : (most_lines next : ℕ) (entry : Entry) (now : Plain) → IsWhole store → AreConsistent store most_lines next entries → IsAmong entries entry
       → after entry.runs.program entry.runs.args store entry.rows ≡ Some now → AreStates (left_by store now) (others entry entries) states
-  states-commit most_lines next entry now whole consistent here at other among =
-      let (there, differ) = among-filter (λ (other : Entry). not (other.number == entry.number)) entries other among in
-      let is = are other there in
-      let (bytes, same) = another-same store entry other now (over_all (states other.number) is.bytes) whole at is.at
-      (apart-turned (due_to store other) (due_to store entry) (consistent.apart other entry there here (not-true (other.number == entry.number) differ))) in
-      record { bytes = bytes; at = same.state_on_other }
+  states-commit most_lines next entry now whole consistent here at other among = grind (arith, nat_tests, among-filter, another-same, apart-turned, not-true)
 
 -- A mark.
 pub told-mark :

@@ -1,10 +1,9 @@
 -- Each end of a turn has its cause.
-use Rattle.desk_law.proofs.Common.{◌≡◌, refl, ℕ, zero, suc, ◌+◌, ◌<◌, ◌==◌, Bool, true, false, List, [], ◌∷◌, ◌++◌, length, find, Option, Some, None, arith, ap, sym, ◌∙◌, subst, eqb-true, ltb-true, brought, shown_cycle, victim_of, Plain, Outcome, On, Commit, Check, row, after, Desk, Entry, with_entry, conflicts_of, numbers, waits_for, Word, ReadFailed, Unwritten, Doubt, Counts, Turning, Going, Over, Idle, Limit, Checked, Journal, Disk, Victim, Waits, Committed, CommitUnwritten, CommitDoubted, Attempt, Fetching, Fetched, Broken, Contest, Contested, Settled, Lost, attempts, attempts_at, instruction, turns, turn_of, no_counts, can't_be_read, fetches, limited, is_over_limit, lines_written, fetched_first, fetches_touched, asks, gets, goes_on, takes_effect, commits, contest_ends, waits_or_gets, with_grants, refused_pages, breaks_cycle, breaks_cycles, RowIs, lines_by, EndsForCause, IsOverFor, TurnsEndForCause, turn_desk, gone_on, IsAmong, IsConsistent, nat_tests}
+use Rattle.desk_law.proofs.Common.{◌≡◌, refl, ℕ, zero, suc, ◌+◌, ◌<◌, ◌==◌, Bool, true, false, List, [], ◌∷◌, ◌++◌, length, find, Option, Some, None, arith, ap, sym, ◌∙◌, subst, eqb-true, ltb-true, brought, shown_cycle, victim_of, Plain, Outcome, On, Commit, Check, row, after, Desk, Entry, with_entry, conflicts_of, numbers, waits_for, Word, ReadFailed, Unwritten, Doubt, Counts, Turning, Going, Over, Idle, Limit, Checked, Journal, Disk, Victim, Waits, Committed, CommitUnwritten, CommitDoubted, Attempt, Fetching, Fetched, Broken, Contest, Contested, Settled, Lost, attempts, attempts_at, instruction, turns, turn_of, no_counts, can't_be_read, fetches, limited, is_over_limit, lines_written, fetched_first, asks, gets, goes_on, takes_effect, commits, contest_ends, waits_or_gets, breaks_cycle, breaks_cycles, RowIs, lines_by, EndsForCause, IsOverFor, TurnsEndForCause, turn_desk, gone_on, IsAmong, IsConsistent, nat_tests, next_attempt}
 use Rattle.desk_law.proofs.Entries.{found-among, new-among}
 use Rattle.desk_law.proofs.Contest.{breaks-keep, left_over}
 use Rattle.desk_law.proofs.ContestRounds.{asker-left}
 use Rattle.desk_law.proofs.ConsistentLaw.{instruction-consistent}
-use Rattle.desk_law.proofs.InstructionStages.{attempt_of}
 
 -- a page that can't be read is the last one counted
 abbrev FetchCause : Word → Fetching → Type 0
@@ -12,8 +11,7 @@ FetchCause word (Fetched resident counted) = Unit {0}
 FetchCause word (Broken counted) = word ≡ ReadFailed counted
 
 unread : (word : Word) (counted : ℕ) → can't_be_read word counted ≡ true → word ≡ ReadFailed counted
-unread (ReadFailed page) counted fails = ap ReadFailed (eqb-true page counted fails)
-unread _ counted fails = absurd (cc)
+unread word counted fails = grind (arith, nat_tests, eqb-true)
 
 fetch-cause : (word : Word) (frames : ℕ) (kept pages resident : List ℕ) (counted : ℕ) → FetchCause word (fetches word frames kept pages resident counted)
 fetch-cause word frames kept [] resident counted = tt
@@ -83,9 +81,7 @@ contest-comes old base entry left contest is = breaks-keep (ContestComes old bas
 
 module _ (word : Word) (attempt : Attempt) (old : Desk) (base : Counts) where
   come-commit : (word : Word) (desk : Desk) (counts : Counts) → attempt.outcome ≡ Commit → Stays old base attempt.entry desk counts → Comes word attempt old base (commits word attempt desk counts)
-  come-commit Unwritten desk counts went stays = (stays.ran, refl, went)
-  come-commit Doubt desk counts went stays = (stays.ran, refl, went)
-  come-commit _ desk counts went stays = (ap (λ (n : ℕ). n + 1) stays.ran, refl, went, refl)
+  come-commit word desk counts went stays = grind (arith, nat_tests)
 
   come-effect : (desk : Desk) (counts : Counts) (outcome : Outcome) → attempt.outcome ≡ outcome → Stays old base attempt.entry desk counts → Comes word attempt old base (takes_effect word attempt outcome desk counts)
   come-effect desk counts (On next) went stays = (
@@ -98,16 +94,10 @@ module _ (word : Word) (attempt : Attempt) (old : Desk) (base : Counts) where
   come-effect desk counts (Check code) went stays = (stays.ran, went, refl)
 
   come-on : (desk : Desk) (counts : Counts) (fetching : Fetching) → Stays old base attempt.entry desk counts → FetchCause word fetching → Comes word attempt old base (goes_on word attempt desk counts fetching)
-  come-on desk counts (Fetched resident counted) stays cause =
-      come-effect (record desk { resident = resident }) (record counts { pages = counted }) attempt.outcome refl
-      (record { committed = stays.committed; limit = stays.limit; ran = stays.ran; mark = stays.mark; here = stays.here })
-  come-on desk counts (Broken counted) stays cause = cause
+  come-on desk counts fetching stays cause = grind (arith, nat_tests, come-effect)
 
   come-get : (refused : List ℕ) (desk : Desk) (counts : Counts) → Stays old base attempt.entry desk counts → Comes word attempt old base (gets word attempt refused desk counts)
-  come-get refused desk counts stays =
-      come-on (with_grants attempt refused desk) counts (fetches_touched word attempt (with_grants attempt refused desk) counts)
-      (record { committed = stays.committed; limit = stays.limit; ran = stays.ran; mark = stays.mark; here = stays.here })
-      (fetch-cause word desk.frames _ _ desk.resident counts.pages)
+  come-get refused desk counts stays = grind (arith, nat_tests, come-on, fetch-cause)
 
   come-wait : (refused holders : List ℕ) (desk : Desk) (counts : Counts) → conflicts_of desk attempt.entry ≡ holders → Marked old base attempt.entry desk counts
       → Comes word attempt old base (waits_or_gets word attempt refused holders desk counts)
@@ -115,9 +105,7 @@ module _ (word : Word) (attempt : Attempt) (old : Desk) (base : Counts) where
   come-wait refused (holder ∷ holders) desk counts conflict is = grind (arith, nat_tests)
 
   come-contest : (refused : List ℕ) (contest : Contest) → ContestComes old base attempt.entry contest → Comes word attempt old base (contest_ends word attempt refused contest)
-  come-contest refused (Lost desk counts) is = is
-  come-contest refused (Settled desk counts) is = come-wait refused (conflicts_of desk attempt.entry) desk counts refl is
-  come-contest refused (Contested desk counts) is = come-wait refused (conflicts_of desk attempt.entry) desk counts refl is
+  come-contest refused contest is = grind (arith, nat_tests, come-wait)
 
   come-ask : (refused holders : List ℕ) (desk : Desk) (counts : Counts) → Stays old base attempt.entry desk counts → Comes word attempt old base (asks word attempt refused holders desk counts)
   come-ask refused [] desk counts stays = come-get refused desk counts stays
@@ -133,30 +121,22 @@ module _ (word : Word) (attempt : Attempt) (old : Desk) (base : Counts) where
       }))
 
   come-first : (desk : Desk) (counts : Counts) (fetching : Fetching) → Stays old base attempt.entry desk counts → FetchCause word fetching → Comes word attempt old base (fetched_first word attempt desk counts fetching)
-  come-first desk counts (Fetched resident counted) stays cause =
-      let there = record desk { resident = resident } in
-      come-ask (refused_pages attempt there) (conflicts_of there attempt.entry) there
-      (record { ran = counts.ran; pages = counted; locks = counts.locks + length (refused_pages attempt there); cycles = counts.cycles })
-      (record { committed = stays.committed; limit = stays.limit; ran = stays.ran; mark = stays.mark; here = stays.here })
-  come-first desk counts (Broken counted) stays cause = cause
+  come-first desk counts fetching stays cause = grind (arith, nat_tests, come-ask)
 
   come-limit : (over : Bool) → is_over_limit attempt old ≡ over → Stays old base attempt.entry old base → Comes word attempt old base (limited over word attempt old base)
-  come-limit true e stays = (refl, refl, refl, ltb-true old.most_lines (lines_written attempt old) e)
-  come-limit false e stays = come-first old base (fetches_touched word attempt old base) stays (fetch-cause word old.frames _ _ old.resident base.pages)
+  come-limit over e stays = grind (arith, nat_tests, ltb-true, come-first, fetch-cause)
 
   come-attempt : (outcome : Outcome) → attempt.outcome ≡ outcome → Stays old base attempt.entry old base → Comes word attempt old base (attempts word attempt outcome old base)
-  come-attempt (Check code) went stays = (refl, went, refl)
-  come-attempt (On next) went stays = come-limit (is_over_limit attempt old) refl stays
-  come-attempt Commit went stays = come-limit (is_over_limit attempt old) refl stays
+  come-attempt outcome went stays = grind (arith, nat_tests, come-limit)
 
 -- an instruction of an active entry
 come-instruction : (word : Word) (desk : Desk) (counts : Counts) (entry : Entry) (now : Plain) → IsAmong desk.active entry
     → after entry.runs.program entry.runs.args desk.committed entry.rows ≡ Some now
-    → Comes word (attempt_of desk entry now) desk counts (instruction word (Some entry) desk counts)
+    → Comes word (next_attempt desk entry now) desk counts (instruction word (Some entry) desk counts)
 unfolding instruction
 come-instruction word desk counts entry now here at =
-    subst (λ (state : Option Plain). Comes word (attempt_of desk entry now) desk counts (attempts_at word entry state desk counts)) (sym at)
-    (come-attempt word (attempt_of desk entry now) desk counts (row entry.runs.program desk.committed.directory now) refl
+    subst (λ (state : Option Plain). Comes word (next_attempt desk entry now) desk counts (attempts_at word entry state desk counts)) (sym at)
+    (come-attempt word (next_attempt desk entry now) desk counts (row entry.runs.program desk.committed.directory now) refl
     (record { committed = refl; limit = refl; ran = refl; mark = entry.waiting; here = here }))
 
 -- a turn under way: the entry has done so many rows more
@@ -181,10 +161,10 @@ module _ (word : Word) (limit left : ℕ) (start : Desk) (first : Entry) (desk :
   its-row : (ran : ℕ) (outcome : Outcome) → ran ≡ counts.ran → row under.entry.runs.program desk.committed.directory now ≡ outcome → RowIs start.committed first ran now outcome
   its-row ran outcome same went = grind (arith, nat_tests)
 
-  its-lines : (ran : ℕ) → ran ≡ counts.ran → lines_written (attempt_of desk under.entry now) desk ≡ lines_by start.committed first ran
+  its-lines : (ran : ℕ) → ran ≡ counts.ran → lines_written (next_attempt desk under.entry now) desk ≡ lines_by start.committed first ran
   its-lines ran same = grind (arith, nat_tests)
 
-  cause-instruction : (turning : Turning) → IsConsistent (turn_desk turning) → Comes word (attempt_of desk under.entry now) desk counts turning → IsUnder word limit left start first turning
+  cause-instruction : (turning : Turning) → IsConsistent (turn_desk turning) → Comes word (next_attempt desk under.entry now) desk counts turning → IsUnder word limit left start first turning
   cause-instruction (Going later more) is comes = record {
     is = is;
     committed = comes.1 ∙ under.committed;

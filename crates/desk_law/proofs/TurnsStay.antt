@@ -1,11 +1,10 @@
 -- A turn leaves a desk orderly.
-use Rattle.desk_law.proofs.Common.{◌≡◌, refl, ℕ, zero, suc, ◌+◌, ◌≤◌, ◌==◌, Bool, true, false, List, [], ◌∷◌, ◌++◌, length, find, Option, Some, None, arith, sym, ◌∙◌, subst, eqb-true, eq-eqb, both_ways, ltb-false, none-some, size, Lines, Plain, Outcome, On, Commit, Check, row, after, Desk, Entry, with_entry, ended, rolled_back, wanted, conflicts_of, Word, Fine, Unwritten, Doubt, Counts, Turning, Going, Over, Ending, Idle, Committed, Attempt, Fetching, Fetched, Broken, Contest, Contested, Settled, Lost, attempts, attempts_at, instruction, turns, limited, is_over_limit, lines_written, fetched_first, fetches_touched, asks, gets, goes_on, breaks, ordered, takes_effect, commits, contest_ends, waits_or_gets, with_grants, refused_pages, gone_on, IsAmong, IsActive, IsOrderly, touched_of, IsReady, nat_tests}
+use Rattle.desk_law.proofs.Common.{◌≡◌, refl, ℕ, zero, suc, ◌+◌, ◌≤◌, ◌==◌, Bool, true, false, List, [], ◌∷◌, ◌++◌, length, find, Option, Some, None, arith, sym, ◌∙◌, subst, eqb-true, eq-eqb, both_ways, ltb-false, none-some, size, Lines, Plain, Outcome, On, Commit, Check, row, after, Desk, Entry, with_entry, ended, rolled_back, wanted, conflicts_of, Word, Fine, Unwritten, Doubt, Counts, Turning, Going, Over, Ending, Idle, Committed, Attempt, Fetching, Fetched, Broken, Contest, Contested, Settled, Lost, attempts, attempts_at, instruction, turns, limited, is_over_limit, lines_written, fetched_first, fetches_touched, asks, gets, goes_on, breaks, ordered, takes_effect, commits, contest_ends, waits_or_gets, with_grants, refused_pages, gone_on, IsAmong, IsActive, IsOrderly, touched_of, IsReady, nat_tests, next_attempt}
 use Rattle.desk_law.proofs.Entries.{among-found, none-found, new-among}
 use Rattle.desk_law.proofs.Contest.{contending, rolled-consistent, breaks-all, Came}
 use Rattle.desk_law.proofs.GoesOn.{ready-again, IsGranted, grants-held, row-goes-on, marked-contending, length-replaced}
 use Rattle.desk_law.proofs.Endings.{granted-rolled, granted-commits, granted-closes}
 use Rattle.desk_law.proofs.Instructions.{From, NoRowDone, Did, ContestDid, left-before, rolled-done, marked-before, marked-from, breaks-did}
-use Rattle.desk_law.proofs.InstructionStages.{attempt_of}
 
 -- an ending that isn't idle
 abbrev pub WasBusy : Ending → Type 0
@@ -158,7 +157,7 @@ pub record Instructed (number most : ℕ) (old : Desk) (turning : Turning) : Typ
   pub own : entry.number ≡ number
   pub now : Plain
   pub at : after entry.runs.program entry.runs.args old.committed entry.rows ≡ Some now
-  pub goes : Goes old (attempt_of old entry now) most turning
+  pub goes : Goes old (next_attempt old entry now) most turning
 
 -- an instruction of the entry with a number
 pub instructed : (word : Word) (number most : ℕ) (desk : Desk) (counts : Counts) → IsOrderly desk → IsActive desk number → length counts.cycles + length desk.active ≤ most
@@ -176,7 +175,7 @@ instructed word number most desk counts is active fits = by_entry (find (λ (ent
       now = now;
       at = at;
       goes =
-          goes-attempt word (attempt_of desk entry now) most desk (row entry.runs.program desk.committed.directory now) desk counts fits
+          goes-attempt word (next_attempt desk entry now) most desk (row entry.runs.program desk.committed.directory now) desk counts fits
           (record { committed = refl; others = λ other among differ. among }) is here at refl refl;
     }
 

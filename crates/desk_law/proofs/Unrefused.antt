@@ -1,10 +1,12 @@
 -- A row of which no entry refuses a line.
-use Rattle.desk_law.proofs.Common.{◌≡◌, refl, ℕ, ◌+◌, ◌<◌, true, List, [], length, Option, Some, option_map_or, arith, ap, sym, ◌∙◌, subst, is_fine_page, line_count, has, Lines, no_lines, page_of_line, Plain, touched, after, all_of, touched-below, Desk, Entry, Authority, conflicts_of, wanted, gets, granted, refused_pages, asks, IsAmong, IsConsistent, ArePermitted}
-use Rattle.desk_law.specs.Laws.{next_attempt, UnrefusedAsksNothing}
+use Rattle.desk_law.proofs.Common.{◌≡◌, refl, ℕ, ◌<◌, true, List, [], length, Option, Some, option_map_or, arith, ap, sym, ◌∙◌, subst, is_fine_page, line_count, has, Lines, no_lines, page_of_line, Plain, touched, after, all_of, touched-below, Desk, Entry, Authority, conflicts_of, wanted, gets, granted, refused_pages, IsAmong, ArePermitted, IsOrderly, Word, Counts, next_attempt, nat_tests}
+use Rattle.desk.specs.Instruction.{counts_refused}
+use Rattle.desk_law.specs.Laws.{UnrefusedAsksNothing}
 use Rattle.desk_law.proofs.Granted.{granted-permits}
-use Rattle.desk_law.proofs.Permitted.{permitted-is-free}
+use Rattle.desk_law.proofs.Orderly.{orderly}
+use Rattle.desk_law.proofs.Permitted.{permitted-held, held-free}
 
-module _ (desk : Desk) (entry : Entry) (now : Plain) (is : IsConsistent desk) (among : IsAmong desk.active entry)
+module _ (desk : Desk) (entry : Entry) (now : Plain) (is : IsOrderly desk) (among : IsAmong desk.active entry)
     (at : after entry.runs.program entry.runs.args desk.committed entry.rows ≡ Some now) (none : refused_pages (next_attempt desk entry now) desk ≡ []) where
   below : (line : ℕ) → has (all_of (wanted desk entry)) line ≡ true → page_of_line line < length desk.authority
   below line inside =
@@ -21,14 +23,13 @@ module _ (desk : Desk) (entry : Entry) (now : Plain) (is : IsConsistent desk) (a
       (granted-permits (is_fine_page desk.committed.directory) (next_attempt desk entry now) (wanted desk entry) desk.authority desk.authority (λ page same. refl) (λ line inside. inside) (λ line inside. inside) below)
 
   free : conflicts_of desk entry ≡ []
-  free = permitted-is-free desk entry is among permitted_all
+  free = held-free desk entry is among (permitted-held desk entry is among permitted_all)
+
+-- it gets on without asking
+pub unrefused-gets : (word : Word) (desk : Desk) (counts : Counts) (entry : Entry) (now : Plain) → IsOrderly desk → IsAmong desk.active entry
+    → after entry.runs.program entry.runs.args desk.committed entry.rows ≡ Some now → refused_pages (next_attempt desk entry now) desk ≡ []
+    → (conflicts_of desk entry ≡ []) × (counts_refused word (next_attempt desk entry now) desk counts ≡ gets word (next_attempt desk entry now) [] desk counts)
+unrefused-gets word desk counts entry now is among at none = grind (arith, nat_tests, free)
 
 pub unrefused-free : UnrefusedAsksNothing
-unrefused-free word desk counts entry now is among at none =
-    let no : conflicts_of desk entry ≡ [] = free desk entry now is among at none in
-    let attempt = next_attempt desk entry now in (
-      no,
-      ap (λ (holders : List ℕ). asks word attempt (refused_pages attempt desk) holders desk (record counts { locks = counts.locks + length (refused_pages attempt desk) })) no
-          ∙ ap (λ (refused : List ℕ). gets word attempt refused desk (record counts { locks = counts.locks + length refused })) none
-          ∙ ap (λ (n : ℕ). gets word attempt [] desk (record counts { locks = n })) (omega arith),
-    )
+unrefused-free word desk counts entry now is = unrefused-gets word desk counts entry now (orderly desk is)

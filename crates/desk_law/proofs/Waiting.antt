@@ -1,5 +1,5 @@
 -- Who waits for whom as entries change.
-use Rattle.desk_law.proofs.Common.{◌≡◌, refl, ℕ, ◌==◌, ◌&&◌, not, Bool, true, false, List, [], ◌∷◌, filter, map, Some, list_any, ap, sym, ◌∙◌, subst, inl, inr, eqb-true, eq-eqb, both_ways, and_parts, and_from, or_cases, or_left, or_right, not-true, false_from_ne_true, is_fine_page, IsWhole, has, conflicts, with_whole_pages, Plain, after, Desk, Entry, with_entry, rolled_back, conflicts_with, waits_for, committed_at, left_by, IsAmong, AreConsistent, except}
+use Rattle.desk_law.proofs.Common.{◌≡◌, refl, ℕ, ◌==◌, ◌&&◌, not, Bool, true, false, List, [], ◌∷◌, filter, map, Some, list_any, ap, sym, ◌∙◌, inl, inr, eqb-true, eq-eqb, both_ways, and_parts, and_from, or_cases, or_left, or_right, not-true, false_from_ne_true, is_fine_page, IsWhole, has, conflicts, with_whole_pages, Plain, after, Desk, Entry, with_entry, rolled_back, conflicts_with, waits_for, committed_at, left_by, IsAmong, AreConsistent, except, arith, nat_tests}
 use Rattle.desk_law.proofs.Entries.{among-filter, among-replaced}
 use Rattle.desk_law.proofs.Walks.{Leaves}
 use Rattle.desk_law.proofs.Others.{another-stays, StaysSame}
@@ -62,19 +62,12 @@ waits-by desk from to waits =
     }
 
 pub waits-from : (desk : Desk) (from to : ℕ) → WaitsFor desk from to → waits_for desk from to ≡ true
-waits-from desk from to by =
-    among-any (λ entry. entry.number == from && entry.waiting && list_any (λ other. other.number == to && conflicts_with desk entry other) desk.active) desk.active by.entry by.entry_among
-    (and_from (by.entry.number == from && by.entry.waiting) (list_any (λ other. other.number == to && conflicts_with desk by.entry other) desk.active)
-    (and_from (by.entry.number == from) by.entry.waiting by.is_from by.waiting)
-    (among-any (λ other. other.number == to && conflicts_with desk by.entry other) desk.active by.other by.other_among
-    (and_from (by.other.number == to) (conflicts_with desk by.entry by.other) by.is_to by.conflict)))
+waits-from desk from to by = grind (arith, nat_tests, among-any, and_from)
 
 -- fewer entries have fewer numbers
 pub fewer-numbers : (test : Entry → Bool) (entries : List Entry) (x : ℕ)
     → has (map (λ (entry : Entry). entry.number) (filter test entries)) x ≡ true → has (map (λ (entry : Entry). entry.number) entries) x ≡ true
-fewer-numbers test entries x inside =
-    let (entry, among, same) = number-of (filter test entries) x inside in
-    subst (λ (n : ℕ). has (map (λ (entry : Entry). entry.number) entries) n ≡ true) same (has-number entries entry (among-filter test entries entry among).0)
+fewer-numbers test entries x inside = grind (arith, nat_tests, number-of, has-number, among-filter)
 
 -- after a rollback, whoever waits did so before
 pub rollback-waits : (desk : Desk) (gone : Entry) (from to : ℕ) → waits_for (rolled_back desk gone) from to ≡ true → waits_for desk from to ≡ true

@@ -168,10 +168,7 @@ count-lt test wider (x ∷ xs) wide some = by_test (test x) (wider x) refl refl 
         → (list_any (λ x. wider x && not (test x)) xs ≡ true → length (filter test xs) < length (filter wider xs))
         → ((two && not one) || list_any (λ x. wider x && not (test x)) xs) ≡ true
         → length (if one then x ∷ filter test xs else filter test xs) < length (if two then x ∷ filter wider xs else filter wider xs)
-    by_test true true e f le rest some = omega (arith, rest some)
-    by_test true false e f le rest some = absurd (both_ways (wider x) f (wide x e))
-    by_test false true e f le rest some = omega (arith, le)
-    by_test false false e f le rest some = rest some
+    by_test one two e f le rest some = grind (arith, nat_tests, both_ways)
 
 pub all-pass : (test : ℕ → Bool) (xs : List ℕ) → length xs ≤ length (filter test xs) → (x : ℕ) → has xs x ≡ true → test x ≡ true
 all-pass test [] full x inside = absurd (cc)
@@ -181,11 +178,7 @@ all-pass test (y ∷ ys) full x inside = by_test (test y) refl full (all-pass te
         (one : Bool) → test y ≡ one → suc (length ys) ≤ length (if one then y ∷ filter test ys else filter test ys)
         → (length ys ≤ length (filter test ys) → (x : ℕ) → has ys x ≡ true → test x ≡ true)
         → (y == x || has ys x) ≡ true → test x ≡ true
-    by_test true e full rest inside = elim (or_cases (y == x) (has ys x) inside) [
-      | inl same ↦ ap test (sym (eqb-true y x same)) ∙ e
-      | inr later ↦ rest (omega (arith, full)) x later
-    ]
-    by_test false e full rest inside = absurd (omega (arith, full, filter-short test ys))
+    by_test one e full rest inside = grind (arith, nat_tests, or_cases, eqb-true, filter-short)
 
 -- whether so many steps lead to a number
 abbrev reach : (ℕ → ℕ → Bool) → List ℕ → ℕ → ℕ → ℕ → Bool

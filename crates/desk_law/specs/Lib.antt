@@ -8,3 +8,5 @@ pub mod Beside
 pub mod Memory
 pub mod Causes
 pub mod UnderWay
+pub mod Asking
+pub mod Rules

@@ -16,6 +16,7 @@ pub fn idle_where_inactive()
 {}
 
 /// An entry whose next row touches permitted lines alone conflicts with nobody. It calls nothing.
+#[tactic(auto, using(crate::proofs::Permitted::permitted_is_free))]
 pub fn permitted_is_free()
     ensures { PermittedIsFree }
 {}
@@ -26,11 +27,13 @@ pub fn unrefused_asks_nothing()
 {}
 
 /// A row that writes into fine pages alone asks for the lines that it touches and no others. It calls nothing.
+#[tactic(auto, using(crate::proofs::Permitted::fine_rows))]
 pub fn fine_rows_ask_for_their_lines()
     ensures { FineRowsAskForTheirLines }
 {}
 
 /// Between two instructions all lines of a page whose write bit is on are held to read by its owner. It calls nothing.
+#[tactic(auto, using(crate::proofs::Permitted::write_bits))]
 pub fn write_bits_hold_pages()
     ensures { WriteBitsHoldPages }
 {}
@@ -46,6 +49,7 @@ pub fn broken_cycles_were()
 {}
 
 /// A cycle that is found in the contest of an entry ends with the number with which it begins. It calls nothing.
+#[tactic(auto, using(crate::proofs::CyclesClose::contested_cycles_close))]
 pub fn contested_cycles_close()
     ensures { ContestedCyclesClose }
 {}

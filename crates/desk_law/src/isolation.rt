@@ -14,6 +14,7 @@ pub fn commits_tell_the_machine()
 
 /// What such machines commit is what the same programs leave one after another, and the commits tell what these print.
 /// It calls nothing.
+#[tactic(auto, using(crate::proofs::MemoryLaw::side_by_side_is_serial))]
 pub fn side_by_side_is_serial()
     ensures { SideBySideIsSerial }
 {}

@@ -2,11 +2,16 @@
 //! half-done work. The crate has definitions (docs/MODEL.md), lemmas, and laws that call nothing.
 #![tactic(auto)]
 
+mod asking;
 mod causes;
 mod consistency;
 mod current;
 mod isolation;
 
+pub use asking::{
+    asking_is_isolated, asking_is_serial, asking_stays_consistent, asking_tells_the_machine,
+    instructions_ask_alike, isolation_rests_on_rules, runs_ask_alike,
+};
 pub use causes::{ends_have_causes, turns_end_for_cause};
 pub use consistency::{
     broken_cycles_were, contested_cycles_close, desks_stay_consistent,

@@ -1,0 +1,151 @@
+-- The desk that asks where it is refused does what the desk does.
+use Rattle.desk_law.proofs.Common.{◌≡◌, refl, ℕ, zero, suc, ◌+◌, ◌==◌, not, if◌then◌else◌, Bool, true, false, List, [], ◌∷◌, ◌++◌, length, map, find, Option, Some, None, option_map_or, arith, ap, sym, ◌∙◌, subst, eqb-true, and_parts, Plain, Outcome, Check, after, Program, Event, Begin, Turn, Checkpoint, Crash, Desk, Entry, opened, Word, Counts, Turning, Going, Over, Idle, Fetching, Fetched, Broken, no_counts, attempts, attempts_at, limited, is_over_limit, fetched_first, fetches_touched, asks, refused_pages, conflicts_of, instruction, turns, turn_of, step, IsAmong, IsConsistent, IsOrderly, Memory, after_event, after_turns, after_instruction, memory_of, IsMemory, FindTheirOwn, nat_tests, Turned, Committed, Machine, next_attempt}
+use Rattle.desk.specs.Commits.{begun, IsSerial}
+use Rattle.desk.specs.Instruction.{counts_refused}
+use Rattle.desk.specs.Lines.{Line}
+use Rattle.desk.specs.Report.{happening_lines, number_after}
+use Rattle.desk.specs.Run.{Step}
+use Rattle.desk_law.specs.Asking.{asks_for, asks_refused, comes_to_ask, attempts_by, own_event, turned_with, event_by, step_by, before, run_by, InstructionsAskAlike, IsRunOfDesk, RunsAskAlike, RunsStayConsistentBy, RunsAreIsolatedBy, SideBySideIsSerialBy, CommitsTellTheMachineBy}
+unfoldable use Rattle.desk_law.specs.Asking.{instruction_by, turns_by}
+use Rattle.desk_law.proofs.Orderly.{orderly}
+use Rattle.desk_law.proofs.Entries.{among-found}
+use Rattle.desk_law.proofs.TurnsStay.{Stays, resident-consistent, stays-instruction}
+use Rattle.desk_law.proofs.ConsistentLaw.{stays-consistent, runs-consistent}
+use Rattle.desk_law.proofs.MemoryLaw.{runs-are-isolated, commit-told, side_by_side_is_serial}
+use Rattle.desk_law.proofs.Unrefused.{unrefused-gets}
+
+module _ (word : Word) (entry : Entry) (now : Plain) where
+  -- once the pages are there
+  asks-alike : (desk : Desk) (counts : Counts) → IsOrderly desk → IsAmong desk.active entry → after entry.runs.program entry.runs.args desk.committed entry.rows ≡ Some now
+      → asks_refused word (next_attempt desk entry now) desk counts ≡ counts_refused word (next_attempt desk entry now) desk counts
+  asks-alike desk counts is here at = by_refused (refused_pages (next_attempt desk entry now) desk) refl
+    where
+      by_refused : (refused : List ℕ) → refused_pages (next_attempt desk entry now) desk ≡ refused
+          → asks_for refused (conflicts_of desk entry) word (next_attempt desk entry now) desk counts ≡ counts_refused word (next_attempt desk entry now) desk counts
+      by_refused [] none = sym (unrefused-gets word desk counts entry now is here at none).1
+      by_refused (page ∷ pages) some = ap (λ (refused : List ℕ). asks word (next_attempt desk entry now) refused (conflicts_of desk entry) desk (record counts { locks = counts.locks + length refused })) (sym some)
+
+  row-alike : (desk : Desk) (counts : Counts) → IsOrderly desk → IsAmong desk.active entry → after entry.runs.program entry.runs.args desk.committed entry.rows ≡ Some now
+      → attempts_by asks_refused word (next_attempt desk entry now) desk counts ≡ attempts word (next_attempt desk entry now) (next_attempt desk entry now).outcome desk counts
+  row-alike desk counts is here at =
+      by_parts (next_attempt desk entry now).outcome (is_over_limit (next_attempt desk entry now) desk) (fetches_touched word (next_attempt desk entry now) desk counts) refl refl
+    where
+      by_parts : (outcome : Outcome) (over : Bool) (fetching : Fetching) → is_over_limit (next_attempt desk entry now) desk ≡ over → fetches_touched word (next_attempt desk entry now) desk counts ≡ fetching
+          → option_map_or (λ there. asks_refused word (next_attempt desk entry now) there.0 there.1) (comes_to_ask desk counts outcome over fetching) (attempts word (next_attempt desk entry now) outcome desk counts)
+          ≡ attempts word (next_attempt desk entry now) outcome desk counts
+      by_parts (Check code) over fetching limit fetches = refl
+      by_parts outcome true fetching limit fetches = refl
+      by_parts outcome false (Broken counted) limit fetches = refl
+      by_parts outcome false (Fetched resident counted) limit fetches =
+          asks-alike (record desk { resident = resident }) (record counts { pages = counted }) (resident-consistent desk resident is) here at
+          ∙ sym (ap (λ (over : Bool). limited over word (next_attempt desk entry now) desk counts) limit ∙ ap (fetched_first word (next_attempt desk entry now) desk counts) fetches)
+
+pub instructions_alike : InstructionsAskAlike
+unfolding instruction instruction_by
+instructions_alike word desk counts entry is here = by_state (after entry.runs.program entry.runs.args desk.committed entry.rows) refl
+  where
+    by_state : (state : Option Plain) → after entry.runs.program entry.runs.args desk.committed entry.rows ≡ state
+        → option_map_or (λ now. attempts_by asks_refused word (next_attempt desk entry now) desk counts) state (Over desk counts Idle) ≡ attempts_at word entry state desk counts
+    by_state None at = refl
+    by_state (Some now) at = row-alike word entry now desk counts is here at
+
+-- a turn under way stands at an orderly desk
+abbrev GoesOrderly : Turning → Type 0
+GoesOrderly (Going desk counts) = IsOrderly desk
+GoesOrderly (Over desk counts ending) = Unit {0}
+
+goes-orderly : (number most : ℕ) (turning : Turning) → Stays number most turning → GoesOrderly turning
+goes-orderly number most turning stays = grind (arith, nat_tests)
+
+module _ (word : Word) (number : ℕ) where
+  -- one instruction of whoever has the number
+  one-alike : (desk : Desk) (counts : Counts) → IsOrderly desk
+      → (instruction_by asks_refused word (find (λ (entry : Entry). entry.number == number) desk.active) desk counts ≡ instruction word (find (λ (entry : Entry). entry.number == number) desk.active) desk counts)
+      × GoesOrderly (instruction word (find (λ (entry : Entry). entry.number == number) desk.active) desk counts)
+  unfolding instruction instruction_by
+  one-alike desk counts is = by_entry (find (λ (entry : Entry). entry.number == number) desk.active) refl
+    where
+      by_entry : (one : Option Entry) → find (λ (entry : Entry). entry.number == number) desk.active ≡ one
+          → (instruction_by asks_refused word one desk counts ≡ instruction word one desk counts) × GoesOrderly (instruction word one desk counts)
+      by_entry None found = (refl, tt)
+      by_entry (Some entry) found =
+          let (here, passes) = among-found (λ (entry : Entry). entry.number == number) desk.active entry found in (
+            instructions_alike word desk counts entry is here,
+            subst (λ (one : Option Entry). GoesOrderly (instruction word one desk counts)) found
+                (goes-orderly number (length counts.cycles + length desk.active) (instruction word (find (λ (entry : Entry). entry.number == number) desk.active) desk counts)
+                (stays-instruction word number (length counts.cycles + length desk.active) desk counts is (entry, here, eqb-true entry.number number passes) (omega arith))),
+          )
+
+  turns-alike : (left : ℕ) (turning : Turning) (memory : Memory) → GoesOrderly turning → turns_by asks_refused word number left turning memory ≡ (turns word number left turning, after_turns word number left turning memory)
+  unfolding turns turns_by
+  turns-alike zero (Going desk counts) memory is = refl
+  turns-alike (suc left) (Going desk counts) memory is =
+      let next = instruction word (find (λ (entry : Entry). entry.number == number) desk.active) desk counts in
+      ap (λ (turning : Turning). turns_by asks_refused word number left turning (after_instruction number desk turning memory)) (one-alike desk counts is).0
+      ∙ turns-alike left next (after_instruction number desk next memory) (one-alike desk counts is).1
+  turns-alike zero (Over desk counts ending) memory is = refl
+  turns-alike (suc left) (Over desk counts ending) memory is = refl
+
+module _ (programs : List Program) (word : Word) (desk : Desk) (memory : Memory) (is : IsOrderly desk) where
+  event-alike : (event : Event) → event_by asks_refused programs event word desk memory ≡ own_event programs event word desk memory
+  event-alike (Begin program args) = refl
+  event-alike Checkpoint = refl
+  event-alike Crash = refl
+  event-alike (Turn activation limit) = by_entry (find (λ (entry : Entry). entry.number == activation) desk.active) refl
+    where
+      by_entry : (one : Option Entry) → find (λ (entry : Entry). entry.number == activation) desk.active ≡ one
+          → option_map_or (λ (entry : Entry). turned_with activation (turns_by asks_refused word activation limit (Going desk no_counts) memory)) one (own_event programs (Turn activation limit) word desk memory)
+          ≡ own_event programs (Turn activation limit) word desk memory
+      by_entry None found = refl
+      by_entry (Some entry) found =
+          ap (turned_with activation) (turns-alike word activation limit (Going desk no_counts) memory is)
+          ∙ ap (λ (one : Option Entry). turned_with activation (turn_of one word activation limit desk, after_turns word activation limit (Going desk no_counts) memory)) (sym found)
+
+  step-alike : (event : Event) → step_by asks_refused programs event word desk memory ≡ (step programs event word desk, if desk.closed then memory else after_event programs event word desk memory)
+  step-alike event = grind (arith, nat_tests, event-alike event)
+
+-- a run of a consistent desk
+run-alike : (names : List (List ℕ)) (programs : List Program) (number : ℕ) (events : List (Event × Word)) (desk : Desk) (memory : Memory) → IsConsistent desk
+    → IsRunOfDesk names programs number events desk memory (run_by asks_refused names programs number events desk memory)
+run-alike names programs number [] desk memory is = record { desk_is = refl; memory_is = refl; opens = λ each. tt; lines_are = refl }
+run-alike names programs number (event ∷ events) desk memory is =
+    let next = step programs event.0 event.1 desk in
+    let changed = if desk.closed then memory else after_event programs event.0 event.1 desk memory in
+    let later = run-alike names programs number events next.desk changed (stays-consistent programs event.0 event.1 desk is) in
+    subst (λ (both : Step × Memory). IsRunOfDesk names programs number (event ∷ events) desk memory (before names number desk both.0 (run_by asks_refused names programs number events both.0.desk both.1)))
+    (sym (step-alike programs event.1 desk memory (orderly desk is) event.0))
+    (record {
+      desk_is = later.desk_is;
+      memory_is = later.memory_is;
+      opens = λ each. let parts = and_parts (not desk.closed) (run_by asks_refused names programs number events next.desk changed).each_open each in (parts.0, later.opens parts.1);
+      lines_are = ap (λ (lines : List Line). happening_lines names (number_after number next.desk) next.happening ++ lines) later.lines_are;
+    })
+
+pub runs_alike : RunsAskAlike
+runs_alike names programs number frames most_active most_lines store events whole two =
+    run-alike names programs number events (opened frames most_active most_lines store) (memory_of store) (runs-consistent programs frames most_active most_lines store [] whole two)
+
+pub asking_consistent : RunsStayConsistentBy asks_refused
+asking_consistent names programs number frames most_active most_lines store events whole two =
+    subst IsConsistent (sym (runs_alike names programs number frames most_active most_lines store events whole two).desk_is) (runs-consistent programs frames most_active most_lines store events whole two)
+
+pub asking_isolated : RunsAreIsolatedBy asks_refused
+asking_isolated names programs number frames most_active most_lines store events whole two =
+    let same = runs_alike names programs number frames most_active most_lines store events whole two in
+    subst (λ (both : Desk × Memory). IsMemory both.0 both.1 × FindTheirOwn both.0 both.1) (λ i. (sym same.desk_is i, sym same.memory_is i))
+    (runs-are-isolated programs frames most_active most_lines store events whole two)
+
+pub asking_serial : SideBySideIsSerialBy asks_refused
+asking_serial names programs number frames most_active most_lines store events whole two rest each =
+    let same = runs_alike names programs number frames most_active most_lines store events whole two in
+    subst (λ (all : Desk × List Line × Memory). IsSerial (begun programs (map (λ event. event.0) events ++ rest)) number store all.0.order all.1 (record store { bytes = all.2.committed }) all.0.closed)
+    (λ i. (sym same.desk_is i, sym same.lines_are i, sym same.memory_is i))
+    (side_by_side_is_serial names programs number frames most_active most_lines store (map (λ event. event.0) events ++ rest) events rest whole two (record { prefix = refl; each_open = same.opens each }))
+
+pub asking_told : CommitsTellTheMachineBy asks_refused
+asking_told names programs number frames most_active most_lines store events whole two activation limit word counts steps printed =
+    let ran = run_by asks_refused names programs number events (opened frames most_active most_lines store) (memory_of store) in
+    let is = asking_consistent names programs number frames most_active most_lines store events whole two in
+    subst (λ (both : Step × Memory). both.0.happening ≡ Turned activation counts (Committed steps printed) → (machine : Machine) × (both.1.machines activation ≡ Some machine) × (machine.state.out ≡ printed))
+    (sym (step-alike programs word ran.desk ran.memory (orderly ran.desk is) (Turn activation limit)))
+    (commit-told programs ran.desk ran.memory activation limit word counts steps printed is (asking_isolated names programs number frames most_active most_lines store events whole two).0)
