@@ -4,7 +4,7 @@ use Rattle.outside.specs.Bytes.{bytes_at}
 use Rattle.outside.specs.Causes.{Rose}
 use Rattle.job_text.specs.Grammar.{Content, content_of, job_of}
 use Rattle.job_text.specs.declared.job.Job.{Job}
-use Rattle.report_text.specs.ReadLines.{AreLinesOf, IsFirstBad}
+use Rattle.report_text.specs.ReadLines.{AreCommitsOf, IsFirstBad}
 use Rattle.report_text.specs.declared.owned.OwnedLine.{OwnedLine}
 use Rattle.serial_audit.specs.Bundle.{IsBundle, IsWrongAt}
 use Rattle.serial_audit.specs.declared.auditing.KeptStore.{KeptStore}
@@ -22,11 +22,11 @@ use Rattle.call_status.specs.SourceText.{HasRead, IsWholeBundle}
 abbrev pub part_of : List ℕ → Span → List ℕ
 part_of bytes span = bytes_at bytes span.from (span.to - span.from)
 
--- A bundle's text, its parts in their places: its job means this one, its report has these lines, and its opening store is this one.
+-- A bundle's text, its parts in their places: its job means this one, its report has these commit lines, and its opening store is this one.
 pub record AreBundleParts (bytes : List ℕ) (bundle : Bundle) (job : Job) (report : List OwnedLine) (opening : KeptStore) : Type 0 where
   pub parts : IsBundle bytes bundle
   pub job_is : job_of (part_of bytes bundle.job) ≡ Ok (content_of job)
-  pub report_is : AreLinesOf (part_of bytes bundle.report) report
+  pub report_is : AreCommitsOf (part_of bytes bundle.report) report
   pub opening_is : Keeps (part_of bytes bundle.opening) opening
 
 -- its job is none, at this line and for a reason of this kind
@@ -50,7 +50,7 @@ pub record IsBadOpening (bytes : List ℕ) (offset : ℕ) : Type 0 where
   pub content : Content
   pub job_is : job_of (part_of bytes bundle.job) ≡ Ok content
   pub report : List OwnedLine
-  pub report_is : AreLinesOf (part_of bytes bundle.report) report
+  pub report_is : AreCommitsOf (part_of bytes bundle.report) report
   pub fault : IsFaultAt (part_of bytes bundle.opening) offset
 
 -- all that comes before its closing store is right, and that stands for nothing from this offset on

@@ -81,10 +81,7 @@ fn commit_lines(report: &[OwnedLine]) -> u32
     requires { length report.now < 2 ^ 32 }
     ensures { result ≡ count_by (λ line. is_commit (owned_told line)) report.now }
 {
-    report
-        .iter()
-        .filter(|line| matches!(line, OwnedLine::Commit { .. }))
-        .count() as u32
+    report.iter().filter(|line| line.is_commit()).count() as u32
 }
 
 /// Puts the line of a verdict.

@@ -1,13 +1,13 @@
 // A bundle and its parts.
 ghost use Rattle.std.specs.Prelude.{◌≡◌, ◌⊎◌, ◌-◌, ◌≤◌, ◌<◌, ◌^◌, ℕ, length, IfOk, MatchResult};
-ghost use Rattle.report_text.specs.ReadLines.{AreLinesOf, IsFirstBad};
+ghost use Rattle.report_text.specs.ReadLines.{AreCommitsOf, IsFirstBad};
 ghost use Rattle.bundle_calls.specs.Bundled.{AreBundleParts, IsShut, part_of};
 ghost use Rattle.store_calls.specs.Kept.{Keeps};
 ghost use Rattle.call_status.specs.Opening.{IsFaultAt};
 
 use call_status::Status;
 use job_text::{Job, read_job};
-use report_text::{LinesFault, OwnedLine, read_lines};
+use report_text::{LinesFault, OwnedLine, read_commits};
 use serial_audit::{Bundle, KeptStore, Span, split_bundle};
 use std::alloc::Global;
 use store_calls::{KeptFault, kept_store};
@@ -60,15 +60,15 @@ pub fn part(bytes: &[u8], span: Span) -> &[u8]
     &bytes[span.from as usize..span.to as usize]
 }
 
-/// The lines of a report.
+/// The commit lines of a report.
 fn report_in(alloc: Global, text: &[u8]) -> Result<Vec<OwnedLine>, Status>
     requires { length text.now ≤ 33554432 }
-    ensures read { MatchResult result (λ lines. AreLinesOf text.now lines.items)
+    ensures read { MatchResult result (λ commits. AreCommitsOf text.now commits.items)
         (λ status. ((number : ℕ) × (status ≡ Status.Bundle 2 number) × IsFirstBad text.now number) ⊎ (status ≡ Status.NoMemory)) }
-    ensures few { IfOk result (λ lines. length lines.items ≤ length text.now) }
+    ensures few { IfOk result (λ commits. length commits.items ≤ length text.now) }
 {
-    match read_lines(alloc, text) {
-        Ok(lines) => Ok(lines),
+    match read_commits(alloc, text) {
+        Ok(commits) => Ok(commits),
         Err(LinesFault::Bad(number)) => Err(Status::Bundle(REPORT, u64::from(number))),
         Err(LinesFault::Memory) => Err(Status::NoMemory),
     }

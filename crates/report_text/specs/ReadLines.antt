@@ -1,6 +1,7 @@
 -- The lines whose bytes make up a text, and the first that is none.
-use Rattle.std.specs.Prelude.{◌≡◌, ◌≢◌, ℕ, ◌+◌, ◌^◌, ◌<◌, ◌≤◌, List, [], ◌++◌, length, All}
+use Rattle.std.specs.Prelude.{◌≡◌, ◌≢◌, ℕ, ◌+◌, ◌^◌, ◌<◌, ◌≤◌, List, [], ◌++◌, length, filter, All}
 use Rattle.std.specs.List.{flat_map}
+use Rattle.desk.specs.Commits.{is_commit}
 use Rattle.desk.specs.Lines as report
 use Rattle.desk.specs.Lines.{line_text}
 use Rattle.job_text.specs.Ready.{IsName}
@@ -70,6 +71,12 @@ IsLine line = HasWidths line × IsWhole line
 pub record AreLinesOf (text : List ℕ) (lines : List OwnedLine) : Type 0 where
   pub bytes : text ≡ flat_map (λ line. line_text (owned_told line)) lines
   pub are : All (λ line. IsWhole (owned_told line)) lines
+
+-- these are the commit lines among those whose bytes make up a text, in their order
+pub record AreCommitsOf (text : List ℕ) (commits : List OwnedLine) : Type 0 where
+  pub lines : List OwnedLine
+  pub are : AreLinesOf text lines
+  pub only : commits ≡ filter (λ line. is_commit (owned_told line)) lines
 
 -- a text begins with no line
 abbrev pub BeginsWithNone : List ℕ → Type 0

@@ -11,6 +11,6 @@ mod word;
 pub use line::Line;
 pub use owned::OwnedLine;
 pub use put::Reporter;
-pub use read::{LinesFault, read_lines};
+pub use read::{LinesFault, read_commits};
 pub use text_line::place_of;
 pub use word::{behind, first_number};

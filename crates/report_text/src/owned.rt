@@ -1,4 +1,5 @@
 ghost use Rattle.std.specs.Prelude.{◌≡◌};
+ghost use Rattle.desk.specs.Commits.{is_commit};
 ghost use Rattle.report_text.specs.Line.{line_told};
 ghost use Rattle.report_text.specs.ReadLines.{owned_told};
 
@@ -47,6 +48,13 @@ pub enum OwnedLine {
 }
 
 impl OwnedLine {
+    /// Whether it is that of a commit.
+    pub fn is_commit(&self) -> bool
+        ensures { result ≡ is_commit (owned_told self.now) }
+    {
+        matches!(self, OwnedLine::Commit { .. })
+    }
+
     /// The same line, with its names and lists lent.
     pub fn as_line(&self) -> Line<'_>
         ensures { line_told result ≡ owned_told self.now }

@@ -1,13 +1,14 @@
-ghost use Rattle.std.specs.Prelude.{◌≡◌, ◌≢◌, ◌<◌, ◌≤◌, ◌^◌, ◌↔◌, ◌==◌, ◌||◌, ◌⊎◌, IsTrue, ℕ, List, [], ◌∷◌, ◌++◌, length, Some, None, Ok, IfOk, MatchOption, MatchResult, All};
+ghost use Rattle.std.specs.Prelude.{◌≡◌, ◌≢◌, ◌<◌, ◌≤◌, ◌^◌, ◌↔◌, ◌==◌, ◌||◌, ◌⊎◌, IsTrue, ℕ, List, [], ◌∷◌, ◌++◌, length, filter, Some, None, Ok, IfOk, OnOk, MatchOption, MatchResult, All};
 ghost use Rattle.std.specs.Char.{is_ascii_alphabetic};
 ghost use Rattle.std.specs.List.{list_all};
 ghost use Rattle.asm_parse.specs.Token.{continues_word};
+ghost use Rattle.desk.specs.Commits.{is_commit};
 ghost use Rattle.desk.specs.Lines.{line_text};
 ghost use Rattle.desk.specs.Lines as report;
 ghost use Rattle.job_text.specs.Ready.{IsName};
 ghost use Rattle.report_text.specs.declared.read.LinesFault.TheVariants as lines;
 ghost use Rattle.report_text.specs.Line.{IsShort, line_told};
-ghost use Rattle.report_text.specs.ReadLines.{AreLinesOf, BeginsWithNone, IsFirstBad, IsLine, IsWhole, owned_told};
+ghost use Rattle.report_text.specs.ReadLines.{AreCommitsOf, BeginsWithNone, IsFirstBad, IsLine, IsWhole, owned_told};
 
 use super::guess::guess;
 use super::line::Line;
@@ -41,32 +42,43 @@ impl<T: Drop> From<AllocFailed<T>> for LinesFault {
     }
 }
 
-/// The lines whose bytes make up a text (docs/FORMATS.md, "Report"). It takes time linear in the text.
+/// The commit lines of a report, among the lines whose bytes make up its text (docs/FORMATS.md, "Report"). It takes time linear
+/// in the text, and memory for these alone.
 ///
 /// # Errors
 ///
 /// [`LinesFault::Bad`] with the number of the first line that is none; a last line without its line feed is none.
 /// [`LinesFault::Memory`] where there is no memory.
-pub fn read_lines(alloc: Global, text: &[u8]) -> Result<Vec<OwnedLine>, LinesFault>
+pub fn read_commits(alloc: Global, text: &[u8]) -> Result<Vec<OwnedLine>, LinesFault>
     requires { length text.now < 2 ^ 32 }
-    ensures { MatchResult result (λ read. AreLinesOf text.now read.items)
+    ensures { MatchResult result (λ read. AreCommitsOf text.now read.items)
         (λ told. ((number : ℕ) × (told ≡ lines.Bad number) × IsFirstBad text.now number) ⊎ (told ≡ lines.Memory)) }
 {
-    let mut lines = Vec::new(alloc);
+    let mut commits = Vec::new(alloc);
     let mut room = TextLine::new();
     let mut number: u32 = 1;
     let mut left = text;
     while !left.is_empty() {
         match next_line(alloc, &mut room, left)? {
             Some((line, rest)) => {
-                lines.push(line)?;
+                keep_commit(&mut commits, line)?;
                 number += 1;
                 left = rest;
             }
             None => return Err(LinesFault::Bad(number)),
         }
     }
-    Ok(lines)
+    Ok(commits)
+}
+
+/// Keeps a line, if it is that of a commit.
+fn keep_commit(commits: &mut Vec<OwnedLine>, line: OwnedLine) -> Result<(), AllocError>
+    ensures { OnOk result (commits.new.items ≡ commits.old.items ++ filter (λ line. is_commit (owned_told line)) (line ∷ [])) }
+{
+    if line.is_commit() {
+        commits.push(line)?;
+    }
+    Ok(())
 }
 
 /// The line that a text begins with, and what comes after it; none where it begins with no line.

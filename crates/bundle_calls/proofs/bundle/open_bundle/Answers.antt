@@ -1,4 +1,4 @@
-use Rattle.bundle_calls.proofs.Common.{◌≡◌, ◌⊎◌, ℕ, List, inl, inr, refl, sym, ap, subst, ◌∙◌, Ok, Content, content_of, job_of, AreLinesOf, IsFirstBad, OwnedLine, IsBundle, Bundle, Status, IsShut, part_of, IsFaultAt}
+use Rattle.bundle_calls.proofs.Common.{◌≡◌, ◌⊎◌, ℕ, List, inl, inr, refl, sym, ap, subst, ◌∙◌, Ok, Content, content_of, job_of, AreCommitsOf, IsFirstBad, OwnedLine, IsBundle, Bundle, Status, IsShut, part_of, IsFaultAt}
 use Rattle.bundle_calls.proofs.BundleLemmas.{handed_on}
 use Rattle.bundle_calls.proofs.bundle.open_bundle.Goals as goal
 
@@ -9,7 +9,7 @@ module _ (bytes : List ℕ) (bundle : Bundle) (parts : IsBundle bytes bundle) (c
   shut_by_report status (inr is) = subst (IsShut bytes) (sym is) tt
 
   -- an opening store that stands for nothing
-  shut_by_opening : (report : List OwnedLine) → AreLinesOf (part_of bytes bundle.report) report → (status : Status)
+  shut_by_opening : (report : List OwnedLine) → AreCommitsOf (part_of bytes bundle.report) report → (status : Status)
       → ((offset : ℕ) × (status ≡ Status.Bundle 3 offset) × IsFaultAt (part_of bytes bundle.opening) offset) ⊎ (status ≡ Status.NoMemory) → IsShut bytes status
   shut_by_opening report report_is status (inl (offset, is, fault)) =
       subst (IsShut bytes) (sym is) (inr (inr (refl, record { bundle = bundle; parts = parts; content = content; job_is = job_is; report = report; report_is = report_is; fault = fault })))
@@ -29,5 +29,5 @@ returns-in_err-opening-clause-opened c =
     let bundle = c.in-Ok.bundle in
     handed_on _ (IsShut bytes) c.from_residual-in_err-opening.result c.in_err-opening.field-0.0 c.from_residual-in_err-opening.ensures
     (shut_by_opening bytes bundle c.in-Ok.ensures (content_of c.in_ok-job.job) (ap job_of (sym c.part.ensures) ∙ c.in_ok-job.ensures.answer)
-    c.in_ok-report.report.items (subst (λ (text : List ℕ). AreLinesOf text c.in_ok-report.report.items) c.part-2.ensures c.in_ok-report.ensures.read) c.in_err-opening.field-0.0
+    c.in_ok-report.report.items (subst (λ (text : List ℕ). AreCommitsOf text c.in_ok-report.report.items) c.part-2.ensures c.in_ok-report.ensures.read) c.in_err-opening.field-0.0
     (subst (λ (text : List ℕ). ((offset : ℕ) × (c.in_err-opening.field-0.0 ≡ Status.Bundle 3 offset) × IsFaultAt text offset) ⊎ (c.in_err-opening.field-0.0 ≡ Status.NoMemory)) c.part-3.ensures c.in_err-opening.ensures))

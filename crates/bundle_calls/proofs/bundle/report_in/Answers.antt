@@ -1,4 +1,5 @@
-use Rattle.bundle_calls.proofs.Common.{◌≤◌, List, [], ◌∷◌, length, ap, arith, length-append, flat_map, line_text, owned_told, OwnedLine}
+use Rattle.bundle_calls.proofs.Common.{◌≤◌, List, [], ◌∷◌, length, ap, arith, length-append, flat_map, is_commit, line_text, owned_told, OwnedLine}
+use Rattle.std.proofs.lemmas.List.Sums.{count_by-le-length, length-filter}
 use Rattle.report_text.proofs.LineLemmas.{some_bytes}
 use Rattle.bundle_calls.proofs.bundle.report_in.Goals as goal
 
@@ -10,4 +11,6 @@ few_lines (line ∷ lines) =
 
 pub returns-in-Ok-clause-few : goal.returns-in-Ok-clause-few
 returns-in-Ok-clause-few c =
-    omega (arith, few_lines c.in-Ok.lines.items, ap length c.in-Ok.ensures.bytes)
+    let read = c.in-Ok.ensures in
+    let is_one = λ (line : OwnedLine). is_commit (owned_told line) in
+    omega (arith, few_lines read.lines, ap length read.are.bytes, ap length read.only, length-filter is_one read.lines, count_by-le-length is_one read.lines)
