@@ -40,7 +40,7 @@ pub fn branches(inst: &Inst) -> bool
 }
 
 /// Whether a row of format R branches.
-pub fn branches_by_register(op: Op) -> bool
+fn branches_by_register(op: Op) -> bool
     ensures { result ≡ is_register_branch op }
 {
     match op {
@@ -89,20 +89,6 @@ fn takes(op: Op, cs: &Cs, field: u8) -> bool
         Op::Balr | Op::Balrx | Op::Bali | Op::Balix | Op::Bala | Op::Balax => true,
         Op::Jb | Op::Bb | Op::Bbx | Op::Bbr | Op::Bbrx => holds(cs, field),
         _ => !holds(cs, field),
-    }
-}
-
-/// Whether a jump is taken, of those that have neither a link nor a subject.
-#[inline(always)]
-pub fn jumps(op: Op, cs: &Cs, field: u8) -> Option<bool>
-    ensures taken { IfSome result (λ taken. is_taken op cs.now field ≡ taken) }
-    ensures alone { IfSome result (λ taken. executes op ≡ false) }
-    ensures unlinked { IfSome result (λ taken. link_of op field ≡ None) }
-{
-    match op {
-        Op::Jb => Some(holds(cs, field)),
-        Op::Jnb => Some(!holds(cs, field)),
-        _ => None,
     }
 }
 

@@ -1,21 +1,15 @@
-ghost use Rattle.std.specs.Prelude.{ℕ, List, Option, Some, ◌≡◌, ◌<◌, ◌≤◌, ◌+◌, IfOk, OnOk, IfSome, OnSome, IsTrue, length};
+ghost use Rattle.std.specs.Prelude.{ℕ, List, Option, Some, ◌≡◌, ◌<◌, ◌≤◌, ◌+◌, IfOk, OnOk, OnSome, length};
 ghost use Rattle.std.specs.Option.{ForSome};
-ghost use Rattle.std.specs.Result.{ForOk};
-ghost use Rattle.romp_table.specs.Decode.{row_numbered};
-ghost use Rattle.romp_table.specs.declared.table.Format.{Format};
 ghost use Rattle.romp_table.specs.Legal.{HasWidths};
 ghost use Rattle.flat_machine.specs.Access.{IsAccess};
 ghost use Rattle.flat_machine.specs.Pending.{planned, IsSoundPending, StaysIfPending, StaysIfWanting};
 ghost use Rattle.flat_machine.specs.declared.machine.Cs.{Cs};
 ghost use Rattle.flat_machine.specs.Row.{plan, plan_of, plan_of_pair, goes_by, fetched};
 
-use super::branches::{branch, branches, branches_by_register, is_subject, jumps, target_of};
+use super::branches::{branch, branches, is_subject};
 use super::effects::effect;
 use super::machine::{Act, Branch, Cs, Pending};
-use super::row_table::{act_s, base_of, do_d, do_r, do_x};
-use romp_table::{
-    Format, Inst, Row, decode, extended_byte, is_within, length_of, nibble_at, row_by,
-};
+use romp_table::{Inst, decode, length_of};
 
 /// What instructions are fetched from: 16,384 bytes.
 pub trait Fetch {
@@ -34,206 +28,12 @@ pub trait Fetch {
 
 /// Does to registers and status what the row at an address does, and tells what is left of it. Where it wants something
 /// beside them, and where its fetch fails, they stay. It looks at no byte of the store (docs/MODEL.md).
-#[inline(always)]
 pub fn start_row<F: Fetch>(code: &F, regs: &mut [u32; 16], cs: &mut Cs, iar: u32) -> Pending
     requires { F.is_whole code.now }
     ensures value { plan (F.halfword_at code.now) regs.old cs.old iar ≡ planned regs.new cs.new result }
     ensures stays { StaysIfPending result regs.old regs.new cs.old cs.new }
     ensures sound { IsSoundPending result }
     ensures long { length regs.new ≡ 16 }
-{
-    let Some(first) = code.fetch(iar) else {
-        return Pending::Fails(2);
-    };
-    let Some(row) = row_by(first) else {
-        return Pending::Fails(1);
-    };
-    match row.format {
-        Format::J => start_jump(code, &row, first, regs, cs, iar),
-        Format::S => start_short(&row, first, regs, iar),
-        Format::X => start_sum(code, &row, first, regs, cs, iar),
-        Format::R => start_two(code, &row, first, regs, cs, iar),
-        Format::D => start_long(code, &row, first, regs, cs, iar),
-        _ => start_far(code, regs, cs, iar),
-    }
-}
-
-/// The same of any row; the two jumps are done here.
-#[inline(always)]
-fn start_jump<F: Fetch>(
-    code: &F,
-    row: &Row,
-    first: u16,
-    regs: &mut [u32; 16],
-    cs: &mut Cs,
-    iar: u32,
-) -> Pending
-    requires whole { F.is_whole code.now }
-    requires row { row_numbered first ≡ Some row.now }
-    requires first { F.halfword_at code.now iar ≡ Some first }
-    requires format { row.now.format ≡ Format.J }
-    requires within { iar < 16384 }
-    ensures value { plan (F.halfword_at code.now) regs.old cs.old iar ≡ planned regs.new cs.new result }
-    ensures stays { StaysIfPending result regs.old regs.new cs.old cs.new }
-    ensures sound { IsSoundPending result }
-{
-    let cond = (first / 0x100 % 8) as u8;
-    if !is_within(row.b, cond) {
-        return Pending::Fails(1);
-    }
-    match jumps(row.op, cs, cond) {
-        None => start_far(code, regs, cs, iar),
-        Some(taken) => {
-            let to = target_of(iar, 2 * i32::from(extended_byte(first % 0x100)));
-            Pending::Does {
-                act: Act::Nothing,
-                next: if taken { to } else { iar + 2 },
-                link: None,
-            }
-        }
-    }
-}
-
-/// The same of a row of format S, which only wants an access.
-#[inline(always)]
-fn start_short(row: &Row, first: u16, regs: &[u32; 16], iar: u32) -> Pending
-    requires row { row_numbered first ≡ Some row.now }
-    requires format { row.now.format ≡ Format.S }
-    requires within { iar < 16384 }
-    ensures value { (halfword_at : ℕ → Option ℕ) (status : Cs) → halfword_at iar ≡ Some first → plan halfword_at regs.now status iar ≡ planned regs.now status result }
-    ensures stays { (status : Cs) → StaysIfPending result regs.now regs.now status status }
-    ensures sound { IsSoundPending result }
-{
-    let b = nibble_at(first, 4) as u8;
-    let c = nibble_at(first, 0) as u8;
-    if !(is_within(row.b, b) && is_within(row.c, c)) {
-        return Pending::Fails(1);
-    }
-    Pending::Does {
-        act: act_s(row.op, nibble_at(first, 8) as u8, b, base_of(regs, c)),
-        next: iar + 2,
-        link: None,
-    }
-}
-
-/// The same of a row of format X.
-#[inline(always)]
-fn start_sum<F: Fetch>(
-    code: &F,
-    row: &Row,
-    first: u16,
-    regs: &mut [u32; 16],
-    cs: &mut Cs,
-    iar: u32,
-) -> Pending
-    requires whole { F.is_whole code.now }
-    requires row { row_numbered first ≡ Some row.now }
-    requires first { F.halfword_at code.now iar ≡ Some first }
-    requires format { row.now.format ≡ Format.X }
-    requires within { iar < 16384 }
-    ensures value { plan (F.halfword_at code.now) regs.old cs.old iar ≡ planned regs.new cs.new result }
-    ensures stays { StaysIfPending result regs.old regs.new cs.old cs.new }
-    ensures sound { IsSoundPending result }
-{
-    let b = nibble_at(first, 4) as u8;
-    let c = nibble_at(first, 0) as u8;
-    if !(is_within(row.b, b) && is_within(row.c, c)) {
-        return start_far(code, regs, cs, iar);
-    }
-    let act = do_x(row.op, nibble_at(first, 8) as u8, b, c, regs);
-    Pending::Does {
-        act,
-        next: iar + 2,
-        link: None,
-    }
-}
-
-/// The same of a row of format R; one that branches is done by a call.
-#[inline(always)]
-fn start_two<F: Fetch>(
-    code: &F,
-    row: &Row,
-    first: u16,
-    regs: &mut [u32; 16],
-    cs: &mut Cs,
-    iar: u32,
-) -> Pending
-    requires whole { F.is_whole code.now }
-    requires row { row_numbered first ≡ Some row.now }
-    requires first { F.halfword_at code.now iar ≡ Some first }
-    requires format { row.now.format ≡ Format.R }
-    requires within { iar < 16384 }
-    ensures value { plan (F.halfword_at code.now) regs.old cs.old iar ≡ planned regs.new cs.new result }
-    ensures stays { StaysIfPending result regs.old regs.new cs.old cs.new }
-    ensures sound { IsSoundPending result }
-{
-    let b = nibble_at(first, 4) as u8;
-    let c = nibble_at(first, 0) as u8;
-    if branches_by_register(row.op) || !(is_within(row.b, b) && is_within(row.c, c)) {
-        return start_far(code, regs, cs, iar);
-    }
-    let act = do_r(row.op, b, c, regs, cs);
-    Pending::Does {
-        act,
-        next: iar + 2,
-        link: None,
-    }
-}
-
-/// The same of a row of format D.
-#[inline(always)]
-fn start_long<F: Fetch>(
-    code: &F,
-    row: &Row,
-    first: u16,
-    regs: &mut [u32; 16],
-    cs: &mut Cs,
-    iar: u32,
-) -> Pending
-    requires whole { F.is_whole code.now }
-    requires row { row_numbered first ≡ Some row.now }
-    requires first { F.halfword_at code.now iar ≡ Some first }
-    requires format { row.now.format ≡ Format.D }
-    requires within { iar < 16384 }
-    ensures value { plan (F.halfword_at code.now) regs.old cs.old iar ≡ planned regs.new cs.new result }
-    ensures stays { StaysIfPending result regs.old regs.new cs.old cs.new }
-    ensures sound { IsSoundPending result }
-{
-    let Some(second) = code.fetch(iar + 2) else {
-        return Pending::Fails(2);
-    };
-    let b = nibble_at(first, 4) as u8;
-    let c = nibble_at(first, 0) as u8;
-    if !(is_within(row.b, b) && is_within(row.c, c)) {
-        return start_far(code, regs, cs, iar);
-    }
-    let act = do_d(row.op, b, c, second, regs, cs);
-    Pending::Does {
-        act,
-        next: iar + 4,
-        link: None,
-    }
-}
-
-/// The same of any row, by a call.
-#[inline(always)]
-fn start_far<F: Fetch>(code: &F, regs: &mut [u32; 16], cs: &mut Cs, iar: u32) -> Pending
-    requires { F.is_whole code.now }
-    ensures value { plan (F.halfword_at code.now) regs.old cs.old iar ≡ planned regs.new cs.new result }
-    ensures stays { StaysIfPending result regs.old regs.new cs.old cs.new }
-    ensures sound { IsSoundPending result }
-{
-    let pending = start_any(code, regs, cs, iar);
-    pending
-}
-
-/// The same of any row, whose instruction is put together.
-#[inline(never)]
-fn start_any<F: Fetch>(code: &F, regs: &mut [u32; 16], cs: &mut Cs, iar: u32) -> Pending
-    requires { F.is_whole code.now }
-    ensures value { plan (F.halfword_at code.now) regs.old cs.old iar ≡ planned regs.new cs.new result }
-    ensures stays { StaysIfPending result regs.old regs.new cs.old cs.new }
-    ensures sound { IsSoundPending result }
 {
     match fetch_instruction(code, iar) {
         Err(code) => Pending::Fails(code),

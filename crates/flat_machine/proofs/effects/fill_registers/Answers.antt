@@ -1,29 +1,36 @@
 use Rattle.flat_machine.proofs.Common.{length-drop, slice_set, big_number, fill_words}
-use Rattle.std.proofs.Common.{◌≡◌, refl, ℕ, suc, ◌+◌, ◌-◌, ◌*◌, ◌/◌, ◌≤◌, List, length, take, drop, sym, ap, ◌∙◌, arith, add-one}
+use Rattle.std.proofs.Common.{◌≡◌, refl, ℕ, suc, ◌+◌, ◌-◌, ◌*◌, ◌/◌, ◌<◌, List, length, take, drop, sym, ap, ◌∙◌, arith}
 use Rattle.std.proofs.Math.Seq.{take-length}
+use Rattle.std.proofs.lemmas.List.{drop-drop}
 use Rattle.flat_machine.proofs.effects.fill_registers.Goals as goal
 
--- the first four bytes fill a register, the others those after it
+-- four bytes fill a register, and those after them the others
 fill_step :
-    (xs ys : List ℕ) (to value : ℕ) (r : List ℕ) → ys ≡ drop 4 xs → value ≡ big_number 4 xs → 4 ≤ length xs
-    → fill_words (length ys / 4) (to + 1) ys (slice_set r to value) ≡ fill_words (length xs / 4) to xs r
-fill_step xs ys to value r rest word long =
-    let more : length xs / 4 ≡ suc (length (drop 4 xs) / 4) = omega (arith, length-drop 4 xs) in
-    rw (rest, word, more, add-one to) refl
+    (n i first : ℕ) (bytes r : List ℕ) → i < n
+    → fill_words (n - (i + 1)) (first + (i + 1)) (drop (4 * (i + 1)) bytes) (slice_set r (first + i) (big_number 4 (drop (4 * i) bytes))) ≡ fill_words (n - i) (first + i) (drop (4 * i) bytes) r
+fill_step n i first bytes r below =
+    let one : n - i ≡ suc (n - (i + 1)) = omega arith in
+    let next : first + (i + 1) ≡ suc (first + i) = omega arith in
+    let at : 4 * (i + 1) ≡ 4 * i + 4 = omega arith in
+    let rest : drop (4 * (i + 1)) bytes ≡ drop 4 (drop (4 * i) bytes) = ap (λ k. drop k bytes) at ∙ sym (drop-drop 4 (4 * i) bytes) in
+    rw (one, next, rest) refl
 
-rest_is : (xs : List ℕ) → take (length xs - 4) (drop 4 xs) ≡ drop 4 xs
-rest_is xs = ap (λ n. take n (drop 4 xs)) (sym (length-drop 4 xs)) ∙ take-length (drop 4 xs)
+pub loop-i-init : goal.loop-i-init
+loop-i-init c =
+    let none : length c.args.bytes.now / 4 - 0 ≡ length c.args.bytes.now / 4 = omega arith in
+    let here : c.args.first + 0 ≡ c.args.first = omega arith in
+    rw (none, here) refl
 
-pub loop-rest-preserved : goal.loop-rest-preserved
-loop-rest-preserved c =
-    let rest = c.loop-rest.rest.now in
-    let fewer = ap length (rest_is rest) ∙ length-drop 4 rest in
-    let within : length (take (length rest - 4) (drop 4 rest)) + 4 * (c.loop-rest.to + 1) ≤ 64 =
-    omega (arith, fewer, c.loop-rest.invariant.within, c.loop-rest-test.true) in
-    record {
-      within = within;
-      same =
-          fill_step rest (take (length rest - 4) (drop 4 rest)) c.loop-rest.to c.read_u32.result c.loop-rest.regs
-          (rest_is rest) c.read_u32.ensures c.loop-rest-test.true
-          ∙ c.loop-rest.invariant.same;
-    }
+pub loop-i-preserved : goal.loop-i-preserved
+loop-i-preserved c =
+    let bytes = c.args.bytes.now in
+    let i = c.loop-i.i in
+    let rest : take (length bytes - 4 * i) (drop (4 * i) bytes) ≡ drop (4 * i) bytes = ap (λ n. take n (drop (4 * i) bytes)) (sym (length-drop (4 * i) bytes)) ∙ take-length (drop (4 * i) bytes) in
+    ap (λ (value : ℕ). fill_words (length bytes / 4 - (i + 1)) (c.args.first + (i + 1)) (drop (4 * (i + 1)) bytes) (slice_set c.loop-i.regs (c.args.first + i) value)) (c.read_u32.ensures ∙ ap (big_number 4) rest)
+    ∙ fill_step (length bytes / 4) i c.args.first bytes c.loop-i.regs c.loop-i-test.true
+    ∙ c.loop-i.invariant
+
+pub returns : goal.returns
+returns c =
+    let over : length c.args.bytes.now / 4 - c.loop-i.i ≡ 0 = omega (arith, c.loop-i-test.false) in
+    sym (ap (λ (n : ℕ). fill_words n (c.args.first + c.loop-i.i) (drop (4 * c.loop-i.i) c.args.bytes.now) c.loop-i.regs) over) ∙ c.loop-i.invariant
