@@ -428,6 +428,22 @@ impl Unit {
         }
     }
 
+    /// The line of an access that lies in one is known from now on, if the access may be made. All else stays.
+    #[inline(never)]
+    pub fn open_line(&mut self, wants: &Access)
+        ensures { reach_of self.new ≡ reach_of self.old }
+    {
+        if wants.bytes == 0 {
+            return;
+        }
+        let bytes = u32::from(wants.bytes);
+        if let Ok(first) = self.registers.locate(wants.address, bytes, wants.store) {
+            if wants.bytes <= 64 && is_in_line(self.directory.page(), first.byte, wants.bytes) {
+                let _ = self.open(wants, first);
+            }
+        }
+    }
+
     /// Fills registers with bytes of one page, if that is permitted.
     #[inline(always)]
     fn fill_at(
