@@ -428,19 +428,19 @@ impl Unit {
         }
     }
 
-    /// The line of an access that lies in one is known from now on, if the access may be made. All else stays.
+    /// The line of an access that lies in one block of 128 addresses is known from now on, if the access may be made. All else
+    /// stays.
     #[inline(never)]
     pub fn open_line(&mut self, wants: &Access)
         ensures { reach_of self.new ≡ reach_of self.old }
     {
-        if wants.bytes == 0 {
+        let wants = *wants;
+        let bytes = u32::from(wants.bytes);
+        if bytes == 0 || bytes > 64 || wants.address % 128 + bytes > 128 {
             return;
         }
-        let bytes = u32::from(wants.bytes);
         if let Ok(first) = self.registers.locate(wants.address, bytes, wants.store) {
-            if wants.bytes <= 64 && is_in_line(self.directory.page(), first.byte, wants.bytes) {
-                let _ = self.open(wants, first);
-            }
+            let _ = self.open(&wants, first);
         }
     }
 
