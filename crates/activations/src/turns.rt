@@ -102,20 +102,16 @@ impl Activations {
             return Ok(shut);
         }
         self.bring(store, outside, seat, &touch, tally)?;
-        self.look_up(seat, access);
+        self.look_up(access);
         Ok(None)
     }
 
-    /// The page of an access of who sits in a seat is looked up, so that the next one finds it in the buffer.
+    /// The line of an access is opened, so that the next one finds it known.
     #[inline(always)]
-    fn look_up(&mut self, seat: u8, access: Access)
-        requires sound { IsSound (activity_of self.old) }
-        requires taken { has (activity_of self.old).seating.taken seat ≡ true }
+    fn look_up(&mut self, access: Access)
         ensures { activity_of self.new ≡ activity_of self.old }
     {
-        if let Ok(first) = self.locate(seat, access) {
-            self.unit.translate(first);
-        }
+        self.unit.open_line(&access);
     }
 
     /// After a row that took effect and isn't counted yet, the next ones, at most so many, up to one that doesn't go on by

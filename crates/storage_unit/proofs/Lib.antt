@@ -23,6 +23,7 @@ pub mod AccessLemmas
 pub mod LocatedLemmas
 pub mod FoundLemmas
 pub mod OpenLemmas
+pub mod OpenedLemmas
 pub mod GatheredLemmas
 pub mod LeftLemmas
 pub mod LaidLemmas

@@ -65,13 +65,13 @@ no-register state address at u is = by_place (cases_lt (address / 2 ^ 28) 16)
 
 module _ (state : Reach) (sound : IsSound state) (address n : ℕ) (at : Virtual) (u : Under state.registers address n at) where
   -- where something stands under a register a seat is selected
-  one : Selected state
+  pub one : Selected state
   one = elim (cases_lt 0 state.runner) [
     | inl some ↦ selected state sound some
     | inr none ↦ absurd (no-register state address at u (sound.selected.none (omega (arith, none))))
   ]
 
-  stands : IsUnder state.directory one.seat u.register
+  pub stands : IsUnder state.directory one.seat u.register
   stands = one.reached.under (address / 2 ^ 28) u.register u.stands
 
   is-at : at ≡ virtual_at state.directory.page u.register.segment (address % 2 ^ 28)

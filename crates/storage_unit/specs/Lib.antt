@@ -4,6 +4,7 @@ pub mod Reach
 pub mod Held
 pub mod PlanCodes
 pub mod ReadyRows
+pub mod OpenLines
 pub mod Cleared
 pub mod Reached
 pub mod View

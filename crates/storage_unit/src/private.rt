@@ -37,6 +37,7 @@ impl Unit {
             PRIVATE + u16::from(seat),
         );
         self.rows.forget();
+        self.lines.forget();
         let place = usize::from(seat);
         let used = self.used[place] as usize;
         lay_image(self.pool.private_mut(seat), image, used);
@@ -56,6 +57,7 @@ impl Unit {
             first_frame(page, seat),
             seat_pages(page),
         );
+        self.lines.forget();
         self.begun[usize::from(seat)] = false;
         if self.runner == seat + 1 {
             self.rows.forget();
@@ -72,7 +74,7 @@ impl Unit {
         requires registers { AreReached (reach_of self.old).directory seat regs.now }
         ensures { reach_of self.new ≡ record (reach_of self.old) { registers = regs.now; runner = seat + 1 } }
     {
-        forget_unless(&mut self.rows, self.runner == seat + 1);
+        forget_unless(&mut self.rows, &mut self.lines, self.runner == seat + 1);
         self.registers = *regs;
         self.runner = seat + 1;
     }

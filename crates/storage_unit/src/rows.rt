@@ -1,6 +1,7 @@
 // The rows that are known, and the bytes that were used, where private bytes are stored.
 ghost use Rattle.std.specs.Prelude.{◌≡◌, ℕ, ◌+◌, ◌-◌, ◌≤◌, ◌<◌, ◌^◌, if◌then◌else◌, length, slice_index, false, true, None};
 ghost use Rattle.ready_rows.specs.Known.{known};
+ghost use Rattle.open_lines.specs.Known.{KnowsNothing};
 ghost use Rattle.storage_unit.specs.Places.{is_private, offset_of};
 ghost use Rattle.storage_unit.specs.ReadyRows.{after_store};
 ghost use Rattle.storage_unit.specs.Cleared.{AreUsed};
@@ -8,6 +9,7 @@ ghost use Rattle.storage_unit.specs.Cleared.{AreUsed};
 use super::private::PRIVATE;
 use super::sizes::offset_of;
 use line_geometry::PageSize;
+use open_lines::OpenLines;
 use ready_rows::ReadyRows;
 use segment_regs::Virtual;
 
@@ -23,10 +25,12 @@ pub(super) fn drop_rows(rows: &mut ReadyRows, page: PageSize, first: Virtual, by
     }
 }
 
-/// No row is known any more, unless they stay.
-pub(super) fn forget_unless(rows: &mut ReadyRows, stay: bool)
-    ensures { (address : ℕ) → known rows.new address ≡ (if stay then known rows.old address else None) }
+/// No line is known any more, and no row, unless they stay.
+pub(super) fn forget_unless(rows: &mut ReadyRows, lines: &mut OpenLines, stay: bool)
+    ensures lines { KnowsNothing lines.new }
+    ensures rows { (address : ℕ) → known rows.new address ≡ (if stay then known rows.old address else None) }
 {
+    lines.forget();
     if !stay {
         rows.forget();
     }

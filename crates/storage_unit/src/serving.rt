@@ -11,12 +11,14 @@ ghost use Rattle.frame_pool.specs.Sizes.{frame_count};
 ghost use Rattle.frame_pool.specs.Pool.{Brought, frame_at, page_out, settled, undone, emptied, laid};
 ghost use Rattle.storage_unit.specs.Places.{key_among};
 ghost use Rattle.storage_unit.specs.Served.{released};
+ghost use Rattle.open_lines.specs.Known.{KnowsNothing};
 
 use super::unit::Unit;
 use frame_pool::{FramePool, Slot};
 use inverted_table::{Key, Table};
 use line_geometry::LineSet;
 use lockbit_rules::Authority;
+use open_lines::OpenLines;
 use tlb_model::Tlb;
 
 impl Unit {
@@ -33,7 +35,13 @@ impl Unit {
         ensures rest { reach_of self.new ≡ record (reach_of self.old) { pool = (reach_of self.new).pool } }
     {
         let out = self.pool.page_out(keep);
-        leave_frame(&self.pool, &mut self.table, &mut self.buffer, out);
+        leave_frame(
+            &self.pool,
+            &mut self.table,
+            &mut self.buffer,
+            &mut self.lines,
+            out,
+        );
         let slot = self.pool.bring(page, keep);
         let key = key_among(self.directory.segments(), page);
         self.table.enter(slot.frame, key.segment, key.page);
@@ -62,7 +70,13 @@ impl Unit {
         requires { page < page_count (reach_of self.old).directory }
         ensures { reach_of self.new ≡ record (reach_of self.old) { pool = undone (reach_of self.old).pool page lines } }
     {
-        leave_frame(&self.pool, &mut self.table, &mut self.buffer, Some(page));
+        leave_frame(
+            &self.pool,
+            &mut self.table,
+            &mut self.buffer,
+            &mut self.lines,
+            Some(page),
+        );
         self.pool.undo(page, lines);
     }
 
@@ -72,6 +86,7 @@ impl Unit {
     {
         leave_all(&self.pool, &mut self.table);
         self.buffer = Tlb::new();
+        self.lines = OpenLines::new();
         self.pool.empty();
     }
 
@@ -81,6 +96,7 @@ impl Unit {
         requires { page < page_count (reach_of self.old).directory }
         ensures { reach_of self.new ≡ record (reach_of self.old) { entries = slice_set (reach_of self.old).entries page value } }
     {
+        self.lines.forget();
         self.table.set_authority(page, value);
     }
 
@@ -88,18 +104,27 @@ impl Unit {
     pub fn clear(&mut self, tid: u8)
         ensures { reach_of self.new ≡ released (reach_of self.old) tid }
     {
+        OpenLines::forget(&mut self.lines);
         self.table.clear(tid);
     }
 }
 
-/// The frame of a page holds nothing, and the buffer forgets it, if a page is named that is in one.
+/// The frame of a page holds nothing, and the buffer forgets it, if a page is named that is in one. No line is known.
 #[inline(always)]
-fn leave_frame(pool: &FramePool, table: &mut Table, buffer: &mut Tlb, page: Option<u16>)
+fn leave_frame(
+    pool: &FramePool,
+    table: &mut Table,
+    buffer: &mut Tlb,
+    lines: &mut OpenLines,
+    page: Option<u16>,
+)
     requires room { frame_count (pool_of pool.now).page (pool_of pool.now).frames ≤ length table.old.keys }
     requires of_table { IsOfTable buffer.old table.old.keys }
     ensures table { table.new ≡ option_map_or (without_frame table.old) (option_and_then (frame_at (pool_of pool.now)) page) table.old }
     ensures of_table { IsOfTable buffer.new table.new.keys }
+    ensures lines { KnowsNothing lines.new }
 {
+    lines.forget();
     let Some(out) = page else {
         return;
     };

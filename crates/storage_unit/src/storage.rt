@@ -1,7 +1,7 @@
 // The unit as a storage.
 ghost use Rattle.std.specs.Prelude.{◌≡◌, ◌+◌, ◌*◌, ◌-◌, ◌%◌, ◌<◌, ◌≤◌, ◌^◌, ℕ, length, find, not, Ok, Some, true, false, IfOk, IfErr, IfSome};
 ghost use Rattle.std.specs.List.{range_with_len};
-ghost use Rattle.segment_regs.specs.Registers.{bytes_on};
+ghost use Rattle.segment_regs.specs.Registers.{bytes_on, located_by};
 ghost use Rattle.line_geometry.specs.Segments.{page_bytes, line_bytes};
 ghost use Rattle.line_geometry.specs.Directory.{byte_count, start_of};
 ghost use Rattle.line_geometry.specs.Lines.{line_of};
@@ -21,6 +21,7 @@ ghost use Rattle.storage_unit.specs.Rows.{tried_over, GivesRows, ChangesBytes, S
 ghost use Rattle.storage_unit.specs.Reached.{Lies, AreThere, bytes_shown, is_absent};
 ghost use Rattle.storage_unit.specs.Held.{table_of};
 ghost use Rattle.storage_unit.specs.Accesses.{IsRead, IsWritten};
+ghost use Rattle.storage_unit.specs.OpenLines.{IsOpenAt};
 ghost use Rattle.inverted_table.specs.Keys.{key_of};
 ghost use Rattle.inverted_table.specs.Placed.{look_up};
 
@@ -31,6 +32,7 @@ use super::sizes::{byte_past, first_frame, is_in_line, line_in_page, offset_of, 
 use super::unit::Unit;
 use byteorder::{BigEndian, ByteOrder};
 use flat_machine::{Ready, fill, gather, ready_of};
+use open_lines::OpenLine;
 use romp_cpu::{Access, Attempt, Cpu, Fault, Probe, Storage};
 use segment_regs::{Check, Virtual};
 
@@ -179,36 +181,51 @@ impl Unit {
         is_in_line(self.directory.page(), first.byte, bytes) || u16::from(bytes) <= self.rest(first)
     }
 
-    /// The frame of an access whose bytes lie in one line, where the buffer has its page and the access may be made.
+    /// Where an access begins whose line is known, to store only where it is known to be stored, and the frame that has it.
     #[inline(always)]
-    fn open_frame(&self, first: Virtual, bytes: u8, store: bool) -> Option<u16>
-        requires some { 0 < bytes }
-        requires lies { Lies (reach_of self.now) first bytes }
-        ensures permitted { IfSome result (λ frame. (access : Access) → access.bytes ≡ bytes → access.store ≡ store → Probe.Permitted ≡ answered_at (reach_of self.now).directory.page (is_in_frame (reach_of self.now)) (refuses (reach_of self.now)) access (Ok first)) }
-        ensures frame { IfSome result (λ frame. look_up (table_of (reach_of self.now)).keys (key_of first) ≡ Some frame) }
-        ensures within { IfSome result (λ frame. first.byte + bytes ≤ page_bytes (reach_of self.now).directory.page) }
+    fn known_line(&self, wants: &Access) -> Option<(Virtual, u16)>
+        requires { 0 < wants.now.bytes }
+        ensures { IfSome result (λ found. IsOpenAt (reach_of self.now) wants.now found.0 found.1) }
     {
-        if !self.is_in_one_line(first, bytes) {
+        let line = self.lines.at(wants.address)?;
+        let offset = wants.address % 128;
+        if offset + u32::from(wants.bytes) > 128 {
             return None;
         }
-        if first.segment >= PRIVATE {
-            return Some(self.private_frame(first));
+        if wants.store && !line.write {
+            return None;
         }
-        let frame = self.known(first)?;
-        if self.is_kept_in(frame, first, 0, store) {
-            None
-        } else {
-            Some(frame)
-        }
+        let first = Virtual {
+            segment: line.first.segment,
+            page: line.first.page,
+            byte: line.first.byte + offset as u16,
+        };
+        Some((first, line.frame))
     }
 
-    /// Whether some bytes lie in one line.
-    fn is_in_one_line(&self, first: Virtual, bytes: u8) -> bool
-        requires { first.byte < page_bytes (reach_of self.now).directory.page }
-        ensures line { result ≡ true → first.byte % line_bytes (reach_of self.now).directory.page + bytes ≤ line_bytes (reach_of self.now).directory.page }
-        ensures within { result ≡ true → first.byte + bytes ≤ page_bytes (reach_of self.now).directory.page }
+    /// The line of an access that may be made is known from now on, if it lies in one block of 128 addresses.
+    #[inline]
+    fn keep_line(&mut self, wants: &Access, first: Virtual, frame: u16)
+        requires some { 0 < wants.now.bytes }
+        requires open { IsOpenAt (reach_of self.old) wants.now first frame }
+        ensures { reach_of self.new ≡ reach_of self.old }
     {
-        is_in_line(self.directory.page(), first.byte, bytes)
+        if wants.address % 128 + u32::from(wants.bytes) > 128 {
+            return;
+        }
+        let whole = Virtual {
+            segment: first.segment,
+            page: first.page,
+            byte: first.byte / 128 * 128,
+        };
+        self.lines.keep(
+            wants.address,
+            OpenLine {
+                first: whole,
+                frame,
+                write: wants.store,
+            },
+        );
     }
 
     /// The frame of an access whose bytes lie in one page and two lines at most, or why it can't be made now. The page of a
@@ -389,26 +406,62 @@ impl Unit {
         );
     }
 
+    /// The frame of an access that begins at a byte and lies in one page, or why it can't be made now. Where it may be made, its
+    /// line is known from now on.
+    #[inline(always)]
+    fn open(&mut self, wants: &Access, first: Virtual) -> Result<u16, Probe>
+        requires some { 0 < wants.now.bytes }
+        requires few { wants.now.bytes ≤ 64 }
+        requires located { located_by (reach_of self.old).registers wants.now.address wants.now.bytes wants.now.store ≡ Ok first }
+        requires within { first.byte + wants.now.bytes ≤ page_bytes (reach_of self.old).directory.page }
+        ensures answer { answer_of result ≡ answer_in (λ state. state.registers) is_in_frame refuses (reach_of self.old) wants.now }
+        ensures open { IfOk result (λ frame. IsOpenAt (reach_of self.new) wants.now first frame) }
+        ensures refused { IfErr result IsRefusal }
+        ensures state { reach_of self.new ≡ reach_of self.old }
+    {
+        match self.frame_for(first, wants.bytes, wants.store) {
+            Ok(frame) => {
+                self.keep_line(wants, first, frame);
+                Ok(frame)
+            }
+            Err(probe) => Err(probe),
+        }
+    }
+
+    /// The line of an access that lies in one block of 128 addresses is known from now on, if the access may be made. All else
+    /// stays.
+    #[inline(never)]
+    pub fn open_line(&mut self, wants: &Access)
+        ensures { reach_of self.new ≡ reach_of self.old }
+    {
+        let wants = *wants;
+        let bytes = u32::from(wants.bytes);
+        if bytes == 0 || bytes > 64 || wants.address % 128 + bytes > 128 {
+            return;
+        }
+        if let Ok(first) = self.registers.locate(wants.address, bytes, wants.store) {
+            let _ = self.open(&wants, first);
+        }
+    }
+
     /// Fills registers with bytes of one page, if that is permitted.
     #[inline(always)]
     fn fill_at(
         &mut self,
+        wants: &Access,
         first: Virtual,
-        bytes: u8,
         to: u8,
         sign: bool,
         regs: &mut [u32; 16],
     ) -> Probe
-        requires fits { FitsFrom bytes to }
-        requires within { first.byte + bytes ≤ page_bytes (reach_of self.old).directory.page }
-        requires lies { Lies (reach_of self.old) first bytes }
-        ensures answer { (access : Access) → access.bytes ≡ bytes → access.store ≡ false → result ≡ answered_at (reach_of self.old).directory.page (is_in_frame (reach_of self.old)) (refuses (reach_of self.old)) access (Ok first) }
-        ensures state { reach_of self.new ≡ reach_of self.old }
-        ensures registers { regs.new ≡ if_permitted result (filled to sign (bytes_shown (reach_of self.old) (place_of (reach_of self.old).directory first) bytes) regs.old) regs.old }
+        requires fits { FitsFrom wants.now.bytes to }
+        requires located { located_by (reach_of self.old).registers wants.now.address wants.now.bytes wants.now.store ≡ Ok first }
+        requires within { first.byte + wants.now.bytes ≤ page_bytes (reach_of self.old).directory.page }
+        ensures { IsRead (reach_of self.old) (reach_of self.new) wants.now to sign regs.old regs.new result }
     {
-        match self.frame_for(first, bytes, false) {
+        match self.open(wants, first) {
             Ok(frame) => {
-                let part = self.part_in(frame, first, usize::from(bytes));
+                let part = self.part_in(frame, first, usize::from(wants.bytes));
                 fill(to, sign, part, regs);
                 Probe::Permitted
             }
@@ -418,16 +471,15 @@ impl Unit {
 
     /// Writes the bytes of registers over those of one page, if that is permitted.
     #[inline(always)]
-    fn gather_at(&mut self, first: Virtual, bytes: u8, from: u8, regs: &[u32; 16]) -> Probe
-        requires fits { FitsFrom bytes from }
-        requires within { first.byte + bytes ≤ page_bytes (reach_of self.old).directory.page }
-        requires lies { Lies (reach_of self.old) first bytes }
-        ensures answer { (access : Access) → access.bytes ≡ bytes → access.store ≡ true → result ≡ answered_at (reach_of self.old).directory.page (is_in_frame (reach_of self.old)) (refuses (reach_of self.old)) access (Ok first) }
-        ensures state { reach_of self.new ≡ if_permitted result (put_at (reach_of self.old) (place_of (reach_of self.old).directory first) (stored_bytes regs.now bytes from)) (reach_of self.old) }
+    fn gather_at(&mut self, wants: &Access, first: Virtual, from: u8, regs: &[u32; 16]) -> Probe
+        requires fits { FitsFrom wants.now.bytes from }
+        requires located { located_by (reach_of self.old).registers wants.now.address wants.now.bytes wants.now.store ≡ Ok first }
+        requires within { first.byte + wants.now.bytes ≤ page_bytes (reach_of self.old).directory.page }
+        ensures { IsWritten (reach_of self.old) (reach_of self.new) wants.now from regs.now result }
     {
-        match self.frame_for(first, bytes, true) {
+        match self.open(wants, first) {
             Ok(frame) => {
-                self.gather_in(frame, first, bytes, from, regs);
+                self.gather_in(frame, first, wants.bytes, from, regs);
                 Probe::Permitted
             }
             Err(probe) => probe,
@@ -491,25 +543,19 @@ impl Storage for Unit {
 
     #[inline(always)]
     fn read(&mut self, wants: &Access, to: u8, sign: bool, regs: &mut [u32; 16]) -> Probe {
-        let bytes = u32::from(wants.bytes);
-        if let Ok(first) = self.registers.locate(wants.address, bytes, wants.store) {
-            if let Some(frame) = self.open_frame(first, wants.bytes, false) {
-                let part = self.part_in(frame, first, usize::from(wants.bytes));
-                fill(to, sign, part, regs);
-                return Probe::Permitted;
-            }
+        if let Some((first, frame)) = self.known_line(wants) {
+            let part = self.part_in(frame, first, usize::from(wants.bytes));
+            fill(to, sign, part, regs);
+            return Probe::Permitted;
         }
         self.read_far(*wants, to, sign, regs)
     }
 
     #[inline(always)]
     fn write(&mut self, wants: &Access, from: u8, regs: &[u32; 16]) -> Probe {
-        let bytes = u32::from(wants.bytes);
-        if let Ok(first) = self.registers.locate(wants.address, bytes, wants.store) {
-            if let Some(frame) = self.open_frame(first, wants.bytes, true) {
-                self.gather_in(frame, first, wants.bytes, from, regs);
-                return Probe::Permitted;
-            }
+        if let Some((first, frame)) = self.known_line(wants) {
+            self.gather_in(frame, first, wants.bytes, from, regs);
+            return Probe::Permitted;
         }
         self.write_far(*wants, from, regs)
     }
@@ -586,7 +632,7 @@ impl Unit {
                 if !self.is_in_page(first, wants.bytes) {
                     return self.read_apart(wants, to, sign, regs);
                 }
-                self.fill_at(first, wants.bytes, to, sign, regs)
+                self.fill_at(wants, first, to, sign, regs)
             }
         }
     }
@@ -605,7 +651,7 @@ impl Unit {
                 if !self.is_in_page(first, wants.bytes) {
                     return self.write_apart(wants, from, regs);
                 }
-                self.gather_at(first, wants.bytes, from, regs)
+                self.gather_at(wants, first, from, regs)
             }
         }
     }

@@ -1,5 +1,5 @@
 // The unit's parts, and that they agree.
-ghost use Rattle.std.specs.Prelude.{◌≡◌, ◌≤◌, length, IfOk, IfSome, Some};
+ghost use Rattle.std.specs.Prelude.{◌≡◌, ◌≤◌, length, IfOk};
 ghost use Rattle.line_geometry.specs.Directory.{page_count};
 ghost use Rattle.line_geometry.specs.Legal.{IsLegal};
 ghost use Rattle.frame_pool.specs.View.{pool_of};
@@ -9,6 +9,7 @@ ghost use Rattle.tlb_model.specs.Buffer.{IsOfTable, found, after_found};
 ghost use Rattle.storage_unit.specs.Held.{keys_of, AreOfPages, IsSelected, table_of};
 ghost use Rattle.storage_unit.specs.PlanCodes.{plan_set};
 ghost use Rattle.storage_unit.specs.ReadyRows.{AreReady};
+ghost use Rattle.storage_unit.specs.OpenLines.{AreOpened};
 ghost use Rattle.storage_unit.specs.Cleared.{AreClear};
 ghost use Rattle.std.proofs.Props.{props};
 ghost use Rattle.storage_unit.specs.Served.{made};
@@ -16,6 +17,7 @@ ghost use Rattle.storage_unit.specs.Served.{made};
 use frame_pool::{FramePool, private_frames};
 use inverted_table::Table;
 use line_geometry::Directory;
+use open_lines::OpenLines;
 use ready_rows::ReadyRows;
 use segment_regs::{SegmentRegs, Virtual};
 use std::alloc::{AllocError, Global};
@@ -25,8 +27,8 @@ use tlb_model::Tlb;
 /// Frames, page table and look-aside buffer of a store, with the segment registers of the seat that is selected
 /// (docs/MODEL.md). They agree: the table has a page of the store in a frame exactly where the pool has
 /// it there, and a seat's private pages in its private frames exactly where it is begun; each pair of the buffer is in
-/// the table; each row that is known is made ready of the private bytes of who is selected; and the private bytes of a seat
-/// after those that were used are zeros. So no part is lent to be written.
+/// the table; each row that is known is made ready of the private bytes of who is selected; each line that is known may be
+/// accessed; and the private bytes of a seat after those that were used are zeros. So no part is lent to be written.
 #[derive(Drop)]
 pub struct Unit {
     pub(crate) pool: FramePool,
@@ -37,6 +39,7 @@ pub struct Unit {
     pub(crate) registers: SegmentRegs,
     pub(crate) runner: u8,
     pub(crate) rows: ReadyRows,
+    pub(crate) lines: OpenLines,
     pub(crate) used: [u32; 16],
     ghost sixteen: { length begun ≡ 16 },
     ghost legal: { IsLegal directory.segments },
@@ -48,6 +51,7 @@ pub struct Unit {
     ghost remembered: { IsOfTable buffer table.keys },
     ghost selected: { IsSelected directory begun runner registers },
     ghost ready: { AreReady rows (pool_of pool).bytes runner } by { Prim.hlevel (props, plan_set) },
+    ghost opened: { AreOpened lines directory table registers runner },
     ghost clear: { AreClear used (pool_of pool).bytes },
 }
 
@@ -78,6 +82,7 @@ impl Unit {
             registers: SegmentRegs::none(page),
             runner: 0,
             rows: ReadyRows::new(alloc)?,
+            lines: OpenLines::new(),
             used: [0; 16],
         })
     }
@@ -121,13 +126,5 @@ impl Unit {
         ensures state { reach_of self.new ≡ reach_of self.old }
     {
         self.buffer.find(&self.table, at)
-    }
-
-    /// The same of the buffer alone.
-    #[inline(always)]
-    pub(crate) fn known(&self, at: Virtual) -> Option<u16>
-        ensures { IfSome result (λ frame. look_up (table_of (reach_of self.now)).keys (key_of at) ≡ Some frame) }
-    {
-        self.buffer.known(at)
     }
 }

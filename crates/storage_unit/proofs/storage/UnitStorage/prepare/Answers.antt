@@ -16,5 +16,6 @@ invariant_of-self c =
       remembered = unit.remembered;
       selected = unit.selected;
       ready = ready-with unit.rows c.keep.new.self (pool_of unit.pool).bytes unit.runner c.args.address c.in-Some.row (omega (arith, c.if-self-eq0.false)) c.in-Some.ensures.within c.in-Some.ensures.row c.keep.ensures unit.ready;
+      opened = unit.opened;
       clear = unit.clear;
     }

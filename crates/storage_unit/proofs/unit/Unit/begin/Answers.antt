@@ -8,6 +8,7 @@ use Rattle.storage_unit.proofs.UnitLemmas.{unit-sound}
 use Rattle.storage_unit.specs.Cleared.{AreClear}
 use Rattle.storage_unit.proofs.ClearLemmas.{clear-begun, seat-clear}
 use Rattle.storage_unit.proofs.ReadyLemmas.{ready-none}
+use Rattle.storage_unit.proofs.OpenedLemmas.{opened-none}
 use Rattle.storage_unit.proofs.unit.Unit.begin.Goals as goal
 
 -- the seat isn't begun
@@ -115,6 +116,7 @@ invariant_of-self c =
             );
       };
       ready = ready-none c.forget.new.self _ unit.runner c.forget.ensures;
+      opened = opened-none c.forget-2.new.self unit.directory c.enter_pages.new.table unit.registers unit.runner c.forget-2.ensures;
       clear =
           subst (λ (list : List ℕ). AreClear (slice_set unit.used c.from-place.result (length c.args.image.now)) list) (sym (ap (λ (p : Pool). p.bytes) new))
           (subst (λ n. AreClear (slice_set unit.used n (length c.args.image.now)) (overlaid pool.bytes (seat * 16384) (c.args.image.now ++ replicate (16384 - length c.args.image.now) 0))) (sym at)

@@ -3,6 +3,7 @@ use Rattle.storage_unit.proofs.HeldLemmas.{key-at, keys-long, held-store, finds-
 use Rattle.storage_unit.proofs.StateLemmas.{frames-held, room-stays, room-none, absent-frame, keys-room, without-keys, without-entries}
 use Rattle.storage_unit.specs.ReadyRows.{AreReady}
 use Rattle.storage_unit.specs.Cleared.{AreClear}
+use Rattle.storage_unit.proofs.OpenedLemmas.{opened-none}
 use Rattle.storage_unit.proofs.unit.Unit.bring.Goals as goal
 
 module _ (unit : Unit) (page : ℕ) (keep : Option ℕ) where
@@ -124,5 +125,6 @@ invariant_of-self c =
           (subst (λ (list : List (Option Key)). IsOfTable c.leave_frame.new.buffer list) keys c.leave_frame.ensures.of_table));
       selected = unit.selected;
       ready = subst (λ (list : List ℕ). AreReady unit.rows list unit.runner) (sym (ap (λ (p : Pool). p.bytes) came.rest ∙ old.bytes)) unit.ready;
+      opened = opened-none c.leave_frame.new.lines unit.directory c.enter.new.self unit.registers unit.runner c.leave_frame.ensures.lines;
       clear = subst (λ (list : List ℕ). AreClear unit.used list) (sym (ap (λ (p : Pool). p.bytes) came.rest ∙ old.bytes)) unit.clear;
     }

@@ -52,5 +52,6 @@ invariant_of-self g c =
       remembered = unit.remembered;
       selected = unit.selected;
       ready = still-ready c.args.self.now unit c.args.page c.args.keep c.bring-slot.result.frame c.page_mut.result.now c.bring-slot.ensures.brought c.bring-slot.ensures.rest c.page_mut.ensures.value c.read_page-read.new.into c.read_page-read.auto.into;
+      opened = unit.opened;
       clear = still-clear c.args.self.now unit c.args.page c.args.keep c.bring-slot.result.frame c.page_mut.result.now c.bring-slot.ensures.brought c.bring-slot.ensures.rest c.page_mut.ensures.value c.read_page-read.new.into c.read_page-read.auto.into;
     }

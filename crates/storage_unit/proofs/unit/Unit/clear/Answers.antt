@@ -1,4 +1,5 @@
 use Rattle.storage_unit.proofs.Common.{sym, ◌∙◌, ap, subst, List, length, Option, length-map, Key, Placed, cleared_entry, IsOfTable}
+use Rattle.storage_unit.proofs.OpenedLemmas.{opened-none}
 use Rattle.storage_unit.proofs.unit.Unit.clear.Goals as goal
 
 pub invariant_of-self-clause-entries : goal.invariant_of-self-clause-entries
@@ -9,3 +10,6 @@ invariant_of-self-clause-held c = ap (λ (table : Placed). table.keys) c.clear.e
 
 pub invariant_of-self-clause-remembered : goal.invariant_of-self-clause-remembered
 invariant_of-self-clause-remembered c = subst (λ (keys : List (Option Key)). IsOfTable c.args.self.now.buffer keys) (sym (ap (λ (table : Placed). table.keys) c.clear.ensures)) c.args.self.now.remembered
+
+pub invariant_of-self-clause-opened : goal.invariant_of-self-clause-opened
+invariant_of-self-clause-opened c = let unit = c.args.self.now in opened-none c.forget.new.self unit.directory c.clear.new.self unit.registers unit.runner c.forget.ensures

@@ -2,6 +2,7 @@ use Rattle.storage_unit.proofs.Common.{sym, ◌∙◌, ap, subst, List, ℕ, len
 use Rattle.storage_unit.proofs.StateLemmas.{frames-held, emptied-stays, keys-emptied, none-of_table}
 use Rattle.storage_unit.specs.ReadyRows.{AreReady}
 use Rattle.storage_unit.specs.Cleared.{AreClear}
+use Rattle.storage_unit.proofs.OpenedLemmas.{opened-none}
 use Rattle.storage_unit.proofs.unit.Unit.empty.Goals as goal
 
 pub leave_all-requires : goal.leave_all-requires
@@ -29,5 +30,6 @@ invariant_of-self c =
       remembered = subst (λ (classes : List (List Pair)). IsOfTable classes c.leave_all.new.table.keys) (sym c.new-self.ensures) (none-of_table c.leave_all.new.table.keys);
       selected = unit.selected;
       ready = subst (λ (list : List ℕ). AreReady unit.rows list unit.runner) (sym (ap (λ (p : Pool). p.bytes) new ∙ stays.bytes)) unit.ready;
+      opened = opened-none c.new-self-2.result unit.directory c.leave_all.new.table unit.registers unit.runner c.new-self-2.ensures;
       clear = subst (λ (list : List ℕ). AreClear unit.used list) (sym (ap (λ (p : Pool). p.bytes) new ∙ stays.bytes)) unit.clear;
     }

@@ -3,6 +3,7 @@ use Rattle.storage_unit.proofs.SizeLemmas.{seat-room}
 use Rattle.storage_unit.proofs.HeldLemmas.{keys-long, keys-seat}
 use Rattle.storage_unit.proofs.PrivateLemmas.{begun-other, holds-none}
 use Rattle.storage_unit.proofs.ReadyLemmas.{ready-none}
+use Rattle.storage_unit.proofs.OpenedLemmas.{opened-none}
 use Rattle.storage_unit.proofs.unit.Unit.end.Goals as goal
 
 pub leave_pages-requires-clause-room : goal.leave_pages-requires-clause-room
@@ -36,7 +37,8 @@ invariant_of-self c =
           (c.first_frame.ensures.value ∙ ap (λ s. c.args.seat * seat_pages s) c.page-page.ensures) (c.seat_pages.ensures.value ∙ ap seat_pages c.page-page.ensures) c.from.ensures (ap (λ (t : Placed). t.keys) c.leave_pages.ensures.table);
       remembered = c.leave_pages.ensures.of_table;
       selected = record { none = λ is. c.none-self.ensures ∙ ap (λ page. (let none : Registers = record { page = page; list = replicate 16 None } in none)) c.page-page.ensures; few = omega arith; seat = λ other is. absurd (omega (arith, is)) };
-      ready = ready-none c.forget.new.self (pool_of unit.pool).bytes 0 c.forget.ensures;
+      ready = ready-none c.forget-then-self-seat.new.self (pool_of unit.pool).bytes 0 c.forget-then-self-seat.ensures;
+      opened = opened-none c.forget.new.self unit.directory c.leave_pages.new.table c.none-self.result 0 c.forget.ensures;
       clear = unit.clear;
     }
 
@@ -62,5 +64,6 @@ invariant_of-self-else-self-seat c =
             (get_or-set_other unit.begun c.from.result other false false apart ∙ old.0, old.1);
       };
       ready = unit.ready;
+      opened = opened-none c.forget.new.self unit.directory c.leave_pages.new.table unit.registers unit.runner c.forget.ensures;
       clear = unit.clear;
     }

@@ -1,22 +1,36 @@
-use Rattle.std.proofs.lemmas.Grind.{common_steps}
-use Rattle.storage_unit.proofs.Common.{List, ℕ, ◌∙◌, ap, Reach, place_of, bytes_shown, reach_of, nat_tests, arith}
+use Rattle.storage_unit.proofs.Common.{List, ℕ, sym, ◌∙◌, ap, subst, Reach, place_of, Lies, byte_at, bytes_from, bytes_shown, reach_of, nat_tests, arith}
 use Rattle.flat_machine.specs.Effect.{filled}
+use Rattle.romp_cpu.specs.Answers.{answer_of}
 use Rattle.storage_unit.proofs.CopyLemmas.{shown-long}
+use Rattle.storage_unit.proofs.OpenedLemmas.{open-lies, open-bytes, refused-stays}
 use Rattle.storage_unit.proofs.unit.Unit.fill_at.Goals as goal
+
+pub part_in-part-requires-clause-lies : goal.part_in-part-requires-clause-lies
+part_in-part-requires-clause-lies c =
+    let unit = c.open.new.self in
+    subst (λ n. Lies (reach_of unit) c.args.first n) (sym c.from.ensures) (open-lies unit c.args.wants.now c.args.first c.in-Ok.frame c.in-Ok.ensures.open)
 
 pub fill-requires : goal.fill-requires
 fill-requires c = grind (arith, nat_tests, shown-long)
 
-pub returns-in-Ok-clause-registers : goal.returns-in-Ok-clause-registers
-returns-in-Ok-clause-registers c =
-    let state = reach_of c.frame_for.new.self in
-    c.fill.ensures
-    ∙ ap (λ (list : List ℕ). filled c.args.to c.args.sign list c.args.regs.now)
-    (c.part_in-part.ensures ∙ ap (bytes_shown state (place_of state.directory c.args.first)) c.from.ensures
-    ∙ ap (λ (s : Reach). bytes_shown s (place_of s.directory c.args.first) c.args.bytes) c.frame_for.ensures.state)
+pub returns-in-Ok : goal.returns-in-Ok
+returns-in-Ok c =
+    let unit = c.open.new.self in
+    let wants = c.args.wants.now in
+    record {
+      answer = sym (ap answer_of c.in-Ok.is) ∙ c.open.ensures.answer;
+      state = c.open.ensures.state;
+      filled =
+          c.fill.ensures
+          ∙ ap (λ (list : List ℕ). filled c.args.to c.args.sign list c.args.regs.now)
+          (c.part_in-part.ensures ∙ ap (bytes_shown (reach_of unit) (place_of unit.directory c.args.first)) c.from.ensures
+          ∙ open-bytes unit wants c.args.first c.in-Ok.frame c.in-Ok.ensures.open
+          ∙ ap (λ (s : Reach). bytes_from (byte_at s) wants.address wants.bytes) c.open.ensures.state);
+    }
 
-pub returns-in-Err-clause-registers : goal.returns-in-Err-clause-registers
-returns-in-Err-clause-registers c = grind (arith, common_steps)
-
-pub part_in-part-requires-clause-lies : goal.part_in-part-requires-clause-lies
-part_in-part-requires-clause-lies c = grind (arith, nat_tests)
+pub returns-in-Err : goal.returns-in-Err
+returns-in-Err c = record {
+  answer = sym (ap answer_of c.in-Err.is) ∙ c.open.ensures.answer;
+  state = c.open.ensures.state;
+  filled = refused-stays c.in-Err.probe _ c.args.regs.now c.in-Err.ensures.refused;
+}

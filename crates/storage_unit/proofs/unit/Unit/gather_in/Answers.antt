@@ -43,6 +43,7 @@ invariant_of-self c =
       ready = ready-part unit c.args.first frame c.from.result n c.requires.frame c.from.ensures fits (omega (arith, c.from-2.ensures, c.requires.fits.some)) (subst (Lies (reach_of unit) c.args.first) (sym c.from-2.ensures) c.requires.lies) c.gather.new.into long c.drop_rows.new.rows
           (λ address. c.drop_rows.ensures address ∙ ap (λ s. after_store s c.args.first c.from-count.result address (known unit.rows address)) c.page-page.ensures
           ∙ ap (λ m. after_store unit.directory.page c.args.first m address (known unit.rows address)) (c.from-count.ensures ∙ sym c.from-2.ensures));
+      opened = unit.opened;
       clear = clear-part unit c.args.first frame c.from.result n c.requires.frame c.from.ensures fits (omega (arith, c.from-2.ensures, c.requires.fits.some)) (subst (Lies (reach_of unit) c.args.first) (sym c.from-2.ensures) c.requires.lies) c.gather.new.into long c.use_bytes.new.used c.use_bytes.ensures.shared
           (λ own. subst (λ m. AreUsed unit.used c.use_bytes.new.used (c.args.first.segment - 3840) (offset_of unit.directory.page c.args.first + m)) (c.from-count.ensures ∙ sym c.from-2.ensures)
           (subst (λ s. AreUsed unit.used c.use_bytes.new.used (c.args.first.segment - 3840) (offset_of s c.args.first + c.from-count.result)) c.page-page.ensures (c.use_bytes.ensures.private own)));

@@ -28,6 +28,7 @@ invariant_of-self c =
       ready =
           subst (λ (list : List ℕ). AreReady unit.rows list unit.runner) (sym (ap (λ (p : Pool). p.bytes) c.lay_kept.ensures))
           (ready-kept unit.rows (pool_of unit.pool).bytes _ unit.runner unit.selected.few (laid-low (reach_of unit) (unit-sound unit) c.args.page) unit.ready);
+      opened = unit.opened;
       clear =
           subst (λ (list : List ℕ). AreClear unit.used list) (sym (ap (λ (p : Pool). p.bytes) c.lay_kept.ensures))
           (clear-kept unit.used (pool_of unit.pool).bytes _ (laid-low (reach_of unit) (unit-sound unit) c.args.page) unit.clear);

@@ -5,6 +5,7 @@ use Rattle.storage_unit.proofs.StateLemmas.{none-of_table, marks-none}
 use Rattle.storage_unit.specs.Cleared.{AreClear}
 use Rattle.storage_unit.proofs.ClearLemmas.{clear-fresh}
 use Rattle.storage_unit.proofs.ReadyLemmas.{ready-none}
+use Rattle.storage_unit.proofs.OpenedLemmas.{opened-none}
 use Rattle.storage_unit.proofs.unit.Unit.new.Goals as goal
 
 pub invariant_of-result : goal.invariant_of-result
@@ -27,5 +28,6 @@ invariant_of-result c =
       remembered = subst (λ (classes : List (List Pair)). IsOfTable classes c.in_ok-new-2.field-0.keys) (sym c.new-3.ensures) (none-of_table c.in_ok-new-2.field-0.keys);
       selected = record { none = λ is. c.none.ensures ∙ ap (λ page. (let none : Registers = record { page = page; list = replicate 16 None } in none)) c.page-page.ensures; few = omega arith; seat = λ seat is. absurd (omega (arith, is)) };
       ready = ready-none c.in_ok-new-3.field-0 (pool_of c.in_ok-new.field-0).bytes 0 c.in_ok-new-3.ensures;
+      opened = opened-none c.new-5.result d c.in_ok-new-2.field-0 c.none.result 0 c.new-5.ensures;
       clear = subst (λ (list : List ℕ). AreClear (replicate 16 0) list) (sym (ap (λ (p : Pool). p.bytes) pool)) (clear-fresh _);
     }

@@ -40,6 +40,7 @@ invariant_of-self c =
       selected = unit.selected;
       ready = ready-part unit c.args.first frame c.from.result n is c.from.ensures c.requires.within c.requires.some c.requires.lies c.copy_from_slice.new.self (ap length c.copy_from_slice.ensures.after) c.drop_rows.new.rows
           (λ address. c.drop_rows.ensures address ∙ ap (λ s. after_store s c.args.first n address (known unit.rows address)) c.page-page.ensures);
+      opened = unit.opened;
       clear = clear-part unit c.args.first frame c.from.result n is c.from.ensures c.requires.within c.requires.some c.requires.lies c.copy_from_slice.new.self (ap length c.copy_from_slice.ensures.after) c.use_bytes.new.used c.use_bytes.ensures.shared
           (λ own. subst (λ s. AreUsed unit.used c.use_bytes.new.used (c.args.first.segment - 3840) (offset_of s c.args.first + n)) c.page-page.ensures (c.use_bytes.ensures.private own));
     }

@@ -3,6 +3,7 @@ use Rattle.storage_unit.proofs.LeaveLemmas.{seen-settled}
 use Rattle.storage_unit.proofs.StateLemmas.{frames-held, marks-settled, keys-gone, without-keys, without-entries}
 use Rattle.storage_unit.specs.ReadyRows.{AreReady}
 use Rattle.storage_unit.specs.Cleared.{AreClear}
+use Rattle.storage_unit.proofs.OpenedLemmas.{opened-none}
 use Rattle.storage_unit.proofs.unit.Unit.undo.Goals as goal
 
 pub leave_frame-requires-clause-room : goal.leave_frame-requires-clause-room
@@ -38,5 +39,6 @@ invariant_of-self c =
       remembered = c.leave_frame.ensures.of_table;
       selected = unit.selected;
       ready = subst (λ (list : List ℕ). AreReady unit.rows list unit.runner) (sym (ap (λ (p : Pool). p.bytes) new ∙ stays.bytes)) unit.ready;
+      opened = opened-none c.leave_frame.new.lines unit.directory c.leave_frame.new.table unit.registers unit.runner c.leave_frame.ensures.lines;
       clear = subst (λ (list : List ℕ). AreClear unit.used list) (sym (ap (λ (p : Pool). p.bytes) new ∙ stays.bytes)) unit.clear;
     }

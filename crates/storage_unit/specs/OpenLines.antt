@@ -1,0 +1,46 @@
+-- The lines that a unit knows: each may be accessed.
+use Rattle.std.specs.Prelude.{◌≡◌, ℕ, ◌+◌, ◌*◌, ◌%◌, ◌≤◌, Bool, true, false, Some, Ok}
+use Rattle.line_geometry.specs.Directory.{Layout, start_of}
+use Rattle.line_geometry.specs.Lines.{line_of}
+use Rattle.line_geometry.specs.Segments.{page_bytes}
+use Rattle.lock_rules.specs.Lines.{page_of_line}
+use Rattle.lockbit_rules.specs.Entries.{entry_of, lets}
+use Rattle.segment_regs.specs.declared.registers.Virtual.{Virtual}
+use Rattle.segment_regs.specs.Registers.{Registers, located_by}
+use Rattle.inverted_table.specs.Keys.{key_of}
+use Rattle.inverted_table.specs.Placed.{Placed, entry_at, look_up}
+use Rattle.open_lines.specs.declared.lines.OpenLine.{OpenLine}
+use Rattle.open_lines.specs.declared.lines.OpenLines.{OpenLines}
+use Rattle.open_lines.specs.Known.{known}
+use Rattle.romp_cpu.specs.Answers.{answer_in}
+use Rattle.romp_cpu.specs.declared.storage.Access.{Access}
+use Rattle.romp_cpu.specs.declared.storage.Probe.{Probe}
+use Rattle.storage_unit.specs.declared.model.Reach.{Reach}
+use Rattle.storage_unit.specs.Held.{table_of}
+use Rattle.storage_unit.specs.Places.{is_private, offset_of}
+use Rattle.storage_unit.specs.Reach.{is_in_frame, refuses}
+
+-- whether the entry of the page of a byte of the store lets an identifier load from its line, or store to it
+abbrev pub lets_at : Layout → Placed → (runner : ℕ) → Virtual → (store : Bool) → Bool
+lets_at directory table runner at store =
+    let line = line_of directory (start_of directory at.segment + offset_of directory.page at) in
+    lets (entry_of (entry_at table (page_of_line line))) runner (line % 16) store
+
+-- the 128 addresses of a block are located from the line's first byte on, to be stored where the line is; its frame has their page; and where
+-- they are of the store, the entry lets
+pub record IsOpened (directory : Layout) (table : Placed) (registers : Registers) (runner block : ℕ) (line : OpenLine) : Type 0 where
+  pub located : located_by registers (block * 128) 128 line.write ≡ Ok line.first
+  pub frame : look_up table.keys (key_of line.first) ≡ Some line.frame
+  pub allowed : is_private line.first.segment ≡ false → lets_at directory table runner line.first line.write ≡ true
+
+-- each line that is known is so
+abbrev pub AreOpened : OpenLines → Layout → Placed → Registers → (runner : ℕ) → Type 0
+AreOpened lines directory table registers runner =
+    (block : ℕ) (line : OpenLine) → known lines block ≡ Some line → IsOpened directory table registers runner block line
+
+-- an access may be made: it begins at this byte, and lies in one page, which this frame has
+pub record IsOpenAt (state : Reach) (wants : Access) (at : Virtual) (found : ℕ) : Type 0 where
+  pub located : located_by state.registers wants.address wants.bytes wants.store ≡ Ok at
+  pub within : at.byte + wants.bytes ≤ page_bytes state.directory.page
+  pub frame : look_up (table_of state).keys (key_of at) ≡ Some found
+  pub permitted : answer_in (λ s. s.registers) is_in_frame refuses state wants ≡ Probe.Permitted
