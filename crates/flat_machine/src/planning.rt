@@ -28,6 +28,7 @@ pub trait Fetch {
 
 /// Does to registers and status what the row at an address does, and tells what is left of it. Where it wants something
 /// beside them, and where its fetch fails, they stay. It looks at no byte of the store (docs/MODEL.md).
+#[inline(always)]
 pub fn start_row<F: Fetch>(code: &F, regs: &mut [u32; 16], cs: &mut Cs, iar: u32) -> Pending
     requires { F.is_whole code.now }
     ensures value { plan (F.halfword_at code.now) regs.old cs.old iar ≡ planned regs.new cs.new result }
@@ -42,6 +43,7 @@ pub fn start_row<F: Fetch>(code: &F, regs: &mut [u32; 16], cs: &mut Cs, iar: u32
 }
 
 /// The same of an instruction of so many bytes.
+#[inline(always)]
 fn start_instruction<F: Fetch>(
     code: &F,
     inst: &Inst,
@@ -120,6 +122,7 @@ fn go_by(way: Branch, act: Act, after: u32) -> Pending
 }
 
 /// The instruction at an address and its bytes, or the code of a check.
+#[inline(always)]
 fn fetch_instruction<F: Fetch>(code: &F, address: u32) -> Result<(Inst, u8), u8>
     requires { F.is_whole code.now }
     ensures value { result ≡ fetched (F.halfword_at code.now) address }
