@@ -1,5 +1,5 @@
 -- The lines that a unit knows may be accessed.
-use Rattle.storage_unit.proofs.Common.{◌≡◌, ℕ, ◌+◌, ◌*◌, ◌/◌, ◌%◌, ◌<◌, ◌≤◌, ◌^◌, Bool, true, false, refl, sym, ◌∙◌, ap, subst, arith, List, Option, Some, None, Ok, Err, Result, cond, not, ◌&&◌, nat_le, find, option_map, slice_index_or, nat_tests, PageSize, Two, Four, page_bytes, line_bytes, bytes_of, is_named, Layout, length_of, start_of, line_of, page_of_line, entry_of, lets, Key, Placed, entry_at, key_of, look_up, Check, SegmentRegister, Virtual, Registers, virtual_at, located_under, located_by, Access, Probe, answered_at, if_permitted, Reach, is_private, offset_of, place_of, on, table_of, is_kept_from, is_refused, is_in_frame, refuses, IsUnder, IsSound, IsLegal, Lies, bytes_shown, bytes_from, byte_at, eqb-true, ◌==◌, Unit, reach_of}
+use Rattle.storage_unit.proofs.Common.{◌≡◌, ℕ, ◌+◌, ◌*◌, ◌/◌, ◌%◌, ◌<◌, ◌≤◌, ◌^◌, Bool, true, false, refl, sym, ◌∙◌, ap, subst, arith, List, Option, Some, None, Ok, cond, not, ◌&&◌, slice_index_or, nat_tests, PageSize, Two, Four, page_bytes, line_bytes, Layout, length_of, start_of, line_of, page_of_line, entry_of, lets, Key, Placed, entry_at, key_of, look_up, SegmentRegister, Virtual, Registers, located_under, located_by, Access, Probe, answered_at, if_permitted, Reach, is_private, offset_of, place_of, on, table_of, is_kept_from, is_refused, is_in_frame, refuses, IsUnder, IsSound, IsLegal, Lies, bytes_shown, bytes_from, byte_at, eqb-true, ◌==◌, Unit, reach_of}
 use Rattle.romp_cpu.specs.Answers.{IsRefusal}
 use Rattle.open_lines.specs.declared.lines.OpenLine.{OpenLine}
 use Rattle.open_lines.specs.declared.lines.OpenLines.{OpenLines}
@@ -48,32 +48,10 @@ lets-load : (table : Placed) (d : Layout) (runner : ℕ) (at : Virtual) (write s
 lets-load table d runner at write store less is = grind (arith, nat_tests)
 
 -- a part of the 128 bytes at a multiple of 128 under a register
-no-less : (write store may : Bool) → (store && not write) ≡ false → (write && not may) ≡ false → (store && not may) ≡ false
-no-less true true true less free = refl
-no-less true true false less free = absurd (cc)
-no-less false true may less free = absurd (cc)
-no-less write false may less free = refl
-
 part-located :
     (page : PageSize) (r : Option SegmentRegister) (o past n : ℕ) (write store : Bool) (first : Virtual) → o % 128 ≡ 0 → past + n ≤ 128 → 0 < n → (store && not write) ≡ false
     → located_under page r o 128 write ≡ Ok first → located_under page r (o + past) n store ≡ Ok (moved first past)
-part-located page None o past n write store first whole fits some less is = absurd (cc)
-part-located page (Some r) o past n write store first whole fits some less is = by_tests (nat_le (o + 128) r.bytes) (write && not r.write) refl refl is
-  where
-    by_tests : (inside shut : Bool) → nat_le (o + 128) r.bytes ≡ inside → (write && not r.write) ≡ shut
-        → cond {A = Result Virtual Check} inside (cond {A = Result Virtual Check} shut (Err (record { 0 = 7 })) (Ok (virtual_at page r.segment o))) (Err (record { 0 = 2 })) ≡ Ok first
-        → located_under page (Some r) (o + past) n store ≡ Ok (moved first past)
-    by_tests true false within free told =
-        let (same, byte, more) = part-of-page page o past whole (omega (arith, fits, some)) in
-        let inside : nat_le (o + past + n) r.bytes ≡ true = grind (arith, nat_tests, within) in
-        let at : virtual_at page r.segment o ≡ first = cc in
-        ap (λ (test : Bool). cond {A = Result Virtual Check} test (cond {A = Result Virtual Check} (store && not r.write) (Err (record { 0 = 7 })) (Ok (virtual_at page r.segment (o + past)))) (Err (record { 0 = 2 }))) inside
-        ∙ ap (λ (test : Bool). cond {A = Result Virtual Check} test (Err (record { 0 = 7 })) (Ok (virtual_at page r.segment (o + past)))) (no-less write store r.write less free)
-        ∙ ap (λ p. Ok (record { segment = r.segment; page = p; byte = (o + past) % page_bytes page })) same
-        ∙ ap (λ b. Ok (record { segment = r.segment; page = o / page_bytes page; byte = b })) byte
-        ∙ ap (λ v. Ok (moved v past)) at
-    by_tests true true within free told = absurd (cc)
-    by_tests false shut within free told = absurd (cc)
+part-located page r o past n write store first whole fits some less is = grind (arith, nat_tests, part-of-page page o past)
 
 -- the 128 bytes that a byte is among, where a segment has whole ones
 round-page : (size : PageSize) (o : ℕ) → (o / 128 * 128 / page_bytes size ≡ o / page_bytes size) × (o / 128 * 128 % page_bytes size ≡ o % page_bytes size / 128 * 128)
@@ -83,34 +61,11 @@ round-page Four o = (omega arith, omega arith)
 whole-located :
     (page : PageSize) (r : SegmentRegister) (o n : ℕ) (store : Bool) (first : Virtual) → r.bytes % 128 ≡ 0 → 0 < n
     → located_under page (Some r) o n store ≡ Ok first → located_under page (Some r) (o / 128 * 128) 128 store ≡ Ok (rounded first)
-whole-located page r o n store first whole some is = by_tests (nat_le (o + n) r.bytes) (store && not r.write) refl refl is
-  where
-    by_tests : (inside shut : Bool) → nat_le (o + n) r.bytes ≡ inside → (store && not r.write) ≡ shut
-        → cond {A = Result Virtual Check} inside (cond {A = Result Virtual Check} shut (Err (record { 0 = 7 })) (Ok (virtual_at page r.segment o))) (Err (record { 0 = 2 })) ≡ Ok first
-        → located_under page (Some r) (o / 128 * 128) 128 store ≡ Ok (rounded first)
-    by_tests true false within free told =
-        let (same, byte) = round-page page o in
-        let inside : nat_le (o / 128 * 128 + 128) r.bytes ≡ true = grind (arith, nat_tests, within) in
-        let at : virtual_at page r.segment o ≡ first = cc in
-        ap (λ (test : Bool). cond {A = Result Virtual Check} test (cond {A = Result Virtual Check} (store && not r.write) (Err (record { 0 = 7 })) (Ok (virtual_at page r.segment (o / 128 * 128)))) (Err (record { 0 = 2 }))) inside
-        ∙ ap (λ (test : Bool). cond {A = Result Virtual Check} test (Err (record { 0 = 7 })) (Ok (virtual_at page r.segment (o / 128 * 128)))) free
-        ∙ ap (λ p. Ok (record { segment = r.segment; page = p; byte = o / 128 * 128 % page_bytes page })) same
-        ∙ ap (λ b. Ok (record { segment = r.segment; page = o / page_bytes page; byte = b })) byte
-        ∙ ap (λ v. Ok (rounded v)) at
-    by_tests true true within free told = absurd (cc)
-    by_tests false shut within free told = absurd (cc)
+whole-located page r o n store first whole some is = grind (arith, nat_tests, round-page page o)
 
 -- segments have whole ones
 length-whole : (d : Layout) (segment bytes : ℕ) → length_of d segment ≡ Some bytes → bytes % 128 ≡ 0
-length-whole d segment bytes found = by_found (find (is_named segment) d.segments) found
-  where
-    pages : (size : PageSize) (n : ℕ) → n * page_bytes size ≡ bytes → bytes % 128 ≡ 0
-    pages Two n is = omega (arith, is)
-    pages Four n is = omega (arith, is)
-
-    by_found : (o : Option (ℕ × ℕ)) → option_map (bytes_of (page_bytes d.page)) o ≡ Some bytes → bytes % 128 ≡ 0
-    by_found None is = absurd (cc)
-    by_found (Some s) is = pages d.page s.1 (let same : s.1 * page_bytes d.page ≡ bytes = cc in same)
+length-whole d segment bytes found = grind (arith, nat_tests)
 
 -- an access in a block that is located, and the block of an access that is
 opened-located :
@@ -128,14 +83,9 @@ module _ (state : Reach) (sound : IsSound state) (address n : ℕ) (store : Bool
   found = under state.registers address n store at is
 
   register-whole : found.register.bytes % 128 ≡ 0
-  register-whole = by_test (is_private found.register.segment) refl
-    where
-      told : IsUnder state.directory (one state sound address n at found).seat found.register
-      told = stands state sound address n at found
-
-      by_test : (own : Bool) → is_private found.register.segment ≡ own → found.register.bytes % 128 ≡ 0
-      by_test true own = omega (arith, (told.private own).1)
-      by_test false own = length-whole state.directory found.register.segment found.register.bytes (told.shared own)
+  register-whole =
+      let told : IsUnder state.directory (one state sound address n at found).seat found.register = stands state sound address n at found in
+      grind (arith, nat_tests, length-whole state.directory found.register.segment found.register.bytes, told.private, told.shared)
 
   pub block-located : located_by state.registers (address / 128 * 128) 128 store ≡ Ok (rounded at)
   block-located =
@@ -190,6 +140,18 @@ module _ (unit : Unit) (wants : Access) (first : Virtual) (frame : ℕ) (some : 
       by_tests false true same told = absurd (let clash : None ≡ Some line = told in cc)
       by_tests false false same told = unit.opened block line told
 
+-- an access that lies in one page may be made where it is permitted
+pub opens-when :
+    (unit : Unit) (wants : Access) (first : Virtual) (found : ℕ) → located_by unit.registers wants.address wants.bytes wants.store ≡ Ok first → first.byte + wants.bytes ≤ page_bytes unit.directory.page
+    → look_up (table_of (reach_of unit)).keys (key_of first) ≡ Some found → Probe.Permitted ≡ answered_at unit.directory.page (is_in_frame (reach_of unit)) (refuses (reach_of unit)) wants (Ok first)
+    → IsOpenAt (reach_of unit) wants first found
+opens-when unit wants first found located within is answer = record {
+  located = located;
+  within = within;
+  frame = is;
+  permitted = sym (found-answer unit wants wants.bytes (located_by unit.registers wants.address wants.bytes wants.store) first refl refl located Probe.Permitted answer);
+}
+
 -- where none is known, all are open
 pub opened-none : (lines : OpenLines) (directory : Layout) (table : Placed) (registers : Registers) (runner : ℕ) → KnowsNothing lines → AreOpened lines directory table registers runner
 opened-none lines directory table registers runner none block line is = absurd (let clash : None ≡ Some line = sym (none block) ∙ is in cc)
@@ -199,11 +161,7 @@ pub opened-low : (unit : Unit) (wants : Access) (line : OpenLine) → known unit
 opened-low unit wants line is =
     let told = unit.opened (wants.address / 128) line is in
     let low = (lies (reach_of unit) (unit-sound unit) (wants.address / 128 * 128) 128 line.first (under unit.registers (wants.address / 128 * 128) 128 line.write line.first told.located)).within in
-    by_size unit.directory.page low
-  where
-    by_size : (size : PageSize) → line.first.byte < page_bytes size → line.first.byte < 4096
-    by_size Two low = omega (arith, low)
-    by_size Four low = low
+    grind (arith, nat_tests, low)
 
 -- an access in a block that is known, to store where the line is, may be made
 module _ (unit : Unit) (wants : Access) (line : OpenLine) (some : 0 < wants.bytes) (fits : wants.address % 128 + wants.bytes ≤ 128) (less : (wants.store && not line.write) ≡ false) (is : known unit.lines (wants.address / 128) ≡ Some line) where
@@ -232,27 +190,20 @@ module _ (unit : Unit) (wants : Access) (line : OpenLine) (some : 0 < wants.byte
   frame = sym (ap (λ (keys : List (Option Key)). look_up keys (key_of at)) unit.held) ∙ told.frame
 
   kept : is_kept_from (reach_of unit) (on (place_of unit.directory at) 0) wants.store ≡ false
-  kept = by_test (is_private at.segment) refl
-    where
-      by_test : (own : Bool) → is_private at.segment ≡ own → is_kept_from (reach_of unit) (on (place_of unit.directory at) 0) wants.store ≡ false
-      by_test true own = ap (λ p. is_kept_from (reach_of unit) (on p 0) wants.store) (private-is unit.directory at own)
-      by_test false own =
-          let place = start_of unit.directory at.segment + offset_of unit.directory.page at in
-          ap (λ p. is_kept_from (reach_of unit) (on p 0) wants.store) (shared-is unit.directory at own)
-          ∙ ap (λ p. is_refused (reach_of unit) (line_of unit.directory p) wants.store) (let same : place + 0 ≡ place = omega arith in same)
-          ∙ ap not
-          (lets-same unit.directory unit.legal unit.table unit.runner line.first (wants.address % 128) wants.store line-whole (omega (arith, fits, some))
-          ∙ lets-load unit.table unit.directory unit.runner line.first line.write wants.store less (told.allowed own))
+  kept = grind (
+    arith,
+    nat_tests,
+    private-is unit.directory at,
+    shared-is unit.directory at,
+    lets-same unit.directory unit.legal unit.table unit.runner line.first (wants.address % 128) wants.store line-whole,
+    lets-load unit.table unit.directory unit.runner line.first line.write wants.store less,
+    told.allowed,
+  )
 
   pub opened-at : wants.bytes ≤ 255 → IsOpenAt (reach_of unit) wants at line.frame
-  opened-at few = record {
-    located = located;
-    within = part.1;
-    frame = frame;
-    permitted =
-        sym (found-answer unit wants wants.bytes (located_by unit.registers wants.address wants.bytes wants.store) at refl refl located Probe.Permitted
-        (line-permitted (reach_of unit) (unit-sound unit) at wants.bytes some few (found-lies unit wants wants.bytes (located_by unit.registers wants.address wants.bytes wants.store) at refl refl located) wants.store wants refl refl line.frame frame part.1 part.0 kept));
-  }
+  opened-at few =
+      opens-when unit wants at line.frame located part.1 frame
+      (line-permitted (reach_of unit) (unit-sound unit) at wants.bytes some few (found-lies unit wants wants.bytes (located_by unit.registers wants.address wants.bytes wants.store) at refl refl located) wants.store wants refl refl line.frame frame part.1 part.0 kept)
 
 -- its bytes lie there
 module _ (unit : Unit) (wants : Access) (first : Virtual) (frame : ℕ) (opens : IsOpenAt (reach_of unit) wants first frame) where
@@ -267,15 +218,3 @@ pub refused-stays : {A : Type 0} (probe : Probe) (after before : A) → IsRefusa
 refused-stays Probe.Permitted after before is = absurd is
 refused-stays (Probe.Check code) after before is = refl
 refused-stays (Probe.Fault fault) after before is = refl
-
--- an access that lies in one page may be made where it is permitted
-pub opens-when :
-    (unit : Unit) (wants : Access) (first : Virtual) (frame : ℕ) → located_by unit.registers wants.address wants.bytes wants.store ≡ Ok first → first.byte + wants.bytes ≤ page_bytes unit.directory.page
-    → look_up (table_of (reach_of unit)).keys (key_of first) ≡ Some frame → Probe.Permitted ≡ answered_at unit.directory.page (is_in_frame (reach_of unit)) (refuses (reach_of unit)) wants (Ok first)
-    → IsOpenAt (reach_of unit) wants first frame
-opens-when unit wants first frame located within found answer = record {
-  located = located;
-  within = within;
-  frame = found;
-  permitted = sym (found-answer unit wants wants.bytes (located_by unit.registers wants.address wants.bytes wants.store) first refl refl located Probe.Permitted answer);
-}

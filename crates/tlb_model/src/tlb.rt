@@ -1,8 +1,8 @@
-ghost use Rattle.std.specs.Prelude.{◌≡◌, ℕ, ◌<◌, [], None, filter, find, not, ◌==◌, replicate, map, List, Option, Some, IfSome};
+ghost use Rattle.std.specs.Prelude.{◌≡◌, ℕ, ◌<◌, [], None, filter, find, not, ◌==◌, replicate, map, List, Option, Some};
 ghost use Rattle.inverted_table.specs.declared.key.Key.{Key};
 ghost use Rattle.inverted_table.specs.Placed.{look_up};
 ghost use Rattle.inverted_table.specs.Keys.{key_of, key_to};
-ghost use Rattle.tlb_model.specs.Buffer.{class_of, is_pair_of, pairs_in, found, remembered, after_found, forgotten, with_newest, AreApart, IsOfTable};
+ghost use Rattle.tlb_model.specs.Buffer.{class_of, is_pair_of, pairs_in, found, after_found, forgotten, with_newest, AreApart, IsOfTable};
 ghost use Rattle.tlb_model.specs.Ways.{ways_without, unless_of};
 
 use arrayvec::ArrayVec;
@@ -119,21 +119,6 @@ impl Tlb {
     {
         let ways = self.classes[usize::from(class)];
         ways.pairs()
-    }
-
-    /// The frame of the page of an address, as the buffer alone has it.
-    #[inline(always)]
-    pub fn known(&self, at: Virtual) -> Option<u16>
-        ensures answer { result ≡ remembered self.now (key_of at) }
-
-        // Where each pair is in the table, the table has it too.
-        ensures same { IfSome result (λ frame. (keys : List (Option Key)) → IsOfTable self.now keys → look_up keys (key_of at) ≡ Some frame) }
-    {
-        let place = (at.page % 16) as usize;
-        match self.classes[place].find(at) {
-            Some(pair) => Some(pair.frame),
-            None => None,
-        }
     }
 
     /// The frame of the page of an address: by the buffer, which then stays, else by the table, whose answer comes into the
