@@ -1,5 +1,8 @@
 -- A record that is added behind a checkpoint.
-use Rattle.checkpoint.proofs.Common.{Option, None, Some, unwrap_or, nat_lt, if◌then◌else◌, Which, RecordLine, Standing, stands, one_more, KeptBank, area_end, needed_end, begun_of, number_of, IsEither, placed, turned, PageSize, emptied, roomy, other, slice_set, number_after, IsKeptAfter, IsMoreBy, SameShape, CountsKept, FailedLeaves, bank_appended, Elapses, FewerLater, Leaves, held_of, leaves_on}
+use Rattle.checkpoint.proofs.Common.{Option, None, Some, unwrap_or, nat_lt, if◌then◌else◌, Which, RecordLine, Standing, stands, one_more, KeptBank, area_end, needed_end, begun_of, number_of, IsEither, placed, turned, PageSize, emptied, roomy, other, slice_set, number_after, IsKeptAfter, IsMoreBy, SameShape, CountsKept, FailedLeaves, bank_appended, Elapses, FewerLater, Leaves, held_of, leaves_on, OnlyWrites, IsSome, Header, IsSameBut, IsCheckpointOffset, IsCommitOffset, HoldsCommitted, LeavesCommitted}
+use Rattle.checkpoint.proofs.ApartLemmas.{but_between, more_offsets}
+use Rattle.checkpoint.proofs.StepLemmas.{held_since}
+use Rattle.redo_journal.specs.Appended.{IsApart}
 use Rattle.std.proofs.Common.{◌≡◌, inl, inr, ⊎_elim, ℕ, ◌+◌, ◌<◌, ◌≤◌, Bool, true, false, List, [], ◌∷◌, length, refl, sym, subst, ◌∙◌, ap, arith}
 use Rattle.std.specs.Option.{option_map}
 use Rattle.std.proofs.lemmas.Bool.Decides.{nat_tests}
@@ -59,6 +62,24 @@ failed_behind G fewer bank those before mid after first later same stood so_far 
 -- a fact on the same bank and outside
 pub carried : {W : Type 0} (P : KeptBank → W → Type 0) (bank that : KeptBank) (w v : W) → bank ≡ that → w ≡ v → P bank w → P that v
 carried {W} P bank that w v same alike is = subst (λ (those : KeptBank). P those v) same (subst (λ (x : W). P bank x) alike is)
+
+-- the bytes that are left are those held too
+pub leaves_committed : {W : Type 0} (G : Ghosts W) → FewerLater G → ((w : W) (image : List ℕ) → G.held w ≡ Some image → (seen : List ℕ) × G.left_since w (G.moment w) image seen) → (before after : W) → OnlyWrites G before after → IsSome (G.held before)
+    → (header : Header) (there bank : KeptBank) (records : List (List RecordLine)) → HoldsCommitted header bank records (held_of G after) → Leaves G (λ image seen. IsSameBut (IsCommitOffset header there bank records) (held_of G before) image) before after
+    → LeavesCommitted G header there bank records before after
+leaves_committed G fewer held_now before after only told header there bank records held apart = record {
+  held = held;
+  stays = held_since G fewer held_now before after only told (IsSameBut (IsCommitOffset header there bank records) (held_of G before)) apart;
+  apart = apart;
+}
+
+-- the offsets of a checkpoint in front are among those of a commit
+pub behind_apart : (header : Header) (bank : KeptBank) (records : List (List RecordLine)) (old image : List ℕ) → IsSameBut (IsCheckpointOffset header bank.which records) old image → IsSameBut (IsCommitOffset header (emptied bank) bank records) old image
+behind_apart header bank records old image is = more_offsets (IsCheckpointOffset header bank.which records) (IsCommitOffset header (emptied bank) bank records) old image (λ at one. inr (refl, one)) is
+
+-- and those of an append
+pub appended_apart : (header : Header) (there bank : KeptBank) (records : List (List RecordLine)) (old image : List ℕ) → IsApart there.gate (needed_end there) old image → IsSameBut (IsCommitOffset header there bank records) old image
+appended_apart header there bank records old image apart = but_between (IsCommitOffset header there bank records) there.gate (needed_end there) old image (λ at after inside. inl (after, inside)) apart
 
 -- no records
 pub no_records : (records : List (List RecordLine)) → length records ≡ 0 → records ≡ []

@@ -28,7 +28,8 @@ pub use Rattle.store_format.specs.Stands.{HasHeader, IsStore, Standing, chosen, 
 unfoldable pub use Rattle.store_format.specs.Stands.{stands}
 pub use Rattle.store_format.specs.declared.header.Which.{Which}
 pub use Rattle.store_format.specs.declared.header.Which.TheVariants.{A, B}
+pub use Rattle.checkpoint.specs.Apart.{IsSameBut, IsHomeOffset, IsCheckpointOffset, IsCommitOffset}
 pub use Rattle.checkpoint.specs.Chosen.{other, selector_of}
-pub use Rattle.checkpoint.specs.Committed.{Commits, IsKeptAfter, emptied, number_after, roomy}
+pub use Rattle.checkpoint.specs.Committed.{Commits, HoldsCommitted, IsKeptAfter, LeavesCommitted, emptied, number_after, roomy}
 pub use Rattle.checkpoint.specs.Home.{IsCovered, IsHomed, TornLine, copied, home_line, home_place, store_bytes}
 pub use Rattle.checkpoint.specs.Moved.{IsCheckpointed, IsMoved, IsSame}

@@ -1,9 +1,10 @@
 -- Newest bytes that are written home.
-use Rattle.checkpoint.proofs.Common.{◌≡◌, inl, inr, ℕ, ◌+◌, ◌*◌, ◌-◌, ◌<◌, ◌≤◌, List, length, take, drop, refl, sym, ◌∙◌, ap, subst, arith, Option, None, Some, fold, drop-drop, take_at, length-drop, length-take-le, line_count, PageSize, Which, A, B, Header, home_at, bank_at, KeptBank, end_of, line_bytes_of, RecordLine, IsStore, laid, home_of, shorter_front, rest_front, area_within, store_front, behind_bytes, bytes_at, written, Torn, torn_by_written, drop-written, home_line, home_place, copied, TornLine, IsCovered, IsHomed}
+use Rattle.checkpoint.proofs.Common.{◌≡◌, inl, inr, ℕ, ◌+◌, ◌*◌, ◌-◌, ◌<◌, ◌≤◌, List, length, take, drop, refl, sym, ◌∙◌, ap, subst, arith, Option, None, Some, fold, drop-drop, take_at, length-drop, length-take-le, line_count, PageSize, Which, A, B, Header, home_at, bank_at, KeptBank, end_of, line_bytes_of, RecordLine, IsStore, laid, home_of, shorter_front, rest_front, area_within, store_front, behind_bytes, bytes_at, written, Torn, torn_by_written, drop-written, home_line, home_place, copied, TornLine, IsHomeOffset, IsCovered, IsHomed}
 use Rattle.std.proofs.lemmas.Bool.{cases_lt, cases_eq}
 use Rattle.line_geometry.specs.Segments.{line_bytes}
 use Rattle.store_format.proofs.Widths.{lines-below}
 use Rattle.redo_journal.specs.Noted.{newest_place}
+use Rattle.checkpoint.proofs.ApartLemmas.{but_on, torn_but}
 use Rattle.redo_journal.proofs.Newest.{bytes_of_line, newest_bytes, store_agrees, held_records, newest_within, same_lines}
 use Rattle.std.proofs.lemmas.Bool.Decides.{nat_tests}
 
@@ -25,7 +26,7 @@ module _ (header : Header) (which : Which) (base gate : ℕ) (records : List (Li
   bound = line_count header.directory
 
   pub covered_self : IsCovered header records held held
-  covered_self = record { front = refl; long = refl; others = λ line below none. refl }
+  covered_self = record { front = refl; others = λ line below none. refl; apart = record { long = refl; same = λ at no. refl } }
 
   -- the newest place of a line lies in front of the home lines
   placed : (line place : ℕ) → newest_place line records ≡ Some place → place + line_bytes header.directory.page ≤ home_at header 0
@@ -48,8 +49,11 @@ module _ (header : Header) (which : Which) (base gate : ℕ) (records : List (Li
     pub torn_covered : IsCovered header records held image
     torn_covered = record {
       front = shorter_front (home_at header 0) (home_at header line) image start torn.before (omega arith) ∙ covered.front;
-      long = omega (arith, torn.no_shorter, torn.no_longer, covered.long, is.whole, lines-below header.directory.page line bound below);
       others = λ k within none. other_home k (λ same. let both : None ≡ Some place = sym none ∙ ap (λ (n : ℕ). newest_place n records) same ∙ there in cc) within ∙ covered.others k within none;
+      apart =
+          but_on (IsHomeOffset header records) held start image covered.apart
+          (torn_but (IsHomeOffset header records) (home_at header line) (line_bytes header.directory.page) start image (omega (arith, covered.apart.long, is.whole, lines-below header.directory.page line bound below))
+          (λ at after inside. record { line = line; place = place; below = below; there = there; from = after; to = inside }) torn);
     }
 
   -- one line more at home
@@ -70,14 +74,14 @@ module _ (header : Header) (which : Which) (base gate : ℕ) (records : List (Li
     now = written start (home_at header upto) piece
 
     length-piece : length piece ≡ line_bytes header.directory.page
-    length-piece = length-take-le (line_bytes header.directory.page) (drop place start) (omega (arith, length-drop place start, homed.covered.long, is.whole, placed upto place there))
+    length-piece = length-take-le (line_bytes header.directory.page) (drop place start) (omega (arith, length-drop place start, homed.covered.apart.long, is.whole, placed upto place there))
 
     torn_now : Torn (home_at header upto) (line_bytes header.directory.page) start now
-    torn_now = torn_by_written start (home_at header upto) piece (omega (arith, homed.covered.long, is.whole, lines-below header.directory.page upto bound below)) (line_bytes header.directory.page) (omega (arith, length-piece))
+    torn_now = torn_by_written start (home_at header upto) piece (omega (arith, homed.covered.apart.long, is.whole, lines-below header.directory.page upto bound below)) (line_bytes header.directory.page) (omega (arith, length-piece))
 
     here : home_line header now upto ≡ piece
     here =
-        ap (λ (these : List ℕ). take (line_bytes header.directory.page) these) (drop-written start (home_at header upto) piece (omega (arith, homed.covered.long, is.whole, lines-below header.directory.page upto bound below)))
+        ap (λ (these : List ℕ). take (line_bytes header.directory.page) these) (drop-written start (home_at header upto) piece (omega (arith, homed.covered.apart.long, is.whole, lines-below header.directory.page upto bound below)))
         ∙ take_at piece (drop (home_at header upto + length piece) start) (line_bytes header.directory.page) length-piece
 
     earlier : (line : ℕ) → line < upto + 1 → (line ≡ upto → ⊥) → line < upto
@@ -97,7 +101,7 @@ module _ (header : Header) (which : Which) (base gate : ℕ) (records : List (Li
 
   module _ (image : List ℕ) (covered : IsCovered header records held image) where
     pub covered_store : IsStore image header which base gate records
-    covered_store = store_front header which base gate records held is image (home_at header 0) big covered.front (area_within header which).0 covered.long
+    covered_store = store_front header which base gate records held is image (home_at header 0) big covered.front (area_within header which).0 covered.apart.long
 
     line_same : (line : ℕ) (place : Option ℕ) → line < bound → newest_place line records ≡ place → newest_bytes header.directory.page image (home_of image header) line place ≡ newest_bytes header.directory.page held (home_of held header) line place
     line_same line None below none = home_is header image line ∙ covered.others line below none ∙ sym (home_is header held line)
@@ -115,7 +119,7 @@ module _ (header : Header) (which : Which) (base gate : ℕ) (records : List (Li
   pub homed_bytes : (image : List ℕ) → IsHomed header records held bound image → home_of image header ≡ fold (laid header.directory.page) (home_of held header) records
   homed_bytes image homed =
       let agrees = store_agrees held header which base gate records is in
-      same_lines header.directory.page bound (home_of image header) (fold (laid header.directory.page) (home_of held header) records) (omega (arith, length-drop (home_at header 0) image, homed.covered.long, is.whole)) agrees.long
+      same_lines header.directory.page bound (home_of image header) (fold (laid header.directory.page) (home_of held header) records) (omega (arith, length-drop (home_at header 0) image, homed.covered.apart.long, is.whole)) agrees.long
       (λ line below. line_home line (newest_place line records) below refl ∙ sym (agrees.each line below))
     where
       line_home : (line : ℕ) (place : Option ℕ) → line < bound → newest_place line records ≡ place → bytes_of_line header.directory.page line (home_of image header) ≡ newest_bytes header.directory.page held (home_of held header) line place

@@ -1,6 +1,7 @@
 -- The other bank, its head, and the selector.
-use Rattle.checkpoint.proofs.Common.{◌≡◌, inl, inr, ◌⊎◌, ℕ, ◌+◌, ◌%◌, ◌^◌, ◌<◌, ◌≤◌, List, [], ◌∷◌, length, drop, refl, sym, ◌∙◌, ap, arith, slice_index, ◌==◌, if◌then◌else◌, fold, get_or-drop, Which, A, B, Header, home_at, bank_at, RecordLine, area_at, IsStore, HasHeader, laid, home_of, chosen, stands, shorter_front, same_byte, area_within, same_header, header_held, base_behind, store_behind, store_front, store_empty, store_big, stands_alike, behind_bytes, line_count, written, Torn, torn_by_written, KeptBank, number_of, head_bytes, drop-written, other, selector_of, IsCovered, IsHomed, IsSame}
+use Rattle.checkpoint.proofs.Common.{◌≡◌, inl, inr, ◌⊎◌, ℕ, ◌+◌, ◌%◌, ◌^◌, ◌<◌, ◌≤◌, List, [], ◌∷◌, length, drop, refl, sym, ◌∙◌, ap, arith, slice_index, ◌==◌, if◌then◌else◌, fold, get_or-drop, Which, A, B, Header, home_at, bank_at, RecordLine, area_at, IsStore, HasHeader, laid, home_of, chosen, stands, shorter_front, same_byte, area_within, same_header, header_held, base_behind, store_behind, store_front, store_empty, store_big, stands_alike, behind_bytes, line_count, written, Torn, torn_by_written, KeptBank, number_of, head_bytes, drop-written, other, selector_of, IsSameBut, IsHomeOffset, IsCheckpointOffset, IsCovered, IsHomed, IsSame}
 use Rattle.redo_journal.proofs.HeadLemmas.{IsEmpty, head_empty, head_long}
+use Rattle.checkpoint.proofs.ApartLemmas.{more_offsets, but_on, torn_but}
 use Rattle.checkpoint.proofs.HomeLemmas.{covered_store, covered_bytes, homed_bytes}
 use Rattle.std.proofs.lemmas.Bool.Decides.{nat_tests}
 
@@ -82,23 +83,36 @@ module _ (header : Header) (bank : KeptBank) (records : List (List RecordLine)) 
   big : 0 < header.bank_bytes
   big = store_big header bank.which bank.base bank.gate records held is
 
+  abbrev written_at : ℕ → Type 0
+  written_at = IsCheckpointOffset header bank.which records
+
+  -- home lines, and the head of the other bank, are among the offsets
+  covered_apart : (image : List ℕ) → IsCovered header records held image → IsSameBut written_at held image
+  covered_apart image covered = more_offsets (IsHomeOffset header records) written_at held image (λ at home. inl home) covered.apart
+
+  headed_apart : (start image : List ℕ) → IsCovered header records held start → Torn (bank_at header away) 9 start image → IsSameBut written_at held image
+  headed_apart start image covered torn =
+      but_on written_at held start image (covered_apart start covered)
+      (torn_but written_at (bank_at header away) 9 start image (omega (arith, covered.apart.long, is.whole, (area_within header away).0, big)) (λ at after inside. inr (inl (after, inside))) torn)
+
   -- by the old bank
-  same_by : (image : List ℕ) → IsStore image header bank.which bank.base bank.gate records → fold (laid header.directory.page) (home_of image header) records ≡ fold (laid header.directory.page) (home_of held header) records → IsSame header bank records held image
-  same_by image store bytes = record {
+  same_by : (image : List ℕ) → IsStore image header bank.which bank.base bank.gate records → fold (laid header.directory.page) (home_of image header) records ≡ fold (laid header.directory.page) (home_of held header) records → IsSameBut written_at held image → IsSame header bank records held image
+  same_by image store bytes apart = record {
     stood = stands_alike header image held bank.which bank.which bank.base bank.base bank.gate bank.gate records records store is refl bytes;
     one_of = inl (record { gate = bank.gate; store = store });
+    apart = apart;
   }
 
   -- home lines were written
   pub covered_same : (image : List ℕ) → IsCovered header records held image → IsSame header bank records held image
   covered_same image covered =
-      same_by image (covered_store header bank.which bank.base bank.gate records held is big image covered) (covered_bytes header bank.which bank.base bank.gate records held is big image covered)
+      same_by image (covered_store header bank.which bank.base bank.gate records held is big image covered) (covered_bytes header bank.which bank.base bank.gate records held is big image covered) (covered_apart image covered)
 
   -- and the head of the other bank
   pub headed_same : (start image : List ℕ) → IsCovered header records held start → Torn (bank_at header away) 9 start image → IsSame header bank records held image
   headed_same start image covered torn =
       let alike = head_alike header bank.which bank.base bank.gate records start image big (covered_store header bank.which bank.base bank.gate records held is big start covered) torn in
-      same_by image alike.store (ap (λ (home : List ℕ). fold (laid header.directory.page) home records) alike.home ∙ covered_bytes header bank.which bank.base bank.gate records held is big start covered)
+      same_by image alike.store (ap (λ (home : List ℕ). fold (laid header.directory.page) home records) alike.home ∙ covered_bytes header bank.which bank.base bank.gate records held is big start covered) (headed_apart start image covered torn)
 
   -- all lines are home, and the other bank begins with its head
   pub record IsHeaded (image : List ℕ) : Type 0 where
@@ -106,11 +120,12 @@ module _ (header : Header) (bank : KeptBank) (records : List (List RecordLine)) 
     pub empty : IsEmpty header away number image
     pub same : fold (laid header.directory.page) (home_of image header) records ≡ fold (laid header.directory.page) (home_of held header) records
     pub bytes : home_of image header ≡ fold (laid header.directory.page) (home_of held header) records
+    pub apart : IsSameBut written_at held image
 
   pub headed : (start : List ℕ) → IsHomed header records held (line_count header.directory) start → IsHeaded (written start (bank_at header away) (head_bytes number))
   headed start homed =
       let image = written start (bank_at header away) (head_bytes number) in
-      let within : bank_at header away ≤ length start = omega (arith, homed.covered.long, is.whole, (area_within header away).0) in
+      let within : bank_at header away ≤ length start = omega (arith, homed.covered.apart.long, is.whole, (area_within header away).0) in
       let torn : Torn (bank_at header away) 9 start image = torn_by_written start (bank_at header away) (head_bytes number) within 9 (omega (arith, head_long number)) in
       let covered = covered_store header bank.which bank.base bank.gate records held is big start homed.covered in
       let alike = head_alike header bank.which bank.base bank.gate records start image big covered torn in
@@ -119,6 +134,7 @@ module _ (header : Header) (bank : KeptBank) (records : List (List RecordLine)) 
         empty = head_empty header away number start within (omega arith);
         same = ap (λ (home : List ℕ). fold (laid header.directory.page) home records) alike.home ∙ covered_bytes header bank.which bank.base bank.gate records held is big start homed.covered;
         bytes = alike.home ∙ homed_bytes header bank.which bank.base bank.gate records held is big start homed;
+        apart = headed_apart start image homed.covered torn;
       }
 
   module _ (old : List ℕ) (ready : IsHeaded old) where
@@ -130,17 +146,22 @@ module _ (header : Header) (bank : KeptBank) (records : List (List RecordLine)) 
 
     -- and the selector
     pub selected_same : (image : List ℕ) → Torn 128 1 old image → IsSame header bank records held image
-    selected_same image torn = elim (one_of_two bank.which (chosen image)) [
-      | inl stayed ↦
-          same_by image (stays header bank.which bank.base bank.gate records old ready.store number ready.empty image torn stayed)
-          (ap (λ (home : List ℕ). fold (laid header.directory.page) home records) (home header bank.which bank.base bank.gate records old ready.store number ready.empty image torn) ∙ ready.same)
-      | inr went ↦
-          let store = turns header bank.which bank.base bank.gate records old ready.store number ready.empty image torn went in
-          record {
-            stood = moved_stands image store (home header bank.which bank.base bank.gate records old ready.store number ready.empty image torn);
-            one_of = inr (record { gate = area_at header away; store = store });
-          }
-    ]
+    selected_same image torn =
+        let apart =
+        but_on written_at held old image ready.apart
+        (torn_but written_at 128 1 old image (omega (arith, ready.store.whole, (area_within header bank.which).0, (area_within header bank.which).1)) (λ at after inside. let is_it : at ≡ 128 = omega (arith, after, inside) in inr (inr is_it)) torn) in
+        elim (one_of_two bank.which (chosen image)) [
+          | inl stayed ↦
+              same_by image (stays header bank.which bank.base bank.gate records old ready.store number ready.empty image torn stayed)
+              (ap (λ (home : List ℕ). fold (laid header.directory.page) home records) (home header bank.which bank.base bank.gate records old ready.store number ready.empty image torn) ∙ ready.same) apart
+          | inr went ↦
+              let store = turns header bank.which bank.base bank.gate records old ready.store number ready.empty image torn went in
+              record {
+                stood = moved_stands image store (home header bank.which bank.base bank.gate records old ready.store number ready.empty image torn);
+                one_of = inr (record { gate = area_at header away; store = store });
+                apart = apart;
+              }
+        ]
 
     pub record IsThere (image : List ℕ) : Type 0 where
       pub store : IsStore image header away number (area_at header away) []

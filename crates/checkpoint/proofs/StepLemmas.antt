@@ -1,5 +1,5 @@
 -- What a crash leaves of calls that write, one after another, from images on that weren't sure.
-use Rattle.checkpoint.proofs.Common.{◌≡◌, ⊎_elim, ℕ, List, [], ap, Elapses, LeavesStep, IsDurable, Leaves, OnlyAsks, FewerLater, held_of, Writes, written, IsSure}
+use Rattle.checkpoint.proofs.Common.{◌≡◌, ⊎_elim, ℕ, List, [], ap, Elapses, LeavesStep, IsDurable, Leaves, OnlyAsks, FewerLater, held_of, Writes, written, IsSure, OnlyWrites, held_left}
 use Rattle.std.specs.Prelude.{Option, None, Some, Result, Ok, Err, OnOk, IsSome, IsTrue, unwrap_or}
 use Rattle.outside.specs.declared.world.Outside.{Ghosts}
 use Rattle.std.proofs.lemmas.Bool.Decides.{nat_tests}
@@ -17,6 +17,13 @@ module _ {W : Type 0} (G : Ghosts W) (fewer_later : FewerLater G) (old mid new :
       ⊎_elim (λ past. (image, asks.crash told image seen past, stays image))
       (λ since. let from = follows image seen since in (from.0, asks.crash told from.0 seen (fewer_later mid (G.moment old) (G.moment mid) from.0 seen before.later from.1), from.2))
       (time.nothing_else (G.moment old) image seen before.later left)
+
+-- the bytes held are one of the images since a start
+pub held_since : {W : Type 0} (G : Ghosts W) → FewerLater G → ((w : W) (image : List ℕ) → G.held w ≡ Some image → (seen : List ℕ) × G.left_since w (G.moment w) image seen) → (old new : W) → OnlyWrites G old new → IsSome (G.held old)
+    → (P : List ℕ → Type 0) → Leaves G (λ image seen. P image) old new → P (held_of G new)
+held_since G fewer_later held_now old new only told P leaves =
+    let now = held_left G held_now new (only.told told) in
+    leaves (held_of G new) now.0 (fewer_later new (G.moment old) (G.moment new) (held_of G new) now.0 only.calls.time.later now.1)
 
 -- the bytes held are the same after calls that only ask
 pub same_held : {W : Type 0} (G : Ghosts W) (old new : W) → OnlyAsks G old new → held_of G new ≡ held_of G old

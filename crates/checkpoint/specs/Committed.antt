@@ -12,6 +12,7 @@ use Rattle.redo_journal.specs.Kept.{KeptBank, SameShape, area_end, needed_end, n
 use Rattle.redo_journal.specs.Tracks.{HoldsOneOf, IsAppended, IsEither, TracksBank}
 use Rattle.redo_journal.specs.Turned.{turned}
 use Rattle.checkpoint.specs.Chosen.{other}
+use Rattle.checkpoint.specs.Apart.{IsSameBut, IsCommitOffset}
 
 -- the bank after a checkpoint
 abbrev pub emptied : KeptBank → KeptBank
@@ -38,6 +39,12 @@ abbrev pub HoldsCommitted : Header → KeptBank → List (List RecordLine) → L
 HoldsCommitted header bank records held =
     HoldsOneOf header bank.which bank.base records (begun_of bank) held ⊎ HoldsOneOf header (other bank.which) (number_of bank) [] (begun_of (emptied bank)) held
 
+-- What a commit leaves of the bytes: those held are such ones, and they and each image that a crash leaves are those of before at each offset that it doesn't write.
+pub record LeavesCommitted {W : Type 0} (G : Ghosts W) (header : Header) (there bank : KeptBank) (records : List (List RecordLine)) (before after : W) : Type 0 where
+  pub held : HoldsCommitted header bank records (held_of G after)
+  pub stays : IsSameBut (IsCommitOffset header there bank records) (held_of G before) (held_of G after)
+  pub apart : Leaves G (λ image seen. IsSameBut (IsCommitOffset header there bank records) (held_of G before) image) before after
+
 -- What a commit of the begun record does, to this bank or behind a checkpoint, where it is answered so: it only asks and writes, the sizes stay, the disk's count
 -- is told, and a record that is kept took at least two writes. Of banks that are tracked: whenever a crash comes, it leaves what stood, or that with the record.
 pub record Commits {W : Type 0} (G : Ghosts W) (there old new : KeptBank) (before after : W) (answer : Kept) : Type 0 where
@@ -48,5 +55,5 @@ pub record Commits {W : Type 0} (G : Ghosts W) (there old new : KeptBank) (befor
   pub writes : answer ≡ Done → IsMoreBy 2 (G.writes before) (G.writes after)
   pub crash : TracksBank G old before → Leaves G (IsEither (begun_of old) (held_of G before)) before after
   pub left : TracksBank G old before → FailedLeaves G old there before after answer
-  pub records : (tracks : TracksBank G old before) → HoldsCommitted tracks.header old tracks.records (held_of G after)
+  pub records : (tracks : TracksBank G old before) → LeavesCommitted G tracks.header there old tracks.records before after
   pub done : answer ≡ Done → TracksBank G old before → IsAppended G old new before after

@@ -8,6 +8,7 @@ use Rattle.store_format.specs.Bank.{RecordLine}
 use Rattle.outside.specs.Bytes.{bytes_at, written, Torn}
 use Rattle.redo_journal.specs.Kept.{KeptBank, end_of, line_bytes_of}
 use Rattle.redo_journal.specs.Noted.{newest_place}
+use Rattle.checkpoint.specs.Apart.{IsSameBut, IsHomeOffset}
 
 -- where the home of a line is, in a store whose banks are like this one
 abbrev pub home_place : KeptBank → ℕ → ℕ
@@ -34,8 +35,8 @@ TornLine bytes (Some from) at old new = Torn at bytes old new
 -- The image is the one held but for the home lines of lines that records have.
 pub record IsCovered (header : Header) (records : List (List RecordLine)) (held image : List ℕ) : Type 0 where
   pub front : take (home_at header 0) image ≡ take (home_at header 0) held
-  pub long : length image ≡ length held
   pub others : (line : ℕ) → line < line_count header.directory → newest_place line records ≡ None → home_line header image line ≡ home_line header held line
+  pub apart : IsSameBut (IsHomeOffset header records) held image
 
 -- And up to a line each line that they have is at home.
 pub record IsHomed (header : Header) (records : List (List RecordLine)) (held : List ℕ) (upto : ℕ) (image : List ℕ) : Type 0 where

@@ -1,4 +1,5 @@
 pub mod Chosen
+pub mod Apart
 pub mod Home
 pub mod Moved
 pub mod Committed

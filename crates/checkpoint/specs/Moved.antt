@@ -11,11 +11,13 @@ use Rattle.redo_journal.specs.Kept.{KeptBank, number_of, unbegun}
 use Rattle.redo_journal.specs.Tracks.{TracksBank, HoldsRecords}
 use Rattle.redo_journal.specs.Turned.{turned}
 use Rattle.checkpoint.specs.Chosen.{other}
+use Rattle.checkpoint.specs.Apart.{IsSameBut, IsCheckpointOffset}
 
--- The image stands for what was held, by its old bank or by the other one without records.
+-- The image stands for what was held, by its old bank or by the other one without records, and is what was held at each offset that a checkpoint doesn't write.
 pub record IsSame (header : Header) (bank : KeptBank) (records : List (List RecordLine)) (held image : List ℕ) : Type 0 where
   pub stood : stands image ≡ stands held
   pub one_of : HoldsRecords header bank.which bank.base records image ⊎ HoldsRecords header (other bank.which) (number_of bank) [] image
+  pub apart : IsSameBut (IsCheckpointOffset header bank.which records) held image
 
 -- The other bank is chosen, has the number as its base and no records; all is sure and stands for what stood.
 pub record IsMoved {W : Type 0} (G : Ghosts W) (header : Header) (bank : KeptBank) (old new : W) : Type 0 where

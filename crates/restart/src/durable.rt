@@ -15,7 +15,7 @@ ghost use Rattle.redo_journal.specs.Tracks.{IsEither};
 ghost use Rattle.restart.specs.Kept.{KeptStore, number_of};
 ghost use Rattle.checkpoint.specs.Moved.{IsSame, bank_checkpointed};
 ghost use Rattle.restart.specs.Shows.{Shows, IsShown, IsStoreWith, IsReopened, TracksStore, IsCommitted, IsEmptied, page_in};
-ghost use Rattle.checkpoint.specs.Committed.{roomy, number_after, IsKeptAfter, HoldsCommitted};
+ghost use Rattle.checkpoint.specs.Committed.{roomy, number_after, IsKeptAfter, LeavesCommitted};
 ghost use Rattle.restart.specs.Faults.{IsStoreOpenFault, IsStoreReopenFault};
 
 use crate::page::read_newest;
@@ -164,7 +164,7 @@ impl Durable {
         // Of a store that is tracked: whenever a crash comes, it leaves what stood, or that with the record.
         ensures crash { TracksStore W.Outside self.old outside.old → Leaves W.Outside (IsEither (begun_of self.old.bank) (held_of W.Outside outside.old)) outside.old outside.new }
         ensures left { TracksStore W.Outside self.old outside.old → FailedLeaves W.Outside self.old.bank (roomy self.old.bank) outside.old outside.new result }
-        ensures records { (tracks : TracksStore W.Outside self.old outside.old) → HoldsCommitted self.old.header self.old.bank tracks.shows.read.records (held_of W.Outside outside.new) }
+        ensures records { (tracks : TracksStore W.Outside self.old outside.old) → LeavesCommitted W.Outside self.old.header (roomy self.old.bank) self.old.bank tracks.shows.read.records outside.old outside.new }
         ensures intact { TracksStore W.Outside self.old outside.old → IsStoreWith self.old.header (held_of W.Outside outside.new) }
         ensures done { result ≡ Kept.Done → TracksStore W.Outside self.old outside.old → IsCommitted W.Outside self.old self.new outside.old outside.new }
     {
@@ -188,6 +188,7 @@ impl Durable {
 
         // Of a store that is tracked: whenever a crash comes, it leaves what stood.
         ensures crash { (tracks : TracksStore W.Outside self.old outside.old) → Leaves W.Outside (λ image seen. IsSame self.old.header self.old.bank tracks.shows.read.records (held_of W.Outside outside.old) image) outside.old outside.new }
+        ensures held { (tracks : TracksStore W.Outside self.old outside.old) → IsSame self.old.header self.old.bank tracks.shows.read.records (held_of W.Outside outside.old) (held_of W.Outside outside.new) }
         ensures intact { TracksStore W.Outside self.old outside.old → IsStoreWith self.old.header (held_of W.Outside outside.new) }
         ensures done { OnOk result (TracksStore W.Outside self.old outside.old → IsEmptied W.Outside self.old self.new outside.old outside.new) }
     {

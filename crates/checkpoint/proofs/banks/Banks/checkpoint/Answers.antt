@@ -1,4 +1,5 @@
-use Rattle.checkpoint.proofs.Common.{◌≡◌, ℕ, ◌+◌, List, [], length, refl, sym, subst, ◌∙◌, ap, arith, replicate, length-replicate, get_or-replicate, Which, Header, header_of, area_at, IsStore, Leaves, held_of, leaves_held, KeptBank, number_of, TracksBank, HoldsRecords, turned, place_is, held_left, other, IsSame, IsMoved}
+use Rattle.checkpoint.proofs.Common.{◌≡◌, ℕ, ◌+◌, List, [], length, refl, sym, subst, ◌∙◌, ap, arith, replicate, length-replicate, get_or-replicate, Which, Header, header_of, area_at, IsStore, Leaves, held_of, leaves_held, KeptBank, number_of, TracksBank, HoldsRecords, turned, place_is, other, IsSame, IsMoved}
+use Rattle.checkpoint.proofs.StepLemmas.{held_since}
 use Rattle.std.specs.Prelude.{Option, None, take}
 use Rattle.checkpoint.proofs.banks.Banks.checkpoint.Given.{Over}
 use Rattle.checkpoint.proofs.banks.Banks.checkpoint.Goals as goal
@@ -14,8 +15,8 @@ crash g c =
 held : (g : Over) (c : goal.After-move_to g) (tracks : TracksBank g.W.Outside c.args.self.now c.args.outside.now) → IsSame tracks.header c.args.self.now tracks.records (held_of g.W.Outside c.args.outside.now) (held_of g.W.Outside c.move_to.new.outside)
 held g c tracks =
     let G = g.W.Outside in
-    let now = held_left G g.met.W.Outside.held_now c.move_to.new.outside (c.move_to.ensures.only.told tracks.sure.told) in
-    crash g c tracks (held_of G c.move_to.new.outside) now.0 (g.met.W.Outside.fewer_later c.move_to.new.outside (G.moment c.args.outside.now) (G.moment c.move_to.new.outside) (held_of G c.move_to.new.outside) now.0 c.move_to.ensures.only.calls.time.later now.1)
+    held_since G g.met.W.Outside.fewer_later g.met.W.Outside.held_now c.args.outside.now c.move_to.new.outside c.move_to.ensures.only tracks.sure.told
+    (IsSame tracks.header c.args.self.now tracks.records (held_of G c.args.outside.now)) (crash g c tracks)
 
 pub returns-in-Err-clause-crash : goal.returns-in-Err-clause-crash
 returns-in-Err-clause-crash g c tracks = crash g (goal.at.returns-in-Err-clause-crash g c).After-move_to tracks

@@ -1,6 +1,6 @@
-use Rattle.checkpoint.proofs.Common.{◌≡◌, inl, sym, subst, ◌∙◌, ap, arith, Option, IfSome, None, Some, KeptBank, emptied, roomy, Commits, CountsKept, FailedLeaves, bank_appended, kept_in}
+use Rattle.checkpoint.proofs.Common.{◌≡◌, inl, sym, subst, ◌∙◌, ap, arith, Option, IfSome, held_of, None, Some, KeptBank, emptied, roomy, Commits, CountsKept, FailedLeaves, bank_appended, kept_in}
 use Rattle.redo_journal.specs.declared.keep.Kept.{Kept}
-use Rattle.checkpoint.proofs.CommitLemmas.{carried, kept_after, roomy_full, roomy_fits, two_more}
+use Rattle.checkpoint.proofs.CommitLemmas.{appended_apart, carried, leaves_committed, kept_after, roomy_full, roomy_fits, two_more}
 use Rattle.checkpoint.proofs.banks.Banks.commit.Goals as goal
 
 -- a full bank was left alone, and so was the disk
@@ -34,7 +34,9 @@ returns-in-Some g c =
       writes = λ is. two_more (G.writes before) (G.writes before) (G.writes after) (λ count was. (count, was, omega arith)) (c.append.ensures.writes (c.kept.ensures.done (c.in-Some.is ∙ ap Some is)));
       crash = c.append.ensures.crash;
       left = λ tracks. subst (λ (answer : Option Kept). IfSome answer (FailedLeaves G bank bank before after)) told (c.append.ensures.left tracks);
-      records = λ tracks. inl (c.append.ensures.records tracks);
+      records = λ tracks.
+          leaves_committed G g.met.W.Outside.fewer_later g.met.W.Outside.held_now before after c.append.ensures.only tracks.sure.told tracks.header bank bank tracks.records (inl (c.append.ensures.records tracks))
+          (λ image seen left. appended_apart tracks.header bank bank tracks.records (held_of G before) image (c.append.ensures.apart tracks image seen left));
       done = λ is. c.append.ensures.done (c.kept.ensures.done (c.in-Some.is ∙ ap Some is));
     })
 

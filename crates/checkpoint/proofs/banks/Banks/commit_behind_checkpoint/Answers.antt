@@ -1,6 +1,8 @@
-use Rattle.checkpoint.proofs.Common.{◌≡◌, inl, inr, ⊎_elim, List, [], sym, subst, ◌∙◌, ap, arith, Option, IfSome, Some, Header, RecordLine, stands, one_more, Leaves, held_of, leaves_on, KeptBank, begun_of, TracksBank, IsEither, HoldsOneOf, writes_on, other, emptied, CountsKept, FailedLeaves, bank_appended, kept_in}
+use Rattle.checkpoint.proofs.Common.{◌≡◌, inl, inr, ⊎_elim, ℕ, List, [], sym, subst, ◌∙◌, ap, arith, Option, IfSome, Some, Header, RecordLine, stands, one_more, Leaves, held_of, leaves_on, KeptBank, begun_of, TracksBank, IsEither, HoldsOneOf, HoldsCommitted, IsSameBut, IsCommitOffset, needed_end, writes_on, other, emptied, CountsKept, FailedLeaves, bank_appended, kept_in}
 use Rattle.redo_journal.specs.declared.keep.Kept.{Kept}
-use Rattle.checkpoint.proofs.CommitLemmas.{adds_same, answered_by, counts_on, either_same, failed_behind, kept_after, no_records, shape_on, two_more}
+use Rattle.redo_journal.specs.Appended.{IsApart}
+use Rattle.checkpoint.proofs.ApartLemmas.{but_on}
+use Rattle.checkpoint.proofs.CommitLemmas.{adds_same, appended_apart, behind_apart, leaves_committed, answered_by, counts_on, either_same, failed_behind, kept_after, no_records, shape_on, two_more}
 use Rattle.checkpoint.proofs.banks.Banks.commit_behind_checkpoint.Given.{Over}
 use Rattle.checkpoint.proofs.banks.Banks.commit_behind_checkpoint.Goals as goal
 use Rattle.checkpoint.proofs.banks.Banks.commit_behind_checkpoint.Goals.{After-checkpoint}
@@ -20,7 +22,12 @@ returns-in-Err g c =
       writes = λ is. cc;
       crash = λ tracks image seen left. inl (stood g at tracks image seen left);
       left = stood g at;
-      records = λ tracks. ⊎_elim (λ here. inl (inl here)) (λ there. inr (inl there)) (c.checkpoint.ensures.held tracks).one_of;
+      records = λ tracks.
+          let old = c.args.self.now in
+          let before = held_of g.W.Outside c.args.outside.now in
+          leaves_committed g.W.Outside g.met.W.Outside.fewer_later g.met.W.Outside.held_now c.args.outside.now c.checkpoint.new.outside c.checkpoint.ensures.only tracks.sure.told tracks.header (emptied old) old tracks.records
+          (⊎_elim (λ here. inl (inl here)) (λ there. inr (inl there)) (c.checkpoint.ensures.held tracks).one_of)
+          (λ image seen left. behind_apart tracks.header old tracks.records before image (c.checkpoint.ensures.crash tracks image seen left).apart);
       done = λ is. cc;
     }
 
@@ -61,9 +68,17 @@ returns-in-Ok g c =
           let now = held_of G after in
           let header : made.tracks.header ≡ tracks.header = sym made.tracks.store.said ∙ made.header ∙ tracks.store.said in
           let none : made.tracks.records ≡ [] = no_records made.tracks.records (made.tracks.count ∙ ap (λ (bank : KeptBank). bank.count) turned) in
+          let held : HoldsCommitted tracks.header old tracks.records now =
           inr (subst (λ (those : Header). HoldsOneOf those (other old.which) (emptied old).base [] (begun_of (emptied old)) now) header
           (subst (λ (those : List (List RecordLine)). HoldsOneOf made.tracks.header (other old.which) (emptied old).base those (begun_of (emptied old)) now) none
-          (subst (λ (bank : KeptBank). HoldsOneOf made.tracks.header bank.which bank.base made.tracks.records (begun_of bank) now) turned (c.append.ensures.records made.tracks))));
+          (subst (λ (bank : KeptBank). HoldsOneOf made.tracks.header bank.which bank.base made.tracks.records (begun_of bank) now) turned (c.append.ensures.records made.tracks)))) in
+          let offsets = IsCommitOffset tracks.header (emptied old) old tracks.records in
+          leaves_committed G g.met.W.Outside.fewer_later g.met.W.Outside.held_now before after (writes_on G g.met.W.Outside.fewer_later before mid after first later) tracks.sure.told tracks.header (emptied old) old tracks.records held
+          (leaves_on G g.met.W.Outside.fewer_later before mid after first.calls.time later.calls.time (λ (image seen : List ℕ). IsSameBut offsets (held_of G before) image)
+          (λ image seen left. behind_apart tracks.header old tracks.records (held_of G before) image (c.checkpoint.ensures.crash tracks image seen left).apart)
+          (λ image seen left.
+          but_on offsets (held_of G before) (held_of G mid) image (behind_apart tracks.header old tracks.records (held_of G before) (held_of G mid) (c.checkpoint.ensures.held tracks).apart)
+          (appended_apart tracks.header (emptied old) old tracks.records (held_of G mid) image (subst (λ (that : KeptBank). IsApart that.gate (needed_end that) (held_of G mid) image) turned (c.append.ensures.apart made.tracks image seen left)))));
       done = λ is tracks.
           let made = c.in-Ok.ensures.done tracks in
           let added = c.append.ensures.done (c.kept.ensures.done (answered ∙ ap Some is)) made.tracks in

@@ -1,4 +1,4 @@
-use Rattle.restart.proofs.Common.{◌≡◌, [], ap, subst, sym, ◌∙◌, ⊎_elim, arith, Header, header_of, total, Leaves, held_of, other, map_ok, KeptStore}
+use Rattle.restart.proofs.Common.{◌≡◌, [], ap, subst, sym, ◌∙◌, ⊎_elim, arith, Header, header_of, total, Leaves, held_of, other, map_ok, KeptStore, TracksStore}
 use Rattle.std.specs.Prelude.{take, OnOk}
 use Rattle.redo_journal.specs.Kept.{KeptBank, number_of}
 use Rattle.checkpoint.specs.Moved.{IsSame, IsCheckpointed}
@@ -24,16 +24,21 @@ returns-clause-crash g c tracks =
     subst (λ (kept : KeptBank). (tracks : journal.TracksBank G kept c.args.outside.now) → Leaves G (λ image seen. IsSame tracks.header kept tracks.records (held_of G c.args.outside.now) image) c.args.outside.now c.checkpoint.new.outside) (bank g at) c.checkpoint.ensures.crash
     (bank_tracked G c.args.self.now c.args.outside.now tracks)
 
+held : (g : Over) (c : goal.After-checkpoint g) (tracks : TracksStore g.W.Outside c.args.self.now c.args.outside.now)
+    → IsSame c.args.self.now.header c.args.self.now.bank tracks.shows.read.records (held_of g.W.Outside c.args.outside.now) (held_of g.W.Outside c.checkpoint.new.outside)
+held g c tracks =
+    let G = g.W.Outside in
+    subst (λ (kept : KeptBank). (tracks : journal.TracksBank G kept c.args.outside.now) → IsSame tracks.header kept tracks.records (held_of G c.args.outside.now) (held_of G c.checkpoint.new.outside)) (bank g c) c.checkpoint.ensures.held (bank_tracked G c.args.self.now c.args.outside.now tracks)
+
+pub returns-clause-held : goal.returns-clause-held
+returns-clause-held g c = held g (goal.at.returns-clause-held g c).After-checkpoint
+
 pub returns-clause-intact : goal.returns-clause-intact
 returns-clause-intact g c tracks =
-    let G = g.W.Outside in
-    let at = (goal.at.returns-clause-intact g c).After-checkpoint in
     let header = c.args.self.now.header in
     let kept = c.args.self.now.bank in
-    let now = held_of G c.checkpoint.new.outside in
-    let same =
-    subst (λ (kept : KeptBank). (tracks : journal.TracksBank G kept c.args.outside.now) → IsSame tracks.header kept tracks.records (held_of G c.args.outside.now) now) (bank g at) c.checkpoint.ensures.held (bank_tracked G c.args.self.now c.args.outside.now tracks) in
-    ⊎_elim (λ here. records_intact header kept.which kept.base tracks.shows.read.records now here) (λ there. records_intact header (other kept.which) (number_of kept) [] now there) same.one_of
+    let now = held_of g.W.Outside c.checkpoint.new.outside in
+    ⊎_elim (λ here. records_intact header kept.which kept.base tracks.shows.read.records now here) (λ there. records_intact header (other kept.which) (number_of kept) [] now there) (held g (goal.at.returns-clause-intact g c).After-checkpoint tracks).one_of
 
 pub returns-clause-done : goal.returns-clause-done
 returns-clause-done g c =

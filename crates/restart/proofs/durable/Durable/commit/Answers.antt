@@ -28,7 +28,7 @@ returns-clause-records g c tracks = (did g (goal.at.returns-clause-records g c).
 pub returns-clause-intact : goal.returns-clause-intact
 returns-clause-intact g c tracks =
     committed_intact c.args.self.now.header c.args.self.now.bank tracks.shows.read.records (held_of g.W.Outside c.commit.new.outside)
-    ((did g (goal.at.returns-clause-intact g c).After-commit).records (bank_tracked g.W.Outside c.args.self.now c.args.outside.now tracks))
+    ((did g (goal.at.returns-clause-intact g c).After-commit).records (bank_tracked g.W.Outside c.args.self.now c.args.outside.now tracks)).held
 
 pub returns-clause-done : goal.returns-clause-done
 returns-clause-done g c is tracks =
