@@ -91,7 +91,7 @@ pub record RanOnScreen (given : Given) (number : ℕ) (store : FlatStore) (first
 -- A job was run so on a file that gave these bytes.
 pub record RanOnFile (given : Given) (number : ℕ) (store : FlatStore) (first : List ℕ) (deeds puts : List Deed) (order : List (ℕ × ℕ)) (end : Status) : Type 0 where
   pub ran : RanOnScreen given number store first puts order end
-  -- the machine may stop after any number of the deeds: each image that these may leave stands for the first commits, and no fewer than were seen
+  -- the machine may stop after any number of the deeds: each image that these may leave stands for the first commits: those that were seen or one more
   pub crash : LeavesAt first deeds puts (IsPrefix (begun ran.job.programs.items ran.job.events.items) number store order [])
 
 -- this holds from whatever number and store the bytes stand for
