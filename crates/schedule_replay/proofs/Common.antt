@@ -13,7 +13,7 @@ pub use Rattle.desk.specs.Crash.{Did, IsEitherOf, standing_of}
 pub use Rattle.desk.specs.Desk.{Desk}
 pub use Rattle.desk.specs.Holdings.{numbers}
 pub use Rattle.desk.specs.Instruction.{Counts, Doubt, Ending, Fine, Word}
-pub use Rattle.desk.specs.Kept.{HoldsStore, IsDamage, StillTold, WritesMore, is_stored, most_records, records_after, records_in, tells_fault, turn_fails, writes_due}
+pub use Rattle.desk.specs.Kept.{HoldsStore, IsDamage, Journal, JournalAfter, KeepsJournal, StillTold, WritesMore, journal_emptied, journal_in, journal_with, tells_fault, turn_fails, writes_due}
 pub use Rattle.desk.specs.Lines.{End, Left, Line, Lost, Open, line_text}
 pub use Rattle.desk.specs.Report.{closing_lines, cycle_lines, ending_lines, event_lines, happening_lines, number_after, report, turn_lines}
 pub use Rattle.desk.specs.Run.{Happening, OpenBeforeEach, Step, faulted, run, step}
