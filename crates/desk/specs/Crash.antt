@@ -1,5 +1,5 @@
 -- What an event did: its step, why its word isn't fine, and what the disk held at each moment of it.
-use Rattle.std.specs.Prelude.{◌≡◌, ℕ, ◌≤◌, ◌⊎◌, Bool, true, false, List, slice_set}
+use Rattle.std.specs.Prelude.{◌≡◌, ℕ, ◌⊎◌, Bool, true, false, List, slice_set}
 use Rattle.outside.specs.declared.world.Outside.{Ghosts}
 use Rattle.outside.specs.Causes.{Rose}
 use Rattle.outside.specs.Durable.{IsSure}
@@ -9,7 +9,7 @@ use Rattle.store_format.specs.Stands.{Standing, Stands, stands}
 use Rattle.desk.specs.declared.event.Event.{Event}
 use Rattle.desk.specs.Desk.{Desk}
 use Rattle.desk.specs.Instruction.{Word, Fine, Doubt}
-use Rattle.desk.specs.Kept.{records_in, records_after}
+use Rattle.desk.specs.Kept.{JournalAfter, journal_in}
 use Rattle.desk.specs.Run.{Happening, step}
 use Rattle.desk.specs.Report.{number_after}
 
@@ -28,7 +28,7 @@ IsEitherOf programs number event old new image =
     ⊎ ((fine_step programs event old).order ≡ new.order) × (stands image ≡ standing_of number (fine_step programs event old))
 
 -- An event was a step of the desk with a word, which isn't fine only where the disk's faults rose. While the desk is open, its bytes are
--- sure and shown, and the chosen bank holds no more records than what happened says. A crash in it leaves what stood before it or after
+-- sure and shown, and their journal is what what happened makes of the one before. A crash in it leaves what stood before it or after
 -- it; where a commit in doubt closed the desk there is one place with whose byte the commit stands.
 pub record Did {W : Type 0} (G : Ghosts W) (programs : List Program) (number : ℕ) (event : Event) (told : Happening) (closed : Bool) (order : List (ℕ × ℕ)) (shows : List ℕ → Desk → Type 0) (desk : Desk) (before after : W) : Type 0 where
   pub word : Word
@@ -38,6 +38,6 @@ pub record Did {W : Type 0} (G : Ghosts W) (programs : List Program) (number : �
   pub closes : closed ≡ next.closed
   pub ordered : order ≡ next.order
   pub still : next.closed ≡ false → IsSure G after × shows (held_of G after) next
-  pub records : next.closed ≡ false → records_in (held_of G after) ≤ records_after told (records_in (held_of G before))
+  pub journal : next.closed ≡ false → JournalAfter told (journal_in (held_of G before)) (journal_in (held_of G after))
   pub crash : Leaves G (λ image seen. IsEitherOf programs number event desk next image) before after
   pub doubt : word ≡ Doubt → next.closed ≡ true → ((fine_step programs event desk).order ≡ next.order) × ((gate : ℕ) × Leaves G (λ image seen. stands (slice_set image gate 165) ≡ standing_of number (fine_step programs event desk)) after after)

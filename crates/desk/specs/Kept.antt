@@ -1,10 +1,11 @@
 -- What a supervisor's calls keep of an outside, and what they tell of its bytes.
-use Rattle.std.specs.Prelude.{◌≡◌, ℕ, ◌+◌, ◌≤◌, ◌%◌, ◌^◌, if◌then◌else◌, Bool, true, false, List, [], ◌∷◌, length, take, IsSome, Option, Some, None}
+use Rattle.std.specs.Prelude.{◌≡◌, ℕ, ◌+◌, ◌≤◌, ◌%◌, ◌^◌, nat_lt, if◌then◌else◌, Bool, true, false, List, [], ◌∷◌, ◌++◌, length, sum_by, take, IsSome, Option, Some, None}
 use Rattle.std.specs.Option.{ForSome}
 use Rattle.outside.specs.declared.world.Outside.{Ghosts}
 use Rattle.outside.specs.Runs.{held_of}
 use Rattle.store_format.specs.Header.{Header, header_of, total}
-use Rattle.store_format.specs.Bank.{Bank, Holds, Faulty, base_of, bank_of}
+use Rattle.line_geometry.specs.declared.directory.PageSize.{PageSize}
+use Rattle.store_format.specs.Bank.{Bank, Holds, Faulty, RecordLine, base_of, bank_of, record_bytes}
 use Rattle.store_format.specs.Stands.{chosen}
 use Rattle.desk.specs.declared.answers.Reopened.{Reopened}
 use Rattle.desk.specs.declared.answers.Reopened.TheVariants as reopened
@@ -14,7 +15,6 @@ use Rattle.desk.specs.Instruction.{Committed}
 use Rattle.desk.specs.Run.{Happening, Turned, CheckpointMade}
 use Rattle.desk.specs.Lines as line
 use Rattle.desk.specs.Lines.{Line}
-use Rattle.desk.specs.Commits.{is_commit}
 
 -- the bytes that are told are enough for a store with this header
 abbrev pub HoldsStore : {W : Type 0} → Ghosts W → Header → W → Type 0
@@ -52,28 +52,47 @@ tells_fault (line.Disk activation) = true
 tells_fault line.Closed = true
 tells_fault _ = false
 
--- how many records a bank holds
-abbrev pub record_count : Bank → ℕ
-record_count (Holds gate records) = length records
-record_count (Faulty offset) = 0
+-- the records of a bank; none where it has a fault
+abbrev pub records_of : Bank → List (List RecordLine)
+records_of (Holds gate records) = records
+records_of (Faulty offset) = []
 
--- how many records the chosen bank of these bytes holds
-abbrev pub records_in : List ℕ → ℕ
-records_in held = record_count (bank_of held (header_of (take 128 held)) (chosen held))
+-- The journal of a store: the size of its pages, the bytes of a record area, and the records in it.
+pub record Journal : Type 0 where
+  pub page : PageSize
+  pub area : ℕ
+  pub records : List (List RecordLine)
 
--- the most records that the chosen bank holds after what happened, where it held so many: a commit adds one, and a checkpoint leaves none
-abbrev pub records_after : Happening → ℕ → ℕ
-records_after CheckpointMade records = 0
-records_after (Turned activation counts (Committed steps out)) records = records + 1
-records_after _ records = records
+-- the journal that the chosen bank of a store with this header is
+abbrev pub journal_under : List ℕ → Header → Journal
+journal_under held header = record { page = header.directory.page; area = header.bank_bytes; records = records_of (bank_of held header (chosen held)) }
 
--- whether a line is that of a checkpoint
-abbrev pub is_stored : Line → Bool
-is_stored (line.Stored number) = true
-is_stored _ = false
+-- the journal of these bytes
+abbrev pub journal_in : List ℕ → Journal
+journal_in held = journal_under held (header_of (take 128 held))
 
--- the same after these lines
-abbrev pub most_records : List Line → ℕ → ℕ
-most_records [] records = records
-most_records (line ∷ lines) records =
-    most_records lines (if is_stored line then 0 else if is_commit line then records + 1 else records)
+-- the bytes that records take
+abbrev pub bytes_taken : PageSize → List (List RecordLine) → ℕ
+bytes_taken page records = sum_by (λ lines. record_bytes page (length lines)) records
+
+-- a journal with one record more: behind the others, or where it and a closed gate have no room there, alone
+abbrev pub journal_with : Journal → List RecordLine → Journal
+journal_with journal lines =
+    record journal { records = if nat_lt (bytes_taken journal.page (journal.records ++ lines ∷ [])) journal.area then journal.records ++ lines ∷ [] else lines ∷ [] }
+
+-- a journal without its records
+abbrev pub journal_emptied : Journal → Journal
+journal_emptied journal = record journal { records = [] }
+
+-- what becomes of a journal by what happened: a commit adds one record, a checkpoint leaves none, and nothing else touches it
+abbrev pub JournalAfter : Happening → (old new : Journal) → Type 0
+JournalAfter CheckpointMade old new = new ≡ journal_emptied old
+JournalAfter (Turned activation counts (Committed steps out)) old new = (lines : List RecordLine) × (new ≡ journal_with old lines)
+JournalAfter _ old new = new ≡ old
+
+-- the same by lines of a report, one after another
+abbrev pub KeepsJournal : List Line → (old new : Journal) → Type 0
+KeepsJournal [] old new = new ≡ old
+KeepsJournal (line.Stored number ∷ lines) old new = KeepsJournal lines (journal_emptied old) new
+KeepsJournal (line.Commit activation number steps out ∷ lines) old new = (added : List RecordLine) × KeepsJournal lines (journal_with old added) new
+KeepsJournal (_ ∷ lines) old new = KeepsJournal lines old new

@@ -163,7 +163,7 @@ module _ {W : Type 0} (G : Ghosts W) (job : Job) (number : ℕ) (store : FlatSto
     first = first-left status time fewer_later printed_now held_now ran;
     ran = λ image seen holds nothing prints unfailed.
         let left = first-left status time fewer_later printed_now held_now ran image seen holds nothing prints in
-        ran-left status are seen (omega (arith, left.told, left.few, ap commits_seen left.seen_is)) ran nothing prints unfailed;
+        ran-left status are seen (omega (arith, left.told, left.first.few, ap commits_seen left.seen_is)) ran nothing prints unfailed;
     writes = writes-made status ran;
     fine = order-fine status ran;
   }
@@ -181,14 +181,17 @@ module _ {W : Type 0} (G : Ghosts W) (job : Job) (number : ℕ) (store : FlatSto
         let same : image ≡ held_of G before = ap (λ (told : Option (List ℕ)). unwrap_or told []) kept in
         let small : number < 2 ^ 64 = number-within (held_of G before) number store standing.stood in
         record {
-          j = 0;
-          few = omega arith;
+          first = record {
+            j = 0;
+            few = omega arith;
+            left = store;
+            leaves = refl;
+            stood = ap (λ (those : List ℕ). stands those) same ∙ standing.stood ∙ ap (λ (n : ℕ). let that : Standing = Stands n store in that) (let same : number ≡ (number + 0) % 2 ^ 64 = omega (arith, small) in same);
+          };
           since = [];
           seen_is = quiet-left status untouched seen nothing prints;
           told = omega arith;
-          left = store;
-          leaves = refl;
-          stood = ap (λ (those : List ℕ). stands those) same ∙ standing.stood ∙ ap (λ (n : ℕ). let that : Standing = Stands n store in that) (let same : number ≡ (number + 0) % 2 ^ 64 = omega (arith, small) in same);
+          most = omega arith;
         };
     ran = λ image seen holds nothing prints unfailed.
         let none : length order ≡ 0 = ap (λ (these : List (ℕ × ℕ)). length these) untouched.no_order in
@@ -269,18 +272,19 @@ module _ (job : Job) (held : List ℕ) (number : ℕ) (store : FlatStore) (ended
     stop-is =
         let (ran, all) = left.ran unfailed in
         let count : length stop.order.items ≡ length order = ap (λ (commits : List Committed). length commits) told.order_is ∙ sym (length-map ended.order.items (λ (commit : Committed). (commit.activation, commit.steps))) in
-        let seen : stop.seen ≤ left.first.j = omega (arith, told.seen, left.first.told, ap commits_seen left.first.seen_is) in
+        let first = left.first.first in
+        let seen : stop.seen ≤ first.j = omega (arith, told.seen, left.first.told, ap commits_seen left.first.seen_is) in
         record {
           ran = subst (λ (n : ℕ). IsStoppedRun (names_of job) job.programs.items job.events.items number (job_desk job held store) (order_told stop.order.items) n) (sym told.seen)
               (subst (λ (commits : List Committed). IsStoppedRun (names_of job) job.programs.items job.events.items number (job_desk job held store) (order_told commits) (commits_seen (screen_printed screen))) (sym told.order_is) ran);
-          j = left.first.j;
+          j = first.j;
           told = seen;
-          few = omega (arith, left.first.few, count);
-          left = left.first.left;
-          leaves = ap (λ (commits : List Committed). serial (begun job.programs.items job.events.items) (take left.first.j (order_told commits)) store) told.order_is ∙ left.first.leaves;
-          stood = ap (λ (bytes : List ℕ). stands bytes) told.image_is ∙ left.first.stood;
+          few = omega (arith, first.few, count);
+          left = first.left;
+          leaves = ap (λ (commits : List Committed). serial (begun job.programs.items job.events.items) (take first.j (order_told commits)) store) told.order_is ∙ first.leaves;
+          stood = ap (λ (bytes : List ℕ). stands bytes) told.image_is ∙ first.stood;
           whole = λ un. ap order_told told.order_is ∙ left.fine (came-done un) (told.reached un).0;
-          all = λ un. let each = all (came-done un) in omega (arith, each, told.seen, seen, left.first.few, count);
+          all = λ un. let each = all (came-done un) in omega (arith, each, told.seen, seen, first.few, count);
           all_seen = λ un. told.seen ∙ all (came-done un) ∙ sym count;
         }
 

@@ -46,7 +46,7 @@ pub record IsStoppedRun (names : List (List ℕ)) (programs : List Program) (eve
   pub most_seen : length order ≤ seen + 1
 
 -- What a run of a job left of the number and the store for which the disk stood. What is held now stands for the first commits, run one
--- after another, and no fewer than are seen in what was printed, where nothing was before; unless a put failed, those seen are all of
+-- after another: those that are seen in what was printed or one more, where nothing was before; unless a put failed, those seen are all of
 -- one run of the desk. At Done there is one for each commit, two writes were made for each, and all events went well where no fault was counted.
 pub record IsLeft {W : Type 0} (G : Ghosts W) (job : Job) (number : ℕ) (store : FlatStore) (call : Call W) : Type 0 where
   pub first : (image seen : List ℕ) → G.held call.after ≡ Some image → G.printed call.before ≡ Some [] → G.printed call.after ≡ Some seen → IsPrefix (begun job.programs.items job.events.items) number store call.order [] image seen

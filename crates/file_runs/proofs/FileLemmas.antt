@@ -4,7 +4,7 @@ use Rattle.std.proofs.lemmas.List.{append_cancel_left, nil_from_length, take_all
 use Rattle.std.proofs.lemmas.List.Elements.{All-nil, All-cons}
 use Rattle.outside.proofs.Torn.{torn_by_written, untouched}
 use Rattle.outside.specs.declared.world.Outside.{Ghosts}
-use Rattle.std.specs.Prelude.{All, cond, count_by}
+use Rattle.std.specs.Prelude.{All, cond, count_by, false}
 use Rattle.std.proofs.lemmas.List.Sums.{sum_by-cons}
 use Rattle.std.proofs.lemmas.Bool.Decides.{nat_tests}
 use Rattle.outside.specs.Clock.{printed_before}
@@ -22,6 +22,7 @@ use Rattle.call_status.specs.declared.status.Status.TheVariants as status
 use Rattle.supervisor.specs.declared.session.Session.{Session}
 use Rattle.desk.specs.Report.{report, event_lines}
 use Rattle.desk.specs.Desk.{Desk}
+use Rattle.desk.specs.Kept.{KeepsJournal, journal_in}
 use Rattle.desk.specs.Run.{IsRunOf, run}
 use Rattle.desk.specs.Lines.{Line}
 use Rattle.outside.specs.Bytes.{Prints}
@@ -255,10 +256,21 @@ module _ {W : Type 0} (G : Ghosts W) (before after : W) (first : List ℕ) (deed
       let did = ran.has_run number store (stands_at G before after first puts behind.screen number store stood) in
       let acts = begun ran.job.programs.items ran.job.events.items in
       let empty : unwrap_or (G.printed before) [] ≡ [] = ap (λ (those : Option (List ℕ)). unwrap_or those []) behind.screen.none in
+      let programs = ran.job.programs.items in
+      let taken = did.ran.taken in
+      let desk = λ (bytes : List ℕ). job_desk ran.job bytes store in
+      let held = held_is G before after first puts behind.screen in
+      let lines : did.ran.lines ≡ event_lines (names_of ran.job) programs number taken (desk first) =
+      did.ran.lines_are ∙ ap (λ (names : List (List ℕ)). event_lines names programs number taken (desk (held_of G before))) did.named ∙ ap (λ (bytes : List ℕ). event_lines (names_of ran.job) programs number taken (desk bytes)) held in
       record {
         ran = ran_on_screen G before after first puts behind.screen given order status session ran number store stood;
         crash = leaves_at (IsPrefix acts number store order []) (λ image seen was.
             subst (λ (printed : List ℕ). IsPrefix acts number store order printed image seen) empty (did.seen (printed_told G before after first puts behind.screen) image seen was));
+        journal = λ still image left.
+            let open_end : did.ran.end.closed ≡ false = ap (λ (end : Desk). end.closed) did.ran.end_is ∙ ap (λ (bytes : List ℕ). (run programs taken (desk bytes)).closed) held ∙ still in
+            let kept = subst (λ (these : List Line). KeepsJournal these (journal_in (held_of G before)) (journal_in (held_of G after))) lines (did.ran.to.journal open_end) in
+            subst (λ (bytes : List ℕ). KeepsJournal (event_lines (names_of ran.job) programs number taken (desk first)) (journal_in first) (journal_in bytes)) (sym (sure_now (did.ran.to.still open_end).0 image left))
+            (subst (λ (bytes : List ℕ). KeepsJournal (event_lines (names_of ran.job) programs number taken (desk first)) (journal_in bytes) (journal_in (held_of G after))) held kept);
       }
 
   module _ (given : Given) (order : List (ℕ × ℕ)) where

@@ -1,5 +1,5 @@
 -- From what `follow` did on an outside to what it did on the file and the screen behind it.
-use Rattle.outside.proofs.Common.{◌≡◌, ◌⊎◌, inl, inr, ⊎_elim, ℕ, List, [], length, ap, ◌∙◌, subst, IsSome, Option, Some, held_of}
+use Rattle.outside.proofs.Common.{◌≡◌, inl, inr, ⊎_elim, ℕ, List, [], length, ap, ◌∙◌, subst, IsSome, Option, Some, held_of}
 use Rattle.outside.specs.declared.world.Outside.{Ghosts}
 use Rattle.outside.specs.Durable.{IsSure}
 use Rattle.line_geometry.specs.FlatStore.{FlatStore}

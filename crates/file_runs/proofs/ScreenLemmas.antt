@@ -1,5 +1,5 @@
 -- From what the words without a file did on an outside to what they handed to the screen behind it.
-use Rattle.outside.proofs.Common.{◌≡◌, ◌⊎◌, inl, inr, ⊎_elim, ℕ, ◌≤◌, List, [], length, min, ap, ◌∙◌, subst, IsSome, Option, None, Some, Result, Prints, held_of}
+use Rattle.outside.proofs.Common.{◌≡◌, inl, inr, ⊎_elim, ℕ, ◌≤◌, List, [], length, min, ap, ◌∙◌, subst, IsSome, Option, None, Some, Result, Prints, held_of}
 use Rattle.std.specs.Prelude.{◌*◌, ◌++◌}
 use Rattle.outside.specs.declared.world.Outside.{Ghosts}
 use Rattle.outside.specs.declared.failed.Failed.{Failed}

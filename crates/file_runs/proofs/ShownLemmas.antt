@@ -1,5 +1,5 @@
 -- From what `show` and `ship` did on an outside to what they did on the file and the screen behind it.
-use Rattle.outside.proofs.Common.{◌≡◌, ◌⊎◌, inl, inr, ⊎_elim, ℕ, List, [], ap, sym, ◌∙◌, subst, IsSome, held_of}
+use Rattle.outside.proofs.Common.{◌≡◌, inl, inr, ⊎_elim, ℕ, List, [], ap, sym, ◌∙◌, subst, IsSome, held_of}
 use Rattle.outside.specs.declared.world.Outside.{Ghosts}
 use Rattle.store_format.specs.Stands.{stands}
 use Rattle.call_status.specs.Call.{call}

@@ -1,5 +1,5 @@
 -- What a run left of a file and a screen, in the words of what was asked of them.
-use Rattle.std.specs.Prelude.{◌≡◌, ℕ, ◌+◌, ◌≤◌, List, [], length, take, count_by, All, Option, None, Some, Result, Ok, IsTrue}
+use Rattle.std.specs.Prelude.{◌≡◌, ℕ, ◌+◌, ◌≤◌, false, List, [], length, take, count_by, All, Option, None, Some, Result, Ok, IsTrue}
 use Rattle.outside.specs.declared.failed.Failed.{Failed}
 use Rattle.outside.specs.Bytes.{Prints}
 use Rattle.outside.specs.declared.world.Outside.{Ghosts}
@@ -10,6 +10,7 @@ use Rattle.store_format.specs.Stands.{Stands, stands}
 use Rattle.line_geometry.specs.FlatStore.{FlatStore}
 use Rattle.desk.specs.declared.event.Event.{Event}
 use Rattle.desk.specs.Instruction.{Word}
+use Rattle.desk.specs.Kept.{KeepsJournal, journal_in}
 use Rattle.desk.specs.Run.{IsRunOf, run}
 use Rattle.desk.specs.Report.{report, event_lines}
 use Rattle.desk.specs.Commits.{begun, IsSerial}
@@ -91,8 +92,11 @@ pub record RanOnScreen (given : Given) (number : ℕ) (store : FlatStore) (first
 -- A job was run so on a file that gave these bytes.
 pub record RanOnFile (given : Given) (number : ℕ) (store : FlatStore) (first : List ℕ) (deeds puts : List Deed) (order : List (ℕ × ℕ)) (end : Status) : Type 0 where
   pub ran : RanOnScreen given number store first puts order end
-  -- the machine may stop after any number of the deeds: each image that these may leave stands for the first commits, and no fewer than were seen
+  -- the machine may stop after any number of the deeds: each image that these may leave stands for the first commits: those that were seen or one more
   pub crash : LeavesAt first deeds puts (IsPrefix (begun ran.job.programs.items ran.job.events.items) number store order [])
+  -- while the desk is open at the end, what all deeds leave has the journal that the lines of the events make of the one before
+  pub journal : (run ran.job.programs.items ran.taken (job_desk ran.job first store)).closed ≡ false
+      → LeavesLast first deeds (λ image. KeepsJournal (event_lines (names_of ran.job) ran.job.programs.items number ran.taken (job_desk ran.job first store)) (journal_in first) (journal_in image))
 
 -- this holds from whatever number and store the bytes stand for
 abbrev pub RunsFrom : List ℕ → (ℕ → FlatStore → Type 0) → Type 0

@@ -6,9 +6,9 @@ use Rattle.outside.proofs.Prints.{prints_well, prints_broken}
 use Rattle.restart.specs.Kept.{number_of}
 use Rattle.desk.specs.Crash.{standing_of}
 use Rattle.desk.proofs.SerialLaw.{run-serial}
-use Rattle.run_law.specs.Headline.{IsPrefix}
-use Rattle.run_law.specs.Left.{IsLeft}
-use Rattle.run_law.proofs.HeadlineLemmas.{left_is_prefix, doubt_is_whole}
+use Rattle.run_law.specs.Headline.{IsFirst, IsPrefix}
+use Rattle.run_law.specs.Left.{IsLeft, IsStage}
+use Rattle.run_law.proofs.HeadlineLemmas.{left_is_prefix, doubt_is_whole, stage_is_first}
 use Rattle.supervisor.specs.ShownLaws.{shown-stands}
 use Rattle.schedule_replay.specs.Puts.{PutsTimes, shown_of}
 use Rattle.schedule_replay.specs.RanTo.{RanTo}
@@ -53,7 +53,7 @@ pub record RanFrom {W : Type 0} (G : Ghosts W) (names : List (List ℕ)) (progra
   pub rest : List Event
   pub is_run : IsRunOf programs events first taken rest
   pub to : RanTo ghosts G (run programs taken first) (event_lines names programs number taken first) (faulted taken) new start after
-  pub images : Leaves G (λ image seen. IsLeft programs number first taken [] [] image []) start after
+  pub images : Leaves G (λ image seen. IsStage programs number first taken image) start after
   pub doubt : (run programs taken first).closed ≡ true → (front : List (Event × Word)) (event : Event) → taken ≡ front ++ (event, Doubt) ∷ [] → InDoubt G programs number first front event after
 
 -- what a run begins with
@@ -92,33 +92,30 @@ module _ {W : Type 0} (G : Ghosts W) (fewer_later : FewerLater G) (printed_now :
   shown-same = ap (λ (told : Option (List ℕ)). unwrap_or told []) asks.calls.quiet.same
 
   -- the opening left what stood
-  left-so : (order : List (ℕ × ℕ)) (shown image seen : List ℕ) → seen ≡ shown → stands image ≡ Stands number store → IsPrefix (begun job.programs.items job.events.items) number store order shown image seen
-  left-so order shown image seen is stood = record {
-    j = 0;
-    few = omega arith;
-    since = [];
-    seen_is = is ∙ sym (append-nil shown);
-    told = omega arith;
-    left = store;
-    leaves = refl;
-    stood = stood ∙ ap (λ (n : ℕ). let that : Standing = Stands n store in that) (sym number-small);
-  }
+  abbrev left-so : (order : List (ℕ × ℕ)) (image : List ℕ) → stands image ≡ Stands number store → IsFirst (begun job.programs.items job.events.items) number store order image
+  left-so order image stood = record { j = 0; few = omega arith; left = store; leaves = refl; stood = stood ∙ ap (λ (n : ℕ). let that : Standing = Stands n store in that) (sym number-small) }
 
   opening-left : (order : List (ℕ × ℕ)) → IsSome (G.printed before) → Leaves G (IsPrefix (begun job.programs.items job.events.items) number store order (shown_of G before)) before start
   opening-left order told image seen left =
       let earlier = asks.crash standing.told image seen left in
-      left-so order (shown_of G before) image seen (told-is (G.printed before) seen told (printed_now before image seen earlier)) (standing.images image seen earlier)
+      record {
+        first = left-so order image (standing.images image seen earlier);
+        since = [];
+        seen_is = told-is (G.printed before) seen told (printed_now before image seen earlier) ∙ sym (append-nil (shown_of G before));
+        told = omega arith;
+        most = omega arith;
+      }
 
   -- what a crash left of the opening and of a run from it, without a word on the screen
   pub crash-any : (order : List (ℕ × ℕ)) (taken : List (Event × Word)) (rest : List Event) → IsRunOf job.programs.items job.events.items begins_with taken rest → order ≡ (run job.programs.items taken begins_with).order
-      → Leaves G (λ image seen. IsLeft (activity desk).programs desk.opened (first_desk G job.frames before start desk opens asks) taken [] [] image []) start after → Leaves G (λ image seen. IsPrefix (begun job.programs.items job.events.items) number store order [] image []) before after
+      → Leaves G (λ image seen. IsStage (activity desk).programs desk.opened (first_desk G job.frames before start desk opens asks) taken image) start after → Leaves G (λ image seen. IsFirst (begun job.programs.items job.events.items) number store order image) before after
   crash-any order taken rest ran ordered_is images =
-      leaves_on G fewer_later before start after asks.calls.time time (λ (image seen : List ℕ). IsPrefix (begun job.programs.items job.events.items) number store order [] image [])
-      (λ image seen left. left-so order [] image [] refl (standing.images image seen (asks.crash standing.told image seen left)))
+      leaves_on G fewer_later before start after asks.calls.time time (λ (image seen : List ℕ). IsFirst (begun job.programs.items job.events.items) number store order image)
+      (λ image seen left. left-so order image (standing.images image seen (asks.crash standing.told image seen left)))
       (λ image seen left.
-      subst (λ (those : List (ℕ × ℕ)). IsPrefix (begun job.programs.items job.events.items) number store those [] image []) (sym ordered_is)
-      (left_is_prefix job.programs.items number job.frames 16 (most_lines (header_of (take 128 (held_of G before)))) store job.events.items taken rest [] [] image [] ran
-      (subst (λ (f : Facts). IsLeft f.programs f.number f.start taken [] [] image []) these (images image seen left))))
+      subst (λ (those : List (ℕ × ℕ)). IsFirst (begun job.programs.items job.events.items) number store those image) (sym ordered_is)
+      (stage_is_first job.programs.items number job.frames 16 (most_lines (header_of (take 128 (held_of G before)))) store job.events.items taken rest image ran
+      (subst (λ (f : Facts). IsStage f.programs f.number f.start taken image) these (images image seen left))).0)
 
   -- the same of a run from the opening, in the job's words
   module _ (names : List (List ℕ)) (half : RanFrom G names (activity desk).programs desk.opened job.events.items (first_desk G job.frames before start desk opens asks) new start after) where

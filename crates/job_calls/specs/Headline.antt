@@ -18,7 +18,7 @@ use Rattle.desk.specs.Run.{run, faulted, IsRunOf}
 use Rattle.desk.specs.Lines.{Line, line_text, Open}
 use Rattle.desk.specs.Report.{report, report_lines, event_lines}
 use Rattle.desk.specs.Commits.{begun, IsSerial}
-use Rattle.run_law.specs.Headline.{IsPrefix}
+use Rattle.run_law.specs.Headline.{IsFirst, IsPrefix}
 use Rattle.schedule_replay.specs.Puts.{PutsTimes, shown_of}
 use Rattle.schedule_replay.specs.Ran.{PrintsEarlier, text_of}
 use Rattle.schedule_replay.specs.RanTo.{RanTo}
@@ -74,7 +74,7 @@ pub record RunsFrom {W : Type 0} (G : Ghosts W) (job : Job) (number : ℕ) (stor
   -- while the desk is open the disk's bytes stand for the number of commits and the store that they leave one after another
   pub leaves : end.closed ≡ false → (left : FlatStore) × (serial (begun job.programs.items job.events.items) call.order store ≡ Some left) × (stands (held_of G call.after) ≡ Stands ((number + length call.order) % 2 ^ 64) left)
   -- a crash at any moment of the call leaves a store that the first commits leave one after another
-  pub crash : Leaves G (λ image seen. IsPrefix (begun job.programs.items job.events.items) number store call.order [] image []) call.before call.after
+  pub crash : Leaves G (λ image seen. IsFirst (begun job.programs.items job.events.items) number store call.order image) call.before call.after
   -- and where the last event ended in doubt, the gate byte alone decides whether its commit is among them
   pub doubt : end.closed ≡ true → (front : List (Event × Word)) (event : Event) → taken ≡ front ++ (event, Doubt) ∷ [] → DoubtStands G job number store call.order call.after
 
@@ -94,7 +94,7 @@ pub record JobHasRun {W : Type 0} (G : Ghosts W) (job : Job) (number : ℕ) (sto
   -- each line by one put
   pub times : PutsTimes G (length (report_lines (names_of job) job.programs.items number ran.taken ran.rest (job_desk job (held_of G call.before) store))) call.before call.after put
   pub earlier : PrintsEarlier (G.printed call.before) (G.printed call.after) (λ front. line_text (Open number) ++ text_of (names_of job) job.programs.items number front (job_desk job (held_of G call.before) store)) ran.taken
-  -- a crash leaves no fewer commits than were printed by then, where the printed bytes are told
+  -- a crash leaves the commits that were printed by then, and at most one more, where the printed bytes are told
   pub seen : IsSome (G.printed call.before) → Leaves G (IsPrefix (begun job.programs.items job.events.items) number store call.order (shown_of G call.before)) call.before call.after
 
 -- the job was run, from whatever number and store the disk stood for

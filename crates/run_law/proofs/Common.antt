@@ -19,4 +19,4 @@ pub use Rattle.flat_machine.specs.Serial.{Activation, serial}
 pub use Rattle.flat_machine.specs.declared.machine.Program.{Program}
 pub use Rattle.store_format.specs.Stands.{Stands}
 unfoldable pub use Rattle.store_format.specs.Stands.{stands}
-pub use Rattle.run_law.specs.Left.{EndsInDoubt, IsLeft}
+pub use Rattle.run_law.specs.Left.{EndsInDoubt, IsLeft, IsStage}

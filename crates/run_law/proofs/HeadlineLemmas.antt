@@ -1,10 +1,10 @@
 -- What a crash leaves of a run from an opening.
 use Rattle.std.proofs.lemmas.Bool.Decides.{nat_tests}
-use Rattle.run_law.proofs.Common.{false, not, Bool, ◌%◌, ◌^◌, take_at, map-append, Program, serial, Stands, Event, begun, IsSerial, standing_of, fine_step, Desk, opened, Word, Fine, Doubt, event_lines, run, step, IsRunOf, OpenBeforeEach}
-use Rattle.std.proofs.Common.{◌≡◌, ℕ, ◌+◌, List, [], ◌∷◌, ◌++◌, length, take, refl, sym, ap, ◌∙◌, arith, length-append, append-nil, append_assoc, Some, IsTrue}
+use Rattle.run_law.proofs.Common.{false, not, Bool, ◌%◌, ◌^◌, take_at, map-append, Program, serial, Stands, Event, begun, IsSerial, standing_of, fine_step, Desk, opened, Word, Fine, Doubt, event_lines, run, step, IsRunOf, OpenBeforeEach, IsStage}
+use Rattle.std.proofs.Common.{◌≡◌, ℕ, ◌+◌, List, [], ◌∷◌, ◌++◌, length, map, take, refl, sym, ap, ◌∙◌, arith, length-append, append-nil, append_assoc, Some, IsTrue}
 use Rattle.line_geometry.specs.FlatStore.{FlatStore}
 use Rattle.desk.proofs.SerialLaw.{run-serial}
-use Rattle.run_law.specs.Headline.{LeftIsPrefix, DoubtIsWhole}
+use Rattle.run_law.specs.Headline.{IsFirst, LeftIsPrefix, DoubtIsWhole}
 use Rattle.run_law.proofs.RunLemmas.{run_on}
 use Rattle.run_law.proofs.StepLemmas.{Stepped, step_by}
 
@@ -18,8 +18,33 @@ open_serial programs number frames most most_lines store events taken rest is_ru
     let it : IsSerial (begun programs events) number store desk.order (event_lines [] programs number taken start) desk.committed desk.closed = run-serial [] programs number frames most most_lines store events taken rest is_run in
     ap (λ (order : List (ℕ × ℕ)). serial (begun programs events) order store) (it.order_is ∙ ap (λ (back : List (ℕ × ℕ)). it.done ++ back) (it.none_open still) ∙ append-nil it.done) ∙ it.leaves
 
+-- the image of a stage stands for the first commits
+pub stage_is_first : (programs : List Program) (number frames most most_lines : ℕ) (store : FlatStore) (events : List Event) (taken : List (Event × Word)) (rest : List Event) (image : List ℕ)
+    → IsRunOf programs events (opened frames most most_lines store) taken rest → (at : IsStage programs number (opened frames most most_lines store) taken image)
+    → (first : IsFirst (begun programs events) number store (run programs taken (opened frames most most_lines store)).order image) × (first.j ≡ length (run programs at.stage (opened frames most most_lines store)).order)
+stage_is_first programs number frames most most_lines store events taken rest image is_run at =
+    let start = opened frames most most_lines store in
+    let stage = run programs at.stage start in
+    let all : IsRunOf programs events start at.stage (at.after ++ rest) = record {
+      prefix = sym (append_assoc (map (λ (each : Event × Word). each.0) at.stage) at.after rest) ∙ ap (λ (front : List Event). front ++ rest) at.is_run.prefix ∙ is_run.prefix;
+      each_open = at.is_run.each_open;
+    } in
+    let made = open_serial programs number frames most most_lines store events at.stage (at.after ++ rest) all at.still_open in
+    let firsts : take (length stage.order) (run programs taken start).order ≡ stage.order = ap (λ (order : List (ℕ × ℕ)). take (length stage.order) order) (sym at.order_is) ∙ take_at stage.order at.later _ refl in
+    let longer = ap (λ (order : List (ℕ × ℕ)). length order) at.order_is in
+    let first : IsFirst (begun programs events) number store (run programs taken start).order image = record {
+      j = length stage.order;
+      few = omega (arith, longer, length-append stage.order at.later);
+      left = stage.committed;
+      leaves = ap (λ (order : List (ℕ × ℕ)). serial (begun programs events) order store) firsts ∙ made;
+      stood = at.stood;
+    } in
+    (first, refl)
+
 pub left_is_prefix : LeftIsPrefix
-left_is_prefix programs number frames most most_lines store events taken rest text printed image seen is_run left = grind (arith, nat_tests, append_assoc, take, take_at, length-append, open_serial)
+left_is_prefix programs number frames most most_lines store events taken rest text printed image seen is_run left =
+    let (first, same) = stage_is_first programs number frames most most_lines store events taken rest image is_run left.at in
+    record { first = first; since = take left.count text; seen_is = left.seen_is; told = omega (arith, same, left.told); most = omega (arith, same, left.most) }
 
 -- a run is open before each event whatever the last word is
 other_word : (programs : List Program) (front : List (Event × Word)) (event : Event) (one two : Word) (desk : Desk) → OpenBeforeEach programs (front ++ (event, one) ∷ []) desk → OpenBeforeEach programs (front ++ (event, two) ∷ []) desk

@@ -19,11 +19,12 @@ cycles_quiet (cycle ∷ cycles) = let split = commits_on (cycle_lines cycle) (fl
 pub counted_quiet : (activation : ℕ) (counts : Counts) (ends : List Line) → commits_in (line.Turn activation counts.ran counts.pages counts.locks ∷ (flat_map cycle_lines counts.cycles ++ ends)) ≡ commits_in ends
 counted_quiet activation counts ends = grind (arith, nat_tests, commits_on, cycles_quiet)
 
--- what a step of an open desk did: its order grew, it has no more commit lines than it made commits and none where it closed the desk,
+-- what a step of an open desk did: its order grew by at most one, it has no more commit lines than it made commits and none where it closed the desk,
 -- as many where it left the desk open or its word is no doubt, and it leaves the desk open where its word is fine
 pub record Stepped (word : Word) (order : List (ℕ × ℕ)) (names : List (List ℕ)) (after : Step) : Type 0 where
   pub more : List (ℕ × ℕ)
   pub order_is : after.desk.order ≡ order ++ more
+  pub one : length more ≤ 1
   pub few : (number : ℕ) → commits_in (happening_lines names number after.happening) ≤ length more
   pub quiet : after.desk.closed ≡ true → (number : ℕ) → commits_in (happening_lines names number after.happening) ≡ 0
   pub settled : (after.desk.closed ≡ false) ⊎ (word ≡ Doubt → ⊥) → (number : ℕ) → length more ≤ commits_in (happening_lines names number after.happening)
@@ -43,6 +44,7 @@ module _ (word : Word) (order : List (ℕ × ℕ)) (names : List (List ℕ)) whe
   ended_by activation desk counts (Committed steps printed) ended = record {
     more = ended.1.0 ∷ [];
     order_is = ended.1.1;
+    one = omega arith;
     few = λ number. let one = counted_quiet activation counts (line.Commit activation number steps printed ∷ []) in omega (arith, one);
     quiet = λ shut. let no = sym ended.0 ∙ shut in cc;
     settled = λ cause number. let one = counted_quiet activation counts (line.Commit activation number steps printed ∷ []) in omega (arith, one);
@@ -52,6 +54,7 @@ module _ (word : Word) (order : List (ℕ × ℕ)) (names : List (List ℕ)) whe
   ended_by activation desk counts CommitDoubted ended = record {
     more = ended.1.0 ∷ [];
     order_is = ended.1.1;
+    one = omega arith;
     few = λ number. let none = counted_quiet activation counts (line.Doubt activation number ∷ line.Closed ∷ []) in omega (arith, none);
     quiet = λ shut number. counted_quiet activation counts (line.Doubt activation number ∷ line.Closed ∷ []);
     settled = λ cause number. absurd (⊎_elim (λ still. let no : true ≡ false = sym ended.0 ∙ still in cc) (λ never. never ended.2) cause);

@@ -13,17 +13,21 @@ use Rattle.desk.specs.Run.{run, IsRunOf}
 use Rattle.desk.specs.Seen.{commits_seen}
 use Rattle.run_law.specs.Left.{IsLeft}
 
--- An image stands for the first commits of an order, run one after another on the opening store, and no fewer than are seen in what was
--- printed since.
-pub record IsPrefix (activations : List Activation) (number : ℕ) (store : FlatStore) (order : List (ℕ × ℕ)) (printed image seen : List ℕ) : Type 0 where
+-- An image stands for the first commits of an order, run one after another on the opening store.
+pub record IsFirst (activations : List Activation) (number : ℕ) (store : FlatStore) (order : List (ℕ × ℕ)) (image : List ℕ) : Type 0 where
   pub j : ℕ
   pub few : j ≤ length order
-  pub since : List ℕ
-  pub seen_is : seen ≡ printed ++ since
-  pub told : commits_seen since ≤ j
   pub left : FlatStore
   pub leaves : serial activations (take j order) store ≡ Some left
   pub stood : stands image ≡ Stands ((number + j) % 2 ^ 64) left
+
+-- And these are all that are seen in what was printed since, and at most one more.
+pub record IsPrefix (activations : List Activation) (number : ℕ) (store : FlatStore) (order : List (ℕ × ℕ)) (printed image seen : List ℕ) : Type 0 where
+  pub first : IsFirst activations number store order image
+  pub since : List ℕ
+  pub seen_is : seen ≡ printed ++ since
+  pub told : commits_seen since ≤ first.j
+  pub most : first.j ≤ commits_seen since + 1
 
 -- what a crash left of a run from an opening is that
 abbrev pub LeftIsPrefix : Type 0

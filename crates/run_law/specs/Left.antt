@@ -13,10 +13,9 @@ use Rattle.desk.specs.Crash.{standing_of}
 abbrev pub EndsInDoubt : List (Event × Word) → Type 0
 EndsInDoubt taken = (front : List (Event × Word)) × (event : Event) × (taken ≡ front ++ (event, Doubt) ∷ [])
 
--- A crash in a run left this image and these printed bytes, of which some stood before it. There is a run of the first of its events, all
--- of whose desks are open, and whose order is the first part of the run's. The image stands for where that run ends. What was printed
--- since is the first part of the run's text, and has no more commit lines than that run made commits.
-pub record IsLeft (programs : List Program) (number : ℕ) (start : Desk) (taken : List (Event × Word)) (text printed image seen : List ℕ) : Type 0 where
+-- A crash in a run left this image. There is a run of the first of its events, all of whose desks are open, and whose order is the first part
+-- of the run's. The image stands for where that run ends.
+pub record IsStage (programs : List Program) (number : ℕ) (start : Desk) (taken : List (Event × Word)) (image : List ℕ) : Type 0 where
   pub stage : List (Event × Word)
   pub after : List Event
   pub is_run : IsRunOf programs (map (λ event. event.0) taken) start stage after
@@ -24,6 +23,12 @@ pub record IsLeft (programs : List Program) (number : ℕ) (start : Desk) (taken
   pub later : List (ℕ × ℕ)
   pub order_is : (run programs stage start).order ++ later ≡ (run programs taken start).order
   pub stood : stands image ≡ standing_of number (run programs stage start)
+
+-- And these printed bytes, of which some stood before the run. What was printed since is the first part of the run's text, and has a commit line
+-- for each commit of the stage, or for all but its last.
+pub record IsLeft (programs : List Program) (number : ℕ) (start : Desk) (taken : List (Event × Word)) (text printed image seen : List ℕ) : Type 0 where
+  pub at : IsStage programs number start taken image
   pub count : ℕ
   pub seen_is : seen ≡ printed ++ take count text
-  pub told : length start.order + commits_seen (take count text) ≤ length (run programs stage start).order
+  pub told : length start.order + commits_seen (take count text) ≤ length (run programs at.stage start).order
+  pub most : length (run programs at.stage start).order ≤ length start.order + commits_seen (take count text) + 1

@@ -1,7 +1,7 @@
 ghost use Rattle.run_law.specs.Headline.{LeftIsPrefix, DoubtIsWhole};
 
 /// The law of crashes: what a crash leaves of a run from an opening is the first commits of its order, run one after
-/// another on the opening store, and no fewer than the printed lines tell of. It calls nothing.
+/// another on the opening store: those that the printed lines tell of, and at most one more. It calls nothing.
 pub fn a_crash_leaves_a_prefix()
     ensures { LeftIsPrefix }
 {}

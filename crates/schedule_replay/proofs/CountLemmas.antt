@@ -1,7 +1,7 @@
--- What lines tell of records and of faults of the disk, and how many puts they are.
+-- What lines tell of the journal and of faults of the disk, and how many puts they are.
 use Rattle.desk.specs.Report.{ending_lines}
 use Rattle.std.proofs.lemmas.Bool.Decides.{nat_tests}
-use Rattle.schedule_replay.proofs.Common.{◌≡◌, ℕ, ◌+◌, ◌≤◌, List, [], ◌∷◌, ◌++◌, map, cond, refl, ap, ◌∙◌, arith, rules, Bool, true, false, if◌then◌else◌, count_by, Some, None, Result, Ok, Err, IsErr, OnOk, flat_map, sum_by-append, Failed, Begun, Turn, TurnEnd, Stored, Reopened, begun_told, turn_told, counts_told, stored_told, reopened_told, is_commit, Counts, Ending, most_records, records_after, is_stored, tells_fault, turn_fails, stored_fails, reopened_fails, Line, cycle_lines, turn_lines, happening_lines}
+use Rattle.schedule_replay.proofs.Common.{◌≡◌, ℕ, ◌+◌, List, [], ◌∷◌, ◌++◌, map, cond, refl, subst, arith, rules, false, count_by, Some, None, Result, Ok, Err, IsErr, OnOk, flat_map, sum_by-append, Failed, Begun, Turn, TurnEnd, Stored, Reopened, begun_told, turn_told, counts_told, stored_told, reopened_told, Counts, Ending, Journal, JournalAfter, KeepsJournal, journal_emptied, journal_with, tells_fault, turn_fails, stored_fails, reopened_fails, Line, cycle_lines, turn_lines, happening_lines}
 use Rattle.desk.specs.Run.{Happening, Turned, Crashed, CrashFailed}
 use Rattle.desk.specs.declared.answers.TurnEnd.TheVariants as end
 use Rattle.desk.specs.declared.answers.Reopened.TheVariants as reopened
@@ -22,53 +22,42 @@ faults_front xs ys none = let split = faults_on xs ys in omega (arith, split, no
 pub faults_behind : (xs ys : List Line) → faults_in (xs ++ ys) ≡ 0 → faults_in ys ≡ 0
 faults_behind xs ys none = let split = faults_on xs ys in omega (arith, split, none)
 
--- the most records after lines, and then lines
-pub most_on : (xs ys : List Line) (records : ℕ) → most_records (xs ++ ys) records ≡ most_records ys (most_records xs records)
-most_on [] ys records = refl
-most_on (x ∷ xs) ys records = most_on xs ys (if is_stored x then 0 else if is_commit x then records + 1 else records)
-
--- fewer stay fewer
-pub most_le : (lines : List Line) (few many : ℕ) → few ≤ many → most_records lines few ≤ most_records lines many
-most_le [] few many le = le
-most_le (x ∷ lines) few many le = most_le lines _ _ (by_tests (is_stored x) (is_commit x))
-  where
-    by_tests : (is_checkpoint commits : Bool) → (if is_checkpoint then 0 else if commits then few + 1 else few) ≤ (if is_checkpoint then 0 else if commits then many + 1 else many)
-    by_tests true commits = omega arith
-    by_tests false true = omega (arith, le)
-    by_tests false false = le
+-- what lines make of a journal, and then lines
+pub journal_on : (xs ys : List Line) (old mid new : Journal) → KeepsJournal xs old mid → KeepsJournal ys mid new → KeepsJournal (xs ++ ys) old new
+journal_on [] ys old mid new first second = subst (λ (from : Journal). KeepsJournal ys from new) first second
+journal_on (line.Stored number ∷ xs) ys old mid new first second = journal_on xs ys (journal_emptied old) mid new first second
+journal_on (line.Commit activation number steps out ∷ xs) ys old mid new (added, first) second = (added, journal_on xs ys (journal_with old added) mid new first second)
+journal_on (_ ∷ xs) ys old mid new first second = journal_on xs ys old mid new first second
 
 -- lines of cycles and of lost activations tell neither of records nor of faults
-cycles_keep : (cycles : List (List ℕ)) (records : ℕ) → most_records (flat_map cycle_lines cycles) records ≡ records
-cycles_keep [] records = refl
-cycles_keep (cycle ∷ cycles) records = most_on (cycle_lines cycle) (flat_map cycle_lines cycles) records ∙ cycles_keep cycles records
+cycles_keep : (cycles : List (List ℕ)) (journal : Journal) → KeepsJournal (flat_map cycle_lines cycles) journal journal
+cycles_keep [] journal = refl
+cycles_keep (cycle ∷ cycles) journal = cycles_keep cycles journal
 
 cycles_calm : (cycles : List (List ℕ)) → faults_in (flat_map cycle_lines cycles) ≡ 0
 cycles_calm [] = refl
 cycles_calm (cycle ∷ cycles) = let split = faults_on (cycle_lines cycle) (flat_map cycle_lines cycles) in let rest = cycles_calm cycles in omega (arith, split, rest)
 
-lost_keep : (lost : List ℕ) (records : ℕ) → most_records (map line.Lost lost) records ≡ records
-lost_keep [] records = refl
-lost_keep (activation ∷ lost) records = lost_keep lost records
+lost_keep : (lost : List ℕ) (journal : Journal) → KeepsJournal (map line.Lost lost) journal journal
+lost_keep [] journal = refl
+lost_keep (activation ∷ lost) journal = lost_keep lost journal
 
 module _ (names : List (List ℕ)) (number : ℕ) where
-  -- the lines of a turn that had an instruction to attempt
-  counted_keep : (activation : ℕ) (counts : Counts) (ends : List Line) (records : ℕ) → most_records (line.Turn activation counts.ran counts.pages counts.locks ∷ (flat_map cycle_lines counts.cycles ++ ends)) records ≡ most_records ends records
-  counted_keep activation counts ends records =
-      most_on (flat_map cycle_lines counts.cycles) ends records ∙ ap (most_records ends) (cycles_keep counts.cycles records)
+  -- the lines of a turn
+  counted_keep : (cycles : List (List ℕ)) (ends : List Line) (old new : Journal) → KeepsJournal ends old new → KeepsJournal (flat_map cycle_lines cycles ++ ends) old new
+  counted_keep cycles ends old new is = journal_on (flat_map cycle_lines cycles) ends old old new (cycles_keep cycles old) is
 
-  ended_keep : (activation : ℕ) (counts : Counts) (ending : Ending) (records : ℕ) → records_after (Turned activation counts ending) records ≤ most_records (turn_lines number activation counts ending) records
-  ended_keep activation counts turn.Idle records = omega arith
-  ended_keep activation counts ending records = let same = counted_keep activation counts (ending_lines number activation ending) records in omega (arith, same)
+  ended_keep : (activation : ℕ) (counts : Counts) (ending : Ending) (old new : Journal) → JournalAfter (Turned activation counts ending) old new → KeepsJournal (turn_lines number activation counts ending) old new
+  ended_keep activation counts turn.Idle old new is = is
+  ended_keep activation counts (turn.Committed steps out) old new is = counted_keep counts.cycles (line.Commit activation number steps out ∷ []) old new is
+  ended_keep activation counts ending old new is = counted_keep counts.cycles (ending_lines number activation ending) old new is
 
-  lost_then : (lost : List ℕ) (last : Line) (records : ℕ) → most_records (last ∷ []) records ≡ records → records ≤ most_records (map line.Lost lost ++ last ∷ []) records
-  lost_then lost last records keeps = grind (arith, nat_tests, most_on, lost_keep)
-
-  -- what happened leaves no more records than its lines tell
-  pub happened_keep : (told : Happening) (records : ℕ) → records_after told records ≤ most_records (happening_lines names number told) records
-  happened_keep (Turned activation counts ending) records = ended_keep activation counts ending records
-  happened_keep (Crashed lost) records = lost_then lost (line.Open number) records refl
-  happened_keep (CrashFailed lost) records = lost_then lost line.Closed records refl
-  happened_keep _ records = omega arith
+  -- what happened makes of a journal what its lines do
+  pub happened_keep : (told : Happening) (old new : Journal) → JournalAfter told old new → KeepsJournal (happening_lines names number told) old new
+  happened_keep (Turned activation counts ending) old new is = ended_keep activation counts ending old new is
+  happened_keep (Crashed lost) old new is = journal_on (map line.Lost lost) (line.Open number ∷ []) old old new (lost_keep lost old) is
+  happened_keep (CrashFailed lost) old new is = journal_on (map line.Lost lost) (line.Closed ∷ []) old old new (lost_keep lost old) is
+  happened_keep _ old new is = is
 
   counted_faults : (activation : ℕ) (counts : Counts) (ends : List Line) → faults_in (line.Turn activation counts.ran counts.pages counts.locks ∷ (flat_map cycle_lines counts.cycles ++ ends)) ≡ faults_in ends
   counted_faults activation counts ends = grind (arith, nat_tests, faults_on, cycles_calm)
@@ -89,9 +78,9 @@ module _ (names : List (List ℕ)) (number : ℕ) where
   reopened_calm lost reopened.DiskFault none = absurd (let split = faults_on (map line.Lost lost) (line.Closed ∷ []) in omega (arith, split, none))
   reopened_calm lost _ none = refl
 
--- a begin leaves as many records
-pub begun_keep : (program : ℕ) (answer : Begun) (records : ℕ) → records ≤ records_after (begun_told program answer) records
-begun_keep program answer records = grind arith
+-- a begin leaves the journal
+pub begun_keep : (program : ℕ) (answer : Begun) (journal : Journal) → JournalAfter (begun_told program answer) journal journal
+begun_keep program answer journal = grind arith
 
 -- what is said of success is said of another result, which fails where this one does
 pub on_ok_as : {T U : Type 0} (P : Type 0) (result : Result T Failed) (other : Result U Failed) → (IsErr result → IsErr other) → OnOk result P → OnOk other P

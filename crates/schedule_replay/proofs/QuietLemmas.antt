@@ -1,6 +1,6 @@
 -- Events without a report, one after another.
 use Rattle.std.proofs.lemmas.Bool.Decides.{nat_tests}
-use Rattle.schedule_replay.proofs.Common.{◌≡◌, ℕ, ◌+◌, ◌<◌, List, [], ◌∷◌, ◌++◌, length, cond, take, get_or, refl, sym, ap, ◌∙◌, subst, arith, false, not, count_by, Option, None, Some, IfSome, flat_map, fold, map-append, length-map, take_more, fold-append, sum_by-append, Ghosts, IsSure, CallsDisk, FewerLater, held_of, leaves_held, Program, stands, Turn, TurnEnd, Event, Begun, begun_told, turn_told, stored_told, counts_told, Stored, is_commit, standing_of, IsEitherOf, Desk, Word, Doubt, Line, cycle_lines, event_lines, happening_lines, Step, run, step, faulted, left_none, left_quiet, run_on, open_on, lines_on, faulted_on, Grew, Stepped, counted_quiet, run_grew, step_by, RanQuietly, Tells, WentQuietly, is_rollback, last_by, out_after, tally_begun, tally_by, tally_stored, InDoubt, RanTo, WasStep}
+use Rattle.schedule_replay.proofs.Common.{◌≡◌, ℕ, ◌+◌, ◌<◌, List, [], ◌∷◌, ◌++◌, length, cond, take, get_or, refl, sym, ap, ◌∙◌, subst, arith, false, not, count_by, Option, None, Some, IfSome, flat_map, fold, map-append, length-map, take_more, fold-append, sum_by-append, Ghosts, IsSure, CallsDisk, FewerLater, held_of, leaves_held, Program, stands, Turn, TurnEnd, Event, Begun, begun_told, turn_told, stored_told, counts_told, Stored, is_commit, standing_of, IsEitherOf, Desk, Word, Doubt, Line, cycle_lines, event_lines, happening_lines, Step, run, step, faulted, stage_either, stage_none, run_on, open_on, lines_on, faulted_on, Stepped, counted_quiet, step_by, RanQuietly, Tells, WentQuietly, is_rollback, last_by, out_after, tally_begun, tally_by, tally_stored, InDoubt, RanTo, WasStep}
 use Rattle.schedule_replay.specs.declared.quietly.Tally.{Tally}
 use Rattle.desk.specs.declared.answers.TurnEnd.TheVariants as end
 use Rattle.desk.specs.declared.supervisor.Supervisor as desk
@@ -83,7 +83,7 @@ module _ {D W : Type 0} (S : desk.Ghosts D) (G : Ghosts W) (fewer_later : FewerL
         each_open = tt;
         to = to_none S G start new w (closed_law new (held_of G w) start shows) (open_law new (held_of G w) start shows) (order_law new (held_of G w) start shows) sure shows;
         images = λ image seen left.
-            left_none programs number start [] [] image [] 0 (open_law new (held_of G w) start shows) (ap stands (leaves_held G w sure image seen left) ∙ stands_law new (held_of G w) start shows ∙ ap (λ n. standing_of n start) opened) refl refl;
+            stage_none programs number start image (open_law new (held_of G w) start shows) (ap stands (leaves_held G w sure image seen left) ∙ stands_law new (held_of G w) start shows ∙ ap (λ n. standing_of n start) opened);
         doubt = λ shut front last is. absurd (none_last front (last, Doubt) is);
       } in
       (ran, refl)
@@ -103,7 +103,6 @@ module _ {D W : Type 0} (S : desk.Ghosts D) (G : Ghosts W) (fewer_later : FewerL
       let same : run programs (one.taken ++ last_one) start ≡ two.did.next = run_on programs one.taken last_one start ∙ next_is in
       let lines : event_lines [] programs number (one.taken ++ last_one) start ≡ first ++ second = lines_on programs [] number one.taken last_one start ∙ ap (λ (back : List Line). first ++ back) (one_event [] programs number event word middle next two.did.stepped ∙ sym two.lines_are) in
       let steps : Stepped word middle.order [] (step programs event word middle) = step_by programs event word [] middle still_open in
-      let grew : Grew programs [] number one.taken start = run_grew programs [] number one.taken start one.each_open in
       let ran : RanQuietly S G programs number (xs ++ event ∷ []) start new before after = record {
         taken = one.taken ++ last_one;
         events_taken = map-append (λ (each : Event × Word). each.0) one.taken last_one ∙ ap (λ (front : List Event). front ++ event ∷ []) one.events_taken;
@@ -113,8 +112,8 @@ module _ {D W : Type 0} (S : desk.Ghosts D) (G : Ghosts W) (fewer_later : FewerL
             (to_on S G middle two.did.next first second (event_lines [] programs number (one.taken ++ last_one) start) (faulted one.taken) (faulted last_one) (faulted (one.taken ++ last_one)) mid new before between after was_open lines (faulted_on one.taken last_one) one.to
             (to_did S G programs number event [] second middle new between after two calls_two.disk));
         images =
-            images_join G fewer_later programs number start one.taken last_one before between after grew.more steps.more calls_one.time calls_two.time one.each_open grew.order_is steps.order_is one.images
-            (λ image seen left. left_quiet programs number event word [] middle still_open [] [] image [] 0 (subst (λ (desk : Desk). IsEitherOf programs number event middle desk image) (sym next_is) (two.did.crash image seen left)) refl refl);
+            images_join G fewer_later programs number start one.taken last_one before between after steps.more calls_one.time calls_two.time one.each_open steps.order_is one.images
+            (λ image seen left. stage_either programs number event word [] middle still_open image (subst (λ (desk : Desk). IsEitherOf programs number event middle desk image) (sym next_is) (two.did.crash image seen left)));
         doubt = λ shut front last is.
             let ends = last_is one.taken front (event, word) (last, Doubt) is in
             let doubted : word ≡ Doubt = ap (λ (pair : Event × Word). pair.1) ends.1 in

@@ -1,6 +1,6 @@
 -- The runs of a supervisor, one event after another.
 use Rattle.std.proofs.lemmas.Bool.Decides.{nat_tests}
-use Rattle.schedule_replay.proofs.Common.{◌≡◌, ℕ, ◌+◌, ◌<◌, ◌≤◌, List, [], ◌∷◌, ◌++◌, length, map, get_or, take, drop, refl, sym, ap, ◌∙◌, subst, arith, length-append, append-nil, append_assoc, inl, inr, true, false, Option, None, Some, Result, Ok, IsErr, IfOk, flat_map, map-append, take_more, take-append-drop, flat_map-append, Failed, Ghosts, Prints, Elapses, IsSure, FewerLater, Leaves, held_of, told_is, leaves_held, stands, standing_of, elapses-trans, leaves_on, prints_same, prints_on, Program, Event, Desk, Word, Doubt, run, faulted, OpenBeforeEach, Line, line_text, event_lines, commits_seen, IsLeft, ArePlain, seen_lines, seen_all, AreNames, Grew, run_grew, run_plain, run_on, open_on, lines_on, faulted_on, left_none, left_more, left_behind, PutsTimes, shown_of, Ran, PrintsEarlier, InDoubt, text_of, Fixed, Going, RanSome, RanTo, is_closed, is_damaged}
+use Rattle.schedule_replay.proofs.Common.{◌≡◌, ℕ, ◌+◌, ◌<◌, List, [], ◌∷◌, ◌++◌, length, map, get_or, take, drop, refl, sym, ap, ◌∙◌, subst, arith, length-append, append-nil, append_assoc, inl, inr, true, false, Option, None, Some, Result, Ok, IsErr, IfOk, flat_map, map-append, take_more, take-append-drop, flat_map-append, Failed, Ghosts, Prints, Elapses, IsSure, FewerLater, Leaves, held_of, told_is, leaves_held, stands, standing_of, elapses-trans, leaves_on, prints_same, prints_on, Program, Event, Desk, Word, Doubt, run, faulted, OpenBeforeEach, Line, line_text, event_lines, commits_seen, IsLeft, IsStage, ArePlain, seen_lines, seen_all, AreNames, Grew, run_grew, run_plain, run_on, open_on, lines_on, faulted_on, left_none, left_more, left_behind, stage_behind, stage_more, stage_none, PutsTimes, shown_of, Ran, PrintsEarlier, InDoubt, text_of, Fixed, Going, RanSome, RanTo, is_closed, is_damaged}
 use Rattle.desk.specs.declared.supervisor.Supervisor as desk
 use Rattle.schedule_replay.proofs.CountLemmas.{on_ok_as}
 use Rattle.schedule_replay.proofs.PutsLemmas.{PrintedNow, done, no_time, times_on, shown_after, begins_none, begins_on, begins_behind}
@@ -23,33 +23,34 @@ one_of _ event is = absurd (let no : ⊥ = cc in no)
 
 -- what a crash left of two parts, one after another
 module _ {W : Type 0} (G : Ghosts W) (fewer_later : FewerLater G) (programs : List Program) (number : ℕ) where
-  pub leaves_join : (view : List ℕ → List ℕ) (shown shown_between : List ℕ) (start : Desk) (one two : List (Event × Word)) (first second : List ℕ) (before between after : W) (more : List (ℕ × ℕ)) → Elapses G.moment G.left_since before between → Elapses G.moment G.left_since between after → shown_between ≡ shown ++ first → OpenBeforeEach programs one start
-      → length start.order + commits_seen first ≤ length (run programs one start).order → ((rest : List ℕ) → commits_seen (first ++ rest) ≡ commits_seen first + commits_seen rest) → (run programs two (run programs one start)).order ≡ (run programs one start).order ++ more
-      → Leaves G (λ image seen. IsLeft programs number start one first shown image (view seen)) before between → Leaves G (λ image seen. IsLeft programs number (run programs one start) two second shown_between image (view seen)) between after
-      → Leaves G (λ image seen. IsLeft programs number start (one ++ two) (first ++ second) shown image (view seen)) before after
-  leaves_join view shown shown_between start one two first second before between after more time_one time_two same each_open few adds grows left_one left_two =
-      leaves_on G fewer_later before between after time_one time_two (λ (image seen : List ℕ). IsLeft programs number start (one ++ two) (first ++ second) shown image (view seen))
-      (λ image seen left. left_more programs number start one two first second shown image (view seen) more grows (left_one image seen left))
-      (λ image seen left. left_behind programs number start one two first second shown image (view seen) each_open few adds (subst (λ (printed : List ℕ). IsLeft programs number (run programs one start) two second printed image (view seen)) same (left_two image seen left)))
+  pub leaves_join : (shown shown_between : List ℕ) (start : Desk) (one two : List (Event × Word)) (first second : List ℕ) (before between after : W) (more : List (ℕ × ℕ)) → Elapses G.moment G.left_since before between → Elapses G.moment G.left_since between after → shown_between ≡ shown ++ first → OpenBeforeEach programs one start
+      → length (run programs one start).order ≡ length start.order + commits_seen first → ((rest : List ℕ) → commits_seen (first ++ rest) ≡ commits_seen first + commits_seen rest) → (run programs two (run programs one start)).order ≡ (run programs one start).order ++ more
+      → Leaves G (IsLeft programs number start one first shown) before between → Leaves G (IsLeft programs number (run programs one start) two second shown_between) between after
+      → Leaves G (IsLeft programs number start (one ++ two) (first ++ second) shown) before after
+  leaves_join shown shown_between start one two first second before between after more time_one time_two same each_open each adds grows left_one left_two =
+      leaves_on G fewer_later before between after time_one time_two (IsLeft programs number start (one ++ two) (first ++ second) shown)
+      (λ image seen left. left_more programs number start one two first second shown image seen more grows (left_one image seen left))
+      (λ image seen left. left_behind programs number start one two first second shown image seen each_open each adds (subst (λ (printed : List ℕ). IsLeft programs number (run programs one start) two second printed image seen) same (left_two image seen left)))
 
   -- the same of the images, without a word on the screen
-  pub images_join : (start : Desk) (one two : List (Event × Word)) (before between after : W) (earlier more : List (ℕ × ℕ)) → Elapses G.moment G.left_since before between → Elapses G.moment G.left_since between after → OpenBeforeEach programs one start
-      → (run programs one start).order ≡ start.order ++ earlier → (run programs two (run programs one start)).order ≡ (run programs one start).order ++ more
-      → Leaves G (λ image seen. IsLeft programs number start one [] [] image []) before between → Leaves G (λ image seen. IsLeft programs number (run programs one start) two [] [] image []) between after
-      → Leaves G (λ image seen. IsLeft programs number start (one ++ two) [] [] image []) before after
-  images_join start one two before between after earlier more time_one time_two each_open grew grows left_one left_two =
-      leaves_join (λ seen. []) [] [] start one two [] [] before between after more time_one time_two refl each_open
-      (let longer = ap (λ (order : List (ℕ × ℕ)). length order) grew in omega (arith, longer, length-append start.order earlier)) (λ rest. omega arith) grows left_one left_two
+  pub images_join : (start : Desk) (one two : List (Event × Word)) (before between after : W) (more : List (ℕ × ℕ)) → Elapses G.moment G.left_since before between → Elapses G.moment G.left_since between after → OpenBeforeEach programs one start
+      → (run programs two (run programs one start)).order ≡ (run programs one start).order ++ more
+      → Leaves G (λ image seen. IsStage programs number start one image) before between → Leaves G (λ image seen. IsStage programs number (run programs one start) two image) between after
+      → Leaves G (λ image seen. IsStage programs number start (one ++ two) image) before after
+  images_join start one two before between after more time_one time_two each_open grows left_one left_two =
+      leaves_on G fewer_later before between after time_one time_two (λ (image seen : List ℕ). IsStage programs number start (one ++ two) image)
+      (λ image seen left. stage_more programs number start one two image more grows (left_one image seen left))
+      (λ image seen left. (stage_behind programs number start one two image each_open (left_two image seen left)).0)
 
 -- the commits seen in lines, and in bytes behind them
 pub seen_behind : (lines : List Line) → ArePlain lines → (rest : List ℕ) → commits_seen (flat_map line_text lines ++ rest) ≡ commits_seen (flat_map line_text lines) + commits_seen rest
 seen_behind lines are rest = grind (arith, nat_tests, seen_lines, seen_all)
 
--- a run makes no fewer commits than its text tells
-pub seen_few : (names : List (List ℕ)) → AreNames names → (programs : List Program) (number : ℕ) (taken : List (Event × Word)) (start : Desk) → OpenBeforeEach programs taken start → length start.order + commits_seen (text_of names programs number taken start) ≤ length (run programs taken start).order
-seen_few names are programs number taken start each_open =
+-- a run that is open at its end makes the commits that its text tells
+pub seen_each : (names : List (List ℕ)) → AreNames names → (programs : List Program) (number : ℕ) (taken : List (Event × Word)) (start : Desk) → OpenBeforeEach programs taken start → (run programs taken start).closed ≡ false → length (run programs taken start).order ≡ length start.order + commits_seen (text_of names programs number taken start)
+seen_each names are programs number taken start each_open still =
     let grew : Grew programs names number taken start = run_grew programs names number taken start each_open in
-    omega (arith, grew.few, seen_all (event_lines names programs number taken start) (run_plain programs names number are taken start), ap (λ (order : List (ℕ × ℕ)). length order) grew.order_is, length-append start.order grew.more)
+    omega (arith, grew.few, grew.settled (inl still), seen_all (event_lines names programs number taken start) (run_plain programs names number are taken start), ap (λ (order : List (ℕ × ℕ)). length order) grew.order_is, length-append start.order grew.more)
 
 module _ {D W : Type 0} (S : desk.Ghosts D) (G : Ghosts W) (fewer_later : FewerLater G) (names : List (List ℕ)) (are : AreNames names) (programs : List Program) (number : ℕ) where
   pub ran_as : {T U : Type 0} (events : List Event) (start : Desk) (new : D) (before after : W) (result : Result T Failed) (other : Result U Failed) → ((one two : Option (List ℕ)) (bytes : List ℕ) → Prints one two bytes result → Prints one two bytes other) → (IsErr result → IsErr other) → Ran S G names programs number events start new before after result → Ran S G names programs number events start new before after other
@@ -82,14 +83,12 @@ module _ {D W : Type 0} (S : desk.Ghosts D) (G : Ghosts W) (fewer_later : FewerL
         earlier = earlier_on (G.printed before) (G.printed between) (G.printed after) bytes later one.taken two.taken value (later two.taken) result
             (λ front. sym (behind front)) one.printed two.printed one.earlier two.earlier;
         time = elapses-trans G fewer_later before between after one.time two.time;
-        images =
-            let grown : Grew programs names number one.taken start = run_grew programs names number one.taken start one.each_open in
-            images_join G fewer_later programs number start one.taken two.taken before between after grown.more grew.more one.time two.time one.each_open grown.order_is grew.order_is one.images two.images;
+        images = images_join G fewer_later programs number start one.taken two.taken before between after grew.more one.time two.time one.each_open grew.order_is one.images two.images;
         left = λ told.
             let shown = shown_after (G.printed before) (G.printed between) (bytes one.taken) value told one.printed in
             subst (λ (text : List ℕ). Leaves G (IsLeft programs number start (one.taken ++ two.taken) text (shown_of G before)) before after) (behind two.taken)
-            (leaves_join G fewer_later programs number (λ seen. seen) (shown_of G before) (shown_of G between) start one.taken two.taken (bytes one.taken) (later two.taken) before between after grew.more one.time two.time shown.1 one.each_open
-            (seen_few names are programs number one.taken start one.each_open)
+            (leaves_join G fewer_later programs number (shown_of G before) (shown_of G between) start one.taken two.taken (bytes one.taken) (later two.taken) before between after grew.more one.time two.time shown.1 one.each_open
+            (seen_each names are programs number one.taken start one.each_open (sym one.to.closes ∙ was_open))
             (seen_behind (event_lines names programs number one.taken start) (run_plain programs names number are one.taken start))
             grew.order_is (one.left told) (two.left shown.0));
         doubt = λ shut front last is.
@@ -152,7 +151,7 @@ ran_none S G printed_now stands_law open_law closed_law order_law names programs
   earlier = inl refl;
   time = no_time G w;
   images = λ image seen left.
-      left_none programs (S.fixed new).opened start [] [] image [] 0 (open_law new (held_of G w) start shows) (ap stands (leaves_held G w sure image seen left) ∙ stands_law new (held_of G w) start shows) refl refl;
+      stage_none programs (S.fixed new).opened start image (open_law new (held_of G w) start shows) (ap stands (leaves_held G w sure image seen left) ∙ stands_law new (held_of G w) start shows);
   left = λ told image seen left.
       left_none programs (S.fixed new).opened start [] (shown_of G w) image seen 0 (open_law new (held_of G w) start shows) (ap stands (leaves_held G w sure image seen left) ∙ stands_law new (held_of G w) start shows)
       (told_is (G.printed w) seen told (printed_now w image seen left) ∙ sym (append-nil (shown_of G w))) refl;

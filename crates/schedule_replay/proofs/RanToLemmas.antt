@@ -1,9 +1,9 @@
 -- What runs leave, one after another.
 use Rattle.std.proofs.lemmas.Bool.Decides.{nat_tests}
-use Rattle.schedule_replay.proofs.Common.{◌≡◌, ℕ, ◌+◌, ◌*◌, ◌≤◌, ◌⊎◌, List, [], ◌∷◌, ◌++◌, sym, ap, ◌∙◌, subst, arith, ⊎_elim, false, Option, unwrap_or, Ghosts, Rose, RoseBy, IsSure, held_of, Program, Event, Desk, WritesMore, records_in, most_records, Line, number_after, faulted, commits_in, commits_on, RanTo, WasStep}
+use Rattle.schedule_replay.proofs.Common.{◌≡◌, ℕ, ◌+◌, ◌*◌, ◌≤◌, ◌⊎◌, List, [], ◌∷◌, ◌++◌, sym, ap, ◌∙◌, subst, arith, ⊎_elim, false, Option, unwrap_or, Ghosts, Rose, RoseBy, IsSure, held_of, Program, Event, Desk, KeepsJournal, WritesMore, journal_in, Line, number_after, faulted, commits_in, commits_on, RanTo, WasStep}
 use Rattle.desk.specs.Instruction.{Word, Fine}
 use Rattle.desk.specs.declared.supervisor.Supervisor as desk
-use Rattle.schedule_replay.proofs.CountLemmas.{faults_in, faults_front, faults_behind, happened_keep, most_on, most_le}
+use Rattle.schedule_replay.proofs.CountLemmas.{faults_in, faults_front, faults_behind, happened_keep, journal_on}
 use Rattle.schedule_replay.proofs.WriteLemmas.{writes_on}
 
 -- a word that isn't fine is counted where the disk's faults rose
@@ -22,7 +22,7 @@ module _ {D W : Type 0} (S : desk.Ghosts D) (G : Ghosts W) where
     closes = was.did.closes;
     ordered = was.did.ordered;
     still = was.did.still;
-    records = λ still. omega (arith, was.did.records still, happened_keep names (number_after number was.did.next) was.told (records_in (held_of G before)), ap (λ (these : List Line). most_records these (records_in (held_of G before))) was.lines_are);
+    journal = λ still. subst (λ (these : List Line). KeepsJournal these (journal_in (held_of G before)) (journal_in (held_of G after))) (sym was.lines_are) (happened_keep names (number_after number was.did.next) was.told (journal_in (held_of G before)) (journal_in (held_of G after)) (was.did.journal still));
     faults = word_faults event was.did.word (G.disk_faults before) (G.disk_faults after) later was.did.why;
     calm = was.calm;
     writes = was.writes;
@@ -37,7 +37,7 @@ module _ {D W : Type 0} (S : desk.Ghosts D) (G : Ghosts W) where
       still = λ still.
           let kept = ran.still still in
           (sure kept.0, subst (λ (those : Option (List ℕ)). S.shows new (unwrap_or those []) end) (sym held) kept.1);
-      records = λ still. subst (λ (those : Option (List ℕ)). records_in (unwrap_or those []) ≤ most_records lines (records_in (held_of G before))) (sym held) (ran.records still);
+      journal = λ still. subst (λ (those : Option (List ℕ)). KeepsJournal lines (journal_in (held_of G before)) (journal_in (unwrap_or those []))) (sym held) (ran.journal still);
       faults = subst (λ (n : ℕ). RoseBy unfine (G.disk_faults before) n) (sym disk) ran.faults;
       calm = λ none. disk ∙ ran.calm none;
       writes = subst (λ (told : Option ℕ). WritesMore (G.writes before) told (2 * commits_in lines)) (sym writes) ran.writes;
@@ -49,7 +49,7 @@ module _ {D W : Type 0} (S : desk.Ghosts D) (G : Ghosts W) where
       closes = ran.closes;
       ordered = ran.ordered;
       still = ran.still;
-      records = λ still. subst (λ (those : Option (List ℕ)). records_in (held_of G after) ≤ most_records lines (records_in (unwrap_or those []))) held (ran.records still);
+      journal = λ still. subst (λ (those : Option (List ℕ)). KeepsJournal lines (journal_in (unwrap_or those [])) (journal_in (held_of G after))) held (ran.journal still);
       faults = subst (λ (n : ℕ). RoseBy unfine n (G.disk_faults after)) disk ran.faults;
       calm = λ none. ran.calm none ∙ disk;
       writes = subst (λ (told : Option ℕ). WritesMore told (G.writes after) (2 * commits_in lines)) writes ran.writes;
@@ -61,10 +61,9 @@ module _ {D W : Type 0} (S : desk.Ghosts D) (G : Ghosts W) where
     closes = more.closes;
     ordered = more.ordered;
     still = more.still;
-    records = λ still.
-        let kept = ran.records (sym ran.closes ∙ was_open) in
-        let split = ap (λ (these : List Line). most_records these (records_in (held_of G before))) is ∙ most_on first second (records_in (held_of G before)) in
-        omega (arith, more.records still, most_le second (records_in (held_of G between)) (most_records first (records_in (held_of G before))) kept, split);
+    journal = λ still.
+        subst (λ (these : List Line). KeepsJournal these (journal_in (held_of G before)) (journal_in (held_of G after))) (sym is)
+        (journal_on first second (journal_in (held_of G before)) (journal_in (held_of G between)) (journal_in (held_of G after)) (ran.journal (sym ran.closes ∙ was_open)) (more.journal still));
     faults = omega (arith, ran.faults, more.faults, sum);
     calm = λ none.
         let all : faults_in (first ++ second) ≡ 0 = ap faults_in (sym is) ∙ none in

@@ -1,12 +1,12 @@
 -- The report of a run, from its parts.
 use Rattle.std.proofs.lemmas.Bool.Decides.{nat_tests}
-use Rattle.schedule_replay.proofs.Common.{◌≡◌, ℕ, List, [], ◌∷◌, ◌++◌, length, map, refl, sym, ap, ◌∙◌, subst, inl, inr, arith, rules, append-nil, IsSome, Option, Bool, true, false, Result, Ok, Err, IsErr, IfOk, OnOk, flat_map, Failed, Ghosts, Prints, IsSure, Elapses, Leaves, held_of, prints_broken, prints_same, prints_well, prints_on, prints_stop, leaves_held, elapses-trans, leaves_on, Program, stands, Event, standing_of, Desk, Word, Line, Open, Left, line_text, number_after, closing_lines, report, event_lines, run, faulted, commits_seen, IsLeft, ArePlain, plain_on, commits_in, commits_on, seen_all, AreNames, Grew, run_grew, run_plain, report_parts, lines_end, left_none, left_more, Going, Puts, PutsTimes, BeginsWith, shown_of, Ran, HasOpened, PrintsEarlier, text_of, RanSome, Reports, Fixed, is_closed}
+use Rattle.schedule_replay.proofs.Common.{◌≡◌, ℕ, List, [], ◌∷◌, ◌++◌, length, map, refl, sym, ap, ◌∙◌, subst, inl, inr, arith, rules, append-nil, IsSome, Option, Bool, true, false, Result, Ok, Err, IsErr, IfOk, OnOk, flat_map, Failed, Ghosts, Prints, IsSure, Elapses, Leaves, held_of, prints_broken, prints_same, prints_well, prints_on, prints_stop, leaves_held, elapses-trans, leaves_on, Program, stands, Event, standing_of, Desk, Word, Line, Open, Left, line_text, number_after, closing_lines, report, event_lines, run, faulted, commits_seen, IsLeft, IsStage, ArePlain, plain_on, commits_in, commits_on, seen_all, AreNames, Grew, run_grew, run_plain, report_parts, lines_end, left_none, left_more, stage_more, stage_none, Going, Puts, PutsTimes, BeginsWith, shown_of, Ran, HasOpened, PrintsEarlier, text_of, RanSome, Reports, Fixed, is_closed}
 use Rattle.desk.specs.declared.supervisor.Supervisor as desk
 use Rattle.std.proofs.lemmas.Result.{IfOk-weaker}
 use Rattle.schedule_replay.specs.declared.events.Going.TheVariants as going
 use Rattle.schedule_replay.proofs.PutsLemmas.{times_on, shown_after, begins_none, begins_same, begins_on, begins_behind}
 use Rattle.schedule_replay.proofs.WentLemmas.{Laws, sure_puts, image_is}
-use Rattle.schedule_replay.proofs.RanLemmas.{leaves_join, seen_behind, seen_few}
+use Rattle.schedule_replay.proofs.RanLemmas.{leaves_join, seen_behind, seen_each}
 use Rattle.schedule_replay.proofs.RanToLemmas.{to_later, to_none, to_since}
 
 -- nothing is said of success where it failed
@@ -73,17 +73,17 @@ module _ {D W : Type 0} (S : desk.Ghosts D) (G : Ghosts W) (laws : Laws S G) (na
     left_puts lines desk new before after result opened none sure shows puts told image seen left = grind (arith, nat_tests, image_is, left_none)
 
     -- and the images of it, without a word on the screen
-    images_puts : {T : Type 0} (lines : List Line) (desk : Desk) (new : D) (before after : W) (result : Result T Failed) → (S.fixed new).opened ≡ number → IsSure G before → S.shows new (held_of G before) desk → Puts G lines before after result → Leaves G (λ image seen. IsLeft programs number desk [] [] [] image []) before after
+    images_puts : {T : Type 0} (lines : List Line) (desk : Desk) (new : D) (before after : W) (result : Result T Failed) → (S.fixed new).opened ≡ number → IsSure G before → S.shows new (held_of G before) desk → Puts G lines before after result → Leaves G (λ image seen. IsStage programs number desk [] image) before after
     images_puts lines desk new before after result opened sure shows puts image seen left =
         let from = puts.images image seen left in
-        left_none programs number desk [] [] image [] 0 (laws.open_desk new (held_of G before) desk shows)
-        (ap stands (leaves_held G before sure image from.0 from.1) ∙ laws.standing new (held_of G before) desk shows ∙ ap (λ n. standing_of n desk) opened) refl refl
+        stage_none programs number desk image (laws.open_desk new (held_of G before) desk shows)
+        (ap stands (leaves_held G before sure image from.0 from.1) ∙ laws.standing new (held_of G before) desk shows ∙ ap (λ n. standing_of n desk) opened)
 
     -- what was put behind the first line
     record Tail {T : Type 0} (start : Desk) (taken : List (Event × Word)) (rest : List Event) (between after : W) (later : Result T Failed) : Type 0 where
       pub printed : Prints (G.printed between) (G.printed after) (text_of names programs number taken start ++ flat_map line_text (closing_lines number rest (run programs taken start))) later
       pub times : PutsTimes G (length (event_lines names programs number taken start ++ closing_lines number rest (run programs taken start))) between after later
-      pub images : Leaves G (λ image seen. IsLeft programs number start taken [] [] image []) between after
+      pub images : Leaves G (λ image seen. IsStage programs number start taken image) between after
       pub left : IsSome (G.printed between) → Leaves G (IsLeft programs number start taken (text_of names programs number taken start ++ flat_map line_text (closing_lines number rest (run programs taken start))) (shown_of G between)) between after
       pub time : Elapses G.moment G.left_since between after
 
@@ -127,15 +127,15 @@ module _ {D W : Type 0} (S : desk.Ghosts D) (G : Ghosts W) (laws : Laws S G) (na
           printed = prints_on (G.printed between) (G.printed middle) (G.printed after) put ends value later ran.printed puts.printed;
           times = times_on G between middle after (event_lines names programs number ran.taken start) (closing_lines number [] last) value later ran.printed ran.times puts.times;
           images =
-              leaves_on G laws.later between middle after ran.time puts.only.time (λ (image seen : List ℕ). IsLeft programs number start ran.taken [] [] image []) ran.images
+              leaves_on G laws.later between middle after ran.time puts.only.time (λ (image seen : List ℕ). IsStage programs number start ran.taken image) ran.images
               (λ image seen left.
               let from = puts.images image seen left in
               ran.images image from.0 (laws.later middle (G.moment between) (G.moment middle) image from.0 ran.time.later from.1));
           left = λ told.
               let shown = shown_after (G.printed between) (G.printed middle) put value told ran.printed in
               subst (λ (these : List (Event × Word)). Leaves G (IsLeft programs number start these (put ++ ends) (shown_of G between)) between after) (append-nil ran.taken)
-              (leaves_join G laws.later programs number (λ seen. seen) (shown_of G between) (shown_of G middle) start ran.taken [] put ends between middle after [] ran.time puts.only.time shown.1 ran.each_open
-              (seen_few names are programs number ran.taken start ran.each_open)
+              (leaves_join G laws.later programs number (shown_of G between) (shown_of G middle) start ran.taken [] put ends between middle after [] ran.time puts.only.time shown.1 ran.each_open
+              (seen_each names are programs number ran.taken start ran.each_open (sym ran.to.closes ∙ still))
               (seen_behind (event_lines names programs number ran.taken start) (run_plain programs names number are ran.taken start))
               (sym (append-nil last.order)) (ran.left told)
               (left_puts (closing_lines number [] last) last new middle after later opened (closing_quiet number last) kept.0 kept.1 puts shown.0));
@@ -197,12 +197,12 @@ module _ {D W : Type 0} (S : desk.Ghosts D) (G : Ghosts W) (laws : Laws S G) (na
             closed = closed;
             all = all;
             images =
-                leaves_on G laws.later before between after puts.only.time tail.time (λ (image seen : List ℕ). IsLeft programs number start ran.taken [] [] image [])
-                (λ image seen left. left_more programs number start [] ran.taken [] [] [] image [] grew.more grew.order_is (images_puts (Open number ∷ []) start old before between (Ok value) opened_at opened.sure opened.shows puts image seen left)) tail.images;
+                leaves_on G laws.later before between after puts.only.time tail.time (λ (image seen : List ℕ). IsStage programs number start ran.taken image)
+                (λ image seen left. stage_more programs number start [] ran.taken image grew.more grew.order_is (images_puts (Open number ∷ []) start old before between (Ok value) opened_at opened.sure opened.shows puts image seen left)) tail.images;
             left = λ told.
                 let shown = shown_after (G.printed before) (G.printed between) first value told puts.printed in
                 subst (λ (text : List ℕ). Leaves G (IsLeft programs number start ran.taken text (shown_of G before)) before after) parts
-                (leaves_join G laws.later programs number (λ seen. seen) (shown_of G before) (shown_of G between) start [] ran.taken first (put ++ ends) before between after grew.more puts.only.time tail.time shown.1 tt
+                (leaves_join G laws.later programs number (shown_of G before) (shown_of G between) start [] ran.taken first (put ++ ends) before between after grew.more puts.only.time tail.time shown.1 tt
                 (let none = seen_all (Open number ∷ []) (tt, tt) in omega (arith, none))
                 (seen_behind (Open number ∷ []) (tt, tt)) grew.order_is
                 (left_puts (Open number ∷ []) start old before between (Ok value) opened_at (seen_all (Open number ∷ []) (tt, tt)) opened.sure opened.shows puts told)

@@ -1,6 +1,6 @@
 -- One event of a run, and its lines.
 use Rattle.std.proofs.lemmas.Bool.Decides.{nat_tests}
-use Rattle.schedule_replay.proofs.Common.{◌≡◌, ℕ, zero, suc, ◌+◌, ◌≤◌, List, [], ◌∷◌, ◌++◌, length, map, take, refl, sym, ap, ◌∙◌, subst, arith, length-append, ⊎_elim, append-nil, inr, IsSome, true, false, not, Bool, Option, unwrap_or, Result, Ok, Err, All, flat_map, Failed, Ghosts, Prints, IsSure, CallsDisk, Leaves, FewerLater, held_of, elapses-trans, leaves_on, told_is, Program, stands, Event, Did, IsEitherOf, standing_of, Desk, Word, Doubt, Step, step, faulted, Line, line_text, number_after, happening_lines, event_lines, commits_seen, IsUnbroken, IsLeft, seen_cut, seen_all, commits_in, AreNames, Stepped, step_by, run_plain, left_quiet, left_open, Puts, PutsTimes, shown_of, Ran, InDoubt, WasStep, text_of, RanTo}
+use Rattle.schedule_replay.proofs.Common.{◌≡◌, ℕ, zero, suc, ◌+◌, ◌≤◌, List, [], ◌∷◌, ◌++◌, length, map, take, refl, sym, ap, ◌∙◌, subst, arith, length-append, ⊎_elim, append-nil, inr, IsSome, true, false, not, Bool, Option, unwrap_or, Result, Ok, Err, All, flat_map, Failed, Ghosts, Prints, IsSure, CallsDisk, Leaves, FewerLater, held_of, elapses-trans, leaves_on, told_is, Program, stands, Event, Did, IsEitherOf, standing_of, Desk, Word, Doubt, Step, step, faulted, Line, line_text, number_after, happening_lines, event_lines, commits_seen, IsUnbroken, IsLeft, IsStage, seen_cut, seen_all, commits_in, AreNames, Stepped, step_by, run_plain, left_quiet, left_open, stage_either, Puts, PutsTimes, shown_of, Ran, InDoubt, WasStep, text_of, RanTo}
 use Rattle.desk.specs.declared.supervisor.Supervisor as desk
 use Rattle.schedule_replay.proofs.PutsLemmas.{PrintedNow, puts_same, begins_none}
 use Rattle.schedule_replay.proofs.RanToLemmas.{to_did, to_later}
@@ -102,26 +102,26 @@ module _ {D W : Type 0} (S : desk.Ghosts D) (G : Ghosts W) (fewer_later : FewerL
       Left image seen = IsLeft programs number start ((event, word) ∷ []) text (shown_of G before) image seen
 
       -- its images, without a word on the screen
-      images_disk : Leaves G (λ image seen. IsLeft programs number start ((event, word) ∷ []) [] [] image []) before between
-      images_disk image seen left = left_quiet programs number event word names start was_open [] [] image [] 0 (either image seen left) refl refl
+      images_disk : Leaves G (λ image seen. IsStage programs number start ((event, word) ∷ []) image) before between
+      images_disk image seen left = stage_either programs number event word names start was_open image (either image seen left)
 
-      images_all : Leaves G (λ image seen. IsLeft programs number start ((event, word) ∷ []) [] [] image []) before after
+      images_all : Leaves G (λ image seen. IsStage programs number start ((event, word) ∷ []) image) before after
       images_all =
-          leaves_on G fewer_later before between after calls.time lines_put.only.time (λ (image seen : List ℕ). IsLeft programs number start ((event, word) ∷ []) [] [] image []) images_disk
+          leaves_on G fewer_later before between after calls.time lines_put.only.time (λ (image seen : List ℕ). IsStage programs number start ((event, word) ∷ []) image) images_disk
           (λ image seen left.
           let from = lines_put.images image seen left in
           images_disk image from.0 (fewer_later between (G.moment before) (G.moment between) image from.0 calls.time.later from.1))
 
       in_disk : IsSome (G.printed before) → Leaves G Left before between
       in_disk told image seen left =
-          left_quiet programs number event word names start was_open text (shown_of G before) image seen 0 (either image seen left) (quiet_is before between calls told image seen left ∙ sym (append-nil (shown_of G before))) refl
+          left_quiet programs number event word names start was_open image text (shown_of G before) seen 0 (either image seen left) (quiet_is before between calls told image seen left ∙ sym (append-nil (shown_of G before))) refl
 
       in_puts : (shut : Bool) → went.desk.closed ≡ shut → IsSome (G.printed before) → Leaves G Left between after
       in_puts true shut told image seen left =
           let same : G.printed between ≡ G.printed before = calls.quiet.same in
           let from = lines_put.crash (subst (λ (those : Option (List ℕ)). IsSome those) (sym same) told) image seen left in
           let shown : shown_of G between ≡ shown_of G before = ap (λ (those : Option (List ℕ)). unwrap_or those []) same in
-          left_quiet programs number event word names start was_open text (shown_of G before) image seen from.1.0
+          left_quiet programs number event word names start was_open image text (shown_of G before) seen from.1.0
           (either image (shown_of G between) (fewer_later between (G.moment before) (G.moment between) image (shown_of G between) calls.time.later from.0))
           (from.1.1 ∙ ap (λ (these : List ℕ). these ++ take from.1.0 text) shown)
           (none shut from.1.0)
@@ -130,7 +130,7 @@ module _ {D W : Type 0} (S : desk.Ghosts D) (G : Ghosts W) (fewer_later : FewerL
           let shown : shown_of G between ≡ shown_of G before = ap (λ (those : Option (List ℕ)). unwrap_or those []) same in
           let kept = did.still (ap (λ (desk : Desk). desk.closed) (sym next_is) ∙ still) in
           let from = image_is (event_lines names programs number ((event, word) ∷ []) start) between after result lines_put kept.0 (subst (λ (those : Option (List ℕ)). IsSome those) (sym same) told) image seen left in
-          left_open programs number event word names start was_open text (shown_of G before) image seen from.1.0 still
+          left_open programs number event word names start was_open image text (shown_of G before) seen from.1.0 still
           (ap stands from.0 ∙ stands_law new (held_of G between) did.next kept.1 ∙ ap (λ n. standing_of n did.next) opened ∙ ap (standing_of number) (sym next_is))
           (from.1.1 ∙ ap (λ (these : List ℕ). these ++ take from.1.0 text) shown)
           few

@@ -21,7 +21,7 @@ use Rattle.desk.specs.Run.{run, faulted, OpenBeforeEach}
 use Rattle.desk.specs.Lines.{Line}
 use Rattle.desk.specs.Lines as line
 use Rattle.desk.specs.Report.{event_lines}
-use Rattle.run_law.specs.Left.{IsLeft}
+use Rattle.run_law.specs.Left.{IsStage}
 use Rattle.schedule_replay.specs.declared.events.Going.{Going}
 use Rattle.schedule_replay.specs.declared.events.Going.TheVariants as going
 use Rattle.schedule_replay.specs.declared.quietly.Quiet.{Quiet}
@@ -112,7 +112,7 @@ pub record RanQuietly {D W : Type 0} (S : desk.Ghosts D) (G : Ghosts W) (program
   pub events_taken : map (λ event. event.0) taken ≡ events
   pub each_open : OpenBeforeEach programs taken start
   pub to : RanTo S G (run programs taken start) (event_lines [] programs number taken start) (faulted taken) new before after
-  pub images : Leaves G (λ image seen. IsLeft programs number start taken [] [] image []) before after
+  pub images : Leaves G (λ image seen. IsStage programs number start taken image) before after
   pub doubt : (run programs taken start).closed ≡ true → (front : List (Event × Word)) (event : Event) → taken ≡ front ++ (event, Doubt) ∷ [] → InDoubt G programs number start front event after
 
 -- the counts of a run that ended, and what its last commit printed, are those of its lines

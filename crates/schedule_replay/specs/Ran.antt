@@ -19,7 +19,7 @@ use Rattle.desk.specs.Kept.{WritesMore, tells_fault}
 use Rattle.desk.specs.Run.{Happening, run, faulted, OpenBeforeEach}
 use Rattle.desk.specs.Lines.{Line, line_text}
 use Rattle.desk.specs.Report.{number_after, event_lines, happening_lines}
-use Rattle.run_law.specs.Left.{IsLeft}
+use Rattle.run_law.specs.Left.{IsLeft, IsStage}
 use Rattle.schedule_replay.specs.Puts.{BeginsWith, PutsTimes, shown_of}
 use Rattle.schedule_replay.specs.RanTo.{RanTo}
 
@@ -54,7 +54,7 @@ pub record WasStep {D W : Type 0} (S : desk.Ghosts D) (G : Ghosts W) (names : Li
   pub calm : count_by tells_fault lines ≡ 0 → G.disk_faults after ≡ G.disk_faults before
 
 -- Events were run from a desk, each with a word, and their lines put. The image that a crash since the start left is one of the run, and where printed
--- bytes are told it lacks no commit that was seen by then.
+-- bytes are told it lacks no commit that was seen by then, and has at most one more.
 pub record Ran {D W : Type 0} (S : desk.Ghosts D) (G : Ghosts W) (names : List (List ℕ)) (programs : List Program) (number : ℕ) (events : List Event) (start : Desk) (new : D) (before after : W) {T : Type 0} (result : Result T Failed) : Type 0 where
   pub taken : List (Event × Word)
   pub events_taken : map (λ event. event.0) taken ≡ events
@@ -64,6 +64,6 @@ pub record Ran {D W : Type 0} (S : desk.Ghosts D) (G : Ghosts W) (names : List (
   pub times : PutsTimes G (length (event_lines names programs number taken start)) before after result
   pub earlier : PrintsEarlier (G.printed before) (G.printed after) (λ front. text_of names programs number front start) taken
   pub time : Elapses G.moment G.left_since before after
-  pub images : Leaves G (λ image seen. IsLeft programs number start taken [] [] image []) before after
+  pub images : Leaves G (λ image seen. IsStage programs number start taken image) before after
   pub left : IsSome (G.printed before) → Leaves G (IsLeft programs number start taken (text_of names programs number taken start) (shown_of G before)) before after
   pub doubt : (run programs taken start).closed ≡ true → (front : List (Event × Word)) (event : Event) → taken ≡ front ++ (event, Doubt) ∷ [] → InDoubt G programs number start front event after

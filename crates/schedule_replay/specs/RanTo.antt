@@ -1,5 +1,5 @@
 -- What a run of a desk leaves of the supervisor and the outside in which it went.
-use Rattle.std.specs.Prelude.{◌≡◌, ℕ, ◌*◌, ◌≤◌, count_by, false, List}
+use Rattle.std.specs.Prelude.{◌≡◌, ℕ, ◌*◌, count_by, false, List}
 use Rattle.outside.specs.declared.world.Outside.{Ghosts}
 use Rattle.outside.specs.Causes.{RoseBy}
 use Rattle.outside.specs.Durable.{IsSure}
@@ -7,17 +7,17 @@ use Rattle.outside.specs.Runs.{held_of}
 use Rattle.desk.specs.declared.supervisor.Supervisor as desk
 use Rattle.desk.specs.Commits.{is_commit}
 use Rattle.desk.specs.Desk.{Desk}
-use Rattle.desk.specs.Kept.{WritesMore, records_in, most_records, tells_fault}
+use Rattle.desk.specs.Kept.{KeepsJournal, WritesMore, journal_in, tells_fault}
 use Rattle.desk.specs.Lines.{Line}
 
 -- A run ended at this desk, with these lines, and in so many of its events a word wasn't fine. The supervisor is closed where the desk is and has its
--- order; while the desk is open the bytes are sure and show it, and their chosen bank holds no more records than the lines tell. The disk's count of
+-- order; while the desk is open the bytes are sure and show it, and their journal is what the lines make of the one before. The disk's count of
 -- faults rose by at least the words that aren't fine, and stays where no line tells of a fault; for each commit line two writes succeeded.
 pub record RanTo {D W : Type 0} (S : desk.Ghosts D) (G : Ghosts W) (end : Desk) (lines : List Line) (unfine : ℕ) (new : D) (before after : W) : Type 0 where
   pub closes : S.closed new ≡ end.closed
   pub ordered : S.order new ≡ end.order
   pub still : end.closed ≡ false → IsSure G after × S.shows new (held_of G after) end
-  pub records : end.closed ≡ false → records_in (held_of G after) ≤ most_records lines (records_in (held_of G before))
+  pub journal : end.closed ≡ false → KeepsJournal lines (journal_in (held_of G before)) (journal_in (held_of G after))
   pub faults : RoseBy unfine (G.disk_faults before) (G.disk_faults after)
   pub calm : count_by tells_fault lines ≡ 0 → G.disk_faults after ≡ G.disk_faults before
   pub writes : WritesMore (G.writes before) (G.writes after) (2 * count_by is_commit lines)

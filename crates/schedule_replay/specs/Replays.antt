@@ -20,7 +20,7 @@ use Rattle.desk.specs.Instruction.{Word, Doubt}
 use Rattle.desk.specs.Run.{run, faulted, IsRunOf}
 use Rattle.desk.specs.Lines.{line_text, Open}
 use Rattle.desk.specs.Report.{report, report_lines, event_lines}
-use Rattle.run_law.specs.Left.{IsLeft}
+use Rattle.run_law.specs.Left.{IsLeft, IsStage}
 use Rattle.schedule_replay.specs.declared.events.Going.{Going}
 use Rattle.schedule_replay.specs.declared.events.Going.TheVariants as going
 use Rattle.schedule_replay.specs.declared.events.Replayed.{Replayed}
@@ -80,7 +80,7 @@ pub record RanSome {D W : Type 0} (S : desk.Ghosts D) (G : Ghosts W) (names : Li
 -- There is one run of the first of the events from the desk that was shown. Its report is put, a line by each put, or a prefix of it where
 -- a put failed, which has the first line and those of all events but the last. A result says whether the desk is closed; all events were run where it
 -- goes on. The image that a crash at any moment since the start left is one of the run, and where printed bytes are told it lacks no commit that was
--- seen by then.
+-- seen by then, and has at most one more.
 pub record Reports {D W : Type 0} (S : desk.Ghosts D) (G : Ghosts W) (names : List (List ℕ)) (programs : List Program) (number : ℕ) (events : List Event) (start : Desk) (new : D) (before after : W) {T : Type 0} (shut : T → Bool) (result : Result T Failed) : Type 0 where
   pub taken : List (Event × Word)
   pub rest : List Event
@@ -91,7 +91,7 @@ pub record Reports {D W : Type 0} (S : desk.Ghosts D) (G : Ghosts W) (names : Li
   pub earlier : PrintsEarlier (G.printed before) (G.printed after) (λ front. line_text (Open number) ++ text_of names programs number front start) taken
   pub closed : IfOk result (λ value. S.closed new ≡ shut value)
   pub all : IfOk result (λ value. shut value ≡ false → rest ≡ [])
-  pub images : Leaves G (λ image seen. IsLeft programs number start taken [] [] image []) before after
+  pub images : Leaves G (λ image seen. IsStage programs number start taken image) before after
   pub left : IsSome (G.printed before) → Leaves G (IsLeft programs number start taken (report names programs number taken rest start) (shown_of G before)) before after
   pub doubt : (run programs taken start).closed ≡ true → (front : List (Event × Word)) (event : Event) → taken ≡ front ++ (event, Doubt) ∷ [] → InDoubt G programs number start front event after
 

@@ -4,7 +4,6 @@ use Rattle.seats.proofs.Ascending.{none-free}
 use Rattle.activations.specs.Recorded.{IsRecordOf}
 use Rattle.activations.proofs.BeginLemmas.{some-next}
 use Rattle.desk.specs.declared.answers.Begun.TheVariants as begun
-use Rattle.desk.specs.declared.answers.TurnEnd.TheVariants as end
 use Rattle.activations.specs.Follows as running
 
 none-next : (a : Activity) → running.IsSound a → next_seat a.seating ≡ None → 16 ≤ length a.seating.taken

@@ -1,6 +1,6 @@
 -- The commit of a session is one of the desk, and what the disk holds in it.
 use Rattle.std.proofs.lemmas.Bool.Decides.{nat_tests}
-use Rattle.supervisor.proofs.Common.{◌≡◌, ◌⊎◌, inl, inr, ⊎_elim, ℕ, ◌+◌, ◌*◌, ◌%◌, ◌^◌, ◌<◌, ◌≤◌, List, [], ◌∷◌, ◌++◌, length, refl, sym, ◌∙◌, ap, subst, arith, Option, Some, length-append, map-append, Layout, FlatStore, has, Plain, after, Ghosts, Rose, IsSure, Leaves, held_of, Header, HasRanges, most_lines, RecordLine, Standing, Stands, stands, one_more, laid, IsMoreBy, KeptStore, number_of, with_begun, TracksStore, Committed, order_told, standing_of, Desk, Fine, Doubt, Unwritten, Over, ordered, WritesMore, number_after, IsState, over_all, committed_at, sitter, number_in, Activity, live_in, program_in, entry_in, store_over, desk_over, state_in, Live, KeepsDesk, AreRowsWithin, rolled, tally_counts, commit_call, Tally, Session, IsSound, activity, order_of, session_desk, IsOpenOver, HasCommitted, IsEitherSide, fine_desk, shows_begun}
+use Rattle.supervisor.proofs.Common.{◌≡◌, ◌⊎◌, inl, inr, ⊎_elim, ℕ, ◌+◌, ◌*◌, ◌%◌, ◌^◌, ◌<◌, ◌≤◌, List, [], ◌∷◌, ◌++◌, length, refl, sym, ◌∙◌, ap, subst, arith, Option, Some, length-append, map-append, Layout, FlatStore, has, Plain, after, Ghosts, Rose, IsSure, Leaves, held_of, Header, HasRanges, most_lines, RecordLine, Standing, Stands, stands, one_more, laid, IsMoreBy, journal_in, journal_with, KeptStore, number_of, with_begun, TracksStore, Committed, order_told, standing_of, Desk, Fine, Doubt, Unwritten, Over, ordered, WritesMore, number_after, IsState, over_all, committed_at, sitter, number_in, Activity, live_in, program_in, entry_in, store_over, desk_over, state_in, Live, KeepsDesk, AreRowsWithin, rolled, tally_counts, commit_call, Tally, Session, IsSound, activity, order_of, session_desk, IsOpenOver, HasCommitted, IsEitherSide, fine_desk, shows_begun}
 use Rattle.std.specs.Prelude.{◌==◌, not, filter, None, true, false, vec_len, vec_capacity, slice_set}
 use Rattle.lock_rules.proofs.Sets.{has-filter}
 use Rattle.frame_pool.specs.declared.model.Pool.{Pool}
@@ -162,9 +162,10 @@ module _ {W : Type 0} (G : Ghosts W) (s : Session) (seat : ℕ) (sound : IsSound
         → KeepsDesk (activity n) now.store → n.printed ≡ now.out
         → number_of n.store ≡ (number_of s.store + 1) % 2 ^ 64 → TracksStore G n.store after → stands (held_of G after) ≡ one_more lines (stands (held_of G before))
         → Leaves G (IsEither lines (held_of G before)) before after
+        → (added : List RecordLine) × (journal_in (held_of G after) ≡ journal_with (journal_in (held_of G before)) added)
         → (tally counted : Tally) → tally_counts counted ≡ record (tally_counts tally) { ran = tally.ran + 1 }
         → HasCommitted G seat now (end.Committed ((number + 1) % 2 ^ 64) told.steps) s n tally counted before after over.committed
-    went-done header opened closed more desk follows printed next_number tracks stood crash tally counted one_more_ran = record {
+    went-done header opened closed more desk follows printed next_number tracks stood crash journal tally counted one_more_ran = record {
       word = Fine;
       reads = λ counted page below. refl;
       next = fine;
@@ -173,6 +174,7 @@ module _ {W : Type 0} (G : Ghosts W) (s : Session) (seat : ℕ) (sound : IsSound
       ordered = sym order;
       why = inl refl;
       numbers = number-now number fine number_is refl;
+      journal = λ still. journal;
       still = λ still. (tracks.sure, (over_new, is_new));
       crash = λ image seen left. either-side fine image refl (crash image seen left);
       doubt = λ doubted. absurd (let no : Fine ≡ Doubt = doubted in cc (no));
@@ -209,6 +211,7 @@ module _ {W : Type 0} (G : Ghosts W) (s : Session) (seat : ℕ) (sound : IsSound
       ordered = sym (order-more s.order.items n.order.items told (number_in (activity s).seating seat) ((sitter (activity s).seating seat).rows + 1) more activation steps);
       why = inr rose;
       numbers = (activation, number-now number next number_is refl);
+      journal = λ still. absurd (let no : true ≡ false = sym closed ∙ still in cc (no));
       still = λ still. absurd (let no : true ≡ false = sym closed ∙ still in cc (no));
       crash = λ image seen left. either-side next image refl (crash image seen left);
       doubt = λ doubted. (refl, (gate, λ image seen left. there image seen left ∙ fine-stands));
@@ -229,6 +232,7 @@ module _ {W : Type 0} (G : Ghosts W) (s : Session) (seat : ℕ) (sound : IsSound
     ordered = sym order;
     why = inr rose;
     numbers = ap (λ (n : ℕ). (n + 1) % 2 ^ 64) (is ∙ over.number);
+    journal = λ still. absurd (let no : true ≡ false = sym closed ∙ still in cc (no));
     still = λ still. absurd (let no : true ≡ false = sym closed ∙ still in cc (no));
     crash = λ image seen left. inl (crash image seen left ∙ stood-before);
     doubt = λ doubted. absurd (let no : Unwritten ≡ Doubt = doubted in cc (no));

@@ -24,7 +24,7 @@ pub use Rattle.desk.specs.Desk.{Desk, Entry, opened, with_entry}
 pub use Rattle.desk.specs.Holdings.{conflicts_of, numbers, waits_for, wanted}
 pub use Rattle.desk.specs.Instruction.{Attempt, Broken, Contest, Contested, Counts, Doubt, Failed, Fetched, Fetching, Fine, Going, Limit, Lost, Over, ReadFailed, Settled, Turning, Unwritten, Word, asks, attempts, attempts_at, breaks_cycle, breaks_cycles, commits, contest_ends, fetched_first, fetches_touched, gets, goes_on, is_over_limit, limited, no_counts, ordered, refused_pages, takes_effect, turn, turn_of, waits_or_gets, with_grants}
 unfoldable pub use Rattle.desk.specs.Instruction.{instruction, turns}
-pub use Rattle.desk.specs.Kept.{HoldsStore, WritesMore, record_count, records_after, records_in, turn_fails}
+pub use Rattle.desk.specs.Kept.{HoldsStore, Journal, JournalAfter, WritesMore, journal_emptied, journal_in, journal_under, journal_with, records_of, turn_fails}
 pub use Rattle.desk.specs.Report.{number_after}
 pub use Rattle.desk.specs.Run.{CheckpointFailed, CheckpointMade, CrashFailed, Crashed, Happening, Step, Turned, absent_segment, restarted, run, shut, step, turned}
 pub use Rattle.desk.specs.declared.answers.Begun.{Begun}
@@ -62,7 +62,7 @@ pub use Rattle.store_format.specs.Stands.{Standing, Stands, chosen, laid, one_mo
 unfoldable pub use Rattle.store_format.specs.Stands.{stands}
 pub use Rattle.supervisor.specs.Causes.{ClosesAsCommit, ClosesInCommit, HasPlace, IsFailedCommit, IsFull, IsTurnEnd, KeepsStore, TellsNumber, answer_of, lacking}
 pub use Rattle.supervisor.specs.Laws.{CyclesWereMet, ShownIsConsistent, ShownIsIsolated, WasMet, WereMet}
-pub use Rattle.supervisor.specs.Session.{IsSound, activity, session_desk, order_of, records_told}
+pub use Rattle.supervisor.specs.Session.{IsSound, activity, session_desk, order_of}
 pub use Rattle.supervisor.specs.Shown.{IsOpenOver, ShowsDesk}
-pub use Rattle.supervisor.specs.Went.{HasCommitted, TurnHasRun, IsCommitEnd, IsEitherSide, IsTurned, fine_desk, most_kept}
+pub use Rattle.supervisor.specs.Went.{HasCommitted, TurnHasRun, IsCommitEnd, IsEitherSide, IsTurned, fine_desk}
 pub use Rattle.supervisor.specs.declared.session.Session.{Session}

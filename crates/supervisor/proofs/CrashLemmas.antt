@@ -1,5 +1,5 @@
 -- What a crash of a session did.
-use Rattle.supervisor.proofs.Common.{◌≡◌, inl, inr, ℕ, List, [], refl, sym, ◌∙◌, ap, arith, Option, true, unwrap_or, Ghosts, Rose, IsSure, OnlyAsks, held_of, Header, Holds, Faulty, bank_of, Stands, stands, chosen, KeptStore, number_of, TracksStore, shown_stands, shown_store, records_in, Did, standing_of, Desk, numbers, Fine, Failed, number_after, Step, Crashed, CrashFailed, shut, restarted, stepped, Activations, IsRestarted, activity_of, Session, IsSound, activity, session_desk, order_of, IsOpenOver, ShowsDesk}
+use Rattle.supervisor.proofs.Common.{◌≡◌, inl, inr, ℕ, List, [], refl, sym, ◌∙◌, ap, Option, true, unwrap_or, Ghosts, Rose, IsSure, OnlyAsks, held_of, Header, Holds, Faulty, bank_of, Stands, stands, chosen, KeptStore, number_of, TracksStore, shown_stands, shown_store, journal_in, Did, standing_of, Desk, numbers, Fine, Failed, number_after, Step, Crashed, CrashFailed, shut, restarted, stepped, Activations, IsRestarted, activity_of, Session, IsSound, activity, session_desk, order_of, IsOpenOver, ShowsDesk}
 use Rattle.outside.proofs.Durable.{leaves_held}
 use Rattle.desk.specs.declared.event.Event.TheVariants as event
 use Rattle.supervisor.proofs.DidLemmas.{stood-over, fine-sure, failed-sure, open-shut}
@@ -57,7 +57,7 @@ module _ {W : Type 0} (G : Ghosts W) (s : Session) (store : KeptStore) (header :
       closes = refl;
       ordered = refl;
       still = λ still. (tracks.sure, record { over = over-forgotten; directory = directory-forgotten; is = refl });
-      records = λ still. let same = ap records_in same_bytes in omega (arith, same);
+      journal = λ still. ap journal_in same_bytes;
       crash = λ image seen there. inl (crash-leaves image seen there);
       doubt = λ doubted. absurd (fine-sure doubted);
     }
@@ -72,7 +72,7 @@ module _ {W : Type 0} (G : Ghosts W) (s : Session) (store : KeptStore) (header :
     closes = refl;
     ordered = refl;
     still = λ still. absurd (open-shut still);
-    records = λ still. absurd (open-shut still);
+    journal = λ still. absurd (open-shut still);
     crash = λ image seen there. inl (crash-leaves image seen there);
     doubt = λ doubted. absurd (failed-sure doubted);
   }

@@ -3,6 +3,7 @@ pub mod BeginLemmas
 pub mod CommitLemmas
 pub mod DesertedLemmas
 pub mod CrashLemmas
+pub mod JournalLemmas
 pub mod DidLemmas
 pub mod OpeningLemmas
 pub mod TurnLemmas

@@ -1,5 +1,5 @@
 -- How a turn of a session ends: over what ran, and then its commit.
-use Rattle.supervisor.proofs.Common.{arith, ap, sym, ◌∙◌, subst, inl, inr, ⊎_elim, has, Ghosts, Rose, IsSure, FewerLater, Leaves, OnlyAsks, held_of, leaves_on, Stands, stands, sure_on, Shows, Cycle, TurnEnd, ending_told, HasNumbers, OnlyWrites, IsEitherOf, fine_step, standing_of, Desk, Entry, Word, Fine, ReadFailed, Doubt, Counts, Going, Over, no_counts, commits, turn, turn_of, turns, number_after, Step, turned, Reads, seat-told, told-found, stepped, number_in, seat_of, seat-found, Activations, Tally, entries, entry_in, desk_over, KeepsDesk, IsEndOfRows, IfWaits, HasEnded, tally_counts, IsAtCommit, commit_call, turn_in, activity_of, Session, IsSound, activity, order_of, session_desk, IsOpenOver, HasCommitted, TurnHasRun, IsCommitEnd, fine_desk}
+use Rattle.supervisor.proofs.Common.{arith, ap, sym, ◌∙◌, subst, inl, inr, ⊎_elim, has, Ghosts, Rose, IsSure, FewerLater, Leaves, OnlyAsks, held_of, leaves_on, Stands, stands, sure_on, Shows, Cycle, TurnEnd, ending_told, HasNumbers, OnlyWrites, IsEitherOf, fine_step, standing_of, JournalAfter, journal_in, Turned, Desk, Entry, Word, Fine, ReadFailed, Doubt, Counts, Going, Over, no_counts, commits, turn, turn_of, turns, number_after, Step, turned, Reads, seat-told, told-found, stepped, number_in, seat_of, seat-found, Activations, Tally, entries, entry_in, desk_over, KeepsDesk, IsEndOfRows, IfWaits, HasEnded, tally_counts, IsAtCommit, commit_call, turn_in, activity_of, Session, IsSound, activity, order_of, session_desk, IsOpenOver, HasCommitted, TurnHasRun, IsCommitEnd, fine_desk}
 use Rattle.std.specs.Prelude.{◌≡◌, refl, ℕ, ◌+◌, ◌-◌, ◌*◌, ◌<◌, ◌≤◌, ◌⊎◌, true, false, List, [], map, Option, Some, None, IsSome, unwrap_or}
 use Rattle.std.specs.Option.{option_map}
 use Rattle.outside.specs.Bytes.{AreTold}
@@ -70,6 +70,10 @@ module _ {W : Type 0} (G : Ghosts W) (fewer_later : FewerLater G) (s : Session) 
     number = over.number;
   }
 
+  -- and the journal is as before
+  kept-journal : journal_in (held_of G mid) ≡ journal_in (held_of G before)
+  kept-journal = ap (λ (told : Option (List ℕ)). journal_in (unwrap_or told [])) asks.held
+
   pub idle : (tally : Tally) → tally_counts tally ≡ no_counts → seat_of (activity s).seating activation ≡ None → TurnHasRun G activation limit end.Idle s s tally before mid over.committed
   idle tally nothing nobody = record {
     word = Fine;
@@ -82,7 +86,7 @@ module _ {W : Type 0} (G : Ghosts W) (fewer_later : FewerLater G) (s : Session) 
     ordered = refl;
     why = inl refl;
     numbers = tt;
-    unread = λ disk. refl;
+    journal = λ still. kept-journal;
     still = λ still. (sure_on G fewer_later before mid sure asks, (over-ran s.activations over.follows, refl));
     crash = λ image seen left. inl (asked image seen left);
     doubt = λ doubted. absurd (let no : ⊥ = cc in no);
@@ -106,8 +110,8 @@ module _ {W : Type 0} (G : Ghosts W) (fewer_later : FewerLater G) (s : Session) 
     run-by : (word : Word) (how : TurnEnd) → (word ≡ Doubt → ⊥) → (word ≡ Fine) ⊎ Rose (G.disk_faults before) (G.disk_faults mid)
         → turn_in (activity s) seat limit over.committed (order_of s) (tally_counts tally) word ≡ Over (desk_over (activity_of ran) over.committed (order_of s)) (tally_counts told) (ending_told how s.printed)
         → KeepsDesk (activity_of ran) over.committed → HasNumbers how activation (number_after s.opened (desk_over (activity_of ran) over.committed (order_of s)))
-        → TurnHasRun G activation limit how s now told before mid over.committed
-    run-by word how sober why comes follows numbers = record {
+        → JournalAfter (Turned activation (tally_counts told) (ending_told how s.printed)) (journal_in (held_of G before)) (journal_in (held_of G mid)) → TurnHasRun G activation limit how s now told before mid over.committed
+    run-by word how sober why comes follows numbers quiet = record {
       word = word;
       next = desk_over (activity_of ran) over.committed (order_of s);
       step = turn-is word ∙ comes;
@@ -115,30 +119,30 @@ module _ {W : Type 0} (G : Ghosts W) (fewer_later : FewerLater G) (s : Session) 
       ordered = refl;
       why = why;
       numbers = numbers;
-      unread = λ disk. refl;
+      journal = λ still. quiet;
       still = λ still. (sure_on G fewer_later before mid sure asks, (over-ran ran follows, sym (open-desk now over.committed over.still_open)));
       crash = λ image seen left. inl (asked image seen left);
       doubt = λ doubted. absurd (sober doubted);
     }
 
     fine : (how : TurnEnd) → IsOverTurn (turn_in (activity s) seat limit over.committed (order_of s) (tally_counts tally)) (activity_of ran) over.committed (order_of s) (tally_counts told) (ending_told how s.printed)
-        → HasNumbers how activation (number_after s.opened (desk_over (activity_of ran) over.committed (order_of s))) → TurnHasRun G activation limit how s now told before mid over.committed
-    fine how ended numbers = run-by Fine how (λ doubted. let no : ⊥ = cc in no) (inl refl) (ended.comes Fine (reads-all told.pages)) ended.follows numbers
+        → HasNumbers how activation (number_after s.opened (desk_over (activity_of ran) over.committed (order_of s))) → JournalAfter (Turned activation (tally_counts told) (ending_told how s.printed)) (journal_in (held_of G before)) (journal_in (held_of G mid)) → TurnHasRun G activation limit how s now told before mid over.committed
+    fine how ended numbers quiet = run-by Fine how (λ doubted. let no : ⊥ = cc in no) (inl refl) (ended.comes Fine (reads-all told.pages)) ended.follows numbers quiet
 
     -- it ended before its commit call
     pub ended : (how : TurnEnd) → IsEndOfRows G before mid tally told how → IfWaits (number_in (activity s).seating seat) how
         → HasEnded how (turn_in (activity s) seat limit over.committed (order_of s) (tally_counts tally)) (activity_of ran) over.committed (order_of s) (tally_counts told)
         → TurnHasRun G activation limit how s now told before mid over.committed
-    ended end.Disk rows waits has = run-by (ReadFailed told.pages) end.Disk (λ doubted. let no : ⊥ = cc in no) (inr rows.0) has.comes has.follows tt
+    ended end.Disk rows waits has = run-by (ReadFailed told.pages) end.Disk (λ doubted. let no : ⊥ = cc in no) (inr rows.0) has.comes has.follows tt kept-journal
     ended end.Idle rows waits has = absurd rows
     ended (end.Committed number steps) rows waits has = absurd rows
     ended (end.Closed doubt number) rows waits has = absurd rows
     ended end.Shut rows waits has = absurd rows
-    ended end.Limit rows waits has = fine end.Limit (has s.printed) tt
-    ended (end.Checked code address) rows waits has = fine (end.Checked code address) (has s.printed) tt
-    ended (end.Waits waiter holders) rows waits has = fine (end.Waits waiter holders) (has s.printed) (waits.0 ∙ found.1)
-    ended end.Victim rows waits has = fine end.Victim (has s.printed) tt
-    ended (end.Journal lines most) rows waits has = fine (end.Journal lines most) (has s.printed) tt
+    ended end.Limit rows waits has = fine end.Limit (has s.printed) tt kept-journal
+    ended (end.Checked code address) rows waits has = fine (end.Checked code address) (has s.printed) tt kept-journal
+    ended (end.Waits waiter holders) rows waits has = fine (end.Waits waiter holders) (has s.printed) (waits.0 ∙ found.1) kept-journal
+    ended end.Victim rows waits has = fine end.Victim (has s.printed) tt kept-journal
+    ended (end.Journal lines most) rows waits has = fine (end.Journal lines most) (has s.printed) tt kept-journal
 
     -- it came to its commit call
     module _ (parts : kept.KeepsParts (activity s) (activity_of ran) limit) (after : W) (new : Session) (how : TurnEnd) (counted : Tally)
@@ -175,7 +179,9 @@ module _ {W : Type 0} (G : Ghosts W) (fewer_later : FewerLater G) (s : Session) 
         ordered = went.ordered;
         why = ⊎_elim (λ fine. inl fine) (λ rose. inr (subst (λ (n : ℕ). Rose n (G.disk_faults after)) calm rose)) went.why;
         numbers = subst (λ (n : ℕ). HasNumbers how n (number_after s.opened went.next)) (number ∙ found.1) went.numbers;
-        unread = λ disk. absurd (subst IsCommitEnd disk is_end);
+        journal = λ still.
+            subst (λ (n : ℕ). JournalAfter (Turned n (tally_counts counted) (ending_told how new.printed)) (journal_in (held_of G before)) (journal_in (held_of G after))) (number ∙ found.1)
+            (subst (λ (told : Option (List ℕ)). JournalAfter (Turned (number_in (activity_of ran).seating seat) (tally_counts counted) (ending_told how new.printed)) (journal_in (unwrap_or told [])) (journal_in (held_of G after))) asks.held (went.journal still));
         still = went.still;
         crash =
             leaves_on G fewer_later before mid after asks.calls.time writes.calls.time

@@ -1,5 +1,5 @@
 -- What a commit of a session did: its step of the desk, and what the disk held at each moment.
-use Rattle.std.specs.Prelude.{◌≡◌, ℕ, ◌+◌, ◌⊎◌, true, false, List, slice_set}
+use Rattle.std.specs.Prelude.{◌≡◌, ℕ, ◌⊎◌, true, false, List, slice_set}
 use Rattle.flat_machine.specs.declared.machine.Plain.{Plain}
 use Rattle.outside.specs.declared.world.Outside.{Ghosts}
 use Rattle.outside.specs.Causes.{Rose}
@@ -8,20 +8,21 @@ use Rattle.outside.specs.Runs.{Leaves, held_of}
 use Rattle.store_format.specs.Stands.{stands}
 use Rattle.desk.specs.declared.answers.TurnEnd.{TurnEnd}
 use Rattle.desk.specs.declared.answers.TurnEnd.TheVariants as end
-use Rattle.desk.specs.declared.answers.TurnEnd.TheVariants.{Disk}
 use Rattle.desk.specs.Answers.{ending_told, HasNumbers}
 use Rattle.desk.specs.declared.event.Event.TheVariants as event
 use Rattle.desk.specs.Crash.{IsEitherOf, fine_step, standing_of}
 use Rattle.desk.specs.Desk.{Desk, ended}
 use Rattle.desk.specs.Instruction.{Word, Fine, Doubt, Over, commits, turn, ordered}
+use Rattle.desk.specs.Kept.{JournalAfter, journal_in}
 use Rattle.desk.specs.Report.{number_after}
+use Rattle.desk.specs.Run.{Turned}
 use Rattle.desk_law.specs.Beside.{Reads}
 use Rattle.seats.specs.Seating.{number_in}
 use Rattle.activations.specs.declared.tally.Tally.{Tally}
 use Rattle.activations.specs.Turning.{tally_counts}
 use Rattle.activations.specs.Turns.{commit_call}
 use Rattle.supervisor.specs.declared.session.Session.{Session}
-use Rattle.supervisor.specs.Session.{activity, order_of, session_desk, records_told}
+use Rattle.supervisor.specs.Session.{activity, order_of, session_desk}
 use Rattle.supervisor.specs.Shown.{IsOpenOver}
 
 -- how a commit call ends: it is done, too long for a record, or the desk closes
@@ -36,11 +37,6 @@ abbrev pub IsTurned : TurnEnd → Type 0
 IsTurned end.Shut = ⊥
 IsTurned _ = Unit {0}
 
--- the most records of the chosen bank after a turn that ended so, where it held so many
-abbrev pub most_kept : TurnEnd → ℕ → ℕ
-most_kept (end.Committed number steps) records = records + 1
-most_kept _ records = records
-
 -- the desk at the commit call of who sits in a seat, at this state, after that went well
 abbrev pub fine_desk : Session → (committed : List ℕ) → (seat : ℕ) → Plain → Desk
 fine_desk s committed seat now =
@@ -54,8 +50,8 @@ IsEitherSide old committed fine new image =
     (stands image ≡ standing_of old.opened (session_desk old committed)) ⊎ (fine.order ≡ new.order) × (stands image ≡ standing_of old.opened fine)
 
 -- A commit was what becomes of the commit call with a word, which isn't fine only where the disk's faults rose. While the session is
--- open its bytes are sure. A crash in it leaves what stood before or after it; after a doubt there is one place with whose byte
--- the commit stands.
+-- open its bytes are sure, and their journal has one record more. A crash in it leaves what stood before or after it; after a doubt
+-- there is one place with whose byte the commit stands.
 pub record HasCommitted {W : Type 0} (G : Ghosts W) (seat : ℕ) (now : Plain) (end : TurnEnd) (old new : Session) (tallied told : Tally) (before after : W) (committed : List ℕ) : Type 0 where
   pub word : Word
   pub reads : (counted : ℕ) → Reads word counted
@@ -65,11 +61,12 @@ pub record HasCommitted {W : Type 0} (G : Ghosts W) (seat : ℕ) (now : Plain) (
   pub ordered : next.order ≡ order_of new
   pub why : (word ≡ Fine) ⊎ Rose (G.disk_faults before) (G.disk_faults after)
   pub numbers : HasNumbers end (number_in (activity old).seating seat) (number_after old.opened next)
+  pub journal : new.closed ≡ false → JournalAfter (Turned (number_in (activity old).seating seat) (tally_counts told) (ending_told end new.printed)) (journal_in (held_of G before)) (journal_in (held_of G after))
   pub still : new.closed ≡ false → IsSure G after × ((over : IsOpenOver new (held_of G after)) × (next ≡ session_desk new over.committed))
   pub crash : Leaves G (λ image seen. IsEitherSide old committed (fine_desk old committed seat now) next image) before after
   pub doubt : word ≡ Doubt → ((fine_desk old committed seat now).order ≡ next.order) × ((gate : ℕ) × Leaves G (λ image seen. stands (slice_set image gate 165) ≡ standing_of old.opened (fine_desk old committed seat now)) after after)
 
--- A turn was one of the desk, in the same way. One that broke off where a page couldn't be read has added no record.
+-- A turn was one of the desk, in the same way.
 pub record TurnHasRun {W : Type 0} (G : Ghosts W) (activation limit : ℕ) (end : TurnEnd) (old new : Session) (told : Tally) (before after : W) (committed : List ℕ) : Type 0 where
   pub word : Word
   pub next : Desk
@@ -78,7 +75,7 @@ pub record TurnHasRun {W : Type 0} (G : Ghosts W) (activation limit : ℕ) (end 
   pub ordered : next.order ≡ order_of new
   pub why : (word ≡ Fine) ⊎ Rose (G.disk_faults before) (G.disk_faults after)
   pub numbers : HasNumbers end activation (number_after old.opened next)
-  pub unread : end ≡ Disk → records_told new ≡ records_told old
+  pub journal : new.closed ≡ false → JournalAfter (Turned activation (tally_counts told) (ending_told end new.printed)) (journal_in (held_of G before)) (journal_in (held_of G after))
   pub still : new.closed ≡ false → IsSure G after × ((over : IsOpenOver new (held_of G after)) × (next ≡ session_desk new over.committed))
   pub crash : Leaves G (λ image seen. IsEitherOf (activity old).programs old.opened (event.Turn activation limit) (session_desk old committed) next image) before after
   pub doubt : word ≡ Doubt → new.closed ≡ true → ((fine_step (activity old).programs (event.Turn activation limit) (session_desk old committed)).order ≡ next.order) × ((gate : ℕ) × Leaves G (λ image seen. stands (slice_set image gate 165) ≡ standing_of old.opened (fine_step (activity old).programs (event.Turn activation limit) (session_desk old committed))) after after)

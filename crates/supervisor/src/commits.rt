@@ -21,11 +21,11 @@ impl Session {
     ghost use Rattle.activations.specs.Turns.{IsAtCommit};
     ghost use Rattle.activations.specs.Causes.{IfJournal};
     ghost use Rattle.store_format.specs.Header.{most_lines};
-    ghost use Rattle.supervisor.specs.Session.{IsSound, KeepsParts, activity, order_of, records_told};
+    ghost use Rattle.supervisor.specs.Session.{IsSound, KeepsParts, activity, order_of};
     ghost use Rattle.supervisor.specs.Shown.{IsOpenOver};
     ghost use Rattle.supervisor.specs.Causes.{TellsNumber, ClosesAsCommit, KeepsStore};
     ghost use Rattle.restart.specs.Kept.{number_of};
-    ghost use Rattle.supervisor.specs.Went.{HasCommitted, IsCommitEnd, most_kept};
+    ghost use Rattle.supervisor.specs.Went.{HasCommitted, IsCommitEnd};
 
     /// The commit call of who sits in a seat: his record, and the end of the turn.
     pub(super) fn commit<W: Outside>(
@@ -53,7 +53,6 @@ impl Session {
         ensures closed { self.new.closed ≡ turn_closes result }
         ensures committing { ClosesAsCommit W.Outside (number_in (activity self.old).seating seat) result self.old.store self.new outside.old outside.new }
         ensures failed { FailsCounted (turn_fails result) (W.disk_faults outside.old) (W.disk_faults outside.new) }
-        ensures records { turn_fails result ≡ false → records_told self.new ≤ most_kept result (records_told self.old) }
         ensures went { (begins : Word → Turning) → IsSure W.Outside outside.old → (over : IsOpenOver self.old (held_of W.Outside outside.old)) → (at : IsAtCommit begins (activity self.old) seat over.committed (order_of self.old) (tally_counts tally.old)) → HasCommitted W.Outside seat at.now result self.old self.new tally.old tally.new outside.old outside.new over.committed }
     {
         if let Err(end) = self.activations.record(seat, &mut self.store) {

@@ -15,13 +15,13 @@ use outside::Outside;
 
 impl Session {
     ghost use Rattle.activations.specs.Kept.{AreRowsWithin};
-    ghost use Rattle.supervisor.specs.Session.{IsSound, KeepsParts, activity, order_of, records_told};
+    ghost use Rattle.supervisor.specs.Session.{IsSound, KeepsParts, activity, order_of};
     ghost use Rattle.supervisor.specs.Shown.{IsOpenOver};
     ghost use Rattle.supervisor.specs.Causes.{IsTurnEnd, answer_of, ClosesAsCommit, KeepsStore};
     ghost use Rattle.store_format.specs.Header.{most_lines};
     ghost use Rattle.restart.specs.Kept.{number_of};
     ghost use Rattle.seats.specs.Seating.{seat_of};
-    ghost use Rattle.supervisor.specs.Went.{TurnHasRun, IsTurned, most_kept};
+    ghost use Rattle.supervisor.specs.Went.{TurnHasRun, IsTurned};
 
     /// A turn of an activation, in which nothing is counted yet: how it ended.
     pub(super) fn end_of_turn<W: Outside>(
@@ -52,7 +52,6 @@ impl Session {
         ensures closed { self.new.closed ≡ turn_closes result }
         ensures committing { ClosesAsCommit W.Outside activation result self.old.store self.new outside.old outside.new }
         ensures failed { FailsCounted (turn_fails result) (W.disk_faults outside.old) (W.disk_faults outside.new) }
-        ensures records { turn_fails result ≡ false → records_told self.new ≤ most_kept result (records_told self.old) }
         ensures went { IsSure W.Outside outside.old → (over : IsOpenOver self.old (held_of W.Outside outside.old)) → TurnHasRun W.Outside activation limit result self.old self.new tally.new outside.old outside.new over.committed }
     {
         let Some(seat) = self.activations.seat_of(activation) else {

@@ -1,10 +1,11 @@
 use Rattle.supervisor.proofs.DesertedLemmas.{stored-sound}
-use Rattle.supervisor.proofs.Common.{◌≡◌, ◌+◌, ◌%◌, ◌^◌, ◌∙◌, ◌∷◌, [], length, refl, sym, ap, subst, arith, Some, length-append, true, false, has, Commit, row, begun_of, Kept, KeptStore, number_of, TracksStore, over_all, committed_at, sitter, number_in, taken-below, Activity, live_in, program_in, entry_in, store_over, desk_over, shown, KeepsDesk, rolled, reprinted, activity_of, Session, activity}
+use Rattle.supervisor.proofs.Common.{◌≡◌, ◌+◌, ◌%◌, ◌^◌, ◌∙◌, ◌∷◌, [], length, refl, sym, ap, subst, arith, Some, length-append, true, false, has, Commit, row, begun_of, Kept, KeptStore, number_of, TracksStore, held_of, over_all, committed_at, sitter, number_in, taken-below, Activity, live_in, program_in, entry_in, store_over, desk_over, shown, KeepsDesk, rolled, reprinted, activity_of, Session, activity}
 use Rattle.flat_machine.specs.After.{after as after_rows}
 use Rattle.redo_journal.specs.declared.keep.Kept.TheVariants.{Unwritten, Doubt}
 use Rattle.checkpoint.specs.Committed.{roomy, number_after, IsKeptAfter}
 use Rattle.redo_journal.specs.Kept.{with_record}
 use Rattle.supervisor.proofs.CauseLemmas.{closes-now}
+use Rattle.supervisor.proofs.JournalLemmas.{commit-adds}
 use Rattle.supervisor.proofs.CommitLemmas.{order-more, writes-more, gone, has_place, sound-left, sound-closed, out-is, tracked, went-done, went-doubt, went-unwritten}
 use Rattle.desk.specs.Kept.{HoldsStore}
 use Rattle.store_format.specs.Header.{Header}
@@ -105,7 +106,9 @@ returns-in-Done-clause-went g c = λ begins sure over at.
     (c.swap_printed.ensures.out ∙ ap (λ (a : Activity). (live_in a seat).out) shape ∙ ap (λ (a : Activity). (live_in a seat).out) there ∙ out-is (activity s) seat over.committed at.now c.requires.taken at.follows at.at)
     (ap (λ (n : Session). number_of n.store) others ∙ c.commit.ensures.number ∙ ap (λ (kept : Kept). number_after kept (number_of c.record.new.store)) c.in-Done.is ∙ ap (λ (store : KeptStore). (number_of store + 1) % 2 ^ 64) begun)
     (subst (λ (store : KeptStore). TracksStore G store after) (sym (ap (λ (n : Session). n.store) others)) done.tracks)
-    done.stood (c.commit.ensures.crash tracks) c.args.tally.now _ refl
+    done.stood (c.commit.ensures.crash tracks)
+    (commit-adds c.record.new.store _ (held_of G before) (held_of G after) tracks.shows done.tracks.shows c.commit.ensures.header c.in-Done.ensures.kept (c.commit.ensures.records tracks))
+    c.args.tally.now _ refl
 
 pub returns-in-Doubt-clause-sound : goal.returns-in-Doubt-clause-sound
 returns-in-Doubt-clause-sound g c =

@@ -1,8 +1,8 @@
-use Rattle.supervisor.proofs.Common.{◌≡◌, ◌+◌, ap, sym, ◌∙◌, subst, held_of, most_lines, number_of, IsTurnEnd, KeepsStore, FailsCounted, Fixed, turn_fails, TurnEnd, counts_told, turn_told, HasNumbers, Did, Desk, number_after, activity, order_of, records_told, IsOpenOver, ShowsDesk}
+use Rattle.supervisor.proofs.Common.{◌≡◌, ◌+◌, ap, sym, subst, held_of, most_lines, number_of, IsTurnEnd, KeepsStore, FailsCounted, Fixed, turn_fails, TurnEnd, counts_told, turn_told, HasNumbers, Did, Desk, number_after, activity, order_of, IsOpenOver, ShowsDesk}
 use Rattle.desk.specs.declared.answers.Turn.{Turn}
 use Rattle.desk.specs.declared.event.Event.TheVariants as event
 use Rattle.supervisor.proofs.CauseLemmas.{calls-store}
-use Rattle.supervisor.proofs.DidLemmas.{did-turn, few-records}
+use Rattle.supervisor.proofs.DidLemmas.{did-turn}
 use Rattle.supervisor.proofs.session.Session.turn.Goals as goal
 
 pub returns-clause-did : goal.returns-clause-did
@@ -24,7 +24,7 @@ returns-clause-did g c = λ desk sure shown.
       number = over.number;
     } in
     let ran = kept.went sure begun in
-    let did = did-turn G (record s { turns = s.turns + 1 }) new c.args.activation c.args.limit end c.end_of_turn-end.new.tally answer c.args.outside.now c.end_of_turn-end.new.outside begun kept.sound kept.turned (ap counts_told c.told-2.ensures) ends (λ still. few-records end (records_told s) (records_told new) kept.turned (sym kept.closed ∙ still) ran.unread kept.records) ran in
+    let did = did-turn G (record s { turns = s.turns + 1 }) new c.args.activation c.args.limit end c.end_of_turn-end.new.tally answer c.args.outside.now c.end_of_turn-end.new.outside begun kept.sound kept.turned (ap counts_told c.told-2.ensures) ends ran in
     let numbers : HasNumbers answer.end c.args.activation (number_after s.opened ran.next) =
     subst (λ (e : TurnEnd). HasNumbers e c.args.activation (number_after s.opened ran.next)) (sym ends) ran.numbers in
     subst
