@@ -1,16 +1,18 @@
 -- The lines that a unit knows may be accessed.
-use Rattle.storage_unit.proofs.Common.{◌≡◌, ℕ, ◌+◌, ◌*◌, ◌/◌, ◌%◌, ◌<◌, ◌≤◌, ◌^◌, Bool, true, false, refl, sym, ◌∙◌, ap, subst, arith, List, Option, Some, None, Ok, Err, Result, cond, not, ◌&&◌, nat_le, find, option_map, slice_index_or, nat_tests, PageSize, Two, Four, page_bytes, line_bytes, bytes_of, is_named, Layout, length_of, start_of, line_of, page_of_line, entry_of, lets, Key, Placed, entry_at, key_of, look_up, Check, SegmentRegister, Virtual, Registers, virtual_at, located_under, located_by, Access, Probe, answered_at, if_permitted, Reach, is_private, offset_of, place_of, on, table_of, is_kept_from, is_refused, is_in_frame, refuses, IsUnder, IsSound, IsLegal, Lies, bytes_shown, bytes_from, byte_at, eqb-true, ◌==◌, Unit, reach_of}
+use Rattle.storage_unit.proofs.Common.{◌≡◌, ℕ, ◌+◌, ◌*◌, ◌/◌, ◌%◌, ◌<◌, ◌≤◌, ◌^◌, Bool, true, false, refl, sym, ◌∙◌, ap, subst, arith, List, Option, Some, None, Ok, Err, Result, cond, not, ◌&&◌, nat_le, find, option_map, slice_index_or, nat_tests, PageSize, Two, Four, page_bytes, line_bytes, bytes_of, is_named, Layout, length_of, start_of, line_of, page_of_line, entry_of, lets, Key, Placed, entry_at, key_of, look_up, Check, SegmentRegister, Virtual, Registers, virtual_at, located_under, located_by, Access, Probe, answered_at, if_permitted, Reach, is_private, offset_of, place_of, on, table_of, is_kept_from, is_refused, is_in_frame, refuses, IsUnder, IsSound, IsLegal, Lies, bytes_shown, bytes_from, byte_at, eqb-true, ◌==◌, Unit, reach_of, length, length-take, length-drop, slice_range, part_of, pool_of}
 use Rattle.romp_cpu.specs.Answers.{IsRefusal}
 use Rattle.open_lines.specs.declared.lines.OpenLine.{OpenLine}
 use Rattle.open_lines.specs.declared.lines.OpenLines.{OpenLines}
 use Rattle.open_lines.specs.Known.{known, KnowsNothing, with_line}
 use Rattle.open_lines.specs.Places.{place_of as line_place}
-use Rattle.storage_unit.specs.OpenLines.{lets_at, IsOpened, AreOpened, IsOpenAt}
+use Rattle.storage_unit.specs.OpenLines.{lets_at, IsOpened, AreOpened, IsOpenAt, IsOpenFrom}
 use Rattle.storage_unit.proofs.AnswerLemmas.{permitted-lines}
 use Rattle.storage_unit.proofs.KeyLemmas.{start-whole}
 use Rattle.storage_unit.proofs.LineLemmas.{line-permitted}
 use Rattle.storage_unit.proofs.PlaceLemmas.{Under, under, lies, one, stands, registers-page, private-is, shared-is}
 use Rattle.storage_unit.proofs.UnitLemmas.{unit-sound}
+use Rattle.storage_unit.proofs.CopyLemmas.{part-shown}
+use Rattle.storage_unit.proofs.PartLemmas.{room}
 use Rattle.storage_unit.proofs.FoundLemmas.{found-answer, found-bytes, found-lies}
 
 -- a byte so many behind another of its page, and the first byte of the 128 that it is among
@@ -148,7 +150,7 @@ module _ (state : Reach) (sound : IsSound state) (address n : ℕ) (store : Bool
       (ap (λ r. located_under state.registers.page r (address % 2 ^ 28) n store) (sym found.stands) ∙ is)
 
 -- the line of an access that may be made, from its block's first byte on, is open
-module _ (unit : Unit) (wants : Access) (first : Virtual) (frame : ℕ) (some : 0 < wants.bytes) (opens : IsOpenAt (reach_of unit) wants first frame) where
+module _ (unit : Unit) (wants : Access) (first : Virtual) (frame : ℕ) (spot : ℕ) (some : 0 < wants.bytes) (opens : IsOpenAt (reach_of unit) wants first frame) (at : spot ≡ frame * page_bytes unit.directory.page + first.byte / 128 * 128) where
   abbrev state : Reach
   state = reach_of unit
 
@@ -168,25 +170,26 @@ module _ (unit : Unit) (wants : Access) (first : Virtual) (frame : ℕ) (some : 
   back : first ≡ moved (rounded first) (first.byte % 128)
   back = ap (λ b. (let v : Virtual = record first { byte = b } in v)) (let same : first.byte ≡ first.byte / 128 * 128 + first.byte % 128 = omega arith in same)
 
-  block-opened : IsOpened unit.directory unit.table unit.registers unit.runner (wants.address / 128) (record { first = rounded first; frame = frame; write = wants.store })
+  block-opened : IsOpened unit.directory unit.table unit.registers unit.runner (wants.address / 128) (record { first = rounded first; frame = frame; spot = spot; write = wants.store })
   block-opened = record {
     located = block-located state (unit-sound unit) wants.address wants.bytes wants.store first some opens.located;
     frame = ap (λ (keys : List (Option Key)). look_up keys (key_of first)) unit.held ∙ opens.frame;
+    spot = at;
     allowed = λ own.
         sym (lets-same unit.directory unit.legal unit.table unit.runner (rounded first) (first.byte % 128) wants.store (omega arith) (omega arith))
         ∙ ap (λ at. lets_at unit.directory unit.table unit.runner at wants.store) (sym back) ∙ allowed own;
   }
 
   pub opened-with :
-      (after : OpenLines) → ((block : ℕ) → known after block ≡ with_line (wants.address / 128) (record { first = rounded first; frame = frame; write = wants.store }) block (known unit.lines block))
+      (after : OpenLines) → ((block : ℕ) → known after block ≡ with_line (wants.address / 128) (record { first = rounded first; frame = frame; spot = spot; write = wants.store }) block (known unit.lines block))
       → AreOpened after unit.directory unit.table unit.registers unit.runner
   opened-with after left block line is = by_tests (block == wants.address / 128) (line_place block == line_place (wants.address / 128)) refl (sym (left block) ∙ is)
     where
-      by_tests : (here near : Bool) → (block == wants.address / 128) ≡ here → cond here (Some (record { first = rounded first; frame = frame; write = wants.store })) (cond near None (known unit.lines block)) ≡ Some line
+      by_tests : (here near : Bool) → (block == wants.address / 128) ≡ here → cond here (Some (record { first = rounded first; frame = frame; spot = spot; write = wants.store })) (cond near None (known unit.lines block)) ≡ Some line
           → IsOpened unit.directory unit.table unit.registers unit.runner block line
       by_tests true near same told =
           subst (λ b. IsOpened unit.directory unit.table unit.registers unit.runner b line) (sym (eqb-true block (wants.address / 128) same))
-          (subst (IsOpened unit.directory unit.table unit.registers unit.runner (wants.address / 128)) (let kept : record { first = rounded first; frame = frame; write = wants.store } ≡ line = cc in kept) block-opened)
+          (subst (IsOpened unit.directory unit.table unit.registers unit.runner (wants.address / 128)) (let kept : record { first = rounded first; frame = frame; spot = spot; write = wants.store } ≡ line = cc in kept) block-opened)
       by_tests false true same told = absurd (let clash : None ≡ Some line = told in cc)
       by_tests false false same told = unit.opened block line told
 
@@ -194,16 +197,16 @@ module _ (unit : Unit) (wants : Access) (first : Virtual) (frame : ℕ) (some : 
 pub opened-none : (lines : OpenLines) (directory : Layout) (table : Placed) (registers : Registers) (runner : ℕ) → KnowsNothing lines → AreOpened lines directory table registers runner
 opened-none lines directory table registers runner none block line is = absurd (let clash : None ≡ Some line = sym (none block) ∙ is in cc)
 
--- the first byte of a line that is known is one of its page
-pub opened-low : (unit : Unit) (wants : Access) (line : OpenLine) → known unit.lines (wants.address / 128) ≡ Some line → line.first.byte < 4096
+-- the first byte of a line that is known is one of its page, and its spot is one of as many frames
+pub opened-low : (unit : Unit) (wants : Access) (line : OpenLine) → known unit.lines (wants.address / 128) ≡ Some line → (line.first.byte < 4096) × (line.spot < line.frame * 4096 + 4096)
 opened-low unit wants line is =
     let told = unit.opened (wants.address / 128) line is in
     let low = (lies (reach_of unit) (unit-sound unit) (wants.address / 128 * 128) 128 line.first (under unit.registers (wants.address / 128 * 128) 128 line.write line.first told.located)).within in
-    by_size unit.directory.page low
+    by_size unit.directory.page low told.spot
   where
-    by_size : (size : PageSize) → line.first.byte < page_bytes size → line.first.byte < 4096
-    by_size Two low = omega (arith, low)
-    by_size Four low = low
+    by_size : (size : PageSize) → line.first.byte < page_bytes size → line.spot ≡ line.frame * page_bytes size + line.first.byte → (line.first.byte < 4096) × (line.spot < line.frame * 4096 + 4096)
+    by_size Two low at = (omega (arith, low), omega (arith, low, at))
+    by_size Four low at = (low, omega (arith, low, at))
 
 -- an access in a block that is known, to store where the line is, may be made
 module _ (unit : Unit) (wants : Access) (line : OpenLine) (some : 0 < wants.bytes) (fits : wants.address % 128 + wants.bytes ≤ 128) (less : (wants.store && not line.write) ≡ false) (is : known unit.lines (wants.address / 128) ≡ Some line) where
@@ -244,7 +247,7 @@ module _ (unit : Unit) (wants : Access) (line : OpenLine) (some : 0 < wants.byte
           (lets-same unit.directory unit.legal unit.table unit.runner line.first (wants.address % 128) wants.store line-whole (omega (arith, fits, some))
           ∙ lets-load unit.table unit.directory unit.runner line.first line.write wants.store less (told.allowed own))
 
-  pub opened-at : wants.bytes ≤ 255 → IsOpenAt (reach_of unit) wants at line.frame
+  opened-at : wants.bytes ≤ 255 → IsOpenAt (reach_of unit) wants at line.frame
   opened-at few = record {
     located = located;
     within = part.1;
@@ -254,6 +257,12 @@ module _ (unit : Unit) (wants : Access) (line : OpenLine) (some : 0 < wants.byte
         (line-permitted (reach_of unit) (unit-sound unit) at wants.bytes some few (found-lies unit wants wants.bytes (located_by unit.registers wants.address wants.bytes wants.store) at refl refl located) wants.store wants refl refl line.frame frame part.1 part.0 kept));
   }
 
+  pub opened-from : (found : OpenLine) → found.first ≡ at → found.frame ≡ line.frame → found.spot ≡ line.spot + wants.address % 128 → wants.bytes ≤ 255 → IsOpenFrom (reach_of unit) wants found
+  opened-from found from of spot few = record {
+    opens = subst (λ v. IsOpenAt (reach_of unit) wants v found.frame) (sym from) (subst (IsOpenAt (reach_of unit) wants at) (sym of) (opened-at few));
+    spot = omega (arith, spot, told.spot, ap (λ n. n * page_bytes unit.directory.page) of, ap (λ (v : Virtual). v.byte) from);
+  }
+
 -- its bytes lie there
 module _ (unit : Unit) (wants : Access) (first : Virtual) (frame : ℕ) (opens : IsOpenAt (reach_of unit) wants first frame) where
   pub open-lies : Lies (reach_of unit) first wants.bytes
@@ -261,6 +270,24 @@ module _ (unit : Unit) (wants : Access) (first : Virtual) (frame : ℕ) (opens :
 
   pub open-bytes : bytes_shown (reach_of unit) (place_of unit.directory first) wants.bytes ≡ bytes_from (byte_at (reach_of unit)) wants.address wants.bytes
   open-bytes = found-bytes unit wants wants.bytes (located_by unit.registers wants.address wants.bytes wants.store) first refl refl opens.located
+
+-- and at its spot those bytes are in the frames
+module _ (unit : Unit) (wants : Access) (line : OpenLine) (some : 0 < wants.bytes) (opens : IsOpenFrom (reach_of unit) wants line) (n : ℕ) (same : n ≡ wants.bytes) where
+  spot-is : line.spot ≡ line.frame * page_bytes unit.pool.places.page + line.first.byte
+  spot-is = opens.spot ∙ ap (λ size. line.frame * page_bytes size + line.first.byte) (sym unit.pool_size)
+
+  pub open-room : line.spot + n ≤ length (pool_of unit.pool).bytes
+  open-room = omega (arith, spot-is, same, room unit line.first line.frame line.first.byte wants.bytes opens.opens.frame refl opens.opens.within)
+
+  pub open-long : length (slice_range (pool_of unit.pool).bytes line.spot (line.spot + n)) ≡ n
+  open-long = simp (length-take, length-drop) (omega (arith, open-room))
+
+  pub open-part : slice_range (pool_of unit.pool).bytes line.spot (line.spot + n) ≡ bytes_from (byte_at (reach_of unit)) wants.address wants.bytes
+  open-part =
+      ap (λ at. slice_range (pool_of unit.pool).bytes at (at + n)) spot-is
+      ∙ ap (part_of (pool_of unit.pool) line.frame line.first.byte) same
+      ∙ part-shown (reach_of unit) (unit-sound unit) line.first wants.bytes some (open-lies unit wants line.first line.frame opens.opens) line.frame opens.opens.frame opens.opens.within
+      ∙ open-bytes unit wants line.first line.frame opens.opens
 
 -- what is refused stays
 pub refused-stays : {A : Type 0} (probe : Probe) (after before : A) → IsRefusal probe → before ≡ if_permitted probe after before

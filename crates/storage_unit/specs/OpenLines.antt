@@ -26,11 +26,12 @@ lets_at directory table runner at store =
     let line = line_of directory (start_of directory at.segment + offset_of directory.page at) in
     lets (entry_of (entry_at table (page_of_line line))) runner (line % 16) store
 
--- the 128 addresses of a block are located from the line's first byte on, to be stored where the line is; its frame has their page; and where
--- they are of the store, the entry lets
+-- the 128 addresses of a block are located from the line's first byte on, to be stored where the line is; its frame has their page, and that
+-- byte at its spot; and where they are of the store, the entry lets
 pub record IsOpened (directory : Layout) (table : Placed) (registers : Registers) (runner block : ℕ) (line : OpenLine) : Type 0 where
   pub located : located_by registers (block * 128) 128 line.write ≡ Ok line.first
   pub frame : look_up table.keys (key_of line.first) ≡ Some line.frame
+  pub spot : line.spot ≡ line.frame * page_bytes directory.page + line.first.byte
   pub allowed : is_private line.first.segment ≡ false → lets_at directory table runner line.first line.write ≡ true
 
 -- each line that is known is so
@@ -44,3 +45,8 @@ pub record IsOpenAt (state : Reach) (wants : Access) (at : Virtual) (found : ℕ
   pub within : at.byte + wants.bytes ≤ page_bytes state.directory.page
   pub frame : look_up (table_of state).keys (key_of at) ≡ Some found
   pub permitted : answer_in (λ s. s.registers) is_in_frame refuses state wants ≡ Probe.Permitted
+
+-- an access may be made from the first byte of a line on, which is at its spot
+pub record IsOpenFrom (state : Reach) (wants : Access) (line : OpenLine) : Type 0 where
+  pub opens : IsOpenAt state wants line.first line.frame
+  pub spot : line.spot ≡ line.frame * page_bytes state.directory.page + line.first.byte

@@ -42,6 +42,16 @@ pub fn offset_of(page: PageSize, at: Virtual) -> u32
     }
 }
 
+/// Where a byte of a frame lies among the bytes of all frames.
+pub fn spot_of(page: PageSize, frame: u16, byte: u16) -> u32
+    ensures { result ≡ frame * page_bytes page + byte }
+{
+    match page {
+        PageSize::Two => u32::from(frame) * 2048 + u32::from(byte),
+        PageSize::Four => u32::from(frame) * 4096 + u32::from(byte),
+    }
+}
+
 /// The byte so many past another in its segment.
 #[inline]
 pub fn byte_past(page: PageSize, first: Virtual, past: u16) -> Virtual

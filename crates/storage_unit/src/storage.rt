@@ -21,14 +21,16 @@ ghost use Rattle.storage_unit.specs.Rows.{tried_over, GivesRows, ChangesBytes, S
 ghost use Rattle.storage_unit.specs.Reached.{Lies, AreThere, bytes_shown, is_absent};
 ghost use Rattle.storage_unit.specs.Held.{table_of};
 ghost use Rattle.storage_unit.specs.Accesses.{IsRead, IsWritten};
-ghost use Rattle.storage_unit.specs.OpenLines.{IsOpenAt};
+ghost use Rattle.storage_unit.specs.OpenLines.{IsOpenAt, IsOpenFrom};
 ghost use Rattle.inverted_table.specs.Keys.{key_of};
 ghost use Rattle.inverted_table.specs.Placed.{look_up};
 
 use super::model::Reach;
 use super::private::PRIVATE;
 use super::rows::{drop_rows, use_bytes};
-use super::sizes::{byte_past, first_frame, is_in_line, line_in_page, offset_of, rest_of_line};
+use super::sizes::{
+    byte_past, first_frame, is_in_line, line_in_page, offset_of, rest_of_line, spot_of,
+};
 use super::unit::Unit;
 use byteorder::{BigEndian, ByteOrder};
 use flat_machine::{Ready, fill, gather, ready_of};
@@ -181,11 +183,11 @@ impl Unit {
         is_in_line(self.directory.page(), first.byte, bytes) || u16::from(bytes) <= self.rest(first)
     }
 
-    /// Where an access begins whose line is known, to store only where it is known to be stored, and the frame that has it.
+    /// The known line of an access from where that begins, to store only where it is known to be stored.
     #[inline(always)]
-    fn known_line(&self, wants: &Access) -> Option<(Virtual, u16)>
+    fn known_line(&self, wants: &Access) -> Option<OpenLine>
         requires { 0 < wants.now.bytes }
-        ensures { IfSome result (λ found. IsOpenAt (reach_of self.now) wants.now found.0 found.1) }
+        ensures { IfSome result (IsOpenFrom (reach_of self.now) wants.now) }
     {
         let line = self.lines.at(wants.address)?;
         let offset = wants.address % 128;
@@ -200,7 +202,12 @@ impl Unit {
             page: line.first.page,
             byte: line.first.byte + offset as u16,
         };
-        Some((first, line.frame))
+        Some(OpenLine {
+            first,
+            frame: line.frame,
+            spot: line.spot + offset,
+            write: line.write,
+        })
     }
 
     /// The line of an access that may be made is known from now on, if it lies in one block of 128 addresses.
@@ -223,6 +230,7 @@ impl Unit {
             OpenLine {
                 first: whole,
                 frame,
+                spot: spot_of(self.directory.page(), frame, whole.byte),
                 write: wants.store,
             },
         );
@@ -543,8 +551,10 @@ impl Storage for Unit {
 
     #[inline(always)]
     fn read(&mut self, wants: &Access, to: u8, sign: bool, regs: &mut [u32; 16]) -> Probe {
-        if let Some((first, frame)) = self.known_line(wants) {
-            let part = self.part_in(frame, first, usize::from(wants.bytes));
+        if let Some(line) = self.known_line(wants) {
+            let part = self
+                .pool
+                .spot_part(line.spot as usize, usize::from(wants.bytes));
             fill(to, sign, part, regs);
             return Probe::Permitted;
         }
@@ -553,8 +563,8 @@ impl Storage for Unit {
 
     #[inline(always)]
     fn write(&mut self, wants: &Access, from: u8, regs: &[u32; 16]) -> Probe {
-        if let Some((first, frame)) = self.known_line(wants) {
-            self.gather_in(frame, first, wants.bytes, from, regs);
+        if let Some(line) = self.known_line(wants) {
+            self.gather_in(line.frame, line.first, wants.bytes, from, regs);
             return Probe::Permitted;
         }
         self.write_far(*wants, from, regs)
