@@ -1,11 +1,11 @@
 -- The lines that a unit knows may be accessed.
-use Rattle.storage_unit.proofs.Common.{◌≡◌, ℕ, ◌+◌, ◌*◌, ◌/◌, ◌%◌, ◌<◌, ◌≤◌, ◌^◌, Bool, true, false, refl, sym, ◌∙◌, ap, subst, arith, List, Option, Some, None, Ok, Err, Result, cond, not, ◌&&◌, nat_le, find, option_map, slice_index_or, nat_tests, PageSize, Two, Four, page_bytes, line_bytes, bytes_of, is_named, Layout, length_of, start_of, line_of, page_of_line, entry_of, lets, Key, Placed, entry_at, key_of, look_up, Check, SegmentRegister, Virtual, Registers, virtual_at, located_under, located_by, Access, Probe, answered_at, if_permitted, Reach, is_private, offset_of, place_of, on, table_of, is_kept_from, is_refused, is_in_frame, refuses, IsUnder, IsSound, IsLegal, Lies, bytes_shown, bytes_from, byte_at, eqb-true, ◌==◌, Unit, reach_of, length, length-take, length-drop, slice_range, part_of, pool_of}
+use Rattle.storage_unit.proofs.Common.{◌≡◌, ℕ, ◌+◌, ◌*◌, ◌/◌, ◌%◌, ◌<◌, ◌≤◌, ◌^◌, Bool, true, false, refl, sym, ◌∙◌, ap, subst, arith, List, Option, Some, None, Ok, Err, Result, cond, not, ◌&&◌, nat_le, find, option_map, slice_index_or, nat_tests, PageSize, Two, Four, page_bytes, line_bytes, bytes_of, is_named, Layout, length_of, start_of, line_of, page_of_line, entry_of, lets, Key, Placed, entry_at, key_of, look_up, Check, SegmentRegister, Virtual, Registers, virtual_at, located_under, located_by, Access, Probe, answered_at, if_permitted, Reach, is_private, offset_of, place_of, on, table_of, is_kept_from, is_refused, is_in_frame, refuses, IsUnder, IsSound, IsLegal, Lies, bytes_shown, bytes_from, byte_at, eqb-true, ◌==◌, Unit, reach_of, length, length-take, length-drop, slice_range, part_of, pool_of, has, is_marked, [], marked_in, union, slice_set, get_or-set_same, get_or-set_other, get_or_past, is_in_where-below, page_at, with_marks, option_map_or, put_at, Located, Private, Shared, Refused}
 use Rattle.romp_cpu.specs.Answers.{IsRefusal}
 use Rattle.open_lines.specs.declared.lines.OpenLine.{OpenLine}
 use Rattle.open_lines.specs.declared.lines.OpenLines.{OpenLines}
 use Rattle.open_lines.specs.Known.{known, KnowsNothing, with_line}
 use Rattle.open_lines.specs.Places.{place_of as line_place}
-use Rattle.storage_unit.specs.OpenLines.{lets_at, IsOpened, AreOpened, IsOpenAt, IsOpenFrom}
+use Rattle.storage_unit.specs.OpenLines.{lets_at, is_marked_at, IsOpened, AreOpened, AreMarked, IsOpenAt, IsOpenFrom}
 use Rattle.storage_unit.proofs.AnswerLemmas.{permitted-lines}
 use Rattle.storage_unit.proofs.KeyLemmas.{start-whole}
 use Rattle.storage_unit.proofs.LineLemmas.{line-permitted}
@@ -44,6 +44,21 @@ lets-same : (d : Layout) (legal : IsLegal d.segments) (table : Placed) (runner :
 lets-same d legal table runner at past store whole below =
     ap (λ line. lets (entry_of (entry_at table (page_of_line line))) runner (line % 16) store)
     (same-line d.page (start_of d at.segment) at.page at.byte past (start-whole d legal at.segment) whole below)
+
+-- and marked alike
+marked-same : (d : Layout) (legal : IsLegal d.segments) (marked : List (List ℕ)) (at : Virtual) (past : ℕ) → at.byte % 128 ≡ 0 → past < 128 → is_marked_at d marked (moved at past) ≡ is_marked_at d marked at
+marked-same d legal marked at past whole below =
+    ap (λ line. has (slice_index_or marked (page_of_line line) []) (line % 16))
+    (same-line d.page (start_of d at.segment) at.page at.byte past (start-whole d legal at.segment) whole below)
+
+-- what is located to be stored is to be loaded
+weaker : (registers : Registers) (address n : ℕ) (store weak : Bool) (at : Virtual) → (weak && not store) ≡ false → located_by registers address n store ≡ Ok at → located_by registers address n weak ≡ Ok at
+weaker registers address n store weak at less is = grind (arith, nat_tests)
+
+stored-to : (store write : Bool) → (store && not write) ≡ false → store ≡ true → write ≡ true
+stored-to true true less is = refl
+stored-to true false less is = absurd (cc)
+stored-to false write less is = absurd (cc)
 
 -- who may store may load
 lets-load : (table : Placed) (d : Layout) (runner : ℕ) (at : Virtual) (write store : Bool) → (store && not write) ≡ false → lets_at d table runner at write ≡ true → lets_at d table runner at store ≡ true
@@ -150,9 +165,13 @@ module _ (state : Reach) (sound : IsSound state) (address n : ℕ) (store : Bool
       (ap (λ r. located_under state.registers.page r (address % 2 ^ 28) n store) (sym found.stands) ∙ is)
 
 -- the line of an access that may be made, from its block's first byte on, is open
-module _ (unit : Unit) (wants : Access) (first : Virtual) (frame : ℕ) (spot : ℕ) (some : 0 < wants.bytes) (opens : IsOpenAt (reach_of unit) wants first frame) (at : spot ≡ frame * page_bytes unit.directory.page + first.byte / 128 * 128) where
+module _ (unit : Unit) (wants : Access) (first : Virtual) (frame spot : ℕ) (write : Bool) (some : 0 < wants.bytes) (opens : IsOpenAt (reach_of unit) wants first frame) (at : spot ≡ frame * page_bytes unit.directory.page + first.byte / 128 * 128)
+    (stores : write ≡ true → wants.store ≡ true) (marked : write ≡ true → is_private first.segment ≡ false → is_marked_at unit.directory (pool_of unit.pool).marked first ≡ true) where
   abbrev state : Reach
   state = reach_of unit
+
+  less : (write && not wants.store) ≡ false
+  less = grind (arith, nat_tests, stores)
 
   allowed : is_private first.segment ≡ false → lets_at unit.directory unit.table unit.runner first wants.store ≡ true
   allowed own =
@@ -170,31 +189,61 @@ module _ (unit : Unit) (wants : Access) (first : Virtual) (frame : ℕ) (spot : 
   back : first ≡ moved (rounded first) (first.byte % 128)
   back = ap (λ b. (let v : Virtual = record first { byte = b } in v)) (let same : first.byte ≡ first.byte / 128 * 128 + first.byte % 128 = omega arith in same)
 
-  block-opened : IsOpened unit.directory unit.table unit.registers unit.runner (wants.address / 128) (record { first = rounded first; frame = frame; spot = spot; write = wants.store })
+  block-opened : IsOpened unit.directory unit.table unit.registers (pool_of unit.pool).marked unit.runner (wants.address / 128) (record { first = rounded first; frame = frame; spot = spot; write = write })
   block-opened = record {
-    located = block-located state (unit-sound unit) wants.address wants.bytes wants.store first some opens.located;
+    located = block-located state (unit-sound unit) wants.address wants.bytes write first some (weaker unit.registers wants.address wants.bytes wants.store write first less opens.located);
     frame = ap (λ (keys : List (Option Key)). look_up keys (key_of first)) unit.held ∙ opens.frame;
     spot = at;
     allowed = λ own.
-        sym (lets-same unit.directory unit.legal unit.table unit.runner (rounded first) (first.byte % 128) wants.store (omega arith) (omega arith))
-        ∙ ap (λ at. lets_at unit.directory unit.table unit.runner at wants.store) (sym back) ∙ allowed own;
+        lets-load unit.table unit.directory unit.runner (rounded first) wants.store write less
+        (sym (lets-same unit.directory unit.legal unit.table unit.runner (rounded first) (first.byte % 128) wants.store (omega arith) (omega arith))
+        ∙ ap (λ at. lets_at unit.directory unit.table unit.runner at wants.store) (sym back) ∙ allowed own);
+    written = λ own is.
+        sym (marked-same unit.directory unit.legal (pool_of unit.pool).marked (rounded first) (first.byte % 128) (omega arith) (omega arith))
+        ∙ ap (is_marked_at unit.directory (pool_of unit.pool).marked) (sym back) ∙ marked is own;
   }
 
   pub opened-with :
-      (after : OpenLines) → ((block : ℕ) → known after block ≡ with_line (wants.address / 128) (record { first = rounded first; frame = frame; spot = spot; write = wants.store }) block (known unit.lines block))
-      → AreOpened after unit.directory unit.table unit.registers unit.runner
+      (after : OpenLines) → ((block : ℕ) → known after block ≡ with_line (wants.address / 128) (record { first = rounded first; frame = frame; spot = spot; write = write }) block (known unit.lines block))
+      → AreOpened after unit.directory unit.table unit.registers (pool_of unit.pool).marked unit.runner
   opened-with after left block line is = by_tests (block == wants.address / 128) (line_place block == line_place (wants.address / 128)) refl (sym (left block) ∙ is)
     where
-      by_tests : (here near : Bool) → (block == wants.address / 128) ≡ here → cond here (Some (record { first = rounded first; frame = frame; spot = spot; write = wants.store })) (cond near None (known unit.lines block)) ≡ Some line
-          → IsOpened unit.directory unit.table unit.registers unit.runner block line
+      by_tests : (here near : Bool) → (block == wants.address / 128) ≡ here → cond here (Some (record { first = rounded first; frame = frame; spot = spot; write = write })) (cond near None (known unit.lines block)) ≡ Some line
+          → IsOpened unit.directory unit.table unit.registers (pool_of unit.pool).marked unit.runner block line
       by_tests true near same told =
-          subst (λ b. IsOpened unit.directory unit.table unit.registers unit.runner b line) (sym (eqb-true block (wants.address / 128) same))
-          (subst (IsOpened unit.directory unit.table unit.registers unit.runner (wants.address / 128)) (let kept : record { first = rounded first; frame = frame; spot = spot; write = wants.store } ≡ line = cc in kept) block-opened)
+          subst (λ b. IsOpened unit.directory unit.table unit.registers (pool_of unit.pool).marked unit.runner b line) (sym (eqb-true block (wants.address / 128) same))
+          (subst (IsOpened unit.directory unit.table unit.registers (pool_of unit.pool).marked unit.runner (wants.address / 128)) (let kept : record { first = rounded first; frame = frame; spot = spot; write = write } ≡ line = cc in kept) block-opened)
       by_tests false true same told = absurd (let clash : None ≡ Some line = told in cc)
       by_tests false false same told = unit.opened block line told
 
+-- marks that come beside others leave those
+marks-stay : (marked : List (List ℕ)) (page : ℕ) (lines : List ℕ) (p x : ℕ) → x < 16 → has (slice_index_or marked p []) x ≡ true
+    → has (slice_index_or (slice_set marked page (union (slice_index_or marked page []) lines)) p []) x ≡ true
+marks-stay marked page lines p x few is = grind (arith, nat_tests, get_or-set_same, get_or-set_other, get_or_past, is_in_where-below)
+
+pub opened-more : (unit : Unit) (frame : ℕ) (lines : List ℕ) → AreOpened unit.lines unit.directory unit.table unit.registers (marked_in (pool_of unit.pool) frame lines).marked unit.runner
+opened-more unit frame lines = by_page (page_at (pool_of unit.pool) frame)
+  where
+    by_page : (o : Option ℕ) → AreOpened unit.lines unit.directory unit.table unit.registers (option_map_or (λ page. with_marks (pool_of unit.pool) page lines) o (pool_of unit.pool)).marked unit.runner
+    by_page None = unit.opened
+    by_page (Some page) = λ block line is.
+        let told = unit.opened block line is in
+        record {
+          located = told.located;
+          frame = told.frame;
+          spot = told.spot;
+          allowed = told.allowed;
+          written = λ own write. marks-stay (pool_of unit.pool).marked page lines _ _ (omega arith) (told.written own write);
+        }
+
+-- what may be accessed may be after a store
+pub open-after : (state : Reach) (place : Located) (bytes : List ℕ) (wants : Access) (first : Virtual) (frame : ℕ) → IsOpenAt state wants first frame → IsOpenAt (put_at state place bytes) wants first frame
+open-after state (Private a) bytes wants first frame opens = record { located = opens.located; within = opens.within; frame = opens.frame; permitted = opens.permitted }
+open-after state (Shared a) bytes wants first frame opens = record { located = opens.located; within = opens.within; frame = opens.frame; permitted = opens.permitted }
+open-after state (Refused code) bytes wants first frame opens = opens
+
 -- where none is known, all are open
-pub opened-none : (lines : OpenLines) (directory : Layout) (table : Placed) (registers : Registers) (runner : ℕ) → KnowsNothing lines → AreOpened lines directory table registers runner
+pub opened-none : (lines : OpenLines) (directory : Layout) (table : Placed) (registers : Registers) (runner : ℕ) {marked : List (List ℕ)} → KnowsNothing lines → AreOpened lines directory table registers marked runner
 opened-none lines directory table registers runner none block line is = absurd (let clash : None ≡ Some line = sym (none block) ∙ is in cc)
 
 -- the first byte of a line that is known is one of its page, and its spot is one of as many frames
@@ -210,7 +259,7 @@ opened-low unit wants line is =
 
 -- an access in a block that is known, to store where the line is, may be made
 module _ (unit : Unit) (wants : Access) (line : OpenLine) (some : 0 < wants.bytes) (fits : wants.address % 128 + wants.bytes ≤ 128) (less : (wants.store && not line.write) ≡ false) (is : known unit.lines (wants.address / 128) ≡ Some line) where
-  told : IsOpened unit.directory unit.table unit.registers unit.runner (wants.address / 128) line
+  told : IsOpened unit.directory unit.table unit.registers (pool_of unit.pool).marked unit.runner (wants.address / 128) line
   told = unit.opened (wants.address / 128) line is
 
   here : Under unit.registers (wants.address / 128 * 128) 128 line.first
@@ -257,10 +306,18 @@ module _ (unit : Unit) (wants : Access) (line : OpenLine) (some : 0 < wants.byte
         (line-permitted (reach_of unit) (unit-sound unit) at wants.bytes some few (found-lies unit wants wants.bytes (located_by unit.registers wants.address wants.bytes wants.store) at refl refl located) wants.store wants refl refl line.frame frame part.1 part.0 kept));
   }
 
+  marked-here : wants.store ≡ true → AreMarked (reach_of unit) at wants.bytes
+  marked-here stores own past below =
+      let whole : start_of unit.directory at.segment + offset_of unit.directory.page at + past ≡ start_of unit.directory line.first.segment + offset_of unit.directory.page (moved line.first (wants.address % 128 + past)) = omega arith in
+      ap (is_marked unit.directory (pool_of unit.pool)) whole
+      ∙ marked-same unit.directory unit.legal (pool_of unit.pool).marked line.first (wants.address % 128 + past) line-whole (omega (arith, fits, below))
+      ∙ told.written own (stored-to wants.store line.write less stores)
+
   pub opened-from : (found : OpenLine) → found.first ≡ at → found.frame ≡ line.frame → found.spot ≡ line.spot + wants.address % 128 → wants.bytes ≤ 255 → IsOpenFrom (reach_of unit) wants found
   opened-from found from of spot few = record {
     opens = subst (λ v. IsOpenAt (reach_of unit) wants v found.frame) (sym from) (subst (IsOpenAt (reach_of unit) wants at) (sym of) (opened-at few));
     spot = omega (arith, spot, told.spot, ap (λ n. n * page_bytes unit.directory.page) of, ap (λ (v : Virtual). v.byte) from);
+    written = λ stores. subst (λ v. AreMarked (reach_of unit) v wants.bytes) (sym from) (marked-here stores);
   }
 
 -- its bytes lie there
@@ -273,7 +330,7 @@ module _ (unit : Unit) (wants : Access) (first : Virtual) (frame : ℕ) (opens :
 
 -- and at its spot those bytes are in the frames
 module _ (unit : Unit) (wants : Access) (line : OpenLine) (some : 0 < wants.bytes) (opens : IsOpenFrom (reach_of unit) wants line) (n : ℕ) (same : n ≡ wants.bytes) where
-  spot-is : line.spot ≡ line.frame * page_bytes unit.pool.places.page + line.first.byte
+  pub spot-is : line.spot ≡ line.frame * page_bytes unit.pool.places.page + line.first.byte
   spot-is = opens.spot ∙ ap (λ size. line.frame * page_bytes size + line.first.byte) (sym unit.pool_size)
 
   pub open-room : line.spot + n ≤ length (pool_of unit.pool).bytes

@@ -21,7 +21,7 @@ ghost use Rattle.storage_unit.specs.Rows.{tried_over, GivesRows, ChangesBytes, S
 ghost use Rattle.storage_unit.specs.Reached.{Lies, AreThere, bytes_shown, is_absent};
 ghost use Rattle.storage_unit.specs.Held.{table_of};
 ghost use Rattle.storage_unit.specs.Accesses.{IsRead, IsWritten};
-ghost use Rattle.storage_unit.specs.OpenLines.{IsOpenAt, IsOpenFrom};
+ghost use Rattle.storage_unit.specs.OpenLines.{is_marked_at, IsOpenAt, IsOpenFrom};
 ghost use Rattle.inverted_table.specs.Keys.{key_of};
 ghost use Rattle.inverted_table.specs.Placed.{look_up};
 
@@ -210,7 +210,25 @@ impl Unit {
         })
     }
 
-    /// The line of an access that may be made is known from now on, if it lies in one block of 128 addresses.
+    /// Whether an access is to store to a byte that a frame has, and the line of that is marked where it is one of the store.
+    fn is_written(&self, frame: u16, first: Virtual, store: bool) -> bool
+        requires lies { Lies (reach_of self.now) first 1 }
+        requires frame { look_up (table_of (reach_of self.now)).keys (key_of first) ≡ Some frame }
+        ensures store { result ≡ true → store ≡ true }
+        ensures marked { result ≡ true → is_private first.segment ≡ false → is_marked_at (reach_of self.now).directory (reach_of self.now).pool.marked first ≡ true }
+    {
+        if !store {
+            return false;
+        }
+        let line = line_in_page(self.directory.page(), first.byte);
+        match self.pool.page_in(frame) {
+            Some(page) => self.pool.written(page).contains(line),
+            None => true,
+        }
+    }
+
+    /// The line of an access that may be made is known from now on, if it lies in one block of 128 addresses: to be stored
+    /// where it is marked.
     #[inline]
     fn keep_line(&mut self, wants: &Access, first: Virtual, frame: u16)
         requires some { 0 < wants.now.bytes }
@@ -225,13 +243,14 @@ impl Unit {
             page: first.page,
             byte: first.byte / 128 * 128,
         };
+        let write = self.is_written(frame, first, wants.store);
         self.lines.keep(
             wants.address,
             OpenLine {
                 first: whole,
                 frame,
                 spot: spot_of(self.directory.page(), frame, whole.byte),
-                write: wants.store,
+                write,
             },
         );
     }
@@ -414,6 +433,27 @@ impl Unit {
         );
     }
 
+    /// Writes the bytes of registers over those of a line that is known, which are marked.
+    #[inline(always)]
+    fn gather_over(&mut self, line: OpenLine, wants: &Access, from: u8, regs: &[u32; 16])
+        requires stores { wants.now.store ≡ true }
+        requires fits { FitsFrom wants.now.bytes from }
+        requires lies { Lies (reach_of self.old) line.first wants.now.bytes }
+        requires open { IsOpenFrom (reach_of self.old) wants.now line }
+        ensures { reach_of self.new ≡ put_at (reach_of self.old) (place_of (reach_of self.old).directory line.first) (stored_bytes regs.now wants.now.bytes from) }
+    {
+        let page = self.directory.page();
+        let count = u32::from(wants.bytes);
+        drop_rows(&mut self.rows, page, line.first, count);
+        use_bytes(&mut self.used, page, line.first, count);
+        gather(
+            from,
+            regs,
+            self.pool
+                .spot_mut(line.spot as usize, usize::from(wants.bytes)),
+        );
+    }
+
     /// The frame of an access that begins at a byte and lies in one page, or why it can't be made now. Where it may be made, its
     /// line is known from now on.
     #[inline(always)]
@@ -477,7 +517,7 @@ impl Unit {
         }
     }
 
-    /// Writes the bytes of registers over those of one page, if that is permitted.
+    /// Writes the bytes of registers over those of one page, if that is permitted. Then its line is known, as it is marked now.
     #[inline(always)]
     fn gather_at(&mut self, wants: &Access, first: Virtual, from: u8, regs: &[u32; 16]) -> Probe
         requires fits { FitsFrom wants.now.bytes from }
@@ -485,9 +525,10 @@ impl Unit {
         requires within { first.byte + wants.now.bytes ≤ page_bytes (reach_of self.old).directory.page }
         ensures { IsWritten (reach_of self.old) (reach_of self.new) wants.now from regs.now result }
     {
-        match self.open(wants, first) {
+        match self.frame_for(first, wants.bytes, wants.store) {
             Ok(frame) => {
                 self.gather_in(frame, first, wants.bytes, from, regs);
+                self.keep_line(wants, first, frame);
                 Probe::Permitted
             }
             Err(probe) => probe,
@@ -564,7 +605,7 @@ impl Storage for Unit {
     #[inline(always)]
     fn write(&mut self, wants: &Access, from: u8, regs: &[u32; 16]) -> Probe {
         if let Some(line) = self.known_line(wants) {
-            self.gather_in(line.frame, line.first, wants.bytes, from, regs);
+            self.gather_over(line, wants, from, regs);
             return Probe::Permitted;
         }
         self.write_far(*wants, from, regs)
