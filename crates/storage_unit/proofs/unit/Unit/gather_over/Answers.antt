@@ -2,6 +2,8 @@ use Rattle.storage_unit.proofs.Common.{◌≡◌, ◌+◌, ◌-◌, length, sym,
 use Rattle.ready_rows.specs.Known.{known}
 use Rattle.storage_unit.specs.ReadyRows.{after_store}
 use Rattle.storage_unit.specs.Cleared.{AreUsed}
+use Rattle.storage_unit.proofs.GatheredLemmas.{gathered-at}
+use Rattle.storage_unit.proofs.UnitLemmas.{unit-sound}
 use Rattle.storage_unit.proofs.MarkedLemmas.{stored-over, ready-over, clear-over}
 use Rattle.storage_unit.proofs.OpenedLemmas.{open-room, open-long}
 use Rattle.storage_unit.proofs.unit.Unit.gather_over.Goals.{After-gather, After-spot_mut}
@@ -52,7 +54,13 @@ invariant_of-self c =
 pub returns : goal.returns
 returns c =
     let unit = c.args.self.now in
+    let wants = c.args.wants.now in
     let after = (goal.at.returns c).After-gather in
     let lent = lent (goal.at.returns c).After-spot_mut in
-    stored-over unit c.args.wants.now c.args.line c.requires.fits.some c.requires.stores c.requires.open c.gather.new.into (long after lent)
-    ∙ ap (put_at (reach_of unit) (place_of unit.directory c.args.line.first)) (written after lent)
+    record {
+      answer = sym c.requires.open.opens.permitted;
+      state =
+          stored-over unit wants c.args.line c.requires.fits.some c.requires.stores c.requires.open c.gather.new.into (long after lent)
+          ∙ ap (put_at (reach_of unit) (place_of unit.directory c.args.line.first)) (written after lent)
+          ∙ gathered-at (reach_of unit) (unit-sound unit) wants.address wants.bytes wants.store c.args.line.first c.requires.open.opens.located c.args.regs.now c.args.from c.told-regs c.requires.fits;
+    }

@@ -1,5 +1,5 @@
 use Rattle.storage_unit.proofs.Common.{refl, ◌≡◌, ◌+◌, ◌%◌, ◌≤◌, ◌∙◌, sym, false, not, ◌&&◌, arith, nat_tests}
-use Rattle.storage_unit.proofs.OpenedLemmas.{opened-from, opened-low}
+use Rattle.storage_unit.proofs.OpenedLemmas.{opened-line, opened-low}
 use Rattle.storage_unit.proofs.unit.Unit.known_line.Goals.{else-wants-via-then-wants+else-not-line, else-wants-via-else-wants}
 use Rattle.storage_unit.proofs.unit.Unit.known_line.Goals as goal
 
@@ -22,4 +22,4 @@ returns c =
       | else-wants-via-else-wants w ↦ grind (arith, nat_tests)
     ] in
     let fits : wants.address % 128 + wants.bytes ≤ 128 = omega (arith, c.if-offset-from-gt128.false, c.from.ensures) in
-    opened-from c.args.self.now wants line c.requires fits less (sym c.at.ensures ∙ c.in_ok-line.was) _ refl refl refl (omega (arith, fits))
+    opened-line c.args.self.now wants line c.requires fits less (sym c.at.ensures ∙ c.in_ok-line.was) _ refl refl refl
