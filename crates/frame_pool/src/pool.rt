@@ -282,6 +282,25 @@ impl FramePool {
             .part(page_place(self.places.page, frame) + at, count)
     }
 
+    /// So many bytes of the frames, from a spot on.
+    #[inline(always)]
+    pub fn spot_part(&self, spot: usize, count: usize) -> &[u8]
+        requires { spot + count ≤ length (pool_of self.now).bytes }
+        ensures { result.now ≡ slice_range (pool_of self.now).bytes spot (spot + count) }
+    {
+        self.bytes.part(spot, count)
+    }
+
+    /// Lends so many bytes of the frames, from a spot on, to be written. Marks stay.
+    #[inline(always)]
+    pub fn spot_mut(&mut self, spot: usize, count: usize) -> &mut [u8]
+        requires { spot + count ≤ length (pool_of self.old).bytes }
+        ensures* writes_back { sem 𝓛 (LendsFrame self.entry spot result) }
+        ensures value { result.now ≡ slice_range (pool_of self.old).bytes spot (spot + count) }
+    {
+        self.bytes.part_mut(spot, count)
+    }
+
     /// Lends a part of a frame, from an offset on, to be written. If the frame is a page's of the store, the lines of the
     /// part are marked.
     #[inline(always)]

@@ -6,7 +6,7 @@ use Rattle.open_lines.specs.declared.lines.OpenLines.{OpenLines}
 
 -- what stands at a place that has no line
 abbrev pub unopened : OpenLine
-unopened = record { first = record { segment = 0; page = 0; byte = 0 }; frame = 0; write = false }
+unopened = record { first = record { segment = 0; page = 0; byte = 0 }; frame = 0; spot = 0; write = false }
 
 -- the line at a block, if its place has one with the block for a tag
 abbrev pub line_in : List Bool → (tags : List ℕ) → List OpenLine → (block : ℕ) → Option OpenLine

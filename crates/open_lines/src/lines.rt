@@ -3,12 +3,13 @@ ghost use Rattle.open_lines.specs.Places.{place_of};
 
 use segment_regs::Virtual;
 
-/// The 128 bytes at the addresses of a block: where the first of them lies, the frame that has them, and whether they are to
-/// be stored or only to be loaded.
+/// The 128 bytes at the addresses of a block: where the first of them lies, the frame that has them, the spot of the first
+/// among the bytes of all frames, and whether they are to be stored or only to be loaded.
 #[derive(Clone, Copy)]
 pub struct OpenLine {
     pub first: Virtual,
     pub frame: u16,
+    pub spot: u32,
     pub write: bool,
 }
 
@@ -39,6 +40,7 @@ impl OpenLines {
                 byte: 0,
             },
             frame: 0,
+            spot: 0,
             write: false,
         };
         OpenLines {

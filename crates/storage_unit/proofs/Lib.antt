@@ -30,6 +30,7 @@ pub mod LaidLemmas
 pub mod ReadyLemmas
 pub mod ClearLemmas
 pub mod WrittenLemmas
+pub mod MarkedLemmas
 pub mod RowLemmas
 pub mod BringKeeps
 pub mod FailedBringKeeps

@@ -84,7 +84,7 @@ module _ (state : Reach) (sound : IsSound state) (first : Virtual) (n : ℕ) (so
           ∙ kept-fault 0 some one (λ j less. absurd (omega (arith, less)))
 
       -- no byte is
-      permitted : ((k : ℕ) → k < n → kept k ≡ false) → Probe.Permitted ≡ answered_at state.directory.page (is_in_frame state) (refuses state) access (Ok first)
+      pub permitted : ((k : ℕ) → k < n → kept k ≡ false) → Probe.Permitted ≡ answered_at state.directory.page (is_in_frame state) (refuses state) access (Ok first)
       permitted free = grind (arith, nat_tests, none-found, none-absent, answered)
 
       pub line-permitted : first.byte % line_bytes state.directory.page + n ≤ line_bytes state.directory.page → kept 0 ≡ false → Probe.Permitted ≡ answered_at state.directory.page (is_in_frame state) (refuses state) access (Ok first)

@@ -5,7 +5,7 @@ use Rattle.storage_unit.proofs.AnswerLemmas.{permitted-located, permitted-lines,
 use Rattle.storage_unit.proofs.LocatedLemmas.{lies-where}
 
 -- each line from the first to the last of some bytes has one of them
-byte-of-line : (page : PageSize) (at more line : ℕ) → at / line_bytes page ≤ line → line ≤ (at + more) / line_bytes page
+pub byte-of-line : (page : PageSize) (at more line : ℕ) → at / line_bytes page ≤ line → line ≤ (at + more) / line_bytes page
     → (k : ℕ) × (k ≤ more) × ((at + k) / line_bytes page ≡ line)
 byte-of-line Two at more line above below =
     elim (cases_lt at (line * 128)) [

@@ -4,7 +4,7 @@ use Rattle.storage_unit.proofs.CopyLemmas.{found-below}
 use Rattle.storage_unit.proofs.UnitLemmas.{unit-sound}
 
 module _ (unit : Unit) (at : Virtual) (frame byte n : ℕ) (is : look_up (table_of (reach_of unit)).keys (key_of at) ≡ Some frame) (same : byte ≡ at.byte) (within : at.byte + n ≤ page_bytes unit.directory.page) where
-  room : frame * page_bytes unit.pool.places.page + byte + n ≤ length unit.pool.bytes.items.items
+  pub room : frame * page_bytes unit.pool.places.page + byte + n ≤ length unit.pool.bytes.items.items
   room = grind (arith, nat_tests, found-below (reach_of unit), unit-sound unit)
 
   pub part-long : length (part_of (pool_of unit.pool) frame byte n) ≡ n

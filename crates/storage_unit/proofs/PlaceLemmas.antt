@@ -77,8 +77,8 @@ module _ (state : Reach) (sound : IsSound state) (address n : ℕ) (at : Virtual
   is-at : at ≡ virtual_at state.directory.page u.register.segment (address % 2 ^ 28)
   is-at = u.is ∙ ap (λ page. virtual_at page u.register.segment (address % 2 ^ 28)) (registers-page state sound)
 
-  offset : offset_of state.directory.page at ≡ address % 2 ^ 28
-  offset = ap (offset_of state.directory.page) is-at ∙ offset-is state.directory.page u.register.segment (address % 2 ^ 28)
+  pub located-offset : offset_of state.directory.page at ≡ address % 2 ^ 28
+  located-offset = ap (offset_of state.directory.page) is-at ∙ offset-is state.directory.page u.register.segment (address % 2 ^ 28)
 
   segment : at.segment ≡ u.register.segment
   segment = ap (λ (v : Virtual). v.segment) u.is
@@ -93,13 +93,13 @@ module _ (state : Reach) (sound : IsSound state) (address n : ℕ) (at : Virtual
   pub lies : Lies state at n
   lies = record {
     within = subst (λ (v : Virtual). v.byte < page_bytes state.directory.page) (sym is-at) (rest-below state.directory.page (address % 2 ^ 28));
-    few = omega (arith, offset, u.fits, few-bytes);
+    few = omega (arith, located-offset, u.fits, few-bytes);
     private = λ own.
         let told = stands.private (ap is_private (sym segment) ∙ own) in
-        (one.seat, one.runner, one.few, segment ∙ told.0, one.begun, omega (arith, offset, u.fits, told.1));
+        (one.seat, one.runner, one.few, segment ∙ told.0, one.begun, omega (arith, located-offset, u.fits, told.1));
     shared = λ own.
         let found = ap (length_of state.directory) segment ∙ stands.shared (ap is_private (sym segment) ∙ own) in
-        (u.register.bytes, found, omega (arith, offset, u.fits), segment-within state.directory at.segment u.register.bytes found);
+        (u.register.bytes, found, omega (arith, located-offset, u.fits), segment-within state.directory at.segment u.register.bytes found);
   }
 
   -- each byte of it
@@ -115,14 +115,14 @@ module _ (state : Reach) (sound : IsSound state) (address n : ℕ) (at : Virtual
       ∙ ap (λ (test : Bool). cond {A = Result Virtual Check} test (Ok (virtual_at state.registers.page u.register.segment (address % 2 ^ 28 + k))) (Err (record { 0 = 2 }))) inside
       ∙ ap (λ page. Ok (virtual_at page u.register.segment (address % 2 ^ 28 + k))) (registers-page state sound)
       ∙ ap (λ s. Ok (virtual_at state.directory.page s (address % 2 ^ 28 + k))) (sym segment)
-      ∙ ap (λ o. Ok (virtual_at state.directory.page at.segment (o + k))) (sym offset)
+      ∙ ap (λ o. Ok (virtual_at state.directory.page at.segment (o + k))) (sym located-offset)
 
   -- the byte shown there
   pub byte-on : (k : ℕ) → k < n → byte_at state (address + k) ≡ byte_of state (on (place_of state.directory at) k)
   byte-on k below = grind (arith, nat_tests, part, place-on)
 
   pub itself : at ≡ virtual_at state.directory.page at.segment (offset_of state.directory.page at)
-  itself = is-at ∙ ap (λ s. virtual_at state.directory.page s (address % 2 ^ 28)) (sym segment) ∙ ap (virtual_at state.directory.page at.segment) (sym offset)
+  itself = is-at ∙ ap (λ s. virtual_at state.directory.page s (address % 2 ^ 28)) (sym segment) ∙ ap (virtual_at state.directory.page at.segment) (sym located-offset)
 
 -- the first byte of a range that isn't refused, as it is located alone
 pub first-byte : (state : Reach) → IsSound state → (address n : ℕ) (store : Bool) (at : Virtual) → located_by state.registers address n store ≡ Ok at → located_by state.registers address 0 false ≡ Ok at

@@ -1,9 +1,10 @@
 -- The lines that a unit knows: each may be accessed.
-use Rattle.std.specs.Prelude.{◌≡◌, ℕ, ◌+◌, ◌*◌, ◌%◌, ◌≤◌, Bool, true, false, Some, Ok}
+use Rattle.std.specs.Prelude.{◌≡◌, ℕ, ◌+◌, ◌*◌, ◌%◌, ◌≤◌, ◌<◌, Bool, true, false, List, [], slice_index_or, Some, Ok}
 use Rattle.line_geometry.specs.Directory.{Layout, start_of}
 use Rattle.line_geometry.specs.Lines.{line_of}
 use Rattle.line_geometry.specs.Segments.{page_bytes}
 use Rattle.lock_rules.specs.Lines.{page_of_line}
+use Rattle.lock_rules.specs.Sets.{has}
 use Rattle.lockbit_rules.specs.Entries.{entry_of, lets}
 use Rattle.segment_regs.specs.declared.registers.Virtual.{Virtual}
 use Rattle.segment_regs.specs.Registers.{Registers, located_by}
@@ -16,6 +17,7 @@ use Rattle.romp_cpu.specs.Answers.{answer_in}
 use Rattle.romp_cpu.specs.declared.storage.Access.{Access}
 use Rattle.romp_cpu.specs.declared.storage.Probe.{Probe}
 use Rattle.storage_unit.specs.declared.model.Reach.{Reach}
+use Rattle.storage_unit.specs.Bytes.{is_marked}
 use Rattle.storage_unit.specs.Held.{table_of}
 use Rattle.storage_unit.specs.Places.{is_private, offset_of}
 use Rattle.storage_unit.specs.Reach.{is_in_frame, refuses}
@@ -26,17 +28,24 @@ lets_at directory table runner at store =
     let line = line_of directory (start_of directory at.segment + offset_of directory.page at) in
     lets (entry_of (entry_at table (page_of_line line))) runner (line % 16) store
 
--- the 128 addresses of a block are located from the line's first byte on, to be stored where the line is; its frame has their page; and where
--- they are of the store, the entry lets
-pub record IsOpened (directory : Layout) (table : Placed) (registers : Registers) (runner block : ℕ) (line : OpenLine) : Type 0 where
+-- whether the line of a byte of the store is among the marks of its page
+abbrev pub is_marked_at : Layout → List (List ℕ) → Virtual → Bool
+is_marked_at directory marked at =
+    let line = line_of directory (start_of directory at.segment + offset_of directory.page at) in has (slice_index_or marked (page_of_line line) []) (line % 16)
+
+-- the 128 addresses of a block are located from the line's first byte on, to be stored where the line is; its frame has their page, and that
+-- byte at its spot; and where they are of the store, the entry lets, and they are marked if they are to be stored
+pub record IsOpened (directory : Layout) (table : Placed) (registers : Registers) (marked : List (List ℕ)) (runner block : ℕ) (line : OpenLine) : Type 0 where
   pub located : located_by registers (block * 128) 128 line.write ≡ Ok line.first
   pub frame : look_up table.keys (key_of line.first) ≡ Some line.frame
+  pub spot : line.spot ≡ line.frame * page_bytes directory.page + line.first.byte
   pub allowed : is_private line.first.segment ≡ false → lets_at directory table runner line.first line.write ≡ true
+  pub written : is_private line.first.segment ≡ false → line.write ≡ true → is_marked_at directory marked line.first ≡ true
 
 -- each line that is known is so
-abbrev pub AreOpened : OpenLines → Layout → Placed → Registers → (runner : ℕ) → Type 0
-AreOpened lines directory table registers runner =
-    (block : ℕ) (line : OpenLine) → known lines block ≡ Some line → IsOpened directory table registers runner block line
+abbrev pub AreOpened : OpenLines → Layout → Placed → Registers → List (List ℕ) → (runner : ℕ) → Type 0
+AreOpened lines directory table registers marked runner =
+    (block : ℕ) (line : OpenLine) → known lines block ≡ Some line → IsOpened directory table registers marked runner block line
 
 -- an access may be made: it begins at this byte, and lies in one page, which this frame has
 pub record IsOpenAt (state : Reach) (wants : Access) (at : Virtual) (found : ℕ) : Type 0 where
@@ -44,3 +53,15 @@ pub record IsOpenAt (state : Reach) (wants : Access) (at : Virtual) (found : ℕ
   pub within : at.byte + wants.bytes ≤ page_bytes state.directory.page
   pub frame : look_up (table_of state).keys (key_of at) ≡ Some found
   pub permitted : answer_in (λ s. s.registers) is_in_frame refuses state wants ≡ Probe.Permitted
+
+-- the lines of so many bytes from one on are marked, where they are of the store
+abbrev pub AreMarked : Reach → Virtual → (count : ℕ) → Type 0
+AreMarked state at count =
+    is_private at.segment ≡ false → (past : ℕ) → past < count
+    → is_marked state.directory state.pool (start_of state.directory at.segment + offset_of state.directory.page at + past) ≡ true
+
+-- an access may be made from the first byte of a line on, which is at its spot; the lines of a store are marked
+pub record IsOpenFrom (state : Reach) (wants : Access) (line : OpenLine) : Type 0 where
+  pub opens : IsOpenAt state wants line.first line.frame
+  pub spot : line.spot ≡ line.frame * page_bytes state.directory.page + line.first.byte
+  pub written : wants.store ≡ true → AreMarked state line.first wants.bytes

@@ -57,11 +57,13 @@ impl Unit {
         self.pool.lay_kept(page);
     }
 
-    /// Lines of a page are no longer marked.
+    /// Lines of a page are no longer marked. No line is known any more.
     pub fn settle(&mut self, page: u16, lines: LineSet)
         requires { page < page_count (reach_of self.old).directory }
         ensures { reach_of self.new ≡ record (reach_of self.old) { pool = settled (reach_of self.old).pool page lines } }
     {
+        let known = &mut self.lines;
+        known.forget();
         self.pool.settle(page, lines);
     }
 

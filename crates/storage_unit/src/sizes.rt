@@ -1,5 +1,5 @@
 // Places, by the size of a page.
-ghost use Rattle.std.specs.Prelude.{◌≡◌, ◌+◌, ◌-◌, ◌*◌, ◌/◌, ◌%◌, ◌<◌, ◌≤◌, ◌^◌, nat_le};
+ghost use Rattle.std.specs.Prelude.{◌≡◌, ◌+◌, ◌-◌, ◌*◌, ◌/◌, ◌%◌, ◌<◌, ◌≤◌, ◌^◌, nat_le, true};
 ghost use Rattle.line_geometry.specs.Segments.{page_bytes, line_bytes};
 ghost use Rattle.segment_regs.specs.Registers.{bytes_on};
 ghost use Rattle.storage_unit.specs.Held.{seat_pages};
@@ -42,6 +42,16 @@ pub fn offset_of(page: PageSize, at: Virtual) -> u32
     }
 }
 
+/// Where a byte of a frame lies among the bytes of all frames.
+pub fn spot_of(page: PageSize, frame: u16, byte: u16) -> u32
+    ensures { result ≡ frame * page_bytes page + byte }
+{
+    match page {
+        PageSize::Two => u32::from(frame) * 2048 + u32::from(byte),
+        PageSize::Four => u32::from(frame) * 4096 + u32::from(byte),
+    }
+}
+
 /// The byte so many past another in its segment.
 #[inline]
 pub fn byte_past(page: PageSize, first: Virtual, past: u16) -> Virtual
@@ -53,6 +63,15 @@ pub fn byte_past(page: PageSize, first: Virtual, past: u16) -> Virtual
         first.segment,
         offset_of(page, first) + u32::from(past),
     )
+}
+
+/// Whether a byte is the 128th behind another in its page.
+pub fn is_behind(first: Virtual, next: Virtual) -> bool
+    ensures { result ≡ true → next ≡ record first { byte = first.byte + 128 } }
+{
+    next.segment == first.segment
+        && next.page == first.page
+        && u32::from(next.byte) == u32::from(first.byte) + 128
 }
 
 /// How many bytes of its line begin with the one at a place of the store.

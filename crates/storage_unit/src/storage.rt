@@ -21,14 +21,16 @@ ghost use Rattle.storage_unit.specs.Rows.{tried_over, GivesRows, ChangesBytes, S
 ghost use Rattle.storage_unit.specs.Reached.{Lies, AreThere, bytes_shown, is_absent};
 ghost use Rattle.storage_unit.specs.Held.{table_of};
 ghost use Rattle.storage_unit.specs.Accesses.{IsRead, IsWritten};
-ghost use Rattle.storage_unit.specs.OpenLines.{IsOpenAt};
+ghost use Rattle.storage_unit.specs.OpenLines.{is_marked_at, IsOpenAt, IsOpenFrom};
 ghost use Rattle.inverted_table.specs.Keys.{key_of};
 ghost use Rattle.inverted_table.specs.Placed.{look_up};
 
 use super::model::Reach;
 use super::private::PRIVATE;
 use super::rows::{drop_rows, use_bytes};
-use super::sizes::{byte_past, first_frame, is_in_line, line_in_page, offset_of, rest_of_line};
+use super::sizes::{
+    byte_past, first_frame, is_behind, is_in_line, line_in_page, offset_of, rest_of_line, spot_of,
+};
 use super::unit::Unit;
 use byteorder::{BigEndian, ByteOrder};
 use flat_machine::{Ready, fill, gather, ready_of};
@@ -181,11 +183,11 @@ impl Unit {
         is_in_line(self.directory.page(), first.byte, bytes) || u16::from(bytes) <= self.rest(first)
     }
 
-    /// Where an access begins whose line is known, to store only where it is known to be stored, and the frame that has it.
+    /// The known line of an access from where that begins, to store only where it is known to be stored.
     #[inline(always)]
-    fn known_line(&self, wants: &Access) -> Option<(Virtual, u16)>
+    fn known_line(&self, wants: &Access) -> Option<OpenLine>
         requires { 0 < wants.now.bytes }
-        ensures { IfSome result (λ found. IsOpenAt (reach_of self.now) wants.now found.0 found.1) }
+        ensures { IfSome result (IsOpenFrom (reach_of self.now) wants.now) }
     {
         let line = self.lines.at(wants.address)?;
         let offset = wants.address % 128;
@@ -200,30 +202,104 @@ impl Unit {
             page: line.first.page,
             byte: line.first.byte + offset as u16,
         };
-        Some((first, line.frame))
+        Some(OpenLine {
+            first,
+            frame: line.frame,
+            spot: line.spot + offset,
+            write: line.write,
+        })
     }
 
-    /// The line of an access that may be made is known from now on, if it lies in one block of 128 addresses.
+    /// Whether an access is to store to a byte that a frame has, and the line of that is marked where it is one of the store.
+    fn is_written(&self, frame: u16, first: Virtual, store: bool) -> bool
+        requires lies { Lies (reach_of self.now) first 1 }
+        requires frame { look_up (table_of (reach_of self.now)).keys (key_of first) ≡ Some frame }
+        ensures store { result ≡ true → store ≡ true }
+        ensures marked { result ≡ true → is_private first.segment ≡ false → is_marked_at (reach_of self.now).directory (reach_of self.now).pool.marked first ≡ true }
+    {
+        if !store {
+            return false;
+        }
+        let line = line_in_page(self.directory.page(), first.byte);
+        match self.pool.page_in(frame) {
+            Some(page) => self.pool.written(page).contains(line),
+            None => true,
+        }
+    }
+
+    /// The known lines of an access that begins in one block and ends in the next, where they lie behind each other in one
+    /// page, from where the access begins; to store only where both are known to be stored.
+    #[inline(always)]
+    fn known_pair(&self, wants: &Access) -> Option<OpenLine>
+        requires some { 0 < wants.now.bytes }
+        requires few { wants.now.bytes ≤ 64 }
+        ensures { IfSome result (IsOpenFrom (reach_of self.now) wants.now) }
+    {
+        let offset = wants.address % 128;
+        if offset + u32::from(wants.bytes) <= 128 || wants.address >= 0xffff_ff80 {
+            return None;
+        }
+        let front = self.lines.at(wants.address)?;
+        let back = self.lines.at(wants.address + 128)?;
+        if wants.store && !(front.write && back.write) {
+            return None;
+        }
+        if !is_behind(front.first, back.first) {
+            return None;
+        }
+        let first = Virtual {
+            segment: front.first.segment,
+            page: front.first.page,
+            byte: front.first.byte + offset as u16,
+        };
+        Some(OpenLine {
+            first,
+            frame: front.frame,
+            spot: front.spot + offset,
+            write: front.write,
+        })
+    }
+
+    /// The lines of an access that may be made are known from now on, of the one or two blocks of 128 addresses in which it
+    /// lies.
     #[inline]
     fn keep_line(&mut self, wants: &Access, first: Virtual, frame: u16)
         requires some { 0 < wants.now.bytes }
         requires open { IsOpenAt (reach_of self.old) wants.now first frame }
         ensures { reach_of self.new ≡ reach_of self.old }
     {
-        if wants.address % 128 + u32::from(wants.bytes) > 128 {
-            return;
+        self.keep_block(wants, first, frame, 0);
+        let rest = (128 - wants.address % 128) as u8;
+        if wants.bytes > rest {
+            self.keep_block(wants, first, frame, rest);
         }
+    }
+
+    /// The line of the byte so many past the first of an access that may be made is known from now on: to be stored where it is
+    /// marked.
+    fn keep_block(&mut self, wants: &Access, first: Virtual, frame: u16, past: u8)
+        requires past { past < wants.now.bytes }
+        requires open { IsOpenAt (reach_of self.old) wants.now first frame }
+        ensures { reach_of self.new ≡ reach_of self.old }
+    {
+        let at = Virtual {
+            segment: first.segment,
+            page: first.page,
+            byte: first.byte + u16::from(past),
+        };
         let whole = Virtual {
             segment: first.segment,
             page: first.page,
-            byte: first.byte / 128 * 128,
+            byte: at.byte / 128 * 128,
         };
+        let write = self.is_written(frame, at, wants.store);
         self.lines.keep(
-            wants.address,
+            wants.address + u32::from(past),
             OpenLine {
                 first: whole,
                 frame,
-                write: wants.store,
+                spot: spot_of(self.directory.page(), frame, whole.byte),
+                write,
             },
         );
     }
@@ -406,6 +482,49 @@ impl Unit {
         );
     }
 
+    /// Fills registers with the bytes of an access from where a line that is known has them.
+    #[inline(always)]
+    fn fill_from(
+        &self,
+        line: OpenLine,
+        wants: &Access,
+        to: u8,
+        sign: bool,
+        regs: &mut [u32; 16],
+    ) -> Probe
+        requires fits { FitsFrom wants.now.bytes to }
+        requires open { IsOpenFrom (reach_of self.now) wants.now line }
+        ensures { IsRead (reach_of self.now) (reach_of self.now) wants.now to sign regs.old regs.new result }
+    {
+        let part = self
+            .pool
+            .spot_part(line.spot as usize, usize::from(wants.bytes));
+        fill(to, sign, part, regs);
+        Probe::Permitted
+    }
+
+    /// Writes the bytes of registers over those of a line that is known, which are marked.
+    #[inline(always)]
+    fn gather_over(&mut self, line: OpenLine, wants: &Access, from: u8, regs: &[u32; 16]) -> Probe
+        requires stores { wants.now.store ≡ true }
+        requires fits { FitsFrom wants.now.bytes from }
+        requires lies { Lies (reach_of self.old) line.first wants.now.bytes }
+        requires open { IsOpenFrom (reach_of self.old) wants.now line }
+        ensures { IsWritten (reach_of self.old) (reach_of self.new) wants.now from regs.now result }
+    {
+        let page = self.directory.page();
+        let count = u32::from(wants.bytes);
+        drop_rows(&mut self.rows, page, line.first, count);
+        use_bytes(&mut self.used, page, line.first, count);
+        gather(
+            from,
+            regs,
+            self.pool
+                .spot_mut(line.spot as usize, usize::from(wants.bytes)),
+        );
+        Probe::Permitted
+    }
+
     /// The frame of an access that begins at a byte and lies in one page, or why it can't be made now. Where it may be made, its
     /// line is known from now on.
     #[inline(always)]
@@ -469,7 +588,7 @@ impl Unit {
         }
     }
 
-    /// Writes the bytes of registers over those of one page, if that is permitted.
+    /// Writes the bytes of registers over those of one page, if that is permitted. Then its line is known, as it is marked now.
     #[inline(always)]
     fn gather_at(&mut self, wants: &Access, first: Virtual, from: u8, regs: &[u32; 16]) -> Probe
         requires fits { FitsFrom wants.now.bytes from }
@@ -477,9 +596,10 @@ impl Unit {
         requires within { first.byte + wants.now.bytes ≤ page_bytes (reach_of self.old).directory.page }
         ensures { IsWritten (reach_of self.old) (reach_of self.new) wants.now from regs.now result }
     {
-        match self.open(wants, first) {
+        match self.frame_for(first, wants.bytes, wants.store) {
             Ok(frame) => {
                 self.gather_in(frame, first, wants.bytes, from, regs);
+                self.keep_line(wants, first, frame);
                 Probe::Permitted
             }
             Err(probe) => probe,
@@ -543,19 +663,16 @@ impl Storage for Unit {
 
     #[inline(always)]
     fn read(&mut self, wants: &Access, to: u8, sign: bool, regs: &mut [u32; 16]) -> Probe {
-        if let Some((first, frame)) = self.known_line(wants) {
-            let part = self.part_in(frame, first, usize::from(wants.bytes));
-            fill(to, sign, part, regs);
-            return Probe::Permitted;
+        if let Some(line) = self.known_line(wants) {
+            return self.fill_from(line, wants, to, sign, regs);
         }
         self.read_far(*wants, to, sign, regs)
     }
 
     #[inline(always)]
     fn write(&mut self, wants: &Access, from: u8, regs: &[u32; 16]) -> Probe {
-        if let Some((first, frame)) = self.known_line(wants) {
-            self.gather_in(frame, first, wants.bytes, from, regs);
-            return Probe::Permitted;
+        if let Some(line) = self.known_line(wants) {
+            return self.gather_over(line, wants, from, regs);
         }
         self.write_far(*wants, from, regs)
     }
@@ -625,6 +742,9 @@ impl Unit {
         requires fits { FitsFrom wants.now.bytes to }
         ensures { IsRead (reach_of self.old) (reach_of self.new) wants.now to sign regs.old regs.new result }
     {
+        if let Some(line) = self.known_pair(wants) {
+            return self.fill_from(line, wants, to, sign, regs);
+        }
         let bytes = u32::from(wants.bytes);
         match self.registers.locate(wants.address, bytes, wants.store) {
             Err(Check(code)) => Probe::Check(code),
@@ -644,6 +764,9 @@ impl Unit {
         requires fits { FitsFrom wants.now.bytes from }
         ensures { IsWritten (reach_of self.old) (reach_of self.new) wants.now from regs.now result }
     {
+        if let Some(line) = self.known_pair(wants) {
+            return self.gather_over(line, wants, from, regs);
+        }
         let bytes = u32::from(wants.bytes);
         match self.registers.locate(wants.address, bytes, wants.store) {
             Err(Check(code)) => Probe::Check(code),

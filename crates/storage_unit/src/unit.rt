@@ -28,7 +28,7 @@ use tlb_model::Tlb;
 /// (docs/MODEL.md). They agree: the table has a page of the store in a frame exactly where the pool has
 /// it there, and a seat's private pages in its private frames exactly where it is begun; each pair of the buffer is in
 /// the table; each row that is known is made ready of the private bytes of who is selected; each line that is known may be
-/// accessed; and the private bytes of a seat after those that were used are zeros. So no part is lent to be written.
+/// accessed, and is marked where it may be stored to; and the private bytes of a seat after those that were used are zeros. So no part is lent to be written.
 #[derive(Drop)]
 pub struct Unit {
     pub(crate) pool: FramePool,
@@ -51,7 +51,7 @@ pub struct Unit {
     ghost remembered: { IsOfTable buffer table.keys },
     ghost selected: { IsSelected directory begun runner registers },
     ghost ready: { AreReady rows (pool_of pool).bytes runner } by { Prim.hlevel (props, plan_set) },
-    ghost opened: { AreOpened lines directory table registers runner },
+    ghost opened: { AreOpened lines directory table registers (pool_of pool).marked runner },
     ghost clear: { AreClear used (pool_of pool).bytes },
 }
 

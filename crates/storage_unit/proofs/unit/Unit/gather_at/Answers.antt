@@ -1,27 +1,47 @@
-use Rattle.storage_unit.proofs.Common.{sym, ◌∙◌, ap, Reach, stored, stored_bytes, reach_of}
-use Rattle.romp_cpu.specs.Answers.{answer_of}
+use Rattle.storage_unit.proofs.Common.{refl, sym, ◌∙◌, ap, subst, Reach, Lies, located_by, place_of, stored, stored_bytes, reach_of}
+use Rattle.storage_unit.specs.OpenLines.{IsOpenAt}
+use Rattle.storage_unit.proofs.FoundLemmas.{found-answer, found-lies}
 use Rattle.storage_unit.proofs.GatheredLemmas.{gathered-at}
-use Rattle.storage_unit.proofs.OpenedLemmas.{open-lies, refused-stays}
+use Rattle.storage_unit.proofs.OpenedLemmas.{opens-when, open-after, refused-stays}
 use Rattle.storage_unit.proofs.UnitLemmas.{unit-sound}
 use Rattle.storage_unit.proofs.unit.Unit.gather_at.Goals as goal
 
+pub frame_for-requires-clause-lies : goal.frame_for-requires-clause-lies
+frame_for-requires-clause-lies c = let wants = c.args.wants.now in found-lies c.args.self.now wants wants.bytes (located_by c.args.self.now.registers wants.address wants.bytes wants.store) c.args.first refl refl c.requires.located
+
 pub gather_in-requires-clause-lies : goal.gather_in-requires-clause-lies
-gather_in-requires-clause-lies c = open-lies c.open.new.self c.args.wants.now c.args.first c.in-Ok.frame c.in-Ok.ensures.open
+gather_in-requires-clause-lies c =
+    let wants = c.args.wants.now in
+    subst (λ (s : Reach). Lies s c.args.first wants.bytes) (sym c.frame_for.ensures.state)
+    (found-lies c.args.self.now wants wants.bytes (located_by c.args.self.now.registers wants.address wants.bytes wants.store) c.args.first refl refl c.requires.located)
+
+pub keep_line-requires-clause-open : goal.keep_line-requires-clause-open
+keep_line-requires-clause-open c =
+    let wants = c.args.wants.now in
+    let unit = c.args.self.now in
+    subst (λ (s : Reach). IsOpenAt s wants c.args.first c.in-Ok.frame) (sym (c.gather_in.ensures))
+    (open-after (reach_of c.frame_for.new.self) (place_of c.frame_for.new.self.directory c.args.first) (stored_bytes c.args.regs.now wants.bytes c.args.from) wants c.args.first c.in-Ok.frame
+    (subst (λ (s : Reach). IsOpenAt s wants c.args.first c.in-Ok.frame) (sym c.frame_for.ensures.state)
+    (opens-when unit wants c.args.first c.in-Ok.frame c.requires.located c.requires.within c.in-Ok.ensures.frame (c.in-Ok.ensures.answer wants refl refl))))
 
 pub returns-in-Ok : goal.returns-in-Ok
 returns-in-Ok c =
-    let unit = c.open.new.self in
+    let unit = c.args.self.now in
     let wants = c.args.wants.now in
     record {
-      answer = sym (ap answer_of c.in-Ok.is) ∙ c.open.ensures.answer;
+      answer = found-answer unit wants wants.bytes (located_by unit.registers wants.address wants.bytes wants.store) c.args.first refl refl c.requires.located _ (c.in-Ok.ensures.answer wants refl refl);
       state =
-          c.gather_in.ensures
-          ∙ gathered-at (reach_of unit) (unit-sound unit) wants.address wants.bytes wants.store c.args.first c.in-Ok.ensures.open.located c.args.regs.now c.args.from c.told-regs c.requires.fits
-          ∙ ap (λ (s : Reach). stored s wants.address (stored_bytes c.args.regs.now wants.bytes c.args.from)) c.open.ensures.state;
+          c.keep_line.ensures ∙ c.gather_in.ensures
+          ∙ gathered-at (reach_of c.frame_for.new.self) (unit-sound c.frame_for.new.self) wants.address wants.bytes wants.store c.args.first
+          (ap (λ (s : Reach). located_by s.registers wants.address wants.bytes wants.store) c.frame_for.ensures.state ∙ c.requires.located) c.args.regs.now c.args.from c.told-regs c.requires.fits
+          ∙ ap (λ (s : Reach). stored s wants.address (stored_bytes c.args.regs.now wants.bytes c.args.from)) c.frame_for.ensures.state;
     }
 
 pub returns-in-Err : goal.returns-in-Err
-returns-in-Err c = record {
-  answer = sym (ap answer_of c.in-Err.is) ∙ c.open.ensures.answer;
-  state = c.open.ensures.state ∙ refused-stays c.in-Err.probe _ (reach_of c.args.self.now) c.in-Err.ensures.refused;
-}
+returns-in-Err c =
+    let unit = c.args.self.now in
+    let wants = c.args.wants.now in
+    record {
+      answer = found-answer unit wants wants.bytes (located_by unit.registers wants.address wants.bytes wants.store) c.args.first refl refl c.requires.located _ (c.in-Err.ensures.answer wants refl refl);
+      state = c.frame_for.ensures.state ∙ refused-stays c.in-Err.probe _ (reach_of unit) c.in-Err.ensures.refused;
+    }

@@ -5,6 +5,8 @@ use Rattle.storage_unit.specs.Cleared.{AreUsed}
 use Rattle.storage_unit.proofs.CopyLemmas.{found-below}
 use Rattle.storage_unit.proofs.PartLemmas.{part-long, pool-after, marked-same, marked-keys}
 use Rattle.storage_unit.proofs.StoreLemmas.{marked-of_pages}
+use Rattle.storage_unit.specs.OpenLines.{AreOpened}
+use Rattle.storage_unit.proofs.OpenedLemmas.{opened-more}
 use Rattle.storage_unit.proofs.UnitLemmas.{unit-sound}
 use Rattle.storage_unit.proofs.WrittenLemmas.{stored-part, ready-part, clear-part}
 use Rattle.storage_unit.proofs.unit.Unit.gather_in.Goals as goal
@@ -43,7 +45,7 @@ invariant_of-self c =
       ready = ready-part unit c.args.first frame c.from.result n c.requires.frame c.from.ensures fits (omega (arith, c.from-2.ensures, c.requires.fits.some)) (subst (Lies (reach_of unit) c.args.first) (sym c.from-2.ensures) c.requires.lies) c.gather.new.into long c.drop_rows.new.rows
           (λ address. c.drop_rows.ensures address ∙ ap (λ s. after_store s c.args.first c.from-count.result address (known unit.rows address)) c.page-page.ensures
           ∙ ap (λ m. after_store unit.directory.page c.args.first m address (known unit.rows address)) (c.from-count.ensures ∙ sym c.from-2.ensures));
-      opened = unit.opened;
+      opened = subst (λ (list : List (List ℕ)). AreOpened unit.lines unit.directory unit.table unit.registers list unit.runner) (sym (ap (λ (p : Pool). p.marked) new)) (opened-more unit frame lines);
       clear = clear-part unit c.args.first frame c.from.result n c.requires.frame c.from.ensures fits (omega (arith, c.from-2.ensures, c.requires.fits.some)) (subst (Lies (reach_of unit) c.args.first) (sym c.from-2.ensures) c.requires.lies) c.gather.new.into long c.use_bytes.new.used c.use_bytes.ensures.shared
           (λ own. subst (λ m. AreUsed unit.used c.use_bytes.new.used (c.args.first.segment - 3840) (offset_of unit.directory.page c.args.first + m)) (c.from-count.ensures ∙ sym c.from-2.ensures)
           (subst (λ s. AreUsed unit.used c.use_bytes.new.used (c.args.first.segment - 3840) (offset_of s c.args.first + c.from-count.result)) c.page-page.ensures (c.use_bytes.ensures.private own)));

@@ -1,12 +1,17 @@
-use Rattle.storage_unit.proofs.Common.{◌≡◌, ◌+◌, ◌%◌, ◌≤◌, ◌∙◌, sym, false, not, ◌&&◌, arith, nat_tests}
-use Rattle.storage_unit.proofs.OpenedLemmas.{opened-at, opened-low}
+use Rattle.storage_unit.proofs.Common.{refl, ◌≡◌, ◌+◌, ◌%◌, ◌≤◌, ◌∙◌, sym, false, not, ◌&&◌, arith, nat_tests}
+use Rattle.storage_unit.proofs.OpenedLemmas.{opened-line, opened-low}
 use Rattle.storage_unit.proofs.unit.Unit.known_line.Goals.{else-wants-via-then-wants+else-not-line, else-wants-via-else-wants}
 use Rattle.storage_unit.proofs.unit.Unit.known_line.Goals as goal
 
 pub overflow_add-first : goal.overflow_add-first
 overflow_add-first c =
     let low = opened-low c.args.self.now c.args.wants.now c.in_ok-line.line (sym c.at.ensures ∙ c.in_ok-line.was) in
-    omega (arith, low)
+    omega (arith, low.0)
+
+pub overflow_add-result : goal.overflow_add-result
+overflow_add-result c =
+    let low = opened-low c.args.self.now c.args.wants.now c.in_ok-line.line (sym c.at.ensures ∙ c.in_ok-line.was) in
+    omega (arith, low.1)
 
 pub returns : goal.returns
 returns c =
@@ -17,4 +22,4 @@ returns c =
       | else-wants-via-else-wants w ↦ grind (arith, nat_tests)
     ] in
     let fits : wants.address % 128 + wants.bytes ≤ 128 = omega (arith, c.if-offset-from-gt128.false, c.from.ensures) in
-    opened-at c.args.self.now wants line c.requires fits less (sym c.at.ensures ∙ c.in_ok-line.was) (omega (arith, fits))
+    opened-line c.args.self.now wants line c.requires fits less (sym c.at.ensures ∙ c.in_ok-line.was) _ refl refl refl

@@ -5,6 +5,7 @@ use Rattle.storage_unit.specs.Cleared.{AreClear}
 use Rattle.storage_unit.proofs.ClearLemmas.{clear-kept}
 use Rattle.storage_unit.proofs.LaidLemmas.{laid-low}
 use Rattle.storage_unit.proofs.ReadyLemmas.{ready-kept}
+use Rattle.storage_unit.specs.OpenLines.{AreOpened}
 use Rattle.storage_unit.proofs.UnitLemmas.{unit-sound}
 use Rattle.storage_unit.proofs.unit.Unit.lay_kept.Goals as goal
 
@@ -28,7 +29,7 @@ invariant_of-self c =
       ready =
           subst (λ (list : List ℕ). AreReady unit.rows list unit.runner) (sym (ap (λ (p : Pool). p.bytes) c.lay_kept.ensures))
           (ready-kept unit.rows (pool_of unit.pool).bytes _ unit.runner unit.selected.few (laid-low (reach_of unit) (unit-sound unit) c.args.page) unit.ready);
-      opened = unit.opened;
+      opened = subst (λ (list : List (List ℕ)). AreOpened unit.lines unit.directory unit.table unit.registers list unit.runner) (sym (ap (λ (p : Pool). p.marked) new)) unit.opened;
       clear =
           subst (λ (list : List ℕ). AreClear unit.used list) (sym (ap (λ (p : Pool). p.bytes) c.lay_kept.ensures))
           (clear-kept unit.used (pool_of unit.pool).bytes _ (laid-low (reach_of unit) (unit-sound unit) c.args.page) unit.clear);

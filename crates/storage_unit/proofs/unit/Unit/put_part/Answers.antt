@@ -5,6 +5,8 @@ use Rattle.storage_unit.specs.ReadyRows.{after_store}
 use Rattle.storage_unit.specs.Cleared.{AreUsed}
 use Rattle.storage_unit.proofs.CopyLemmas.{found-below, found-some, none-of}
 use Rattle.storage_unit.proofs.StoreLemmas.{marked-of_pages}
+use Rattle.storage_unit.specs.OpenLines.{AreOpened}
+use Rattle.storage_unit.proofs.OpenedLemmas.{opened-more}
 use Rattle.storage_unit.proofs.UnitLemmas.{unit-sound}
 use Rattle.storage_unit.proofs.PartLemmas.{part-long, pool-after, marked-same, marked-keys}
 use Rattle.storage_unit.proofs.WrittenLemmas.{stored-part, ready-part, clear-part}
@@ -40,7 +42,7 @@ invariant_of-self c =
       selected = unit.selected;
       ready = ready-part unit c.args.first frame c.from.result n is c.from.ensures c.requires.within c.requires.some c.requires.lies c.copy_from_slice.new.self (ap length c.copy_from_slice.ensures.after) c.drop_rows.new.rows
           (λ address. c.drop_rows.ensures address ∙ ap (λ s. after_store s c.args.first n address (known unit.rows address)) c.page-page.ensures);
-      opened = unit.opened;
+      opened = subst (λ (list : List (List ℕ)). AreOpened unit.lines unit.directory unit.table unit.registers list unit.runner) (sym (ap (λ (p : Pool). p.marked) new)) (opened-more unit frame lines);
       clear = clear-part unit c.args.first frame c.from.result n is c.from.ensures c.requires.within c.requires.some c.requires.lies c.copy_from_slice.new.self (ap length c.copy_from_slice.ensures.after) c.use_bytes.new.used c.use_bytes.ensures.shared
           (λ own. subst (λ s. AreUsed unit.used c.use_bytes.new.used (c.args.first.segment - 3840) (offset_of s c.args.first + n)) c.page-page.ensures (c.use_bytes.ensures.private own));
     }

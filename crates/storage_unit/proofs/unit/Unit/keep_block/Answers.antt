@@ -1,0 +1,23 @@
+use Rattle.storage_unit.proofs.Common.{◌+◌, ◌*◌, ◌/◌, ◌∙◌, ap, refl, arith, page_bytes, Virtual}
+use Rattle.open_lines.specs.declared.lines.OpenLine.{OpenLine}
+use Rattle.open_lines.specs.Known.{known, with_line}
+use Rattle.storage_unit.proofs.OpenedLemmas.{opened-with, open-moved, open-low}
+use Rattle.storage_unit.proofs.unit.Unit.keep_block.Goals as goal
+
+pub is_written-write-requires-clause-lies : goal.is_written-write-requires-clause-lies
+is_written-write-requires-clause-lies c =
+    open-moved c.args.self.now c.args.wants.now c.args.first c.args.frame c.requires.open c.from.result (omega (arith, c.from.ensures, c.requires.past))
+
+pub overflow_add-at : goal.overflow_add-at
+overflow_add-at c = omega (arith, (open-low c.args.self.now c.args.wants.now c.args.first c.args.frame c.requires.open).1, c.from.ensures, c.requires.past)
+
+pub overflow_add-wants : goal.overflow_add-wants
+overflow_add-wants c = omega (arith, (open-low c.args.self.now c.args.wants.now c.args.first c.args.frame c.requires.open).0, c.from-2.ensures, c.requires.past)
+
+pub invariant_of-self-clause-opened : goal.invariant_of-self-clause-opened
+invariant_of-self-clause-opened c =
+    let at : Virtual = record c.args.first { byte = c.args.first.byte + c.from.result } in
+    let line : OpenLine = record { first = record at { byte = at.byte / 128 * 128 }; frame = c.args.frame; spot = c.spot_of.result; write = c.is_written-write.result } in
+    opened-with c.args.self.now c.args.wants.now c.args.first c.args.frame c.args.past at line c.requires.past c.requires.open (ap (λ n. (let v : Virtual = record c.args.first { byte = c.args.first.byte + n } in v)) c.from.ensures) refl refl
+    (c.spot_of.ensures ∙ ap (λ size. c.args.frame * page_bytes size + at.byte / 128 * 128) c.page.ensures) c.is_written-write.ensures.store c.is_written-write.ensures.marked c.keep.new.self
+    (λ block. c.keep.ensures block ∙ ap (λ n. with_line ((c.args.wants.now.address + n) / 128) line block (known c.args.self.now.lines block)) c.from-2.ensures)

@@ -1,5 +1,0 @@
-use Rattle.storage_unit.proofs.OpenedLemmas.{opened-with}
-use Rattle.storage_unit.proofs.unit.Unit.keep_line.Goals as goal
-
-pub invariant_of-self-clause-opened : goal.invariant_of-self-clause-opened
-invariant_of-self-clause-opened c = opened-with c.args.self.now c.args.wants.now c.args.first c.args.frame c.requires.some c.requires.open c.keep.new.self c.keep.ensures
