@@ -13,7 +13,7 @@ pub use Rattle.desk.specs.Seen.{commits_seen, whole_lines}
 pub use Rattle.desk.specs.declared.answers.Committed.{Committed}
 pub use Rattle.desk.specs.declared.event.Event.{Event}
 pub use Rattle.flat_machine.specs.declared.machine.Program.{Program}
-pub use Rattle.job_calls.specs.Headline.{ByOpening, DidBy, FoundNoStore, HappenedTo, JobHasRun, HasRunFrom, StoodForNone, Untouched, job_desk, names_of}
+pub use Rattle.job_calls.specs.Headline.{ByOpening, DidBy, FoundNoStore, HappenedTo, JobHasRun, HasRunFrom, StoodForNone, TellsStore, Untouched, job_desk, names_of}
 pub use Rattle.job_text.specs.declared.job.Job.{Job}
 pub use Rattle.line_geometry.specs.FlatStore.{FlatStore}
 pub use Rattle.listing.proofs.PutsLemmas.{puts_on, puts_same, puts_stop, times_on}

@@ -1,5 +1,7 @@
 -- What a run leaves on a disk that stops.
-use Rattle.drills.proofs.Common.{◌≡◌, ℕ, ◌+◌, ◌*◌, ◌%◌, ◌≤◌, ◌<◌, inl, inr, Bool, true, false, List, [], ◌∷◌, ◌++◌, length, map, take, rules, cond, refl, sym, ◌∙◌, ap, subst, arith, append-nil, append_assoc, Option, Some, None, ◌↔◌, ◌^◌, Result, Ok, IsSome, unwrap_or, count_by, not, nat_lt, if◌then◌else◌, length-map, length-append, length-filter, sum_by-append, Ghosts, Rose, Elapses, FewerLater, held_of, disk_calls, disk_faults, disk_first, disk_held, disk_images, disk_moment, disk_writes, images_at, FlatStore, Program, Header, header_of, total, fields, first_fault, most_lines, Standing, Stands, NotAStore, stands, standing_by, standing_if, chosen, Event, Committed, order_told, commits_seen, Job, Status, Stop, IsLeft, IsStop, IsStoppedRun, IsTold, all_fine, fine_order, ByOpening, DidBy, FoundNoStore, JobHasRun, HasRunFrom, HappenedTo, StoodForNone, Untouched, job_desk, names_of, call, StandsAt}
+use Rattle.std.proofs.Common.{⊎_elim}
+use Rattle.run_law.proofs.HeadlineLemmas.{start_is_prefix}
+use Rattle.drills.proofs.Common.{◌≡◌, ℕ, ◌+◌, ◌*◌, ◌≤◌, inl, inr, Bool, true, false, List, [], ◌∷◌, ◌++◌, length, map, take, rules, cond, refl, sym, ◌∙◌, ap, subst, arith, append-nil, append_assoc, Option, Some, None, ◌↔◌, Result, Ok, IsSome, unwrap_or, count_by, not, length-map, length-append, length-filter, sum_by-append, Ghosts, Rose, Elapses, FewerLater, held_of, disk_calls, disk_faults, disk_first, disk_held, disk_images, disk_moment, disk_writes, images_at, FlatStore, Program, header_of, most_lines, stands, Event, Committed, order_told, commits_seen, Job, Status, Stop, IsLeft, IsStop, IsStoppedRun, IsTold, all_fine, fine_order, ByOpening, DidBy, FoundNoStore, JobHasRun, HasRunFrom, HappenedTo, StoodForNone, TellsStore, Untouched, job_desk, names_of, call, StandsAt}
 use Rattle.std.proofs.lemmas.Bool.{cases_Bool}
 use Rattle.std.specs.List.{flat_map}
 use Rattle.std.specs.Option.{option_and_then}
@@ -11,7 +13,6 @@ use Rattle.outside.specs.declared.memory_screen.MemoryScreen.{MemoryScreen}
 use Rattle.outside.specs.declared.record.Entry.{Entry}
 use Rattle.flat_machine.specs.declared.machine.Plain.{Plain}
 use Rattle.flat_machine.specs.Serial.{Activation, committing, serial}
-use Rattle.store_format.specs.Bank.{Bank, Holds, Faulty, base_of, bank_of}
 use Rattle.desk.specs.Desk.{Desk, opened}
 use Rattle.desk.specs.Commits.{IsSerial, begun, is_commit, line_before, serial_lines}
 use Rattle.desk.specs.Instruction.{Word, Fine, ReadFailed, Unwritten, Doubt, Failed}
@@ -79,40 +80,21 @@ put-whole : (status : Status) (put : Result ℕ PutFailed) (text seen : List ℕ
 put-whole status.PutFault put text seen unfailed is prints = absurd (unfailed refl)
 put-whole _ put text seen unfailed is prints = let told : Prints {T = ℕ} (Some []) (Some seen) text (Ok 0) = subst (λ (put : Result ℕ PutFailed). Prints (Some []) (Some seen) text put) is prints in cc
 
--- a number for which bytes stand is one of 64 bits
-within-bank : (image : List ℕ) (header : Header) (base : ℕ) (bank : Bank) (number : ℕ) (store : FlatStore) → standing_by image header base bank ≡ Stands number store → number < 2 ^ 64
-within-bank image header base (Faulty offset) number store is = absurd (cc)
-within-bank image header base (Holds gate records) number store is =
-    let same : (base + length records) % 2 ^ 64 ≡ number = cc in
-    omega arith
-
-within-length : (short long : Bool) (one two : ℕ) (image : List ℕ) (header : Header) (base : ℕ) (bank : Bank) (number : ℕ) (store : FlatStore)
-    → (if short then NotAStore one else if long then NotAStore two else standing_by image header base bank) ≡ Stands number store → number < 2 ^ 64
-within-length true long one two image header base bank number store is = absurd (cc)
-within-length false true one two image header base bank number store is = absurd (cc)
-within-length false false one two image header base bank number store is = within-bank image header base bank number store is
-
-within-if : (image : List ℕ) (fault : Option ℕ) (header : Header) (number : ℕ) (store : FlatStore) → standing_if image fault header ≡ Stands number store → number < 2 ^ 64
-within-if image (Some offset) header number store is = absurd (cc)
-within-if image None header number store is = within-length (nat_lt (length image) (total header)) (nat_lt (total header) (length image)) (length image) (total header) image header (base_of image header (chosen image)) (bank_of image header (chosen image)) number store is
-
-pub number-within : (image : List ℕ) (number : ℕ) (store : FlatStore) → stands image ≡ Stands number store → number < 2 ^ 64
-unfolding stands
-number-within image number store is = within-if image (first_fault (length image) (fields (take 128 image))) (header_of (take 128 image)) number store is
-
 module _ {W : Type 0} (G : Ghosts W) (job : Job) (number : ℕ) (store : FlatStore) (before after : W) (order : List (ℕ × ℕ)) (session : Option Session) where
   abbrev commits : List Activation
   commits = begun job.programs.items job.events.items
 
   -- a run leaves the first commits
-  first-left : (status : Status) → Elapses G.moment G.left_since before after → FewerLater G → PrintedNow G → HeldNow G → JobHasRun G job number store (call before after order status) session
+  first-left : (status : Status) → StandsAt G before number store → Elapses G.moment G.left_since before after → FewerLater G → PrintedNow G → HeldNow G → JobHasRun G job number store (call before after order status) session
       → (image seen : List ℕ) → G.held after ≡ Some image → G.printed before ≡ Some [] → G.printed after ≡ Some seen → IsPrefix commits number store order [] image seen
-  first-left status time fewer_later printed_now held_now ran image printed holds nothing prints =
+  first-left status standing time fewer_later printed_now held_now ran image printed holds nothing prints =
       let (seen, left) = held_now after image holds in
       let is : seen ≡ printed = subst (λ (told : Option (List ℕ)). AreTold told seen) prints (printed_now after image seen left) in
       let told : IsSome (G.printed before) = subst (λ (those : Option (List ℕ)). IsSome those) (sym nothing) (search rules) in
       subst (IsPrefix commits number store order [] image) is
-      (subst (λ (those : Option (List ℕ)). IsPrefix commits number store order (unwrap_or those []) image seen) nothing
+      (⊎_elim
+      (λ of_start. start_is_prefix commits number store order image seen (standing.images image seen of_start.0) (subst (λ (those : Option (List ℕ)). AreTold those seen) nothing of_start.1))
+      (λ first. subst (λ (those : Option (List ℕ)). IsPrefix commits number store order (unwrap_or those []) image seen) nothing first)
       (ran.seen told image seen (fewer_later after (G.moment before) (G.moment after) image seen time.later left)))
 
   -- the commit lines that are seen are those of the run
@@ -158,11 +140,11 @@ module _ {W : Type 0} (G : Ghosts W) (job : Job) (number : ℕ) (store : FlatSto
       subst (λ (n : ℕ). WritesMore (G.writes before) (G.writes after) (2 * n)) (sym each) ran.ran.to.writes
 
   -- what ran
-  left-by : (status : Status) → Elapses G.moment G.left_since before after → AreNames (names_of job) → FewerLater G → PrintedNow G → HeldNow G → JobHasRun G job number store (call before after order status) session → IsLeft G job number store (call before after order status)
-  left-by status time are fewer_later printed_now held_now ran = record {
-    first = first-left status time fewer_later printed_now held_now ran;
+  left-by : (status : Status) → StandsAt G before number store → Elapses G.moment G.left_since before after → AreNames (names_of job) → FewerLater G → PrintedNow G → HeldNow G → JobHasRun G job number store (call before after order status) session → IsLeft G job number store (call before after order status)
+  left-by status standing time are fewer_later printed_now held_now ran = record {
+    first = first-left status standing time fewer_later printed_now held_now ran;
     ran = λ image seen holds nothing prints unfailed.
-        let left = first-left status time fewer_later printed_now held_now ran image seen holds nothing prints in
+        let left = first-left status standing time fewer_later printed_now held_now ran image seen holds nothing prints in
         ran-left status are seen (omega (arith, left.told, left.first.few, ap commits_seen left.seen_is)) ran nothing prints unfailed;
     writes = writes-made status ran;
     fine = order-fine status ran;
@@ -179,20 +161,7 @@ module _ {W : Type 0} (G : Ghosts W) (job : Job) (number : ℕ) (store : FlatSto
     first = λ image seen holds nothing prints.
         let kept : Some image ≡ G.held before = sym holds ∙ untouched.asks.held in
         let same : image ≡ held_of G before = ap (λ (told : Option (List ℕ)). unwrap_or told []) kept in
-        let small : number < 2 ^ 64 = number-within (held_of G before) number store standing.stood in
-        record {
-          first = record {
-            j = 0;
-            few = omega arith;
-            left = store;
-            leaves = refl;
-            stood = ap (λ (those : List ℕ). stands those) same ∙ standing.stood ∙ ap (λ (n : ℕ). let that : Standing = Stands n store in that) (let same : number ≡ (number + 0) % 2 ^ 64 = omega (arith, small) in same);
-          };
-          since = [];
-          seen_is = quiet-left status untouched seen nothing prints;
-          told = omega arith;
-          most = omega arith;
-        };
+        start_is_prefix commits number store order image seen (ap (λ (those : List ℕ). stands those) same ∙ standing.stood) (quiet-left status untouched seen nothing prints);
     ran = λ image seen holds nothing prints unfailed.
         let none : length order ≡ 0 = ap (λ (these : List (ℕ × ℕ)). length these) untouched.no_order in
         let seen_is = ap commits_seen (quiet-left status untouched seen nothing prints) in (
@@ -203,17 +172,21 @@ module _ {W : Type 0} (G : Ghosts W) (job : Job) (number : ℕ) (store : FlatSto
     fine = λ done. absurd (undone done);
   }
 
+  -- a disk that stands, its images too, tells its store
+  told : StandsAt G before number store → TellsStore G before number store
+  told standing = record { honest = standing.honest; told = standing.told; stood = standing.stood }
+
   -- whatever happened
   did-left : (status : Status) → Elapses G.moment G.left_since before after → AreNames (names_of job) → FewerLater G → PrintedNow G → HeldNow G → StandsAt G before number store → DidBy G (HasRunFrom G job (call before after order status) session) (call before after order status) session status → IsLeft G job number store (call before after order status)
-  did-left status.Done time are fewer_later printed_now held_now standing ran = left-by status.Done time are fewer_later printed_now held_now (ran number store standing)
-  did-left status.PutFault time are fewer_later printed_now held_now standing ran = left-by status.PutFault time are fewer_later printed_now held_now (ran number store standing)
+  did-left status.Done time are fewer_later printed_now held_now standing ran = left-by status.Done standing time are fewer_later printed_now held_now (ran number store (told standing))
+  did-left status.PutFault time are fewer_later printed_now held_now standing ran = left-by status.PutFault standing time are fewer_later printed_now held_now (ran number store (told standing))
   did-left status.DiskFault time are fewer_later printed_now held_now standing did =
       by-opening session
-      (λ (ran : HasRunFrom G job (call before after order status.DiskFault) session). left-by status.DiskFault time are fewer_later printed_now held_now (ran number store standing))
+      (λ (ran : HasRunFrom G job (call before after order status.DiskFault) session). left-by status.DiskFault standing time are fewer_later printed_now held_now (ran number store (told standing)))
       (λ (untouched : Untouched G (call before after order status.DiskFault)). untouched-left status.DiskFault (λ is. cc) untouched standing) did
   did-left (status.Store offset) time are fewer_later printed_now held_now standing did =
       by-opening session
-      (λ (none : StoodForNone G before). let that : IsLeft G job number store (call before after order (status.Store offset)) = absurd (none number store standing) in that)
+      (λ (none : StoodForNone G before). let that : IsLeft G job number store (call before after order (status.Store offset)) = absurd (none number store (told standing)) in that)
       (λ (found : FoundNoStore G (call before after order (status.Store offset)) offset). untouched-left (status.Store offset) (λ is. cc) found.refused.untouched standing) did
   did-left other time are fewer_later printed_now held_now standing refused = untouched-left other (λ is. cc) refused.untouched standing
 

@@ -14,8 +14,9 @@ use Rattle.line_geometry.specs.FlatStore.{FlatStore}
 use Rattle.store_format.specs.Stands.{Stands, stands}
 use Rattle.desk.specs.Commits.{begun, IsSerial}
 use Rattle.run_law.specs.Headline.{IsPrefix}
+use Rattle.run_law.proofs.HeadlineLemmas.{start_is_prefix}
 use Rattle.call_status.specs.Call.{Given, call}
-use Rattle.call_status.specs.Opening.{IsFaultAt, StandsAt}
+use Rattle.call_status.specs.Opening.{IsFaultAt}
 use Rattle.call_status.specs.Printed.{PrintsBy}
 use Rattle.call_status.specs.declared.status.Status.{Status}
 use Rattle.call_status.specs.declared.status.Status.TheVariants as status
@@ -25,10 +26,10 @@ use Rattle.desk.specs.Desk.{Desk}
 use Rattle.desk.specs.Kept.{KeepsJournal, journal_in}
 use Rattle.desk.specs.Run.{IsRunOf, run}
 use Rattle.desk.specs.Lines.{Line}
-use Rattle.outside.specs.Bytes.{Prints}
+use Rattle.outside.specs.Bytes.{AreTold, Prints}
 use Rattle.outside.specs.declared.failed.Failed.{Failed}
 use Rattle.outside.specs.Runs.{held_of}
-use Rattle.job_calls.specs.Headline.{Happened, RanJob, Refused, job_desk, names_of}
+use Rattle.job_calls.specs.Headline.{Happened, RanJob, Refused, TellsStore, job_desk, names_of}
 use Rattle.real_files.specs.Deeds.{Deed, Wrote, Tore, Synced, Unsynced, images_after, images_at, images_by, is_write}
 use Rattle.real_files.specs.Shown.{bytes_of, printed_of, marks_of}
 use Rattle.file_runs.specs.FileRun.{AreBehind, Hands, IsBehind, IsQuiet, IsSeenAt, KeepsFile, LeavesAlways, LeavesAt, LeavesLast, OnlyAsked, RanOnFile, RanOnScreen, RunsFrom, RunsOnFile, begun_by}
@@ -128,13 +129,8 @@ module _ {W : Type 0} (G : Ghosts W) (before after : W) (first : List ℕ) (puts
   held_is = ap (λ (those : Option (List ℕ)). unwrap_or those []) behind.held
 
   -- the premises on the disk
-  pub stands_at : (number : ℕ) (store : FlatStore) → stands first ≡ Stands number store → StandsAt G before number store
-  stands_at number store stood = record {
-    honest = behind.honest;
-    told = told;
-    stood = ap stands held_is ∙ stood;
-    images = λ image seen was. ap stands (behind.left image seen was) ∙ stood;
-  }
+  pub stands_at : (number : ℕ) (store : FlatStore) → stands first ≡ Stands number store → TellsStore G before number store
+  stands_at number store stood = record { honest = behind.honest; told = told; stood = ap stands held_is ∙ stood }
 
   -- what was printed since is what was handed to the screen
   pub handed : (text : List ℕ) (end : Status) → PrintsBy (G.printed before) (G.printed after) text end → Hands puts text end
@@ -265,7 +261,10 @@ module _ {W : Type 0} (G : Ghosts W) (before after : W) (first : List ℕ) (deed
       record {
         ran = ran_on_screen G before after first puts behind.screen given order status session ran number store stood;
         crash = leaves_at (IsPrefix acts number store order []) (λ image seen was.
-            subst (λ (printed : List ℕ). IsPrefix acts number store order printed image seen) empty (did.seen (printed_told G before after first puts behind.screen) image seen was));
+            ⊎_elim
+            (λ of_start. start_is_prefix acts number store order image seen (ap stands (behind.screen.left image seen of_start.0) ∙ stood) (subst (λ (those : Option (List ℕ)). AreTold those seen) behind.screen.none of_start.1))
+            (λ shown. subst (λ (printed : List ℕ). IsPrefix acts number store order printed image seen) empty shown)
+            (did.seen (printed_told G before after first puts behind.screen) image seen was));
         journal = λ still image left.
             let open_end : did.ran.end.closed ≡ false = ap (λ (end : Desk). end.closed) did.ran.end_is ∙ ap (λ (bytes : List ℕ). (run programs taken (desk bytes)).closed) held ∙ still in
             let kept = subst (λ (these : List Line). KeepsJournal these (journal_in (held_of G before)) (journal_in (held_of G after))) lines (did.ran.to.journal open_end) in

@@ -3,20 +3,20 @@ use Rattle.outside.proofs.Common.{◌≡◌, inl, inr, ⊎_elim, ℕ, List, [], 
 use Rattle.outside.specs.declared.world.Outside.{Ghosts}
 use Rattle.outside.specs.Durable.{IsSure}
 use Rattle.line_geometry.specs.FlatStore.{FlatStore}
-use Rattle.store_format.specs.Stands.{Standing, stands}
+use Rattle.store_format.specs.Stands.{Standing, Stands, stands}
 use Rattle.standby.specs.Followed.{IsAtNumber, followed_text, kept_text, well}
 use Rattle.standby.specs.State.{due}
 use Rattle.standby.specs.Text.{Content}
 use Rattle.standby_calls.specs.Followed.{EndsOn, FollowedFrom, FollowsOn, IsDue, OnStore}
 use Rattle.call_status.specs.Call.{Given, call}
-use Rattle.call_status.specs.Opening.{IsFaultAt}
+use Rattle.call_status.specs.Opening.{IsFaultAt, StandsAt}
 use Rattle.call_status.specs.declared.status.Status.{Status}
 use Rattle.call_status.specs.declared.status.Status.TheVariants as status
 use Rattle.real_files.specs.Deeds.{Deed}
 use Rattle.real_files.specs.Shown.{printed_of}
 use Rattle.file_runs.specs.FileRun.{AreBehind, LeavesLast, RunsFrom}
 use Rattle.file_runs.specs.FileFollowed.{EndsAt, FollowedOnFile, FollowedText, FollowsBy, IsDueAt}
-use Rattle.file_runs.proofs.FileLemmas.{handed, held_is, leaves_at, nothing, only_asked, printed_so, stands_at, sure_now, told}
+use Rattle.file_runs.proofs.FileLemmas.{handed, held_is, leaves_at, nothing, only_asked, printed_so, sure_now, told}
 
 module _ {W : Type 0} (G : Ghosts W) (before after : W) (first : List ℕ) (deeds puts : List Deed) (behind : AreBehind G before after first deeds puts) where
   has_told : IsSome (G.held before)
@@ -29,6 +29,15 @@ module _ {W : Type 0} (G : Ghosts W) (before after : W) (first : List ℕ) (deed
   stand_last : (stood : Standing) → IsSure G after → stands (held_of G after) ≡ stood → LeavesLast first deeds (λ image. stands image ≡ stood)
   stand_last stood sure are left is_left = ap stands (sure_now G before after first deeds puts behind sure left is_left) ∙ are
 
+  -- the premises on the disk, and on each image
+  stands_at : (number : ℕ) (store : FlatStore) → stands first ≡ Stands number store → StandsAt G before number store
+  stands_at number store stood = record {
+    honest = behind.screen.honest;
+    told = has_told;
+    stood = ap stands same ∙ stood;
+    images = λ image seen was. ap stands (behind.screen.left image seen was) ∙ stood;
+  }
+
   module _ (content : Content) where
     ends_at : (number : ℕ) (store : FlatStore) (end : Status) → EndsOn G content number store before after end → EndsAt content number store first deeds puts end
     ends_at number store status.Done did = (stand_last _ did.1 did.2, did.3)
@@ -40,7 +49,7 @@ module _ {W : Type 0} (G : Ghosts W) (before after : W) (first : List ℕ) (deed
 
     follows_on : (end : Status) → FollowsOn G content before after end → RunsFrom first (λ number store. FollowedText content number store first deeds puts end)
     follows_on end did number store stood =
-        let its = did number store (stands_at G before after first puts behind.screen number store stood) in
+        let its = did number store (stands_at number store stood) in
         record {
           crash = leaves_at G before after first deeds puts behind (IsAtNumber content.line_bytes number store (due content number) (Some [])) (λ image seen was.
               subst (λ (those : Option (List ℕ)). IsAtNumber content.line_bytes number store (due content number) those image seen) behind.screen.none (its.crash image seen was));

@@ -114,7 +114,7 @@ module _ {W : Type 0} (G : Ghosts W) (before after : W) (first : List ℕ) (puts
 
     pub load_on_screen : (end : Status) → Loaded G transfers (call before after order end) session → LoadedOnScreen transfers first puts order end
     load_on_screen status.Done did = ran_load status.Done tt did.by_status.0
-    load_on_screen (status.Store offset) did = (refused order (status.Store offset) did.by_status.refused, no_store offset did.by_status.fault)
+    load_on_screen (status.Store offset) did = (refused order (status.Store offset) did.by_status.1.refused, no_store offset did.by_status.1.fault)
     load_on_screen status.DiskFault did = unprinted G before after first puts behind did.by_status.1
     load_on_screen status.PutFault did = ran_load status.PutFault tt did.by_status
     load_on_screen status.NoMemory did = refused order status.NoMemory did.by_status

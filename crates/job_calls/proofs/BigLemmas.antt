@@ -1,10 +1,11 @@
 -- A load on the store that a disk stands for.
-use Rattle.job_calls.proofs.Common.{◌≡◌, ℕ, ◌≤◌, ⊎_elim, true, false, List, [], ◌∷◌, ◌++◌, length, refl, sym, ◌∙◌, ap, subst, arith, append-nil, append_assoc, Option, Ghosts, Failed, AreTold, Prints, IsSure, Elapses, CallsDisk, FewerLater, OnlyAsks, held_of, elapses-trans, FlatStore, Program, Activation, Event, begun, is_commit, commit_lines, serial_lines, IsSerial, Desk, Word, Line, printed, spaced, event_lines, run, faulted, Header, total, IsSessionOpened, activity, order_of, Session, ghosts, IsLasting, RunsQuietly, Tells, is_rollback, is_shut, out_after, InDoubt, PrintedNow, to_later, Job, Status, HasBigRun, IsToldBy, Loaded, LoadedBy, RanBig, big_line, last_out, line_for, Call, call, OpensBy, RunsFrom, IsStanding, StandsAt, StillTold}
+use Rattle.job_calls.proofs.Common.{◌≡◌, ℕ, ◌≤◌, ⊎_elim, true, false, List, [], ◌∷◌, ◌++◌, length, refl, sym, ◌∙◌, ap, subst, arith, append-nil, append_assoc, Option, Ghosts, Failed, AreTold, Prints, IsSure, Elapses, CallsDisk, FewerLater, OnlyAsks, held_of, elapses-trans, FlatStore, Program, Activation, Event, begun, is_commit, commit_lines, serial_lines, IsSerial, Desk, Word, Line, printed, spaced, event_lines, run, faulted, Header, total, IsSessionOpened, activity, order_of, Session, ghosts, IsLasting, RunsQuietly, Tells, is_rollback, is_shut, out_after, InDoubt, PrintedNow, to_later, Job, Status, HasBigRun, IsToldBy, Loaded, LoadedBy, RanBig, big_line, last_out, line_for, Call, call, OpensBy, RunsFrom, IsStanding, TellsStore, StillTold}
 use Rattle.std.specs.Prelude.{codes, decimal, All, Bool, Some, Result, Ok, Err, IsSome, IsTrue, count_by}
 use Rattle.std.specs.List.{fold}
 use Rattle.std.specs.Option.{ForSome}
 use Rattle.hex.specs.Hex.{encode_lower}
 use Rattle.desk.specs.Kept.{HoldsStore}
+use Rattle.outside.specs.Causes.{FailsOnlyCounted}
 use Rattle.schedule_replay.specs.declared.quietly.Quiet.{Quiet}
 use Rattle.listing.specs.Puts.{Puts, PutsTimes}
 use Rattle.job_text.specs.Big.{IsBigJob, big_events}
@@ -74,7 +75,7 @@ ran_until G programs number events first new start between after last quiet runs
 }
 
 module _ {W : Type 0} (G : Ghosts W) (fewer_later : FewerLater G) (printed_now : PrintedNow G) (transfers : ℕ) (job : Job) (before start between after : W) (desk new : Session) (number : ℕ) (store : FlatStore)
-    (standing : StandsAt G before number store) (opens : IsSessionOpened G job.frames before start desk) (asks : OnlyAsks G before start) (programs_are : (activity desk).programs ≡ job.programs.items) (same_opened : new.opened ≡ desk.opened)
+    (standing : TellsStore G before number store) (opens : IsSessionOpened G job.frames before start desk) (asks : OnlyAsks G before start) (programs_are : (activity desk).programs ≡ job.programs.items) (same_opened : new.opened ≡ desk.opened)
     (same_honest : G.is_honest after ≡ G.is_honest start) (time : Elapses G.moment G.left_since start after) (asks-calm : G.disk_faults start ≡ G.disk_faults before)
     (last : List ℕ) (quiet : Quiet) (runs : RunsQuietly ghosts G (activity desk).programs desk.opened job.events.items (first_desk G job.frames before start desk opens asks) new start between last quiet)
     (held : G.held after ≡ G.held between) (writes : G.writes after ≡ G.writes between) (disk : G.disk_faults after ≡ G.disk_faults between) (sure : IsSure G between → IsSure G after)
@@ -113,6 +114,12 @@ prints_now status.Done past old new bytes prints = prints
 prints_now status.PutFault past old new bytes prints = prints
 prints_now _ past old new bytes prints = absurd past
 
+-- a line that was put, and told otherwise than as one that failed
+put_calm : {W : Type 0} (G : Ghosts W) (before after : W) (now : Status) → IsPastOpening now → (now ≡ Status.PutFault → ⊥) → FailsOnlyCounted (G.put_faults before) (G.put_faults after) (put_of now) → G.put_faults after ≡ G.put_faults before
+put_calm G before after status.Done past un cause = cause.done
+put_calm G before after status.PutFault past un cause = absurd (un refl)
+put_calm G before after _ past un cause = absurd past
+
 -- a status behind the opening is no store's fault
 opens_past : {W : Type 0} (G : Ghosts W) (before after : W) (now : Status) → ((offset : ℕ) → now ≡ Status.Store offset → ⊥) → (IsPastOpening now → IsSome (G.held before) → IsStanding (held_of G before)) → OpensBy G before after now
 opens_past G before after now other stood = record {
@@ -148,6 +155,7 @@ module _ {W : Type 0} (G : Ghosts W) (fewer_later : FewerLater G) (printed_now :
         honest = honest ∙ asks.calls.honest;
         time = elapses-trans G fewer_later before start after asks.calls.time later;
         told = λ told. subst (λ (those : Option (List ℕ)). IsSome those) (sym puts.only.held) (still (told-since G before start asks told));
+        put = λ un. put_calm G between after now past un puts.only.cause ∙ calls.put ∙ asks.calls.put;
         opens = opens_past G before after now (λ offset is. subst IsPastOpening is past) (λ opened told. stood told);
         by_status = loaded_past G transfers (call before after (order_of new) now) (Some new) now past
             (record {
@@ -179,6 +187,7 @@ module _ {W : Type 0} (G : Ghosts W) (fewer_later : FewerLater G) (printed_now :
         honest = calls.honest ∙ asks.calls.honest;
         time = elapses-trans G fewer_later before start between asks.calls.time calls.time;
         told = λ told. still (told-since G before start asks told);
+        put = λ un. calls.put ∙ asks.calls.put;
         opens = opens_past G before between Status.DiskFault (λ offset is. cc) (λ opened told. stood told);
         by_status = (
           record {

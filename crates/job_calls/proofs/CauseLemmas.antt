@@ -22,11 +22,11 @@ opens-by G before start now desk new (replayed.Damaged at) stood ends undamaged 
 opens-by G before start now desk new replayed.PutFault stood ends undamaged = record { no_store = λ offset same told. absurd cc; store = λ past told. (stood told).1; never = λ honest told standing offset same. absurd cc }
 
 -- puts that all went well
-pub put-same : {W : Type 0} (G : Ghosts W) (start now : W) (desk new : Session) (result : Replayed) → EndsBy ghosts G desk new start now result → status_of_replay result ≡ Status.Done → G.put_faults now ≡ G.put_faults start
-put-same G start now desk new replayed.Ended ends is = ends.1
-put-same G start now desk new replayed.Closed ends is = absurd cc
-put-same G start now desk new (replayed.Damaged at) ends is = absurd cc
-put-same G start now desk new replayed.PutFault ends is = absurd cc
+pub put-same : {W : Type 0} (G : Ghosts W) (start now : W) (desk new : Session) (result : Replayed) → EndsBy ghosts G desk new start now result → (status_of_replay result ≡ Status.PutFault → ⊥) → G.put_faults now ≡ G.put_faults start
+put-same G start now desk new replayed.Ended ends un = ends.1
+put-same G start now desk new replayed.Closed ends un = ends.2
+put-same G start now desk new (replayed.Damaged at) ends un = ends.2
+put-same G start now desk new replayed.PutFault ends un = absurd (un refl)
 
 -- a put that failed, and a disk that did
 pub put-rose : {W : Type 0} (G : Ghosts W) (start now : W) (desk new : Session) (result : Replayed) → EndsBy ghosts G desk new start now result → status_of_replay result ≡ Status.PutFault → Rose (G.put_faults start) (G.put_faults now)

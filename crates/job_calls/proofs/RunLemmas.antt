@@ -1,6 +1,6 @@
 -- What runs on the store that a disk stands for.
-use Rattle.job_calls.proofs.Common.{Result, Ok, Err, IsErr, IsSome, IsTrue, unwrap_or, Ghosts, Failed, AreTold, Prints, Rose, Elapses, OnlyAsks, FewerLater, Leaves, held_of, elapses-trans, leaves_on, FlatStore, Program, Activation, serial, header_of, most_lines, Standing, Stands, stands, Event, Desk, opened, Word, Doubt, run, faulted, IsRunOf, Line, line_text, Open, report, report_lines, event_lines, number_after, begun, IsSerial, IsSessionOpened, activity, session_desk, order_of, Session, ghosts, Replayed, PrintsEarlier, HasOpened, InDoubt, text_of, Reports, Replays, PrintedNow, to_since, Job, Status, status_of_replay, Call, Given, call, StandsAt, StillTold, DidBy, JobHasRun, HasRunFrom, DoubtStands, Happened, HappenedTo, RanJob, RunsFrom, put_by, names_of, job_desk}
-use Rattle.std.proofs.Common.{◌≡◌, ℕ, ◌+◌, ◌%◌, ◌^◌, inl, inr, Bool, true, false, List, [], ◌∷◌, ◌++◌, length, take, refl, sym, ◌∙◌, ap, subst, arith, append-nil, Option, Some, None}
+use Rattle.job_calls.proofs.Common.{Result, Ok, Err, IsErr, IsSome, IsTrue, unwrap_or, Ghosts, Failed, Prints, Rose, Elapses, OnlyAsks, FewerLater, Leaves, held_of, elapses-trans, leaves_on, FlatStore, Program, Activation, serial, header_of, most_lines, Standing, Stands, stands, Event, Desk, opened, Word, Doubt, run, faulted, IsRunOf, Line, line_text, Open, report, report_lines, event_lines, number_after, begun, IsSerial, IsSessionOpened, activity, session_desk, order_of, Session, ghosts, Replayed, PrintsEarlier, HasOpened, InDoubt, text_of, Reports, Replays, PrintedNow, to_since, Job, Status, status_of_replay, Call, Given, call, TellsStore, StillTold, EndsBy, DidBy, JobHasRun, HasRunFrom, DoubtStands, Happened, HappenedTo, IsOfStart, RanJob, RunsFrom, put_by, names_of, job_desk}
+use Rattle.std.proofs.Common.{◌≡◌, ◌⊎◌, ℕ, ◌+◌, ◌%◌, ◌^◌, inl, inr, Bool, true, false, List, [], ◌∷◌, ◌++◌, length, take, refl, sym, ◌∙◌, ap, subst, arith, append-nil, Option, Some, None}
 use Rattle.std.proofs.lemmas.Bool.{cases_lt}
 use Rattle.outside.proofs.Prints.{prints_well, prints_broken}
 use Rattle.restart.specs.Kept.{number_of}
@@ -16,6 +16,7 @@ use Rattle.schedule_replay.proofs.CountLemmas.{on_ok_as}
 use Rattle.job_text.specs.Grammar.{job_of, content_of}
 use Rattle.call_status.specs.SourceText.{IsWhole}
 use Rattle.job_calls.specs.Handed.{HandedRuns}
+use Rattle.job_calls.proofs.CauseLemmas.{put-same}
 use Rattle.schedule_replay.specs.declared.events.Replayed.TheVariants as replayed
 use Rattle.call_status.specs.declared.status.Status.TheVariants as status
 
@@ -25,11 +26,6 @@ same-number one two first second is = cc
 
 same-store : (one two : ℕ) (first second : FlatStore) → Stands one first ≡ Stands two second → first ≡ second
 same-store one two first second is = cc
-
--- what is told, if it is told
-told-is : (told : Option (List ℕ)) (bytes : List ℕ) → IsSome told → AreTold told bytes → bytes ≡ unwrap_or told []
-told-is None bytes some is = absurd (cc)
-told-is (Some those) bytes some is = is
 
 -- a desk opened on the bytes of a disk
 module _ {W : Type 0} (G : Ghosts W) (frames : ℕ) (before start : W) (desk : Session) (opens : IsSessionOpened G frames before start desk) (asks : OnlyAsks G before start) where
@@ -63,7 +59,7 @@ pub record Facts : Type 0 where
   pub number : ℕ
 
 module _ {W : Type 0} (G : Ghosts W) (fewer_later : FewerLater G) (printed_now : PrintedNow G) (job : Job) (before start after : W) (desk new : Session) (number : ℕ) (store : FlatStore)
-    (standing : StandsAt G before number store) (opens : IsSessionOpened G job.frames before start desk) (asks : OnlyAsks G before start) (programs_are : (activity desk).programs ≡ job.programs.items) (same_opened : new.opened ≡ desk.opened)
+    (standing : TellsStore G before number store) (opens : IsSessionOpened G job.frames before start desk) (asks : OnlyAsks G before start) (programs_are : (activity desk).programs ≡ job.programs.items) (same_opened : new.opened ≡ desk.opened)
     (same_honest : G.is_honest after ≡ G.is_honest start) (time : Elapses G.moment G.left_since start after) (asks-calm : G.disk_faults start ≡ G.disk_faults before) where
   abbrev pub begins_with : Desk
   begins_with = job_desk job (held_of G before) store
@@ -85,37 +81,25 @@ module _ {W : Type 0} (G : Ghosts W) (fewer_later : FewerLater G) (printed_now :
     number = number-is i;
   }
 
-  pub number-small : (number + 0) % 2 ^ 64 ≡ number
-  number-small = subst (λ (n : ℕ). (n + 0) % 2 ^ 64 ≡ n) number-is (number-fits G job.frames before start desk opens asks)
-
   shown-same : shown_of G start ≡ shown_of G before
   shown-same = ap (λ (told : Option (List ℕ)). unwrap_or told []) asks.calls.quiet.same
 
-  -- the opening left what stood
-  abbrev left-so : (order : List (ℕ × ℕ)) (image : List ℕ) → stands image ≡ Stands number store → IsFirst (begun job.programs.items job.events.items) number store order image
-  left-so order image stood = record { j = 0; few = omega arith; left = store; leaves = refl; stood = stood ∙ ap (λ (n : ℕ). let that : Standing = Stands n store in that) (sym number-small) }
-
-  opening-left : (order : List (ℕ × ℕ)) → IsSome (G.printed before) → Leaves G (IsPrefix (begun job.programs.items job.events.items) number store order (shown_of G before)) before start
-  opening-left order told image seen left =
+  -- the opening left what the start did
+  opening-left : Leaves G (IsOfStart G before) before start
+  opening-left image seen left =
       let earlier = asks.crash standing.told image seen left in
-      record {
-        first = left-so order image (standing.images image seen earlier);
-        since = [];
-        seen_is = told-is (G.printed before) seen told (printed_now before image seen earlier) ∙ sym (append-nil (shown_of G before));
-        told = omega arith;
-        most = omega arith;
-      }
+      (earlier, printed_now before image seen earlier)
 
   -- what a crash left of the opening and of a run from it, without a word on the screen
   pub crash-any : (order : List (ℕ × ℕ)) (taken : List (Event × Word)) (rest : List Event) → IsRunOf job.programs.items job.events.items begins_with taken rest → order ≡ (run job.programs.items taken begins_with).order
-      → Leaves G (λ image seen. IsStage (activity desk).programs desk.opened (first_desk G job.frames before start desk opens asks) taken image) start after → Leaves G (λ image seen. IsFirst (begun job.programs.items job.events.items) number store order image) before after
+      → Leaves G (λ image seen. IsStage (activity desk).programs desk.opened (first_desk G job.frames before start desk opens asks) taken image) start after → Leaves G (λ image seen. IsOfStart G before image seen ⊎ IsFirst (begun job.programs.items job.events.items) number store order image) before after
   crash-any order taken rest ran ordered_is images =
-      leaves_on G fewer_later before start after asks.calls.time time (λ (image seen : List ℕ). IsFirst (begun job.programs.items job.events.items) number store order image)
-      (λ image seen left. left-so order image (standing.images image seen (asks.crash standing.told image seen left)))
-      (λ image seen left.
-      subst (λ (those : List (ℕ × ℕ)). IsFirst (begun job.programs.items job.events.items) number store those image) (sym ordered_is)
+      leaves_on G fewer_later before start after asks.calls.time time (λ (image seen : List ℕ). IsOfStart G before image seen ⊎ IsFirst (begun job.programs.items job.events.items) number store order image)
+      (λ image seen left. inl (opening-left image seen left))
+      (λ image seen left. inr
+      (subst (λ (those : List (ℕ × ℕ)). IsFirst (begun job.programs.items job.events.items) number store those image) (sym ordered_is)
       (stage_is_first job.programs.items number job.frames 16 (most_lines (header_of (take 128 (held_of G before)))) store job.events.items taken rest image ran
-      (subst (λ (f : Facts). IsStage f.programs f.number f.start taken image) these (images image seen left))).0)
+      (subst (λ (f : Facts). IsStage f.programs f.number f.start taken image) these (images image seen left))).0))
 
   -- the same of a run from the opening, in the job's words
   module _ (names : List (List ℕ)) (half : RanFrom G names (activity desk).programs desk.opened job.events.items (first_desk G job.frames before start desk opens asks) new start after) where
@@ -214,17 +198,17 @@ module _ {W : Type 0} (G : Ghosts W) (fewer_later : FewerLater G) (printed_now :
     names = names_of job
 
     -- a crash
-    crash-leaves : IsSome (G.printed before) → Leaves G (IsPrefix (commits names half) number store (order_of new) (shown_of G before)) before after
+    crash-leaves : IsSome (G.printed before) → Leaves G (λ image seen. IsOfStart G before image seen ⊎ IsPrefix (commits names half) number store (order_of new) (shown_of G before) image seen) before after
     crash-leaves told =
-        let P = IsPrefix (commits names half) number store (order_of new) (shown_of G before) in
+        let P : List ℕ → List ℕ → Type 0 = λ image seen. IsOfStart G before image seen ⊎ IsPrefix (commits names half) number store (order_of new) (shown_of G before) image seen in
         let still : IsSome (G.printed start) = subst (λ (those : Option (List ℕ)). IsSome those) (sym asks.calls.quiet.same) told in
-        leaves_on G fewer_later before start after asks.calls.time time P (opening-left (order_of new) told)
-        (λ image seen left.
-        subst (λ (order : List (ℕ × ℕ)). IsPrefix (commits names half) number store order (shown_of G before) image seen) (sym (ordered names half))
+        leaves_on G fewer_later before start after asks.calls.time time P (λ image seen left. inl (opening-left image seen left))
+        (λ image seen left. inr
+        (subst (λ (order : List (ℕ × ℕ)). IsPrefix (commits names half) number store order (shown_of G before) image seen) (sym (ordered names half))
         (subst (λ (printed : List ℕ). IsPrefix (commits names half) number store (ends names half).order printed image seen) shown-same
         (left_is_prefix job.programs.items number job.frames 16 (most_lines (header_of (take 128 (held_of G before)))) store job.events.items reports.taken reports.rest
         (report (names_of job) job.programs.items number reports.taken reports.rest begins_with) (shown_of G start) image seen (is_run names half)
-        (subst (λ (f : Facts). IsLeft f.programs f.number f.start reports.taken (report (names_of job) f.programs f.number reports.taken reports.rest f.start) (shown_of G start) image seen) these (reports.left still image seen left)))))
+        (subst (λ (f : Facts). IsLeft f.programs f.number f.start reports.taken (report (names_of job) f.programs f.number reports.taken reports.rest f.start) (shown_of G start) image seen) these (reports.left still image seen left))))))
 
     -- the opening puts nothing
     times-since : (put : Result ℕ Failed) → PutsTimes G (length (report_lines (names_of job) job.programs.items number reports.taken reports.rest begins_with)) start after put → PutsTimes G (length (report_lines (names_of job) job.programs.items number reports.taken reports.rest begins_with)) before after put
@@ -263,7 +247,7 @@ module _ {W : Type 0} (G : Ghosts W) (fewer_later : FewerLater G) (printed_now :
     (opens : IsTrue (G.is_honest before) → IsSome (G.held before) → IsSessionOpened G job.frames before start desk) (asks : OnlyAsks G before start) (programs_are : (activity desk).programs ≡ job.programs.items) (same_opened : new.opened ≡ desk.opened)
     (same_honest : G.is_honest after ≡ G.is_honest start) (time : Elapses G.moment G.left_since start after) (still : StillTold G start after) (asks-calm : G.disk_faults start ≡ G.disk_faults before)
     (result : Replayed) (replays : (first : Desk) → HasOpened ghosts G desk start first → Replays ghosts G (names_of job) (activity desk).programs desk.opened job.events.items first new start after result) where
-  abbrev replayed-from : (number : ℕ) (store : FlatStore) (standing : StandsAt G before number store) → Replays ghosts G (names_of job) (activity desk).programs desk.opened job.events.items (first_desk G job.frames before start desk (opens standing.honest standing.told) asks) new start after result
+  abbrev replayed-from : (number : ℕ) (store : FlatStore) (standing : TellsStore G before number store) → Replays ghosts G (names_of job) (activity desk).programs desk.opened job.events.items (first_desk G job.frames before start desk (opens standing.honest standing.told) asks) new start after result
   replayed-from number store standing = replays (first_desk G job.frames before start desk (opens standing.honest standing.told) asks) (has-opened G job.frames before start desk (opens standing.honest standing.told) asks)
 
   did-by : (that : Replayed) → result ≡ that → DidBy G (HasRunFrom G job (call before after (order_of new) (status_of_replay that)) (Some new)) (call before after (order_of new) (status_of_replay that)) (Some new) (status_of_replay that)
@@ -282,11 +266,12 @@ module _ {W : Type 0} (G : Ghosts W) (fewer_later : FewerLater G) (printed_now :
       has_run G fewer_later printed_now job before start after desk new number store standing (opens standing.honest standing.told) asks programs_are same_opened same_honest time asks-calm
       (Err failed) (Err failed) status.PutFault reports (failed, refl) (λ one two bytes prints. prints_broken {T = Bool} {U = ℕ} (Err failed) (Err failed) refl refl one two bytes prints) (λ is. is) (λ is. absurd (cc)) (λ is. absurd (cc))
 
-  pub happened-by : (that : Replayed) → result ≡ that → HappenedTo G job (call before after (order_of new) (status_of_replay that)) (Some new)
-  happened-by that is = record {
+  pub happened-by : (that : Replayed) → result ≡ that → EndsBy ghosts G desk new start after that → HappenedTo G job (call before after (order_of new) (status_of_replay that)) (Some new)
+  happened-by that is ends = record {
     honest = same_honest ∙ asks.calls.honest;
     time = elapses-trans G fewer_later before start after asks.calls.time time;
     told = λ told. still (told-since G before start asks told);
+    put = λ un. put-same G start after desk new that ends un ∙ asks.calls.put;
     by_status = did-by that is;
   }
 
@@ -306,5 +291,6 @@ happens G text job from c session whole means did runs =
       honest = did.honest;
       time = did.time;
       told = did.told;
+      put = did.put;
       by_status = did-as G (HasRunFrom G job c session) (RanJob G from c session) c session c.status (λ ran. record { text = text; whole = whole; job = job; means = means; has_run = ran; runs = runs }) did.by_status;
     }

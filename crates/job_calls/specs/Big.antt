@@ -1,5 +1,5 @@
 -- What a load of transfers did: one run of the desk over its events, with one line in place of a report.
-use Rattle.std.specs.Prelude.{◌≡◌, ℕ, true, false, List, [], ◌∷◌, codes, decimal, count_by, Option, Some}
+use Rattle.std.specs.Prelude.{◌≡◌, ℕ, true, false, List, [], ◌∷◌, codes, decimal, count_by, Option, None, Some}
 use Rattle.std.specs.List.{fold}
 use Rattle.outside.specs.declared.world.Outside.{Ghosts}
 use Rattle.outside.specs.Moments.{Elapses}
@@ -20,9 +20,8 @@ use Rattle.call_status.specs.declared.status.Status.TheVariants as status
 use Rattle.call_status.specs.Statuses.{IsPastOpening}
 use Rattle.job_calls.specs.Causes.{OpensBy}
 use Rattle.job_calls.specs.Handed.{HandedRuns}
-use Rattle.job_calls.specs.Headline.{ByOpening, FoundNoStore, Refused, RunsFrom, Untouched}
+use Rattle.job_calls.specs.Headline.{ByOpening, FoundNoStore, Refused, RunsFrom, TellsStore, Untouched}
 use Rattle.call_status.specs.Printed.{put_of, PutsOnce, PrintsBy}
-use Rattle.call_status.specs.Opening.{StandsAt}
 
 -- the line of a load: its transfers, how many commits and rollbacks its run had, and what the last commit printed
 abbrev pub big_line : (transfers commits rollbacks : ℕ) (out : List ℕ) → List ℕ
@@ -58,22 +57,24 @@ IsToldBy G transfers quiet.Closed last call = (call.status ≡ Status.DiskFault)
 pub record RanBig {W : Type 0} (G : Ghosts W) (transfers : ℕ) (call : Call W) (session : Option Session) : Type 0 where
   pub job : Job
   pub is_load : IsBigJob transfers job
-  pub has_run : (number : ℕ) (store : FlatStore) → StandsAt G call.before number store → HasBigRun G transfers job number store call session
+  pub has_run : (number : ℕ) (store : FlatStore) → TellsStore G call.before number store → HasBigRun G transfers job number store call session
   pub runs : HandedRuns job.programs.items session
 
--- what a load did, by its status; a disk fault comes in the opening or in an event, and other statuses don't come
+-- what a load did, by its status; a disk fault comes in the opening or in an event, damage in the opening alone, and other statuses don't come
 abbrev pub LoadedBy : {W : Type 0} → Ghosts W → ℕ → Call W → Option Session → Status → Type 0
 LoadedBy G transfers call session status.Done = RanBig G transfers call session × PutsOnce G call.before call.after
 LoadedBy G transfers call session status.PutFault = RanBig G transfers call session
 LoadedBy G transfers call session status.DiskFault = ByOpening session (RanBig G transfers call session) (Untouched G call) × (G.printed call.after ≡ G.printed call.before)
-LoadedBy G transfers call session (status.Store offset) = FoundNoStore G call offset
+LoadedBy G transfers call session (status.Store offset) = (session ≡ None) × FoundNoStore G call offset
 LoadedBy G transfers call session status.NoMemory = Refused G call
 LoadedBy G transfers call session _ = ⊥
 
--- what a load did, whatever stands on the disk: it is as honest as it was and time elapsed, bytes that were told are told, and what they tell of its status
+-- what a load did, whatever stands on the disk: it is as honest as it was and time elapsed, bytes that were told are told, the screen's
+-- count of faults rises with PutFault alone, and what the bytes tell of its status
 pub record Loaded {W : Type 0} (G : Ghosts W) (transfers : ℕ) (call : Call W) (session : Option Session) : Type 0 where
   pub honest : G.is_honest call.after ≡ G.is_honest call.before
   pub time : Elapses G.moment G.left_since call.before call.after
   pub told : StillTold G call.before call.after
+  pub put : (call.status ≡ Status.PutFault → ⊥) → G.put_faults call.after ≡ G.put_faults call.before
   pub opens : OpensBy G call.before call.after call.status
   pub by_status : LoadedBy G transfers call session call.status

@@ -1,8 +1,8 @@
 -- What a call of the console did: the run of the desk that its report tells of and what a crash leaves of it, or nothing.
-use Rattle.std.specs.Prelude.{◌≡◌, ℕ, ◌+◌, ◌%◌, ◌^◌, true, false, List, [], ◌∷◌, ◌++◌, length, map, take, slice_set, Option, None, Some, IsSome, Result, Ok, Err}
+use Rattle.std.specs.Prelude.{◌≡◌, ◌⊎◌, ℕ, ◌+◌, ◌%◌, ◌^◌, true, false, List, [], ◌∷◌, ◌++◌, length, map, take, slice_set, Option, None, Some, IsSome, IsTrue, Result, Ok, Err}
 use Rattle.outside.specs.declared.world.Outside.{Ghosts}
 use Rattle.outside.specs.declared.failed.Failed.{Failed}
-use Rattle.outside.specs.Bytes.{Prints}
+use Rattle.outside.specs.Bytes.{AreTold, Prints}
 use Rattle.outside.specs.Causes.{Rose}
 use Rattle.outside.specs.Moments.{Elapses}
 use Rattle.outside.specs.Runs.{OnlyAsks, Leaves, held_of}
@@ -30,7 +30,7 @@ use Rattle.call_status.specs.Call.{Call, Given}
 use Rattle.call_status.specs.declared.status.Status.{Status}
 use Rattle.call_status.specs.declared.status.Status.TheVariants as status
 use Rattle.call_status.specs.SourceText.{IsWhole}
-use Rattle.call_status.specs.Opening.{IsFaultAt, StandsAt}
+use Rattle.call_status.specs.Opening.{IsFaultAt}
 use Rattle.job_calls.specs.Handed.{HandedRuns}
 
 -- the names of a job's programs
@@ -41,6 +41,16 @@ names_of job = map (λ name. name.items) job.names.items
 -- record may have the lines that the bytes' header has room for.
 abbrev pub job_desk : Job → List ℕ → FlatStore → Desk
 job_desk job held store = opened job.frames 16 (most_lines (header_of (take 128 held))) store
+
+-- An honest disk tells its bytes, and they stand for this number and this store.
+pub record TellsStore {W : Type 0} (G : Ghosts W) (outside : W) (number : ℕ) (store : FlatStore) : Type 0 where
+  pub honest : IsTrue (G.is_honest outside)
+  pub told : IsSome (G.held outside)
+  pub stood : stands (held_of G outside) ≡ Stands number store
+
+-- the image is one that a crash leaves at the start, and nothing was printed since
+abbrev pub IsOfStart : {W : Type 0} → Ghosts W → W → (image seen : List ℕ) → Type 0
+IsOfStart G start image seen = G.left_since start (G.moment start) image seen × AreTold (G.printed start) seen
 
 -- how the report was put, by the status
 abbrev pub put_by : Status → Result ℕ Failed → Type 0
@@ -73,8 +83,8 @@ pub record RunsFrom {W : Type 0} (G : Ghosts W) (job : Job) (number : ℕ) (stor
   pub serial_run : IsSerial (begun job.programs.items job.events.items) number store call.order lines end.committed end.closed
   -- while the desk is open the disk's bytes stand for the number of commits and the store that they leave one after another
   pub leaves : end.closed ≡ false → (left : FlatStore) × (serial (begun job.programs.items job.events.items) call.order store ≡ Some left) × (stands (held_of G call.after) ≡ Stands ((number + length call.order) % 2 ^ 64) left)
-  -- a crash at any moment of the call leaves a store that the first commits leave one after another
-  pub crash : Leaves G (λ image seen. IsFirst (begun job.programs.items job.events.items) number store call.order image) call.before call.after
+  -- a crash at any moment of the call leaves an image of the start with nothing printed since, or a store that the first commits leave one after another
+  pub crash : Leaves G (λ image seen. IsOfStart G call.before image seen ⊎ IsFirst (begun job.programs.items job.events.items) number store call.order image) call.before call.after
   -- and where the last event ended in doubt, the gate byte alone decides whether its commit is among them
   pub doubt : end.closed ≡ true → (front : List (Event × Word)) (event : Event) → taken ≡ front ++ (event, Doubt) ∷ [] → DoubtStands G job number store call.order call.after
 
@@ -94,16 +104,17 @@ pub record JobHasRun {W : Type 0} (G : Ghosts W) (job : Job) (number : ℕ) (sto
   -- each line by one put
   pub times : PutsTimes G (length (report_lines (names_of job) job.programs.items number ran.taken ran.rest (job_desk job (held_of G call.before) store))) call.before call.after put
   pub earlier : PrintsEarlier (G.printed call.before) (G.printed call.after) (λ front. line_text (Open number) ++ text_of (names_of job) job.programs.items number front (job_desk job (held_of G call.before) store)) ran.taken
-  -- a crash leaves the commits that were printed by then, and at most one more, where the printed bytes are told
-  pub seen : IsSome (G.printed call.before) → Leaves G (IsPrefix (begun job.programs.items job.events.items) number store call.order (shown_of G call.before)) call.before call.after
+  -- a crash leaves such an image of the start, or the commits that were printed by then, and at most one more, where the printed bytes are told
+  pub seen : IsSome (G.printed call.before) → Leaves G (λ image seen. IsOfStart G call.before image seen ⊎ IsPrefix (begun job.programs.items job.events.items) number store call.order (shown_of G call.before) image seen)
+      call.before call.after
 
 -- the job was run, from whatever number and store the disk stood for
 abbrev pub HasRunFrom : {W : Type 0} → Ghosts W → Job → Call W → Option Session → Type 0
-HasRunFrom G job call session = (number : ℕ) (store : FlatStore) → StandsAt G call.before number store → JobHasRun G job number store call session
+HasRunFrom G job call session = (number : ℕ) (store : FlatStore) → TellsStore G call.before number store → JobHasRun G job number store call session
 
 -- a disk that stood for a store isn't found damaged
 abbrev pub StoodForNone : {W : Type 0} → Ghosts W → W → Type 0
-StoodForNone G before = (number : ℕ) (store : FlatStore) → StandsAt G before number store → ⊥
+StoodForNone G before = (number : ℕ) (store : FlatStore) → TellsStore G before number store → ⊥
 
 -- the text was had whole, and means a job whose events were run; the session runs its programs
 pub record RanJob {W : Type 0} (G : Ghosts W) (given : Given) (call : Call W) (session : Option Session) : Type 0 where
@@ -143,11 +154,12 @@ DidBy G ran call session (status.Store offset) = ByOpening session (StoodForNone
 DidBy G ran call session _ = Refused G call
 
 -- What a call did on an outside, whatever stands on it, where this is what running its events did: the disk is as honest as it was and time elapsed, bytes
--- that were told are told, and the rest is by its status.
+-- that were told are told, the screen's count of faults rises with PutFault alone, also behind the event that closed the desk, and the rest is by its status.
 pub record DidOn {W : Type 0} (G : Ghosts W) (ran : Type 0) (call : Call W) (session : Option Session) : Type 0 where
   pub honest : G.is_honest call.after ≡ G.is_honest call.before
   pub time : Elapses G.moment G.left_since call.before call.after
   pub told : StillTold G call.before call.after
+  pub put : (call.status ≡ Status.PutFault → ⊥) → G.put_faults call.after ≡ G.put_faults call.before
   pub by_status : DidBy G ran call session call.status
 
 -- what a call did with the job of its source

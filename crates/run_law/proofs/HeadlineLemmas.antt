@@ -1,10 +1,12 @@
 -- What a crash leaves of a run from an opening.
 use Rattle.std.proofs.lemmas.Bool.Decides.{nat_tests}
-use Rattle.run_law.proofs.Common.{false, not, Bool, ◌%◌, ◌^◌, take_at, map-append, Program, serial, Stands, Event, begun, IsSerial, standing_of, fine_step, Desk, opened, Word, Fine, Doubt, event_lines, run, step, IsRunOf, OpenBeforeEach, IsStage}
-use Rattle.std.proofs.Common.{◌≡◌, ℕ, ◌+◌, List, [], ◌∷◌, ◌++◌, length, map, take, refl, sym, ap, ◌∙◌, arith, length-append, append-nil, append_assoc, Some, IsTrue}
+use Rattle.run_law.proofs.Common.{false, not, Bool, ◌%◌, ◌^◌, take_at, map-append, Program, serial, Stands, Event, begun, IsSerial, stands, standing_of, fine_step, Desk, opened, Word, Fine, Doubt, event_lines, run, step, IsRunOf, OpenBeforeEach, IsStage}
+use Rattle.std.proofs.Common.{◌≡◌, ℕ, ◌+◌, ◌<◌, List, [], ◌∷◌, ◌++◌, length, map, take, refl, sym, ap, ◌∙◌, arith, length-append, append-nil, append_assoc, Some, IsTrue}
 use Rattle.line_geometry.specs.FlatStore.{FlatStore}
+use Rattle.flat_machine.specs.Serial.{Activation}
+use Rattle.store_format.proofs.Sound.{stood_header}
 use Rattle.desk.proofs.SerialLaw.{run-serial}
-use Rattle.run_law.specs.Headline.{IsFirst, LeftIsPrefix, DoubtIsWhole}
+use Rattle.run_law.specs.Headline.{IsFirst, IsPrefix, LeftIsPrefix, DoubtIsWhole}
 use Rattle.run_law.proofs.RunLemmas.{run_on}
 use Rattle.run_law.proofs.StepLemmas.{Stepped, step_by}
 
@@ -17,6 +19,18 @@ open_serial programs number frames most most_lines store events taken rest is_ru
     let desk = run programs taken start in
     let it : IsSerial (begun programs events) number store desk.order (event_lines [] programs number taken start) desk.committed desk.closed = run-serial [] programs number frames most most_lines store events taken rest is_run in
     ap (λ (order : List (ℕ × ℕ)). serial (begun programs events) order store) (it.order_is ∙ ap (λ (back : List (ℕ × ℕ)). it.done ++ back) (it.none_open still) ∙ append-nil it.done) ∙ it.leaves
+
+-- what stands for the store at the start has none of an order's commits
+pub start_is_prefix : (activations : List Activation) (number : ℕ) (store : FlatStore) (order : List (ℕ × ℕ)) (image seen : List ℕ) → stands image ≡ Stands number store → seen ≡ [] → IsPrefix activations number store order [] image seen
+start_is_prefix activations number store order image seen stood none =
+    let small : number < 2 ^ 64 = (stood_header image number store stood).2 in
+    record {
+      first = record { j = 0; few = omega arith; left = store; leaves = refl; stood = stood ∙ ap (λ (n : ℕ). Stands n store) (let same : number ≡ (number + 0) % 2 ^ 64 = omega (arith, small) in same) };
+      since = [];
+      seen_is = none;
+      told = omega arith;
+      most = omega arith;
+    }
 
 -- the image of a stage stands for the first commits
 pub stage_is_first : (programs : List Program) (number frames most most_lines : ℕ) (store : FlatStore) (events : List Event) (taken : List (Event × Word)) (rest : List Event) (image : List ℕ)

@@ -68,7 +68,7 @@ returns-clause-put g c = λ is.
 
 pub returns-clause-unfailed : goal.returns-clause-unfailed
 returns-clause-unfailed g c = λ is.
-    put-same g.W.Outside c.open.new.outside c.replay-replayed.new.outside c.in-Ok.session c.replay-replayed.new.desk c.replay-replayed.result c.replay-replayed.ensures.ends (sym c.status_of_replay.ensures ∙ is) ∙ c.in-Ok.ensures.asks.calls.put
+    put-same g.W.Outside c.open.new.outside c.replay-replayed.new.outside c.in-Ok.session c.replay-replayed.new.desk c.replay-replayed.result c.replay-replayed.ensures.ends (λ put. let both = sym is ∙ c.status_of_replay.ensures ∙ put in cc) ∙ c.in-Ok.ensures.asks.calls.put
 
 pub returns-clause-happened : goal.returns-clause-happened
 returns-clause-happened g c =
@@ -84,7 +84,7 @@ returns-clause-happened g c =
     subst (λ (now : Status). HappenedTo G job (call before after (order_told c.filled.result.items) now) (Some new)) (sym c.status_of_replay.ensures)
     (subst (λ (order : List (ℕ × ℕ)). HappenedTo G job (call before after order (status_of_replay result)) (Some new)) (sym (ap order_told c.filled.ensures ∙ c.order.ensures))
     (happened-by G g.met.W.Outside.fewer_later g.met.W.Outside.printed_now job before start after desk new c.in-Ok.ensures.opened c.in-Ok.ensures.asks c.in-Ok.ensures.new.programs_are (ap (λ (fixed : Fixed). fixed.opened) c.replay-replayed.ensures.fixed)
-    c.replay-replayed.ensures.honest c.replay-replayed.ensures.time c.replay-replayed.ensures.told c.in-Ok.ensures.unfailed result did result refl))
+    c.replay-replayed.ensures.honest c.replay-replayed.ensures.time c.replay-replayed.ensures.told c.in-Ok.ensures.unfailed result did result refl c.replay-replayed.ensures.ends))
 
 pub returns-clause-disk : goal.returns-clause-disk
 returns-clause-disk g c = λ is.
