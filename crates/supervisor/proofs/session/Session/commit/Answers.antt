@@ -107,7 +107,7 @@ returns-in-Done-clause-went g c = λ begins sure over at.
     (ap (λ (n : Session). number_of n.store) others ∙ c.commit.ensures.number ∙ ap (λ (kept : Kept). number_after kept (number_of c.record.new.store)) c.in-Done.is ∙ ap (λ (store : KeptStore). (number_of store + 1) % 2 ^ 64) begun)
     (subst (λ (store : KeptStore). TracksStore G store after) (sym (ap (λ (n : Session). n.store) others)) done.tracks)
     done.stood (c.commit.ensures.crash tracks)
-    (commit-adds c.record.new.store _ (held_of G before) (held_of G after) tracks.shows done.tracks.shows c.commit.ensures.header c.in-Done.ensures.kept (c.commit.ensures.records tracks))
+    (commit-adds c.record.new.store _ (held_of G before) (held_of G after) tracks.shows done.tracks.shows c.commit.ensures.header c.in-Done.ensures.kept (c.commit.ensures.records tracks).held)
     c.args.tally.now _ refl
 
 pub returns-in-Doubt-clause-sound : goal.returns-in-Doubt-clause-sound
