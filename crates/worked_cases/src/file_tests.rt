@@ -36,23 +36,23 @@ impl CountedFile {
             trace: Trace::new(),
         }
     }
+}
 
-    /// Counts a call, and says whether it is the one that fails.
-    fn fails(&mut self) -> bool {
-        self.calls = self.calls.saturating_add(1);
-        self.calls == self.fails_at
-    }
+/// Counts a call, and says whether it is the one that fails.
+fn fails(calls: &mut u32, fails_at: u32) -> bool {
+    *calls = calls.saturating_add(1);
+    *calls == fails_at
+}
 
-    /// Lays bytes over what it holds, and past the end.
-    fn lay(&mut self, at: u64, bytes: &[u8]) -> Result<(), AllocError> {
-        let start = at as usize;
-        let end = start.saturating_add(bytes.len());
-        if self.held.len() < end {
-            self.held.resize(end, 0)?;
-        }
-        self.held[start..end].copy_from_slice(bytes);
-        Ok(())
+/// Lays bytes over those that are held, and past the end.
+fn lay(held: &mut Vec<u8>, at: u64, bytes: &[u8]) -> Result<(), AllocError> {
+    let start = at as usize;
+    let end = start.saturating_add(bytes.len());
+    if held.len() < end {
+        held.resize(end, 0)?;
     }
+    held[start..end].copy_from_slice(bytes);
+    Ok(())
 }
 
 impl RawFile for CountedFile {
@@ -61,7 +61,7 @@ impl RawFile for CountedFile {
     ghost deeds = { λ file. file.trace.deeds };
 
     fn write_at(&mut self, at: u64, bytes: &[u8]) -> Result<(), Failed> {
-        if self.fails() || self.lay(at, bytes).is_err() {
+        if fails(&mut self.calls, self.fails_at) || lay(&mut self.held, at, bytes).is_err() {
             self.trace.note(&[1, at], bytes);
             return Err(Failed);
         }
@@ -70,7 +70,7 @@ impl RawFile for CountedFile {
     }
 
     fn sync(&mut self) -> Result<(), Failed> {
-        if self.fails() {
+        if fails(&mut self.calls, self.fails_at) {
             self.trace.note(&[3, 0], &[]);
             return Err(Failed);
         }
