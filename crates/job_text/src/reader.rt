@@ -1,4 +1,4 @@
-ghost use Rattle.std.specs.Prelude.{◌≡◌, ℕ, ◌+◌, ◌*◌, ◌≤◌, ◌<◌, ◌^◌, ◌++◌, length, map, position, is_some, Some, Ok, OnOk, IfOk, IfSome};
+ghost use Rattle.std.specs.Prelude.{◌≡◌, ℕ, ◌+◌, ◌*◌, ◌≤◌, ◌<◌, ◌^◌, ◌++◌, [], length, map, position, is_some, Some, Ok, OnOk, IfOk, IfSome};
 ghost use Rattle.std.specs.Option.{option_map};
 ghost use Rattle.std.specs.Str.{bytes_eq};
 ghost use Rattle.asm_parse.specs.Operand.{place_among};
@@ -210,9 +210,22 @@ impl Reader {
         self.sources.push(last)?;
         let program = link(alloc, self.sources.as_slice())?;
         self.programs.push(program)?;
-        self.sources.clear();
+        self.reuse_room();
         self.stage = Stage::Programs;
         Ok(())
+    }
+
+    /// No source is at hand any more; the next is read into the room of the last.
+    fn reuse_room(&mut self)
+        ensures read { reading_of self.new ≡ record (reading_of self.old) { sources = []; statements = [] } }
+        ensures few { held self.new ≡ 0 }
+    {
+        match self.sources.pop() {
+            Some(last) => self.statements = last,
+            None => {}
+        }
+        self.statements.clear();
+        self.sources.clear();
     }
 
     /// A `.part`, which ends a source.
