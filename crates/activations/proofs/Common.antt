@@ -62,8 +62,8 @@ pub use Rattle.frame_pool.specs.Sizes.{frame_count, line_place, line_size, priva
 pub use Rattle.frame_pool.specs.View.{pool_of}
 pub use Rattle.frame_pool.specs.declared.model.Pool.{Pool}
 pub use Rattle.inverted_table.specs.Placed.{cleared_entry, unowned}
-pub use Rattle.line_geometry.proofs.LineSetLemmas.{is_in_where-below, of_page-below, of_page-where}
-pub use Rattle.line_geometry.proofs.Within.{byte_count-lines, byte_count-pages, line-below, line-bytes-pos, segment-within}
+pub use Rattle.line_geometry.proofs.LineSetLemmas.{is_in_where-below, of_page-below, of_page_where}
+pub use Rattle.line_geometry.proofs.Within.{byte_count-lines, byte_count_pages, line-below, line-bytes-pos, segment-within}
 pub use Rattle.line_geometry.specs.Directory.{Layout, byte_count, is_fine_page, length_of, page_count, start_of}
 pub use Rattle.line_geometry.specs.FlatStore.{FlatStore}
 pub use Rattle.line_geometry.specs.Legal.{IsLegal}

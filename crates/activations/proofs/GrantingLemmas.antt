@@ -1,6 +1,6 @@
 -- Locks that are taken and pages that are granted, one after another: what is left is sound.
 use Rattle.activations.proofs.SittingLemmas.{each_seat}
-use Rattle.activations.proofs.Common.{◌≡◌, refl, ℕ, zero, suc, ◌+◌, ◌<◌, ◌==◌, if◌then◌else◌, Bool, true, List, [], ◌∷◌, length, map, slice_index_or, slice_set, ap, sym, ◌∙◌, subst, inr, eq-eqb, or_left, or_right, length-set, All-cons, All-head, All-tail, Layout, is_fine_page, IsOfPage, of_page-where, has, Want, AreWithin, of_page, together, with_want, with_wants, Authority, unowned, Seating, took, taken-below, kept-took, same-with, other-with, Touch, Activity, AreOfPages, IsIdentified, IsSound, AreSet, AreGranted, AreLowered, entry_given, entry_to_read, locked, with_entries, each_refused, pages_picked, pages_refused, stores_into, wants_of, with_whole_page, arith}
+use Rattle.activations.proofs.Common.{◌≡◌, refl, ℕ, zero, suc, ◌+◌, ◌<◌, ◌==◌, if◌then◌else◌, Bool, true, List, [], ◌∷◌, length, map, slice_index_or, slice_set, ap, sym, ◌∙◌, subst, inr, eq-eqb, or_left, or_right, length-set, All-cons, All-head, All-tail, Layout, is_fine_page, IsOfPage, of_page_where, has, Want, AreWithin, of_page, together, with_want, with_wants, Authority, unowned, Seating, took, taken-below, kept-took, same-with, other-with, Touch, Activity, AreOfPages, IsIdentified, IsSound, AreSet, AreGranted, AreLowered, entry_given, entry_to_read, locked, with_entries, each_refused, pages_picked, pages_refused, stores_into, wants_of, with_whole_page, arith}
 use Rattle.line_locks.specs.Holding.{of_seat, held_at, taken as holding_more}
 use Rattle.lockbit_rules.specs.Entries.{Entry, granted, granted_fine}
 
@@ -16,8 +16,8 @@ set-keeps P (x ∷ xs) (suc place) (suc at) value other new old = set-keeps P xs
 more-of-pages : (pages : List (List ℕ × List ℕ)) (wants : List Want) → AreOfPages pages → AreOfPages (with_wants pages wants)
 more-of-pages pages [] of = of
 more-of-pages pages (want ∷ wants) of = more-of-pages (with_want pages want) wants (record {
-  reads = λ page. set-keeps (λ held. IsOfPage held.0) pages want.page page (together (of_page pages want.page) want) ([], []) (of_page-where _) (of.reads page);
-  writes = λ page. set-keeps (λ held. IsOfPage held.1) pages want.page page (together (of_page pages want.page) want) ([], []) (of_page-where _) (of.writes page);
+  reads = λ page. set-keeps (λ held. IsOfPage held.0) pages want.page page (together (of_page pages want.page) want) ([], []) (of_page_where _) (of.reads page);
+  writes = λ page. set-keeps (λ held. IsOfPage held.1) pages want.page page (together (of_page pages want.page) want) ([], []) (of_page_where _) (of.writes page);
 })
 
 -- with its whole page where one is written, a want is of the same page

@@ -1,6 +1,6 @@
 -- How many lines will have been written.
 use Rattle.std.proofs.lemmas.Bool.{and_left}
-use Rattle.activations.proofs.Common.{◌≡◌, ◌≢◌, refl, ℕ, zero, suc, ◌+◌, ◌*◌, ◌/◌, ◌%◌, ◌<◌, ◌==◌, ◌&&◌, not, true, false, List, [], ◌∷◌, ◌++◌, All, filter, length, map, flat_map, list_any, range_with_len, sum_by, arith, ap, sym, ◌∙◌, eqb-true, and_parts, nat_tests, append-nil, length-map, sum_by-cons, All-nil, All-cons, passing, IsOfPage, difference, of_page-below, of_page-where, is_in_where-below, has, distinct, size, page_of_line, has-filter, size-alike, size-apart, size-append, size-counted, Want, of_page, write_count, flat_lines, lines_wanted, AreOfPage, lines_held, AreOfPages}
+use Rattle.activations.proofs.Common.{◌≡◌, ◌≢◌, refl, ℕ, zero, suc, ◌+◌, ◌*◌, ◌/◌, ◌%◌, ◌<◌, ◌==◌, ◌&&◌, not, true, false, List, [], ◌∷◌, ◌++◌, All, filter, length, map, flat_map, list_any, range_with_len, sum_by, arith, ap, sym, ◌∙◌, eqb-true, and_parts, nat_tests, append-nil, length-map, sum_by-cons, All-nil, All-cons, passing, IsOfPage, difference, of_page-below, of_page_where, is_in_where-below, has, distinct, size, page_of_line, has-filter, size-alike, size-apart, size-append, size-counted, Want, of_page, write_count, flat_lines, lines_wanted, AreOfPage, lines_held, AreOfPages}
 use Rattle.activations.proofs.HoldingLemmas.{flat-apart, held-flat}
 use Rattle.activations.proofs.RequestLemmas.{has-flat, has-wanted}
 
@@ -57,7 +57,7 @@ abbrev pub new_lines : List (List ℕ × List ℕ) → Want → List ℕ
 new_lines pages want = difference want.writes (of_page pages want.page).1
 
 new-of-page : (pages : List (List ℕ × List ℕ)) (want : Want) → IsOfPage (new_lines pages want)
-new-of-page pages want = of_page-where (λ x. has want.writes x && not (has (of_page pages want.page).1 x))
+new-of-page pages want = of_page_where (λ x. has want.writes x && not (has (of_page pages want.page).1 x))
 
 all-new : (pages : List (List ℕ × List ℕ)) (wants : List Want) → All (λ want. IsOfPage (new_lines pages want)) wants
 all-new pages [] = All-nil (λ (want : Want). IsOfPage (new_lines pages want))

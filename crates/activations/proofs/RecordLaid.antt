@@ -1,5 +1,5 @@
 -- What a record of the lines that one holds to write leaves, laid over what is committed.
-use Rattle.activations.proofs.Common.{◌≡◌, refl, ℕ, ◌+◌, ◌*◌, ◌/◌, ◌%◌, ◌<◌, ◌≤◌, ◌==◌, if◌then◌else◌, Bool, true, false, List, [], ◌∷◌, length, slice_index, Some, arith, ap, sym, ◌∙◌, or_left, or_right, eq-eqb, same_number_lists, page_count, page_bytes, line_bytes, PageSize, byte_count-pages, line-bytes-pos, has, overlaid, length-overlaid, entry_bytes, laid, is_line_marked, byte-of-all, Plain, after, Commit, row, FlatStore, page_of_line, Entry, no_counts, IsLaid, over_all, due_to, place-laid, place-kept, seat-told, among-any, Activity, program_in, entry_in, entries, store_over, locks_in, shown, IsSound, KeepsDesk, line_told, recorded, nat_tests}
+use Rattle.activations.proofs.Common.{◌≡◌, refl, ℕ, ◌+◌, ◌*◌, ◌/◌, ◌%◌, ◌<◌, ◌≤◌, ◌==◌, if◌then◌else◌, Bool, true, false, List, [], ◌∷◌, length, slice_index, Some, arith, ap, sym, ◌∙◌, or_left, or_right, eq-eqb, same_number_lists, page_count, page_bytes, line_bytes, PageSize, byte_count_pages, line-bytes-pos, has, overlaid, length-overlaid, entry_bytes, laid, is_line_marked, byte-of-all, Plain, after, Commit, row, FlatStore, page_of_line, Entry, no_counts, IsLaid, over_all, due_to, place-laid, place-kept, seat-told, among-any, Activity, program_in, entry_in, entries, store_over, locks_in, shown, IsSound, KeepsDesk, line_told, recorded, nat_tests}
 use Rattle.storage_unit.proofs.FillLemmas.{over-part, in-part}
 use Rattle.storage_unit.specs.Reached as reached
 use Rattle.activations.proofs.CommitLemmas.{ends}
@@ -87,7 +87,7 @@ module _ (a : Activity) (seat : ℕ) (committed : List ℕ) (now : Plain) (sound
       ∙ among-any (λ (entry : Entry). has (due_to store entry).writes line) (entries a) (entry_in a seat) (seat-told a.seating.taken (entry_in a) seat taken) (sym (lines-due line) ∙ inside)
 
   bytes-all : length committed ≡ page_count a.reach.directory * page_bytes size
-  bytes-all = follows.kept.long ∙ byte_count-pages a.reach.directory
+  bytes-all = follows.kept.long ∙ byte_count_pages a.reach.directory
 
   module _ (lines : List ℕ) (same : (line : ℕ) → has lines line ≡ has (locks_in a seat).writes line) (below : (line : ℕ) → has lines line ≡ true → line < page_count a.reach.directory * 16) where
     are-lines : AreLines size (line_told a.reach.pool) lines (length committed)

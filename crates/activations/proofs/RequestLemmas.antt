@@ -1,6 +1,6 @@
 -- The lines that an access touches and what it asks for, page by page and as flat lines.
 use Rattle.std.proofs.lemmas.Bool.{cond_both}
-use Rattle.activations.proofs.Common.{and-false, ◌≡◌, refl, ℕ, ◌+◌, ◌*◌, ◌/◌, ◌%◌, ◌<◌, ◌==◌, ◌&&◌, ◌||◌, not, nat_le, if◌then◌else◌, Bool, true, false, List, [], ◌∷◌, All, length, map, flat_map, list_any, arith, ap, sym, ◌∙◌, nat_tests, All-cons, All-head, All-tail, list_any-append, Layout, is_fine_page, IsOfPage, between, union, of_page-below, of_page-where, is_in_where-below, has, page_of_line, pages_of, with_whole_pages, has-append, has-pages_of, any-or, has-whole_pages, Want, flat_lines, lines_wanted, has-page, has-other_page, AreAlike, AreOfPage, with_whole_page}
+use Rattle.activations.proofs.Common.{and-false, ◌≡◌, refl, ℕ, ◌+◌, ◌*◌, ◌/◌, ◌%◌, ◌<◌, ◌==◌, ◌&&◌, ◌||◌, not, nat_le, if◌then◌else◌, Bool, true, false, List, [], ◌∷◌, All, length, map, flat_map, list_any, arith, ap, sym, ◌∙◌, nat_tests, All-cons, All-head, All-tail, list_any-append, Layout, is_fine_page, IsOfPage, between, union, of_page-below, of_page_where, is_in_where-below, has, page_of_line, pages_of, with_whole_pages, has-append, has-pages_of, any-or, has-whole_pages, Want, flat_lines, lines_wanted, has-page, has-other_page, AreAlike, AreOfPage, with_whole_page}
 
 -- a line is one of these of a page
 pub has-flat : (page : ℕ) (set : List ℕ) (line : ℕ) → IsOfPage set → has (flat_lines page set) line ≡ ((page == page_of_line line) && has set (line % 16))
@@ -49,7 +49,7 @@ whole-of-page directory wants sets = record { reads = reads wants sets.reads; wr
   where
     reads : (wants : List Want) → All (λ want. IsOfPage want.reads) wants → All (λ want. IsOfPage want.reads) (map (with_whole_page directory) wants)
     reads [] of = of
-    reads (want ∷ wants) of = All-cons (λ (w : Want). IsOfPage w.reads) (with_whole_page directory want) (map (with_whole_page directory) wants) (let old = All-head (λ (w : Want). IsOfPage w.reads) want wants of in cond_both (length want.writes == 0) _ _ (λ (w : Want). IsOfPage w.reads) (λ _. old) (λ _. cond_both (is_fine_page directory want.page) _ _ IsOfPage (λ _. of_page-where _) (λ _. of_page-where _))) (reads wants (All-tail (λ (w : Want). IsOfPage w.reads) want wants of))
+    reads (want ∷ wants) of = All-cons (λ (w : Want). IsOfPage w.reads) (with_whole_page directory want) (map (with_whole_page directory) wants) (let old = All-head (λ (w : Want). IsOfPage w.reads) want wants of in cond_both (length want.writes == 0) _ _ (λ (w : Want). IsOfPage w.reads) (λ _. old) (λ _. cond_both (is_fine_page directory want.page) _ _ IsOfPage (λ _. of_page_where _) (λ _. of_page_where _))) (reads wants (All-tail (λ (w : Want). IsOfPage w.reads) want wants of))
 
     writes : (wants : List Want) → All (λ want. IsOfPage want.writes) wants → All (λ want. IsOfPage want.writes) (map (with_whole_page directory) wants)
     writes [] of = of

@@ -1,5 +1,5 @@
 -- The lines that an access touches, page by page, and how many will have been written with them.
-use Rattle.activations.proofs.Common.{or_parts, range_with_len, arith, ap, sym, ◌∙◌, subst, eq-eqb, ne_eqb, both_ways, nat_tests, append-nil, length-range_with_len, sum_by-le, All-nil, All-cons, All-head, All-tail, All-get_or, All-from_get_or, PageSize, Two, Four, Layout, start_of, length_of, byte_count, page_count, IsLegal, line_of, line_count, passing, between, difference, IsOfPage, line_bytes, of_page-where, line-below, segment-within, has, Lines, no_lines, pages_of, Want, lines_wanted, nothing, write_count, AreWithin, of_seat, held_at, Plain, Program, in_segment, in_window, in_register, located, lines_at, Registers, located_by, virtual_at, Access, lines_of_access, registers_of_program, TurnEnd, ending_told, Counts, AreConsistent, AreDistinct, filter-short, AreOfPage, Reach, private_segment, is_private, offset_of, place_at, Activity, live_in, program_in, entries, store_over, AreOfPages, IsSound, IsKept, IsToServe, AreTouched, attempt_in, lines_with, ComesToEnd, instruction_in, rolled, RollsBack, HasEnded, Touch, lines_between, pages_wanted, wants_of, AreWanted, ◌≡◌, refl, ℕ, zero, suc, ◌+◌, ◌-◌, ◌/◌, ◌%◌, ◌^◌, ◌<◌, ◌≤◌, ◌==◌, ◌||◌, ◌&&◌, nat_le, nat_lt, if◌then◌else◌, Bool, true, false, List, [], ◌∷◌, ◌++◌, length, slice_index_or, Option, Some, None, Result, Ok, Err}
+use Rattle.activations.proofs.Common.{or_parts, range_with_len, arith, ap, sym, ◌∙◌, subst, eq-eqb, ne_eqb, both_ways, nat_tests, append-nil, length-range_with_len, sum_by-le, All-nil, All-cons, All-head, All-tail, All-get_or, All-from_get_or, PageSize, Two, Four, Layout, start_of, length_of, byte_count, page_count, IsLegal, line_of, line_count, passing, between, difference, IsOfPage, line_bytes, of_page_where, line-below, segment-within, has, Lines, no_lines, pages_of, Want, lines_wanted, nothing, write_count, AreWithin, of_seat, held_at, Plain, Program, in_segment, in_window, in_register, located, lines_at, Registers, located_by, virtual_at, Access, lines_of_access, registers_of_program, TurnEnd, ending_told, Counts, AreConsistent, AreDistinct, filter-short, AreOfPage, Reach, private_segment, is_private, offset_of, place_at, Activity, live_in, program_in, entries, store_over, AreOfPages, IsSound, IsKept, IsToServe, AreTouched, attempt_in, lines_with, ComesToEnd, instruction_in, rolled, RollsBack, HasEnded, Touch, lines_between, pages_wanted, wants_of, AreWanted, ◌≡◌, refl, ℕ, zero, suc, ◌+◌, ◌-◌, ◌/◌, ◌%◌, ◌^◌, ◌<◌, ◌≤◌, ◌==◌, ◌||◌, ◌&&◌, nat_le, nat_lt, if◌then◌else◌, Bool, true, false, List, [], ◌∷◌, ◌++◌, length, slice_index_or, Option, Some, None, Result, Ok, Err}
 use Rattle.flat_machine.specs.declared.machine.Located.{Located}
 use Rattle.flat_machine.specs.declared.machine.Located.TheVariants.{Private, Shared, Refused}
 use Rattle.flat_machine.specs.declared.machine.Window.{Window}
@@ -24,7 +24,7 @@ sets-one page first last store sets is =
     subst (λ (pair : List ℕ × List ℕ). AreOfPage (record { page = page; reads = pair.0; writes = pair.1 } ∷ [])) (sym is) (by_store store)
   where
     of-between : IsOfPage (between (first % 16) (last % 16))
-    of-between = of_page-where (λ line. nat_le (first % 16) line && nat_le line (last % 16))
+    of-between = of_page_where (λ line. nat_le (first % 16) line && nat_le line (last % 16))
 
     alone : (want : Want) → IsOfPage want.reads → IsOfPage want.writes → AreOfPage (want ∷ [])
     alone want reads writes = record {

@@ -378,8 +378,8 @@ module _ (all : List Activation) (names : List (List ℕ)) (programs : List Prog
       ]
 
 -- the law of serial runs
-pub run-serial : RunsAreSerial
-run-serial names programs number frames most most_lines store events taken rest is =
+pub run_serial : RunsAreSerial
+run_serial names programs number frames most most_lines store events taken rest is =
     let start = opened frames most most_lines store in
     let all : begun programs events ≡ begun programs (map (λ (each : Event × Word). each.0) taken) ++ begun programs rest =
     ap (begun programs) (sym is.prefix) ∙ begun-append programs (map (λ (each : Event × Word). each.0) taken) rest in

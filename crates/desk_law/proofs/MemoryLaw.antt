@@ -3,7 +3,7 @@ use Rattle.desk_law.proofs.Common.{◌≤◌, ◌≡◌, refl, ℕ, zero, suc, �
 use Rattle.flat_machine.proofs.Whole.{serial-whole}
 use Rattle.desk.specs.Commits.{begun, IsSerial}
 use Rattle.desk.specs.Report.{event_lines}
-use Rattle.desk.proofs.SerialLaw.{run-serial}
+use Rattle.desk.proofs.SerialLaw.{run_serial}
 use Rattle.desk_law.proofs.Orderly.{orderly}
 use Rattle.desk_law.proofs.Entries.{among-found, among-filter, filter-among, new-among, among-push, between, found-among, one-entry, numbers-replaced}
 use Rattle.desk_law.proofs.Others.{others}
@@ -354,7 +354,7 @@ side_by_side_is_serial names programs number frames most_active most_lines store
     serial : IsSerial (begun programs events) number store (run programs taken (opened frames most_active most_lines store)).order
         (event_lines names programs number taken (opened frames most_active most_lines store)) (run programs taken (opened frames most_active most_lines store)).committed
         (run programs taken (opened frames most_active most_lines store)).closed
-    serial = run-serial names programs number frames most_active most_lines store events taken rest is_run
+    serial = run_serial names programs number frames most_active most_lines store events taken rest is_run
 
     one_directory : (run programs taken (opened frames most_active most_lines store)).committed.directory ≡ store.directory
     one_directory = (serial-whole (begun programs events) serial.done store (run programs taken (opened frames most_active most_lines store)).committed whole serial.leaves).1

@@ -5,7 +5,7 @@ use Rattle.std.proofs.lemmas.Bool.{cases_lt}
 use Rattle.outside.proofs.Prints.{prints_well, prints_broken}
 use Rattle.restart.specs.Kept.{number_of}
 use Rattle.desk.specs.Crash.{standing_of}
-use Rattle.desk.proofs.SerialLaw.{run-serial}
+use Rattle.desk.proofs.SerialLaw.{run_serial}
 use Rattle.run_law.specs.Headline.{IsFirst, IsPrefix}
 use Rattle.run_law.specs.Left.{IsLeft, IsStage}
 use Rattle.run_law.proofs.HeadlineLemmas.{left_is_prefix, doubt_is_whole, stage_is_first}
@@ -127,7 +127,7 @@ module _ {W : Type 0} (G : Ghosts W) (fewer_later : FewerLater G) (printed_now :
     serial_run =
         subst (λ (order : List (ℕ × ℕ)). IsSerial commits number store order lines ends.committed ends.closed)
         (sym ordered)
-        (run-serial names job.programs.items number job.frames 16 (most_lines (header_of (take 128 (held_of G before)))) store job.events.items half.taken half.rest is_run)
+        (run_serial names job.programs.items number job.frames 16 (most_lines (header_of (take 128 (held_of G before)))) store job.events.items half.taken half.rest is_run)
 
     pub all-fine : (Rose (G.disk_faults before) (G.disk_faults after) → ⊥) → faulted half.taken ≡ 0
     all-fine none =

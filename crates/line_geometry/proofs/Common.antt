@@ -16,3 +16,4 @@ pub use Rattle.line_geometry.specs.Segments.{bytes_of, is_named, line_bytes, pag
 pub use Rattle.line_geometry.specs.declared.directory.DirectoryFault.TheVariants.{Flag, Order, Range, TooMany}
 pub use Rattle.line_geometry.specs.declared.directory.PageSize.{PageSize}
 pub use Rattle.line_geometry.specs.declared.directory.PageSize.TheVariants.{Four, Two}
+pub use Rattle.std.proofs.lemmas.Grind.{common_steps}

@@ -1,6 +1,5 @@
 -- Pages by the flags of their segments.
-use Rattle.std.proofs.Common.{arith}
-use Rattle.std.proofs.lemmas.Bool.Decides.{nat_tests}
+use Rattle.line_geometry.proofs.Common.{arith, nat_tests}
 use Rattle.std.specs.Prelude.{◌≡◌, refl, ℕ, ◌-◌, false, List, [], ◌∷◌}
 use Rattle.line_geometry.specs.Directory.{fine_among}
 

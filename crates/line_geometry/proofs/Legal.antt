@@ -4,7 +4,7 @@ use Rattle.std.specs.Prelude.{◌≡◌, ℕ, zero, suc, ◌+◌, ◌*◌, ◌<�
 use Rattle.std.specs.List.Sorted.{IsStrictlyIncreasing}
 use Rattle.std.proofs.lemmas.List.Elements.{All-cons, All-head, All-tail}
 use Rattle.line_geometry.specs.declared.directory.DirectoryFault.{DirectoryFault}
-use Rattle.line_geometry.proofs.Within.{byte_count-pages}
+use Rattle.line_geometry.proofs.Within.{byte_count_pages}
 
 -- the identifiers of segments
 abbrev identifiers : List (ℕ × ℕ) → List ℕ
@@ -118,9 +118,9 @@ legal-none segments fine = by_tests (nat_lt 15 (length segments)) (length segmen
         }
 
 -- a legal list has no fault
-pub none-legal : (segments : List (ℕ × ℕ)) → IsLegal segments → fault_of segments ≡ None
-none-legal [] legal = absurd (omega (arith, legal.some))
-none-legal (segment ∷ rest) legal =
+pub none_legal : (segments : List (ℕ × ℕ)) → IsLegal segments → fault_of segments ≡ None
+none_legal [] legal = absurd (omega (arith, legal.some))
+none_legal (segment ∷ rest) legal =
     by_tests (nat_lt 15 (length (segment ∷ rest))) (length (segment ∷ rest) == 0) few some (fine-after 0 0 (segment ∷ rest) after)
   where
     above : 0 < segment.0
@@ -149,12 +149,12 @@ none-legal (segment ∷ rest) legal =
 
 -- a list with a fault isn't
 pub fault-not_legal : (segments : List (ℕ × ℕ)) (fault : DirectoryFault) → fault_of segments ≡ Some fault → IsLegal segments → ⊥
-fault-not_legal segments fault found legal = grind (arith, nat_tests, none-legal segments legal)
+fault-not_legal segments fault found legal = grind (arith, nat_tests, none_legal segments legal)
 
 page-bound : (page : PageSize) (n : ℕ) → n ≤ 1024 → n * page_bytes page ≤ 4194304
 page-bound Two n few = omega (arith, few)
 page-bound Four n few = omega (arith, few)
 
 -- a legal store has at most 4 MiB
-pub legal-bytes : (directory : Layout) → IsLegal directory.segments → byte_count directory ≤ 4194304
-legal-bytes directory legal = grind (arith, nat_tests, page-bound, byte_count-pages)
+pub legal_bytes : (directory : Layout) → IsLegal directory.segments → byte_count directory ≤ 4194304
+legal_bytes directory legal = grind (arith, nat_tests, page-bound, byte_count_pages)

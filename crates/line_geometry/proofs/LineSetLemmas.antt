@@ -8,9 +8,7 @@ use Rattle.std.proofs.lemmas.Bool.{eqb-true, eqb-false, cases_lt}
 -- a test that answers alike on a range keeps the same numbers of it
 filter-range : (p q : ℕ → Bool) (low n : ℕ) → ((x : ℕ) → low ≤ x → x < low + n → p x ≡ q x) → filter p (range_with_len low n) ≡ filter q (range_with_len low n)
 filter-range p q low zero same = refl
-filter-range p q low (suc n) same =
-    ap (λ b. cond b (low ∷ filter p (range_with_len (low + 1) n)) (filter p (range_with_len (low + 1) n))) (same low (omega arith) (omega arith))
-    ∙ ap (λ (rest : List ℕ). cond (q low) (low ∷ rest) rest) (filter-range p q (low + 1) n (λ x above below. same x (omega arith) (omega arith)))
+filter-range p q low (suc n) same = grind (arith, nat_tests, same, q, filter-range p q (low + 1) n (λ x above below. same x (omega arith) (omega arith)))
 
 -- two tests that answer alike on the lines of a page
 passing-alike : (n : ℕ) (p q : ℕ → Bool) → ((x : ℕ) → x < n → p x ≡ q x) → passing n p ≡ passing n q
@@ -50,8 +48,8 @@ pub is_in_where-below : (p : ℕ → Bool) (x : ℕ) → x < 16 → is_in (lines
 is_in_where-below p x below = is_in-where p x ∙ ap (λ b. b && p x) (below-is x below)
 
 -- what passes a test is a set of lines
-pub of_page-where : (p : ℕ → Bool) → IsOfPage (lines_where p)
-of_page-where p = where-alike (is_in (lines_where p)) p (λ x below. is_in_where-below p x below)
+pub of_page_where : (p : ℕ → Bool) → IsOfPage (lines_where p)
+of_page_where p = where-alike (is_in (lines_where p)) p (λ x below. is_in_where-below p x below)
 
 -- the lines of a page alone are in a set of lines
 pub of_page-below : (set : List ℕ) → IsOfPage set → (x : ℕ) → is_in set x ≡ true → x < 16
@@ -74,9 +72,7 @@ counted-none m small = omega (arith, ones_le_self m)
 
 counted : (k m : ℕ) → m < 2 ^ k → count_ones m ≡ length (passing k (is_on m))
 counted zero m small = counted-none m small
-counted (suc k) m small =
-    let double : 2 ^ suc k ≡ 2 * 2 ^ k = grind arith in
-    counted-step k m (counted k (m / 2) (omega arith))
+counted (suc k) m small = grind (arith, nat_tests, counted-step, counted k (m / 2) (omega arith))
 
 -- how many lines there are
 pub count-bits : (n : ℕ) → n < 65536 → count_ones n ≡ length (lines_of_bits n)
@@ -107,17 +103,14 @@ or-on a b small other = grind (arith, nat_tests)
 and_not-on : (a b : ℕ) → a < 2 → b < 2 → (min a (1 - b) == 1) ≡ ((a == 1) && not (b == 1))
 and_not-on a b small other = grind (arith, nat_tests)
 
-pub union-bits : (a b : ℕ) → lines_of_bits (bit_or a b) ≡ union (lines_of_bits a) (lines_of_bits b)
-union-bits a b = where-alike (is_on (bit_or a b)) (λ x. is_in (lines_of_bits a) x || is_in (lines_of_bits b) x) each
+pub union_bits : (a b : ℕ) → lines_of_bits (bit_or a b) ≡ union (lines_of_bits a) (lines_of_bits b)
+union_bits a b = where-alike (is_on (bit_or a b)) (λ x. is_in (lines_of_bits a) x || is_in (lines_of_bits b) x) each
   where
     each : (x : ℕ) → x < 16 → is_on (bit_or a b) x ≡ (is_in (lines_of_bits a) x || is_in (lines_of_bits b) x)
-    each x below =
-        ap (λ m. m == 1) (bit_at_or a b x) ∙ or-on (bit_at a x) (bit_at b x) (bit_at-lt a x) (bit_at-lt b x)
-        ∙ ap (λ c. c || (bit_at b x == 1)) (sym (is_in_where-below (is_on a) x below))
-        ∙ ap (λ c. is_in (lines_of_bits a) x || c) (sym (is_in_where-below (is_on b) x below))
+    each x below = grind (arith, nat_tests, bit_at_or, or-on, bit_at-lt, is_in_where-below)
 
-pub difference-bits : (a b : ℕ) → b < 65536 → lines_of_bits (bit_and a (65535 - b)) ≡ difference (lines_of_bits a) (lines_of_bits b)
-difference-bits a b small = where-alike (is_on (bit_and a (65535 - b))) (λ x. is_in (lines_of_bits a) x && not (is_in (lines_of_bits b) x)) each
+pub difference_bits : (a b : ℕ) → b < 65536 → lines_of_bits (bit_and a (65535 - b)) ≡ difference (lines_of_bits a) (lines_of_bits b)
+difference_bits a b small = where-alike (is_on (bit_and a (65535 - b))) (λ x. is_in (lines_of_bits a) x && not (is_in (lines_of_bits b) x)) each
   where
     each : (x : ℕ) → x < 16 → is_on (bit_and a (65535 - b)) x ≡ (is_in (lines_of_bits a) x && not (is_in (lines_of_bits b) x))
     each x below =
@@ -140,21 +133,8 @@ filter-first p q low (suc n) at above below passes fails before others =
         → (low ≢ at → filter p (range_with_len (low + 1) n) ≡ at ∷ filter q (range_with_len (low + 1) n))
         → cond (p low) (low ∷ filter p (range_with_len (low + 1) n)) (filter p (range_with_len (low + 1) n))
         ≡ at ∷ cond (q low) (low ∷ filter q (range_with_len (low + 1) n)) (filter q (range_with_len (low + 1) n))
-    by_place true is inner =
-        let here : low ≡ at = eqb-true low at is in
-        let first : p low ≡ true = ap p here ∙ passes in
-        let not_there : q low ≡ false = ap q here ∙ fails in
-        ap (λ b. cond b (low ∷ filter p (range_with_len (low + 1) n)) (filter p (range_with_len (low + 1) n))) first
-        ∙ ap (λ (rest : List ℕ). low ∷ rest) (filter-range p q (low + 1) n (λ x past within. others x (omega arith) (omega arith)))
-        ∙ ap (λ (x : ℕ). x ∷ filter q (range_with_len (low + 1) n)) here
-        ∙ sym (ap (λ b. at ∷ cond b (low ∷ filter q (range_with_len (low + 1) n)) (filter q (range_with_len (low + 1) n))) not_there)
-    by_place false is inner =
-        let later : low ≢ at = eqb-false low at is in
-        let first : p low ≡ false = before low (omega arith) in
-        let not_there : q low ≡ false = sym (others low (omega arith) later) ∙ first in
-        ap (λ b. cond b (low ∷ filter p (range_with_len (low + 1) n)) (filter p (range_with_len (low + 1) n))) first
-        ∙ inner later
-        ∙ sym (ap (λ b. at ∷ cond b (low ∷ filter q (range_with_len (low + 1) n)) (filter q (range_with_len (low + 1) n))) not_there)
+    by_place true is inner = grind (arith, nat_tests, eqb-true, filter-range)
+    by_place false is inner = grind (arith, nat_tests, eqb-false, inner)
 
 passing-first :
     (n : ℕ) (p q : ℕ → Bool) (at : ℕ) → at < n → p at ≡ true → q at ≡ false → ((x : ℕ) → x < at → p x ≡ false)
@@ -183,8 +163,8 @@ unfolding passing
 passing-none n p fails = filter-none p 0 n fails
 
 -- no bit, no line
-pub no-bits : lines_of_bits 0 ≡ []
-no-bits = passing-none 16 (is_on 0) (λ x. ap (λ m. m == 1) (bit_at-zero x))
+pub no_bits : lines_of_bits 0 ≡ []
+no_bits = passing-none 16 (is_on 0) (λ x. ap (λ m. m == 1) (bit_at-zero x))
 
 below-first : (first last x m : ℕ) → x < first → (min m 0 == 1) ≡ (nat_le first x && nat_le x last)
 below-first first last x m before = grind (arith, nat_tests)
@@ -196,10 +176,10 @@ from-to : (first last x : ℕ) → first ≤ x → x ≤ last → true ≡ (nat_
 from-to first last x from upto = grind (arith, nat_tests)
 
 -- the lines from a first to a last, as two shifted masks
-pub between-bits :
+pub between_bits :
     (first last : ℕ) → first ≤ last → last < 16
     → lines_of_bits (bit_and (65535 / 2 ^ (15 - last)) (65535 * 2 ^ first % 65536)) ≡ between first last
-between-bits first last order small =
+between_bits first last order small =
     ap (λ n. lines_of_bits (bit_and n (65535 * 2 ^ first % 65536))) below
     ∙ ap (λ n. lines_of_bits (bit_and (2 ^ (last + 1) - 1) n)) above
     ∙ where-alike (is_on (bit_and (2 ^ (last + 1) - 1) (65536 - 2 ^ first))) (λ x. nat_le first x && nat_le x last) each

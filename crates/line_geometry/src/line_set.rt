@@ -27,6 +27,7 @@ impl Model for LineSet {
 
 impl LineSet {
     /// No line.
+    #[tactic(auto, using(crate::proofs::LineSetLemmas::no_bits))]
     pub fn none() -> LineSet
         ensures { result ≡ [] }
     {
@@ -41,6 +42,7 @@ impl LineSet {
     }
 
     /// The lines from a first to a last.
+    #[tactic(auto, using(crate::proofs::LineSetLemmas::between_bits))]
     pub fn between(first: u8, last: u8) -> LineSet
         requires order { first ≤ last }
         requires last { last < 16 }
@@ -73,6 +75,7 @@ impl LineSet {
     }
 
     /// The lines that are in this set and not in the other.
+    #[tactic(auto, using(crate::proofs::LineSetLemmas::difference_bits, std::proofs::lemmas::Bool::Decides::nat_tests))]
     pub fn difference(self, other: LineSet) -> LineSet
         ensures { result ≡ difference self other }
     {
@@ -97,6 +100,7 @@ impl LineSet {
     }
 
     /// The lines one after another, ascending.
+    #[tactic(auto, using(crate::proofs::LineSetLemmas::of_page_where))]
     pub fn lines(self) -> LinesOf
         ensures value { result.left ≡ self }
         ensures of_page { IsOfPage self }

@@ -19,3 +19,4 @@ pub use Rattle.line_locks.specs.Counted.{AreListed, Ascend, IsCounted}
 pub use Rattle.line_locks.specs.Held.{AreWithin, conflicts_in, conflicts_with, holds_some, nothing, of_page, together, with_want, with_wants}
 pub use Rattle.line_locks.specs.Holding.{bits_of_seats, is_in_conflict}
 pub use Rattle.line_locks.specs.declared.request.Want.{Want}
+pub use Rattle.std.proofs.lemmas.Grind.{common_steps}

@@ -1,5 +1,5 @@
 -- What a seat holds page by page, and what it holds in flat lines.
-use Rattle.line_locks.proofs.Common.{flat_map, list_any, ◌⊎◌, inl, inr, arith, ap, sym, subst, ◌∙◌, get_or-set_same, get_or-set_other, eqb-true, eqb-false, or_left, or_right, nat_tests, append-nil, append_assoc, length-set, All-head, All-tail, list_any-append, has, meets, has-append, IsOfPage, union, of_page-below, is_in_where-below, Want, nothing, of_page, together, with_want, with_wants, AreWithin, conflicts_with}
+use Rattle.line_locks.proofs.Common.{flat_map, list_any, ◌⊎◌, arith, ap, sym, subst, ◌∙◌, get_or-set_same, get_or-set_other, eqb-true, eqb-false, or_left, or_right, nat_tests, append-nil, append_assoc, length-set, All-head, All-tail, list_any-append, has, meets, has-append, IsOfPage, union, of_page-below, is_in_where-below, Want, of_page, together, with_want, with_wants, AreWithin, conflicts_with}
 use Rattle.std.specs.Prelude.{◌≡◌, ◌≢◌, refl, ℕ, ◌+◌, ◌*◌, ◌<◌, ◌==◌, ◌||◌, Bool, true, false, List, [], ◌∷◌, ◌++◌, length, All}
 use Rattle.lock_rules.specs.Lines.{Lines, both, conflicts}
 use Rattle.line_locks.specs.Flat.{flat_lines, lines_wanted, IsFlat}
@@ -47,11 +47,7 @@ conflict-flat pages lines wants flat reads writes =
     all_of want = (of_page pages want.page).0 ++ (of_page pages want.page).1
 
     same : (want : Want) (line : ℕ) → line < 16 → has (all_of want) line ≡ has (lines.reads ++ lines.writes) (want.page * 16 + line)
-    same want line below =
-        has-append (of_page pages want.page).0 (of_page pages want.page).1 line
-        ∙ ap (λ c. c || has (of_page pages want.page).1 line) (flat.reads want.page line below)
-        ∙ ap (λ c. has lines.reads (want.page * 16 + line) || c) (flat.writes want.page line below)
-        ∙ sym (has-append lines.reads lines.writes (want.page * 16 + line))
+    same want line below = grind (arith, nat_tests, has-append)
 
 -- a line of the page is among the flat lines
 pub has-page : (page line : ℕ) (wanted : List ℕ) → has (flat_lines page wanted) (page * 16 + line) ≡ has wanted line
@@ -88,23 +84,7 @@ page-taken :
     (pages : List (List ℕ × List ℕ)) (want : Want) (page : ℕ) → want.page < length pages
     → ((page ≡ want.page) × (of_page (with_want pages want) page ≡ together (of_page pages page) want))
     ⊎ ((page ≢ want.page) × (of_page (with_want pages want) page ≡ of_page pages page))
-page-taken pages want page within = by_page (page == want.page) refl
-  where
-    by_page :
-        (b : Bool) → (page == want.page) ≡ b
-        → ((page ≡ want.page) × (of_page (with_want pages want) page ≡ together (of_page pages page) want))
-        ⊎ ((page ≢ want.page) × (of_page (with_want pages want) page ≡ of_page pages page))
-    by_page true is =
-        let here : page ≡ want.page = eqb-true page want.page is in
-        inl (
-          here,
-          ap (of_page (with_want pages want)) here
-              ∙ get_or-set_same pages want.page (together (of_page pages want.page) want) nothing within
-              ∙ ap (λ n. together (of_page pages n) want) (sym here),
-        )
-    by_page false is =
-        let apart : page ≢ want.page = eqb-false page want.page is in
-        inr (apart, get_or-set_other pages want.page page (together (of_page pages want.page) want) nothing apart)
+page-taken pages want page within = grind (arith, nat_tests, eqb-true, get_or-set_same, eqb-false, get_or-set_other)
 
 -- one want
 -- lines to read, or to write, of one want
@@ -112,14 +92,7 @@ taken-lines :
     (pages : List (List ℕ × List ℕ)) (want : Want) (part : List ℕ × List ℕ → List ℕ) (wanted set : List ℕ) → want.page < length pages → IsOfPage wanted → ((held : List ℕ × List ℕ) → part (together held want) ≡ union (part held) wanted)
     → (page line : ℕ) → line < 16 → ((page : ℕ) → has (part (of_page pages page)) line ≡ has set (page * 16 + line))
     → has (part (of_page (with_want pages want) page)) line ≡ has (set ++ flat_lines want.page wanted) (page * 16 + line)
-taken-lines pages want part wanted set within of_page_is joins page line below flat = elim (page-taken pages want page within) [
-  | inl here ↦
-      ap (λ held. has (part held) line) here.1
-      ∙ ap (λ lines. has lines line) (joins (of_page pages page))
-      ∙ subst (λ n. has (union (part (of_page pages n)) wanted) line ≡ has (set ++ flat_lines want.page wanted) (n * 16 + line)) (sym here.0)
-      (taken-here want.page line (part (of_page pages want.page)) wanted set below (flat want.page))
-  | inr other ↦ ap (λ held. has (part held) line) other.1 ∙ taken-there want.page page line (part (of_page pages page)) wanted set below other.0 of_page_is (flat page)
-]
+taken-lines pages want part wanted set within of_page_is joins page line below flat = grind (arith, nat_tests, page-taken, taken-here, taken-there, part, joins, flat)
 
 -- one want
 taken-one :
@@ -138,10 +111,7 @@ taken-one pages lines want within flat reads writes = record {
 flat-again :
     (pages : List (List ℕ × List ℕ)) (lines other : Lines) → lines.reads ≡ other.reads → lines.writes ≡ other.writes
     → IsFlat pages lines → IsFlat pages other
-flat-again pages lines other reads writes flat = record {
-  reads = λ page line below. flat.reads page line below ∙ ap (λ set. has set (page * 16 + line)) reads;
-  writes = λ page line below. flat.writes page line below ∙ ap (λ set. has set (page * 16 + line)) writes;
-}
+flat-again pages lines other reads writes flat = grind (arith, nat_tests, flat.reads, flat.writes)
 
 -- a seat that took what is wanted has its flat lines and those that are wanted
 pub flat-taken :

@@ -1,15 +1,10 @@
 -- The pages of which something is held, as they are listed.
-use Rattle.line_locks.proofs.Common.{range_with_len, arith, ap, sym, ◌∙◌, subst, inl, inr, get_or, get_or-set_same, get_or-set_other, eqb-true, eqb-false, eq-eqb, both_ways, or_parts, or_left, or_right, not-false, cases_lt, get_or-replicate, length_push, nil_from_length, get_or_past, same_lists, get_or_default, length-replicate, has, meets, size, has-append, in_range, size-part, size-range, size-apart, IsOfPage, union, is_in_where-below, of_page-below, Want, nothing, of_page, holds_some, together, conflicts_in, conflicts_with, AreListed, nat_tests}
+use Rattle.line_locks.proofs.Common.{range_with_len, arith, ap, sym, ◌∙◌, subst, get_or, get_or-set_same, get_or-set_other, eqb-true, eqb-false, eq-eqb, or_parts, or_left, or_right, not-false, get_or-replicate, length_push, nil_from_length, get_or_past, same_lists, get_or_default, length-replicate, has, meets, size, has-append, in_range, size-part, size-range, size-apart, IsOfPage, union, is_in_where-below, of_page-below, Want, nothing, of_page, holds_some, together, conflicts_in, conflicts_with, AreListed, nat_tests}
 use Rattle.std.specs.Prelude.{◌≡◌, refl, ℕ, zero, suc, ◌+◌, ◌<◌, ◌==◌, ◌&&◌, ◌||◌, not, if◌then◌else◌, Bool, true, false, List, [], ◌∷◌, ◌++◌, length, replicate, slice_set}
 
 -- where nothing is held, no line is
 pub none-held : (held : List ℕ × List ℕ) → holds_some held ≡ false → held ≡ nothing
-none-held held none =
-    let parts = or_parts (not (length held.0 == 0)) (not (length held.1 == 0)) none in
-    λ i. (nil_from_length held.0 (zero held.0 parts.0) i, nil_from_length held.1 (zero held.1 parts.1) i)
-  where
-    zero : (lines : List ℕ) → not (length lines == 0) ≡ false → length lines ≡ 0
-    zero lines some = eqb-true (length lines) 0 (not-false (length lines == 0) some)
+none-held held none = grind (arith, nat_tests, or_parts, nil_from_length, eqb-true, not-false)
 
 -- with more lines something is held still
 some-union : (set other : List ℕ) → IsOfPage set → (length (union set other) == 0) ≡ true → (length set == 0) ≡ true
@@ -24,10 +19,7 @@ some-union (x ∷ xs) other of none =
     empty (y ∷ ys) line none there = omega (arith, none)
 
 pub some-more : (held : List ℕ × List ℕ) (want : Want) → IsOfPage held.0 → IsOfPage held.1 → holds_some held ≡ true → holds_some (together held want) ≡ true
-some-more held want reads writes some =
-    let first = some-union held.0 want.reads reads in
-    let second = some-union held.1 want.writes writes in
-    grind (arith, first, second)
+some-more held want reads writes some = grind (arith, nat_tests, some-union)
 
 -- what stands at a place is there
 pub has-at : (list : List ℕ) (k d : ℕ) → k < length list → has list (get_or list k d) ≡ true
@@ -38,10 +30,7 @@ has-at (x ∷ list) (suc k) d within = grind (arith, has-at list k d)
 module _ (pages : List (List ℕ × List ℕ)) (listed : List ℕ) (are : AreListed pages listed) where
   -- a listed page is one of the pages
   pub listed-below : (page : ℕ) → has listed page ≡ true → page < length pages
-  listed-below page inside = elim (cases_lt page (length pages)) [
-    | inl below ↦ below
-    | inr past ↦ absurd (both_ways (has listed page) (are.each page ∙ ap holds_some (get_or_past pages page nothing past)) inside)
-  ]
+  listed-below page inside = grind (arith, nat_tests, get_or_past)
 
   pub listed-at : (k d : ℕ) → k < length listed → get_or listed k d < length pages
   listed-at k d within = listed-below (get_or listed k d) (has-at listed k d within)
@@ -58,46 +47,12 @@ module _ (pages : List (List ℕ × List ℕ)) (listed : List ℕ) (are : AreLis
 
   -- a page changes of which something was held exactly where something is held now
   pub listed-same : (page : ℕ) (new : List ℕ × List ℕ) → page < length pages → holds_some new ≡ holds_some (of_page pages page) → AreListed (slice_set pages page new) listed
-  listed-same page new below same = record {
-    once = are.once;
-    each = λ other. are.each other ∙ sym (by_test other (other == page) refl);
-  }
-    where
-      by_test : (other : ℕ) (here : Bool) → (other == page) ≡ here → holds_some (of_page (slice_set pages page new) other) ≡ holds_some (of_page pages other)
-      by_test other true e =
-          let it : other ≡ page = eqb-true other page e in
-          ap (λ (x : ℕ). holds_some (of_page (slice_set pages page new) x)) it ∙ ap holds_some (get_or-set_same pages page new nothing below) ∙ same ∙ ap (λ (x : ℕ). holds_some (of_page pages x)) (sym it)
-      by_test other false e = ap holds_some (get_or-set_other pages page other new nothing (eqb-false other page e))
+  listed-same page new below same = grind (arith, nat_tests, eqb-true, get_or-set_same, get_or-set_other, eqb-false)
 
   -- or something is held of it for the first time
   pub listed-more : (page : ℕ) (new : List ℕ × List ℕ) → page < length pages → holds_some (of_page pages page) ≡ false → holds_some new ≡ true
       → AreListed (slice_set pages page new) (listed ++ page ∷ [])
-  listed-more page new below none some = record {
-    once = size-apart listed (page ∷ []) (λ x inside. alone x inside (page == x) refl) ∙ lengths;
-    each = λ other. has-append listed (page ∷ []) other ∙ by_test other (page == other) refl;
-  }
-    where
-      alone : (x : ℕ) → has listed x ≡ true → (same : Bool) → (page == x) ≡ same → (same || false) ≡ false
-      alone x inside true e = absurd (both_ways (has listed x) (ap (has listed) (sym (eqb-true page x e)) ∙ are.each page ∙ none) inside)
-      alone x inside false e = refl
-
-      lengths : size listed + size (page ∷ []) ≡ length (listed ++ page ∷ [])
-      lengths = let one : size (page ∷ []) ≡ 1 = refl in omega (arith, are.once, length_push listed page, one)
-
-      or-none : (b : Bool) → (b || false) ≡ b
-      or-none true = refl
-      or-none false = refl
-
-      by_test : (other : ℕ) (here : Bool) → (page == other) ≡ here → (has listed other || (page == other || false)) ≡ holds_some (of_page (slice_set pages page new) other)
-      by_test other true e =
-          let it : page ≡ other = eqb-true page other e in
-          or_right (has listed other) (page == other || false) (or_left (page == other) false e)
-          ∙ sym (ap (λ (x : ℕ). holds_some (of_page (slice_set pages page new) x)) (sym it) ∙ ap holds_some (get_or-set_same pages page new nothing below) ∙ some)
-      by_test other false e =
-          ap (λ (here : Bool). has listed other || (here || false)) e
-          ∙ or-none (has listed other)
-          ∙ are.each other
-          ∙ sym (ap holds_some (get_or-set_other pages page other new nothing (λ same. let no = both_ways (page == other) e (eq-eqb page other (sym same)) in no)))
+  listed-more page new below none some = grind (arith, nat_tests, size-apart, has-append, eqb-true, length_push, or_right, or_left, get_or-set_same, get_or-set_other, eq-eqb)
 
   -- and so it is after any change that lists the page where it is the first time that something is held of it
   pub listed-next : (page : ℕ) (new : List ℕ × List ℕ) (first : Bool) (list : List ℕ) → page < length pages
@@ -107,25 +62,15 @@ module _ (pages : List (List ℕ × List ℕ)) (listed : List ℕ) (are : AreLis
     where
       by_test : (before now first : Bool) → holds_some (of_page pages page) ≡ before → holds_some new ≡ now → first ≡ (not (holds_some (of_page pages page)) && holds_some new)
           → AreListed (slice_set pages page new) (if first then listed ++ page ∷ [] else listed)
-      by_test true now first e f is =
-          subst (λ (b : Bool). AreListed (slice_set pages page new) (if b then listed ++ page ∷ [] else listed)) (sym (is ∙ ap (λ (b : Bool). not b && holds_some new) e))
-          (listed-same page new below (still e ∙ sym e))
+      by_test true now first e f is = grind (arith, nat_tests, listed-same)
       by_test false true first e f is =
           subst (λ (b : Bool). AreListed (slice_set pages page new) (if b then listed ++ page ∷ [] else listed)) (sym (is ∙ (λ i. not (e i) && f i)))
           (listed-more page new below e f)
-      by_test false false first e f is =
-          subst (λ (b : Bool). AreListed (slice_set pages page new) (if b then listed ++ page ∷ [] else listed)) (sym (is ∙ (λ i. not (e i) && f i)))
-          (listed-same page new below (f ∙ sym e))
+      by_test false false first e f is = grind (arith, nat_tests, listed-same, e)
 
 -- nothing is listed where nothing is held
 pub listed-none : (count : ℕ) → AreListed (replicate count nothing) []
-listed-none count = record {
-  once = refl;
-  each = λ page. sym (ap holds_some (elim (cases_lt page count) [
-    | inl below ↦ get_or-replicate count page nothing nothing below
-    | inr past ↦ get_or_past (replicate count nothing) page nothing (let long = length-replicate count nothing in omega (arith, past, long))
-  ]));
-}
+listed-none count = grind (arith, nat_tests, get_or-replicate, get_or_past, length-replicate)
 
 -- pages of which nothing is held
 pub all-none : (pages : List (List ℕ × List ℕ)) (count : ℕ) → length pages ≡ count → ((page : ℕ) → of_page pages page ≡ nothing) → pages ≡ replicate count nothing

@@ -1,6 +1,6 @@
 -- Whether two sets of a page's lines meet, by the bits that they are told by.
 use Rattle.line_locks.proofs.Common.{arith, ap, sym, ◌∙◌, nat_tests, has, meets, has-append, any-at, any-some, lines_of_bits, is_in-where, none-bits}
-use Rattle.std.specs.Prelude.{◌≡◌, refl, ℕ, ◌<◌, ◌==◌, ◌||◌, ◌&&◌, not, min, Bool, true, false, List, [], ◌∷◌, ◌++◌, length, bit_and}
+use Rattle.std.specs.Prelude.{◌≡◌, refl, ℕ, ◌<◌, ◌==◌, ◌||◌, ◌&&◌, not, min, true, List, [], ◌∷◌, ◌++◌, length, bit_and}
 use Rattle.std.specs.Int.{bit_at}
 use Rattle.std.proofs.lemmas.Nat.Bits.{bit_at-lt, bit_at_and}
 use Rattle.line_geometry.specs.LineBits.{is_on}
@@ -18,22 +18,14 @@ has-both a b x = grind (arith, is_in-where, on-both)
 
 -- two sets meet exactly where some number is in both
 meets-some : (set other shared : List ℕ) → ((x : ℕ) → has shared x ≡ (has set x && has other x)) → not (length shared == 0) ≡ meets set other
-meets-some set other [] same = by_meets (meets set other) refl
-  where
-    by_meets : (m : Bool) → meets set other ≡ m → false ≡ m
-    by_meets false met = refl
-    by_meets true met =
-        let (x, inside, also) = any-some (has other) set met in
-        same x ∙ ap (λ c. c && has other x) inside ∙ also
+meets-some set other [] same = grind (arith, nat_tests, any-some, same)
 meets-some set other (y ∷ ys) same =
     let parts : (has set y ≡ true) × (has other y ≡ true) = let it = same y in grind (arith, nat_tests, it) in
     grind arith ∙ sym (any-at (has other) set y parts.0 parts.1)
 
 -- two sets of lines meet exactly where some bit is on in both
 pub meets-bits : (a b : ℕ) → bit_and a b < 65536 → not (bit_and a b == 0) ≡ meets (lines_of_bits a) (lines_of_bits b)
-meets-bits a b small =
-    ap not (none-bits (bit_and a b) small)
-    ∙ meets-some (lines_of_bits a) (lines_of_bits b) (lines_of_bits (bit_and a b)) (has-both a b)
+meets-bits a b small = grind (arith, nat_tests, none-bits, meets-some, has-both)
 
 -- a set meets two together exactly where it meets one of them
 pub meets_append : (set first second : List ℕ) → meets set (first ++ second) ≡ (meets set first || meets set second)

@@ -91,6 +91,7 @@ impl SeatLines {
 
     /// What a request wants is held too.
     #[inline]
+    #[tactic(auto, using(std::proofs::lemmas::Grind::common_steps))]
     pub fn take(&mut self, request: &Request)
         requires { AreWithin (length self.old) request.now.wants.items }
         ensures value { self.new ≡ with_wants self.old request.now.wants.items }

@@ -1,6 +1,6 @@
 -- The members of a shown cycle; and where each number is given another name of its own, what leads where and the shown cycle are the same in
 -- these names.
-use Rattle.lock_rules.proofs.Common.{◌≡◌, refl, ℕ, zero, suc, ◌==◌, ◌&&◌, ◌||◌, if◌then◌else◌, Bool, true, false, List, [], ◌∷◌, length, map, find, Option, Some, None, list_any, ap, sym, ◌∙◌, eqb-true, or_right, has, leads, next_shown, shown_after, shown_cycle, arith, nat_tests}
+use Rattle.lock_rules.proofs.Common.{◌≡◌, refl, ℕ, zero, suc, ◌==◌, ◌&&◌, ◌||◌, if◌then◌else◌, Bool, true, false, List, [], ◌∷◌, length, map, find, Option, Some, None, list_any, ap, ◌∙◌, eqb-true, or_right, has, leads, next_shown, shown_after, shown_cycle, arith, nat_tests}
 use Rattle.std.specs.Option.{option_map, option_map_or}
 use Rattle.std.proofs.lemmas.List.{length-map}
 
@@ -29,29 +29,11 @@ after-among waits all (suc steps) first last member inside =
         → has (option_map_or (λ next. next ∷ (if next == first then [] else shown_after waits all steps first next)) next []) member ≡ true
         → ((next : ℕ) → has (shown_after waits all steps first next) member ≡ true → has all member ≡ true) → has all member ≡ true
     by_next None is inside later = absurd (cc)
-    by_next (Some next) is inside later =
-        by_test (next == member) (next == first) refl inside
-      where
-        by_test : (same closes : Bool) → (next == member) ≡ same
-            → (same || has (if closes then [] else shown_after waits all steps first next) member) ≡ true → has all member ≡ true
-        by_test true closes e inside =
-            ap (has all) (sym (eqb-true next member e)) ∙ found-has (λ next. waits last next && leads waits all (length all) next first) all next is
-        by_test false true e inside = absurd (cc)
-        by_test false false e inside = later next inside
+    by_next (Some next) is inside later = grind (arith, nat_tests, eqb-true, found-has, later)
 
 pub cycle-among : (waits : ℕ → ℕ → Bool) (all : List ℕ) (first : ℕ) (cycle : List ℕ) (member : ℕ) → has all first ≡ true → shown_cycle waits all first ≡ Some cycle
     → has cycle member ≡ true → has all member ≡ true
-cycle-among waits all first cycle member here is inside = by_test (leads waits all (length all) first first) is
-  where
-    by_test : (round : Bool) → (if round then Some (first ∷ shown_after waits all (length all) first first) else None) ≡ Some cycle → has all member ≡ true
-    by_test false is = absurd (cc)
-    by_test true is =
-        let it : first ∷ shown_after waits all (length all) first first ≡ cycle = cc in
-        by_first (first == member) refl (ap (λ (members : List ℕ). has members member) it ∙ inside)
-      where
-        by_first : (same : Bool) → (first == member) ≡ same → (same || has (shown_after waits all (length all) first first) member) ≡ true → has all member ≡ true
-        by_first true e inside = ap (has all) (sym (eqb-true first member e)) ∙ here
-        by_first false e inside = after-among waits all (length all) first first member inside
+cycle-among waits all first cycle member here is inside = grind (arith, nat_tests, eqb-true, after-among, here)
 
 module _ {A : Type 0} (name : ℕ → A) where
   -- some one passes by its name, where it passes
@@ -62,10 +44,7 @@ module _ {A : Type 0} (name : ℕ → A) where
   -- the first that passes by its name
   pub find-named : (p : A → Bool) (q : ℕ → Bool) (xs : List ℕ) → ((x : ℕ) → has xs x ≡ true → p (name x) ≡ q x) → find p (map name xs) ≡ option_map name (find q xs)
   find-named p q [] same = refl
-  find-named p q (x ∷ xs) same =
-      let here = same x (grind (arith, nat_tests)) in
-      let rest = find-named p q xs (λ y inside. same y (grind arith)) in
-      grind (arith, here, rest)
+  find-named p q (x ∷ xs) same = grind (arith, nat_tests, same, find-named p q xs (λ y inside. same y (grind arith)))
 
 -- names of their own, and waits by these names
 pub record AreNamed (name : ℕ → ℕ) (waits named : ℕ → ℕ → Bool) (all : List ℕ) : Type 0 where
@@ -83,9 +62,7 @@ module _ (name : ℕ → ℕ) (waits named : ℕ → ℕ → Bool) (all : List �
   leads-round from to here there = ap (λ (steps : ℕ). leads named (map name all) steps (name from) (name to)) (length-map all name) ∙ leads-named (length all) from to here there
 
   next-named : (first last : ℕ) → has all first ≡ true → has all last ≡ true → next_shown named (map name all) (name first) (name last) ≡ option_map name (next_shown waits all first last)
-  next-named first last here there =
-      find-named name (λ next. named (name last) next && leads named (map name all) (length (map name all)) next (name first)) (λ next. waits last next && leads waits all (length all) next first) all
-      (λ next inside i. are.same last next there inside i && leads-round next first inside here i)
+  next-named first last here there = grind (arith, nat_tests, find-named, leads-round)
 
   after-named : (steps first last : ℕ) → has all first ≡ true → has all last ≡ true
       → shown_after named (map name all) steps (name first) (name last) ≡ map name (shown_after waits all steps first last)
@@ -99,17 +76,7 @@ module _ (name : ℕ → ℕ) (waits named : ℕ → ℕ → Bool) (all : List �
           → option_map_or (λ next. next ∷ (if next == name first then [] else shown_after named (map name all) steps (name first) next)) (option_map name next) []
           ≡ map name (option_map_or (λ next. next ∷ (if next == first then [] else shown_after waits all steps first next)) next [])
       by_next None is later = refl
-      by_next (Some next) is later = by_test (name next == name first) (next == first) (are.apart next first inside here) (later next inside)
-        where
-          inside : has all next ≡ true
-          inside = found-has (λ next. waits last next && leads waits all (length all) next first) all next is
-
-          by_test : (a b : Bool) → a ≡ b → shown_after named (map name all) steps (name first) (name next) ≡ map name (shown_after waits all steps first next)
-              → name next ∷ (if a then [] else shown_after named (map name all) steps (name first) (name next)) ≡ map name (next ∷ (if b then [] else shown_after waits all steps first next))
-          by_test true true e rest = refl
-          by_test true false e rest = absurd (cc)
-          by_test false true e rest = absurd (cc)
-          by_test false false e rest = ap (λ (these : List ℕ). name next ∷ these) rest
+      by_next (Some next) is later = grind (arith, nat_tests, found-has, later)
 
   -- the shown cycle in these names
   pub cycle-named : (first : ℕ) → has all first ≡ true → shown_cycle named (map name all) (name first) ≡ option_map (map name) (shown_cycle waits all first)

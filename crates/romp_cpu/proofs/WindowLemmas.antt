@@ -3,7 +3,7 @@ use Rattle.romp_cpu.proofs.Common.{◌≡◌, refl, ℕ, suc, ◌+◌, ◌<◌, 
 use Rattle.std.proofs.lemmas.List.Elements.{All-head, All-tail}
 use Rattle.line_geometry.specs.Legal.{IsInRange, IsLegal}
 use Rattle.line_geometry.specs.Segments.{page_bytes, bytes_of, is_named}
-use Rattle.line_geometry.proofs.Legal.{legal-bytes}
+use Rattle.line_geometry.proofs.Legal.{legal_bytes}
 use Rattle.line_geometry.proofs.Within.{segment-within}
 
 -- what stands under the register of a window is a segment of the store with its bytes
@@ -52,4 +52,4 @@ pub bytes-low :
 bytes-low segments identifier bytes page legal found =
     let directory : Layout = record { page = page; segments = segments; fine = 0 } in
     let within : start_of directory identifier + bytes ≤ byte_count directory = segment-within directory identifier bytes found in
-    omega (arith, within, legal-bytes directory legal)
+    omega (arith, within, legal_bytes directory legal)

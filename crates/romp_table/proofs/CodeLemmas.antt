@@ -1,10 +1,8 @@
 -- Reading and writing instructions are inverse.
-use Rattle.romp_table.proofs.Common.{◌≡◌, ℕ, ◌/◌, ◌^◌, ◌<◌, false, cond, Option, Some, None, refl, sym, ap, ◌∙◌, subst, IsSomeAnd, IfNone, IsTrue, option_and_then, option_map_or, number_unit, instruction_by, row_numbered, has_uses, if_used, decoded, place_of, row_of, HasWidths, IsLegal, IsRowOf, op_of, format_of, number_of, first_of, second_of, encoded, BeginWith, Inst, Row}
+use Rattle.romp_table.proofs.Common.{◌≡◌, ℕ, ◌/◌, ◌^◌, ◌<◌, false, cond, Option, Some, None, refl, sym, ap, ◌∙◌, subst, IsSomeAnd, IfNone, IsTrue, option_and_then, option_map_or, number_unit, instruction_by, row_numbered, has_uses, if_used, decoded, place_of, row_of, HasWidths, IsLegal, IsRowOf, op_of, format_of, number_of, first_of, second_of, encoded, BeginWith, Inst, Row, nat_tests, arith}
 use Rattle.romp_table.specs.declared.inst.Code.{Code}
 use Rattle.romp_table.proofs.TableLemmas.{number_fits, row_of_place, op_at_place, row_unique, row_found}
 use Rattle.romp_table.proofs.FieldLemmas.{numbered, read-written, written-read, first_told, read_alike, op_kept, format_kept}
-use Rattle.std.proofs.lemmas.Bool.Decides.{nat_tests}
-use Rattle.std.proofs.Common.{arith}
 
 -- the row of a legal instruction
 found_row : (inst : Inst) (o : Option Row) → IsSomeAnd o (IsRowOf inst) → (row : Row) × (o ≡ Some row) × IsRowOf inst row
@@ -66,10 +64,7 @@ if_none (Some x) h = tt
 
 -- the number of a legal instruction's row has the width of its format
 pub legal_number : (inst : Inst) → IsLegal inst → (row : Row) → row_of (op_of inst) ≡ Some row → row.number < 2 ^ 16 / number_unit (format_of inst)
-legal_number inst legal row is =
-    let of_row : IsRowOf inst row = subst (λ o. IsSomeAnd o (IsRowOf inst)) is legal.of_row in
-    subst (λ format. row.number < 2 ^ 16 / number_unit format) of_row.0
-    (number_fits (place_of (op_of inst)) row (sym (row_of_place (op_of inst)) ∙ is))
+legal_number inst legal row is = grind (arith, nat_tests, number_fits, row_of_place)
 
 pub read_back : (inst : Inst) → IsLegal inst → (code : Code) → code ≡ encoded inst → (first second : ℕ) → first < 2 ^ 16 → BeginWith first second code → decoded first second ≡ Some inst
 read_back inst legal code is first second small begins =

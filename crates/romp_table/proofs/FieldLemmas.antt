@@ -1,8 +1,7 @@
 -- The fields of each format, written and read again.
-use Rattle.romp_table.proofs.Common.{number_unit, instruction_by, signed, nibble, HasWidths, op_of, format_of, bits_of, first_with, second_of, bytes_in, bytes_of, Op, Inst, Format}
+use Rattle.romp_table.proofs.Common.{number_unit, instruction_by, nibble, HasWidths, op_of, format_of, first_with, second_of, bytes_in, bytes_of, Op, Inst, Format, nat_tests}
 use Rattle.std.proofs.Common.{◌≡◌, ℕ, ◌+◌, ◌*◌, ◌/◌, ◌%◌, ◌^◌, ◌<◌, List, ◌∷◌, [], take, get_or, refl, ap, arith}
 use Rattle.romp_table.proofs.SignLemmas.{bits-signed_8, bits-signed_20, bits_small_8, bits_small_20, signed-bits_8, signed-bits_20}
-use Rattle.std.proofs.lemmas.Bool.Decides.{nat_tests}
 
 -- the number of a first halfword is that of its row
 pub numbered : (inst : Inst) (number : ℕ) → HasWidths inst → first_with number inst / number_unit (format_of inst) ≡ number
@@ -26,20 +25,13 @@ four_bytes first first' second second' e f = λ i. bytes_of (e i) (f i)
 
 -- what is written of an instruction that was read is what was read
 pub written-read : (op : Op) (format : Format) (first second number : ℕ) → second < 2 ^ 16 → first / number_unit format ≡ number → let inst = instruction_by op format first second in take (bytes_in inst) (bytes_of first second) ≡ take (bytes_in inst) (bytes_of (first_with number inst) (second_of inst))
-written-read op Format.J first second number small e =
-    let back = bits-signed_8 (first % 2 ^ 8) (omega arith) in
-    two_bytes first (number * 2 ^ 11 + first / 2 ^ 8 % 8 * 2 ^ 8 + bits_of 8 (signed 8 (first % 2 ^ 8))) second 0 (omega arith)
+written-read op Format.J first second number small e = grind (arith, nat_tests, bits-signed_8, two_bytes)
 written-read op Format.S first second number small e = two_bytes first (number * 2 ^ 12 + nibble first 8 * 2 ^ 8 + nibble first 4 * 2 ^ 4 + nibble first 0) second 0 (omega arith)
 written-read op Format.X first second number small e = two_bytes first (number * 2 ^ 12 + nibble first 8 * 2 ^ 8 + nibble first 4 * 2 ^ 4 + nibble first 0) second 0 (omega arith)
 written-read op Format.R first second number small e = two_bytes first (number * 2 ^ 8 + nibble first 4 * 2 ^ 4 + nibble first 0) second 0 (omega arith)
 written-read op Format.D first second number small e = four_bytes first (number * 2 ^ 8 + nibble first 4 * 2 ^ 4 + nibble first 0) second second (omega arith) refl
-written-read op Format.BI first second number small e =
-    let bits = nibble first 0 * 2 ^ 16 + second in
-    let back = bits-signed_20 bits (omega arith) in
-    four_bytes first (number * 2 ^ 8 + nibble first 4 * 2 ^ 4 + bits_of 20 (signed 20 bits) / 2 ^ 16) second (bits_of 20 (signed 20 bits) % 2 ^ 16) (omega arith) (omega arith)
-written-read op Format.BA first second number small e =
-    let to = first % 2 ^ 8 * 2 ^ 16 + second in
-    four_bytes first (number * 2 ^ 8 + to / 2 ^ 16) second (to % 2 ^ 16) (omega arith) (omega arith)
+written-read op Format.BI first second number small e = grind (arith, nat_tests, bits-signed_20, four_bytes)
+written-read op Format.BA first second number small e = grind (arith, nat_tests, four_bytes)
 
 byte_told : (xs ys : List ℕ) (i : ℕ) → xs ≡ ys → get_or xs i 0 ≡ get_or ys i 0
 byte_told xs ys i e = ap (λ zs. get_or zs i 0) e

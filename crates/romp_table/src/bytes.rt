@@ -55,6 +55,7 @@ fn operation_of(inst: &Inst) -> Op
 }
 
 /// The first halfword of an instruction whose row has this number.
+#[tactic(auto, using(std::proofs::Common::arith))]
 fn first_halfword(number: u16, inst: &Inst) -> u16
     requires widths { HasWidths inst.now }
     requires number { number < 2 ^ 16 / number_unit (format_of inst.now) }
@@ -81,6 +82,7 @@ fn first_halfword(number: u16, inst: &Inst) -> u16
 }
 
 /// The second halfword of an instruction, and 0 where it has none.
+#[tactic(auto, using(std::proofs::Common::arith))]
 fn second_halfword(inst: &Inst) -> u16
     requires { HasWidths inst.now }
     ensures { result ≡ second_of inst.now }

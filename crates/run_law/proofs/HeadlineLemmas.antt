@@ -5,7 +5,7 @@ use Rattle.std.proofs.Common.{◌≡◌, ℕ, ◌+◌, ◌<◌, List, [], ◌∷
 use Rattle.line_geometry.specs.FlatStore.{FlatStore}
 use Rattle.flat_machine.specs.Serial.{Activation}
 use Rattle.store_format.proofs.Sound.{stood_header}
-use Rattle.desk.proofs.SerialLaw.{run-serial}
+use Rattle.desk.proofs.SerialLaw.{run_serial}
 use Rattle.run_law.specs.Headline.{IsFirst, IsPrefix, LeftIsPrefix, DoubtIsWhole}
 use Rattle.run_law.proofs.RunLemmas.{run_on}
 use Rattle.run_law.proofs.StepLemmas.{Stepped, step_by}
@@ -17,7 +17,7 @@ open_serial : (programs : List Program) (number frames most most_lines : ℕ) (s
 open_serial programs number frames most most_lines store events taken rest is_run still =
     let start = opened frames most most_lines store in
     let desk = run programs taken start in
-    let it : IsSerial (begun programs events) number store desk.order (event_lines [] programs number taken start) desk.committed desk.closed = run-serial [] programs number frames most most_lines store events taken rest is_run in
+    let it : IsSerial (begun programs events) number store desk.order (event_lines [] programs number taken start) desk.committed desk.closed = run_serial [] programs number frames most most_lines store events taken rest is_run in
     ap (λ (order : List (ℕ × ℕ)). serial (begun programs events) order store) (it.order_is ∙ ap (λ (back : List (ℕ × ℕ)). it.done ++ back) (it.none_open still) ∙ append-nil it.done) ∙ it.leaves
 
 -- what stands for the store at the start has none of an order's commits

@@ -1,5 +1,5 @@
 -- Seats in which numbers ascend: each stands once, its number is its own, and sixteen of them are all there are.
-use Rattle.seats.proofs.Common.{range_with_len, AllPairs, arith, ap, sym, ◌∙◌, subst, inl, inr, eqb-true, eq-eqb, ne_eqb, or_cases, not-true, not-false, and_parts, ltb-true, cond-false, All-head, All-tail, has, distinct, size, has-range, in_range, found-has, found-passes, none-passes}
+use Rattle.seats.proofs.Common.{range_with_len, AllPairs, arith, ap, sym, ◌∙◌, subst, inl, inr, eqb-true, eq-eqb, ne_eqb, or_cases, not-true, not-false, and_parts, ltb-true, cond-false, All-head, All-tail, has, distinct, size, has-range, in_range, found-has, found-passes, none-passes, nat_tests}
 use Rattle.std.specs.Prelude.{◌≡◌, refl, ℕ, suc, ◌+◌, ◌<◌, ◌≤◌, ◌==◌, not, nat_le, nat_lt, Bool, true, false, List, [], ◌∷◌, length, All, Some, None, find}
 use Rattle.lock_rules.proofs.Sizes.{IsPart, size-part, size-range}
 
@@ -72,9 +72,7 @@ module _ (number : ℕ → ℕ) where
   part-of seats among = record { among = λ x inside. in_range 0 16 x (omega arith) (all-has (λ seat. seat < 16) seats x among inside) }
 
   pub few : (seats : List ℕ) → All (λ seat. seat < 16) seats → Ascends seats → length seats ≤ 16
-  few seats among ascends =
-      let part = size-part seats (range_with_len 0 16) (part-of seats among) in
-      omega (arith, part, size-listed seats ascends, size-range 0 16)
+  few seats among ascends = grind (arith, nat_tests, size-part, part-of, size-listed, size-range)
 
   -- where no seat is free, all sixteen are taken
   pub none-free : (seats : List ℕ) → Ascends seats → find (λ seat. not (has seats seat)) (range_with_len 0 16) ≡ None → 16 ≤ length seats

@@ -20,3 +20,5 @@ pub use Rattle.seats.specs.Seating.{IsSeating, Seating, left, newcomer, number_i
 unfoldable pub use Rattle.seats.specs.Seating.{next_seat}
 pub use Rattle.seats.specs.Waiting.{AreOfPage, cycle_of, holders, seat_at, seat_waits}
 pub use Rattle.seats.specs.declared.seat.Seat.{Seat}
+pub use Rattle.std.proofs.lemmas.Bool.Decides.{nat_tests}
+pub use Rattle.std.proofs.lemmas.Grind.{common_steps}

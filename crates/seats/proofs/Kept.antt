@@ -1,5 +1,5 @@
 -- Sixteen seats stay what they are as one is taken, left, or holds more.
-use Rattle.seats.proofs.Common.{ForSome, arith, ap, sym, ◌∙◌, inl, inr, get_or-set_same, get_or-set_other, eqb-true, eqb-false, eq-eqb, both_ways, or_left, or_right, or_parts, and_cases, not_from_false, length-set, length-replicate, All-set, All-push, All-filter, All-get_or, has, has-append, has-filter, Want, with_want, with_wants, AreWithin, Holding, IsWhole, no_lines_of, of_seat, with_seat, Seat, Seating, IsSeating, newcomer, number_in, seated, left, took}
+use Rattle.seats.proofs.Common.{ForSome, arith, ap, sym, ◌∙◌, get_or-set_same, get_or-set_other, eqb-true, eqb-false, eq-eqb, or_left, or_right, or_parts, and_cases, not_from_false, length-set, length-replicate, All-set, All-push, All-filter, All-get_or, has, has-append, has-filter, Want, with_want, with_wants, AreWithin, Holding, IsWhole, no_lines_of, of_seat, with_seat, Seat, Seating, IsSeating, newcomer, number_in, seated, left, took, nat_tests}
 use Rattle.std.specs.Prelude.{◌≡◌, refl, ℕ, zero, suc, ◌<◌, ◌≤◌, ◌==◌, ◌&&◌, not, Bool, true, false, List, [], ◌∷◌, length, All, slice_index_or}
 use Rattle.std.proofs.lemmas.List.Kept.{AllPairs-filter}
 use Rattle.std.proofs.lemmas.List.Quantifiers.{all_pairs_push}
@@ -53,34 +53,10 @@ module _ (seating : Seating) (is : IsSeating seating) where
 
       by_test : (other : ℕ) → other < 16 → (same : Bool) → (other == seat) ≡ same → (has seating.taken other && not (other == seat)) ≡ false
           → of_seat (with_seat seating.holding seat nothing) other ≡ nothing
-      by_test other inside true e gone =
-          let same : other ≡ seat = eqb-true other seat e in
-          ap (of_seat (with_seat seating.holding seat nothing)) same ∙ same-with seating.holding seat nothing is.whole below
-      by_test other inside false e gone =
-          other-with seating.holding seat nothing is.whole other e
-          ∙ is.free other inside
-          (elim (and_cases (has seating.taken other) (not (other == seat)) gone) [
-            | inl none ↦ none
-            | inr same ↦ absurd (both_ways (not (other == seat)) same (not_from_false (other == seat) e))
-          ])
+      by_test other inside case_3 e gone = grind (arith, nat_tests, eqb-true, same-with, other-with, and_cases, not_from_false)
 
   pub kept-took : (seat : ℕ) (wants : List Want) → has seating.taken seat ≡ true → IsSeating (took seating seat wants)
-  kept-took seat wants there = record {
-    sixteen = is.sixteen;
-    among = is.among;
-    ascending = is.ascending;
-    within = is.within;
-    whole = whole-with seating.holding seat more is.whole (length-wants (of_seat seating.holding seat) wants ∙ long-seat seating.holding seat more is.whole seat (taken-below seat there));
-    free = λ other inside none. by_test other inside none (other == seat) refl;
-  }
-    where
-      more : List (List ℕ × List ℕ)
-      more = with_wants (of_seat seating.holding seat) wants
-
-      by_test : (other : ℕ) → other < 16 → has seating.taken other ≡ false → (same : Bool) → (other == seat) ≡ same
-          → of_seat (with_seat seating.holding seat more) other ≡ no_lines_of seating.holding.pages
-      by_test other inside none true e = absurd (both_ways (has seating.taken other) none (ap (has seating.taken) (eqb-true other seat e) ∙ there))
-      by_test other inside none false e = other-with seating.holding seat more is.whole other e ∙ is.free other inside none
+  kept-took seat wants there = grind (arith, nat_tests, whole-with, length-wants, long-seat, taken-below, eqb-true, other-with)
 
   pub kept-seated : (seat number program : ℕ) (args : List ℕ) → seat < 16 → has seating.taken seat ≡ false → All (λ seat. number_in seating seat < number) seating.taken
       → IsSeating (seated seating seat (newcomer number program args))
@@ -110,6 +86,4 @@ module _ (seating : Seating) (is : IsSeating seating) where
       its = ap (λ (one : Seat). one.number) (get_or-set_same seating.sitters seat who (newcomer 0 0 []) (omega (arith, below, is.sixteen)))
 
       stays : (other : ℕ) → has seating.taken other ≡ true → number_in new other ≡ number_in seating other
-      stays other there =
-          ap (λ (one : Seat). one.number)
-          (get_or-set_other seating.sitters seat other who (newcomer 0 0 []) (λ same. let no = both_ways (has seating.taken other) (ap (has seating.taken) same ∙ free) there in no))
+      stays other there = grind (arith, nat_tests, get_or-set_other)

@@ -1,5 +1,5 @@
 -- What is said of seats, said of the numbers in them and of flat lines: holders, waits and the shown cycle.
-use Rattle.seats.proofs.Common.{option_map_or, ap, sym, ◌∙◌, eqb-true, eq-eqb, both_ways, or_left, or_right, has, shown_cycle, found-has, found-passes, none-passes, cycle-named, Request, Want, of_seat, is_in_conflict, Seating, IsSeating, sitter, number_in, numbers, seat_of, holders, seat_waits, cycle_of, AreOfPage}
+use Rattle.seats.proofs.Common.{option_map_or, ap, sym, ◌∙◌, eqb-true, eq-eqb, or_left, or_right, has, shown_cycle, found-has, found-passes, none-passes, cycle-named, Request, Want, of_seat, is_in_conflict, Seating, IsSeating, sitter, number_in, numbers, seat_of, holders, seat_waits, cycle_of, AreOfPage, arith, nat_tests}
 use Rattle.std.specs.Prelude.{◌≡◌, refl, ℕ, ◌==◌, ◌&&◌, not, cond, Bool, true, false, List, [], ◌∷◌, map, filter, Option, Some, None}
 use Rattle.lock_rules.specs.Lines.{Lines, conflicts}
 use Rattle.line_locks.specs.Flat.{lines_wanted, IsFlat}
@@ -13,19 +13,14 @@ module _ (seating : Seating) (is : IsSeating seating) where
 
   -- the seat of a number is a taken one with it
   pub seat-found : (number seat : ℕ) → seat_of seating number ≡ Some seat → (has seating.taken seat ≡ true) × (number_in seating seat ≡ number)
-  seat-found number seat found = (
-    found-has (λ seat. number_in seating seat == number) seating.taken seat found,
-    eqb-true (number_in seating seat) number (found-passes (λ seat. number_in seating seat == number) seating.taken seat found),
-  )
+  seat-found number seat found = grind (arith, nat_tests, found-has, eqb-true, found-passes)
 
   -- and each taken seat is that of its number
   pub seat-of-taken : (seat : ℕ) → has seating.taken seat ≡ true → seat_of seating (number_in seating seat) ≡ Some seat
   seat-of-taken seat there = by_found (seat_of seating (number_in seating seat)) refl
     where
       by_found : (found : Option ℕ) → seat_of seating (number_in seating seat) ≡ found → found ≡ Some seat
-      by_found None none =
-          let no = none-passes (λ other. number_in seating other == number_in seating seat) seating.taken seat none there in
-          absurd (both_ways (number_in seating seat == number_in seating seat) no (eq-eqb (number_in seating seat) (number_in seating seat) refl))
+      by_found None none = grind (arith, nat_tests, none-passes, eq-eqb)
       by_found (Some other) found =
           let (inside, same) = seat-found (number_in seating seat) other found in
           ap Some (eqb-true other seat (sym (apart-taken other seat inside there) ∙ eq-eqb (number_in seating other) (number_in seating seat) same))
@@ -56,9 +51,7 @@ module _ (seating : Seating) (is : IsSeating seating) where
     -- who waits for whom
     pub waits-flat : (from to : ℕ) (request : Request) → (sitter seating from).waits ≡ Some request → AreOfPage request.wants.items → has seating.taken to ≡ true
         → seat_waits seating from to ≡ (not (to == from) && conflicts (lines_wanted request.wants.items) (locks to))
-    waits-flat from to request waits sets there =
-        ap (λ (asked : Option Request). option_map_or (λ request. is_in_conflict seating.holding from request.wants.items to) asked false) waits
-        ∙ in-flat from to request.wants.items sets there
+    waits-flat from to request waits sets there = grind (arith, nat_tests, in-flat)
 
   pub waits-none : (from to : ℕ) → (sitter seating from).waits ≡ None → seat_waits seating from to ≡ false
   waits-none from to waits = ap (λ (asked : Option Request). option_map_or (λ request. is_in_conflict seating.holding from request.wants.items to) asked false) waits

@@ -1,14 +1,11 @@
 -- Places among the taken seats, and the shown cycle by places.
-use Rattle.seats.proofs.Common.{range_with_len, option_map, inl, inr, arith, ap, sym, ◌∙◌, eq-eqb, ne_eqb, ltb-true, and_parts, cases_eq, cases_lt, same_lists, get_or_default, has, shown_cycle, has-range, in_range, cycle-named, cycle-among, waits_in, places_of, Seating, IsSeating, number_in, seat_waits, seat_at, cycle_of}
-use Rattle.std.specs.Prelude.{◌≡◌, ℕ, ◌+◌, ◌<◌, ◌==◌, nat_le, nat_lt, true, List, length, map, Some, None}
+use Rattle.seats.proofs.Common.{range_with_len, option_map, inl, inr, arith, ap, sym, ◌∙◌, eq-eqb, ne_eqb, ltb-true, cases_eq, cases_lt, same_lists, get_or_default, has, shown_cycle, has-range, in_range, cycle-named, cycle-among, waits_in, places_of, Seating, IsSeating, number_in, seat_waits, seat_at, cycle_of, nat_tests}
+use Rattle.std.specs.Prelude.{◌≡◌, ℕ, ◌<◌, ◌==◌, true, List, length, map, Some, None}
 use Rattle.std.proofs.lemmas.Simd.{map-map}
 use Rattle.std.proofs.lemmas.List.FromFn.{length-map-range_with_len, get_or-map-range_with_len}
 
 range-below : (n x : ℕ) → has (range_with_len 0 n) x ≡ true → x < n
-range-below n x inside =
-    let parts = and_parts (nat_le 0 x) (nat_lt x (0 + n)) (sym (has-range 0 n x) ∙ inside) in
-    let below = ltb-true x (0 + n) parts.1 in
-    omega (arith, below)
+range-below n x inside = grind (arith, nat_tests, has-range, ltb-true)
 
 module _ (seating : Seating) (is : IsSeating seating) where
   -- at different places different seats stand
@@ -53,9 +50,7 @@ module _ (seating : Seating) (is : IsSeating seating) where
     -- and by the numbers there
     pub cycle-numbered : (place : ℕ) (members : List ℕ) → place < length seating.taken → shown_cycle (waits_in rows) (places_of rows) place ≡ Some members
         → cycle_of seating (seat_at seating place) ≡ Some (map (λ place. number_in seating (seat_at seating place)) members)
-    cycle-numbered place members within shown =
-        ap (option_map (map (number_in seating))) (cycle-placed place within ∙ ap (option_map (map (seat_at seating))) shown)
-        ∙ ap (λ (these : List ℕ). Some these) (map-map (number_in seating) (seat_at seating) members)
+    cycle-numbered place members within shown = grind (arith, nat_tests, cycle-placed, map-map)
 
     pub cycle-none : (place : ℕ) → place < length seating.taken → shown_cycle (waits_in rows) (places_of rows) place ≡ None → cycle_of seating (seat_at seating place) ≡ None
     cycle-none place within shown = ap (option_map (map (number_in seating))) (cycle-placed place within ∙ ap (option_map (map (seat_at seating))) shown)

@@ -1,5 +1,5 @@
 -- A page that comes in leaves the bytes as they were.
-use Rattle.storage_unit.proofs.Common.{◌≡◌, ℕ, ◌+◌, ◌*◌, ◌%◌, ◌<◌, false, List, length, sym, ◌∙◌, ap, subst, arith, Option, inl, inr, if◌then◌else◌, slice_index, cases_eq, length-take, length-drop, page_bytes, Layout, byte_count, page_count, page_of, byte_count-pages, has, Pool, frame_at, Brought, with_room, page_part, is_marked, byte_over, IsClean, Fits, Keeps, filled, page_in, BringKeeps}
+use Rattle.storage_unit.proofs.Common.{◌≡◌, ℕ, ◌+◌, ◌*◌, ◌%◌, ◌<◌, false, List, length, sym, ◌∙◌, ap, subst, arith, Option, inl, inr, if◌then◌else◌, slice_index, cases_eq, length-take, length-drop, page_bytes, Layout, byte_count, page_count, page_of, byte_count_pages, has, Pool, frame_at, Brought, with_room, page_part, is_marked, byte_over, IsClean, Fits, Keeps, filled, page_in, BringKeeps}
 use Rattle.storage_unit.proofs.SizeLemmas.{rest-below, place-is}
 use Rattle.storage_unit.proofs.ByteLemmas.{in-range, same-bytes, over-none}
 use Rattle.storage_unit.proofs.LeaveLemmas.{clean-of, clean-shows}
@@ -8,7 +8,7 @@ use Rattle.storage_unit.proofs.BringLemmas.{full, fewer, not-there, filled-is, f
 -- a page of what is committed is as long as a page
 pub page_in-long : (d : Layout) (committed : List ℕ) (page : ℕ) → length committed ≡ byte_count d → page < page_count d → length (page_in d committed page) ≡ page_bytes d.page
 page_in-long d committed page sized within =
-    simp (length-take, length-drop) (omega (arith, page_part page (page_count d) (page_bytes d.page) within, sized, byte_count-pages d))
+    simp (length-take, length-drop) (omega (arith, page_part page (page_count d) (page_bytes d.page) within, sized, byte_count_pages d))
 
 module _ (d : Layout) (old new : Pool) (committed : List ℕ) (page : ℕ) (keep : Option ℕ) (frame : ℕ)
     (fits : Fits d old) (sized : length committed ≡ byte_count d) (clean : IsClean d old committed) (within : page < page_count d) (absent : has old.resident page ≡ false)

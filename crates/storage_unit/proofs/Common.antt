@@ -30,8 +30,8 @@ pub use Rattle.inverted_table.proofs.FindLemmas.{is-held, look_up-held, look_up-
 pub use Rattle.inverted_table.specs.Keys.{key_of, key_to}
 pub use Rattle.inverted_table.specs.Placed.{Placed, cleared_entry, entered, entry_at, key_in, look_up, unowned, without_frame}
 pub use Rattle.inverted_table.specs.declared.key.Key.{Key}
-pub use Rattle.line_geometry.proofs.LineSetLemmas.{is_in_where-below, of_page-where, where-alike}
-pub use Rattle.line_geometry.proofs.Within.{byte_count-pages, segment-within}
+pub use Rattle.line_geometry.proofs.LineSetLemmas.{is_in_where-below, of_page_where, where-alike}
+pub use Rattle.line_geometry.proofs.Within.{byte_count_pages, segment-within}
 pub use Rattle.line_geometry.specs.Directory.{Layout, byte_count, length_of, page_count, start_of}
 pub use Rattle.line_geometry.specs.Legal.{IsLegal}
 pub use Rattle.line_geometry.specs.LineSets.{IsOfPage, between, difference, lines_where, union}

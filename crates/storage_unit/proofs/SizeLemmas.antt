@@ -1,5 +1,5 @@
 -- Places of a store by pages and lines.
-use Rattle.storage_unit.proofs.Common.{◌≡◌, ℕ, ◌+◌, ◌-◌, ◌*◌, ◌/◌, ◌%◌, ◌<◌, ◌≤◌, arith, div-add-mod', PageSize, Two, Four, page_bytes, line_bytes, Layout, byte_count, page_count, page_of, byte_count-pages, private_frames, seat_pages, nat_tests}
+use Rattle.storage_unit.proofs.Common.{◌≡◌, ℕ, ◌+◌, ◌-◌, ◌*◌, ◌/◌, ◌%◌, ◌<◌, ◌≤◌, arith, div-add-mod', PageSize, Two, Four, page_bytes, line_bytes, Layout, byte_count, page_count, page_of, byte_count_pages, private_frames, seat_pages, nat_tests}
 
 pub rest-below : (size : PageSize) (place : ℕ) → place % page_bytes size < page_bytes size
 rest-below Two place = omega arith
@@ -184,4 +184,4 @@ line-within Four line below = omega (arith, below)
 
 -- the page of a place of the store
 pub page-below : (d : Layout) (place : ℕ) → place < byte_count d → page_of d place < page_count d
-page-below d place below = grind (arith, nat_tests, byte_count-pages)
+page-below d place below = grind (arith, nat_tests, byte_count_pages)

@@ -1,5 +1,5 @@
 -- What a store leaves, as it is written page by page, and what is shown after it.
-use Rattle.storage_unit.proofs.Common.{◌≡◌, ℕ, ◌+◌, ◌-◌, ◌*◌, ◌/◌, ◌%◌, ◌<◌, ◌≤◌, List, ◌++◌, length, refl, sym, ◌∙◌, ap, subst, arith, Option, Some, None, get_or, inl, inr, ◌||◌, slice_set, option_map_or, cases_Bool, nat_tests, same_lists, length-append, get_or_append_left, get_or-append_right, get_or-map-range_with_len, length-map-range_with_len, same_number_lists, page_bytes, start_of, page_of, union, where-alike, is_in_where-below, of_page-where, has, Located, Private, Shared, Refused, lines_at, Virtual, key_of, look_up, Pool, private_frames, frame_count, page_at, marks_at, marked_in, with_marks, with_bytes, lines_of_part, page_part, Reach, is_private, offset_of, place_of, on, AreOfPages, seat_pages, table_of, put_byte, put_in_store, put_at, IsSound, Lies, some-within}
+use Rattle.storage_unit.proofs.Common.{◌≡◌, ℕ, ◌+◌, ◌-◌, ◌*◌, ◌/◌, ◌%◌, ◌<◌, ◌≤◌, List, ◌++◌, length, refl, sym, ◌∙◌, ap, subst, arith, Option, Some, None, get_or, inl, inr, ◌||◌, slice_set, option_map_or, cases_Bool, nat_tests, same_lists, length-append, get_or_append_left, get_or-append_right, get_or-map-range_with_len, length-map-range_with_len, same_number_lists, page_bytes, start_of, page_of, union, where-alike, is_in_where-below, of_page_where, has, Located, Private, Shared, Refused, lines_at, Virtual, key_of, look_up, Pool, private_frames, frame_count, page_at, marks_at, marked_in, with_marks, with_bytes, lines_of_part, page_part, Reach, is_private, offset_of, place_of, on, AreOfPages, seat_pages, table_of, put_byte, put_in_store, put_at, IsSound, Lies, some-within}
 use Rattle.frame_pool.proofs.LayLemmas.{overlaid-joined}
 use Rattle.storage_unit.proofs.SizeLemmas.{private-whole, seat-bytes, seat-frame, seat-page, line-order, line-next}
 use Rattle.storage_unit.proofs.StateLemmas.{marks-set}
@@ -31,7 +31,7 @@ low-frame state sound spot low = grind (arith, nat_tests)
 
 -- marks of the page in a frame
 pub marked-of_pages : (pool : Pool) (frame : ℕ) (lines : List ℕ) → AreOfPages pool.marked → AreOfPages (marked_in pool frame lines).marked
-marked-of_pages pool frame lines all = grind (arith, nat_tests, marks-set, of_page-where)
+marked-of_pages pool frame lines all = grind (arith, nat_tests, marks-set, of_page_where)
 
 -- bytes that are written over those of the frame that the table found
 module _ (state : Reach) (sound : IsSound state) (at : Virtual) (bytes : List ℕ) (some : 0 < length bytes) (lies : Lies state at (length bytes)) (within : at.byte + length bytes ≤ page_bytes state.directory.page)

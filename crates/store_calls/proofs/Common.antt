@@ -8,7 +8,7 @@ pub use Rattle.std.specs.Int.{div_ceil}
 pub use Rattle.std.specs.Prelude.{All, Err, IfSome, IsOk, IsSome, IsTrue, Ok, OnOk, Option, Result, codes, decimal, find, option_map, sum_by, unwrap_or, ◌==◌}
 pub use Rattle.call_status.specs.Call.{Given, call, given}
 pub use Rattle.call_status.specs.declared.status.Status.{Status}
-pub use Rattle.line_geometry.proofs.Within.{byte_count-pages}
+pub use Rattle.line_geometry.proofs.Within.{byte_count_pages}
 pub use Rattle.line_geometry.specs.Directory.{Layout, byte_count, length_of, page_count, start_of}
 pub use Rattle.line_geometry.specs.FlatStore.{FlatStore}
 pub use Rattle.line_geometry.specs.Legal.{IsInRange, IsLegal}

@@ -1,5 +1,5 @@
 -- The fields of a header looked at one after another.
-use Rattle.store_format.proofs.Common.{◌≡◌, ℕ, zero, suc, ◌+◌, ◌*◌, ◌-◌, ◌<◌, ◌≤◌, Bool, true, false, List, [], ◌∷◌, ◌++◌, length, refl, sym, ◌∙◌, ap, arith, slice_index, Option, None, Some, nat_lt, nat_le, not, ◌&&◌, min, if◌then◌else◌, is_some, option_or, nat_tests, Field, number_at, within, segments_at, segment_fields, zeros, last_zeros, first_fault}
+use Rattle.store_format.proofs.Common.{◌≡◌, ℕ, zero, suc, ◌+◌, ◌*◌, ◌-◌, ◌<◌, ◌≤◌, Bool, true, false, List, [], ◌∷◌, ◌++◌, length, refl, sym, ◌∙◌, arith, slice_index, Option, None, Some, nat_lt, min, if◌then◌else◌, is_some, option_or, nat_tests, Field, number_at, within, segments_at, segment_fields, zeros, last_zeros, first_fault}
 
 option_or-if : (b c : Bool) (n m : ℕ) (later : Option ℕ) → (if b then Some n else if c then Some m else later) ≡ option_or (if b then Some n else if c then Some m else None) later
 option_or-if b c n m later = grind (arith, nat_tests)
@@ -26,12 +26,7 @@ first_fault-append bytes (field ∷ front) back = grind (arith, nat_tests, first
 
 -- what a number's field without a fault says
 pub right_number : (length at bytes number least most : ℕ) → is_some (first_fault length (within at bytes number least most ∷ [])) ≡ false → (at + bytes ≤ length) × (least ≤ number) × (number ≤ most)
-right_number length at bytes number least most none = by_tests (nat_lt length (at + bytes)) (nat_le least number) (nat_le number most) refl refl refl none
-  where
-    by_tests : (cut low high : Bool) → nat_lt length (at + bytes) ≡ cut → nat_le least number ≡ low → nat_le number most ≡ high
-        → is_some (if cut then Some length else if not (low && high) then Some at else None) ≡ false → (at + bytes ≤ length) × (least ≤ number) × (number ≤ most)
-    by_tests false true true is is' is'' none = (grind (arith, nat_tests), grind (arith, nat_tests), grind (arith, nat_tests))
-    by_tests _ _ _ is is' is'' none = absurd (cc)
+right_number length at bytes number least most none = grind (arith, nat_tests)
 
 -- the entries from one on
 abbrev pub segments_left : List ℕ → (count i : ℕ) → List (ℕ × ℕ)
@@ -87,13 +82,8 @@ length-segments_at image at (suc count) = omega (arith, length-segments_at image
 
 -- one entry more at the end
 pub segments_at-more : (image : List ℕ) (at count : ℕ) → segments_at image at (count + 1) ≡ segments_at image at count ++ (number_at image (at + 4 * count) 2, number_at image (at + 4 * count + 2) 2) ∷ []
-segments_at-more image at zero =
-    let place : at ≡ at + 4 * 0 = omega arith in
-    ap (λ (n : ℕ). (number_at image n 2, number_at image (n + 2) 2) ∷ []) place
-segments_at-more image at (suc count) =
-    let place : at + 4 + 4 * count ≡ at + 4 * suc count = omega arith in
-    let fuel : suc count + 1 ≡ suc (count + 1) = omega arith in
-    cc (fuel, segments_at-more image (at + 4) count, place)
+segments_at-more image at zero = grind (arith, nat_tests)
+segments_at-more image at (suc count) = grind (arith, nat_tests, segments_at-more image (at + 4) count)
 
 -- the fifty zeros that a header of version 2 ends with
 pub last_zeros_are : (image : List ℕ) → last_zeros image ≡ zeros image 78 50

@@ -28,3 +28,4 @@ pub use Rattle.store_format.specs.Stands.{Damaged, HasHeader, IsStore, NotAStore
 unfoldable pub use Rattle.store_format.specs.Stands.{stands}
 pub use Rattle.store_format.specs.declared.header.Which.{Which}
 pub use Rattle.store_format.specs.declared.header.Which.TheVariants.{A, B}
+pub use Rattle.std.proofs.lemmas.Grind.{common_steps}

@@ -1,6 +1,5 @@
 -- What an image stands for where bytes outside its chosen bank have changed.
-use Rattle.store_format.proofs.Common.{◌≡◌, ℕ, zero, suc, ◌+◌, ◌%◌, ◌^◌, ◌<◌, ◌≤◌, false, List, [], length, take, drop, refl, sym, ◌∙◌, ap, arith, slice_index, drop-drop, get_or-drop, Which, Header, fields, first_fault, header_of, bank_at, number_at, RecordLine, Area, Gate, Closed, Wrong, Sound, gate_at, holds_from, area_at, area_of, base_of, bank_of, stands, IsStore, HasHeader, laid, home_of, chosen}
-use Rattle.std.specs.Prelude.{◌==◌, ◌-◌, fold}
+use Rattle.store_format.proofs.Common.{◌≡◌, ℕ, zero, suc, ◌+◌, ◌%◌, ◌^◌, ◌<◌, ◌≤◌, false, List, [], length, take, drop, refl, sym, ◌∙◌, ap, arith, slice_index, drop-drop, get_or-drop, Which, Header, fields, first_fault, header_of, bank_at, number_at, RecordLine, Area, Gate, Closed, Wrong, Sound, gate_at, holds_from, area_at, area_of, base_of, bank_of, stands, IsStore, HasHeader, laid, home_of, chosen, ◌==◌, ◌-◌, fold}
 use Rattle.store_format.proofs.Fronts.{shorter_front, same_byte}
 use Rattle.store_format.proofs.Walk.{sound_is, closed_gate}
 use Rattle.store_format.proofs.Sound.{sound_header}

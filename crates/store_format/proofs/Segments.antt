@@ -1,6 +1,6 @@
 -- The fields of segments are right exactly where the segments are a directory's.
 use Rattle.store_format.proofs.Common.{◌≡◌, ℕ, ◌+◌, ◌-◌, ◌<◌, ◌≤◌, false, List, [], ◌∷◌, length, refl, subst, arith, None, All, nat_lt, nat_le, ◌==◌, not, ◌&&◌, min, nat_tests, All-nil, All-cons, All-head, All-tail, fault_of, fault_after, is_strange, IsLegal, Field, within, segment_fields, first_fault}
-use Rattle.line_geometry.proofs.Legal.{first-fine, legal-none, none-legal}
+use Rattle.line_geometry.proofs.Legal.{first-fine, legal-none, none_legal}
 use Rattle.store_format.proofs.Checks.{none-append}
 
 abbrev pub Stays : Field → Type 0
@@ -64,7 +64,7 @@ segments_legal segments some few right =
 
 pub legal_segments : (segments : List (ℕ × ℕ)) → IsLegal segments → All Stays (segment_fields 16 1 1024 segments)
 legal_segments segments legal =
-    let fine : fault_after 0 0 segments ≡ None = (rw (not_many 15 (length segments) legal.few, not_empty (length segments) legal.some) at (none-legal segments legal)) in
+    let fine : fault_after 0 0 segments ≡ None = (rw (not_many 15 (length segments) legal.few, not_empty (length segments) legal.some) at (none_legal segments legal)) in
     right_after segments 16 0 0 (omega arith) fine
   where
     not_empty : (n : ℕ) → 1 ≤ n → (n == 0) ≡ false

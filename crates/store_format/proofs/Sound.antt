@@ -1,5 +1,5 @@
 -- What a header without a fault says.
-use Rattle.store_format.proofs.Common.{◌≡◌, ℕ, zero, suc, ◌+◌, ◌*◌, ◌-◌, ◌%◌, ◌^◌, ◌<◌, ◌≤◌, slice_index, true, false, List, [], ◌∷◌, ◌++◌, length, take, drop, Bool, refl, sym, codes, ◌∙◌, ap, arith, inl, inr, Option, None, Some, All, min, nat_lt, nat_eq, not, is_some, if◌then◌else◌, starts_with, FlatStore, cases_lt, cases_eq, Decides-eqb, nat_tests, PageSize, Two, Four, IsLegal, AreFlags, flag_count, Header, number_at, within, name_field, segments_of, segment_fields, zeros, last_zeros, spare_fields, page_of, fields, first_fault, header_of, total, Bank, Holds, Faulty, base_of, bank_of, Standing, Stands, NotAStore, stands, standing_if, standing_by, chosen, All-head, All-tail, get_or-drop, length-drop, length-take, take-append-drop, big_number, pow_pos}
+use Rattle.store_format.proofs.Common.{◌≡◌, ℕ, zero, suc, ◌+◌, ◌*◌, ◌-◌, ◌%◌, ◌^◌, ◌<◌, ◌≤◌, slice_index, true, false, List, [], ◌∷◌, ◌++◌, length, take, Bool, refl, codes, ◌∙◌, ap, arith, inl, inr, Option, None, Some, All, min, nat_lt, nat_eq, not, is_some, if◌then◌else◌, starts_with, FlatStore, cases_eq, nat_tests, PageSize, Two, Four, IsLegal, AreFlags, flag_count, Header, number_at, within, name_field, segments_of, segment_fields, zeros, last_zeros, spare_fields, page_of, fields, first_fault, header_of, total, Bank, Holds, Faulty, Stands, NotAStore, stands, standing_if, standing_by, All-head, All-tail, get_or-drop, length-drop, length-take, take-append-drop, big_number, pow_pos}
 use Rattle.std.proofs.lemmas.Slice.Eq.{starts_is}
 use Rattle.store_format.proofs.Checks.{none-append, right_number, length-segments_at}
 use Rattle.store_format.proofs.Segments.{Stays, right_within, segments_legal, stays_all}
@@ -71,20 +71,7 @@ faulty_header image offset fault = ap (λ (those : Option ℕ). standing_if imag
 pub faulty_length : (image : List ℕ) (header : Header) → first_fault (length image) (fields (take 128 image)) ≡ None → header_of (take 128 image) ≡ header → (length image ≡ total header → ⊥)
     → stands image ≡ NotAStore (min (length image) (total header))
 unfolding stands
-faulty_length image header none said other = cc (none, said, by_length (length image) (total header) other (standing_by image header (base_of image header (chosen image)) (bank_of image header (chosen image))))
-  where
-    by_length : (a b : ℕ) → (a ≡ b → ⊥) → (later : Standing) → (if nat_lt a b then NotAStore a else if nat_lt b a then NotAStore b else later) ≡ NotAStore (min a b)
-    by_length a b other later = elim (cases_lt a b) [
-      | inl less ↦
-          let is : nat_lt a b ≡ true = grind (arith, nat_tests) in
-          let least : a ≡ min a b = omega arith in
-          rw is (ap NotAStore least)
-      | inr more ↦
-          let no : nat_lt a b ≡ false = grind (arith, nat_tests) in
-          let is : nat_lt b a ≡ true = grind (arith, nat_tests) in
-          let least : b ≡ min a b = omega arith in
-          rw (no, is) (ap NotAStore least)
-    ]
+faulty_length image header none said other = grind (arith, nat_tests, min)
 
 -- what stands has a header without a fault, its directory, and a number of 64 bits
 pub stood_header : (image : List ℕ) (number : ℕ) (store : FlatStore) → stands image ≡ Stands number store
@@ -106,9 +93,7 @@ stood_header image number store is = by_fault (first_fault (length image) (field
 
     by_fault : (fault : Option ℕ) → standing_if image fault header ≡ Stands number store → (fault ≡ None) × (store.directory ≡ header.directory) × (number < 2 ^ 64)
     by_fault (Some offset) is = absurd (cc)
-    by_fault None is =
-        let said = by_length (nat_lt (length image) (total header)) (nat_lt (total header) (length image)) (length image) (total header) (base_of image header (chosen image)) (bank_of image header (chosen image)) is in
-        (refl, said.0, said.1)
+    by_fault None is = grind (arith, nat_tests, by_length)
 
 -- a header without a fault has the name, and its version is 1 or 2
 pub named_header : (image : List ℕ) → first_fault (length image) (fields (take 128 image)) ≡ None
@@ -138,10 +123,4 @@ two_bytes (high ∷ low ∷ rest) long is =
 
 -- a name and a version 2 in front
 pub begins_two : (text : List ℕ) → 10 ≤ length text → starts_with nat_eq (take 128 text) (codes "801STORE") ≡ true → number_at (take 128 text) 8 2 ≡ 2 → starts_with nat_eq text (codes "801STORE" ++ 0 ∷ 2 ∷ []) ≡ true
-begins_two text long name two =
-    let head = take 128 text in
-    let named : head ≡ codes "801STORE" ++ drop 8 head = (starts_is Decides-eqb head (codes "801STORE") (starts_with nat_eq head (codes "801STORE")) refl).0 name in
-    let (rest, is) = two_bytes (drop 8 head) (omega (arith, length-drop 8 head, length-take 128 text, long)) two in
-    let whole : text ≡ (codes "801STORE" ++ 0 ∷ 2 ∷ []) ++ (rest ++ drop 128 text) =
-    sym (take-append-drop 128 text) ∙ ap (λ (these : List ℕ). these ++ drop 128 text) (named ∙ ap (λ (these : List ℕ). codes "801STORE" ++ these) is) in
-    (starts_is Decides-eqb text (codes "801STORE" ++ 0 ∷ 2 ∷ []) (starts_with nat_eq text (codes "801STORE" ++ 0 ∷ 2 ∷ [])) refl).1 (rest ++ drop 128 text) whole
+begins_two text long name two = grind (arith, nat_tests, codes, starts_is, two_bytes, length-drop, length-take, take-append-drop)

@@ -102,6 +102,7 @@ fn spare_fault(head: &[u8; HEADER_BYTES], length: u64, page: PageSize, listed: u
 }
 
 /// The fault of the flags of so many segments.
+#[tactic(auto, using(std::proofs::lemmas::Grind::common_steps))]
 fn flags_fault(head: &[u8; HEADER_BYTES], length: u64, listed: u16) -> Option<u64>
     requires { listed ≤ 15 }
     ensures { result ≡ first_fault length (within 76 2 (number_at head.now 76 2) 0 (2 ^ listed - 1) ∷ []) }
@@ -167,6 +168,7 @@ fn segment_at(head: &[u8; HEADER_BYTES], at: usize) -> (u16, u16)
 }
 
 /// The number in two bytes.
+#[tactic(auto, using(std::proofs::lemmas::Grind::common_steps))]
 fn half_at(head: &[u8; HEADER_BYTES], at: usize) -> u16
     requires { at + 2 ≤ 128 }
     ensures { result ≡ number_at head.now at 2 }

@@ -1,5 +1,4 @@
-use Rattle.std.proofs.Common.{arith}
-use Rattle.std.proofs.lemmas.Grind.{common_steps}
+use Rattle.line_geometry.proofs.Common.{arith, common_steps}
 use Rattle.line_geometry.proofs.directory.+fault_behind.Goals as goal
 
 pub returns-else-pages-first-gt1024 : goal.returns-else-pages-first-gt1024

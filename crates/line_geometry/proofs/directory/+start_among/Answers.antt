@@ -1,5 +1,4 @@
-use Rattle.std.proofs.Common.{arith}
-use Rattle.std.proofs.lemmas.Grind.{common_steps}
+use Rattle.line_geometry.proofs.Common.{arith, common_steps}
 use Rattle.line_geometry.proofs.directory.+start_among.Goals as goal
 
 pub overflow_add-result : goal.overflow_add-result

@@ -1,5 +1,4 @@
-use Rattle.std.proofs.Common.{arith}
-use Rattle.std.proofs.lemmas.Grind.{common_steps}
+use Rattle.line_locks.proofs.Common.{arith, common_steps}
 use Rattle.line_locks.proofs.seat.clear.Goals as goal
 
 pub loop-page-preserved : goal.loop-page-preserved

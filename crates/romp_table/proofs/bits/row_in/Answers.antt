@@ -1,5 +1,4 @@
-use Rattle.std.proofs.lemmas.Grind.{elements}
-use Rattle.std.proofs.Common.{arith}
+use Rattle.romp_table.proofs.Common.{elements, arith}
 use Rattle.romp_table.proofs.bits.row_in.Goals as goal
 
 pub returns : goal.returns

@@ -1,4 +1,4 @@
-use Rattle.store_calls.proofs.Common.{◌≡◌, ◌*◌, ◌+◌, ◌++◌, ℕ, List, sym, ◌∙◌, ap, arith, Layout, page_count, page_bytes, byte_count-pages, held_of, Standing, stands, Header, page_in, bytes_in, held_same, shows_asks, shows_none, shows_on}
+use Rattle.store_calls.proofs.Common.{◌≡◌, ◌*◌, ◌+◌, ◌++◌, ℕ, List, sym, ◌∙◌, ap, arith, Layout, page_count, page_bytes, byte_count_pages, held_of, Standing, stands, Header, page_in, bytes_in, held_same, shows_asks, shows_none, shows_on}
 use Rattle.store_calls.proofs.ShowLemmas.{bytes_on, has_pages, none_in, page_whole, still_shown}
 use Rattle.store_calls.proofs.kept.all_bytes.Goals as goal
 
@@ -47,4 +47,4 @@ returns-clause-read g c = λ told.
     let same = c.directory-directory.ensures.value ∙ ap (λ (header : Header). header.directory) c.header.ensures in
     let count : c.loop-number.number ≡ page_count directory = omega (arith, c.loop-number.auto.number-end, c.loop-number-test.false, c.pages-number-end.ensures.value, ap page_count same) in
     c.loop-number.invariant.read told
-    ∙ ap (bytes_in (stands (held_of g.W.Outside c.args.outside.now)) 0) (ap (λ n. n * page_bytes directory.page) count ∙ sym (byte_count-pages directory))
+    ∙ ap (bytes_in (stands (held_of g.W.Outside c.args.outside.now)) 0) (ap (λ n. n * page_bytes directory.page) count ∙ sym (byte_count_pages directory))

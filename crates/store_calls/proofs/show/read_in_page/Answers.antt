@@ -1,11 +1,11 @@
-use Rattle.store_calls.proofs.Common.{◌≡◌, ◌<◌, ◌+◌, ◌-◌, ◌*◌, ◌%◌, ◌/◌, List, ℕ, length, take, drop, sym, ap, subst, ◌∙◌, arith, PageSize, Two, Four, page_bytes, Layout, byte_count, page_count, byte_count-pages, held_of, Header, stands, page_in}
+use Rattle.store_calls.proofs.Common.{◌≡◌, ◌<◌, ◌+◌, ◌-◌, ◌*◌, ◌%◌, ◌/◌, List, ℕ, length, take, drop, sym, ap, subst, ◌∙◌, arith, PageSize, Two, Four, page_bytes, Layout, byte_count, page_count, byte_count_pages, held_of, Header, stands, page_in}
 use Rattle.line_geometry.specs.Lines.{page_of}
 use Rattle.store_calls.proofs.ShowLemmas.{has_pages, in_page}
 use Rattle.store_calls.proofs.show.read_in_page.Goals as goal
 
 -- the page of a place of the store
 page-below : (directory : Layout) (place : ℕ) → place < byte_count directory → page_of directory place < page_count directory
-page-below directory place below = by_size directory.page (omega (arith, below, byte_count-pages directory))
+page-below directory place below = by_size directory.page (omega (arith, below, byte_count_pages directory))
   where
     by_size : (size : PageSize) → place < page_count directory * page_bytes size → place / page_bytes size < page_count directory
     by_size Two less = omega (arith, less)

@@ -1,5 +1,4 @@
-use Rattle.std.proofs.Common.{◌≡◌, ◌+◌, ◌*◌, ◌++◌, take, vec_len}
-use Rattle.store_format.specs.Header.{segment_bytes}
+use Rattle.store_format.proofs.Common.{◌≡◌, ◌+◌, ◌*◌, ◌++◌, take, vec_len, segment_bytes}
 use Rattle.store_format.proofs.header.write_segments.Given as goal
 
 -- so many entries are added

@@ -1,6 +1,4 @@
-use Rattle.std.proofs.lemmas.Grind.{common_steps}
-use Rattle.std.proofs.Common.{arith}
-use Rattle.store_format.proofs.Common.{◌≡◌, ℕ, [], ◌∙◌, sym, ap, subst, length, List, take, drop, Option, IsSome, unwrap_or, min, held_of}
+use Rattle.store_format.proofs.Common.{◌≡◌, ℕ, [], ◌∙◌, sym, ap, subst, length, List, take, drop, Option, IsSome, unwrap_or, min, held_of, common_steps, arith}
 use Rattle.store_format.proofs.Padded.{padded_is, read_is, number_is}
 use Rattle.store_format.proofs.read.read_head.Goals as goal
 

@@ -1,6 +1,4 @@
-use Rattle.std.proofs.lemmas.Grind.{common_steps}
-use Rattle.std.proofs.Common.{arith, refl, sym}
-use Rattle.std.proofs.lemmas.Bool.Decides.{nat_tests}
+use Rattle.line_geometry.proofs.Common.{common_steps, arith, refl, sym, nat_tests}
 use Rattle.line_geometry.proofs.Legal.{legal-none, fault-not_legal}
 use Rattle.line_geometry.proofs.Kept.{kept-filled}
 use Rattle.line_geometry.proofs.directory.Directory.new.Goals as goal

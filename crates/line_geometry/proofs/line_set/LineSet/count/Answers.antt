@@ -1,6 +1,6 @@
 use Rattle.std.proofs.Common.{ℕ, length, List, ◌∙◌, ap, arith}
 use Rattle.line_geometry.specs.LineBits.{is_on}
-use Rattle.line_geometry.proofs.LineSetLemmas.{count-bits, few-lines, of_page-where}
+use Rattle.line_geometry.proofs.LineSetLemmas.{count-bits, few-lines, of_page_where}
 use Rattle.line_geometry.proofs.line_set.LineSet.count.Goals as goal
 
 pub returns-clause-value : goal.returns-clause-value
@@ -10,4 +10,4 @@ pub returns-clause-small : goal.returns-clause-small
 returns-clause-small c = omega (arith, count-bits c.self.inside.0 c.self.invariant, few-lines (is_on c.self.inside.0))
 
 pub returns-clause-of_page : goal.returns-clause-of_page
-returns-clause-of_page c = rw c.self.view_is at (of_page-where (is_on c.self.inside.0))
+returns-clause-of_page c = rw c.self.view_is at (of_page_where (is_on c.self.inside.0))

@@ -1,5 +1,4 @@
-use Rattle.std.proofs.Common.{arith}
-use Rattle.std.proofs.lemmas.Grind.{common_steps}
+use Rattle.line_locks.proofs.Common.{arith, common_steps}
 use Rattle.line_locks.proofs.locks.Locks.release.Goals as goal
 
 pub invariant_of-self : goal.invariant_of-self

@@ -1,5 +1,4 @@
-use Rattle.std.proofs.lemmas.Grind.{common_steps}
-use Rattle.seats.proofs.Common.{option_map, take_more, map-append, ArrayVec, waits_in, Seating, number_in, seat_waits, seat_at, cycle_of}
+use Rattle.seats.proofs.Common.{take_more, map-append, waits_in, Seating, number_in, seat_waits, seat_at, cycle_of, nat_tests, common_steps}
 use Rattle.std.proofs.Common.{◌≡◌, ◌<◌, ℕ, List, [], ◌∷◌, ◌++◌, Some, map, take, length, get_or, take_all, arith, ap, sym, subst, ◌∙◌}
 use Rattle.seats.proofs.Kept.{has-at}
 use Rattle.seats.proofs.Places.{cycle-numbered, cycle-none, member-below}
@@ -12,12 +11,7 @@ AreRows seating rows =
     × ((from to : ℕ) → from < length seating.taken → to < length seating.taken → waits_in rows from to ≡ seat_waits seating (seat_at seating from) (seat_at seating to))
 
 pub returns-in_err-places : goal.returns-in_err-places
-returns-in_err-places c =
-    let seating = c.args.self.now in
-    let are : AreRows seating c.deref.result.now = subst (AreRows seating) (sym c.deref.ensures.0) (c.rows_of_waits.ensures.long, c.rows_of_waits.ensures.rows) in
-    ap (option_map (λ (cycle : ArrayVec ℕ). cycle.items)) c.from_residual.ensures
-    ∙ sym (cycle-none seating c.taken-taken.ensures.sound c.deref.result.now are.0 are.1 c.place_of.result c.place_of.ensures.within (sym c.in_err-places.ensures))
-    ∙ ap (cycle_of seating) c.place_of.ensures.there
+returns-in_err-places c = grind (arith, nat_tests, cycle-none)
 
 pub bounds-taken-from : goal.bounds-taken-from
 bounds-taken-from c =

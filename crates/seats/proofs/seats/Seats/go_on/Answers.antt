@@ -1,5 +1,4 @@
-use Rattle.std.proofs.Common.{arith}
-use Rattle.std.proofs.lemmas.Grind.{common_steps}
+use Rattle.seats.proofs.Common.{arith, common_steps}
 use Rattle.seats.proofs.seats.Seats.go_on.Goals as goal
 
 pub overflow_add-who : goal.overflow_add-who

@@ -1,14 +1,11 @@
-use Rattle.seats.proofs.Common.{ArrayVec, map-append, filter_more, Holding, is_in_conflict, number_in}
+use Rattle.seats.proofs.Common.{ArrayVec, map-append, filter_more, Holding, is_in_conflict, number_in, nat_tests}
 use Rattle.std.proofs.Common.{◌≡◌, ◌+◌, ◌<◌, ℕ, Bool, true, false, cond, List, [], ◌∷◌, ◌++◌, length, map, filter, take, get_or, append-nil, arith, ap, sym, ◌∙◌}
 use Rattle.seats.proofs.Kept.{few-taken}
 use Rattle.seats.proofs.seats.Seats.holders.Goals as goal
 use Rattle.seats.proofs.seats.Seats.holders.Goals.{then-is_in_conflict, else-is_in_conflict}
 
 pub push-requires : goal.push-requires
-push-requires c =
-    let few = few-taken c.args.self.now c.taken-other-items.ensures.sound in
-    let same : length c.taken-other-items.result.now ≡ length c.args.self.now.taken = ap length c.taken-other-items.ensures.taken in
-    (omega arith, omega (arith, few, same, c.loop-other.invariant.long, c.loop-other-test.true))
+push-requires c = grind (arith, nat_tests, few-taken)
 
 -- one more is looked at
 one-more : (p : ℕ → Bool) (number : ℕ → ℕ) (seats : List ℕ) (k : ℕ) (here : Bool) → k < length seats → p (get_or seats k 0) ≡ here

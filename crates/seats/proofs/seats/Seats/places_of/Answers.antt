@@ -1,19 +1,13 @@
-use Rattle.seats.proofs.Common.{◌≡◌, ◌<◌, ℕ, Bool, length, get_or, arith, ap, sym, ◌∙◌, is_on, marked, unmarked}
+use Rattle.seats.proofs.Common.{◌≡◌, ◌<◌, ℕ, Bool, length, get_or, arith, ap, sym, ◌∙◌, is_on, marked, unmarked, nat_tests}
 use Rattle.seats.proofs.Kept.{few-taken}
 use Rattle.seats.proofs.seats.Seats.places_of.Goals as goal
 use Rattle.seats.proofs.seats.Seats.places_of.Goals.{then-is_on, else-is_on}
 
 pub overflow_cast-places : goal.overflow_cast-places
-overflow_cast-places c =
-    let few = few-taken c.args.self.now c.taken-seat-items.ensures.sound in
-    let same : length c.taken-seat-items.result.now ≡ length c.args.self.now.taken = ap length c.taken-seat-items.ensures.taken in
-    omega (arith, few, same, c.loop-place-test.true)
+overflow_cast-places c = grind (arith, nat_tests, few-taken)
 
 pub overflow_shl-places : goal.overflow_shl-places
-overflow_shl-places c =
-    let few = few-taken c.args.self.now c.taken-seat-items.ensures.sound in
-    let same : length c.taken-seat-items.result.now ≡ length c.args.self.now.taken = ap length c.taken-seat-items.ensures.taken in
-    omega (arith, few, same, c.loop-place-test.true)
+overflow_shl-places c = grind (arith, nat_tests, few-taken)
 
 pub loop-place-preserved : goal.loop-place-preserved
 loop-place-preserved c =

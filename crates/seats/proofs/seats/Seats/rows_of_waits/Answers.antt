@@ -1,13 +1,10 @@
-use Rattle.seats.proofs.Common.{cases_lt, lt-ltb, get_or_append_left, get_or_push, is_on, waits_in, seat_waits, seat_at}
+use Rattle.seats.proofs.Common.{cases_lt, lt-ltb, get_or_append_left, get_or_push, is_on, waits_in, seat_waits, seat_at, nat_tests}
 use Rattle.std.proofs.Common.{◌≡◌, ◌&&◌, ℕ, Bool, List, [], ◌∷◌, length, get_or, arith, ap, inl, inr, ◌∙◌}
 use Rattle.seats.proofs.Kept.{few-taken}
 use Rattle.seats.proofs.seats.Seats.rows_of_waits.Goals as goal
 
 pub push-requires : goal.push-requires
-push-requires c =
-    let few = few-taken c.args.self.now c.taken-seat-items.ensures.sound in
-    let same : length c.taken-seat-items.result.now ≡ length c.args.self.now.taken = ap length c.taken-seat-items.ensures.taken in
-    (omega arith, omega (arith, few, same, c.loop-seat.invariant.long, c.loop-seat-test.true))
+push-requires c = grind (arith, nat_tests, few-taken)
 
 pub loop-seat-preserved : goal.loop-seat-preserved
 loop-seat-preserved c =

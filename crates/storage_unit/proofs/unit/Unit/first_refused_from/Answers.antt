@@ -1,11 +1,11 @@
 use Rattle.storage_unit.proofs.Common.{◌+◌, ◌%◌, sym, ◌∙◌, ap, arith, inl, inr, cases_lt, line_bytes, line_of, is_refused, reach_of, nat_tests}
-use Rattle.line_geometry.proofs.Legal.{legal-bytes}
+use Rattle.line_geometry.proofs.Legal.{legal_bytes}
 use Rattle.storage_unit.proofs.FindLemmas.{none-found, first-found}
 use Rattle.storage_unit.proofs.ProbeLemmas.{same-line}
 use Rattle.storage_unit.proofs.unit.Unit.first_refused_from.Goals as goal
 
 pub overflow_add-here : goal.overflow_add-here
-overflow_add-here c = grind (arith, nat_tests, legal-bytes)
+overflow_add-here c = grind (arith, nat_tests, legal_bytes)
 
 pub returns-then-is_refused : goal.returns-then-is_refused
 returns-then-is_refused c =

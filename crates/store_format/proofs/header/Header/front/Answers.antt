@@ -1,7 +1,6 @@
-use Rattle.store_format.proofs.Common.{◌≡◌, ℕ, ◌-◌, ◌+◌, ◌*◌, List, ◌++◌, replicate, arith, vec_len, big_bytes, Header, header_bytes, front}
+use Rattle.store_format.proofs.Common.{◌≡◌, ℕ, ◌-◌, ◌+◌, ◌*◌, List, ◌++◌, replicate, arith, big_bytes, Header, header_bytes, front, nat_tests}
 use Rattle.store_format.proofs.Fresh.{stored_stands}
 use Rattle.store_format.proofs.header.Header.front.Goals as goal
-use Rattle.std.proofs.lemmas.Bool.Decides.{nat_tests}
 
 -- the header, zeros up to the bank, its base and zeros up to the home lines
 pieces : (header : Header) (number first last : ℕ) (head one two three base : List ℕ) → head ≡ header_bytes header → one ≡ head ++ replicate first 0 → base ≡ big_bytes 8 number → two ≡ one ++ base
@@ -9,14 +8,7 @@ pieces : (header : Header) (number first last : ℕ) (head one two three base : 
 pieces header number first last head one two three base is begins says goes ends early late = grind (arith, nat_tests, ends, says, begins)
 
 pub returns-clause-bytes : goal.returns-clause-bytes
-returns-clause-bytes c =
-    let header = c.args.self.now in
-    let wrote = c.in_ok-write_header.ensures in
-    let first = 256 - vec_len c.write_header.new.image in
-    let last = c.home_at.result - vec_len c.extend_from_slice.new.self in
-    pieces header c.args.number first last c.write_header.new.image.items c.add_zeros.new.image.items c.extend_from_slice.new.self.items c.add_zeros-2.new.image.items c.long.result wrote.bytes c.in_ok-add_zeros.ensures.bytes c.long.ensures
-    c.in_ok-extend_from_slice.ensures.items c.in_ok-add_zeros-2.ensures.bytes
-    (omega (arith, wrote.len)) (omega (arith, c.home_at.ensures.value, c.in_ok-extend_from_slice.ensures.len, c.in_ok-add_zeros.ensures.len))
+returns-clause-bytes c = grind (arith, nat_tests)
 
 pub returns-clause-stands : goal.returns-clause-stands
 returns-clause-stands c = λ bytes whole.

@@ -1,5 +1,4 @@
-use Rattle.std.proofs.lemmas.Grind.{common_steps}
-use Rattle.std.proofs.Common.{arith}
+use Rattle.store_format.proofs.Common.{common_steps, arith}
 use Rattle.store_format.proofs.header.Header.write_header.Goals as goal
 
 pub returns-clause-ranges : goal.returns-clause-ranges

@@ -1,6 +1,0 @@
-use Rattle.std.proofs.lemmas.Grind.{common_steps}
-use Rattle.std.proofs.Common.{arith}
-use Rattle.store_format.proofs.header.write_segments.Goals as goal
-
-pub loop-segment-preserved : goal.loop-segment-preserved
-loop-segment-preserved c = grind (arith, common_steps)
