@@ -194,13 +194,13 @@ module _ {W : Type 0} (G : Ghosts W) (left : Option (List ℕ)) (outside : W) wh
       on_store held is means status.NoMemory did of disk put = inr refl
       on_store held is means status.DiskFault did of disk put = absurd (disk refl)
       on_store held is means status.PutFault did of disk put = absurd (put refl)
-      on_store held is means (status.Store offset) did of disk put = absurd (no_fault offset can.stood (did.1 can.told))
+      on_store held is means (status.Store offset) did of disk put = absurd (no_fault offset can.stood (did can.told))
       on_store held is means (status.Stream place kind) did of disk put =
-          let why = did.2 can.told in
+          let why = did.1 can.told in
           let (alike, among, few) = can.follows held is means why.store why.shows in
           absurd (⊎_elim (λ other. other.2 alike) (λ long. none_long (most_lines why.store.header) long.3.0 (due held (number_of why.store)) few long.3.2) why.due_on)
       on_store held is means (status.NotKept first last) did of disk put =
-          let why = did.1 can.told in
+          let why = did can.told in
           let (alike, among, few) = can.follows held is means why.store why.shows in
           absurd (why.due_on.3 among)
       on_store held is means _ did of disk put = absurd did

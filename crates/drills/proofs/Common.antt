@@ -6,14 +6,14 @@ pub use Rattle.std.specs.List.{AllZip, starts_with}
 pub use Rattle.std.specs.Prelude.{All, Err, IfOk, IsSome, Ok, OnOk, Result, Vec, codes, count_by, if◌then◌else◌, min, nat_eq, nat_lt, not, unwrap_or, ◌==◌, ◌^◌, ◌↔◌}
 pub use Rattle.arrayvec.specs.ArrayVec.{ArrayVec}
 pub use Rattle.call_status.specs.Call.{Given, call, given}
-pub use Rattle.call_status.specs.Opening.{IsStanding, StandsAt}
+pub use Rattle.call_status.specs.Opening.{IsStanding, StandsAt, TellsStore}
 pub use Rattle.call_status.specs.declared.status.Status.{Status}
 pub use Rattle.desk.specs.Answers.{order_told}
 pub use Rattle.desk.specs.Seen.{commits_seen, whole_lines}
 pub use Rattle.desk.specs.declared.answers.Committed.{Committed}
 pub use Rattle.desk.specs.declared.event.Event.{Event}
 pub use Rattle.flat_machine.specs.declared.machine.Program.{Program}
-pub use Rattle.job_calls.specs.Headline.{ByOpening, DidBy, FoundNoStore, HappenedTo, JobHasRun, HasRunFrom, StoodForNone, TellsStore, Untouched, job_desk, names_of}
+pub use Rattle.job_calls.specs.Headline.{ByOpening, DidBy, FoundNoStore, HappenedTo, JobHasRun, HasRunFrom, StoodForNone, Untouched, job_desk, names_of}
 pub use Rattle.job_text.specs.declared.job.Job.{Job}
 pub use Rattle.line_geometry.specs.FlatStore.{FlatStore}
 pub use Rattle.listing.proofs.PutsLemmas.{puts_on, puts_same, puts_stop, times_on}

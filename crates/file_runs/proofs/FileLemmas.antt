@@ -16,7 +16,7 @@ use Rattle.desk.specs.Commits.{begun, IsSerial}
 use Rattle.run_law.specs.Headline.{IsPrefix}
 use Rattle.run_law.proofs.HeadlineLemmas.{start_is_prefix}
 use Rattle.call_status.specs.Call.{Given, call}
-use Rattle.call_status.specs.Opening.{IsFaultAt}
+use Rattle.call_status.specs.Opening.{IsFaultAt, TellsStore}
 use Rattle.call_status.specs.Printed.{PrintsBy}
 use Rattle.call_status.specs.declared.status.Status.{Status}
 use Rattle.call_status.specs.declared.status.Status.TheVariants as status
@@ -29,7 +29,7 @@ use Rattle.desk.specs.Lines.{Line}
 use Rattle.outside.specs.Bytes.{AreTold, Prints}
 use Rattle.outside.specs.declared.failed.Failed.{Failed}
 use Rattle.outside.specs.Runs.{held_of}
-use Rattle.job_calls.specs.Headline.{Happened, RanJob, Refused, TellsStore, job_desk, names_of}
+use Rattle.job_calls.specs.Headline.{Happened, RanJob, Refused, job_desk, names_of}
 use Rattle.real_files.specs.Deeds.{Deed, Wrote, Tore, Synced, Unsynced, images_after, images_at, images_by, is_write}
 use Rattle.real_files.specs.Shown.{bytes_of, printed_of, marks_of}
 use Rattle.file_runs.specs.FileRun.{AreBehind, Hands, IsBehind, IsQuiet, IsSeenAt, KeepsFile, LeavesAlways, LeavesAt, LeavesLast, OnlyAsked, RanOnFile, RanOnScreen, RunsFrom, RunsOnFile, begun_by}

@@ -4,7 +4,7 @@ pub use Rattle.std.proofs.lemmas.List.{length-map}
 pub use Rattle.std.proofs.lemmas.List.Sums.{count_by-le-length}
 pub use Rattle.std.specs.Prelude.{Err, IsErr, IsSome, IsTrue, Ok, Result, map, unwrap_or}
 pub use Rattle.call_status.specs.Call.{Call, Given, call, given}
-pub use Rattle.call_status.specs.Opening.{IsStanding}
+pub use Rattle.call_status.specs.Opening.{IsOfStart, IsStanding, TellsStore}
 pub use Rattle.call_status.specs.declared.status.Status.{Status}
 pub use Rattle.desk.specs.Answers.{order_told}
 pub use Rattle.desk.specs.Calls.{Fixed}
@@ -46,4 +46,4 @@ pub use Rattle.supervisor.specs.contracts.supervisor.SessionSupervisor.TheImpl.{
 pub use Rattle.supervisor.specs.declared.session.Session.{Session}
 pub use Rattle.job_calls.specs.Big.{HasBigRun, IsToldBy, Loaded, LoadedBy, RanBig, big_line, last_out, line_for}
 pub use Rattle.job_calls.specs.Causes.{OpensBy, status_of_replay}
-pub use Rattle.job_calls.specs.Headline.{DidBy, DoubtStands, Happened, HappenedTo, IsOfStart, JobHasRun, HasRunFrom, RanJob, RunsFrom, TellsStore, job_desk, names_of, put_by}
+pub use Rattle.job_calls.specs.Headline.{DidBy, DoubtStands, Happened, HappenedTo, JobHasRun, HasRunFrom, RanJob, RunsFrom, job_desk, names_of, put_by}

@@ -20,7 +20,8 @@ use Rattle.call_status.specs.declared.status.Status.TheVariants as status
 use Rattle.call_status.specs.Statuses.{IsPastOpening}
 use Rattle.job_calls.specs.Causes.{OpensBy}
 use Rattle.job_calls.specs.Handed.{HandedRuns}
-use Rattle.job_calls.specs.Headline.{ByOpening, FoundNoStore, Refused, RunsFrom, TellsStore, Untouched}
+use Rattle.job_calls.specs.Headline.{ByOpening, FoundNoStore, Refused, RunsFrom, Untouched}
+use Rattle.call_status.specs.Opening.{TellsStore}
 use Rattle.call_status.specs.Printed.{put_of, PutsOnce, PrintsBy}
 
 -- the line of a load: its transfers, how many commits and rollbacks its run had, and what the last commit printed

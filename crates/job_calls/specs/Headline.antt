@@ -1,8 +1,8 @@
 -- What a call of the console did: the run of the desk that its report tells of and what a crash leaves of it, or nothing.
-use Rattle.std.specs.Prelude.{◌≡◌, ◌⊎◌, ℕ, ◌+◌, ◌%◌, ◌^◌, true, false, List, [], ◌∷◌, ◌++◌, length, map, take, slice_set, Option, None, Some, IsSome, IsTrue, Result, Ok, Err}
+use Rattle.std.specs.Prelude.{◌≡◌, ◌⊎◌, ℕ, ◌+◌, ◌%◌, ◌^◌, true, false, List, [], ◌∷◌, ◌++◌, length, map, take, slice_set, Option, None, Some, IsSome, Result, Ok, Err}
 use Rattle.outside.specs.declared.world.Outside.{Ghosts}
 use Rattle.outside.specs.declared.failed.Failed.{Failed}
-use Rattle.outside.specs.Bytes.{AreTold, Prints}
+use Rattle.outside.specs.Bytes.{Prints}
 use Rattle.outside.specs.Causes.{Rose}
 use Rattle.outside.specs.Moments.{Elapses}
 use Rattle.outside.specs.Runs.{OnlyAsks, Leaves, held_of}
@@ -30,7 +30,7 @@ use Rattle.call_status.specs.Call.{Call, Given}
 use Rattle.call_status.specs.declared.status.Status.{Status}
 use Rattle.call_status.specs.declared.status.Status.TheVariants as status
 use Rattle.call_status.specs.SourceText.{IsWhole}
-use Rattle.call_status.specs.Opening.{IsFaultAt}
+use Rattle.call_status.specs.Opening.{IsFaultAt, IsOfStart, TellsStore}
 use Rattle.job_calls.specs.Handed.{HandedRuns}
 
 -- the names of a job's programs
@@ -41,16 +41,6 @@ names_of job = map (λ name. name.items) job.names.items
 -- record may have the lines that the bytes' header has room for.
 abbrev pub job_desk : Job → List ℕ → FlatStore → Desk
 job_desk job held store = opened job.frames 16 (most_lines (header_of (take 128 held))) store
-
--- An honest disk tells its bytes, and they stand for this number and this store.
-pub record TellsStore {W : Type 0} (G : Ghosts W) (outside : W) (number : ℕ) (store : FlatStore) : Type 0 where
-  pub honest : IsTrue (G.is_honest outside)
-  pub told : IsSome (G.held outside)
-  pub stood : stands (held_of G outside) ≡ Stands number store
-
--- the image is one that a crash leaves at the start, and nothing was printed since
-abbrev pub IsOfStart : {W : Type 0} → Ghosts W → W → (image seen : List ℕ) → Type 0
-IsOfStart G start image seen = G.left_since start (G.moment start) image seen × AreTold (G.printed start) seen
 
 -- how the report was put, by the status
 abbrev pub put_by : Status → Result ℕ Failed → Type 0

@@ -1,7 +1,7 @@
 -- A call over an opening that follows a text.
 use Rattle.std.proofs.Common.{◌≡◌, inl, inr, ℕ, ◌+◌, ◌-◌, ◌^◌, ◌<◌, ◌≤◌, List, [], ◌++◌, length, refl, sym, ◌∙◌, ap, subst, arith, append-nil, IsSome, IsTrue}
 use Rattle.std.proofs.lemmas.Option.{IfSome_then}
-use Rattle.std.specs.Prelude.{Option, Result, unwrap_or}
+use Rattle.std.specs.Prelude.{◌⊎◌, Option, Result, unwrap_or}
 use Rattle.std.proofs.lemmas.List.{take_all, length-drop}
 use Rattle.line_geometry.specs.FlatStore.{FlatStore}
 use Rattle.store_format.specs.Header.{Header}
@@ -28,7 +28,7 @@ use Rattle.standby.specs.declared.following.Followed.TheVariants.{Done, DiskFaul
 use Rattle.standby.proofs.PutLemmas.{PrintedNow}
 use Rattle.standby.proofs.TellLemmas.{at_some, told_front}
 use Rattle.call_status.specs.Call.{call}
-use Rattle.call_status.specs.Opening.{StandsAt}
+use Rattle.call_status.specs.Opening.{IsOfStart, TellsStore}
 use Rattle.call_status.specs.Statuses.{status_of_open}
 use Rattle.call_status.specs.declared.status.Status.{Status}
 use Rattle.standby_calls.specs.Followed.{FollowsOn, HasFollowed, OnStore}
@@ -52,29 +52,16 @@ last_is content number start few among =
     moved start number all less few le = omega (arith, less, few, le)
 
 module _ {W : Type 0} (G : Ghosts W) (fewer_later : FewerLater G) (printed_now : PrintedNow G) (content : Content) (before mid : W) (asks : OnlyAsks G before mid) where
-  small : (number : ℕ) (store : FlatStore) → StandsAt G before number store → number < 2 ^ 64
-  small number store at = (stood_header (held_of G before) number store at.stood).2
-
-  -- a crash in the opening leaves the store at the number
-  opening_stood : (number : ℕ) (store : FlatStore) → StandsAt G before number store → Leaves G (λ image seen. stands image ≡ Stands (later number 0) store) before mid
-  opening_stood number store at image seen left =
-      let number_is : later number 0 ≡ number = omega (arith, small number store at) in
-      at.images image seen (asks.crash at.told image seen left) ∙ ap (λ (n : ℕ). Stands n store) (sym number_is)
-
-  opening_crash : (number : ℕ) (store : FlatStore) → StandsAt G before number store → Leaves G (IsAtNumber content.line_bytes number store (due content number) (G.printed before)) before mid
-  opening_crash number store at image seen left =
-      let since = asks.crash at.told image seen left in
-      at_some content.line_bytes number store (due content number) (G.printed before) 0 image seen (omega arith) (opening_stood number store at image seen left)
-      (IfSome_then (G.printed before) (printed_now before image seen since) (λ shown same. same ∙ sym (append-nil shown)))
+  -- a crash in the opening leaves an image of the start
+  opening_crash : IsSome (G.held before) → Leaves G (IsOfStart G before) before mid
+  opening_crash told image seen left = let since = asks.crash told image seen left in (since, printed_now before image seen since)
 
   -- the disk failed in the opening
   unopened : FollowsOn G content before mid status.DiskFault
   unopened number store at = record {
-    crash = opening_crash number store at;
+    crash = λ image seen left. inl (opening_crash at.told image seen left);
     printed = prints_unput (G.printed before) (G.printed mid) (followed_text number (length (due content number))) broken refl asks.calls.quiet.same;
-    ends =
-        let none = subst (λ (these : Option (List ℕ)). Prints (G.printed before) these [] well) (sym asks.calls.quiet.same) (prints_none (G.printed before) tt) in
-        (record { count = 0; printed = none; left = λ image seen left. (0, omega arith, omega arith, opening_stood number store at image seen (fewer_later mid (G.moment before) (G.moment mid) image seen asks.calls.time.later left)) }, inr asks);
+    ends = inr asks;
   }
 
   -- the store isn't opened
@@ -82,10 +69,10 @@ module _ {W : Type 0} (G : Ghosts W) (fewer_later : FewerLater G) (printed_now :
   not_opened fault now is why = subst (OnStore G content before mid) (sym is) (by fault why)
     where
       by : (fault : OpenFault) → IsStoreOpenFault G before mid fault → OnStore G content before mid (status_of_open fault)
-      by (open_fault.NotAStore offset) why = (asks, λ told. inl (why told))
-      by (open_fault.Damaged offset) why = (asks, λ told. inr (why told))
+      by (open_fault.NotAStore offset) why = λ told. inl (why told)
+      by (open_fault.Damaged offset) why = λ told. inr (why told)
       by open_fault.DiskFault why = (inl asks, unopened)
-      by open_fault.Memory why = asks
+      by open_fault.Memory why = tt
 
   module _ (durable kept : KeptStore) (shows : IsSome (G.held before) → Shows (held_of G before) durable) (tracks : IsTrue (G.is_honest before) → IsSome (G.held before) → TracksStore G durable mid)
       (after : W) (time : Elapses G.moment G.left_since mid after) where
@@ -93,33 +80,34 @@ module _ {W : Type 0} (G : Ghosts W) (fewer_later : FewerLater G) (printed_now :
     abbrev Goes : Followed → Type 0
     Goes how = (store : FlatStore) → TracksStore G durable mid → stands (held_of G mid) ≡ Stands (number_of durable) store → Follows G content.line_bytes (number_of durable) store (due content (number_of durable)) kept mid after how
 
-    number_is : (number : ℕ) (store : FlatStore) → StandsAt G before number store → number ≡ number_of durable
+    number_is : (number : ℕ) (store : FlatStore) → TellsStore G before number store → number ≡ number_of durable
     number_is number store at =
         let shown = shown_stands (held_of G before) durable (shows at.told) in
         let same : Stands number store ≡ Stands (number_of durable) shown.0 = sym at.stood ∙ shown.1 in
         cc
 
     -- of the number that stood
-    from_number : (now : Status) → ((store : FlatStore) → StandsAt G before (number_of durable) store → HasFollowed G content (number_of durable) store (call before after [] now)) → FollowsOn G content before after now
+    from_number : (now : Status) → ((store : FlatStore) → TellsStore G before (number_of durable) store → HasFollowed G content (number_of durable) store (call before after [] now)) → FollowsOn G content before after now
     from_number now has number store at =
         let same = number_is number store at in
-        subst (λ (n : ℕ). HasFollowed G content n store (call before after [] now)) (sym same) (has store (subst (λ (n : ℕ). StandsAt G before n store) same at))
+        subst (λ (n : ℕ). HasFollowed G content n store (call before after [] now)) (sym same) (has store (subst (λ (n : ℕ). TellsStore G before n store) same at))
 
-    goes_from : (how : Followed) → Goes how → (store : FlatStore) → StandsAt G before (number_of durable) store → Follows G content.line_bytes (number_of durable) store (due content (number_of durable)) kept mid after how
+    goes_from : (how : Followed) → Goes how → (store : FlatStore) → TellsStore G before (number_of durable) store → Follows G content.line_bytes (number_of durable) store (due content (number_of durable)) kept mid after how
     goes_from how goes store at =
         let same : held_of G mid ≡ held_of G before = ap (λ (these : Option (List ℕ)). unwrap_or these []) asks.held in
         goes store (tracks at.honest at.told) (ap stands same ∙ at.stood)
 
     -- a crash since the opening began
-    crash_since : (how : Followed) → Goes how → (store : FlatStore) → StandsAt G before (number_of durable) store
-        → Leaves G (IsAtNumber content.line_bytes (number_of durable) store (due content (number_of durable)) (G.printed before)) before after
+    crash_since : (how : Followed) → Goes how → (store : FlatStore) → TellsStore G before (number_of durable) store
+        → Leaves G (λ image seen. IsOfStart G before image seen ⊎ IsAtNumber content.line_bytes (number_of durable) store (due content (number_of durable)) (G.printed before) image seen) before after
     crash_since how goes store at =
         let printed : G.printed mid ≡ G.printed before = asks.calls.quiet.same in
-        leaves_on G fewer_later before mid after asks.calls.time time (IsAtNumber content.line_bytes (number_of durable) store (due content (number_of durable)) (G.printed before))
-        (opening_crash (number_of durable) store at)
+        leaves_on G fewer_later before mid after asks.calls.time time
+        (λ image seen. IsOfStart G before image seen ⊎ IsAtNumber content.line_bytes (number_of durable) store (due content (number_of durable)) (G.printed before) image seen)
+        (λ image seen left. inl (opening_crash at.told image seen left))
         (λ image seen left.
-        subst (λ (these : Option (List ℕ)). IsAtNumber content.line_bytes (number_of durable) store (due content (number_of durable)) these image seen) printed
-        ((goes_from how goes store at).crash image seen left))
+        inr (subst (λ (these : Option (List ℕ)). IsAtNumber content.line_bytes (number_of durable) store (due content (number_of durable)) these image seen) printed
+        ((goes_from how goes store at).crash image seen left)))
 
     -- the puts of the call are those behind the opening
     printed_since : (bytes : List ℕ) (result : Result (Unit {0}) _) → Prints (G.printed mid) (G.printed after) bytes result → Prints (G.printed before) (G.printed after) bytes result
@@ -143,7 +131,7 @@ module _ {W : Type 0} (G : Ghosts W) (fewer_later : FewerLater G) (printed_now :
             follows.ends.0.tracks.sure,
             follows.ends.0.stood
                 ∙ ap (λ (these : List (List ShipLine)). Stands (later number (length records)) (laid_by content.line_bytes store these)) (sym (take_all (length records) records (omega arith))),
-            last_is content number start (small number store at) among,
+            last_is content number start (stood_header (held_of G before) number store at.stood).2 among,
             record { store = durable; was = shows at.told; now = subst (λ (store : KeptStore). Shows (held_of G after) store) (kept_is header_is (bank_behind durable.bank records) bank_is) follows.ends.0.tracks.shows },
           );
         })
@@ -164,5 +152,5 @@ module _ {W : Type 0} (G : Ghosts W) (fewer_later : FewerLater G) (printed_now :
         record {
           crash = crash_since DiskFault goes store at;
           printed = prints_some (G.printed before) (G.printed after) (number_of durable) stops.0.count (length (due content (number_of durable))) stops.1 told;
-          ends = (record { count = stops.0.count; printed = told; left = stops.0.left }, inl stops.1);
+          ends = inl (record { count = stops.0.count; printed = told; left = stops.0.left }, stops.1);
         })

@@ -18,7 +18,7 @@ use Rattle.standby.specs.State.{IsAmong, IsFirstLong, due, state}
 use Rattle.standby.specs.Text.{Content, ShipLine, IsContent, IsTextOf, later, text_of}
 use Rattle.standby.specs.declared.text.Ship.{Ship}
 use Rattle.call_status.specs.Call.{Call, Given, call}
-use Rattle.call_status.specs.Opening.{IsFaultAt, StandsAt}
+use Rattle.call_status.specs.Opening.{IsFaultAt, IsOfStart, TellsStore}
 use Rattle.call_status.specs.Printed.{PrintsBy}
 use Rattle.call_status.specs.SourceText.{HasRead, IsWhole}
 use Rattle.call_status.specs.Statuses.{IsOfOpening}
@@ -33,8 +33,8 @@ pub record KeepsBank {W : Type 0} (G : Ghosts W) (records : List (List ShipLine)
 
 -- How it ended, by the status. Done: each line was put, by one put, the bytes are sure and stand for the text's last number, and the bank is that of
 -- the commits. PutFault: the bytes are sure and stand for the number of the start or one of the text's behind it. DiskFault: the whole lines of some of
--- the records are printed, and each image of the end stands for the last of these numbers, or for the one behind it; they are fewer than all, or the
--- disk was only asked.
+-- the records are printed, fewer than all, and each image of the end stands for the last of these numbers, or for the one behind it; or the disk was
+-- only asked.
 abbrev pub EndsOn : {W : Type 0} → Ghosts W → Content → ℕ → FlatStore → W → W → Status → Type 0
 EndsOn G content number store before after status.Done =
     CountsPuts G (length (due content number) + 1) before after × IsSure G after
@@ -43,20 +43,20 @@ EndsOn G content number store before after status.Done =
 EndsOn G content number store before after status.PutFault =
     (count : ℕ) × (count ≤ length (due content number)) × IsSure G after × (stands (held_of G after) ≡ Stands (later number count) (state content number store count))
 EndsOn G content number store before after status.DiskFault =
-    (at : StopsAt G content.line_bytes number store (due content number) before after) × ((at.count < length (due content number)) ⊎ OnlyAsks G before after)
+    ((at : StopsAt G content.line_bytes number store (due content number) before after) × (at.count < length (due content number))) ⊎ OnlyAsks G before after
 EndsOn G content number store before after _ = Unit {0}
 
--- Where the bytes and each image of the start stand for a number and a store: each image that a crash leaves since stands for the store at that
--- number or at one of the text's behind it, and where the bytes printed are told, not before a number whose whole `kept` line was seen, and at most
--- one behind the last such; the lines are printed, or a first part of them.
+-- Where the bytes stand for a number and a store: each image that a crash leaves since is one of the start with nothing printed since, or stands for
+-- the store at that number or at one of the text's behind it, and where the bytes printed are told, not before a number whose whole `kept` line was
+-- seen, and at most one behind the last such; the lines are printed, or a first part of them.
 pub record HasFollowed {W : Type 0} (G : Ghosts W) (content : Content) (number : ℕ) (store : FlatStore) (call : Call W) : Type 0 where
-  pub crash : Leaves G (IsAtNumber content.line_bytes number store (due content number) (G.printed call.before)) call.before call.after
+  pub crash : Leaves G (λ image seen. IsOfStart G call.before image seen ⊎ IsAtNumber content.line_bytes number store (due content number) (G.printed call.before) image seen) call.before call.after
   pub printed : PrintsBy (G.printed call.before) (G.printed call.after) (followed_text number (length (due content number))) call.status
   pub ends : EndsOn G content number store call.before call.after call.status
 
 -- what following did from a text with this content, on a store that stood
 abbrev pub FollowsOn : {W : Type 0} → Ghosts W → Content → W → W → Status → Type 0
-FollowsOn G content before after now = (number : ℕ) (store : FlatStore) → StandsAt G before number store → HasFollowed G content number store (call before after [] now)
+FollowsOn G content before after now = (number : ℕ) (store : FlatStore) → TellsStore G before number store → HasFollowed G content number store (call before after [] now)
 
 -- The store isn't alike; or its number isn't among the text's; or a record behind it, the first such, is too long; or the text is followed.
 abbrev pub IsDueOn : KeptStore → Content → Status → Type 0
@@ -73,13 +73,12 @@ pub record IsDue {W : Type 0} (G : Ghosts W) (content : Content) (before : W) (n
   pub shows : Shows (held_of G before) store
   pub due_on : IsDueOn store content now
 
--- what following a text with this content did, by the status; one that isn't to be followed leaves the disk, and so does a disk that fails in the
--- opening
+-- what following a text with this content did, by the status; a disk that fails in the opening was only asked
 abbrev pub OnStore : {W : Type 0} → Ghosts W → Content → W → W → Status → Type 0
-OnStore G content before after status.NoMemory = OnlyAsks G before after
-OnStore G content before after (status.Store offset) = OnlyAsks G before after × (IsSome (G.held before) → IsFaultAt (held_of G before) offset)
-OnStore G content before after (status.Stream place kind) = ((kind ≡ 2) ⊎ (kind ≡ 3)) × OnlyAsks G before after × (IsSome (G.held before) → IsDue G content before (status.Stream place kind))
-OnStore G content before after (status.NotKept first last) = OnlyAsks G before after × (IsSome (G.held before) → IsDue G content before (status.NotKept first last))
+OnStore G content before after status.NoMemory = Unit {0}
+OnStore G content before after (status.Store offset) = IsSome (G.held before) → IsFaultAt (held_of G before) offset
+OnStore G content before after (status.Stream place kind) = ((kind ≡ 2) ⊎ (kind ≡ 3)) × (IsSome (G.held before) → IsDue G content before (status.Stream place kind))
+OnStore G content before after (status.NotKept first last) = IsSome (G.held before) → IsDue G content before (status.NotKept first last)
 OnStore G content before after status.Done = (IsSome (G.held before) → IsDue G content before status.Done) × FollowsOn G content before after status.Done
 OnStore G content before after status.PutFault = (IsSome (G.held before) → IsDue G content before status.PutFault) × FollowsOn G content before after status.PutFault
 OnStore G content before after status.DiskFault = (OnlyAsks G before after ⊎ (IsSome (G.held before) → IsDue G content before status.DiskFault)) × FollowsOn G content before after status.DiskFault
@@ -115,19 +114,17 @@ IsRefusal status.PutFault = ⊥
 IsRefusal status.DiskFault = ⊥
 IsRefusal _ = Unit {0}
 
--- each image that a crash leaves since the start stands for the number and the store for which the bytes and each image of the start stand
-abbrev pub Stays : {W : Type 0} → Ghosts W → W → W → Type 0
-Stays G before after = (number : ℕ) (store : FlatStore) → StandsAt G before number store → Leaves G (λ image seen. stands image ≡ Stands number store) before after
-
--- What it did; there is no order. The disk's count of faults rises with DiskFault alone, the screen's with PutFault, and the source's with SourceFault.
+-- What it did; there is no order. The disk is as honest as it was and time elapsed, bytes that were told are told, the disk's count of faults rises with
+-- DiskFault alone, the screen's with PutFault, and the source's with SourceFault. A refusal only asked the disk.
 pub record FollowedFrom {W : Type 0} (G : Ghosts W) (given : Given) (call : Call W) : Type 0 where
   pub no_order : call.order ≡ []
   pub honest : G.is_honest call.after ≡ G.is_honest call.before
   pub time : Elapses G.moment G.left_since call.before call.after
+  pub told : IsSome (G.held call.before) → IsSome (G.held call.after)
   pub calm : (call.status ≡ status.DiskFault → ⊥) → G.disk_faults call.after ≡ G.disk_faults call.before
   pub put : (call.status ≡ status.PutFault → ⊥) → G.put_faults call.after ≡ G.put_faults call.before
   pub read : (call.status ≡ status.SourceFault → ⊥) → given.faults_now ≡ given.faults
-  pub stays : IsRefusal call.status → Stays G call.before call.after
+  pub refused : IsRefusal call.status → OnlyAsks G call.before call.after
   pub by_status : FollowedBy G given call.before call.after call.status
 
 -- a status of following a ship text

@@ -1,10 +1,11 @@
 // A ship text that a store follows.
-ghost use Rattle.std.specs.Prelude.{◌≡◌, ◌≢◌, [], MatchResult, IfErr, OnOk};
+ghost use Rattle.std.specs.Prelude.{◌≡◌, ◌≢◌, [], IsSome, MatchResult, IfErr, OnOk};
 ghost use Rattle.outside.specs.Causes.{Rose};
 ghost use Rattle.outside.specs.Moments.{Elapses};
+ghost use Rattle.outside.specs.Runs.{OnlyAsks};
 ghost use Rattle.call_status.specs.Call.{call, given};
 ghost use Rattle.standby.specs.Text.{IsShip, content_of};
-ghost use Rattle.standby_calls.specs.Followed.{FollowedFrom, IsNoText, IsOfFollow, IsOfText, IsShipFrom, OnStore};
+ghost use Rattle.standby_calls.specs.Followed.{FollowedFrom, IsNoText, IsOfFollow, IsOfText, IsRefusal, IsShipFrom, OnStore};
 
 use call_status::{MOST_OF_JOB, Status, read_text};
 use outside::{Outside, Source};
@@ -57,6 +58,8 @@ fn follow_text<W: Outside>(alloc: Global, ship: &Ship, outside: &mut W) -> Statu
     ensures on { OnStore W.Outside (content_of ship.now) outside.old outside.new result }
     ensures honest { W.is_honest outside.new ≡ W.is_honest outside.old }
     ensures time { Elapses W.moment W.left_since outside.old outside.new }
+    ensures told { IsSome (W.held outside.old) → IsSome (W.held outside.new) }
+    ensures refused { IsRefusal result → OnlyAsks W.Outside outside.old outside.new }
     ensures calm { result ≢ Status.DiskFault → W.disk_faults outside.new ≡ W.disk_faults outside.old }
     ensures unfailed { result ≢ Status.PutFault → W.put_faults outside.new ≡ W.put_faults outside.old }
     ensures put { result ≡ Status.PutFault → Rose (W.put_faults outside.old) (W.put_faults outside.new) }

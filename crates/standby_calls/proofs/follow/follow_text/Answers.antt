@@ -24,21 +24,21 @@ returns-in-Done-clause-time g c =
 
 pub returns-in-NotKept-clause-on : goal.returns-in-NotKept-clause-on
 returns-in-NotKept-clause-on g c =
-    let refused = c.in-NotKept.ensures.refused (inr (inl refl)) in
     let due = c.in-NotKept.ensures.not_kept.0 refl in
-    let many : c.len.result ≡ length (content_of c.args.ship.now).records = omega (arith, c.len.ensures, length-map c.args.ship.now.records.items (record_of c.args.ship.now.line_bytes)) in (
-      subst (OnlyAsks g.W.Outside c.args.outside.now) (sym refused.1) c.in-Ok.ensures.asks,
-      λ told. record { store = c.in-Ok.store; shows = c.in-Ok.ensures.shows told; due_on = (refl, ap (later c.args.ship.now.start) many, due.0, due.1) },
-    )
+    let many : c.len.result ≡ length (content_of c.args.ship.now).records = omega (arith, c.len.ensures, length-map c.args.ship.now.records.items (record_of c.args.ship.now.line_bytes)) in
+    λ told. record { store = c.in-Ok.store; shows = c.in-Ok.ensures.shows told; due_on = (refl, ap (later c.args.ship.now.start) many, due.0, due.1) }
 
 pub returns-in-Long-clause-on : goal.returns-in-Long-clause-on
 returns-in-Long-clause-on g c =
-    let refused = c.in-Long.ensures.refused (inr (inr (c.in-Long.number, refl))) in
     let due = c.in-Long.ensures.long c.in-Long.number refl in (
       inr refl,
-      subst (OnlyAsks g.W.Outside c.args.outside.now) (sym refused.1) c.in-Ok.ensures.asks,
       λ told. record { store = c.in-Ok.store; shows = c.in-Ok.ensures.shows told; due_on = inr (refl, due.0, due.1, due.2) },
     )
+
+pub returns-in-Long-clause-refused : goal.returns-in-Long-clause-refused
+returns-in-Long-clause-refused g c refusal =
+    let refused = c.in-Long.ensures.refused (inr (inr (c.in-Long.number, refl))) in
+    subst (OnlyAsks g.W.Outside c.args.outside.now) (sym refused.1) c.in-Ok.ensures.asks
 
 pub returns-in-Long-clause-time : goal.returns-in-Long-clause-time
 returns-in-Long-clause-time g c =
