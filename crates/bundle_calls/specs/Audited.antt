@@ -1,5 +1,5 @@
 -- What an audit did: the commits of a bundle's report were run again, and one line tells whether they leave what it says.
-use Rattle.std.specs.Prelude.{◌≡◌, ℕ, ◌⊎◌, List, [], ◌++◌, codes, decimal, length, Option}
+use Rattle.std.specs.Prelude.{◌≡◌, ◌≢◌, ℕ, ◌⊎◌, List, [], ◌++◌, codes, decimal, length, Option}
 use Rattle.job_text.specs.declared.job.Job.{Job}
 use Rattle.listing.specs.Puts.{Puts, PutsTimes}
 use Rattle.outside.specs.declared.world.Outside.{Ghosts}
@@ -59,7 +59,7 @@ AuditedBy G bytes before after other = IsUnchecked bytes other × (after ≡ bef
 -- what an audit did; it has no order, and the source's count of faults rises with SourceFault alone
 pub record Audited {W : Type 0} (G : Ghosts W) (given : Given) (call : Call W) : Type 0 where
   pub no_order : call.order ≡ []
-  pub calm : (call.status ≡ Status.SourceFault → ⊥) → given.faults_now ≡ given.faults
+  pub calm : call.status ≢ Status.SourceFault → given.faults_now ≡ given.faults
   pub by_status : WithBundle given (call.after ≡ call.before) (λ text. AuditedBy G text call.before call.after call.status) call.status
 
 -- The source has what an audit needs: a bundle, whose closing store stands too.

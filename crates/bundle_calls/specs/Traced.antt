@@ -1,5 +1,5 @@
 -- What a trace did: the lines that an activation touched as its serial run does were put, one line for each.
-use Rattle.std.specs.Prelude.{◌≡◌, ℕ, ◌+◌, Bool, true, false, List, [], ◌++◌, codes, decimal, length, Option, Result, Ok, Err}
+use Rattle.std.specs.Prelude.{◌≡◌, ◌≢◌, ℕ, ◌+◌, Bool, true, false, List, [], ◌++◌, codes, decimal, length, Option, Result, Ok, Err}
 use Rattle.std.specs.List.{flat_map}
 use Rattle.job_text.specs.declared.job.Job.{Job}
 use Rattle.listing.specs.Puts.{Puts, PutsTimes}
@@ -75,7 +75,7 @@ TracedBy G bytes activation before after other = IsUntraced bytes activation oth
 -- what a trace did; it has no order, and the source's count of faults rises with SourceFault alone
 pub record TracedFrom {W : Type 0} (G : Ghosts W) (activation : ℕ) (given : Given) (call : Call W) : Type 0 where
   pub no_order : call.order ≡ []
-  pub calm : (call.status ≡ Status.SourceFault → ⊥) → given.faults_now ≡ given.faults
+  pub calm : call.status ≢ Status.SourceFault → given.faults_now ≡ given.faults
   pub by_status : WithBundle given (call.after ≡ call.before) (λ text. TracedBy G text activation call.before call.after call.status) call.status
 
 -- the status of a trace that isn't had

@@ -84,10 +84,10 @@ IsPastJob (status.Job line kind) = ⊥
 IsPastJob other = IsPastText other
 
 -- the events ran to their end, so the store was opened: a disk that failed in an event is none of these
-abbrev pub IsPastOpening : Status → Type 0
-IsPastOpening status.Done = Unit {0}
-IsPastOpening status.PutFault = Unit {0}
-IsPastOpening _ = ⊥
+abbrev pub WentThrough : Status → Type 0
+WentThrough status.Done = Unit {0}
+WentThrough status.PutFault = Unit {0}
+WentThrough _ = ⊥
 
 -- a status of reading a job
 abbrev pub IsOfReading : Status → Type 0

@@ -1,5 +1,5 @@
 // The bytes of a job or of a bundle, whole from their source.
-ghost use Rattle.std.specs.Prelude.{◌≡◌, ◌≤◌, ◌<◌, ◌^◌, List, ℕ, Option, MatchResult, IfErr, OnOk};
+ghost use Rattle.std.specs.Prelude.{◌≡◌, ◌≢◌, ◌≤◌, ◌<◌, ◌^◌, List, ℕ, Option, MatchResult, IfErr, OnOk};
 ghost use Rattle.outside.specs.Causes.{Rose};
 ghost use Rattle.call_status.specs.declared.source_text.TextFault.TheVariants.{Memory as memory_fault, Source as source_fault};
 ghost use Rattle.call_status.specs.SourceText.{IsAll, IsWhy};
@@ -56,7 +56,7 @@ pub fn read_text<S: Source>(
         (λ fault. IsWhy most fault (S.left source.old) (S.left source.new) (Rose (S.faults source.old) (S.faults source.new))) }
     ensures later { S.faults source.old ≤ S.faults source.new }
     ensures unfailed { OnOk result (S.faults source.new ≡ S.faults source.old) }
-    ensures calm { IfErr result (λ fault. (fault ≡ source_fault → ⊥) → S.faults source.new ≡ S.faults source.old) }
+    ensures calm { IfErr result (λ fault. fault ≢ source_fault → S.faults source.new ≡ S.faults source.old) }
 {
     let mut text = Vec::new(alloc);
     while text.len() <= most {

@@ -14,7 +14,7 @@ use Rattle.job_text.specs.declared.job.Job.{Job}
 use Rattle.supervisor.specs.declared.session.Session.{Session}
 use Rattle.call_status.specs.Call.{Given, call}
 use Rattle.call_status.specs.Opening.{IsFaultAt}
-use Rattle.call_status.specs.Statuses.{IsPastOpening}
+use Rattle.call_status.specs.Statuses.{WentThrough}
 use Rattle.call_status.specs.declared.status.Status.{Status}
 use Rattle.call_status.specs.declared.status.Status.TheVariants as status
 use Rattle.job_calls.specs.Big.{Loaded, RanBig, last_out, line_for}
@@ -84,7 +84,7 @@ module _ {W : Type 0} (G : Ghosts W) (before after : W) (first : List ℕ) (puts
     try_on_screen session end did = refused order end did.by_status
 
   module _ (transfers : ℕ) (order : List (ℕ × ℕ)) (session : Option Session) where
-    ran_load : (end : Status) → IsPastOpening end → RanBig G transfers (call before after order end) session → HandsLoad transfers first puts order end
+    ran_load : (end : Status) → WentThrough end → RanBig G transfers (call before after order end) session → HandsLoad transfers first puts order end
     ran_load end past ran =
         let job = ran.job in
         let programs = job.programs.items in (

@@ -10,7 +10,7 @@ use Rattle.schedule_replay.specs.declared.quietly.Quiet.{Quiet}
 use Rattle.listing.specs.Puts.{Puts, PutsTimes}
 use Rattle.job_text.specs.Big.{IsBigJob, big_events}
 use Rattle.job_text.proofs.BigLemmas.{events_all}
-use Rattle.call_status.specs.Statuses.{IsPastOpening}
+use Rattle.call_status.specs.Statuses.{WentThrough}
 use Rattle.call_status.specs.Printed.{put_of, PrintsBy}
 use Rattle.desk.specs.Lines as line
 use Rattle.schedule_replay.specs.declared.quietly.Quiet.TheVariants as quiet
@@ -97,7 +97,7 @@ module _ {W : Type 0} (G : Ghosts W) (fewer_later : FewerLater G) (printed_now :
   facts_are = these G fewer_later printed_now job before start after desk new number store standing opens asks programs_are same_opened same_honest time asks-calm
 
   -- the run of a load, by its status
-  pub has_big_run : (now : Status) → (IsPastOpening now → (is_shut quiet ≡ false) × PrintsBy (G.printed before) (G.printed after) (line_for transfers (event_lines [] (activity desk).programs desk.opened runs.ran.taken (first_desk G job.frames before start desk opens asks))) now) → (now ≡ Status.DiskFault → is_shut quiet ≡ true)
+  pub has_big_run : (now : Status) → (WentThrough now → (is_shut quiet ≡ false) × PrintsBy (G.printed before) (G.printed after) (line_for transfers (event_lines [] (activity desk).programs desk.opened runs.ran.taken (first_desk G job.frames before start desk opens asks))) now) → (now ≡ Status.DiskFault → is_shut quiet ≡ true)
       → HasBigRun G transfers job number store (call before after (order_of new) now) (Some new)
   has_big_run now past shut = record {
     ran = whole now;
@@ -109,26 +109,26 @@ module _ {W : Type 0} (G : Ghosts W) (fewer_later : FewerLater G) (printed_now :
     last = λ opened. last_serial (begun job.programs.items job.events.items) number store (order_of new) _ _ _ (whole now).serial_run (sym (whole now).to.closes ∙ runs.closed ∙ (past opened).0);
   }
 
-prints_now : (now : Status) → IsPastOpening now → (old new : Option (List ℕ)) (bytes : List ℕ) → Prints old new bytes (put_of now) → PrintsBy old new bytes now
+prints_now : (now : Status) → WentThrough now → (old new : Option (List ℕ)) (bytes : List ℕ) → Prints old new bytes (put_of now) → PrintsBy old new bytes now
 prints_now status.Done past old new bytes prints = prints
 prints_now status.PutFault past old new bytes prints = prints
 prints_now _ past old new bytes prints = absurd past
 
 -- a line that was put, and told otherwise than as one that failed
-put_calm : {W : Type 0} (G : Ghosts W) (before after : W) (now : Status) → IsPastOpening now → (now ≡ Status.PutFault → ⊥) → FailsOnlyCounted (G.put_faults before) (G.put_faults after) (put_of now) → G.put_faults after ≡ G.put_faults before
+put_calm : {W : Type 0} (G : Ghosts W) (before after : W) (now : Status) → WentThrough now → (now ≡ Status.PutFault → ⊥) → FailsOnlyCounted (G.put_faults before) (G.put_faults after) (put_of now) → G.put_faults after ≡ G.put_faults before
 put_calm G before after status.Done past un cause = cause.done
 put_calm G before after status.PutFault past un cause = absurd (un refl)
 put_calm G before after _ past un cause = absurd past
 
 -- a status behind the opening is no store's fault
-opens_past : {W : Type 0} (G : Ghosts W) (before after : W) (now : Status) → ((offset : ℕ) → now ≡ Status.Store offset → ⊥) → (IsPastOpening now → IsSome (G.held before) → IsStanding (held_of G before)) → OpensBy G before after now
+opens_past : {W : Type 0} (G : Ghosts W) (before after : W) (now : Status) → ((offset : ℕ) → now ≡ Status.Store offset → ⊥) → (WentThrough now → IsSome (G.held before) → IsStanding (held_of G before)) → OpensBy G before after now
 opens_past G before after now other stood = record {
   no_store = λ offset same told. absurd (other offset same);
   store = stood;
   never = λ honest told standing offset same. other offset same;
 }
 
-loaded_past : {W : Type 0} (G : Ghosts W) (transfers : ℕ) (c : Call W) (session : Option Session) (now : Status) → IsPastOpening now → RanBig G transfers c session → PutsTimes G 1 c.before c.after (put_of now) → LoadedBy G transfers c session now
+loaded_past : {W : Type 0} (G : Ghosts W) (transfers : ℕ) (c : Call W) (session : Option Session) (now : Status) → WentThrough now → RanBig G transfers c session → PutsTimes G 1 c.before c.after (put_of now) → LoadedBy G transfers c session now
 loaded_past G transfers c session status.Done past ran times = (ran, times)
 loaded_past G transfers c session status.PutFault past ran times = ran
 loaded_past G transfers c session _ past ran times = absurd past
@@ -156,7 +156,7 @@ module _ {W : Type 0} (G : Ghosts W) (fewer_later : FewerLater G) (printed_now :
         time = elapses-trans G fewer_later before start after asks.calls.time later;
         told = λ told. subst (λ (those : Option (List ℕ)). IsSome those) (sym puts.only.held) (still (told-since G before start asks told));
         put = λ un. put_calm G between after now past un puts.only.cause ∙ calls.put ∙ asks.calls.put;
-        opens = opens_past G before after now (λ offset is. subst IsPastOpening is past) (λ opened told. stood told);
+        opens = opens_past G before after now (λ offset is. subst WentThrough is past) (λ opened told. stood told);
         by_status = loaded_past G transfers (call before after (order_of new) now) (Some new) now past
             (record {
               job = job;
@@ -176,7 +176,7 @@ module _ {W : Type 0} (G : Ghosts W) (fewer_later : FewerLater G) (printed_now :
                     subst (λ (told : Option (List ℕ)). PrintsBy told (G.printed after) (line_for transfers lines) now) (calls.quiet.same ∙ asks.calls.quiet.same)
                         (subst (λ (bytes : List ℕ). PrintsBy (G.printed between) (G.printed after) bytes now) (line_told transfers commits rollbacks last lines run.tells) (prints_now now past (G.printed between) (G.printed after) (big_line transfers commits rollbacks last) puts.printed)),
                   ))
-                  (λ is. absurd (subst IsPastOpening is past));
+                  (λ is. absurd (subst WentThrough is past));
               runs = same_programs ∙ programs_are;
             })
             (times_since G before start between after (put_of now) asks calls times);

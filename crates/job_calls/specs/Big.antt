@@ -1,5 +1,5 @@
 -- What a load of transfers did: one run of the desk over its events, with one line in place of a report.
-use Rattle.std.specs.Prelude.{◌≡◌, ℕ, true, false, List, [], ◌∷◌, codes, decimal, count_by, Option, None, Some}
+use Rattle.std.specs.Prelude.{◌≡◌, ◌≢◌, ℕ, true, false, List, [], ◌∷◌, codes, decimal, count_by, Option, None, Some}
 use Rattle.std.specs.List.{fold}
 use Rattle.outside.specs.declared.world.Outside.{Ghosts}
 use Rattle.outside.specs.Moments.{Elapses}
@@ -17,7 +17,7 @@ use Rattle.job_text.specs.Big.{IsBigJob}
 use Rattle.call_status.specs.Call.{Call}
 use Rattle.call_status.specs.declared.status.Status.{Status}
 use Rattle.call_status.specs.declared.status.Status.TheVariants as status
-use Rattle.call_status.specs.Statuses.{IsPastOpening}
+use Rattle.call_status.specs.Statuses.{WentThrough}
 use Rattle.job_calls.specs.Causes.{OpensBy}
 use Rattle.job_calls.specs.Handed.{HandedRuns}
 use Rattle.job_calls.specs.Headline.{ByOpening, FoundNoStore, Refused, RunsFrom, Untouched}
@@ -42,16 +42,16 @@ line_for transfers lines = big_line transfers (count_by is_commit lines) (count_
 pub record HasBigRun {W : Type 0} (G : Ghosts W) (transfers : ℕ) (job : Job) (number : ℕ) (store : FlatStore) (call : Call W) (session : Option Session) : Type 0 where
   pub ran : RunsFrom G job number store call
   pub answered : session ≡ Some ran.session
-  pub all : IsPastOpening call.status → ran.rest ≡ []
-  pub still_open : IsPastOpening call.status → ran.end.closed ≡ false
+  pub all : WentThrough call.status → ran.rest ≡ []
+  pub still_open : WentThrough call.status → ran.end.closed ≡ false
   pub shut : call.status ≡ Status.DiskFault → ran.end.closed ≡ true
-  pub told : IsPastOpening call.status → PrintsBy (G.printed call.before) (G.printed call.after) (line_for transfers ran.lines) call.status
-  pub last : IsPastOpening call.status → last_out ran.lines ≡ last_out (serial_lines (begun job.programs.items job.events.items) number call.order store)
+  pub told : WentThrough call.status → PrintsBy (G.printed call.before) (G.printed call.after) (line_for transfers ran.lines) call.status
+  pub last : WentThrough call.status → last_out ran.lines ≡ last_out (serial_lines (begun job.programs.items job.events.items) number call.order store)
 
 -- what was put of a run of a load, by how it ended: its line, or a prefix of it, or nothing where the desk was closed
 abbrev pub IsToldBy : {W : Type 0} → Ghosts W → ℕ → Quiet → (last : List ℕ) → Call W → Type 0
 IsToldBy G transfers (quiet.Ended commits rollbacks) last call =
-    IsPastOpening call.status × Puts G (big_line transfers commits rollbacks last) call.before call.after (put_of call.status) × PutsTimes G 1 call.before call.after (put_of call.status)
+    WentThrough call.status × Puts G (big_line transfers commits rollbacks last) call.before call.after (put_of call.status) × PutsTimes G 1 call.before call.after (put_of call.status)
 IsToldBy G transfers quiet.Closed last call = (call.status ≡ Status.DiskFault) × (call.after ≡ call.before)
 
 -- the events of the load were run, from whatever number and store the disk stood for; the session runs its programs
@@ -76,6 +76,6 @@ pub record Loaded {W : Type 0} (G : Ghosts W) (transfers : ℕ) (call : Call W) 
   pub honest : G.is_honest call.after ≡ G.is_honest call.before
   pub time : Elapses G.moment G.left_since call.before call.after
   pub told : StillTold G call.before call.after
-  pub put : (call.status ≡ Status.PutFault → ⊥) → G.put_faults call.after ≡ G.put_faults call.before
+  pub put : call.status ≢ Status.PutFault → G.put_faults call.after ≡ G.put_faults call.before
   pub opens : OpensBy G call.before call.after call.status
   pub by_status : LoadedBy G transfers call session call.status

@@ -7,7 +7,7 @@ use Rattle.schedule_replay.specs.declared.events.Replayed.TheVariants as replaye
 use Rattle.call_status.specs.declared.status.Status.{Status}
 use Rattle.call_status.specs.declared.status.Status.TheVariants as status
 use Rattle.call_status.specs.Opening.{IsFaultAt, IsFaultSince, IsStanding}
-use Rattle.call_status.specs.Statuses.{IsOfOpening, IsPastOpening}
+use Rattle.call_status.specs.Statuses.{IsOfOpening, WentThrough}
 
 -- the status of a replay
 abbrev pub status_of_replay : Replayed → Status
@@ -21,7 +21,7 @@ status_of_replay replayed.PutFault = Status.PutFault
 -- never told otherwise.
 pub record OpensBy {W : Type 0} (G : Ghosts W) (before now : W) (status : Status) : Type 0 where
   pub no_store : (offset : ℕ) → status ≡ Status.Store offset → IsSome (G.held before) → IsFaultAt (held_of G before) offset ⊎ (IsSome (G.held now) → IsFaultSince (held_of G before) (held_of G now) offset)
-  pub store : IsPastOpening status → IsSome (G.held before) → IsStanding (held_of G before)
+  pub store : WentThrough status → IsSome (G.held before) → IsStanding (held_of G before)
   pub never : IsTrue (G.is_honest before) → IsSome (G.held before) → IsStanding (held_of G before) → (offset : ℕ) → status ≢ Status.Store offset
 
 -- a status of events that run on a disk's store

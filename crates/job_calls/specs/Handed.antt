@@ -7,7 +7,7 @@ use Rattle.supervisor.specs.declared.session.Session.{Session}
 use Rattle.supervisor.specs.Session.{IsSound, activity, order_of, is_closed, header_of_session, turns_of}
 use Rattle.call_status.specs.declared.status.Status.{Status}
 use Rattle.call_status.specs.declared.status.Status.TheVariants as status
-use Rattle.call_status.specs.Statuses.{IsPastOpening}
+use Rattle.call_status.specs.Statuses.{WentThrough}
 
 -- whether a session whose events ended with this status is closed; other statuses come with none
 abbrev pub IsClosedAt : Status → Bool → Type 0
@@ -20,7 +20,7 @@ IsClosedAt _ closed = ⊥
 -- a session is handed on with its order, closed as the status says; without one the events were not run to their end
 abbrev pub HandsOn : List (ℕ × ℕ) → Option Session → Status → Type 0
 HandsOn order (Some session) status = (order_of session ≡ order) × IsClosedAt status (is_closed session)
-HandsOn order None status = IsPastOpening status → ⊥
+HandsOn order None status = WentThrough status → ⊥
 
 -- A session fits an outside: it is sound, the bytes that are told are enough for its store, and at most 10,000 turns were asked of it. So each of
 -- its calls may be asked of it with this outside, but for a begin behind the last for which it has room.

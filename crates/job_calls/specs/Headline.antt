@@ -1,5 +1,5 @@
 -- What a call of the console did: the run of the desk that its report tells of and what a crash leaves of it, or nothing.
-use Rattle.std.specs.Prelude.{◌≡◌, ◌⊎◌, ℕ, ◌+◌, ◌%◌, ◌^◌, true, false, List, [], ◌∷◌, ◌++◌, length, map, take, slice_set, Option, None, Some, IsSome, Result, Ok, Err}
+use Rattle.std.specs.Prelude.{◌≡◌, ◌≢◌, ◌⊎◌, ℕ, ◌+◌, ◌%◌, ◌^◌, true, false, List, [], ◌∷◌, ◌++◌, length, map, take, slice_set, Option, None, Some, IsSome, Result, Ok, Err}
 use Rattle.outside.specs.declared.world.Outside.{Ghosts}
 use Rattle.outside.specs.declared.failed.Failed.{Failed}
 use Rattle.outside.specs.Bytes.{Prints}
@@ -13,14 +13,14 @@ use Rattle.store_format.specs.Stands.{Stands, stands}
 use Rattle.desk.specs.declared.event.Event.{Event}
 use Rattle.desk.specs.Desk.{Desk, opened}
 use Rattle.desk.specs.Kept.{StillTold}
-use Rattle.desk.specs.Instruction.{Word, Doubt}
+use Rattle.desk.specs.Instruction.{Word}
 use Rattle.desk.specs.Run.{run, faulted, IsRunOf}
 use Rattle.desk.specs.Lines.{Line, line_text, Open}
 use Rattle.desk.specs.Report.{report, report_lines, event_lines}
 use Rattle.desk.specs.Commits.{begun, IsSerial}
 use Rattle.run_law.specs.Headline.{IsFirst, IsPrefix}
 use Rattle.schedule_replay.specs.Puts.{PutsTimes, shown_of}
-use Rattle.schedule_replay.specs.Ran.{PrintsEarlier, text_of}
+use Rattle.schedule_replay.specs.Ran.{IfInDoubt, PrintsEarlier, text_of}
 use Rattle.schedule_replay.specs.RanTo.{RanTo}
 use Rattle.supervisor.specs.declared.session.Session.{Session}
 use Rattle.supervisor.specs.contracts.supervisor.SessionSupervisor.TheImpl.{ghosts}
@@ -76,7 +76,7 @@ pub record RunsFrom {W : Type 0} (G : Ghosts W) (job : Job) (number : ℕ) (stor
   -- a crash at any moment of the call leaves an image of the start with nothing printed since, or a store that the first commits leave one after another
   pub crash : Leaves G (λ image seen. IsOfStart G call.before image seen ⊎ IsFirst (begun job.programs.items job.events.items) number store call.order image) call.before call.after
   -- and where the last event ended in doubt, the gate byte alone decides whether its commit is among them
-  pub doubt : end.closed ≡ true → (front : List (Event × Word)) (event : Event) → taken ≡ front ++ (event, Doubt) ∷ [] → DoubtStands G job number store call.order call.after
+  pub doubt : IfInDoubt taken end.closed (λ front event. DoubtStands G job number store call.order call.after)
 
 -- The job was run from the store that the disk stood for, and the report of the run is printed: to the byte, or after a failed put a prefix of it with
 -- the first line and those of all events but the last.
@@ -149,7 +149,7 @@ pub record DidOn {W : Type 0} (G : Ghosts W) (ran : Type 0) (call : Call W) (ses
   pub honest : G.is_honest call.after ≡ G.is_honest call.before
   pub time : Elapses G.moment G.left_since call.before call.after
   pub told : StillTold G call.before call.after
-  pub put : (call.status ≡ Status.PutFault → ⊥) → G.put_faults call.after ≡ G.put_faults call.before
+  pub put : call.status ≢ Status.PutFault → G.put_faults call.after ≡ G.put_faults call.before
   pub by_status : DidBy G ran call session call.status
 
 -- what a call did with the job of its source

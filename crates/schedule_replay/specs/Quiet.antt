@@ -27,7 +27,7 @@ use Rattle.schedule_replay.specs.declared.events.Going.TheVariants as going
 use Rattle.schedule_replay.specs.declared.quietly.Quiet.{Quiet}
 use Rattle.schedule_replay.specs.declared.quietly.Quiet.TheVariants as quiet
 use Rattle.schedule_replay.specs.declared.quietly.Tally.{Tally}
-use Rattle.schedule_replay.specs.Ran.{InDoubt, WasStep}
+use Rattle.schedule_replay.specs.Ran.{IfInDoubt, InDoubt, WasStep}
 use Rattle.schedule_replay.specs.RanTo.{RanTo}
 
 -- no put failed
@@ -113,7 +113,7 @@ pub record RanQuietly {D W : Type 0} (S : desk.Ghosts D) (G : Ghosts W) (program
   pub each_open : OpenBeforeEach programs taken start
   pub to : RanTo S G (run programs taken start) (event_lines [] programs number taken start) (faulted taken) new before after
   pub images : Leaves G (λ image seen. IsStage programs number start taken image) before after
-  pub doubt : (run programs taken start).closed ≡ true → (front : List (Event × Word)) (event : Event) → taken ≡ front ++ (event, Doubt) ∷ [] → InDoubt G programs number start front event after
+  pub doubt : IfInDoubt taken (run programs taken start).closed (λ front event. InDoubt G programs number start front event after)
 
 -- the counts of a run that ended, and what its last commit printed, are those of its lines
 abbrev pub TellsAll : Quiet → (last : List ℕ) → List Line → Type 0

@@ -1,5 +1,5 @@
 -- Runs of the desk that a supervisor shows, with what they put.
-use Rattle.std.specs.Prelude.{◌≡◌, ℕ, ◌*◌, ◌⊎◌, count_by, true, List, [], ◌∷◌, ◌++◌, length, map, Option, Result, IsSome, slice_set}
+use Rattle.std.specs.Prelude.{◌≡◌, ℕ, ◌*◌, ◌⊎◌, count_by, Bool, true, List, [], ◌∷◌, ◌++◌, length, map, Option, Result, IsSome, slice_set}
 use Rattle.std.specs.List.{flat_map}
 use Rattle.outside.specs.declared.world.Outside.{Ghosts}
 use Rattle.outside.specs.declared.failed.Failed.{Failed}
@@ -34,6 +34,10 @@ abbrev pub PrintsEarlier : (before now : Option (List ℕ)) → (List (Event × 
 PrintsEarlier before now text taken =
     (taken ≡ []) ⊎ ((front : List (Event × Word)) × (last : Event × Word) × (taken ≡ front ++ last ∷ []) × BeginsWith before now (text front))
 
+-- where the last of these events ended in doubt and closed the desk, this holds of those before it and of it
+abbrev pub IfInDoubt : List (Event × Word) → (closed : Bool) → (List (Event × Word) → Event → Type 0) → Type 0
+IfInDoubt taken closed P = closed ≡ true → (front : List (Event × Word)) (event : Event) → taken ≡ front ++ (event, Doubt) ∷ [] → P front event
+
 -- behind these events one ended in doubt: there is one place with whose byte each image stands for where it goes well
 abbrev pub InDoubt : {W : Type 0} → Ghosts W → List Program → ℕ → Desk → List (Event × Word) → Event → W → Type 0
 InDoubt G programs number start front event after =
@@ -66,4 +70,4 @@ pub record Ran {D W : Type 0} (S : desk.Ghosts D) (G : Ghosts W) (names : List (
   pub time : Elapses G.moment G.left_since before after
   pub images : Leaves G (λ image seen. IsStage programs number start taken image) before after
   pub left : IsSome (G.printed before) → Leaves G (IsLeft programs number start taken (text_of names programs number taken start) (shown_of G before)) before after
-  pub doubt : (run programs taken start).closed ≡ true → (front : List (Event × Word)) (event : Event) → taken ≡ front ++ (event, Doubt) ∷ [] → InDoubt G programs number start front event after
+  pub doubt : IfInDoubt taken (run programs taken start).closed (λ front event. InDoubt G programs number start front event after)

@@ -27,7 +27,7 @@ use Rattle.schedule_replay.specs.declared.events.Replayed.{Replayed}
 use Rattle.schedule_replay.specs.declared.events.Replayed.TheVariants as replayed
 use Rattle.schedule_replay.specs.Answered.{Answered, GoesBy}
 use Rattle.schedule_replay.specs.Puts.{PutsTimes, shown_of}
-use Rattle.schedule_replay.specs.Ran.{Ran, PrintsEarlier, InDoubt, text_of}
+use Rattle.schedule_replay.specs.Ran.{Ran, PrintsEarlier, IfInDoubt, InDoubt, text_of}
 use Rattle.schedule_replay.specs.RanTo.{RanTo}
 
 -- whether the desk goes on
@@ -93,7 +93,7 @@ pub record Reports {D W : Type 0} (S : desk.Ghosts D) (G : Ghosts W) (names : Li
   pub all : IfOk result (λ value. shut value ≡ false → rest ≡ [])
   pub images : Leaves G (λ image seen. IsStage programs number start taken image) before after
   pub left : IsSome (G.printed before) → Leaves G (IsLeft programs number start taken (report names programs number taken rest start) (shown_of G before)) before after
-  pub doubt : (run programs taken start).closed ≡ true → (front : List (Event × Word)) (event : Event) → taken ≡ front ++ (event, Doubt) ∷ [] → InDoubt G programs number start front event after
+  pub doubt : IfInDoubt taken (run programs taken start).closed (λ front event. InDoubt G programs number start front event after)
 
 -- The events were replayed: to the end, to the one that closed the desk, or to the one in whose report a put failed. Bytes that are sure
 -- and shown are never found damaged.

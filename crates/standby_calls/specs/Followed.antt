@@ -1,5 +1,5 @@
 -- What following a ship text did.
-use Rattle.std.specs.Prelude.{◌≡◌, ◌⊎◌, ℕ, ◌+◌, ◌≤◌, ◌<◌, List, [], length, IsSome, All}
+use Rattle.std.specs.Prelude.{◌≡◌, ◌≢◌, ◌⊎◌, ℕ, ◌+◌, ◌≤◌, ◌<◌, List, [], length, IsSome, All}
 use Rattle.outside.specs.declared.world.Outside.{Ghosts}
 use Rattle.outside.specs.Causes.{Rose}
 use Rattle.outside.specs.Durable.{IsSure}
@@ -121,9 +121,9 @@ pub record FollowedFrom {W : Type 0} (G : Ghosts W) (given : Given) (call : Call
   pub honest : G.is_honest call.after ≡ G.is_honest call.before
   pub time : Elapses G.moment G.left_since call.before call.after
   pub told : IsSome (G.held call.before) → IsSome (G.held call.after)
-  pub calm : (call.status ≡ status.DiskFault → ⊥) → G.disk_faults call.after ≡ G.disk_faults call.before
-  pub put : (call.status ≡ status.PutFault → ⊥) → G.put_faults call.after ≡ G.put_faults call.before
-  pub read : (call.status ≡ status.SourceFault → ⊥) → given.faults_now ≡ given.faults
+  pub calm : call.status ≢ status.DiskFault → G.disk_faults call.after ≡ G.disk_faults call.before
+  pub put : call.status ≢ status.PutFault → G.put_faults call.after ≡ G.put_faults call.before
+  pub read : call.status ≢ status.SourceFault → given.faults_now ≡ given.faults
   pub refused : IsRefusal call.status → OnlyAsks G call.before call.after
   pub by_status : FollowedBy G given call.before call.after call.status
 

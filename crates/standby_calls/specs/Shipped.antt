@@ -1,5 +1,5 @@
 -- What shipping the records of a store did.
-use Rattle.std.specs.Prelude.{◌≡◌, ◌⊎◌, ◌<◌, ◌≤◌, ℕ, [], IsSome, IsTrue}
+use Rattle.std.specs.Prelude.{◌≡◌, ◌≢◌, ◌⊎◌, ◌<◌, ◌≤◌, ℕ, [], IsSome, IsTrue}
 use Rattle.outside.specs.declared.world.Outside.{Ghosts}
 use Rattle.outside.specs.Bytes.{AreTold}
 use Rattle.outside.specs.Runs.{Leaves, OnlyAsks, held_of, AsksAndPuts}
@@ -51,7 +51,7 @@ pub record ShippedFrom {W : Type 0} (G : Ghosts W) (from : ℕ) (call : Call W) 
   pub no_order : call.order ≡ []
   pub only : AsksAndPuts G call.before call.after
   pub sure : IsTrue (G.is_honest call.before) → IsSome (G.held call.before) → Leaves G (λ image seen. AreTold (G.printed call.before) seen ⊎ (image ≡ held_of G call.before)) call.before call.after
-  pub calm : (call.status ≡ status.DiskFault → ⊥) → G.disk_faults call.after ≡ G.disk_faults call.before
+  pub calm : call.status ≢ status.DiskFault → G.disk_faults call.after ≡ G.disk_faults call.before
   pub by_status : ShippedBy G from call.before call.after call.status
 
 -- a status of shipping

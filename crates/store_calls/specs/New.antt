@@ -1,5 +1,5 @@
 -- What making a store did.
-use Rattle.std.specs.Prelude.{◌≡◌, ◌⊎◌, ℕ, ◌+◌, ◌<◌, ◌≤◌, List, [], ◌++◌, codes, decimal, length, Some, IsSome, IsTrue}
+use Rattle.std.specs.Prelude.{◌≡◌, ◌≢◌, ◌⊎◌, ℕ, ◌+◌, ◌<◌, ◌≤◌, List, [], ◌++◌, codes, decimal, length, Some, IsSome, IsTrue}
 use Rattle.std.specs.Option.{option_map}
 use Rattle.outside.specs.declared.world.Outside.{Ghosts}
 use Rattle.outside.specs.Bytes.{Torn, written}
@@ -103,7 +103,7 @@ pub record Written {W : Type 0} (G : Ghosts W) (image line : List ℕ) (call : C
   pub time : Elapses G.moment G.left_since call.before call.after
   pub crash : LeavesTorn G (length image) call.before call.after
   pub whole : LeavesWhole G image call.before call.after
-  pub calm : (call.status ≡ status.DiskFault → ⊥) → G.disk_faults call.after ≡ G.disk_faults call.before
+  pub calm : call.status ≢ status.DiskFault → G.disk_faults call.after ≡ G.disk_faults call.before
   -- a disk that holds bytes is only asked
   pub full : IsSome (G.held call.before) → 0 < length (held_of G call.before) → OnlyAsks G call.before call.after
   pub by_status : WrittenBy G image line call.before call.after call.status

@@ -1,5 +1,5 @@
 -- A store of version 2 with what a store of version 1 has.
-use Rattle.std.specs.Prelude.{◌≡◌, ◌⊎◌, ℕ, ◌+◌, ◌*◌, ◌/◌, ◌%◌, ◌^◌, ◌<◌, nat_eq, if◌then◌else◌, Bool, List, [], ◌∷◌, ◌++◌, codes, decimal, length, map, sum_by, take, drop, replicate}
+use Rattle.std.specs.Prelude.{◌≡◌, ◌≢◌, ◌⊎◌, ℕ, ◌+◌, ◌*◌, ◌/◌, ◌%◌, ◌^◌, ◌<◌, nat_eq, if◌then◌else◌, Bool, List, [], ◌∷◌, ◌++◌, codes, decimal, length, map, sum_by, take, drop, replicate}
 use Rattle.std.specs.List.{starts_with}
 use Rattle.line_geometry.specs.FlatStore.{FlatStore}
 use Rattle.line_geometry.specs.Legal.{IsLegal}
@@ -98,8 +98,8 @@ RenewedBy G bank given call _ = IsRenewed G bank given call
 -- what it did; there is no order, the disk's count of faults rises with DiskFault alone, and the source's with SourceFault alone
 pub record Renewed {W : Type 0} (G : Ghosts W) (bank : ℕ) (given : Given) (call : Call W) : Type 0 where
   pub no_order : call.order ≡ []
-  pub calm : (call.status ≡ status.DiskFault → ⊥) → G.disk_faults call.after ≡ G.disk_faults call.before
-  pub source_calm : (call.status ≡ status.SourceFault → ⊥) → given.faults_now ≡ given.faults
+  pub calm : call.status ≢ status.DiskFault → G.disk_faults call.after ≡ G.disk_faults call.before
+  pub source_calm : call.status ≢ status.SourceFault → given.faults_now ≡ given.faults
   pub by_status : RenewedBy G bank given call call.status
 
 -- a status of renewing a store

@@ -1,5 +1,5 @@
 -- What printing bytes of a store did.
-use Rattle.std.specs.Prelude.{◌≡◌, ◌⊎◌, ℕ, ◌+◌, ◌≤◌, List, [], length, Some, IsSome, IsTrue, Result, Ok, Err, OnOk, IfErr}
+use Rattle.std.specs.Prelude.{◌≡◌, ◌≢◌, ◌⊎◌, ℕ, ◌+◌, ◌≤◌, List, [], length, Some, IsSome, IsTrue, Result, Ok, Err, OnOk, IfErr}
 use Rattle.std.specs.Int.{div_ceil}
 use Rattle.outside.specs.declared.world.Outside.{Ghosts}
 use Rattle.outside.specs.Bytes.{AreTold, Prints, bytes_at}
@@ -96,7 +96,7 @@ pub record RangeShown {W : Type 0} (G : Ghosts W) (range : Range) (call : Call W
   pub no_order : call.order ≡ []
   pub only : AsksAndPuts G call.before call.after
   pub sure : IsTrue (G.is_honest call.before) → IsSome (G.held call.before) → Leaves G (λ image seen. AreTold (G.printed call.before) seen ⊎ (image ≡ held_of G call.before)) call.before call.after
-  pub calm : (call.status ≡ status.DiskFault → ⊥) → G.disk_faults call.after ≡ G.disk_faults call.before
+  pub calm : call.status ≢ status.DiskFault → G.disk_faults call.after ≡ G.disk_faults call.before
   pub by_status : ShownBy G range call.before call.after call.status
 
 -- a status of printing bytes of a store

@@ -1,5 +1,5 @@
 // A store of version 1 that is made one of version 2.
-ghost use Rattle.std.specs.Prelude.{◌≡◌, ◌≤◌, ◌++◌, [], length, sum_by, IfOk, IfErr, MatchResult, OnOk};
+ghost use Rattle.std.specs.Prelude.{◌≡◌, ◌≢◌, ◌≤◌, ◌++◌, [], length, sum_by, IfOk, IfErr, MatchResult, OnOk};
 ghost use Rattle.line_geometry.specs.Segments.{bytes_of};
 ghost use Rattle.line_geometry.specs.declared.directory.PageSize.TheVariants.{Two};
 ghost use Rattle.outside.specs.Causes.{Rose};
@@ -57,7 +57,7 @@ pub fn renew_store<S: Source, W: Outside>(
 fn old_store<S: Source>(alloc: Global, source: &mut S) -> Result<KeptStore, Status>
     ensures has { MatchResult result (HasOne (given S.Source source.old source.new)) (IsNoOne (given S.Source source.old source.new)) }
     ensures unfailed { OnOk result (S.faults source.new ≡ S.faults source.old) }
-    ensures calm { IfErr result (λ status. (status ≡ Status.SourceFault → ⊥) → S.faults source.new ≡ S.faults source.old) }
+    ensures calm { IfErr result (λ status. status ≢ Status.SourceFault → S.faults source.new ≡ S.faults source.old) }
 {
     let text = read_text(alloc, source, MOST_OF_STORE)?;
     if text.starts_with(b"801STORE\x00\x02") {
