@@ -1,5 +1,5 @@
 -- What the stages of a turn ask for, and what each leaves.
-use Rattle.std.specs.Prelude.{◌≡◌, ℕ, ◌+◌, ◌<◌, ◌≤◌, true, List, length, Result, Ok, Err}
+use Rattle.std.specs.Prelude.{◌≡◌, ℕ, ◌+◌, ◌<◌, ◌≤◌, true, false, List, length, Result, Ok, Err}
 use Rattle.arrayvec.specs.ArrayVec.{array_vec_len}
 use Rattle.lock_rules.specs.Sets.{has}
 use Rattle.frame_pool.specs.declared.model.Pool.{Pool}
@@ -27,6 +27,7 @@ use Rattle.activations.specs.Turning.{IsContestEnd}
 pub record CanFetch {W : Type 0} (G : Ghosts W) (a : Activity) (store : KeptStore) (outside : W) : Type 0 where
   pub sound : IsSound a
   pub directory : store.header.directory ≡ a.reach.directory
+  pub usable : store.bank.spoiled ≡ false
   pub room : HoldsAtLeast G (total store.header) outside
 
 -- and who sits in a seat, which is selected, may be served from it

@@ -75,6 +75,7 @@ impl Activations {
     ) -> Result<(), Failed>
         requires page { page < page_count (activity_of self.old).reach.directory }
         requires store { store.now.header.directory ≡ (activity_of self.old).reach.directory }
+        requires usable { store.now.bank.spoiled ≡ false }
         requires room { HoldsAtLeast W.Outside (total store.now.header) outside.old }
         requires few { tally.old.pages + 1 < 2 ^ 32 }
         ensures asks { OnlyAsks W.Outside outside.old outside.new }
@@ -105,6 +106,7 @@ fn bring_page<W: Outside>(
     requires page { page < page_count (reach_of unit.old).directory }
     requires absent { has (reach_of unit.old).pool.resident page ≡ false }
     requires store { store.now.header.directory ≡ (reach_of unit.old).directory }
+    requires usable { store.now.bank.spoiled ≡ false }
     requires room { HoldsAtLeast W.Outside (total store.now.header) outside.old }
     ensures asks { OnlyAsks W.Outside outside.old outside.new }
     ensures rest { reach_of unit.new ≡ record (reach_of unit.old) { pool = (reach_of unit.new).pool } }

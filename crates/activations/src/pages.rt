@@ -1,5 +1,5 @@
 // The pages of an open store, as the storage unit reads them.
-ghost use Rattle.std.specs.Prelude.{◌≡◌, ◌<◌};
+ghost use Rattle.std.specs.Prelude.{◌≡◌, ◌<◌, false};
 ghost use Rattle.line_geometry.specs.Directory.{page_count};
 ghost use Rattle.line_geometry.specs.Segments.{page_bytes};
 ghost use Rattle.outside.specs.Causes.{Rose};
@@ -22,7 +22,7 @@ pub(super) struct StorePages<'a> {
 impl<'a, W: Outside> Pages<W> for StorePages<'a> {
     type Failed = Failed;
 
-    ghost can_read = { λ pages outside page bytes. HoldsAtLeast W.Outside (total pages.store.now.header) outside × (page < page_count pages.store.now.header.directory) × (bytes ≡ page_bytes pages.store.now.header.directory.page) };
+    ghost can_read = { λ pages outside page bytes. (pages.store.now.bank.spoiled ≡ false) × HoldsAtLeast W.Outside (total pages.store.now.header) outside × (page < page_count pages.store.now.header.directory) × (bytes ≡ page_bytes pages.store.now.header.directory.page) };
 
     ghost read = { λ pages before page bytes after. OnlyAsks W.Outside before after × (W.disk_faults after ≡ W.disk_faults before) × (IsShown W.Outside pages.store.now before → bytes ≡ page_in (stands (held_of W.Outside before)) page) };
 

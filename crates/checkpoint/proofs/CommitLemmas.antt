@@ -3,6 +3,7 @@ use Rattle.checkpoint.proofs.Common.{Option, None, Some, unwrap_or, nat_lt, if�
 use Rattle.checkpoint.proofs.ApartLemmas.{but_between, more_offsets}
 use Rattle.checkpoint.proofs.StepLemmas.{held_since}
 use Rattle.redo_journal.specs.Appended.{IsApart}
+use Rattle.redo_journal.specs.Kept.{with_record}
 use Rattle.std.proofs.Common.{◌≡◌, inl, inr, ⊎_elim, ℕ, ◌+◌, ◌<◌, ◌≤◌, Bool, true, false, List, [], ◌∷◌, length, refl, sym, subst, ◌∙◌, ap, arith}
 use Rattle.std.specs.Option.{option_map}
 use Rattle.std.proofs.lemmas.Bool.Decides.{nat_tests}
@@ -102,3 +103,8 @@ number_kept kept old new is = grind (arith, nat_tests, roomy_number)
 
 pub count_kept : (kept : Kept) (old new : KeptBank) → IsKeptAfter kept (roomy old) old new → new.count ≤ old.count + 1
 count_kept kept old new is = grind (arith, nat_tests, roomy_count)
+
+-- behind a commit that went well a bank that wasn't spoiled isn't
+pub usable_kept : (old new : KeptBank) → new ≡ with_record (roomy old) → old.spoiled ≡ false → new.spoiled ≡ false
+usable_kept old new is usable =
+    ap (λ (bank : KeptBank). bank.spoiled) is ∙ roomy_by (λ those. those.spoiled ≡ false) old (nat_lt (area_end old) (needed_end old)) usable usable

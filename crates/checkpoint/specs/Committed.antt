@@ -8,7 +8,7 @@ use Rattle.redo_journal.specs.declared.keep.Kept.{Kept}
 use Rattle.redo_journal.specs.declared.keep.Kept.TheVariants.{Done, Unwritten, Doubt}
 use Rattle.redo_journal.specs.Appended.{CountsKept, FailedLeaves}
 use Rattle.redo_journal.specs.Held.{IsMoreBy, OnlyWrites}
-use Rattle.redo_journal.specs.Kept.{KeptBank, SameShape, area_end, needed_end, number_of, begun_of, unbegun, with_record}
+use Rattle.redo_journal.specs.Kept.{KeptBank, SameShape, area_end, needed_end, number_of, begun_of, spoilt, with_record}
 use Rattle.redo_journal.specs.Tracks.{HoldsOneOf, IsAppended, IsEither, TracksBank}
 use Rattle.redo_journal.specs.Turned.{turned}
 use Rattle.checkpoint.specs.Chosen.{other}
@@ -28,11 +28,11 @@ number_after Done number = (number + 1) % 2 ^ 64
 number_after Unwritten number = number
 number_after Doubt number = number
 
--- What is kept after a commit: the record is the bank's, or no record is begun, there or where the checkpoint in front failed.
+-- What is kept after a commit: the record is the bank's, or the bank is to be reopened, there or where the checkpoint in front failed.
 abbrev pub IsKeptAfter : Kept → KeptBank → KeptBank → KeptBank → Type 0
 IsKeptAfter Done there old new = new ≡ with_record there
-IsKeptAfter Unwritten there old new = (new ≡ unbegun there) ⊎ (new ≡ unbegun old)
-IsKeptAfter Doubt there old new = new ≡ unbegun there
+IsKeptAfter Unwritten there old new = (new ≡ spoilt there) ⊎ (new ≡ spoilt old)
+IsKeptAfter Doubt there old new = new ≡ spoilt there
 
 -- the bytes are a store with this header, whose bank holds what the kept one did, with the begun record or without; or the other bank is chosen, which holds nothing or that record
 abbrev pub HoldsCommitted : Header → KeptBank → List (List RecordLine) → List ℕ → Type 0

@@ -7,7 +7,7 @@ use Rattle.outside.specs.declared.failed.Failed.{Failed}
 use Rattle.outside.specs.declared.world.Outside.{Ghosts}
 use Rattle.outside.specs.Durable.{IsSure}
 use Rattle.outside.specs.Runs.{Leaves, held_of}
-use Rattle.redo_journal.specs.Kept.{KeptBank, number_of, unbegun}
+use Rattle.redo_journal.specs.Kept.{KeptBank, number_of, spoilt}
 use Rattle.redo_journal.specs.Tracks.{TracksBank, HoldsRecords}
 use Rattle.redo_journal.specs.Turned.{turned}
 use Rattle.checkpoint.specs.Chosen.{other}
@@ -25,10 +25,10 @@ pub record IsMoved {W : Type 0} (G : Ghosts W) (header : Header) (bank : KeptBan
   pub stood : stands (held_of G new) ≡ stands (held_of G old)
   pub store : IsStore (held_of G new) header (other bank.which) (number_of bank) (area_at header (other bank.which)) []
 
--- what is kept after a checkpoint: the other bank, or where it failed this one with no record begun
+-- what is kept after a checkpoint: the other bank, or where it failed this one, which is to be reopened
 abbrev pub bank_checkpointed : Result (Unit {0}) Failed → KeptBank → KeptBank
 bank_checkpointed (Ok done) bank = turned (other bank.which) bank
-bank_checkpointed (Err failed) bank = unbegun bank
+bank_checkpointed (Err failed) bank = spoilt bank
 
 -- The bank turned to is tracked, and the bytes stand for what they did. Each crash image of the moment has the number as its base, and no record.
 pub record IsCheckpointed {W : Type 0} (G : Ghosts W) (old_bank bank : KeptBank) (old new : W) : Type 0 where

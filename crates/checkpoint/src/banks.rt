@@ -1,9 +1,9 @@
-ghost use Rattle.std.specs.Prelude.{◌≡◌, ◌≢◌, ◌+◌, ◌≤◌, ◌<◌, [], length, slice_get, Some, None, IsSome, IfSome, IfOk, IfErr, OnOk};
+ghost use Rattle.std.specs.Prelude.{◌≡◌, ◌≢◌, ◌+◌, ◌≤◌, ◌<◌, [], length, slice_get, Some, None, IsSome, IfSome, IfOk, IfErr, OnOk, is_err, false};
 ghost use Rattle.line_geometry.specs.Segments.{line_bytes};
 ghost use Rattle.store_format.specs.Header.{total};
 ghost use Rattle.outside.specs.Causes.{FailsOnlyCounted};
 ghost use Rattle.outside.specs.Runs.{OnlyAsks, Leaves, held_of};
-ghost use Rattle.redo_journal.specs.Kept.{KeptBank, area_end, needed_end, number_of, with_line, unbegun, line_bytes_of, SameShape};
+ghost use Rattle.redo_journal.specs.Kept.{KeptBank, area_end, needed_end, number_of, with_line, spoilt, line_bytes_of, SameShape};
 ghost use Rattle.redo_journal.specs.Held.{HoldsAtLeast, OnlyWrites};
 ghost use Rattle.redo_journal.specs.Tracks.{TracksBank};
 ghost use Rattle.redo_journal.specs.Appended.{Appends, TakesLine};
@@ -56,6 +56,7 @@ impl Banks {
         ensures asks { OnlyAsks W.Outside outside.old outside.new }
         ensures opened { IfOk result (IsOneOf header.now) }
         ensures read { IfOk result (λ bank. IsSome (W.held outside.old) → IsChosen (held_of W.Outside outside.old) bank) }
+        ensures usable { IfOk result (λ bank. bank.spoiled ≡ false) }
         ensures no_fault { IfOk result (λ bank. W.disk_faults outside.new ≡ W.disk_faults outside.old) }
         ensures fault { IfErr result (IsChosenOpenFault W.Outside outside.old outside.new header.now) }
         ensures calm { IfErr result (λ fault. fault ≢ OpenFault.DiskFault → W.disk_faults outside.new ≡ W.disk_faults outside.old) }
@@ -71,7 +72,7 @@ impl Banks {
     }
 
     /// Reads the selector and the bank that it chooses again. No record is begun after any answer. After an error they
-    /// have to be reopened before they are used again.
+    /// are spoiled.
     ///
     /// # Errors
     ///
@@ -83,6 +84,7 @@ impl Banks {
         ensures asks { OnlyAsks W.Outside outside.old outside.new }
         ensures shape { SameShape self.old self.new }
         ensures begun { self.new.begun ≡ None }
+        ensures spoiled { self.new.spoiled ≡ is_err result }
         ensures read { OnOk result (IsSome (W.held outside.old) → IsChosen (held_of W.Outside outside.old) self.new) }
         ensures no_fault { OnOk result (W.disk_faults outside.new ≡ W.disk_faults outside.old) }
         ensures fault { IfErr result (IsChosenReopenFault W.Outside outside.old outside.new self.old) }
@@ -91,7 +93,7 @@ impl Banks {
     {
         match read_selector(outside) {
             Err(Failed) => {
-                self.bank.record_drop();
+                self.bank.spoil();
                 Err(ReopenFault::DiskFault)
             }
             Ok(which) => self.bank.reopen(which, outside),
@@ -136,11 +138,11 @@ impl Banks {
         self.bank.record_start();
     }
 
-    /// Forgets the record that is begun.
-    pub fn record_drop(&mut self)
-        ensures { self.new ≡ unbegun self.old }
+    /// Are spoiled, with no record begun: they have to be reopened before they read or write.
+    pub fn spoil(&mut self)
+        ensures { self.new ≡ spoilt self.old }
     {
-        self.bank.record_drop();
+        self.bank.spoil();
     }
 
     /// Adds a line to the record that is begun: a line of the store, above those before it.
@@ -152,9 +154,10 @@ impl Banks {
     }
 
     /// Adds the record that is begun to the chosen bank, as [`Bank::append`] does. After [`Appended::Unwritten`] and
-    /// [`Appended::Doubt`] the banks have to be reopened before they are used again (docs/FORMATS.md, "Protocols").
+    /// [`Appended::Doubt`] the banks are spoiled (docs/FORMATS.md, "Protocols").
     pub fn append<W: Outside>(&mut self, outside: &mut W) -> Appended
         requires begun { IsSome self.old.begun }
+        requires usable { self.old.spoiled ≡ false }
         requires room { HoldsAtLeast W.Outside (area_end self.old) outside.old }
         ensures { Appends W.Outside self.old self.new outside.old outside.new result }
     {
@@ -162,10 +165,11 @@ impl Banks {
     }
 
     /// Adds the record that is begun and makes it durable, after a checkpoint where it doesn't fit the rest of the bank. It
-    /// takes no memory. No record is begun afterwards. After [`Kept::Unwritten`] and [`Kept::Doubt`] the banks have to be
-    /// reopened before they are used again (docs/FORMATS.md, "Protocols").
+    /// takes no memory. No record is begun afterwards. After [`Kept::Unwritten`] and [`Kept::Doubt`] the banks are
+    /// spoiled (docs/FORMATS.md, "Protocols").
     pub fn commit<W: Outside>(&mut self, outside: &mut W) -> Kept
         requires begun { IsSome self.old.begun }
+        requires usable { self.old.spoiled ≡ false }
         requires room { HoldsAtLeast W.Outside (store_bytes self.old) outside.old }
         ensures { Commits W.Outside (roomy self.old) self.old self.new outside.old outside.new result }
     {
@@ -179,6 +183,7 @@ impl Banks {
     /// written.
     fn commit_behind_checkpoint<W: Outside>(&mut self, outside: &mut W) -> Kept
         requires begun { IsSome self.old.begun }
+        requires usable { self.old.spoiled ≡ false }
         requires room { HoldsAtLeast W.Outside (store_bytes self.old) outside.old }
         ensures { Commits W.Outside (emptied self.old) self.old self.new outside.old outside.new result }
     {
@@ -190,13 +195,14 @@ impl Banks {
 
     /// Writes the newest bytes of each line that the chosen bank holds home, and makes the other bank the chosen one,
     /// with the number as its base and no records. It takes no memory. A begun record stays begun where this goes
-    /// well, and then it fits; where it fails no record is begun, and the banks have to be reopened before they are
-    /// used again (docs/FORMATS.md, "Protocols").
+    /// well, and then it fits; where it fails no record is begun, and the banks are spoiled (docs/FORMATS.md,
+    /// "Protocols").
     ///
     /// # Errors
     ///
     /// Only where the disk's count rose.
     pub fn checkpoint<W: Outside>(&mut self, outside: &mut W) -> Result<(), Failed>
+        requires usable { self.old.spoiled ≡ false }
         requires room { HoldsAtLeast W.Outside (store_bytes self.old) outside.old }
         ensures only { OnlyWrites W.Outside outside.old outside.new }
         ensures shape { SameShape self.old self.new }
@@ -212,7 +218,7 @@ impl Banks {
         let which = other_of(self.bank.which());
         match move_to(&self.bank, self.line.as_mut_slice(), which, outside) {
             Err(Failed) => {
-                self.bank.record_drop();
+                self.bank.spoil();
                 Err(Failed)
             }
             Ok(()) => {
@@ -240,6 +246,7 @@ fn move_to<W: Outside>(
     which: Which,
     outside: &mut W,
 ) -> Result<(), Failed>
+    requires usable { bank.now.spoiled ≡ false }
     requires whole { length buffer.old ≡ line_bytes_of bank.now }
     requires other { which ≡ other bank.now.which }
     requires room { HoldsAtLeast W.Outside (store_bytes bank.now) outside.old }

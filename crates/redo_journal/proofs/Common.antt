@@ -33,7 +33,7 @@ unfoldable pub use Rattle.store_format.specs.Stands.{stands}
 pub use Rattle.store_format.specs.declared.header.Which.{Which}
 pub use Rattle.redo_journal.specs.Gate.{HasBody, IsSafe, IsShut, is_open}
 pub use Rattle.redo_journal.specs.Inside.{IsWhole, begun_count, begun_lines, buffered, kept_of}
-pub use Rattle.redo_journal.specs.Kept.{KeptBank, SameShape, area_end, begun_of, end_of, line_bytes_of, needed_end, place_of, record_bytes_of, unbegun, with_line, with_record}
+pub use Rattle.redo_journal.specs.Kept.{KeptBank, SameShape, area_end, begun_of, end_of, line_bytes_of, needed_end, place_of, record_bytes_of, spoilt, with_line, with_record}
 pub use Rattle.redo_journal.specs.Noted.{AreNewest, AreWithin, IsNowhere, newest_place, noted, place_in}
 pub use Rattle.redo_journal.specs.Read.{AreRead, IsBank}
 pub use Rattle.redo_journal.specs.Records.{IsCounted, IsLine, IsLineOf, IsRecordAt, area_bytes}

@@ -35,7 +35,7 @@ begun_placed begun bank at = grind (arith, nat_tests, lines_placed)
 
 -- the fields of a bank that was turned to
 abbrev pub turned_fields : Which → Inside → (base at : ℕ) → List (Option ℕ) → Inside
-turned_fields which bank base at newest = record { which = which; page = bank.page; bank_bytes = bank.bank_bytes; base = base; count = 0; gate = at + 8; newest = newest; begun = bank.begun; body = bank.body }
+turned_fields which bank base at newest = record { which = which; page = bank.page; bank_bytes = bank.bank_bytes; base = base; count = 0; gate = at + 8; newest = newest; begun = bank.begun; spoiled = bank.spoiled; body = bank.body }
 
 pub turned_is : (which : Which) (bank : Inside) (kept : KeptBank) (base at : ℕ) (newest : List (Option ℕ)) → kept_of bank ≡ kept → base ≡ (bank.base + bank.count) % 2 ^ 64 → at ≡ place_of which bank.bank_bytes → newest ≡ replicate (length bank.newest) None
     → kept_of (turned_fields which bank base at newest) ≡ turned which kept

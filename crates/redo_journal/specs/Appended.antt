@@ -10,7 +10,7 @@ use Rattle.redo_journal.specs.declared.keep.Kept.TheVariants.{Done, Unwritten, D
 use Rattle.redo_journal.specs.declared.keep.Appended.{Appended}
 use Rattle.redo_journal.specs.declared.keep.Appended.TheVariants as appending
 use Rattle.redo_journal.specs.Held.{OnlyWrites}
-use Rattle.redo_journal.specs.Kept.{KeptBank, SameShape, area_end, begun_of, line_bytes_of, needed_end, record_bytes_of, unbegun, with_record}
+use Rattle.redo_journal.specs.Kept.{KeptBank, SameShape, area_end, begun_of, line_bytes_of, needed_end, record_bytes_of, spoilt, with_record}
 use Rattle.redo_journal.specs.Tracks.{TracksBank, IsEither, HoldsOneOf, IsAppended}
 
 -- A line may be added to the record that is begun: it is a line of the store, above those before it, and with it the record and a gate behind it fit an area.
@@ -28,12 +28,12 @@ kept_in appending.Full = None
 kept_in appending.Unwritten = Some Unwritten
 kept_in appending.Doubt = Some Doubt
 
--- the record is the bank's, or begun no more, or where it doesn't fit it stays begun
+-- the record is the bank's, or the bank is to be reopened, or where it doesn't fit it stays begun
 abbrev pub bank_appended : Option Kept → KeptBank → KeptBank
 bank_appended None bank = bank
 bank_appended (Some Done) bank = with_record bank
-bank_appended (Some Unwritten) bank = unbegun bank
-bank_appended (Some Doubt) bank = unbegun bank
+bank_appended (Some Unwritten) bank = spoilt bank
+bank_appended (Some Doubt) bank = spoilt bank
 
 -- the disk's count stays where the record was kept, and rises where the answer tells of a failure
 abbrev pub CountsKept : {W : Type 0} → Ghosts W → (before after : W) → Kept → Type 0

@@ -29,6 +29,7 @@ kept_of bank = record {
   gate = bank.gate;
   newest = bank.newest;
   begun = option_map (buffered bank) bank.begun;
+  spoiled = bank.spoiled;
 }
 
 -- The area is one of a store and has the gate and the newest places in it, the buffer has room for the begun record, and its lines ascend.

@@ -1,5 +1,5 @@
 -- A bank as it is kept.
-use Rattle.std.specs.Prelude.{◌≡◌, ℕ, ◌+◌, ◌*◌, ◌%◌, ◌^◌, List, [], ◌∷◌, ◌++◌, length, Option, None, Some, unwrap_or}
+use Rattle.std.specs.Prelude.{◌≡◌, ℕ, ◌+◌, ◌*◌, ◌%◌, ◌^◌, Bool, true, List, [], ◌∷◌, ◌++◌, length, Option, None, Some, unwrap_or}
 use Rattle.store_format.specs.declared.header.Which.{Which}
 use Rattle.store_format.specs.declared.header.Which.TheVariants.{A, B}
 use Rattle.line_geometry.specs.declared.directory.PageSize.{PageSize}
@@ -9,7 +9,8 @@ use Rattle.store_format.specs.Bank.{RecordLine}
 use Rattle.redo_journal.specs.Noted.{noted}
 
 -- Which bank it is, the size of the store's pages, the bytes of its record area, its base number, how many records it has, where its closed gate is,
--- the newest place of each line of the store, and the lines of the record that is begun, where one is, as they will lie behind the gate.
+-- the newest place of each line of the store, the lines of the record that is begun, where one is, as they will lie behind the gate, and whether it has
+-- to be reopened before it reads or writes.
 pub record KeptBank : Type 0 where
   pub which : Which
   pub page : PageSize
@@ -19,6 +20,7 @@ pub record KeptBank : Type 0 where
   pub gate : ℕ
   pub newest : List (Option ℕ)
   pub begun : Option (List RecordLine)
+  pub spoiled : Bool
 
 -- the bytes of a line of the store
 abbrev pub line_bytes_of : KeptBank → ℕ
@@ -58,9 +60,9 @@ abbrev pub with_line : KeptBank → ℕ → List ℕ → KeptBank
 with_line bank line bytes =
     record bank { begun = Some (begun_of bank ++ record { line = line; at = bank.gate + record_bytes_of bank (length (begun_of bank)); bytes = bytes } ∷ []) }
 
--- the bank without a begun record
-abbrev pub unbegun : KeptBank → KeptBank
-unbegun bank = record bank { begun = None }
+-- the bank after a write or a reopening that failed: it has no begun record and is to be reopened
+abbrev pub spoilt : KeptBank → KeptBank
+spoilt bank = record bank { begun = None; spoiled = true }
 
 -- the bank with the begun record as one record more
 abbrev pub with_record : KeptBank → KeptBank

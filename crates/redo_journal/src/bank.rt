@@ -1,9 +1,9 @@
-ghost use Rattle.std.specs.Prelude.{◌≡◌, ◌≢◌, ◌↔◌, ◌+◌, ◌*◌, ◌%◌, ◌≤◌, ◌<◌, ◌^◌, [], All, length, take, slice_set, slice_get, slice_range, is_some, Some, None, IsNone, IsSome, IfSome, IfOk, IfErr, OnOk};
+ghost use Rattle.std.specs.Prelude.{◌≡◌, ◌≢◌, ◌↔◌, ◌+◌, ◌*◌, ◌%◌, ◌≤◌, ◌<◌, ◌^◌, [], All, length, take, slice_set, slice_get, slice_range, is_some, Some, None, IsNone, IsSome, IfSome, IfOk, IfErr, OnOk, is_err, false};
 ghost use Rattle.std.specs.List.{list_any};
 ghost use Rattle.store_format.specs.Header.{total, HasRanges};
 ghost use Rattle.store_format.specs.Bank.{record_bytes};
 ghost use Rattle.outside.specs.Runs.{OnlyAsks, held_of};
-ghost use Rattle.redo_journal.specs.Kept.{KeptBank, place_of, end_of, area_end, number_of, begun_of, needed_end, with_line, unbegun, line_bytes_of, record_bytes_of, SameShape};
+ghost use Rattle.redo_journal.specs.Kept.{KeptBank, place_of, end_of, area_end, number_of, begun_of, needed_end, with_line, spoilt, line_bytes_of, record_bytes_of, SameShape};
 ghost use Rattle.redo_journal.specs.Appended.{Appends, TakesLine};
 ghost use Rattle.redo_journal.specs.Turned.{turned, head_bytes};
 ghost use Rattle.redo_journal.specs.Held.{HoldsAtLeast, WritesOnce};
@@ -23,7 +23,8 @@ use std::marker::Model;
 use store_format::{Header, Which, entries_bytes, entry_bytes};
 
 /// One bank of a store: its base number and the place of its closed gate, the newest place of each line of the store,
-/// and a record that is begun (docs/MODEL.md, "A bank that is kept").
+/// and a record that is begun (docs/MODEL.md, "A bank that is kept"). One that is spoiled has to be reopened before it
+/// reads or writes.
 #[derive(Drop)]
 pub struct Bank {
     which: Which,
@@ -34,6 +35,7 @@ pub struct Bank {
     gate: u64,
     newest: OwnedList<Option<u64>>,
     begun: Option<u16>,
+    spoiled: bool,
     body: OwnedList<u8>,
 }
 
@@ -67,6 +69,7 @@ impl Bank {
         ensures asks { OnlyAsks W.Outside outside.old outside.new }
         ensures opened { IfOk result (IsBankOf header.now which) }
         ensures read { IfOk result (λ bank. IsSome (W.held outside.old) → IsRead (held_of W.Outside outside.old) bank) }
+        ensures usable { IfOk result (λ bank. bank.spoiled ≡ false) }
         ensures no_fault { IfOk result (λ bank. W.disk_faults outside.new ≡ W.disk_faults outside.old) }
         ensures fault { IfErr result (IsBankOpenFault W.Outside outside.old outside.new header.now which) }
         ensures calm { IfErr result (λ fault. fault ≢ OpenFault.DiskFault → W.disk_faults outside.new ≡ W.disk_faults outside.old) }
@@ -95,12 +98,13 @@ impl Bank {
             gate: 264,
             newest: OwnedList::from_vec(vec![in alloc; None; lines]?),
             begun: None,
+            spoiled: true,
             body: OwnedList::from_vec(vec![in alloc; 0; bank_bytes as usize]?),
         })
     }
 
     /// Reads one of the store's banks again, in the room of this one. A begun record is forgotten. After an error it
-    /// has to be reopened before it is used again.
+    /// is spoiled.
     ///
     /// # Errors
     ///
@@ -112,6 +116,7 @@ impl Bank {
         ensures shape { SameShape self.old self.new }
         ensures turned { OnOk result (self.new.which ≡ which) }
         ensures begun { self.new.begun ≡ None }
+        ensures spoiled { self.new.spoiled ≡ is_err result }
         ensures read { OnOk result (IsSome (W.held outside.old) → IsRead (held_of W.Outside outside.old) self.new) }
         ensures no_fault { OnOk result (W.disk_faults outside.new ≡ W.disk_faults outside.old) }
         ensures fault { IfErr result (IsBankReopenFault W.Outside outside.old outside.new which self.old) }
@@ -123,6 +128,7 @@ impl Bank {
         self.count = 0;
         self.gate = at + 8;
         self.begun = None;
+        self.spoiled = true;
         match read_bank(outside, &mut self.newest, self.page, at, self.bank_bytes) {
             Err(Failed) => Err(ReopenFault::DiskFault),
             Ok(Found::Faulty(offset)) => Err(ReopenFault::Damaged(offset)),
@@ -130,6 +136,7 @@ impl Bank {
                 self.base = base;
                 self.gate = gate;
                 self.count = count;
+                self.spoiled = false;
                 Ok(())
             }
         }
@@ -227,6 +234,7 @@ impl Bank {
     ///
     /// Only where the disk's count rose.
     pub fn record_at<W: Outside>(&self, outside: &mut W, place: u32) -> Result<Record, Failed>
+        requires usable { self.now.spoiled ≡ false }
         requires inside { place < self.now.bank_bytes }
         requires room { HoldsAtLeast W.Outside (area_end self.now) outside.old }
         ensures { ReadsRecord W.Outside self.now.page self.now.bank_bytes self.now place outside.old outside.new result }
@@ -247,6 +255,7 @@ impl Bank {
         index: u16,
         into: &mut [u8],
     ) -> Result<u32, Failed>
+        requires usable { self.now.spoiled ≡ false }
         requires fits { of.now.place + record_bytes_of self.now of.now.count < self.now.bank_bytes }
         requires below { index < of.now.count }
         requires whole { length into.old ≡ line_bytes_of self.now }
@@ -264,6 +273,7 @@ impl Bank {
     ///
     /// Only where the disk's count rose.
     pub fn write_head<W: Outside>(&self, which: Which, outside: &mut W) -> Result<(), Failed>
+        requires usable { self.now.spoiled ≡ false }
         requires other { self.now.which ≢ which }
         requires room { HoldsAtLeast W.Outside (end_of which self.now.bank_bytes) outside.old }
         ensures { WritesOnce W.Outside (place_of which self.now.bank_bytes) (head_bytes (number_of self.now)) outside.old outside.new result }
@@ -294,11 +304,12 @@ impl Bank {
         self.begun = Some(0);
     }
 
-    /// Forgets the record that is begun.
-    pub fn record_drop(&mut self)
-        ensures { self.new ≡ unbegun self.old }
+    /// Is spoiled, with no record begun: it has to be reopened before it reads or writes.
+    pub fn spoil(&mut self)
+        ensures { self.new ≡ spoilt self.old }
     {
         self.begun = None;
+        self.spoiled = true;
     }
 
     /// Adds a line to the record that is begun: a line of the store, above those before it.
@@ -315,10 +326,10 @@ impl Bank {
 
     /// Adds the record that is begun to the bank, and makes it durable. Full where the record and the gate after it don't
     /// fit the rest of the bank: nothing is written, and the record stays begun. After any other answer no record is,
-    /// and after [`Appended::Unwritten`] and [`Appended::Doubt`] the bank has to be reopened before it is used again
-    /// (docs/FORMATS.md, "Protocols").
+    /// and after [`Appended::Unwritten`] and [`Appended::Doubt`] the bank is spoiled (docs/FORMATS.md, "Protocols").
     pub fn append<W: Outside>(&mut self, outside: &mut W) -> Appended
         requires begun { IsSome self.old.begun }
+        requires usable { self.old.spoiled ≡ false }
         requires room { HoldsAtLeast W.Outside (area_end self.old) outside.old }
         ensures { Appends W.Outside self.old self.new outside.old outside.new result }
     {
@@ -343,8 +354,14 @@ impl Bank {
                 self.count += 1;
                 Appended::Done
             }
-            Kept::Unwritten => Appended::Unwritten,
-            Kept::Doubt => Appended::Doubt,
+            Kept::Unwritten => {
+                self.spoiled = true;
+                Appended::Unwritten
+            }
+            Kept::Doubt => {
+                self.spoiled = true;
+                Appended::Doubt
+            }
         }
     }
 }

@@ -1,4 +1,4 @@
-ghost use Rattle.std.specs.Prelude.{◌≡◌, ◌≢◌, ◌+◌, ◌*◌, ◌%◌, ◌^◌, ◌≤◌, ◌<◌, [], All, length, Some, None, IsTrue, IsSome, IfOk, IfErr, OnOk};
+ghost use Rattle.std.specs.Prelude.{◌≡◌, ◌≢◌, ◌+◌, ◌*◌, ◌%◌, ◌^◌, ◌≤◌, ◌<◌, [], All, length, Some, None, IsTrue, IsSome, IfOk, IfErr, OnOk, is_err, false};
 ghost use Rattle.line_geometry.specs.Directory.{page_count};
 ghost use Rattle.line_geometry.specs.Segments.{page_bytes, line_bytes};
 ghost use Rattle.line_geometry.specs.Lines.{line_count};
@@ -28,7 +28,8 @@ use std::marker::Model;
 use store_format::{Header, lines_bytes};
 
 /// A store on a disk: its header, and the bank that the selector chooses. It is what an opening found, with each
-/// commit since (docs/MODEL.md, "A store that is open").
+/// commit since (docs/MODEL.md, "A store that is open"). One that is spoiled has to be reopened before it reads or
+/// writes.
 #[derive(Drop)]
 pub struct Durable {
     header: Header,
@@ -60,6 +61,7 @@ impl Durable {
         ensures shows { IfOk result (λ store. IsSome (W.held outside.old) → Shows (held_of W.Outside outside.old) store) }
         ensures tracks { IfOk result (λ store. IsTrue (W.is_honest outside.old) → IsSome (W.held outside.old) → TracksStore W.Outside store outside.new) }
         ensures begun { IfOk result (λ store. store.bank.begun ≡ None) }
+        ensures usable { IfOk result (λ store. store.bank.spoiled ≡ false) }
         ensures no_fault { IfOk result (λ store. W.disk_faults outside.new ≡ W.disk_faults outside.old) }
         ensures fault { IfErr result (IsStoreOpenFault W.Outside outside.old outside.new) }
         ensures calm { IfErr result (λ fault. fault ≢ OpenFault.DiskFault → W.disk_faults outside.new ≡ W.disk_faults outside.old) }
@@ -105,12 +107,13 @@ impl Durable {
     ///
     /// [`ReopenFault::Damaged`] only where the chosen bank has a fault, with its offset, and never after this
     /// value's own calls over an honest outside that tells its bytes; [`ReopenFault::DiskFault`] only where the disk's
-    /// count rose. After an error it has to be reopened before it is used again.
+    /// count rose. After an error it is spoiled.
     pub fn reopen<W: Outside>(&mut self, outside: &mut W) -> Result<(), ReopenFault>
         requires room { HoldsAtLeast W.Outside (total self.old.header) outside.old }
         ensures asks { OnlyAsks W.Outside outside.old outside.new }
         ensures header { self.new.header ≡ self.old.header }
         ensures begun { self.new.bank.begun ≡ None }
+        ensures spoiled { self.new.bank.spoiled ≡ is_err result }
         ensures read { OnOk result (IsSome (W.held outside.old) → IsReopened (held_of W.Outside outside.old) self.new) }
         ensures shows { OnOk result (HasHeader (held_of W.Outside outside.old) self.old.header → IsSome (W.held outside.old) → Shows (held_of W.Outside outside.old) self.new) }
         ensures tracks { OnOk result (HasHeader (held_of W.Outside outside.old) self.old.header → IsTrue (W.is_honest outside.old) → IsSome (W.held outside.old) → TracksStore W.Outside self.new outside.new) }
@@ -121,7 +124,7 @@ impl Durable {
     {
         match synced(outside) {
             Err(Failed) => {
-                self.banks.record_drop();
+                self.banks.spoil();
                 Err(ReopenFault::DiskFault)
             }
             Ok(()) => self.banks.reopen(outside),
@@ -148,13 +151,15 @@ impl Durable {
     }
 
     /// Adds the record that is begun and makes it durable, after a checkpoint where it doesn't fit the rest of the bank.
-    /// It takes no memory. No record is begun afterwards. After [`Kept::Unwritten`] and [`Kept::Doubt`] the store has
-    /// to be reopened before it is used again (docs/FORMATS.md, "Protocols").
+    /// It takes no memory. No record is begun afterwards. After [`Kept::Unwritten`] and [`Kept::Doubt`] the store is
+    /// spoiled (docs/FORMATS.md, "Protocols").
     pub fn commit<W: Outside>(&mut self, outside: &mut W) -> Kept
         requires begun { IsSome self.old.bank.begun }
+        requires usable { self.old.bank.spoiled ≡ false }
         requires room { HoldsAtLeast W.Outside (total self.old.header) outside.old }
         ensures only { OnlyWrites W.Outside outside.old outside.new }
         ensures header { self.new.header ≡ self.old.header }
+        ensures usable { result ≡ Kept.Done → self.new.bank.spoiled ≡ false }
         ensures kept { IsKeptAfter result (roomy self.old.bank) self.old.bank self.new.bank }
         ensures number { number_of self.new ≡ number_after result (number_of self.old) }
         ensures count { self.new.bank.count ≤ self.old.bank.count + 1 }
@@ -172,12 +177,13 @@ impl Durable {
     }
 
     /// Writes home what the chosen bank holds, and makes the other bank the chosen one, without records. It takes no
-    /// memory. After an error the store has to be reopened before it is used again (docs/FORMATS.md, "Protocols").
+    /// memory. After an error the store is spoiled (docs/FORMATS.md, "Protocols").
     ///
     /// # Errors
     ///
     /// Only where the disk's count rose.
     pub fn checkpoint<W: Outside>(&mut self, outside: &mut W) -> Result<(), Failed>
+        requires usable { self.old.bank.spoiled ≡ false }
         requires room { HoldsAtLeast W.Outside (total self.old.header) outside.old }
         ensures only { OnlyWrites W.Outside outside.old outside.new }
         ensures header { self.new.header ≡ self.old.header }
@@ -203,6 +209,7 @@ impl Durable {
     ///
     /// Only where the disk's count rose.
     pub fn record_at<W: Outside>(&self, outside: &mut W, place: u32) -> Result<Record, Failed>
+        requires usable { self.now.bank.spoiled ≡ false }
         requires inside { place < self.now.header.bank_bytes }
         requires room { HoldsAtLeast W.Outside (total self.now.header) outside.old }
         ensures { ReadsRecord W.Outside self.now.header.directory.page self.now.header.bank_bytes self.now.bank place outside.old outside.new result }
@@ -222,6 +229,7 @@ impl Durable {
         index: u16,
         into: &mut [u8],
     ) -> Result<u32, Failed>
+        requires usable { self.now.bank.spoiled ≡ false }
         requires fits { of.now.place + record_bytes self.now.header.directory.page of.now.count < self.now.header.bank_bytes }
         requires below { index < of.now.count }
         requires whole { length into.old ≡ line_bytes self.now.header.directory.page }
@@ -243,6 +251,7 @@ impl Durable {
         page: u16,
         into: &mut [u8],
     ) -> Result<(), Failed>
+        requires usable { self.now.bank.spoiled ≡ false }
         requires room { HoldsAtLeast W.Outside (total self.now.header) outside.old }
         requires page { page < page_count self.now.header.directory }
         requires whole { length into.old ≡ page_bytes self.now.header.directory.page }

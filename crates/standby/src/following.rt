@@ -1,5 +1,5 @@
 // The records of a ship text, committed to a store one after another.
-ghost use Rattle.std.specs.Prelude.{◌≡◌, ◌≢◌, ◌↔◌, ◌+◌, ◌≤◌, ◌<◌, ◌^◌, ◌⊎◌, ℕ, List, [], All, length, map, drop, true, IsTrue, IsSome, IfSome, IfNone, Err, IfErr, OnOk, OnErr};
+ghost use Rattle.std.specs.Prelude.{◌≡◌, ◌≢◌, ◌↔◌, ◌+◌, ◌≤◌, ◌<◌, ◌^◌, ◌⊎◌, ℕ, List, [], All, length, map, drop, true, false, IsTrue, IsSome, IfSome, IfNone, Err, IfErr, OnOk, OnErr};
 ghost use Rattle.line_geometry.specs.FlatStore.{FlatStore};
 ghost use Rattle.store_format.specs.Header.{total, most_lines};
 ghost use Rattle.line_geometry.specs.Segments.{line_bytes};
@@ -45,6 +45,7 @@ pub enum Followed {
 /// the number at the end (docs/FORMATS.md, "Ship text"). It takes no memory.
 pub fn follow<W: Outside>(durable: &mut Durable, ship: &Ship, outside: &mut W) -> Followed
     requires ship { IsShip ship.now }
+    requires usable { durable.old.bank.spoiled ≡ false }
     requires room { HoldsAtLeast W.Outside (total durable.old.header) outside.old }
     ensures geometry { result ≡ Followed.Geometry ↔ (IsAlike durable.old.header (content_of ship.now) → ⊥) }
     ensures not_kept { result ≡ Followed.NotKept ↔ (IsAlike durable.old.header (content_of ship.now) × (IsAmong (content_of ship.now) (number_of durable.old) → ⊥)) }
@@ -109,6 +110,7 @@ fn keep_all<W: Outside>(
     outside: &mut W,
 ) -> Result<(), Followed>
     requires fitting { All (IsFitting durable.old.header) records.now }
+    requires usable { durable.old.bank.spoiled ≡ false }
     requires room { HoldsAtLeast W.Outside (total durable.old.header) outside.old }
     ensures only { OnlyGoesOn W.Outside outside.old outside.new }
     ensures ends { EndsBy W.Outside outside.old outside.new (followed_of result) }
@@ -134,6 +136,7 @@ fn keep_each<W: Outside>(
     outside: &mut W,
 ) -> Result<(), Followed>
     requires fitting { All (IsFitting durable.old.header) records.now }
+    requires usable { durable.old.bank.spoiled ≡ false }
     requires room { HoldsAtLeast W.Outside (total durable.old.header) outside.old }
     ensures only { OnlyGoesOn W.Outside outside.old outside.new }
     ensures ends { EndsBy W.Outside outside.old outside.new (followed_of result) }
@@ -160,11 +163,13 @@ fn keep<W: Outside>(
     outside: &mut W,
 ) -> Result<(), Followed>
     requires fitting { IsFitting durable.old.header sent.now }
+    requires usable { durable.old.bank.spoiled ≡ false }
     requires room { HoldsAtLeast W.Outside (total durable.old.header) outside.old }
     ensures only { OnlyGoesOn W.Outside outside.old outside.new }
     ensures ends { EndsBy W.Outside outside.old outside.new (followed_of result) }
     ensures stopped { IfErr result IsStopped }
     ensures header { durable.new.header ≡ durable.old.header }
+    ensures usable { OnOk result (durable.new.bank.spoiled ≡ false) }
     ensures number { OnOk result (number_of durable.new ≡ next (number_of durable.old)) }
     ensures kept { OnOk result (durable.new.bank ≡ bank_with durable.old.bank (record_of (line_bytes durable.old.header.directory.page) sent.now)) }
     ensures steps { (store : FlatStore) → TracksStore W.Outside durable.old outside.old → stands (held_of W.Outside outside.old) ≡ Stands (number_of durable.old) store → Steps W.Outside (line_bytes durable.old.header.directory.page) (number_of durable.old) store (record_of (line_bytes durable.old.header.directory.page) sent.now) durable.new outside.old outside.new result }

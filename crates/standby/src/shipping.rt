@@ -1,5 +1,5 @@
 // The records of a bank behind a number, put as a text.
-ghost use Rattle.std.specs.Prelude.{◌≡◌, ◌≢◌, ◌↔◌, ◌+◌, ◌≤◌, ◌<◌, ◌⊎◌, ℕ, All, length, map, drop, take, slice_get, Some, Err, IsSome, IfOk, IfErr, OnOk, OnErr};
+ghost use Rattle.std.specs.Prelude.{◌≡◌, ◌≢◌, ◌↔◌, ◌+◌, ◌≤◌, ◌<◌, ◌⊎◌, ℕ, All, length, map, drop, take, slice_get, Some, Err, IsSome, IfOk, IfErr, OnOk, OnErr, false};
 ghost use Rattle.line_geometry.specs.Lines.{line_count};
 ghost use Rattle.line_geometry.specs.Segments.{line_bytes};
 ghost use Rattle.store_format.specs.Header.{total};
@@ -37,6 +37,7 @@ pub enum Shipped {
 /// Puts the records that the chosen bank has after a number, as a ship text (docs/FORMATS.md, "Ship text"). It only asks
 /// the disk, and takes no memory.
 pub fn ship<W: Outside>(durable: &Durable, outside: &mut W, from: u64) -> Shipped
+    requires usable { durable.now.bank.spoiled ≡ false }
     requires room { HoldsAtLeast W.Outside (total durable.now.header) outside.old }
     ensures not_kept { result ≡ Shipped.NotKept ↔ (durable.now.bank.count < behind durable.now.bank.base from) }
     ensures refused { result ≡ Shipped.NotKept → outside.new ≡ outside.old }
@@ -66,6 +67,7 @@ fn put_text<W: Outside>(
     lines: u32,
     outside: &mut W,
 ) -> Result<(), Shipped>
+    requires usable { durable.now.bank.spoiled ≡ false }
     requires room { HoldsAtLeast W.Outside (total durable.now.header) outside.old }
     requires some { 0 < durable.now.header.bank_bytes }
     requires lines { lines ≡ line_count durable.now.header.directory }
@@ -103,6 +105,7 @@ fn put_text<W: Outside>(
 
 /// The place of the gate after so many records.
 fn place_behind<W: Outside>(durable: &Durable, passed: u32, outside: &mut W) -> Result<u32, Shipped>
+    requires usable { durable.now.bank.spoiled ≡ false }
     requires room { HoldsAtLeast W.Outside (total durable.now.header) outside.old }
     requires some { 0 < durable.now.header.bank_bytes }
     requires passed { passed ≤ durable.now.bank.count }
@@ -130,6 +133,7 @@ fn put_records<W: Outside>(
     text: &mut TextLine,
     outside: &mut W,
 ) -> Result<(), Shipped>
+    requires usable { durable.now.bank.spoiled ≡ false }
     requires room { HoldsAtLeast W.Outside (total durable.now.header) outside.old }
     requires passed { passed ≤ durable.now.bank.count }
     requires some { 0 < durable.now.header.bank_bytes }
@@ -163,6 +167,7 @@ fn put_record<W: Outside>(
     text: &mut TextLine,
     outside: &mut W,
 ) -> Result<(), Shipped>
+    requires usable { durable.now.bank.spoiled ≡ false }
     requires room { HoldsAtLeast W.Outside (total durable.now.header) outside.old }
     requires fits { (entry.now.count ≡ 0) ⊎ (entry.now.place + record_bytes durable.now.header.directory.page entry.now.count < durable.now.header.bank_bytes) }
     ensures only { AsksAndPuts W.Outside outside.old outside.new }
@@ -193,6 +198,7 @@ fn put_one<W: Outside>(
     text: &mut TextLine,
     outside: &mut W,
 ) -> Result<(), Shipped>
+    requires usable { durable.now.bank.spoiled ≡ false }
     requires room { HoldsAtLeast W.Outside (total durable.now.header) outside.old }
     requires fits { entry.now.place + record_bytes durable.now.header.directory.page entry.now.count < durable.now.header.bank_bytes }
     requires below { index < entry.now.count }

@@ -1,6 +1,6 @@
 // The store that bytes in memory are.
 ghost use Rattle.store_calls.specs.declared.kept.KeptFault.TheVariants.{Memory};
-ghost use Rattle.std.specs.Prelude.{◌≡◌, IsSome, IfOk, IfErr, MatchResult};
+ghost use Rattle.std.specs.Prelude.{◌≡◌, IsSome, IfOk, IfErr, MatchResult, false};
 ghost use Rattle.line_geometry.specs.Directory.{byte_count};
 ghost use Rattle.outside.specs.Runs.{OnlyAsks, held_of};
 ghost use Rattle.redo_journal.specs.Held.{HoldsAtLeast};
@@ -98,6 +98,7 @@ fn all_bytes<W: Outside>(
     store: &Durable,
     outside: &mut W,
 ) -> Result<Vec<u8>, KeptFault>
+    requires usable { store.now.bank.spoiled ≡ false }
     requires room { HoldsAtLeast W.Outside (total store.now.header) outside.old }
     ensures read { IfOk result (λ bytes. IsShown W.Outside store.now outside.old → bytes.items ≡ bytes_in (stands (held_of W.Outside outside.old)) 0 (byte_count store.now.header.directory)) }
     ensures memory { IfErr result (λ fault. fault ≡ KeptFault.Memory) }

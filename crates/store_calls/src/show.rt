@@ -1,5 +1,5 @@
 // Bytes of a store, printed.
-ghost use Rattle.std.specs.Prelude.{◌≡◌, ◌+◌, ◌%◌, ◌^◌, ◌≤◌, ◌<◌, [], find, length, None, OnOk, MatchOption};
+ghost use Rattle.std.specs.Prelude.{◌≡◌, ◌+◌, ◌%◌, ◌^◌, ◌≤◌, ◌<◌, [], find, length, None, OnOk, MatchOption, false};
 ghost use Rattle.line_geometry.specs.Directory.{length_of, start_of, byte_count};
 ghost use Rattle.line_geometry.specs.Segments.{is_named, page_bytes};
 ghost use Rattle.store_format.specs.Header.{total};
@@ -100,6 +100,7 @@ fn put_range<W: Outside>(
     range: &Range,
     outside: &mut W,
 ) -> Result<(), Status>
+    requires usable { store.now.bank.spoiled ≡ false }
     requires room { HoldsAtLeast W.Outside (total store.now.header) outside.old }
     requires within { at + range.now.count ≤ byte_count store.now.header.directory }
     requires small { at + range.now.count ≤ 2 ^ 22 }
@@ -125,6 +126,7 @@ fn put_part<W: Outside>(
     count: u32,
     outside: &mut W,
 ) -> Result<(), Status>
+    requires usable { store.now.bank.spoiled ≡ false }
     requires room { HoldsAtLeast W.Outside (total store.now.header) outside.old }
     requires within { at + count ≤ byte_count store.now.header.directory }
     requires small { at + count ≤ 2 ^ 22 }
@@ -153,6 +155,7 @@ fn read_bytes<W: Outside>(
     into: &mut [u8],
     outside: &mut W,
 ) -> Result<(), Failed>
+    requires usable { store.now.bank.spoiled ≡ false }
     requires room { HoldsAtLeast W.Outside (total store.now.header) outside.old }
     requires within { at + length into.old ≤ byte_count store.now.header.directory }
     requires small { at + length into.old ≤ 2 ^ 22 }
@@ -183,6 +186,7 @@ fn read_in_page<W: Outside>(
     into: &mut [u8],
     outside: &mut W,
 ) -> Result<(), Failed>
+    requires usable { store.now.bank.spoiled ≡ false }
     requires room { HoldsAtLeast W.Outside (total store.now.header) outside.old }
     requires within { at < byte_count store.now.header.directory }
     requires inside { at % page_bytes store.now.header.directory.page + length into.old ≤ page_bytes store.now.header.directory.page }

@@ -62,6 +62,7 @@ module _ (s : Session) (new : Activations) (program : ℕ) (args : List ℕ) (so
       order = sound.room.order;
       commits = sound.room.commits;
     };
+    usable = sound.usable;
   }
 
   pub shown-begun : (answer : Begun) → ((committed : List ℕ) → KeepsDesk (activity s) committed → IsBegin (activity s) (activity_of new) program args answer committed)

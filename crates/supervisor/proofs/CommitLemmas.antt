@@ -43,6 +43,7 @@ pub record HasLeft (old new : Session) (seat : ℕ) (pool : Pool) (commits : ℕ
   pub begins : new.begins ≡ old.begins
   pub turns : new.turns ≡ old.turns
   pub closed : new.closed ≡ old.closed
+  pub usable : new.store.bank.spoiled ≡ false
   pub few : commits ≤ 1
   pub longer : vec_len new.order ≡ vec_len old.order + commits
   pub room : vec_capacity old.order ≤ vec_capacity new.order
@@ -80,6 +81,7 @@ module _ (s : Session) (seat : ℕ) (sound : IsSound s) (taken : has (activity s
       order = omega (arith, left.begins, left.room, sound.room.order);
       commits = let some = fewer-commits open_before in omega (arith, some, left.begins, left.few, left.longer);
     };
+    usable = λ still. left.usable;
   }
     where
       next : (activity n).next ≡ (activity s).next
@@ -101,6 +103,7 @@ module _ (s : Session) (seat : ℕ) (sound : IsSound s) (taken : has (activity s
       order = omega (arith, begins, room, sound.room.order);
       commits = let some = fewer-commits open_before in omega (arith, some, begins, longer);
     };
+    usable = λ still. absurd (let no : true ≡ false = sym closed ∙ still in cc (no));
   }
 
 -- what was printed in a taken seat is what the state of who sits there says

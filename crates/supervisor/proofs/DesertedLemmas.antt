@@ -4,8 +4,8 @@ use Rattle.supervisor.proofs.Common.{◌≡◌, sym, ◌∙◌, ap, subst, arith
 use Rattle.activations.specs.Ends.{IsDeserted}
 use Rattle.activations.specs.Follows as running
 
-pub deserted-sound : (s : Session) → IsSound s → (store : KeptStore) → store.header ≡ s.store.header → (left : Activations) → running.IsSound (activity_of left) → IsDeserted (activity s) (activity_of left) → s.closed ≡ false → (closed : Bool) → IsSound (record s { store = store; activations = left; closed = closed })
-deserted-sound s sound store header left kept gone was_open closed = record {
+pub deserted-sound : (s : Session) → IsSound s → (store : KeptStore) → store.header ≡ s.store.header → (left : Activations) → running.IsSound (activity_of left) → IsDeserted (activity s) (activity_of left) → s.closed ≡ false → (closed : Bool) → (closed ≡ false → store.bank.spoiled ≡ false) → IsSound (record s { store = store; activations = left; closed = closed })
+deserted-sound s sound store header left kept gone was_open closed usable = record {
   ranges = subst HasRanges (sym header) sound.ranges;
   running = kept;
   directory = ap (λ (h : Header). h.directory) header ∙ sound.directory ∙ sym gone.directory;
@@ -19,11 +19,12 @@ deserted-sound s sound store header left kept gone was_open closed = record {
     order = sound.room.order;
     commits = sound.room.commits;
   };
+  usable = usable;
 }
 
 -- and so is one over another store with the same header, where what runs is as before
-pub stored-sound : (s : Session) → IsSound s → (store : KeptStore) → store.header ≡ s.store.header → (left : Activations) → activity_of left ≡ activity s → s.closed ≡ false → (closed : Bool) → IsSound (record s { store = store; activations = left; closed = closed })
-stored-sound s sound store header left same was_open closed = record {
+pub stored-sound : (s : Session) → IsSound s → (store : KeptStore) → store.header ≡ s.store.header → (left : Activations) → activity_of left ≡ activity s → s.closed ≡ false → (closed : Bool) → (closed ≡ false → store.bank.spoiled ≡ false) → IsSound (record s { store = store; activations = left; closed = closed })
+stored-sound s sound store header left same was_open closed usable = record {
   ranges = subst HasRanges (sym header) sound.ranges;
   running = subst running.IsSound (sym same) sound.running;
   directory = ap (λ (h : Header). h.directory) header ∙ sound.directory ∙ sym (ap (λ (a : Activity). a.reach.directory) same);
@@ -37,4 +38,5 @@ stored-sound s sound store header left same was_open closed = record {
     order = sound.room.order;
     commits = sound.room.commits;
   };
+  usable = usable;
 }

@@ -29,6 +29,7 @@ sound-ran s ran limit sound few turned rows is parts = record {
     order = sound.room.order;
     commits = sound.room.commits;
   };
+  usable = sound.usable;
 }
 
 -- the desk of an open session is that over what runs

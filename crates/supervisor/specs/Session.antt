@@ -68,6 +68,7 @@ pub record IsSound (s : Session) : Type 0 where
   pub directory : s.store.header.directory ≡ (activity s).reach.directory
   pub most : most_lines s.store.header ≡ (activity s).most_lines
   pub room : HaveRoom s
+  pub usable : s.closed ≡ false → s.store.bank.spoiled ≡ false
 
 -- the parts that only an opening or a begin sets are as before
 pub record KeepsParts (old new : Session) : Type 0 where

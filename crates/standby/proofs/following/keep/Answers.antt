@@ -37,10 +37,17 @@ returns-in-Unwritten g c =
       ends = (⊎_elim (counted g at Unwritten) (counted g at Doubt) c.in-Unwritten.is, c.commit.ensures.only.calls.put);
       stopped = tt;
       header = c.commit.ensures.header ∙ ap (λ (store : KeptStore). store.header) c.begin.ensures.now_is;
+      usable = tt;
       number = tt;
       kept = tt;
       steps = unkept g at;
     }
+
+pub commit-requires-clause-usable : goal.commit-requires-clause-usable
+commit-requires-clause-usable g c = ap (λ (store : KeptStore). store.bank.spoiled) c.begin.ensures.now_is ∙ c.requires.usable
+
+pub returns-clause-usable : goal.returns-clause-usable
+returns-clause-usable g c = on_ok c.put_line.result (c.commit.ensures.usable c.in-Done.is)
 
 pub returns-clause-only : goal.returns-clause-only
 returns-clause-only g c =

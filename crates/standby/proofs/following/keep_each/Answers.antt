@@ -26,6 +26,7 @@ loop-record-init g c =
       disk = refl;
       put = refl;
       header = refl;
+      usable = c.requires.usable;
       number = number;
       bank = refl;
       so_far = λ store tracks stood.
@@ -55,6 +56,7 @@ loop-record-preserved g c =
       disk = c.in-Ok.ensures.ends.0 ∙ c.loop-record.invariant.disk;
       put = c.in-Ok.ensures.ends.1 ∙ c.loop-record.invariant.put;
       header = c.keep.ensures.header ∙ c.loop-record.invariant.header;
+      usable = c.in-Ok.ensures.usable;
       number = c.in-Ok.ensures.number ∙ ap next c.loop-record.invariant.number ∙ later_more (number_of c.args.durable.now) i;
       bank = c.in-Ok.ensures.kept ∙ bank_more c.args.durable.now.bank c.loop-record.durable.bank all i lt (record_of (line_bytes c.loop-record.durable.header.directory.page) c.record-item.result) c.loop-record.invariant.bank
           (ap (λ (header : Header). record_of (line_bytes header.directory.page) c.record-item.result) c.loop-record.invariant.header ∙ lines_are (line_bytes c.args.durable.now.header.directory.page) c.args.records.now i c.record-item.result c.loop-record-test.true c.record-item.is);

@@ -1,4 +1,5 @@
 use Rattle.standby.proofs.Common.{◌≡◌, map, take, FlatStore, line_bytes, Stands, stands, held_of, number_of, TracksStore, bank_behind, OnlyGoesOn, SoFar, later, record_of}
+use Rattle.std.specs.Prelude.{false}
 use Rattle.standby.proofs.following.keep_each.Given as goal
 
 -- the records so far are kept and told
@@ -8,6 +9,7 @@ invariant-loop-record g l = record {
   disk : g.W.Outside.disk_faults l.outside ≡ g.W.Outside.disk_faults l.initial.outside;
   put : g.W.Outside.put_faults l.outside ≡ g.W.Outside.put_faults l.initial.outside;
   header : l.durable.header ≡ l.initial.durable.header;
+  usable : l.durable.bank.spoiled ≡ false;
   number : number_of l.durable ≡ later (number_of l.initial.durable) l.record-index;
   bank : l.durable.bank ≡ bank_behind l.initial.durable.bank (take l.record-index (map (record_of (line_bytes l.initial.durable.header.directory.page)) l.records));
   so_far : (store : FlatStore) → TracksStore g.W.Outside l.initial.durable l.initial.outside → stands (held_of g.W.Outside l.initial.outside) ≡ Stands (number_of l.initial.durable) store

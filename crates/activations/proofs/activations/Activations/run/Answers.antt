@@ -161,6 +161,7 @@ come_back-requires-clause-can g c =
       fetch = record {
         sound = inv.0;
         directory = c.requires.can.directory ∙ sym (inv.6.directory ∙ ap (λ (x : Activity). x.reach.directory) c.select.ensures.shape);
+        usable = c.requires.can.usable;
         room = (asks_only g.W.Outside c.args.outside.now c.loop-left.outside inv.4).longer (total c.args.store.now.header) c.requires.can.room;
       };
       taken = inv.1.taken;
@@ -177,6 +178,7 @@ instruct-requires-clause-can g c =
       fetch = record {
         sound = keeps.sound;
         directory = c.requires.can.directory ∙ sym (keeps.parts.directory ∙ inv.6.directory ∙ ap (λ (x : Activity). x.reach.directory) c.select.ensures.shape);
+        usable = c.requires.can.usable;
         room = (asks_only g.W.Outside c.loop-left.outside c.come_back.new.outside keeps.asks).longer (total c.args.store.now.header) room;
       };
       taken = stays.taken;

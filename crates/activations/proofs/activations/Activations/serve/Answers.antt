@@ -61,6 +61,7 @@ get-requires-clause-can g c = record {
   fetch = record {
     sound = c.ask.ensures.keeps.sound;
     directory = c.requires.can.fetch.directory ∙ sym (c.ask.ensures.keeps.parts.directory ∙ c.prepare.ensures.keeps.parts.directory);
+    usable = c.requires.can.fetch.usable;
     room = (asks_only g.W.Outside c.args.outside.now c.prepare.new.outside c.prepare.ensures.keeps.asks).longer (total c.args.store.now.header) c.requires.can.fetch.room;
   };
   taken = c.in_ok-ask.ensures.stays.taken;

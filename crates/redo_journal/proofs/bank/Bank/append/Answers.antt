@@ -1,4 +1,4 @@
-use Rattle.redo_journal.proofs.Common.{◌≡◌, inl, ℕ, ◌+◌, ◌*◌, List, [], ◌∷◌, ◌++◌, length, drop, slice_set, refl, sym, subst, ◌∙◌, ap, arith, rules, length-append, Option, None, Some, IfSome, SameShape, IsAppended, entry_bytes, RecordLine, lines_from, wrong_line, record_bytes, length-take-le, leaves_held, IsStore, stands, one_more, held_of, noted, AreNewest, KeptBank, end_of, begun_of, unbegun, begun_count, begun_lines, kept_of, TracksBank, IsEither, HoldsOneOf, IsSafe, IsShut}
+use Rattle.redo_journal.proofs.Common.{◌≡◌, inl, ℕ, ◌+◌, ◌*◌, List, [], ◌∷◌, ◌++◌, length, drop, slice_set, refl, sym, subst, ◌∙◌, ap, arith, rules, length-append, Option, None, Some, IfSome, SameShape, IsAppended, entry_bytes, RecordLine, lines_from, wrong_line, record_bytes, length-take-le, leaves_held, IsStore, stands, one_more, held_of, noted, AreNewest, KeptBank, end_of, begun_of, spoilt, begun_count, begun_lines, kept_of, TracksBank, IsEither, HoldsOneOf, IsSafe, IsShut}
 use Rattle.redo_journal.proofs.AppendLemmas.{IsReadied, make_ready, shut, either, one_of, same, more, after, doubted, filled_lines, says_room, begun_is, fields_tracked, with_record_is, is_begun, unwrapped}
 use Rattle.redo_journal.proofs.Places.{below_in_order, newest_more}
 use Rattle.redo_journal.proofs.WriteLemmas.{held_left}
@@ -124,7 +124,7 @@ appends g c new answer told kept shape failed done =
 pub returns-in-Unwritten : goal.returns-in-Unwritten
 returns-in-Unwritten g c =
     let at = (goal.at.returns-in-Unwritten g c).After-keep_body in
-    appends g at _ appending.Unwritten (ap Some (sym c.in-Unwritten.is)) (ap unbegun c.self.view_is) (search rules)
+    appends g at _ appending.Unwritten (ap Some (sym c.in-Unwritten.is)) (ap spoilt c.self.view_is) (search rules)
     (λ tracks image seen left.
     let shut = shut_gate g at tracks in
     same _ _ _ _ _ _ _ _ _ (ready g at tracks).ready image (c.keep_body.ensures.crash shut image seen left) (c.keep_body.ensures.unwritten c.in-Unwritten.is shut image seen left))
@@ -134,7 +134,7 @@ pub returns-in-Doubt : goal.returns-in-Doubt
 returns-in-Doubt g c =
     let at = (goal.at.returns-in-Doubt g c).After-keep_body in
     let stood = stands (held_of g.W.Outside c.args.outside.now) in
-    appends g at _ appending.Doubt (ap Some (sym c.in-Doubt.is)) (ap unbegun c.self.view_is) (search rules)
+    appends g at _ appending.Doubt (ap Some (sym c.in-Doubt.is)) (ap spoilt c.self.view_is) (search rules)
     (λ tracks image seen left.
     let shut = shut_gate g at tracks in
     subst (λ (n : ℕ). stands (slice_set image n 0xA5) ≡ one_more (begun_of c.args.self.now) stood) (ap (λ (bank : KeptBank). bank.gate) c.self.view_is)

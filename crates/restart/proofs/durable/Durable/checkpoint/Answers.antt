@@ -8,11 +8,9 @@ use Rattle.restart.proofs.durable.Durable.checkpoint.Given.{Over}
 use Rattle.restart.proofs.durable.Durable.checkpoint.Goals as goal
 use Rattle.restart.proofs.durable.Durable.checkpoint.Goals.{After-checkpoint}
 
-pub checkpoint-requires : goal.checkpoint-requires
-checkpoint-requires g c = record {
-  room = λ held is.
-      omega (arith, c.requires.room held is, total_is c.self.inside.header c.self.inside.banks c.self.invariant, ap (λ (store : KeptStore). total store.header) c.self.view_is);
-}
+pub checkpoint-requires-clause-room : goal.checkpoint-requires-clause-room
+checkpoint-requires-clause-room g c held is =
+    omega (arith, c.requires.room held is, total_is c.self.inside.header c.self.inside.banks c.self.invariant, ap (λ (store : KeptStore). total store.header) c.self.view_is)
 
 bank : (g : Over) (c : goal.After-checkpoint g) → c.self.inside.banks ≡ c.args.self.now.bank
 bank g c = ap (λ (store : KeptStore). store.bank) c.self.view_is

@@ -1,5 +1,7 @@
 use Rattle.restart.proofs.Common.{◌≡◌, ap, subst, sym, ◌∙◌, arith, total, held_of, KeptBank, KeptStore, roomy, Commits}
-use Rattle.checkpoint.proofs.CommitLemmas.{number_kept, count_kept}
+use Rattle.redo_journal.specs.declared.keep.Kept.{Kept}
+use Rattle.checkpoint.specs.Committed.{IsKeptAfter}
+use Rattle.checkpoint.proofs.CommitLemmas.{usable_kept, number_kept, count_kept}
 use Rattle.restart.proofs.ShowLemmas.{bank_tracked, store_tracked, total_is, committed_intact}
 use Rattle.restart.proofs.durable.Durable.commit.Given.{Over}
 use Rattle.restart.proofs.durable.Durable.commit.Goals as goal
@@ -15,6 +17,11 @@ did g c = subst (λ (bank : KeptBank). Commits g.W.Outside (roomy bank) bank c.c
 
 pub returns-clause-kept : goal.returns-clause-kept
 returns-clause-kept g c = (did g (goal.at.returns-clause-kept g c).After-commit).kept
+
+pub returns-clause-usable : goal.returns-clause-usable
+returns-clause-usable g c is =
+    let at = (goal.at.returns-clause-usable g c).After-commit in
+    usable_kept c.args.self.now.bank c.commit.new.self (subst (λ (kept : Kept). IsKeptAfter kept (roomy c.args.self.now.bank) c.args.self.now.bank c.commit.new.self) is (did g at).kept) c.requires.usable
 
 pub returns-clause-crash : goal.returns-clause-crash
 returns-clause-crash g c tracks = (did g (goal.at.returns-clause-crash g c).After-commit).crash (bank_tracked g.W.Outside c.args.self.now c.args.outside.now tracks)

@@ -1,5 +1,6 @@
 use Rattle.supervisor.proofs.DesertedLemmas.{stored-sound}
-use Rattle.supervisor.proofs.Common.{◌≡◌, sym, ◌∙◌, subst, true, Leaves, held_of, TracksStore, stands, Did, Desk, number_after, CheckpointMade, CheckpointFailed, activity, session_desk, order_of, ShowsDesk, refl}
+use Rattle.supervisor.proofs.Common.{◌≡◌, ap, sym, ◌∙◌, subst, true, Leaves, held_of, TracksStore, stands, Did, Desk, number_after, CheckpointMade, CheckpointFailed, activity, session_desk, order_of, ShowsDesk, refl}
+use Rattle.redo_journal.specs.Kept.{KeptBank}
 use Rattle.desk.specs.declared.event.Event.TheVariants as event
 use Rattle.supervisor.proofs.CauseLemmas.{calls-store}
 use Rattle.supervisor.proofs.DidLemmas.{did-checkpoint, did-fail-checkpoint}
@@ -46,7 +47,7 @@ pub returns-in-Err-clause-calls : goal.returns-in-Err-clause-calls
 returns-in-Err-clause-calls g c = calls-store g.W.Outside c.args.self.now.store.header _ c.args.outside.now c.checkpoint.new.outside c.in-Err.ensures.header c.in-Err.ensures.only c.requires.bytes
 
 pub returns-in-Ok-clause-sound : goal.returns-in-Ok-clause-sound
-returns-in-Ok-clause-sound g c = let s = c.args.self.now in stored-sound s c.requires.sound c.checkpoint.new.self c.in-Ok.ensures.header s.activations refl c.if-self.false s.closed
+returns-in-Ok-clause-sound g c = let s = c.args.self.now in stored-sound s c.requires.sound c.checkpoint.new.self c.in-Ok.ensures.header s.activations refl c.if-self.false s.closed (λ still. ap (λ (bank : KeptBank). bank.spoiled) c.in-Ok.ensures.kept ∙ c.requires.sound.usable still)
 
 pub returns-in-Err-clause-sound : goal.returns-in-Err-clause-sound
-returns-in-Err-clause-sound g c = let s = c.args.self.now in stored-sound s c.requires.sound c.checkpoint.new.self c.in-Err.ensures.header s.activations refl c.if-self.false true
+returns-in-Err-clause-sound g c = let s = c.args.self.now in stored-sound s c.requires.sound c.checkpoint.new.self c.in-Err.ensures.header s.activations refl c.if-self.false true (λ still. cc)

@@ -24,6 +24,7 @@ returns-in-Err-clause-sound g c =
       begins = refl;
       turns = refl;
       closed = refl;
+      usable = ap (λ (store : KeptStore). store.bank.spoiled) c.in-Err.ensures.unwritten ∙ c.requires.sound.usable c.requires.open;
       few = omega arith;
       longer = omega arith;
       room = omega arith;
@@ -65,6 +66,7 @@ returns-in-Done-clause-sound g c =
       begins = ap (λ (n : Session). n.begins) others;
       turns = ap (λ (n : Session). n.turns) others;
       closed = ap (λ (n : Session). n.closed) others;
+      usable = ap (λ (n : Session). n.store.bank.spoiled) others ∙ c.commit.ensures.usable c.in-Done.is;
       few = omega arith;
       longer = omega (arith, entered.order.ok.0, s.order.ok.0, ap length order ∙ length-append s.order.items (c.committed_in-committed.result ∷ []));
       room = c.enter_order.ensures.room;
@@ -226,3 +228,7 @@ commit-requires-in-Done-clause-sound g c = subst running.IsSound (sym (ap activi
 
 pub committed_in-committed-requires-clause-sound : goal.committed_in-committed-requires-clause-sound
 committed_in-committed-requires-clause-sound g c = let s = c.args.self.now in stored-sound s c.requires.sound c.record.new.store (ap (λ (store : KeptStore). store.header) c.in_default.ensures.begun) c.record.new.self c.in_default.ensures.kept c.requires.open s.closed
+    (λ still. ap (λ (store : KeptStore). store.bank.spoiled) c.in_default.ensures.begun ∙ c.requires.sound.usable still)
+
+pub commit-requires-clause-usable : goal.commit-requires-clause-usable
+commit-requires-clause-usable g c = ap (λ (store : KeptStore). store.bank.spoiled) c.in_default.ensures.begun ∙ c.requires.sound.usable c.requires.open

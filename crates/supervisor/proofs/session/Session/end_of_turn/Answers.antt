@@ -10,7 +10,7 @@ returns-in_default-clause-went g c sure over =
     c.args.tally.now (nothing-counted c.args.tally.now c.requires.tally c.requires.cycles) (sym c.seat_of.ensures ∙ c.in_default.is)
 
 pub run-requires-clause-can : goal.run-requires-clause-can
-run-requires-clause-can g c = record { sound = c.requires.sound.running; directory = c.requires.sound.directory; room = c.requires.bytes }
+run-requires-clause-can g c = record { sound = c.requires.sound.running; directory = c.requires.sound.directory; usable = c.requires.sound.usable c.requires.open; room = c.requires.bytes }
 
 pub run-requires-clause-taken : goal.run-requires-clause-taken
 run-requires-clause-taken g c = (seat-found (activity c.args.self.now).seating c.requires.sound.running.seating c.args.activation c.in-Some.seat (sym c.seat_of.ensures ∙ c.in-Some.is)).0

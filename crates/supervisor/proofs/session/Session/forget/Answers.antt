@@ -62,10 +62,10 @@ returns-in-Err-Damaged-clause-undamaged g c = λ desk offset told shown same.
     undamaged s (held_of G c.args.outside.now) shown.over c.in-Err-Damaged.offset (fault told)
 
 pub returns-in-Ok-clause-sound : goal.returns-in-Ok-clause-sound
-returns-in-Ok-clause-sound g c = let s = c.args.self.now in deserted-sound s c.requires.sound c.reopen.new.self c.in-Ok.ensures.header c.forget.new.self c.forget.ensures.sound c.forget.ensures.deserted c.if-self.false s.closed
+returns-in-Ok-clause-sound g c = let s = c.args.self.now in deserted-sound s c.requires.sound c.reopen.new.self c.in-Ok.ensures.header c.forget.new.self c.forget.ensures.sound c.forget.ensures.deserted c.if-self.false s.closed (λ still. c.in-Ok.ensures.spoiled)
 
 pub returns-in-Err-Damaged-clause-sound : goal.returns-in-Err-Damaged-clause-sound
-returns-in-Err-Damaged-clause-sound g c = let s = c.args.self.now in deserted-sound s c.requires.sound c.reopen.new.self c.in-Err-Damaged.ensures.header c.forget.new.self c.forget.ensures.sound c.forget.ensures.deserted c.if-self.false true
+returns-in-Err-Damaged-clause-sound g c = let s = c.args.self.now in deserted-sound s c.requires.sound c.reopen.new.self c.in-Err-Damaged.ensures.header c.forget.new.self c.forget.ensures.sound c.forget.ensures.deserted c.if-self.false true (λ still. cc)
 
 pub returns-in-Err-DiskFault-clause-sound : goal.returns-in-Err-DiskFault-clause-sound
-returns-in-Err-DiskFault-clause-sound g c = let s = c.args.self.now in deserted-sound s c.requires.sound c.reopen.new.self c.in-Err-DiskFault.ensures.header c.forget.new.self c.forget.ensures.sound c.forget.ensures.deserted c.if-self.false true
+returns-in-Err-DiskFault-clause-sound g c = let s = c.args.self.now in deserted-sound s c.requires.sound c.reopen.new.self c.in-Err-DiskFault.ensures.header c.forget.new.self c.forget.ensures.sound c.forget.ensures.deserted c.if-self.false true (λ still. cc)
