@@ -1,5 +1,5 @@
 -- Records that are kept and told, one after another.
-use Rattle.standby.proofs.Common.{⊎_elim, ◌≡◌, ℕ, suc, ◌+◌, ◌-◌, ◌<◌, List, [], ◌++◌, length, take, get_or, refl, sym, ◌∙◌, ap, subst, arith, append-nil, IfSome_then, Option, Result, Ok, Err, OnErr, take_all, FlatStore, Stands, stands, Failed, Ghosts, Prints, FewerLater, Leaves, held_of, told_is, prints_none, prints_on, prints_same, prints_stop, leaves_on, KeptStore, Shows, TracksStore, BreaksAt, FollowsBy, IsAtNumber, IsStopped, Follows, Keeps, SoFar, broken, kept_text, well, Puts, laid_by, Steps, followed_of, put_of, ShipLine, end_line, kept_line, later, next, Followed, Done, DiskFault, PutFault}
+use Rattle.standby.proofs.Common.{⊎_elim, ◌≡◌, ℕ, suc, ◌+◌, ◌-◌, ◌<◌, List, [], ◌++◌, length, take, get_or, refl, sym, ◌∙◌, ap, subst, arith, append-nil, IfSome_then, Option, Result, Ok, Err, OnErr, take_all, FlatStore, Stands, stands, Failed, Ghosts, Prints, FewerLater, Leaves, held_of, told_is, prints_none, prints_on, prints_same, prints_stop, leaves_on, KeptStore, Shows, TracksStore, BreaksAt, EndsWith, IsAtNumber, IsStopped, Follows, Keeps, SoFar, broken, followed_text, kept_text, well, Puts, laid_by, Steps, followed_of, put_of, ShipLine, end_line, kept_line, later, next, Followed, Done, DiskFault, PutFault}
 use Rattle.outside.specs.Moments.{Elapses}
 use Rattle.standby.proofs.PutLemmas.{PrintedNow, image_is, sure_puts, told_on}
 use Rattle.standby.proofs.TellLemmas.{at_end, at_some, at_step, kept_front, stood_more}
@@ -139,12 +139,11 @@ module _ {W : Type 0} (G : Ghosts W) (fewer_later : FewerLater G) (printed_now :
   -- what stopped in a record stops there
   pub stopped_early : (durable : KeptStore) (before after : W) (why : Followed) → (why ≡ Done → ⊥) → Keeps G bytes number store records durable before after why → Follows G bytes number store records durable before after why
   stopped_early durable before after Done differs keeps = absurd (differs refl)
-  stopped_early durable before after DiskFault differs keeps = record { crash = keeps.crash; ends = keeps.ends }
   stopped_early durable before after PutFault differs keeps = record {
     crash = keeps.crash;
     ends = (keeps.ends.0, prints_stop (G.printed before) (G.printed after) (kept_text number (length records)) (end_line (later number (length records))) broken broken refl refl keeps.ends.1);
   }
-  stopped_early durable before after _ differs keeps = absurd keeps.ends
+  stopped_early durable before after _ differs keeps = record { crash = keeps.crash; ends = keeps.ends }
 
 -- a fault isn't the end
 pub not_done : (why : Followed) → IsStopped why → why ≡ Done → ⊥
@@ -153,6 +152,6 @@ not_done _ stopped is = cc
 
 -- nothing is called
 pub follows_none : {W : Type 0} (G : Ghosts W) (fewer_later : FewerLater G) (printed_now : PrintedNow G) (bytes number : ℕ) (store : FlatStore) (records : List (List ShipLine)) (durable : KeptStore) (now : W) (how : Followed)
-    → later number 0 ≡ number → TracksStore G durable now → stands (held_of G now) ≡ Stands number store → FollowsBy G bytes number store records durable now now how → Follows G bytes number store records durable now now how
+    → later number 0 ≡ number → TracksStore G durable now → stands (held_of G now) ≡ Stands number store → EndsWith G bytes number store records (followed_text number (length records)) (length records + 1) durable now now how → Follows G bytes number store records durable now now how
 follows_none G fewer_later printed_now bytes number store records durable now how number_is tracks stood ends =
     record { crash = (so_far_none G fewer_later printed_now bytes number store records durable now number_is tracks stood).crash; ends = ends }

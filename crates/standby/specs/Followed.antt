@@ -97,26 +97,16 @@ pub record BreaksAt {W : Type 0} (G : Ghosts W) (bytes number : ℕ) (store : Fl
   pub tracks : TracksStore G durable now
   pub stood : stands (held_of G now) ≡ Stands (later number count) (laid_by bytes store (take count records))
 
--- how the records were kept and told, from a store that was tracked: all were, each by one put; or some were kept, and a first part of what tells of
--- all is printed; or some were kept and told, and the disk then failed; it ends in no other way
-abbrev pub KeepsBy : {W : Type 0} → Ghosts W → (bytes number : ℕ) → FlatStore → List (List ShipLine) → KeptStore → W → W → Followed → Type 0
-KeepsBy G bytes number store records durable before after Done =
-    IsLater G bytes number store records durable after × Prints (G.printed before) (G.printed after) (kept_text number (length records)) well × CountsPuts G (length records) before after
-KeepsBy G bytes number store records durable before after PutFault =
-    BreaksAt G bytes number store records durable after × Prints (G.printed before) (G.printed after) (kept_text number (length records)) broken
-KeepsBy G bytes number store records durable before after DiskFault =
+-- how following ended that was to print this text by so many puts, from a store that was tracked: all records were kept and it is printed, each line by
+-- one put; or some were kept, and a first part of it is printed; or some were kept and told, and the disk then failed; or nothing was called
+abbrev pub EndsWith : {W : Type 0} → Ghosts W → (bytes number : ℕ) → FlatStore → List (List ShipLine) → (text : List ℕ) (puts : ℕ) → KeptStore → W → W → Followed → Type 0
+EndsWith G bytes number store records text puts durable before after Done =
+    IsLater G bytes number store records durable after × Prints (G.printed before) (G.printed after) text well × CountsPuts G puts before after
+EndsWith G bytes number store records text puts durable before after PutFault =
+    BreaksAt G bytes number store records durable after × Prints (G.printed before) (G.printed after) text broken
+EndsWith G bytes number store records text puts durable before after DiskFault =
     (at : StopsAt G bytes number store records before after) × (at.count < length records)
-KeepsBy G bytes number store records durable before after _ = ⊥
-
--- the same with the last line; where they weren't to be kept nothing was called
-abbrev pub FollowsBy : {W : Type 0} → Ghosts W → (bytes number : ℕ) → FlatStore → List (List ShipLine) → KeptStore → W → W → Followed → Type 0
-FollowsBy G bytes number store records durable before after Done =
-    IsLater G bytes number store records durable after × Prints (G.printed before) (G.printed after) (followed_text number (length records)) well × CountsPuts G (length records + 1) before after
-FollowsBy G bytes number store records durable before after PutFault =
-    BreaksAt G bytes number store records durable after × Prints (G.printed before) (G.printed after) (followed_text number (length records)) broken
-FollowsBy G bytes number store records durable before after DiskFault =
-    (at : StopsAt G bytes number store records before after) × (at.count < length records)
-FollowsBy G bytes number store records durable before after _ = after ≡ before
+EndsWith G bytes number store records text puts durable before after _ = after ≡ before
 
 -- so many of the records are kept and told
 pub record SoFar {W : Type 0} (G : Ghosts W) (bytes number : ℕ) (store : FlatStore) (records : List (List ShipLine)) (count : ℕ) (durable : KeptStore) (before now : W) : Type 0 where
@@ -126,12 +116,15 @@ pub record SoFar {W : Type 0} (G : Ghosts W) (bytes number : ℕ) (store : FlatS
   pub printed : Prints (G.printed before) (G.printed now) (kept_text number count) well
   pub times : CountsPuts G count before now
 
--- What keeping records did, and what a crash in it left.
-pub record Keeps {W : Type 0} (G : Ghosts W) (bytes number : ℕ) (store : FlatStore) (records : List (List ShipLine)) (durable : KeptStore) (before after : W) (how : Followed) : Type 0 where
+-- What following did that was to print this text by so many puts: each moment of it leaves the store at a number, and how it ended.
+pub record FollowsWith {W : Type 0} (G : Ghosts W) (bytes number : ℕ) (store : FlatStore) (records : List (List ShipLine)) (text : List ℕ) (puts : ℕ) (durable : KeptStore) (before after : W) (how : Followed) : Type 0 where
   pub crash : Leaves G (IsAtNumber bytes number store records (G.printed before)) before after
-  pub ends : KeepsBy G bytes number store records durable before after how
+  pub ends : EndsWith G bytes number store records text puts durable before after how
 
--- What following did: each moment of it leaves the store at a number, and how it ended.
-pub record Follows {W : Type 0} (G : Ghosts W) (bytes number : ℕ) (store : FlatStore) (records : List (List ShipLine)) (durable : KeptStore) (before after : W) (how : Followed) : Type 0 where
-  pub crash : Leaves G (IsAtNumber bytes number store records (G.printed before)) before after
-  pub ends : FollowsBy G bytes number store records durable before after how
+-- so it was with the line of each record
+abbrev pub Keeps : {W : Type 0} → Ghosts W → (bytes number : ℕ) → FlatStore → List (List ShipLine) → KeptStore → W → W → Followed → Type 0
+Keeps G bytes number store records = FollowsWith G bytes number store records (kept_text number (length records)) (length records)
+
+-- and with the last line behind them
+abbrev pub Follows : {W : Type 0} → Ghosts W → (bytes number : ℕ) → FlatStore → List (List ShipLine) → KeptStore → W → W → Followed → Type 0
+Follows G bytes number store records = FollowsWith G bytes number store records (followed_text number (length records)) (length records + 1)
