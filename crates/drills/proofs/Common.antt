@@ -27,5 +27,5 @@ pub use Rattle.store_format.specs.Header.{HasRanges, Header, fields, first_fault
 pub use Rattle.store_format.specs.Stands.{NotAStore, Standing, Stands, chosen, standing_by, standing_if}
 unfoldable pub use Rattle.store_format.specs.Stands.{stands}
 pub use Rattle.drills.specs.Drill.{IsLeft, IsStop, IsStoppedRun, IsTold, all_fine, fine_order}
-pub use Rattle.drills.specs.Drilled.{AreStops, DrilledBy, DrilledTo, IsPair, PutsFirst, PutsStops, PutsWhole, broken, last_line, pair_lines, stop_line, stop_lines, try_flat, try_order, well}
+pub use Rattle.drills.specs.Drilled.{AreStops, DrilledBy, DrilledTo, EndsBefore, IsPair, IsPast, IsTried, PutsFirst, PutsStops, PutsWhole, broken, last_line, pair_lines, stop_line, stop_lines, try_flat, try_order, well}
 pub use Rattle.drills.specs.declared.stops.Stop.{Stop}

@@ -1,5 +1,5 @@
 -- What a drill's stops come to, and what is put of them.
-use Rattle.drills.proofs.Common.{◌≡◌, inl, inr, ℕ, zero, suc, ◌+◌, ◌*◌, ◌%◌, ◌<◌, ◌≤◌, Bool, true, false, List, [], ◌∷◌, ◌++◌, length, refl, sym, ◌∙◌, ap, subst, rules, arith, append_assoc, append-nil, length-append, ◌^◌, min, All, Result, Ok, Vec, FlatStore, HasRanges, fresh, Standing, Stands, stands, Job, Ghosts, FewerLater, puts_on, puts_same, times_on, Status, Stop, Committed, length-map, IsStop, Rose, Given, DrilledBy, DrilledTo, IsPair, PutsFirst, PutsStops, PutsWhole, last_line, pair_lines, stop_lines, try_flat, try_order, well, IsStanding}
+use Rattle.drills.proofs.Common.{◌≡◌, inl, inr, ℕ, zero, suc, ◌+◌, ◌*◌, ◌%◌, ◌<◌, ◌≤◌, Bool, true, false, List, [], ◌∷◌, ◌++◌, length, refl, sym, ◌∙◌, ap, subst, rules, arith, append_assoc, append-nil, length-append, ◌^◌, min, get_or, All, Result, Ok, Vec, FlatStore, HasRanges, fresh, Standing, Stands, stands, Job, Ghosts, FewerLater, puts_on, puts_same, times_on, Status, Stop, Committed, length-map, IsStop, Rose, Given, DrilledBy, DrilledTo, IsPair, IsPast, IsTried, PutsFirst, PutsStops, PutsWhole, last_line, pair_lines, stop_lines, try_flat, try_order, well, IsStanding}
 use Rattle.std.specs.declared.alloc.Global.{Global}
 use Rattle.std.proofs.lemmas.Bool.{cases_lt}
 use Rattle.line_geometry.specs.Legal.{IsInRange, IsLegal}
@@ -40,11 +40,11 @@ order-short : (order : Vec Committed Global) → length order.items < 2 ^ 64
 order-short order = omega (arith, order.ok.0, order.ok.1, order.small)
 
 -- a stop on the store of `try`
-pub stop-fresh : (job : Job) (image : List ℕ) (stop : Stop) → image ≡ fresh try_layout → ((number : ℕ) (store : FlatStore) → stands image ≡ Stands number store → IsStop job image number store stop) → IsStop job (fresh try_layout) 0 try_flat stop
-stop-fresh job image stop bytes is = subst (λ (held : List ℕ). IsStop job held 0 try_flat stop) bytes (is 0 try_flat (try-stands image bytes))
+pub stop-fresh : (job : Job) (image : List ℕ) (write : ℕ) (outcome : List ℕ) (stop : Stop) → image ≡ fresh try_layout → ((number : ℕ) (store : FlatStore) → stands image ≡ Stands number store → IsStop job image number store write outcome stop) → IsTried job write outcome stop
+stop-fresh job image write outcome stop bytes is = subst (λ (held : List ℕ). IsStop job held 0 try_flat write outcome stop) bytes (is 0 try_flat (try-stands image bytes))
 
 -- its image stands for as many commits as it has
-module _ (job : Job) (stop : Stop) (is : IsStop job (fresh try_layout) 0 try_flat stop) where
+module _ (job : Job) (write : ℕ) (outcome : List ℕ) (stop : Stop) (is : IsTried job write outcome stop) where
   small : (0 + is.j) % 2 ^ 64 ≡ is.j
   small = let few = order-short stop.order in omega (arith, few, is.few)
 
@@ -74,20 +74,28 @@ module _ {W : Type 0} (G : Ghosts W) (job : Job) where
   pub none-put : (w : W) → IsPut w w well 0
   none-put w = (record { pairs = []; stops = record { few = omega arith; each = λ k d below. absurd (omega (arith, below)) }; puts = search rules; times = λ told. omega arith }, refl)
 
-  one-pair : (pairs : List Pair) (pair : Pair) → All (IsPair job) pairs → IsPair job pair → All (IsPair job) (pairs ++ pair ∷ [])
-  one-pair [] pair each this zero d below = this
-  one-pair [] pair each this (suc k) d below = absurd (omega arith)
-  one-pair (first ∷ pairs) pair each this zero d below = each zero d (omega arith)
-  one-pair (first ∷ pairs) pair each this (suc k) d below = one-pair pairs pair (λ k d within. each (suc k) d (omega (arith, within))) this k d (omega (arith, below))
+  -- these are pairs of the writes from one on
+  abbrev AreFrom : (write : ℕ) → List Pair → Type 0
+  AreFrom write pairs = (k : ℕ) (d : Pair) → k < length pairs → IsPair job (k + write) (get_or pairs k d)
+
+  one-pair : (write : ℕ) (pairs : List Pair) (pair : Pair) → AreFrom write pairs → IsPair job (length pairs + write) pair → AreFrom write (pairs ++ pair ∷ [])
+  one-pair write [] pair each this zero d below = this
+  one-pair write [] pair each this (suc k) d below = absurd (omega arith)
+  one-pair write (first ∷ pairs) pair each this zero d below = each zero d (omega arith)
+  one-pair write (first ∷ pairs) pair each this (suc k) d below =
+      subst (λ (n : ℕ). IsPair job n (get_or (pairs ++ pair ∷ []) k d)) (let same : k + (write + 1) ≡ suc k + write = omega arith in same)
+      (one-pair (write + 1) pairs pair
+      (λ k d within. subst (λ (n : ℕ). IsPair job n (get_or pairs k d)) (let same : suc k + write ≡ k + (write + 1) = omega arith in same) (each (suc k) d (omega (arith, within))))
+      (subst (λ (n : ℕ). IsPair job n pair) (let same : length (first ∷ pairs) + write ≡ length pairs + (write + 1) = omega arith in same) this) k d (omega (arith, below)))
 
   module _ (fewer_later : FewerLater G) where
     -- one pair more, or a part of its lines
-    pub put-more : (before mid after : W) (count : ℕ) (pair : Pair) (result : Result (Unit {0}) Failed) → count < 256 → IsPair job pair → Puts G (pair_lines (count + 1) pair) mid after result → PutsTimes G 2 mid after result → IsPut before mid well count → IsPut before after result (count + 1)
+    pub put-more : (before mid after : W) (count : ℕ) (pair : Pair) (result : Result (Unit {0}) Failed) → count < 256 → IsPair job (count + 1) pair → Puts G (pair_lines (count + 1) pair) mid after result → PutsTimes G 2 mid after result → IsPut before mid well count → IsPut before after result (count + 1)
     put-more before mid after count pair result few this puts times (put, many) =
         let more : length (put.pairs ++ pair ∷ []) ≡ length put.pairs + 1 = length-append put.pairs (pair ∷ []) in (
           record {
             pairs = put.pairs ++ pair ∷ [];
-            stops = record { few = omega (arith, more, many, few); each = one-pair put.pairs pair put.stops.each this };
+            stops = record { few = omega (arith, more, many, few); each = one-pair 1 put.pairs pair put.stops.each (subst (λ (n : ℕ). IsPair job (n + 1) pair) (sym many) this) };
             puts = puts_same G before after (stop_lines 1 put.pairs ++ pair_lines (1 + length put.pairs) pair) (stop_lines 1 (put.pairs ++ pair ∷ [])) result (sym (stop_lines-append 1 put.pairs pair))
                 (puts_on G fewer_later before mid after (stop_lines 1 put.pairs) (pair_lines (1 + length put.pairs) pair) tt result put.puts
                 (subst (λ (n : ℕ). Puts G (pair_lines n pair) mid after result) (let same : count + 1 ≡ 1 + length put.pairs = omega (arith, many) in same) puts));
@@ -100,12 +108,13 @@ module _ {W : Type 0} (G : Ghosts W) (job : Job) where
     -- the last line
     pub whole-put : (before mid after : W) (count number : ℕ) (result : Result (Unit {0}) Failed) → PutsStops G job before mid (Ok count) → number ≡ length (try_order job) → Puts G (last_line count number) mid after result → PutsTimes G 1 mid after result
         → PutsWhole G job before after result
-    whole-put before mid after count number result (put, many, enough) is puts times = record {
+    whole-put before mid after count number result (put, many, enough, past) is puts times = record {
       pairs = put.pairs;
       stops = put.stops;
       number = number;
       number_is = is;
       enough = subst (λ (n : ℕ). min 256 (2 * n) ≤ length put.pairs) (sym is) (omega (arith, enough, many));
+      all = λ below. subst (λ (n : ℕ). IsPast job (n + 1)) (sym many) (past (omega (arith, below, many)));
       puts = puts_on G fewer_later before mid after (stop_lines 1 put.pairs) (last_line (length put.pairs) number) tt result put.puts
           (subst (λ (n : ℕ). Puts G (last_line n number) mid after result) (sym many) puts);
       times = times_on G before mid after (2 * length put.pairs) 1 (stop_lines 1 put.pairs) tt result put.puts put.times times;

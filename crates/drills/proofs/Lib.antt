@@ -3,3 +3,4 @@ pub mod StopLemmas
 pub mod SeenLemmas
 pub mod CopyLemmas
 pub mod DrillLemmas
+pub mod StoppingLemmas

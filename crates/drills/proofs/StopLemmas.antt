@@ -1,7 +1,7 @@
 -- What a run leaves on a disk that stops.
 use Rattle.std.proofs.Common.{⊎_elim}
 use Rattle.run_law.proofs.HeadlineLemmas.{start_is_prefix}
-use Rattle.drills.proofs.Common.{◌≡◌, ℕ, ◌+◌, ◌*◌, ◌≤◌, inl, inr, Bool, true, false, List, [], ◌∷◌, ◌++◌, length, map, take, rules, cond, refl, sym, ◌∙◌, ap, subst, arith, append-nil, append_assoc, Option, Some, None, ◌↔◌, Result, Ok, IsSome, unwrap_or, count_by, not, length-map, length-append, length-filter, sum_by-append, Ghosts, Rose, Elapses, FewerLater, held_of, disk_calls, disk_faults, disk_first, disk_held, disk_images, disk_moment, disk_writes, images_at, FlatStore, Program, header_of, most_lines, stands, Event, Committed, order_told, commits_seen, Job, Status, Stop, IsLeft, IsStop, IsStoppedRun, IsTold, all_fine, fine_order, ByOpening, DidBy, FoundNoStore, JobHasRun, HasRunFrom, HappenedTo, StoodForNone, TellsStore, Untouched, job_desk, names_of, call, StandsAt}
+use Rattle.drills.proofs.Common.{◌≡◌, ℕ, ◌+◌, ◌*◌, ◌<◌, ◌≤◌, inl, inr, Bool, true, false, List, [], ◌∷◌, ◌++◌, length, map, take, rules, cond, refl, sym, ◌∙◌, ap, subst, arith, append-nil, append_assoc, Option, Some, None, ◌↔◌, Result, Ok, IsSome, unwrap_or, count_by, not, length-map, length-append, length-filter, sum_by-append, Ghosts, Rose, Elapses, FewerLater, held_of, disk_faults, disk_first, disk_held, disk_images, disk_moment, disk_writes, FlatStore, Program, header_of, most_lines, stands, Event, Committed, order_told, commits_seen, Job, Status, Stop, IsLeft, IsStop, IsStoppedRun, IsTold, all_fine, fine_order, ByOpening, DidBy, FoundNoStore, JobHasRun, HasRunFrom, HappenedTo, StoodForNone, TellsStore, Untouched, job_desk, names_of, call, StandsAt}
 use Rattle.std.proofs.lemmas.Bool.{cases_Bool}
 use Rattle.std.specs.List.{flat_map}
 use Rattle.std.specs.Option.{option_and_then}
@@ -10,7 +10,9 @@ use Rattle.outside.specs.MemoryScreen.{screen_printed}
 use Rattle.outside.specs.declared.failed.Failed.{Failed as PutFailed}
 use Rattle.outside.specs.declared.memory_disk.MemoryDisk.{MemoryDisk}
 use Rattle.outside.specs.declared.memory_screen.MemoryScreen.{MemoryScreen}
-use Rattle.outside.specs.declared.record.Entry.{Entry}
+use Rattle.outside.specs.MemoryDisk.{disk_origin, disk_plan}
+use Rattle.outside.specs.Origin.{Origin}
+use Rattle.outside.specs.Plan.{outcome_of}
 use Rattle.flat_machine.specs.declared.machine.Plain.{Plain}
 use Rattle.flat_machine.specs.Serial.{Activation, committing, serial}
 use Rattle.desk.specs.Desk.{Desk, opened}
@@ -30,6 +32,7 @@ use Rattle.schedule_replay.proofs.PutsLemmas.{PrintedNow}
 use Rattle.schedule_replay.proofs.ReportLemmas.{no_closing}
 use Rattle.supervisor.specs.declared.session.Session.{Session}
 use Rattle.call_status.specs.declared.status.Status.TheVariants as status
+use Rattle.drills.specs.Stopping.{WereStopped, WereWritten, number_of}
 
 -- a crash now may leave what is held
 abbrev pub HeldNow : {W : Type 0} → Ghosts W → Type 0
@@ -216,7 +219,7 @@ left-same G copy job number store before after order status frames names program
     }
 
 -- what a stop is, by what was left and what is told of it
-module _ (job : Job) (held : List ℕ) (number : ℕ) (store : FlatStore) (ended : Ended) (disk : MemoryDisk) (screen : MemoryScreen) where
+module _ (job : Job) (held : List ℕ) (number : ℕ) (store : FlatStore) (write : ℕ) (outcome : List ℕ) (ended : Ended) (disk : MemoryDisk) (screen : MemoryScreen) where
   abbrev order : List (ℕ × ℕ)
   order = order_told ended.order.items
 
@@ -226,13 +229,14 @@ module _ (job : Job) (held : List ℕ) (number : ℕ) (store : FlatStore) (ended
     pub writes : ended.status ≡ Status.Done → 2 * length (order_told ended.order.items) ≤ disk_writes disk
     pub fine : ended.status ≡ Status.Done → disk_faults disk ≡ 0 → order_told ended.order.items ≡ fine_order job held store
     pub fault : ended.status ≡ Status.DiskFault → 1 ≤ disk_faults disk
+    pub origin : disk_origin disk ≡ record { first = held; stop = Some (write, outcome) }
 
-  module _ (left : HasLeft) (write : ℕ) (stop : Stop) (told : IsTold ended disk screen write stop) where
+  module _ (left : HasLeft) (stop : Stop) (told : IsTold ended disk screen stop) where
     -- where the write wasn't reached the run came to its end
     came-done : stop.reached ≡ false → ended.status ≡ Status.Done
     came-done un = elim told.status [
       | inl is ↦ is
-      | inr failed ↦ let some = left.fault failed in let calm = (told.reached un).0 in absurd (omega (arith, some, calm))
+      | inr failed ↦ let some = left.fault failed in let calm = (told.unreached un).0 in absurd (omega (arith, some, calm))
     ]
 
     unfailed : ended.status ≡ Status.PutFault → ⊥
@@ -241,13 +245,32 @@ module _ (job : Job) (held : List ℕ) (number : ℕ) (store : FlatStore) (ended
       | inr failed ↦ let both : Status.DiskFault ≡ Status.PutFault = sym failed ∙ is in cc
     ]
 
-    pub stop-is : IsStop job held number store stop
+    -- the fuse is still the one with which it was made
+    fuse : (disk_plan disk).fuse ≡ Some (write, outcome)
+    fuse = ap (λ (origin : Origin). origin.stop) left.origin
+
+    few-writes : stop.reached ≡ false → disk_writes disk < write
+    few-writes un = subst (λ (fuse : Option (ℕ × List ℕ)). disk_writes disk < number_of fuse) fuse (told.unreached un).1
+
+    first-is : disk_first disk ≡ held
+    first-is = ap (λ (origin : Origin). origin.first) left.origin
+
+    pub stop-is : IsStop job held number store write outcome stop
     stop-is =
         let (ran, all) = left.ran unfailed in
         let count : length stop.order.items ≡ length order = ap (λ (commits : List Committed). length commits) told.order_is ∙ sym (length-map ended.order.items (λ (commit : Committed). (commit.activation, commit.steps))) in
         let first = left.first.first in
         let seen : stop.seen ≤ first.j = omega (arith, told.seen, left.first.told, ap commits_seen left.first.seen_is) in
         record {
+          stopped = λ is.
+              subst (λ (image : List ℕ). ∥ WereStopped held write outcome image ∥₁) (sym told.image_is)
+              (subst (λ (origin : Origin). ∥ WereStopped origin.first (number_of origin.stop) (outcome_of origin.stop) (disk_held disk) ∥₁) left.origin (told.reached is));
+          ended = λ un. (
+            disk_writes disk,
+            few-writes un,
+            subst (λ (image : List ℕ). ∥ WereWritten held (disk_writes disk) image ∥₁) (sym told.image_is)
+                (subst (λ (first : List ℕ). ∥ WereWritten first (disk_writes disk) (disk_held disk) ∥₁) first-is (told.unreached un).2),
+          );
           ran = subst (λ (n : ℕ). IsStoppedRun (names_of job) job.programs.items job.events.items number (job_desk job held store) (order_told stop.order.items) n) (sym told.seen)
               (subst (λ (commits : List Committed). IsStoppedRun (names_of job) job.programs.items job.events.items number (job_desk job held store) (order_told commits) (commits_seen (screen_printed screen))) (sym told.order_is) ran);
           j = first.j;
@@ -256,7 +279,7 @@ module _ (job : Job) (held : List ℕ) (number : ℕ) (store : FlatStore) (ended
           left = first.left;
           leaves = ap (λ (commits : List Committed). serial (begun job.programs.items job.events.items) (take first.j (order_told commits)) store) told.order_is ∙ first.leaves;
           stood = ap (λ (bytes : List ℕ). stands bytes) told.image_is ∙ first.stood;
-          whole = λ un. ap order_told told.order_is ∙ left.fine (came-done un) (told.reached un).0;
+          whole = λ un. ap order_told told.order_is ∙ left.fine (came-done un) (told.unreached un).0;
           all = λ un. let each = all (came-done un) in omega (arith, each, told.seen, seen, first.few, count);
           all_seen = λ un. told.seen ∙ all (came-done un) ∙ sym count;
         }
@@ -265,19 +288,17 @@ module _ (job : Job) (held : List ℕ) (number : ℕ) (store : FlatStore) (ended
     is-reached due = elim (cases_Bool stop.reached) [
       | inl is ↦ is
       | inr un ↦
-          let same : length order ≡ length (fine_order job held store) = ap (λ (these : List (ℕ × ℕ)). length these) (left.fine (came-done un) (told.reached un).0) in
+          let same : length order ≡ length (fine_order job held store) = ap (λ (these : List (ℕ × ℕ)). length these) (left.fine (came-done un) (told.unreached un).0) in
           let some = left.writes (came-done un) in
-          let few = (told.reached un).1 in
+          let few = few-writes un in
           absurd (omega (arith, same, some, few, due))
     ]
 
--- a disk with a fuse has the one image that it had when it was made
-pub one-image : (made fused disk : MemoryDisk) (bytes image : List ℕ) (at : ℕ) → disk ≡ fused → disk_first fused ≡ disk_first made → disk_calls fused ≡ disk_calls made → disk_moment made ≡ 0
+-- a disk that is as it was made has the one image that it was made with
+pub one-image : (made disk : MemoryDisk) (bytes image : List ℕ) (at : ℕ) → disk ≡ made → disk_moment made ≡ 0
     → ((image : List ℕ) → disk_images made 0 image ↔ (image ≡ bytes)) → at ≤ disk_moment disk → disk_images disk at image → image ≡ bytes
-one-image made fused disk bytes image at is first calls none images by left =
-    let here : disk_images fused at image = subst (λ (disk : MemoryDisk). disk_images disk at image) is left in
-    let there : disk_images made at image =
-    subst (λ (begins : List ℕ). images_at begins (disk_calls made) at image) first (subst (λ (these : List Entry). images_at (disk_first fused) these at image) calls here) in
-    let moment : disk_moment disk ≡ 0 = ap disk_moment is ∙ ap (λ (these : List Entry). length these) calls ∙ none in
+one-image made disk bytes image at is none images by left =
+    let here : disk_images made at image = subst (λ (disk : MemoryDisk). disk_images disk at image) is left in
+    let moment : disk_moment disk ≡ 0 = ap disk_moment is ∙ none in
     let zero_at : at ≡ 0 = omega (arith, moment, by) in
-    (images image).0 (subst (λ (n : ℕ). disk_images made n image) zero_at there)
+    (images image).0 (subst (λ (n : ℕ). disk_images made n image) zero_at here)

@@ -1,11 +1,12 @@
 -- What a job leaves on a disk that stops at one of its writes.
-use Rattle.std.specs.Prelude.{◌≡◌, ◌⊎◌, ℕ, ◌+◌, ◌*◌, ◌%◌, ◌^◌, ◌<◌, ◌≤◌, false, List, [], length, map, take, count_by, Some}
+use Rattle.std.specs.Prelude.{◌≡◌, ◌⊎◌, ℕ, ◌+◌, ◌*◌, ◌%◌, ◌^◌, ◌<◌, ◌≤◌, true, false, List, [], length, map, take, count_by, Some}
 use Rattle.outside.specs.declared.world.Outside.{Ghosts}
 use Rattle.outside.specs.declared.memory_disk.MemoryDisk.{MemoryDisk}
 use Rattle.outside.specs.declared.memory_screen.MemoryScreen.{MemoryScreen}
 use Rattle.outside.specs.Causes.{Rose}
-use Rattle.outside.specs.MemoryDisk.{disk_faults, disk_held, disk_writes}
+use Rattle.outside.specs.MemoryDisk.{disk_faults, disk_first, disk_held, disk_plan, disk_writes}
 use Rattle.outside.specs.MemoryScreen.{screen_printed}
+use Rattle.outside.specs.Plan.{outcome_of}
 use Rattle.outside.specs.Runs.{held_of}
 use Rattle.line_geometry.specs.FlatStore.{FlatStore}
 use Rattle.flat_machine.specs.declared.machine.Program.{Program}
@@ -22,6 +23,7 @@ use Rattle.desk.specs.Run.{run, IsRunOf}
 use Rattle.desk.specs.Seen.{commits_seen}
 use Rattle.run_law.specs.Headline.{IsPrefix}
 use Rattle.job_text.specs.declared.job.Job.{Job}
+use Rattle.drills.specs.Stopping.{WereStopped, WereWritten, number_of}
 use Rattle.drills.specs.declared.stops.Stop.{Stop}
 use Rattle.job_calls.specs.declared.ended.Ended.{Ended}
 use Rattle.job_calls.specs.Headline.{job_desk, names_of}
@@ -55,18 +57,21 @@ pub record IsLeft {W : Type 0} (G : Ghosts W) (job : Job) (number : ℕ) (store 
   pub writes : call.status ≡ Status.Done → WritesMore (G.writes call.before) (G.writes call.after) (2 * length call.order)
   pub fine : call.status ≡ Status.Done → (Rose (G.disk_faults call.before) (G.disk_faults call.after) → ⊥) → call.order ≡ fine_order job (held_of G call.before) store
 
--- what is told of a run that ended so, over a disk that was to stop at this write and a screen
-pub record IsTold (ended : Ended) (disk : MemoryDisk) (screen : MemoryScreen) (write : ℕ) (stop : Stop) : Type 0 where
+-- what is told of a run that ended so, over a disk that is to stop and a screen
+pub record IsTold (ended : Ended) (disk : MemoryDisk) (screen : MemoryScreen) (stop : Stop) : Type 0 where
   pub status : (ended.status ≡ Status.Done) ⊎ (ended.status ≡ Status.DiskFault)
-  pub reached : stop.reached ≡ false → (disk_faults disk ≡ 0) × (disk_writes disk < write)
+  pub reached : stop.reached ≡ true → ∥ WereStopped (disk_first disk) (number_of (disk_plan disk).fuse) (outcome_of (disk_plan disk).fuse) (disk_held disk) ∥₁
+  pub unreached : stop.reached ≡ false → (disk_faults disk ≡ 0) × (disk_writes disk < number_of (disk_plan disk).fuse) × ∥ WereWritten (disk_first disk) (disk_writes disk) (disk_held disk) ∥₁
   pub seen : stop.seen ≡ commits_seen (screen_printed screen)
   pub order_is : stop.order.items ≡ ended.order.items
   pub image_is : stop.image.items ≡ disk_held disk
 
 -- A stop's order and the commit lines seen are those of one run of the desk. Its image stands for the first commits of the order, run one
--- after another on the store before, and no fewer than were seen. Where the write wasn't reached all events went well, all commits were
--- seen, and it stands for all.
-pub record IsStop (job : Job) (held : List ℕ) (number : ℕ) (store : FlatStore) (stop : Stop) : Type 0 where
+-- after another on the store before, and no fewer than were seen. Where the write with this number was reached, the image is what it left with this
+-- outcome, behind whole ones; where it wasn't, fewer writes were made, all events went well, all commits were seen, and the image stands for all.
+pub record IsStop (job : Job) (held : List ℕ) (number : ℕ) (store : FlatStore) (write : ℕ) (outcome : List ℕ) (stop : Stop) : Type 0 where
+  pub stopped : stop.reached ≡ true → ∥ WereStopped held write outcome stop.image.items ∥₁
+  pub ended : stop.reached ≡ false → (writes : ℕ) × (writes < write) × ∥ WereWritten held writes stop.image.items ∥₁
   pub ran : IsStoppedRun (names_of job) job.programs.items job.events.items number (job_desk job held store) (order_told stop.order.items) stop.seen
   pub j : ℕ
   pub told : stop.seen ≤ j

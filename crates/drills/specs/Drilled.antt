@@ -1,5 +1,5 @@
 -- What a drill did: a job was stopped at its writes in turn, each time on a store of its own.
-use Rattle.std.specs.Prelude.{◌≡◌, ℕ, ◌+◌, ◌*◌, ◌≤◌, min, ◌⊎◌, List, [], ◌∷◌, ◌++◌, codes, decimal, length, replicate, All, Result, Ok, Err}
+use Rattle.std.specs.Prelude.{◌≡◌, ℕ, ◌+◌, ◌*◌, ◌<◌, ◌≤◌, min, ◌⊎◌, List, [], ◌∷◌, ◌++◌, codes, decimal, length, get_or, replicate, true, false, Result, Ok, Err}
 use Rattle.outside.specs.declared.world.Outside.{Ghosts}
 use Rattle.outside.specs.declared.failed.Failed.{Failed}
 use Rattle.line_geometry.specs.Directory.{byte_count}
@@ -44,19 +44,31 @@ try_flat = record { directory = try_layout.directory; bytes = replicate (byte_co
 abbrev pub try_order : Job → List (ℕ × ℕ)
 try_order job = fine_order job (fresh try_layout) try_flat
 
--- these are the commit lines seen at a stop of the job on the store of `try`, and the number for which its image stands
-abbrev pub IsFound : Job → Found → Type 0
-IsFound job found = (stop : Stop) × (is : IsStop job (fresh try_layout) 0 try_flat stop) × (found.seen ≡ stop.seen) × (found.number ≡ is.j)
+-- a stop of the job on the store of `try`, at this write, which left this outcome
+abbrev pub IsTried : Job → (write : ℕ) → (outcome : List ℕ) → Stop → Type 0
+IsTried job write outcome stop = IsStop job (fresh try_layout) 0 try_flat write outcome stop
 
--- and so at both stops at a write
-pub record IsPair (job : Job) (pair : Pair) : Type 0 where
-  pub old : IsFound job pair.old
-  pub torn : IsFound job pair.torn
+-- the write was reached, and these are the commit lines seen at the stop, and the number for which its image stands
+abbrev pub IsFound : Job → (write : ℕ) → (outcome : List ℕ) → Found → Type 0
+IsFound job write outcome found = (stop : Stop) × (is : IsTried job write outcome stop) × (stop.reached ≡ true) × (found.seen ≡ stop.seen) × (found.number ≡ is.j)
 
--- what at most 256 writes came to, by two stops of the job for each
+-- and so at both stops at a write: it left nothing, or one byte
+pub record IsPair (job : Job) (write : ℕ) (pair : Pair) : Type 0 where
+  pub old : IsFound job write [] pair.old
+  pub torn : IsFound job write (165 ∷ []) pair.torn
+
+-- a run of the job that was to stop at this write came to its end before it
+abbrev pub IsPast : Job → (write : ℕ) → Type 0
+IsPast job write = (outcome : List ℕ) × (stop : Stop) × IsTried job write outcome stop × (stop.reached ≡ false)
+
+-- and that is behind two writes for each commit
+abbrev pub EndsBefore : Job → (write : ℕ) → Type 0
+EndsBefore job write = (2 * length (try_order job) < write) × IsPast job write
+
+-- what at most 256 writes came to, the first and those behind it, by two stops of the job at each
 pub record AreStops (job : Job) (pairs : List Pair) : Type 0 where
   pub few : length pairs ≤ 256
-  pub each : All (IsPair job) pairs
+  pub each : (k : ℕ) (d : Pair) → k < length pairs → IsPair job (k + 1) (get_or pairs k d)
 
 -- lines of such stops, numbered from write 1 on, are put, each by one put, or a prefix of them where a put failed
 pub record PutsFirst {W T : Type 0} (G : Ghosts W) (job : Job) (before after : W) (result : Result T Failed) : Type 0 where
@@ -65,7 +77,7 @@ pub record PutsFirst {W T : Type 0} (G : Ghosts W) (job : Job) (before after : W
   pub puts : Puts G (stop_lines 1 pairs) before after result
   pub times : PutsTimes G (2 * length pairs) before after result
 
--- Lines of such stops and the last line are put, each by one put, or a prefix of them where a put failed. The stops are at no fewer writes than
+-- Lines of such stops and the last line are put, each by one put, or a prefix of them where a put failed. The stops are at all writes, no fewer than
 -- two for each commit, or at 256; the last line tells at how many, and how many commits the job has.
 pub record PutsWhole {W T : Type 0} (G : Ghosts W) (job : Job) (before after : W) (result : Result T Failed) : Type 0 where
   pub pairs : List Pair
@@ -73,6 +85,7 @@ pub record PutsWhole {W T : Type 0} (G : Ghosts W) (job : Job) (before after : W
   pub number : ℕ
   pub number_is : number ≡ length (try_order job)
   pub enough : min 256 (2 * number) ≤ length pairs
+  pub all : length pairs < 256 → IsPast job (length pairs + 1)
   pub puts : Puts G (stop_lines 1 pairs ++ last_line (length pairs) number) before after result
   pub times : PutsTimes G (2 * length pairs + 1) before after result
 
@@ -85,7 +98,7 @@ broken = Err (record {})
 
 -- what putting the stops came to: so many writes, or a put that failed, or no memory
 abbrev pub PutsStops : {W : Type 0} → Ghosts W → Job → W → W → Result ℕ Status → Type 0
-PutsStops G job before after (Ok count) = (put : PutsFirst G job before after well) × (length put.pairs ≡ count) × (min 256 (2 * length (try_order job)) ≤ count)
+PutsStops G job before after (Ok count) = (put : PutsFirst G job before after well) × (length put.pairs ≡ count) × (min 256 (2 * length (try_order job)) ≤ count) × (count < 256 → IsPast job (count + 1))
 PutsStops G job before after (Err status.PutFault) = PutsFirst G job before after broken
 PutsStops G job before after (Err status.NoMemory) = PutsFirst G job before after well
 PutsStops G job before after (Err _) = ⊥

@@ -1,2 +1,4 @@
 pub mod Drill
 pub mod Drilled
+pub mod Stopping
+pub mod StoppingDisk

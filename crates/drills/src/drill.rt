@@ -1,11 +1,11 @@
 // A drill: a job that is stopped at its writes in turn.
-ghost use Rattle.std.specs.Prelude.{◌≡◌, ◌⊎◌, ◌*◌, ◌<◌, ◌≤◌, ℕ, [], length, MatchOption, IfOk};
+ghost use Rattle.std.specs.Prelude.{◌≡◌, ◌⊎◌, ◌≤◌, ℕ, [], length, MatchOption, IfOk};
 ghost use Rattle.outside.specs.Causes.{Rose};
 ghost use Rattle.line_geometry.specs.FlatStore.{FlatStore};
 ghost use Rattle.store_format.specs.Stands.{Stands, stands};
 ghost use Rattle.listing.specs.Puts.{Puts, PutsTimes};
 ghost use Rattle.job_text.specs.Ready.{IsReady};
-ghost use Rattle.drills.specs.Drilled.{Drilled, DrilledTo, IsFound, IsPair, PutsStops, try_order, stop_line, pair_lines, last_line};
+ghost use Rattle.drills.specs.Drilled.{Drilled, DrilledTo, EndsBefore, IsFound, IsPair, PutsStops, try_order, stop_line, pair_lines, last_line};
 ghost use Rattle.call_status.specs.Call.{call, given};
 ghost use Rattle.call_status.specs.Opening.{IsStanding};
 ghost use Rattle.call_status.specs.Reading.{ReadsBy};
@@ -101,7 +101,7 @@ fn put_stops<W: Outside>(
 fn pair_at(alloc: Global, job: &Job, write: u32) -> Result<Option<Pair>, AllocError>
     requires ready { IsReady job.now }
     requires write { 1 ≤ write }
-    ensures { IfOk result (λ pair. MatchOption pair (2 * length (try_order job.now) < write) (IsPair job.now)) }
+    ensures { IfOk result (λ pair. MatchOption pair (EndsBefore job.now write) (IsPair job.now write)) }
 {
     let Some(old) = found_at(alloc, job, write, Vec::new(alloc))? else {
         return Ok(None);
@@ -123,7 +123,7 @@ fn found_at(
 ) -> Result<Option<Found>, AllocError>
     requires ready { IsReady job.now }
     requires write { 1 ≤ write }
-    ensures { IfOk result (λ found. MatchOption found (2 * length (try_order job.now) < write) (IsFound job.now)) }
+    ensures { IfOk result (λ found. MatchOption found (EndsBefore job.now write) (IsFound job.now write outcome.items)) }
 {
     let stop = drill_stop(alloc, job, try_store(alloc)?, write, outcome)?;
     if stop.reached {

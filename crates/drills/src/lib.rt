@@ -3,6 +3,7 @@
 
 mod drill;
 mod job_copy;
+mod stopping_disk;
 mod stops;
 
 pub use drill::drill_source;

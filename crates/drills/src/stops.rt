@@ -7,10 +7,12 @@ ghost use Rattle.desk.specs.Seen.{commits_seen};
 ghost use Rattle.job_text.specs.Ready.{IsReady};
 ghost use Rattle.desk.specs.Answers.{order_told};
 ghost use Rattle.drills.specs.Drill.{IsLeft, IsStop, IsTold, fine_order};
+ghost use Rattle.drills.specs.Stopping.{IsStopping};
 ghost use Rattle.call_status.specs.Call.{call};
 ghost use Rattle.call_status.specs.Opening.{IsStanding, StandsAt};
 
 use super::job_copy::copy_of;
+use super::stopping_disk::StoppingDisk;
 use call_status::Status;
 use desk::Committed;
 use job_calls::{Ended, try_job};
@@ -47,41 +49,37 @@ pub fn drill_stop(
     requires ready { IsReady job.now }
     requires write { 1 ≤ write }
     requires stands { IsStanding image.items }
-    ensures stop { (number : ℕ) (store : FlatStore) → stands image.items ≡ Stands number store → IfOk result (IsStop job.now image.items number store) }
+    ensures stop { (number : ℕ) (store : FlatStore) → stands image.items ≡ Stands number store → IfOk result (IsStop job.now image.items number store write outcome.items) }
     ensures reached { (number : ℕ) (store : FlatStore) → stands image.items ≡ Stands number store → write ≤ 2 * length (fine_order job.now image.items store) → IfOk result (λ stop. stop.reached ≡ true) }
 {
-    let mut disk = MemoryDisk::new(alloc, image, Vec::new(alloc));
-    disk.fuse(write, outcome);
+    let disk = StoppingDisk::new(alloc, image, write, outcome);
     let mut outside = Joint::new(disk, MemoryScreen::new(alloc, Vec::new(alloc)));
     let ended = run_copy(alloc, job, &mut outside)?;
     let (disk, screen) = outside.into_parts();
-    told(ended, disk, &screen, write)
+    told(ended, disk.into_memory(), &screen)
 }
 
 /// Runs a job, and keeps it.
 fn run_copy<W: Outside>(alloc: Global, job: &Job, outside: &mut W) -> Result<Ended, AllocError>
     requires { IsReady job.now }
     ensures left { (number : ℕ) (store : FlatStore) → StandsAt W.Outside outside.old number store → IfOk result (λ ended. IsLeft W.Outside job.now number store (call outside.old outside.new (order_told ended.order.items) ended.status)) }
+    ensures origin { IfOk result (λ ended. (W.moment outside.new).origin ≡ (W.moment outside.old).origin) }
     ensures disk { IfOk result (λ ended. ended.status ≡ Status.DiskFault → Rose (W.disk_faults outside.old) (W.disk_faults outside.new)) }
 {
     Ok(try_job(alloc, copy_of(alloc, job)?, outside))
 }
 
-/// What a run told, over a disk that was to stop at this write and a screen.
-fn told(
-    ended: Ended,
-    disk: MemoryDisk,
-    screen: &MemoryScreen,
-    write: u32,
-) -> Result<Stop, AllocError>
-    ensures { IfOk result (IsTold ended disk screen.now write) }
+/// What a run told, over a disk that is to stop and a screen.
+fn told(ended: Ended, disk: MemoryDisk, screen: &MemoryScreen) -> Result<Stop, AllocError>
+    requires { IsStopping disk }
+    ensures { IfOk result (IsTold ended disk screen.now) }
 {
     if disk.starved() || screen.starved() {
         return Err(AllocError);
     }
     match ended.status {
         Status::Done | Status::DiskFault => Ok(Stop {
-            reached: disk.faults() > 0 || disk.writes() >= u64::from(write),
+            reached: disk.faults() > 0,
             seen: commits_in(screen.printed()),
             order: ended.order,
             image: disk.into_image(),

@@ -7,7 +7,7 @@ pub loop-stops-init : goal.loop-stops-init
 loop-stops-init g c = none-put g.W.Outside c.args.job.now c.args.outside.now
 
 pub returns-in-Ok-None : goal.returns-in-Ok-None
-returns-in-Ok-None g c = let fewer = rw c.in-Ok-None.field-0-is at c.in-Ok-None.ensures in (c.loop-stops.invariant.0, c.loop-stops.invariant.1, omega (arith, fewer))
+returns-in-Ok-None g c = let fewer = rw c.in-Ok-None.field-0-is at c.in-Ok-None.ensures in (c.loop-stops.invariant.0, c.loop-stops.invariant.1, omega (arith, fewer.0), λ below. fewer.1)
 
 pub returns-in-Err-put_pair : goal.returns-in-Err-put_pair
 returns-in-Err-put_pair g c =
@@ -22,4 +22,4 @@ loop-stops-preserved g c =
 pub returns : goal.returns
 returns g c =
     let same : c.loop-stops.stops ≡ 256 = omega (arith, c.loop-stops-test.false, c.loop-stops.auto.stops-end) in
-    (c.loop-stops.invariant.0, c.loop-stops.invariant.1 ∙ same, omega arith)
+    (c.loop-stops.invariant.0, c.loop-stops.invariant.1 ∙ same, omega arith, λ below. absurd (omega (arith, below)))

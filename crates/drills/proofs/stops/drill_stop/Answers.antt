@@ -1,48 +1,54 @@
-use Rattle.drills.proofs.Common.{◌≡◌, ◌∙◌, true, ap, refl, rules, arith, Some, List, [], ℕ, count_by, disk_held, disk_faults, disk_writes, is_write, FlatStore, Stands, stands, order_told, IsStop, fine_order, IfOk, IsStoppedRun, IsTold, commits_seen, job_desk, names_of, subst}
+use Rattle.drills.proofs.Common.{◌≡◌, ◌∙◌, true, ap, refl, rules, arith, Some, List, [], ℕ, disk_held, disk_faults, disk_writes, FlatStore, Stands, stands, order_told, IsStop, fine_order, IfOk, IsStoppedRun, IsTold, commits_seen, job_desk, names_of, subst}
 use Rattle.std.proofs.lemmas.Result.{IfOk-weaker}
+use Rattle.outside.specs.declared.memory_disk.MemoryDisk.{MemoryDisk}
+use Rattle.outside.specs.MemoryDisk.{disk_origin}
 use Rattle.outside.specs.MemoryScreen.{screen_printed}
+use Rattle.drills.specs.StoppingDisk.{memory_of}
 use Rattle.drills.proofs.StopLemmas.{HasLeft, is-reached, one-image, stop-is}
 use Rattle.drills.proofs.stops.drill_stop.Goals as goal
 
 -- what was left on the disk that was made
 has-left : (c : goal.After-drop-screen-3) (number : ℕ) (store : FlatStore) → stands c.args.image.items ≡ Stands number store
-    → HasLeft c.args.job.now c.args.image.items number store c.in_ok-ended.ended c.run_copy.new.outside.disk c.run_copy.new.outside.screen
+    → HasLeft c.args.job.now c.args.image.items number store c.args.write c.args.outcome.items c.in_ok-ended.ended (memory_of c.run_copy.new.outside.disk) c.run_copy.new.outside.screen
 has-left c number store stood =
-    let made = c.new-disk.result in
-    let fused = c.fuse.new.self in
+    let made = memory_of c.new-disk.result in
     let outside = c.new-outside.result in
     let after = c.run_copy.new.outside in
-    let held : disk_held outside.disk ≡ c.args.image.items = ap disk_held c.new-outside.ensures.disk ∙ c.fuse.ensures.held ∙ c.new-disk.ensures.held in
-    let calm : disk_faults outside.disk ≡ 0 = ap disk_faults c.new-outside.ensures.disk ∙ c.fuse.ensures.faults ∙ c.new-disk.ensures.faults in
-    let none : disk_writes outside.disk ≡ 0 = ap disk_writes c.new-outside.ensures.disk ∙ ap (count_by is_write) c.fuse.ensures.calls ∙ c.new-disk.ensures.writes in
-    let nothing : screen_printed outside.screen ≡ [] = ap screen_printed c.new-outside.ensures.screen ∙ c.new-3.ensures.printed in
+    let same : memory_of outside.disk ≡ made = ap memory_of c.new-outside.ensures.disk in
+    let held : disk_held (memory_of outside.disk) ≡ c.args.image.items = ap disk_held same ∙ c.new-disk.ensures.held in
+    let calm : disk_faults (memory_of outside.disk) ≡ 0 = ap disk_faults same ∙ c.new-disk.ensures.faults in
+    let none : disk_writes (memory_of outside.disk) ≡ 0 = ap disk_writes same ∙ c.new-disk.ensures.writes in
+    let nothing : screen_printed outside.screen ≡ [] = ap screen_printed c.new-outside.ensures.screen ∙ c.new-2.ensures.printed in
     let left = c.in_ok-ended.ensures.left number store (record {
       honest = search rules;
       told = search rules;
       stood = ap stands held ∙ stood;
       images = λ image seen left.
-          ap stands (one-image made fused outside.disk c.args.image.items image left.at c.new-outside.ensures.disk c.fuse.ensures.first c.fuse.ensures.calls c.new-disk.ensures.moment c.new-disk.ensures.images left.by_now left.is_image) ∙ stood;
+          ap stands (one-image made (memory_of outside.disk) c.args.image.items image left.at same c.new-disk.ensures.moment c.new-disk.ensures.images left.by_now left.is_image) ∙ stood;
     }) in
     record {
-      first = left.first (disk_held after.disk) (screen_printed after.screen) refl (ap (λ (bytes : List ℕ). Some bytes) nothing) refl;
+      first = left.first (disk_held (memory_of after.disk)) (screen_printed after.screen) refl (ap (λ (bytes : List ℕ). Some bytes) nothing) refl;
       ran = λ unfailed.
-          let (ran, all) = left.ran (disk_held after.disk) (screen_printed after.screen) refl (ap (λ (bytes : List ℕ). Some bytes) nothing) refl unfailed in
+          let (ran, all) = left.ran (disk_held (memory_of after.disk)) (screen_printed after.screen) refl (ap (λ (bytes : List ℕ). Some bytes) nothing) refl unfailed in
           (subst (λ (bytes : List ℕ). IsStoppedRun (names_of c.args.job.now) c.args.job.now.programs.items c.args.job.now.events.items number (job_desk c.args.job.now bytes store) (order_told c.in_ok-ended.ended.order.items) (commits_seen (screen_printed after.screen))) held ran, all);
-      writes = λ done. let (count, same, due) = left.writes done in let is : count ≡ disk_writes after.disk = cc in omega (arith, none, is, due);
+      writes = λ done. let (count, same, due) = left.writes done in let is : count ≡ disk_writes (memory_of after.disk) = cc in omega (arith, none, is, due);
       fine = λ done well. left.fine done (λ rose. omega (arith, calm, well, rose)) ∙ ap (λ (bytes : List ℕ). fine_order c.args.job.now bytes store) held;
       fault = λ failed. let rose = c.in_ok-ended.ensures.disk failed in omega (arith, calm, rose);
+      origin = c.in_ok-ended.ensures.origin ∙ ap disk_origin same ∙ c.new-disk.ensures.origin;
     }
 
 -- what is told of the disk and the screen that are left
-told-is : (c : goal.After-drop-screen-3) → IfOk c.told.result (IsTold c.in_ok-ended.ended c.run_copy.new.outside.disk c.run_copy.new.outside.screen c.args.write)
-told-is c = rw c.into_parts-disk.ensures.disk at (rw c.into_parts-disk.ensures.screen at c.told.ensures)
+told-is : (c : goal.After-drop-screen-3) → IfOk c.told.result (IsTold c.in_ok-ended.ended (memory_of c.run_copy.new.outside.disk) c.run_copy.new.outside.screen)
+told-is c =
+    subst (λ (disk : MemoryDisk). IfOk c.told.result (IsTold c.in_ok-ended.ended disk c.run_copy.new.outside.screen)) (c.into_memory.ensures.same ∙ ap memory_of c.into_parts-disk.ensures.disk)
+    (rw c.into_parts-disk.ensures.screen at c.told.ensures)
 
 pub returns-clause-stop : goal.returns-clause-stop
 returns-clause-stop c = λ number store stood.
-    IfOk-weaker c.told.result _ (IsStop c.args.job.now c.args.image.items number store)
-    (stop-is c.args.job.now c.args.image.items number store c.in_ok-ended.ended c.run_copy.new.outside.disk c.run_copy.new.outside.screen (has-left c number store stood) c.args.write) (told-is c)
+    IfOk-weaker c.told.result _ (IsStop c.args.job.now c.args.image.items number store c.args.write c.args.outcome.items)
+    (stop-is c.args.job.now c.args.image.items number store c.args.write c.args.outcome.items c.in_ok-ended.ended (memory_of c.run_copy.new.outside.disk) c.run_copy.new.outside.screen (has-left c number store stood)) (told-is c)
 
 pub returns-clause-reached : goal.returns-clause-reached
 returns-clause-reached c = λ number store stood due.
     IfOk-weaker c.told.result _ (λ stop. stop.reached ≡ true)
-    (λ stop told. is-reached c.args.job.now c.args.image.items number store c.in_ok-ended.ended c.run_copy.new.outside.disk c.run_copy.new.outside.screen (has-left c number store stood) c.args.write stop told due) (told-is c)
+    (λ stop told. is-reached c.args.job.now c.args.image.items number store c.args.write c.args.outcome.items c.in_ok-ended.ended (memory_of c.run_copy.new.outside.disk) c.run_copy.new.outside.screen (has-left c number store stood) stop told due) (told-is c)

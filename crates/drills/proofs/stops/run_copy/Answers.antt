@@ -13,3 +13,6 @@ returns-clause-left g c = λ number store standing.
     (happened-left G c.in_ok-copy_of.field-0 number store c.args.outside.now c.try_job.new.outside (order_told ended.order.items) ended.session ended.status
     (names_are (λ (name : ArrayVec ℕ). name.items) c.in_ok-copy_of.field-0.names.items (λ k d within. name-unbroken (get_or c.in_ok-copy_of.field-0.names.items k d).items (copied.ready.names k d within)))
     g.met.W.Outside.fewer_later g.met.W.Outside.printed_now g.met.W.Outside.held_now standing c.try_job.ensures.happened)
+
+pub returns-clause-origin : goal.returns-clause-origin
+returns-clause-origin g c = c.try_job.ensures.happened.time.later.origin
