@@ -45,6 +45,7 @@ impl Unit {
         let slot = self.pool.bring(page, keep);
         let key = key_among(self.directory.segments(), page);
         self.table.enter(slot.frame, key.segment, key.page);
+        self.buffer.remember(key.segment, key.page, slot.frame);
         slot
     }
 
