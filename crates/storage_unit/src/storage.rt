@@ -6,7 +6,7 @@ ghost use Rattle.line_geometry.specs.Segments.{page_bytes, line_bytes};
 ghost use Rattle.line_geometry.specs.Directory.{byte_count, start_of};
 ghost use Rattle.line_geometry.specs.Lines.{line_of};
 ghost use Rattle.romp_cpu.specs.Answers.{answer_in, answered_at, answer_of, if_permitted, IsRefusal};
-ghost use Rattle.romp_cpu.specs.Shown.{bytes_from};
+ghost use Rattle.romp_cpu.specs.Shown.{access_to, bytes_from};
 ghost use Rattle.flat_machine.specs.Ready.{IsRowOf};
 ghost use Rattle.storage_unit.specs.ReadyRows.{private_half};
 ghost use Rattle.flat_machine.specs.Access.{FitsFrom};
@@ -664,7 +664,7 @@ impl Storage for Unit {
             1 => self.fill_known(wants, 1, to, sign, regs),
             2 => self.fill_known(wants, 2, to, sign, regs),
             4 => self.fill_known(wants, 4, to, sign, regs),
-            _ => self.fill_words(*wants, to, sign, regs),
+            _ => self.fill_far(wants, to, sign, regs),
         }
     }
 
@@ -674,7 +674,7 @@ impl Storage for Unit {
             1 => self.gather_known(wants, 1, from, regs),
             2 => self.gather_known(wants, 2, from, regs),
             4 => self.gather_known(wants, 4, from, regs),
-            _ => self.gather_words(*wants, from, regs),
+            _ => self.gather_far(wants, from, regs),
         }
     }
 
@@ -749,23 +749,54 @@ impl Unit {
         self.gather_if(line, &exact, from, regs)
     }
 
-    /// Fills registers with the bytes of an access, if they lie in one or two lines that are known.
-    #[inline(never)]
-    fn fill_words(&self, wants: Access, to: u8, sign: bool, regs: &mut [u32; 16]) -> bool
-        requires fits { FitsFrom wants.bytes to }
-        ensures { IsReadIf result (reach_of self.now) wants to sign regs.old regs.new }
+    /// Fills registers with the bytes of an access, if they lie in one or two lines that are known, by a call.
+    #[inline(always)]
+    fn fill_far(&self, wants: &Access, to: u8, sign: bool, regs: &mut [u32; 16]) -> bool
+        requires loads { wants.now.store ≡ false }
+        requires fits { FitsFrom wants.now.bytes to }
+        ensures { IsReadIf result (reach_of self.now) wants.now to sign regs.old regs.new }
     {
+        self.fill_words(wants.address, wants.bytes, to, sign, regs)
+    }
+
+    /// Writes the bytes of registers over those of an access, if they lie in one or two lines that are known to be stored, by a
+    /// call.
+    #[inline(always)]
+    fn gather_far(&mut self, wants: &Access, from: u8, regs: &[u32; 16]) -> bool
+        requires stores { wants.now.store ≡ true }
+        requires fits { FitsFrom wants.now.bytes from }
+        ensures { IsWrittenIf result (reach_of self.old) (reach_of self.new) wants.now from regs.now }
+    {
+        self.gather_words(wants.address, wants.bytes, from, regs)
+    }
+
+    /// Fills registers with so many bytes from an address on, if they lie in one or two lines that are known.
+    #[inline(never)]
+    fn fill_words(&self, address: u32, bytes: u8, to: u8, sign: bool, regs: &mut [u32; 16]) -> bool
+        requires fits { FitsFrom bytes to }
+        ensures { IsReadIf result (reach_of self.now) (access_to address bytes false) to sign regs.old regs.new }
+    {
+        let wants = Access {
+            address,
+            bytes,
+            store: false,
+        };
         let line = self.known_lines(&wants);
         self.fill_if(line, &wants, to, sign, regs)
     }
 
-    /// Writes the bytes of registers over those of an access, if they lie in one or two lines that are known to be stored.
+    /// Writes the bytes of registers over so many from an address on, if they lie in one or two lines that are known to be
+    /// stored.
     #[inline(never)]
-    fn gather_words(&mut self, wants: Access, from: u8, regs: &[u32; 16]) -> bool
-        requires stores { wants.store ≡ true }
-        requires fits { FitsFrom wants.bytes from }
-        ensures { IsWrittenIf result (reach_of self.old) (reach_of self.new) wants from regs.now }
+    fn gather_words(&mut self, address: u32, bytes: u8, from: u8, regs: &[u32; 16]) -> bool
+        requires fits { FitsFrom bytes from }
+        ensures { IsWrittenIf result (reach_of self.old) (reach_of self.new) (access_to address bytes true) from regs.now }
     {
+        let wants = Access {
+            address,
+            bytes,
+            store: true,
+        };
         let line = self.known_lines(&wants);
         self.gather_if(line, &wants, from, regs)
     }
