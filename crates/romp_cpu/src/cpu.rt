@@ -1,16 +1,16 @@
-ghost use Rattle.std.specs.Prelude.{◌≡◌, ◌<◌, true};
+ghost use Rattle.std.specs.Prelude.{◌≡◌, ◌<◌};
 ghost use Rattle.std.specs.Option.{ForSome};
 ghost use Rattle.flat_machine.specs.Access.{IsAccess};
 ghost use Rattle.flat_machine.specs.Pending.{planned, IsSoundPending};
-ghost use Rattle.flat_machine.specs.Plans.{Does};
+ghost use Rattle.flat_machine.specs.Ready.{IsReadyAt};
 ghost use Rattle.flat_machine.specs.Row.{plan};
 ghost use Rattle.romp_cpu.specs.Shown.{halfword_of};
 ghost use Rattle.romp_cpu.specs.Answers.{answer_in};
-ghost use Rattle.romp_cpu.specs.Tried.{linked, seen_in, tried, tried_act, IsDoneIf};
+ghost use Rattle.romp_cpu.specs.Tried.{linked, seen_in, tried, tried_act};
 ghost use Rattle.romp_cpu.specs.Attempts.{GivesEveryRow, UndoesUnlessWent, IsOfFewBytes, StoresAll};
 
 use super::storage::{Access, Fault, Probe, Storage};
-use flat_machine::{Act, Cs, Fetch, Pending, do_alone, start_row, start_wanting};
+use flat_machine::{Act, Cs, Fetch, Pending, Ready, do_alone, start_row, start_wanting};
 
 /// A processor: sixteen registers, the condition status, the address of the next instruction, and how many bytes were
 /// printed.
@@ -76,94 +76,36 @@ impl Cpu {
         ensures few { IsOfFewBytes result }
         ensures whole { StoresAll (plan (halfword_of (S.byte_at (S.state storage.old))) self.old.regs self.old.cs self.old.iar) }
     {
-        if self.go_at_once(storage) {
-            return Attempt::Went;
+        match storage.ready(self.iar) {
+            Some(row) => match do_alone(&row, &mut self.regs, &mut self.cs, self.iar) {
+                Some(next) => {
+                    self.iar = next;
+                    Attempt::Went
+                }
+                None => self.carry_out_wanting(storage, &row),
+            },
+            None => {
+                let attempt = self.carry_out_anew(storage);
+                attempt
+            }
         }
-        self.carry_out_slowly(storage)
     }
 
-    /// The next instruction, where its row is known and goes on at once. Else nothing changes.
+    /// The same of a row made ready that wants something beside registers and status, or leaves a link.
     #[inline(always)]
-    fn go_at_once<S: Storage>(&mut self, storage: &mut S) -> bool
-        ensures done { IsDoneIf result (seen_in S.byte_at (answer_in S.registers S.is_in_frame S.refuses) S.stored (S.state storage.old)) self.old (plan (halfword_of (S.byte_at (S.state storage.old))) self.old.regs self.old.cs self.old.iar) self.new (S.state storage.new) }
-        ensures whole { result ≡ true → StoresAll (plan (halfword_of (S.byte_at (S.state storage.old))) self.old.regs self.old.cs self.old.iar) }
-    {
-        let Some(row) = storage.ready(self.iar) else {
-            return false;
-        };
-        if let Some(next) = do_alone(row, &mut self.regs, &mut self.cs, self.iar) {
-            self.iar = next;
-            return true;
-        }
-        match start_wanting(row, &self.regs, self.iar) {
-            Some(Pending::Does { act, next, link }) => {
-                self.act_at_once(storage, act, next, link)
-            }
-            _ => false,
-        }
-    }
-
-    /// What is left of an instruction, where it is known at once that its access is permitted. Else nothing changes.
-    #[inline(always)]
-    fn act_at_once<S: Storage>(
-        &mut self,
-        storage: &mut S,
-        act: Act,
-        next: u32,
-        link: Option<(u8, u32)>,
-    ) -> bool
-        requires access { IsAccess act }
-        requires link { ForSome link (λ written. written.0 < 16) }
-        ensures { IsDoneIf result (seen_in S.byte_at (answer_in S.registers S.is_in_frame S.refuses) S.stored (S.state storage.old)) self.old (Does self.old.regs self.old.cs act next link) self.new (S.state storage.new) }
-    {
-        let did = match act {
-            Act::Nothing => true,
-            Act::Load {
-                address,
-                bytes,
-                to,
-                sign,
-            } => {
-                let access = Access {
-                    address,
-                    bytes,
-                    store: false,
-                };
-                storage.read_known(&access, to, sign, &mut self.regs)
-            }
-            Act::Store {
-                address,
-                bytes,
-                from,
-            } => {
-                let access = Access {
-                    address,
-                    bytes,
-                    store: true,
-                };
-                storage.write_known(&access, from, &self.regs)
-            }
-            _ => false,
-        };
-        if did {
-            let _ = self.go_on(next, link);
-        }
-        did
-    }
-
-    /// Does what the next instruction is to do, as far as the storage permits, where it can't be done at once.
-    #[inline(never)]
-    fn carry_out_slowly<S: Storage>(&mut self, storage: &mut S) -> Attempt
+    fn carry_out_wanting<S: Storage>(&mut self, storage: &mut S, row: &Ready) -> Attempt
+        requires { IsReadyAt row.now (halfword_of (S.byte_at (S.state storage.old))) self.old.iar }
         ensures tried { record { attempt = result; cpu = self.new; state = S.state storage.new } ≡ tried (seen_in S.byte_at (answer_in S.registers S.is_in_frame S.refuses) S.stored (S.state storage.old)) self.old (plan (halfword_of (S.byte_at (S.state storage.old))) self.old.regs self.old.cs self.old.iar) }
         ensures few { IsOfFewBytes result }
         ensures whole { StoresAll (plan (halfword_of (S.byte_at (S.state storage.old))) self.old.regs self.old.cs self.old.iar) }
     {
-        if let Some(row) = storage.ready(self.iar) {
-            if let Some(pending) = start_wanting(row, &self.regs, self.iar) {
-                return self.finish(storage, pending);
+        match start_wanting(row, &self.regs, self.iar) {
+            Some(pending) => self.finish(storage, pending),
+            None => {
+                let attempt = self.carry_out_anew(storage);
+                attempt
             }
         }
-        self.carry_out_anew(storage)
     }
 
     /// The same where no row made ready is known there: one is asked for, and this time the instruction is decoded.
