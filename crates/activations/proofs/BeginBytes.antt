@@ -1,6 +1,5 @@
 -- The bytes of a unit in which a seat begins: its private bytes are new, and all others stay.
-use Rattle.activations.proofs.Common.{range-long, ◌≡◌, refl, ℕ, ◌+◌, ◌-◌, ◌*◌, ◌%◌, ◌<◌, ◌≤◌, ◌==◌, ◌⊎◌, false, List, ◌++◌, length, map, replicate, slice_index, if◌then◌else◌, Option, Some, None, range_with_len, option_map_or, arith, ap, sym, ◌∙◌, subst, inl, inr, cases_lt, same_number_lists, length-overlaid, overlaid_before, overlaid_within, overlaid_behind, PageSize, Layout, byte_count, page_of, page_bytes, Pool, frame_at, with_bytes, private_frames, byte_in_frame, byte_over, bytes_over, private_bytes, is_marked, Fits, frame-high, in-range, nat_tests}
-use Rattle.std.proofs.lemmas.List.{length-append, length-replicate}
+use Rattle.activations.proofs.Common.{range-long, ◌≡◌, refl, ℕ, ◌+◌, ◌-◌, ◌*◌, ◌%◌, ◌<◌, ◌≤◌, ◌==◌, ◌⊎◌, false, List, ◌++◌, length, map, replicate, slice_index, if◌then◌else◌, Option, Some, None, range_with_len, option_map_or, arith, ap, sym, ◌∙◌, subst, inl, inr, cases_lt, same_number_lists, length-overlaid, overlaid_before, overlaid_within, overlaid_behind, PageSize, Layout, byte_count, page_of, page_bytes, Pool, frame_at, with_bytes, private_frames, byte_in_frame, byte_over, bytes_over, private_bytes, is_marked, Fits, frame-high, in-range, nat_tests, length-append, length-replicate}
 use Rattle.activations.proofs.SizeLemmas.{private-all}
 
 -- an image and zeros after it

@@ -1,6 +1,5 @@
 -- A page that comes in from the store on the disk: what is read, and what frames have then.
-use Rattle.activations.proofs.Common.{asks_none, length-replicate, replicate, ◌⊎◌, inr, inl, not-true, or_parts, option_map_or, arith, ap, sym, ◌∙◌, subst, ltb-false, PageSize, Layout, byte_count, page_count, page_bytes, byte_count-lines, brought, has, has_left, overlaid, Ghosts, OnlyAsks, FewerLater, held_of, Standing, Stands, NotAStore, Damaged, stands, KeptStore, Pool, pool_of, private_frames, line_place, reach_of, IsClean, private_bytes, Fits, Keeps, filled, page_in, frame-high, unit-sound, sound-fits, laid-bytes, room-stays, emptied-stays, IsStoreOf, IsIn, IsMoved, ◌≡◌, refl, ℕ, ◌+◌, ◌-◌, ◌*◌, ◌<◌, ◌≤◌, ◌==◌, ◌++◌, not, nat_lt, if◌then◌else◌, Bool, true, false, List, [], ◌∷◌, length, take, drop, fold, remove, position, unwrap_or, slice_index, Option, Some, None, option_to_list, Result, Ok, Err, OnOk, OnErr}
-use Rattle.std.proofs.lemmas.List.{take-append-le, take-take, length-append, length-take}
+use Rattle.activations.proofs.Common.{asks_none, length-replicate, replicate, ◌⊎◌, inr, inl, not-true, or_parts, option_map_or, arith, ap, sym, ◌∙◌, subst, ltb-false, PageSize, Layout, byte_count, page_count, page_bytes, byte_count-lines, brought, has, has_left, overlaid, Ghosts, OnlyAsks, FewerLater, held_of, Standing, Stands, NotAStore, Damaged, stands, KeptStore, Pool, pool_of, private_frames, line_place, reach_of, IsClean, private_bytes, Fits, Keeps, filled, page_in, frame-high, unit-sound, sound-fits, laid-bytes, room-stays, emptied-stays, IsStoreOf, IsIn, IsMoved, ◌≡◌, refl, ℕ, ◌+◌, ◌-◌, ◌*◌, ◌<◌, ◌≤◌, ◌==◌, ◌++◌, not, nat_lt, if◌then◌else◌, Bool, true, false, List, [], ◌∷◌, length, take, drop, fold, remove, position, unwrap_or, slice_index, Option, Some, None, option_to_list, Result, Ok, Err, OnOk, OnErr, take-append-le, take-take, length-append, length-take, Brought, frame_at, marks_at, with_bytes, emptied, line_laid, line_kept, has-remove_other, turned, KeepsStore}
 use Rattle.std.proofs.lemmas.List.Quantifiers.{position-Some}
 use Rattle.store_format.proofs.Fronts.{shorter_front, later_front}
 use Rattle.store_format.proofs.Stores.{stands_is}
@@ -10,15 +9,12 @@ use Rattle.restart.proofs.ShowLemmas.{sure_on, shown_store}
 use Rattle.frame_pool.specs.declared.pages.StorePages.{StorePages}
 use Rattle.frame_pool.specs.Places.{index_out}
 use Rattle.frame_pool.specs.PlacesView.{places_of}
-use Rattle.frame_pool.specs.Pool.{Brought, frame_at, marks_at, with_bytes, emptied, line_laid, line_kept}
-use Rattle.frame_pool.proofs.ApartLemmas.{has-remove_other, turned}
 use Rattle.frame_pool.proofs.PlaceLemmas.{none-room}
 use Rattle.storage_unit.specs.declared.unit.Unit.{Unit}
 use Rattle.storage_unit.specs.Incoming.{IsFilled, IsKept, HasGoneOut}
 use Rattle.storage_unit.proofs.BringKeeps.{bring-keeps, page_in-long}
 use Rattle.storage_unit.proofs.FailedBringKeeps.{failed-bring-keeps}
 use Rattle.restart.specs.Shows as restart
-use Rattle.activations.specs.Fetching.{KeepsStore}
 use Rattle.activations.proofs.SizeLemmas.{private-all}
 
 -- a store stays open, with the same bytes, while the disk is only asked

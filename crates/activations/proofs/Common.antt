@@ -1,10 +1,10 @@
 -- The names that most proofs cite, passed on from one place. Declares nothing.
-pub use Rattle.std.proofs.Common.{ap, append_assoc, arith, get_or, get_or-set_other, get_or-set_same, inl, inr, length-append, set-set, subst, sym, take, ◌∙◌}
-pub use Rattle.std.proofs.lemmas.Bool.{and_cases, and_from, and_parts, and_right, both_ways, cases_lt, eq-eqb, eqb-false, eqb-true, false_from_ne_true, leb-true, ltb-false, ne_eqb, not-false, not-true, or_cases, or_from, or_left, or_parts, or_right}
+pub use Rattle.std.proofs.Common.{ap, append_assoc, arith, get_or, get_or-set_other, get_or-set_same, inl, inr, length-append, set-set, subst, sym, take, ◌∙◌, rules}
+pub use Rattle.std.proofs.lemmas.Bool.{and_cases, and_from, and_parts, and_right, both_ways, cases_lt, eq-eqb, eqb-false, eqb-true, false_from_ne_true, leb-true, ltb-false, ne_eqb, not-false, not-true, or_cases, or_from, or_left, or_parts, or_right, and_left, cases_Bool, cases_eq, cond_both}
 pub use Rattle.std.proofs.Math.Bool.{and-false, and-true, or-false}
 pub use Rattle.std.proofs.lemmas.Bool.Decides.{nat_tests}
-pub use Rattle.std.proofs.lemmas.Grind.{same_number_lists}
-pub use Rattle.std.proofs.lemmas.List.{append-nil, get_or-map, get_or-replicate, get_or_default, get_or_past, get_or_read, length-drop, length-map, length-replicate, length-set, length-take-le, map-append, nil_from_length, set-get_or, take_all, take_more}
+pub use Rattle.std.proofs.lemmas.Grind.{same_number_lists, common_steps}
+pub use Rattle.std.proofs.lemmas.List.{append-nil, get_or-map, get_or-replicate, get_or_default, get_or_past, get_or_read, length-drop, length-map, length-replicate, length-set, length-take-le, map-append, nil_from_length, set-get_or, take_all, take_more, length-take, take-append-le, take-take}
 pub use Rattle.std.proofs.lemmas.List.Elements.{All-append, All-cons, All-filter, All-from_get_or, All-get_or, All-head, All-nil, All-replicate, All-set, All-tail, filter-append}
 pub use Rattle.std.proofs.lemmas.List.Folds.{list_any-append}
 pub use Rattle.std.proofs.lemmas.List.FromFn.{get_or-map-range_with_len, length-map-range_with_len, length-range_with_len}
@@ -56,7 +56,7 @@ pub use Rattle.flat_machine.specs.Touched.{lines_at, touched}
 pub use Rattle.flat_machine.specs.declared.machine.Plain.{Plain}
 pub use Rattle.flat_machine.specs.declared.machine.Program.{Program}
 pub use Rattle.frame_pool.proofs.SeenLemmas.{Stays, pool-seen}
-pub use Rattle.frame_pool.specs.Pool.{emptied, frame_at, gone, line_in_frame, line_kept, line_shown, marks_at, settled, undone, with_bytes}
+pub use Rattle.frame_pool.specs.Pool.{emptied, frame_at, gone, line_in_frame, line_kept, line_shown, marks_at, settled, undone, with_bytes, Brought, line_laid}
 pub use Rattle.frame_pool.specs.Seen.{IsSeen}
 pub use Rattle.frame_pool.specs.Sizes.{frame_count, line_place, line_size, private_frames}
 pub use Rattle.frame_pool.specs.View.{pool_of}
@@ -81,7 +81,7 @@ pub use Rattle.line_locks.specs.Holding.{Holding, IsWhole, held_at, no_lines_of,
 pub use Rattle.line_locks.specs.declared.request.Request.{Request}
 pub use Rattle.line_locks.specs.declared.request.Want.{Want}
 pub use Rattle.lock_rules.proofs.Lines.{any-or, has-pages_of, has-whole_pages, reaches}
-pub use Rattle.lock_rules.proofs.Sets.{any-at, any-at, any-some, has-append, has-filter, has_left, has_right}
+pub use Rattle.lock_rules.proofs.Sets.{any-at, any-some, has-append, has-filter, has_left, has_right}
 pub use Rattle.lock_rules.proofs.Sizes.{size-alike, size-apart, size-append, size-counted}
 pub use Rattle.lock_rules.specs.Access.{permits}
 pub use Rattle.lock_rules.specs.Lines.{Lines, both, conflicts, is_whole_page, no_lines, page_of_line, pages_of, with_whole_pages, within_page}
@@ -123,14 +123,14 @@ pub use Rattle.storage_unit.specs.Rows.{ChangesBytes, GivesRows, GoesOpen, HasWi
 pub use Rattle.storage_unit.specs.View.{reach_of}
 pub use Rattle.storage_unit.specs.declared.model.Reach.{Reach}
 pub use Rattle.store_format.specs.Bank.{RecordLine, record_bytes}
-pub use Rattle.store_format.specs.Header.{Header, entry_bytes, most_lines}
+pub use Rattle.store_format.specs.Header.{Header, entry_bytes, most_lines, total}
 pub use Rattle.store_format.specs.Stands.{Damaged, NotAStore, Standing, Stands, laid}
 unfoldable pub use Rattle.store_format.specs.Stands.{stands}
 pub use Rattle.activations.specs.Activity.{Activity, authority_at, authority_of, authority_told, authority_under, desk_over, entries, entry_for, entry_in, lines_held, live_in, locks_in, no_program, nothing_runs, number_under, program_at, program_in, request_for, request_in, shown, state_for, state_in, store_over}
 pub use Rattle.activations.specs.Attempted.{CameTo, IsSelected, IsShut, IsStopped, Strode, TookEffect, WasAttempted, attempted, plain_in, printed_after}
-pub use Rattle.activations.specs.Begins.{Begins, IsBegin, begun_in, given, idle, started}
+pub use Rattle.activations.specs.Begins.{Begins, IsBegin, begun_in, given, idle, started, begins}
 pub use Rattle.activations.specs.Ends.{HasSettled, HasUndone, IsDeserted, IsRestarted, WereRolled, reprinted}
-pub use Rattle.activations.specs.Fetching.{HasBrokenOff, IsBrokenOff, IsIn, IsStoreOf, IsUnread}
+pub use Rattle.activations.specs.Fetching.{HasBrokenOff, IsBrokenOff, IsIn, IsStoreOf, IsUnread, KeepsStore}
 pub use Rattle.activations.specs.Follows.{AreOfPages, KeepsDesk, IsIdentified, IsKept, IsSetUp, IsSound}
 pub use Rattle.activations.specs.Instructed.{GoesUncounted, IsAsked, IsEndOfRows, IsInstruction, IsPrepared, IsServed, Prepares, Serves}
 pub use Rattle.activations.specs.Kept.{AreRowsWithin, KeepsParts, StaysSeated}
@@ -146,3 +146,7 @@ pub use Rattle.activations.specs.View.{activity_of}
 pub use Rattle.activations.specs.declared.live.Live.{Live}
 pub use Rattle.activations.specs.declared.tally.Tally.{Tally}
 pub use Rattle.activations.specs.declared.touch.Touch.{Touch}
+pub use Rattle.activations.specs.Stages.{EndsByDisk, EndsContest, EndsRows, Fetches, HasFetched, KeepsAll, KeepsSound}
+pub use Rattle.frame_pool.proofs.ApartLemmas.{differs, has-remove_other, turned}
+pub use Rattle.redo_journal.proofs.WriteLemmas.{asks_only}
+pub use Rattle.std.proofs.lemmas.Simd.{map-map}

@@ -1,6 +1,5 @@
 -- What a seat that is left leaves, once its written lines are forgotten or committed.
-use Rattle.std.proofs.lemmas.Bool.{cases_eq}
-use Rattle.activations.proofs.Common.{false_from_ne_true, ◌≡◌, refl, ℕ, ◌+◌, ◌<◌, ◌==◌, not, true, false, List, [], slice_index, Some, arith, ap, sym, ◌∙◌, subst, both_ways, byte_count, line_of, line-bytes-pos, has, has-filter, Plain, after, Commit, row, Pool, emptied, IsSeen, Stays, Entry, no_counts, over_all, AreConsistent, due_to, place-kept, seat-told, among-any, taken-below, Reach, IsClean, is_line_marked, is_marked, bytes_over, private_bytes, Fits, Keeps, emptied-stays, Activity, program_in, entry_in, entries, store_over, shown, HasUndone, HasSettled, WereRolled, IsRestarted, IsDeserted, IsSound, IsKept, KeepsDesk, rolled, vacated, with_pool, RollsBack, Commits, nat_tests, inl, inr, ◌≢◌}
+use Rattle.activations.proofs.Common.{false_from_ne_true, ◌≡◌, refl, ℕ, ◌+◌, ◌<◌, ◌==◌, not, true, false, List, [], slice_index, Some, arith, ap, sym, ◌∙◌, subst, both_ways, byte_count, line_of, line-bytes-pos, has, has-filter, Plain, after, Commit, row, Pool, emptied, IsSeen, Stays, Entry, no_counts, over_all, AreConsistent, due_to, place-kept, seat-told, among-any, taken-below, Reach, IsClean, is_line_marked, is_marked, bytes_over, private_bytes, Fits, Keeps, emptied-stays, Activity, program_in, entry_in, entries, store_over, shown, HasUndone, HasSettled, WereRolled, IsRestarted, IsDeserted, IsSound, IsKept, KeepsDesk, rolled, vacated, with_pool, RollsBack, Commits, nat_tests, inl, inr, ◌≢◌, cases_eq}
 use Rattle.storage_unit.proofs.CommitIsUnseen.{commit-is-unseen}
 use Rattle.storage_unit.proofs.EmptyKeeps.{empty-keeps}
 use Rattle.storage_unit.proofs.IncomingLemmas.{none-has, emptied-resident}

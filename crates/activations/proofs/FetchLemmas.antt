@@ -1,8 +1,6 @@
 -- Pages of a touch that came in, one after the other, or that broke off.
-use Rattle.activations.proofs.Common.{◌≡◌, refl, ℕ, ◌+◌, ◌<◌, ◌≤◌, ◌==◌, ◌||◌, if◌then◌else◌, Bool, true, false, List, [], ◌∷◌, Option, Some, None, option_to_list, Result, Ok, Err, IsErrAnd, OnErr, OnOk, arith, ap, sym, ◌∙◌, inl, inr, eqb-true, eq-eqb, ne_eqb, or_cases, brought, has, has_right, Pool, Layout, Ghosts, OnlyAsks, FewerLater, KeptStore, IsClean, Word, Fine, ReadFailed, Fetching, Fetched, Broken, can't_be_read, fetches, Activity, IsStoreOf, IsIn, IsUnread, IsBrokenOff, IsFetched, IsMoved, Touch, Want, pages_wanted, wants_of, subst, nat_tests}
+use Rattle.activations.proofs.Common.{◌≡◌, refl, ℕ, ◌+◌, ◌<◌, ◌≤◌, ◌==◌, ◌||◌, if◌then◌else◌, Bool, true, false, List, [], ◌∷◌, Option, Some, None, option_to_list, Result, Ok, Err, IsErrAnd, OnErr, OnOk, arith, ap, sym, ◌∙◌, inl, inr, eqb-true, eq-eqb, ne_eqb, or_cases, brought, has, has_right, Pool, Layout, Ghosts, OnlyAsks, FewerLater, KeptStore, IsClean, Word, Fine, ReadFailed, Fetching, Fetched, Broken, can't_be_read, fetches, Activity, IsStoreOf, IsIn, IsUnread, IsBrokenOff, IsFetched, IsMoved, Touch, Want, pages_wanted, wants_of, subst, nat_tests, KeepsStore, Fetches, HasFetched}
 use Rattle.activations.proofs.BringLemmas.{store-on, keeps-then, moved-then}
-use Rattle.activations.specs.Fetching.{KeepsStore}
-use Rattle.activations.specs.Stages.{Fetches, HasFetched}
 use Rattle.activations.proofs.PoolLemmas.{brought-one, brought-first, brought-second}
 
 -- what a page of several comes to, by whether it is resident and can be read

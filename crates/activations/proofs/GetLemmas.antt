@@ -1,9 +1,8 @@
 -- What is asked for is got: the pages come in once more, and the row is served; or one can't be read.
-use Rattle.activations.proofs.Common.{false_from_ne_true, ◌≡◌, refl, ℕ, ◌+◌, ◌<◌, ◌%◌, ◌==◌, if◌then◌else◌, not, Bool, true, false, List, [], ◌∷◌, ◌++◌, filter, length, map, slice_index_or, Result, Ok, Err, OnOk, IfErr, list_any, arith, ap, sym, ◌∙◌, subst, inl, inr, set-set, both_ways, eqb-true, ne_eqb, or_cases, or_left, nat_tests, All-head, All-tail, is_fine_page, FlatStore, has, Lines, both, page_of_line, pages_of, with_whole_pages, taken_out, has-append, has_right, Want, lines_wanted, AreWithin, with_wants, no_lines_of, of_seat, Authority, Plain, On, Pool, Ghosts, KeptStore, TurnEnd, Desk, Entry, rolled_back, wanted, Word, ReadFailed, Fine, Counts, Attempt, Turning, Over, Disk, Fetched, Broken, fetches, goes_on, locks_with, touched_pages, with_grants, AreAlike, owners_told, gone_on, IsAmong, AreConsistent, due_to, IsOrderly, granted-rolled, new-among, one-entry, replaced, replaced-among, due-more, grants-held, row-goes-on, touched_of, seat-told, resident-consistent, any-among, Seating, sitter, left, IsClean, is_line_marked, Touch, Activity, entry_in, entries, store_over, desk_over, authority_told, number_under, authority_under, locks_in, HasUndone, IsBrokenOff, IsStoreOf, HasBrokenOff, IsSound, IsKept, IsServed, Serves, IsFetched, AreGranted, IsFree, locked, with_entries, KeepsParts, rolled, with_pool, wrote, AreWanted, page_if, pages_picked, pages_wanted, wants_of, with_whole_page, HasBroken, HasEnded}
+use Rattle.activations.proofs.Common.{false_from_ne_true, ◌≡◌, refl, ℕ, ◌+◌, ◌<◌, ◌%◌, ◌==◌, if◌then◌else◌, not, Bool, true, false, List, [], ◌∷◌, ◌++◌, filter, length, map, slice_index_or, Result, Ok, Err, OnOk, IfErr, list_any, arith, ap, sym, ◌∙◌, subst, inl, inr, set-set, both_ways, eqb-true, ne_eqb, or_cases, or_left, nat_tests, All-head, All-tail, is_fine_page, FlatStore, has, Lines, both, page_of_line, pages_of, with_whole_pages, taken_out, has-append, has_right, Want, lines_wanted, AreWithin, with_wants, no_lines_of, of_seat, Authority, Plain, On, Pool, Ghosts, KeptStore, TurnEnd, Desk, Entry, rolled_back, wanted, Word, ReadFailed, Fine, Counts, Attempt, Turning, Over, Disk, Fetched, Broken, fetches, goes_on, locks_with, touched_pages, with_grants, AreAlike, owners_told, gone_on, IsAmong, AreConsistent, due_to, IsOrderly, granted-rolled, new-among, one-entry, replaced, replaced-among, due-more, grants-held, row-goes-on, touched_of, seat-told, resident-consistent, any-among, Seating, sitter, left, IsClean, is_line_marked, Touch, Activity, entry_in, entries, store_over, desk_over, authority_told, number_under, authority_under, locks_in, HasUndone, IsBrokenOff, IsStoreOf, HasBrokenOff, IsSound, IsKept, IsServed, Serves, IsFetched, AreGranted, IsFree, locked, with_entries, KeepsParts, rolled, with_pool, wrote, AreWanted, page_if, pages_picked, pages_wanted, wants_of, with_whole_page, HasBroken, HasEnded, HasFetched}
 use Rattle.flat_machine.specs.Agreement.{all_of}
 use Rattle.desk.specs.declared.answers.TurnEnd.TheVariants as end
 use Rattle.desk.specs.Desk as desk
-use Rattle.activations.specs.Stages.{HasFetched}
 use Rattle.activations.proofs.ContestLemmas.{orderly-other}
 use Rattle.activations.proofs.EndLemmas.{sound-pool}
 use Rattle.activations.proofs.KeptLemmas.{keeps-locked, keeps-rolled}

@@ -1,6 +1,5 @@
 -- What a seat holds page by page, as flat lines.
-use Rattle.std.proofs.lemmas.Bool.{cases_lt}
-use Rattle.activations.proofs.Common.{◌≡◌, ◌≢◌, refl, ℕ, zero, suc, ◌+◌, ◌*◌, ◌<◌, ◌≤◌, ◌||◌, true, false, List, [], length, flat_map, range_with_len, arith, ap, sym, ◌∙◌, nat_tests, get_or_past, of_page-below, has, has-append, of_page, nothing, flat_lines, IsFlat, has-page, has-other_page, lines_held, AreOfPages, inl, inr}
+use Rattle.activations.proofs.Common.{◌≡◌, ◌≢◌, refl, ℕ, zero, suc, ◌+◌, ◌*◌, ◌<◌, ◌≤◌, ◌||◌, true, false, List, [], length, flat_map, range_with_len, arith, ap, sym, ◌∙◌, nat_tests, get_or_past, of_page-below, has, has-append, of_page, nothing, flat_lines, IsFlat, has-page, has-other_page, lines_held, AreOfPages, inl, inr, cases_lt}
 
 -- lines of pages from a first on, none of which is this page
 pub flat-apart : (sets : ℕ → List ℕ) (from n page line : ℕ) → ((p x : ℕ) → has (sets p) x ≡ true → x < 16) → line < 16 → ((p : ℕ) → from ≤ p → p < from + n → page ≢ p)

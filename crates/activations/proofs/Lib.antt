@@ -51,3 +51,4 @@ pub mod WaitLemmas
 pub mod WrittenLemmas
 pub mod BringLemmas
 pub mod FetchLemmas
+pub mod Lemmas

@@ -1,6 +1,5 @@
 -- How many lines will have been written.
-use Rattle.std.proofs.lemmas.Bool.{and_left}
-use Rattle.activations.proofs.Common.{◌≡◌, ◌≢◌, refl, ℕ, zero, suc, ◌+◌, ◌*◌, ◌/◌, ◌%◌, ◌<◌, ◌==◌, ◌&&◌, not, true, false, List, [], ◌∷◌, ◌++◌, All, filter, length, map, flat_map, list_any, range_with_len, sum_by, arith, ap, sym, ◌∙◌, eqb-true, and_parts, nat_tests, append-nil, length-map, sum_by-cons, All-nil, All-cons, passing, IsOfPage, difference, of_page-below, of_page_where, is_in_where-below, has, distinct, size, page_of_line, has-filter, size-alike, size-apart, size-append, size-counted, Want, of_page, write_count, flat_lines, lines_wanted, AreOfPage, lines_held, AreOfPages}
+use Rattle.activations.proofs.Common.{◌≡◌, ◌≢◌, refl, ℕ, zero, suc, ◌+◌, ◌*◌, ◌/◌, ◌%◌, ◌<◌, ◌==◌, ◌&&◌, not, true, false, List, [], ◌∷◌, ◌++◌, All, filter, length, map, flat_map, list_any, range_with_len, sum_by, arith, ap, sym, ◌∙◌, eqb-true, and_parts, nat_tests, append-nil, length-map, sum_by-cons, All-nil, All-cons, passing, IsOfPage, difference, of_page-below, of_page_where, is_in_where-below, has, distinct, size, page_of_line, has-filter, size-alike, size-apart, size-append, size-counted, Want, of_page, write_count, flat_lines, lines_wanted, AreOfPage, lines_held, AreOfPages, and_left}
 use Rattle.activations.proofs.HoldingLemmas.{flat-apart, held-flat}
 use Rattle.activations.proofs.RequestLemmas.{has-flat, has-wanted}
 

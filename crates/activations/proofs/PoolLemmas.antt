@@ -1,6 +1,5 @@
 -- Pages that come in and go out, of which those that run see nothing.
-use Rattle.activations.proofs.Common.{◌≡◌, ℕ, ◌%◌, ◌==◌, ◌||◌, not, nat_lt, if◌then◌else◌, Bool, true, false, List, [], ◌∷◌, ◌++◌, length, slice_index_or, Option, Some, None, option_to_list, remove, unwrap_or, ap, sym, ◌∙◌, subst, has, page_of_line, brought, Pool, IsState, IsCurrent, IsOrderly, taken-below, Keeps, Activity, entry_in, entries, store_over, desk_over, state_in, IsSound, IsKept, KeepsDesk, IsMoved, with_pool}
-use Rattle.frame_pool.proofs.ApartLemmas.{differs}
+use Rattle.activations.proofs.Common.{◌≡◌, ℕ, ◌%◌, ◌==◌, ◌||◌, not, nat_lt, if◌then◌else◌, Bool, true, false, List, [], ◌∷◌, ◌++◌, length, slice_index_or, Option, Some, None, option_to_list, remove, unwrap_or, ap, sym, ◌∙◌, subst, has, page_of_line, brought, Pool, IsState, IsCurrent, IsOrderly, taken-below, Keeps, Activity, entry_in, entries, store_over, desk_over, state_in, IsSound, IsKept, KeepsDesk, IsMoved, with_pool, differs}
 use Rattle.activations.proofs.PositionLemmas.{position-same}
 
 -- what follows the desk follows it with other pages in its frames

@@ -1,6 +1,5 @@
 -- Lines that come into a record one after another.
-use Rattle.std.proofs.lemmas.Bool.{cond_both}
-use Rattle.activations.proofs.Common.{ne_eqb, or_from, ◌≡◌, refl, ℕ, zero, suc, ◌+◌, ◌*◌, ◌/◌, ◌%◌, ◌<◌, ◌≤◌, ◌==◌, if◌then◌else◌, Bool, false, List, [], ◌∷◌, ◌++◌, All, filter, length, map, slice_index_or, Option, Some, IsSome, unwrap_or, AllPairs, list_any, range_with_len, arith, ap, sym, ◌∙◌, subst, append_assoc, length-append, append-nil, All-nil, All-cons, All-append, passing, IsOfPage, PageSize, has, distinct, size, flat_lines, Pool, line_shown, RecordLine, entry_bytes, most_lines, begun_of, record_bytes_of, with_line, KeptStore, with_begun, line_told, recorded, with_lines}
+use Rattle.activations.proofs.Common.{ne_eqb, or_from, ◌≡◌, refl, ℕ, zero, suc, ◌+◌, ◌*◌, ◌/◌, ◌%◌, ◌<◌, ◌≤◌, ◌==◌, if◌then◌else◌, Bool, false, List, [], ◌∷◌, ◌++◌, All, filter, length, map, slice_index_or, Option, Some, IsSome, unwrap_or, AllPairs, list_any, range_with_len, arith, ap, sym, ◌∙◌, subst, append_assoc, length-append, append-nil, All-nil, All-cons, All-append, passing, IsOfPage, PageSize, has, distinct, size, flat_lines, Pool, line_shown, RecordLine, entry_bytes, most_lines, begun_of, record_bytes_of, with_line, KeptStore, with_begun, line_told, recorded, with_lines, cond_both}
 
 -- numbers ascend from a least one on, below a bound
 abbrev pub Climbs : (least : ℕ) → List ℕ → (bound : ℕ) → Type 0

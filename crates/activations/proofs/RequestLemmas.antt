@@ -1,6 +1,5 @@
 -- The lines that an access touches and what it asks for, page by page and as flat lines.
-use Rattle.std.proofs.lemmas.Bool.{cond_both}
-use Rattle.activations.proofs.Common.{and-false, ◌≡◌, refl, ℕ, ◌+◌, ◌*◌, ◌/◌, ◌%◌, ◌<◌, ◌==◌, ◌&&◌, ◌||◌, not, nat_le, if◌then◌else◌, Bool, true, false, List, [], ◌∷◌, All, length, map, flat_map, list_any, arith, ap, sym, ◌∙◌, nat_tests, All-cons, All-head, All-tail, list_any-append, Layout, is_fine_page, IsOfPage, between, union, of_page-below, of_page_where, is_in_where-below, has, page_of_line, pages_of, with_whole_pages, has-append, has-pages_of, any-or, has-whole_pages, Want, flat_lines, lines_wanted, has-page, has-other_page, AreAlike, AreOfPage, with_whole_page}
+use Rattle.activations.proofs.Common.{and-false, ◌≡◌, refl, ℕ, ◌+◌, ◌*◌, ◌/◌, ◌%◌, ◌<◌, ◌==◌, ◌&&◌, ◌||◌, not, nat_le, if◌then◌else◌, Bool, true, false, List, [], ◌∷◌, All, length, map, flat_map, list_any, arith, ap, sym, ◌∙◌, nat_tests, All-cons, All-head, All-tail, list_any-append, Layout, is_fine_page, IsOfPage, between, union, of_page-below, of_page_where, is_in_where-below, has, page_of_line, pages_of, with_whole_pages, has-append, has-pages_of, any-or, has-whole_pages, Want, flat_lines, lines_wanted, has-page, has-other_page, AreAlike, AreOfPage, with_whole_page, cond_both}
 
 -- a line is one of these of a page
 pub has-flat : (page : ℕ) (set : List ℕ) (line : ℕ) → IsOfPage set → has (flat_lines page set) line ≡ ((page == page_of_line line) && has set (line % 16))

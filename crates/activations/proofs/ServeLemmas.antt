@@ -1,6 +1,5 @@
 -- The stages of an access that is served, one after another.
-use Rattle.activations.proofs.Common.{◌≡◌, ◌≤◌, ℕ, Result, Ok, Err, IfErr, IsErrAnd, arith, sym, subst, Rose, Ghosts, TurnEnd, Tally, Activity}
-use Rattle.activations.specs.Stages.{EndsRows, EndsByDisk}
+use Rattle.activations.proofs.Common.{◌≡◌, ◌≤◌, ℕ, Result, Ok, Err, IfErr, IsErrAnd, arith, sym, subst, Rose, Ghosts, TurnEnd, Tally, Activity, EndsRows, EndsByDisk}
 
 -- what is to be said of an end that is handed on
 pub handed : {T : Type 0} (P : Result T TurnEnd → Type 0) (result : Result T TurnEnd) (end : TurnEnd) → IsErrAnd result (λ told. told ≡ end) → P (Err end) → P result

@@ -1,6 +1,5 @@
 -- One row of what runs in a seat, and a run of them, beside what it reaches.
-use Rattle.activations.proofs.Common.{◌≡◌, refl, ℕ, ◌+◌, ◌<◌, ◌⊎◌, true, List, length, slice_set, slice_index_or, ap, sym, ◌∙◌, subst, inl, inr, has, Cpu, IsOfFewBytes, Reach, GivesRows, ChangesBytes, StaysClean, LeavesSeats, Live, Activity, nothing_runs, IsSelected, TookEffect, WasAttempted, Strode, printed_after, IsSound, KeepsParts, RunsAt, StrodeTo, with_live}
-use Rattle.std.proofs.lemmas.List.{set-set, set-get_or, length-set}
+use Rattle.activations.proofs.Common.{◌≡◌, refl, ℕ, ◌+◌, ◌<◌, ◌⊎◌, true, List, length, slice_set, slice_index_or, ap, sym, ◌∙◌, subst, inl, inr, has, Cpu, IsOfFewBytes, Reach, GivesRows, ChangesBytes, StaysClean, LeavesSeats, Live, Activity, nothing_runs, IsSelected, TookEffect, WasAttempted, Strode, printed_after, IsSound, KeepsParts, RunsAt, StrodeTo, with_live, set-set, set-get_or, length-set}
 use Rattle.romp_cpu.specs.declared.cpu.Attempt.{Attempt}
 use Rattle.activations.proofs.ExecuteLemmas.{within, runs-there, room-to-print, attempted-so}
 use Rattle.activations.proofs.KeptLemmas.{keeps-itself, keeps-two, keeps-took}

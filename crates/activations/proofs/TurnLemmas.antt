@@ -1,9 +1,8 @@
 -- The rows of a turn, instruction by instruction.
-use Rattle.activations.proofs.Common.{◌≡◌, refl, ℕ, suc, ◌+◌, ◌-◌, ◌<◌, ◌≤◌, true, List, length, arith, ap, sym, ◌∙◌, subst, nat_tests, has, Ghosts, ending_told, Desk, Word, ReadFailed, Counts, Turning, Going, Ending, Limit, Disk, turns, TurnEnd, Reads, IsAmong, IsOrderly, seat-told, Seating, number_in, taken-below, Tally, Activity, entry_in, entries, desk_over, Strode, IsSound, KeepsDesk, GoesUncounted, IsEndOfRows, KeepsParts, StaysSeated, ComesToEnd, instruction_in, counted, HasBroken, HasEnded, tally_counts, IsAtCommit, IsTurning, selected_in, turn_in, commit_call, FewerLater, OnlyAsks, asks_on, KeptStore, IsStoreOf}
+use Rattle.activations.proofs.Common.{◌≡◌, refl, ℕ, suc, ◌+◌, ◌-◌, ◌<◌, ◌≤◌, true, List, length, arith, ap, sym, ◌∙◌, subst, nat_tests, has, Ghosts, ending_told, Desk, Word, ReadFailed, Counts, Turning, Going, Ending, Limit, Disk, turns, TurnEnd, Reads, IsAmong, IsOrderly, seat-told, Seating, number_in, taken-below, Tally, Activity, entry_in, entries, desk_over, Strode, IsSound, KeepsDesk, GoesUncounted, IsEndOfRows, KeepsParts, StaysSeated, ComesToEnd, instruction_in, counted, HasBroken, HasEnded, tally_counts, IsAtCommit, IsTurning, selected_in, turn_in, commit_call, FewerLater, OnlyAsks, asks_on, KeptStore, IsStoreOf, KeepsAll}
 use Rattle.desk_law.proofs.TurnLoop.{turning-goes, turning-ends, turning-commits, turning-limit}
 use Rattle.desk.specs.declared.answers.TurnEnd.TheVariants as end
 use Rattle.desk_law.proofs.TurnLoop as law
-use Rattle.activations.specs.Stages.{KeepsAll}
 use Rattle.activations.proofs.BringLemmas.{store-on}
 use Rattle.activations.proofs.KeptLemmas.{keeps-less, keeps-on, keeps-two}
 use Rattle.activations.proofs.RowLemmas.{orderly-order}

@@ -1,8 +1,6 @@
 -- A seat that is left: its entry goes, and its pages are nobody's.
 use Rattle.activations.proofs.SittingLemmas.{each_seat}
-use Rattle.std.proofs.lemmas.Bool.{cond_both}
-use Rattle.activations.proofs.Common.{◌≡◌, refl, ℕ, zero, suc, ◌+◌, ◌<◌, ◌≤◌, ◌==◌, not, nat_lt, if◌then◌else◌, Bool, true, false, List, [], ◌∷◌, length, map, slice_index_or, slice_set, range_with_len, arith, ap, sym, ◌∙◌, subst, inl, inr, get_or-set_same, get_or-set_other, eqb-false, and_parts, and_from, not-true, nat_tests, length-map, length-set, get_or-map, get_or_past, All-filter, passing, IsOfPage, has, has-filter, Authority, unowned, cleared_entry, nobody, StandsFor, owners_told, freed-told, others, told-others, sitter, number_in, left, taken-below, kept-left, same-with, other-with, of_page, nothing, of_seat, no_lines_of, released, Activity, authority_of, authority_at, authority_under, authority_told, number_under, entry_in, entries, IsSound, IsIdentified, AreOfPages, vacated}
-use Rattle.std.proofs.lemmas.Simd.{map-map}
+use Rattle.activations.proofs.Common.{◌≡◌, refl, ℕ, zero, suc, ◌+◌, ◌<◌, ◌≤◌, ◌==◌, not, nat_lt, if◌then◌else◌, Bool, true, false, List, [], ◌∷◌, length, map, slice_index_or, slice_set, range_with_len, arith, ap, sym, ◌∙◌, subst, inl, inr, get_or-set_same, get_or-set_other, eqb-false, and_parts, and_from, not-true, nat_tests, length-map, length-set, get_or-map, get_or_past, All-filter, passing, IsOfPage, has, has-filter, Authority, unowned, cleared_entry, nobody, StandsFor, owners_told, freed-told, others, told-others, sitter, number_in, left, taken-below, kept-left, same-with, other-with, of_page, nothing, of_seat, no_lines_of, released, Activity, authority_of, authority_at, authority_under, authority_told, number_under, entry_in, entries, IsSound, IsIdentified, AreOfPages, vacated, cond_both, map-map}
 use Rattle.desk.specs.Desk as desk
 use Rattle.activations.proofs.TableLemmas.{nobody-page}
 

@@ -1,6 +1,5 @@
 -- Who holds what is asked for, and who waits for whom: of seats, as of the desk's entries.
-use Rattle.std.proofs.lemmas.Simd.{map-map}
-use Rattle.activations.proofs.Common.{◌≡◌, refl, ℕ, ◌==◌, ◌&&◌, not, Bool, true, List, filter, map, Option, Some, None, is_some, option_map_or, ap, sym, ◌∙◌, has, Lines, no_lines, conflicts, shown_cycle, Request, Want, lines_wanted, of_seat, Entry, AreAlike, by_number, kept_conflict, kept_waits, alike-same, conflicts-alike, filter-alike, conflicts-seats, waits-seats, sitter, number_in, numbers, holders, seat_waits, cycle_of, AreOfPage, holders-flat, waits-flat, waits-none, cycle-numbers, Activity, entry_in, entries, locks_in, request_in, IsSound}
+use Rattle.activations.proofs.Common.{◌≡◌, refl, ℕ, ◌==◌, ◌&&◌, not, Bool, true, List, filter, map, Option, Some, None, is_some, option_map_or, ap, sym, ◌∙◌, has, Lines, no_lines, conflicts, shown_cycle, Request, Want, lines_wanted, of_seat, Entry, AreAlike, by_number, kept_conflict, kept_waits, alike-same, conflicts-alike, filter-alike, conflicts-seats, waits-seats, sitter, number_in, numbers, holders, seat_waits, cycle_of, AreOfPage, holders-flat, waits-flat, waits-none, cycle-numbers, Activity, entry_in, entries, locks_in, request_in, IsSound, map-map}
 use Rattle.activations.proofs.HoldingLemmas.{held-flat}
 
 -- the numbers of the entries are those of the seats

@@ -1,7 +1,7 @@
 -- The names that most proofs cite, passed on from one place. Declares nothing.
-pub use Rattle.std.proofs.Common.{Bool, Bor, Decides, Err, List, None, Ok, Option, Result, Some, [], add-one, ap, append-nil, append_assoc, arith, codes, cond, decimal, drop, false, get_or, if◌then◌else◌, length, length-append, length-drop, map, nat_eq, nat_le, nat_lt, not, pos, position, refl, subst, suc, sym, take, true, zero, ℕ, ◌&&◌, ◌*◌, ◌++◌, ◌+◌, ◌<◌, ◌==◌, ◌^◌, ◌||◌, ◌∙◌, ◌∷◌, ◌≡◌, ◌≢◌, ◌≤◌}
+pub use Rattle.std.proofs.Common.{Bool, Bor, Decides, Err, List, None, Ok, Option, Result, Some, [], add-one, ap, append-nil, append_assoc, arith, codes, cond, decimal, drop, false, get_or, if◌then◌else◌, length, length-append, length-drop, map, nat_eq, nat_le, nat_lt, not, pos, position, refl, subst, suc, sym, take, true, zero, ℕ, ◌&&◌, ◌*◌, ◌++◌, ◌+◌, ◌<◌, ◌==◌, ◌^◌, ◌||◌, ◌∙◌, ◌∷◌, ◌≡◌, ◌≢◌, ◌≤◌, rules}
 pub use Rattle.std.proofs.Math.Seq.{drop-cons, get_or-append_seam}
-pub use Rattle.std.proofs.lemmas.Bool.{and_parts, le-leb, lt-ltb}
+pub use Rattle.std.proofs.lemmas.Bool.{and_parts, le-leb, lt-ltb, cond_both}
 pub use Rattle.std.proofs.lemmas.Bool.Decides.{Decides-and, Decides-ltb, nat_tests}
 pub use Rattle.std.proofs.lemmas.Int.Digits.{digits_more, digits_value_more}
 pub use Rattle.std.proofs.lemmas.List.{drop_at, get_or_append_left, take_at}
@@ -12,7 +12,7 @@ pub use Rattle.std.specs.Str.{IsAscii, bytes_eq}
 pub use Rattle.std.specs.Str.Parse.{AllDigits, digits_value}
 pub use Rattle.asm_parse.specs.Number.{number_in, number_of}
 pub use Rattle.asm_parse.specs.Operand.{operands_of}
-pub use Rattle.asm_parse.specs.Statement.{body_of, line_of, statement_of}
+pub use Rattle.asm_parse.specs.Statement.{body_of, line_of, statement_of, on_line}
 pub use Rattle.asm_parse.specs.Text.{Gains, is_feed, lines_of, parsed, then_statements}
 unfoldable pub use Rattle.asm_parse.specs.Text.{statements_from}
 pub use Rattle.asm_parse.specs.Token.{before, begins, begins_word, continues_word, is_blank, mark_begins, more_of, number_begins, then_tokens, tokens, word_begins}
@@ -23,3 +23,4 @@ pub use Rattle.asm_parse.specs.declared.token.Begin.{Begin}
 pub use Rattle.asm_parse.specs.declared.token.Begin.TheVariants.{Bad, Blank, Comment, Takes}
 pub use Rattle.asm_parse.specs.declared.token.Token.{Token}
 pub use Rattle.asm_parse.specs.declared.token.Token.TheVariants.{Close, Colon, Comma, Minus, Number, Open, Plus, Word}
+pub use Rattle.std.proofs.lemmas.Grind.{common_steps, elements}

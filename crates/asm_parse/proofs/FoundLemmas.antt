@@ -1,6 +1,5 @@
 -- The tokens that a line has are such as a line can have.
-use Rattle.asm_parse.proofs.Common.{◌≡◌, ℕ, zero, suc, ◌<◌, ◌^◌, ◌==◌, Bool, true, false, if◌then◌else◌, List, [], ◌∷◌, drop, Option, Some, None, Result, Ok, refl, subst, arith, is_ascii_alphanumeric, is_ascii_digit, AllByRecursion, list_all, prefix_len, take_while, nat_tests, number_in, number_of, begins, begins_word, continues_word, is_blank, mark_begins, more_of, number_begins, then_tokens, tokens, tokens_past, word_begins, Token, Begin, Takes}
-use Rattle.std.proofs.lemmas.Bool.{cond_both}
+use Rattle.asm_parse.proofs.Common.{◌≡◌, ℕ, zero, suc, ◌<◌, ◌^◌, ◌==◌, Bool, true, false, if◌then◌else◌, List, [], ◌∷◌, drop, Option, Some, None, Result, Ok, refl, subst, arith, is_ascii_alphanumeric, is_ascii_digit, AllByRecursion, list_all, prefix_len, take_while, nat_tests, number_in, number_of, begins, begins_word, continues_word, is_blank, mark_begins, more_of, number_begins, then_tokens, tokens, tokens_past, word_begins, Token, Begin, Takes, cond_both}
 use Rattle.asm_parse.proofs.RunLemmas.{taken_pass}
 use Rattle.asm_parse.proofs.FrontLemmas.{IsToken}
 

@@ -1,10 +1,9 @@
 -- Statements that are kept whole, and one more.
-use Rattle.asm_parse.proofs.Common.{◌≡◌, ℕ, ◌+◌, ◌<◌, ◌≤◌, List, [], ◌∷◌, ◌++◌, length, map, get_or, Option, None, Result, Ok, Err, ap, ◌∙◌, arith, length-append, AllByRecursion, get_or-append_seam, get_or_append_left, Statement, Nothing, Gains}
+use Rattle.asm_parse.proofs.Common.{◌≡◌, ℕ, ◌+◌, ◌<◌, ◌≤◌, List, [], ◌∷◌, ◌++◌, length, map, get_or, Option, None, Result, Ok, Err, ap, ◌∙◌, arith, length-append, AllByRecursion, get_or-append_seam, get_or_append_left, Statement, Nothing, Gains, on_line}
 use Rattle.asm_parse.specs.declared.head.Head.{Head}
 use Rattle.asm_parse.specs.declared.head.Head.TheVariants.{Bare, Whole}
 use Rattle.asm_parse.specs.declared.statement.Body.{Body}
 use Rattle.asm_parse.specs.Kept.{AreKept, IsKept, stated_by}
-use Rattle.asm_parse.specs.Statement.{on_line}
 
 abbrev none : Statement
 none = record { line = 0; label = None; body = Nothing }

@@ -8,3 +8,4 @@ pub mod FrontLemmas
 pub mod FoundLemmas
 pub mod DirectiveLemmas
 pub mod KeptLemmas
+pub mod Lemmas

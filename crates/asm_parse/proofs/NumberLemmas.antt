@@ -1,8 +1,6 @@
 -- Numbers in a radix.
-use Rattle.asm_parse.proofs.Common.{◌≡◌, ℕ, zero, suc, ◌+◌, ◌*◌, ◌^◌, ◌<◌, ◌≤◌, Bool, cond, List, [], ◌∷◌, length, get_or, take, Option, Some, None, refl, arith, Decides, digit_value, is_digit, list_all, SomeIff, AllDigits, digits_value, lt-ltb, Decides-and, Decides-ltb, digits_value_more, number_in}
-use Rattle.std.proofs.lemmas.Grind.{common_steps}
+use Rattle.asm_parse.proofs.Common.{◌≡◌, ℕ, zero, suc, ◌+◌, ◌*◌, ◌^◌, ◌<◌, ◌≤◌, Bool, cond, List, [], ◌∷◌, length, get_or, take, Option, Some, None, refl, arith, Decides, digit_value, is_digit, list_all, SomeIff, AllDigits, digits_value, lt-ltb, Decides-and, Decides-ltb, digits_value_more, number_in, common_steps, nat_tests}
 use Rattle.std.proofs.lemmas.Str.Parse.{digits_value-take-le}
-use Rattle.std.proofs.lemmas.Bool.Decides.{nat_tests}
 
 -- each of the digits is one
 pub digit_at : (radix : ℕ) (digits : List ℕ) (i : ℕ) → AllDigits radix digits → i < length digits → digit_value (get_or digits i 0) < radix

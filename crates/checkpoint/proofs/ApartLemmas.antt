@@ -1,7 +1,5 @@
 -- Bytes that stay.
-use Rattle.checkpoint.proofs.Common.{◌≡◌, inl, inr, ℕ, ◌+◌, ◌-◌, ◌<◌, ◌≤◌, List, length, ◌∙◌, arith, get_or-drop, same_byte, Torn, IsSameBut}
-use Rattle.std.proofs.lemmas.Bool.{cases_lt}
-use Rattle.redo_journal.specs.Appended.{IsApart}
+use Rattle.checkpoint.proofs.Common.{◌≡◌, inl, inr, ℕ, ◌+◌, ◌-◌, ◌<◌, ◌≤◌, List, length, ◌∙◌, arith, get_or-drop, same_byte, Torn, IsSameBut, cases_lt, IsApart}
 
 pub more_offsets : (P Q : ℕ → Type 0) (old image : List ℕ) → ((at : ℕ) → P at → Q at) → IsSameBut P old image → IsSameBut Q old image
 more_offsets P Q old image wider is = record { long = is.long; same = λ at no. is.same at (λ one. no (wider at one)) }

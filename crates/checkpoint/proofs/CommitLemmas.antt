@@ -1,15 +1,9 @@
 -- A record that is added behind a checkpoint.
-use Rattle.checkpoint.proofs.Common.{Option, None, Some, unwrap_or, nat_lt, if◌then◌else◌, Which, RecordLine, Standing, stands, one_more, KeptBank, area_end, needed_end, begun_of, number_of, IsEither, placed, turned, PageSize, emptied, roomy, other, slice_set, number_after, IsKeptAfter, IsMoreBy, SameShape, CountsKept, FailedLeaves, bank_appended, Elapses, FewerLater, Leaves, held_of, leaves_on, OnlyWrites, IsSome, Header, IsSameBut, IsCheckpointOffset, IsCommitOffset, HoldsCommitted, LeavesCommitted}
+use Rattle.checkpoint.proofs.Common.{Option, None, Some, unwrap_or, nat_lt, if◌then◌else◌, Which, RecordLine, Standing, stands, one_more, KeptBank, area_end, needed_end, begun_of, number_of, IsEither, placed, turned, PageSize, emptied, roomy, other, slice_set, number_after, IsKeptAfter, IsMoreBy, SameShape, CountsKept, FailedLeaves, bank_appended, Elapses, FewerLater, Leaves, held_of, leaves_on, OnlyWrites, IsSome, Header, IsSameBut, IsCheckpointOffset, IsCommitOffset, HoldsCommitted, LeavesCommitted, IsApart, with_record, ◌≡◌, inl, inr, ⊎_elim, ℕ, ◌+◌, ◌<◌, ◌≤◌, Bool, true, false, List, [], ◌∷◌, length, refl, sym, subst, ◌∙◌, ap, arith, nat_tests, Kept, Ghosts}
 use Rattle.checkpoint.proofs.ApartLemmas.{but_between, more_offsets}
 use Rattle.checkpoint.proofs.StepLemmas.{held_since}
-use Rattle.redo_journal.specs.Appended.{IsApart}
-use Rattle.redo_journal.specs.Kept.{with_record}
-use Rattle.std.proofs.Common.{◌≡◌, inl, inr, ⊎_elim, ℕ, ◌+◌, ◌<◌, ◌≤◌, Bool, true, false, List, [], ◌∷◌, length, refl, sym, subst, ◌∙◌, ap, arith}
 use Rattle.std.specs.Option.{option_map}
-use Rattle.std.proofs.lemmas.Bool.Decides.{nat_tests}
 use Rattle.redo_journal.proofs.TurnLemmas.{one_more_placed}
-use Rattle.redo_journal.specs.declared.keep.Kept.{Kept}
-use Rattle.outside.specs.declared.world.Outside.{Ghosts}
 use Rattle.redo_journal.specs.declared.keep.Kept.TheVariants as keeping
 
 -- the begun record behind another gate

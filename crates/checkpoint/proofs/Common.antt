@@ -1,11 +1,11 @@
 -- The names that most proofs cite, passed on from one place. Declares nothing.
-pub use Rattle.std.proofs.Common.{IsTrue, List, [], ap, arith, drop, get_or, inl, inr, length, refl, replicate, slice_index, subst, sym, take, ℕ, ⊎_elim, ◌%◌, ◌*◌, ◌+◌, ◌-◌, ◌<◌, ◌^◌, ◌∙◌, ◌∷◌, ◌≡◌, ◌≤◌, ◌⊎◌}
+pub use Rattle.std.proofs.Common.{IsTrue, List, [], ap, arith, drop, get_or, inl, inr, length, refl, replicate, slice_index, subst, sym, take, ℕ, ⊎_elim, ◌%◌, ◌*◌, ◌+◌, ◌-◌, ◌<◌, ◌^◌, ◌∙◌, ◌∷◌, ◌≡◌, ◌≤◌, ◌⊎◌, false, true}
 pub use Rattle.std.proofs.lemmas.List.{drop-drop, get_or-drop, get_or-replicate, length-drop, length-replicate, length-take-le, take_at}
-pub use Rattle.std.specs.Prelude.{Bool, IfSome, IsSome, None, OnOk, Option, Some, fold, if◌then◌else◌, nat_lt, slice_set, unwrap_or, ◌==◌}
+pub use Rattle.std.specs.Prelude.{Bool, IfSome, IsSome, None, OnOk, Option, Some, fold, if◌then◌else◌, nat_lt, slice_set, unwrap_or, ◌==◌, Err, Ok, Result}
 pub use Rattle.line_geometry.specs.Lines.{line_count}
 pub use Rattle.line_geometry.specs.declared.directory.PageSize.{PageSize}
 pub use Rattle.outside.proofs.Durable.{leaves_held}
-pub use Rattle.outside.proofs.Runs.{asks_one, leaves_on, leaves_same}
+pub use Rattle.outside.proofs.Runs.{asks_one, leaves_on, leaves_same, asks_on}
 pub use Rattle.outside.proofs.Torn.{torn_by_written}
 pub use Rattle.outside.specs.Bytes.{Torn, Writes, bytes_at, written}
 pub use Rattle.outside.specs.Durable.{IsSure}
@@ -14,7 +14,7 @@ pub use Rattle.outside.specs.Runs.{FewerLater, Leaves, OnlyAsks, held_of}
 pub use Rattle.redo_journal.proofs.AppendLemmas.{place_is}
 pub use Rattle.redo_journal.proofs.GateLemmas.{drop-written, held_is}
 pub use Rattle.redo_journal.proofs.WriteLemmas.{asks_only, held_left, writes_on, wrote_nothing}
-pub use Rattle.redo_journal.specs.Appended.{CountsKept, FailedLeaves, bank_appended, kept_in}
+pub use Rattle.redo_journal.specs.Appended.{CountsKept, FailedLeaves, bank_appended, kept_in, IsApart}
 pub use Rattle.redo_journal.specs.Held.{IsMoreBy, OnlyWrites}
 pub use Rattle.redo_journal.specs.Kept.{KeptBank, area_end, begun_of, end_of, line_bytes_of, needed_end, number_of, place_of, with_record, SameShape}
 pub use Rattle.redo_journal.specs.Tracks.{HoldsOneOf, HoldsRecords, IsEither, TracksBank}
@@ -33,3 +33,8 @@ pub use Rattle.checkpoint.specs.Chosen.{other, selector_of}
 pub use Rattle.checkpoint.specs.Committed.{Commits, HoldsCommitted, IsKeptAfter, LeavesCommitted, emptied, number_after, roomy}
 pub use Rattle.checkpoint.specs.Home.{IsCovered, IsHomed, TornLine, copied, home_line, home_place, store_bytes}
 pub use Rattle.checkpoint.specs.Moved.{IsCheckpointed, IsMoved, IsSame}
+pub use Rattle.outside.specs.declared.world.Outside.{Ghosts}
+pub use Rattle.redo_journal.specs.declared.keep.Kept.{Kept}
+pub use Rattle.std.proofs.lemmas.Bool.{cases_eq, cases_lt}
+pub use Rattle.std.proofs.lemmas.Bool.Decides.{nat_tests}
+pub use Rattle.std.proofs.lemmas.Grind.{common_steps}

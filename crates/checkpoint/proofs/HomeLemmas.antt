@@ -1,12 +1,10 @@
 -- Newest bytes that are written home.
-use Rattle.checkpoint.proofs.Common.{◌≡◌, inl, inr, ℕ, ◌+◌, ◌*◌, ◌-◌, ◌<◌, ◌≤◌, List, length, take, drop, refl, sym, ◌∙◌, ap, subst, arith, Option, None, Some, fold, drop-drop, take_at, length-drop, length-take-le, line_count, PageSize, Which, A, B, Header, home_at, bank_at, KeptBank, end_of, line_bytes_of, RecordLine, IsStore, laid, home_of, shorter_front, rest_front, area_within, store_front, behind_bytes, bytes_at, written, Torn, torn_by_written, drop-written, home_line, home_place, copied, TornLine, IsHomeOffset, IsCovered, IsHomed}
-use Rattle.std.proofs.lemmas.Bool.{cases_lt, cases_eq}
+use Rattle.checkpoint.proofs.Common.{◌≡◌, inl, inr, ℕ, ◌+◌, ◌*◌, ◌-◌, ◌<◌, ◌≤◌, List, length, take, drop, refl, sym, ◌∙◌, ap, subst, arith, Option, None, Some, fold, drop-drop, take_at, length-drop, length-take-le, line_count, PageSize, Which, A, B, Header, home_at, bank_at, KeptBank, end_of, line_bytes_of, RecordLine, IsStore, laid, home_of, shorter_front, rest_front, area_within, store_front, behind_bytes, bytes_at, written, Torn, torn_by_written, drop-written, home_line, home_place, copied, TornLine, IsHomeOffset, IsCovered, IsHomed, cases_lt, cases_eq, nat_tests}
 use Rattle.line_geometry.specs.Segments.{line_bytes}
 use Rattle.store_format.proofs.Widths.{lines-below}
 use Rattle.redo_journal.specs.Noted.{newest_place}
 use Rattle.checkpoint.proofs.ApartLemmas.{but_on, torn_but}
 use Rattle.redo_journal.proofs.Newest.{bytes_of_line, newest_bytes, store_agrees, held_records, newest_within, same_lines}
-use Rattle.std.proofs.lemmas.Bool.Decides.{nat_tests}
 
 -- a line of the home lines
 home_is : (header : Header) (image : List ℕ) (line : ℕ) → bytes_of_line header.directory.page line (home_of image header) ≡ home_line header image line

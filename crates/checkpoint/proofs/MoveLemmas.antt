@@ -1,9 +1,8 @@
 -- The other bank, its head, and the selector.
-use Rattle.checkpoint.proofs.Common.{◌≡◌, inl, inr, ◌⊎◌, ℕ, ◌+◌, ◌%◌, ◌^◌, ◌<◌, ◌≤◌, List, [], ◌∷◌, length, drop, refl, sym, ◌∙◌, ap, arith, slice_index, ◌==◌, if◌then◌else◌, fold, get_or-drop, Which, A, B, Header, home_at, bank_at, RecordLine, area_at, IsStore, HasHeader, laid, home_of, chosen, stands, shorter_front, same_byte, area_within, same_header, header_held, base_behind, store_behind, store_front, store_empty, store_big, stands_alike, behind_bytes, line_count, written, Torn, torn_by_written, KeptBank, number_of, head_bytes, drop-written, other, selector_of, IsSameBut, IsHomeOffset, IsCheckpointOffset, IsCovered, IsHomed, IsSame}
+use Rattle.checkpoint.proofs.Common.{◌≡◌, inl, inr, ◌⊎◌, ℕ, ◌+◌, ◌%◌, ◌^◌, ◌<◌, ◌≤◌, List, [], ◌∷◌, length, drop, refl, sym, ◌∙◌, ap, arith, slice_index, ◌==◌, if◌then◌else◌, fold, get_or-drop, Which, A, B, Header, home_at, bank_at, RecordLine, area_at, IsStore, HasHeader, laid, home_of, chosen, stands, shorter_front, same_byte, area_within, same_header, header_held, base_behind, store_behind, store_front, store_empty, store_big, stands_alike, behind_bytes, line_count, written, Torn, torn_by_written, KeptBank, number_of, head_bytes, drop-written, other, selector_of, IsSameBut, IsHomeOffset, IsCheckpointOffset, IsCovered, IsHomed, IsSame, nat_tests}
 use Rattle.redo_journal.proofs.HeadLemmas.{IsEmpty, head_empty, head_long}
 use Rattle.checkpoint.proofs.ApartLemmas.{more_offsets, but_on, torn_but}
 use Rattle.checkpoint.proofs.HomeLemmas.{covered_store, covered_bytes, homed_bytes}
-use Rattle.std.proofs.lemmas.Bool.Decides.{nat_tests}
 
 -- an image of the same store, with the same home lines
 pub record Alike (header : Header) (which : Which) (base gate : ℕ) (records : List (List RecordLine)) (old new : List ℕ) : Type 0 where

@@ -1,9 +1,5 @@
 -- What a crash leaves of calls that write, one after another, from images on that weren't sure.
-use Rattle.checkpoint.proofs.Common.{◌≡◌, ⊎_elim, ℕ, List, [], ap, Elapses, LeavesStep, IsDurable, Leaves, OnlyAsks, FewerLater, held_of, Writes, written, IsSure, OnlyWrites, held_left}
-use Rattle.std.specs.Prelude.{Option, None, Some, Result, Ok, Err, OnOk, IsSome, IsTrue, unwrap_or}
-use Rattle.outside.specs.declared.world.Outside.{Ghosts}
-use Rattle.std.proofs.lemmas.Bool.Decides.{nat_tests}
-use Rattle.std.proofs.Common.{arith}
+use Rattle.checkpoint.proofs.Common.{◌≡◌, ⊎_elim, ℕ, List, [], ap, Elapses, LeavesStep, IsDurable, Leaves, OnlyAsks, FewerLater, held_of, Writes, written, IsSure, OnlyWrites, held_left, Option, None, Some, Result, Ok, Err, OnOk, IsSome, IsTrue, unwrap_or, Ghosts, nat_tests, arith}
 
 module _ {W : Type 0} (G : Ghosts W) (fewer_later : FewerLater G) (old mid new : W) (before : Elapses G.moment G.left_since old mid) (time : Elapses G.moment G.left_since mid new) where
   -- each image after a step is one of those before it

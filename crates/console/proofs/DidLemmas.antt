@@ -1,9 +1,5 @@
 -- A store that was made, and an activation that was traced, are those that the words say.
-use Rattle.console.proofs.Common.{ℕ, map, subst, List, string_bytes, Global, Header, Given, TracedFrom, Command, IsForm}
-use Rattle.std.specs.Prelude.{nat_eq, String}
-use Rattle.outside.specs.declared.world.Outside.{Ghosts}
-use Rattle.store_calls.specs.New.{Made}
-use Rattle.job_calls.specs.declared.ended.Ended.{Ended}
+use Rattle.console.proofs.Common.{ℕ, map, subst, List, string_bytes, Global, Header, Given, TracedFrom, Command, IsForm, nat_eq, String, Ghosts, Made, Ended}
 use Rattle.console.specs.Did.{Does, ended_call}
 use Rattle.console.specs.declared.words.Command.TheVariants as command
 use Rattle.console.proofs.PromiseLemmas.{Holds, mark_of, same_mark}

@@ -3,3 +3,4 @@ pub mod PromiseLemmas
 pub mod WordLemmas
 pub mod DidLemmas
 pub mod WantLemmas
+pub mod Lemmas

@@ -1,6 +1,5 @@
 -- A command that has what it needs ends well, by what it did.
-use Rattle.console.proofs.Common.{◌≡◌, ◌⊎◌, ◌+◌, ◌*◌, ◌<◌, ◌≤◌, get_or, ℕ, List, [], ◌∷◌, length, map, refl, sym, ◌∙◌, ap, subst, arith, inl, inr, ⊎_elim, Status, most_lines, Given, call, CanTrace, Global, PageSize, Two, Four, Command, IsForm, Says, new_word, word_of}
-use Rattle.std.specs.Prelude.{codes, nat_eq, Bool, true, false, slice_index, Option, Some, None, IsSome, String, string_bytes, unwrap_or, All, slice_get}
+use Rattle.console.proofs.Common.{◌≡◌, ◌⊎◌, ◌+◌, ◌*◌, ◌<◌, ◌≤◌, get_or, ℕ, List, [], ◌∷◌, length, map, refl, sym, ◌∙◌, ap, subst, arith, inl, inr, ⊎_elim, Status, most_lines, Given, call, CanTrace, Global, PageSize, Two, Four, Command, IsForm, Says, new_word, word_of, codes, nat_eq, Bool, true, false, slice_index, Option, Some, None, IsSome, String, string_bytes, unwrap_or, All, slice_get, Ghosts}
 use Rattle.std.proofs.lemmas.Option.{slice_get_cases}
 use Rattle.call_status.proofs.TextLemmas.{read_whole, too_much}
 use Rattle.outside.specs.Causes.{Rose}
@@ -13,7 +12,6 @@ use Rattle.standby_calls.specs.Followed.{FollowedBy, FollowedFrom, IsNoText, IsO
 use Rattle.standby_calls.specs.Shipped.{IsOfShip, ShippedFrom}
 use Rattle.call_status.specs.Opening.{IsFaultAt, IsStanding}
 use Rattle.bundle_calls.specs.Audited.{CanAudit}
-use Rattle.outside.specs.declared.world.Outside.{Ghosts}
 use Rattle.console.specs.Causes.{CanFollow, CanShip, HasAll, HasOldStore, IsComplete}
 use Rattle.call_status.specs.declared.status.Status.TheVariants as status
 use Rattle.console.proofs.WordLemmas.{one_from, one_trace}

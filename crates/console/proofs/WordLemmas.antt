@@ -1,7 +1,5 @@
 -- The words of a command line.
-use Rattle.console.proofs.Common.{Global, ParsesUnsigned, IsNumeral, digits_value, without_leading_plus, nat_tests, take_all, length-map, map-append, pow_pos, PageSize, Two, Four, AreFlags, Header, Command, AreNumbers, AreWithin, IsAlone, IsForm, IsLong, IsNoForm, IsNumbered, IsOnStore, NamesStore, SaysNumber, ends_marked, marked_of, new_word, number_of, number_said, numbers_of, plain, spread, word_of}
-use Rattle.std.proofs.Common.{◌≡◌, ◌≢◌, ℕ, zero, suc, ◌+◌, ◌-◌, ◌*◌, ◌/◌, ◌%◌, ◌^◌, ◌<◌, ◌≤◌, Bool, true, false, List, [], ◌∷◌, length, get_or, map, take, take-suc, drop, refl, sym, ◌∙◌, ap, subst, arith, Option, Some, None}
-use Rattle.std.specs.Prelude.{Result, Ok, Err, MatchResult, MatchOption, String, string_bytes, slice_index, ◌==◌, ◌++◌, option_map, codes}
+use Rattle.console.proofs.Common.{Global, ParsesUnsigned, IsNumeral, digits_value, without_leading_plus, nat_tests, take_all, length-map, map-append, pow_pos, PageSize, Two, Four, AreFlags, Header, Command, AreNumbers, AreWithin, IsAlone, IsForm, IsLong, IsNoForm, IsNumbered, IsOnStore, NamesStore, SaysNumber, ends_marked, marked_of, new_word, number_of, number_said, numbers_of, plain, spread, word_of, ◌≡◌, ◌≢◌, ℕ, zero, suc, ◌+◌, ◌-◌, ◌*◌, ◌/◌, ◌%◌, ◌^◌, ◌<◌, ◌≤◌, Bool, true, false, List, [], ◌∷◌, length, get_or, map, take, take-suc, drop, refl, sym, ◌∙◌, ap, subst, arith, Option, Some, None, Result, Ok, Err, MatchResult, MatchOption, String, string_bytes, slice_index, ◌==◌, ◌++◌, option_map, codes}
 use Rattle.std.specs.Result.{OkIff}
 use Rattle.std.proofs.lemmas.Bool.{le-leb}
 use Rattle.asm_parse.specs.Number.{number_in}

@@ -1,7 +1,7 @@
 -- The names that most proofs cite, passed on from one place. Declares nothing.
-pub use Rattle.std.proofs.Common.{lit<, lit≤}
+pub use Rattle.std.proofs.Common.{lit<, lit≤, Bool, List, None, Option, Some, ap, append_assoc, arith, inl, inr, length, length-append, subst, suc, sym, zero, ℕ, ◌%◌, ◌++◌, ◌+◌, ◌^◌, ◌∙◌, ◌⊎◌}
 pub use Rattle.std.specs.List.{flat_map, range_with_len}
-pub use Rattle.std.specs.Prelude.{IsTrue, [], codes, false, filter, find, if◌then◌else◌, map, nat_lt, not, option_and_then, refl, slice_get, true, ◌==◌, ◌∷◌, ◌≡◌}
+pub use Rattle.std.specs.Prelude.{IsTrue, [], codes, false, filter, find, if◌then◌else◌, map, nat_lt, not, option_and_then, refl, slice_get, true, ◌==◌, ◌∷◌, ◌≡◌, replicate, slice_range, ◌-◌, ◌≤◌}
 pub use Rattle.flat_machine.specs.Serial.{Activation, before_commit, committing, if_commit, numbered, serial}
 pub use Rattle.flat_machine.specs.declared.machine.Plain.{Plain}
 pub use Rattle.flat_machine.specs.declared.machine.Program.{Program}
@@ -15,3 +15,4 @@ unfoldable pub use Rattle.desk.specs.Instruction.{instruction, turns}
 pub use Rattle.desk.specs.Report.{cycle_lines, event_lines, happening_lines, number_after, report}
 pub use Rattle.desk.specs.Run.{is_fine, run}
 pub use Rattle.desk.specs.declared.event.Event.TheVariants.{Begin, Checkpoint, Crash, Turn}
+pub use Rattle.std.proofs.lemmas.Bool.Decides.{nat_tests}

@@ -1,7 +1,5 @@
 -- The commits of a run are those of a serial run.
-use Rattle.std.proofs.lemmas.Bool.Decides.{nat_tests}
-use Rattle.desk.proofs.Common.{nat_lt, not, slice_get, if◌then◌else◌, IsTrue, option_and_then, flat_map, FlatStore, Plain, Program, Activation, numbered, serial, Begin, Turn, Checkpoint, Crash, Desk, Entry, opened, numbers, Word, Fine, ReadFailed, Unwritten, Doubt, Failed, Counts, Ending, Idle, Limit, Checked, Journal, Disk, Victim, Waits, Committed, CommitUnwritten, CommitDoubted, Turning, Going, Over, turn, number_after, happening_lines, cycle_lines, event_lines}
-use Rattle.std.proofs.Common.{◌≡◌, ℕ, suc, ◌+◌, ◌%◌, ◌^◌, ◌≤◌, ◌⊎◌, inl, inr, Bool, true, false, List, [], ◌∷◌, ◌++◌, length, map, refl, sym, ◌∙◌, ap, subst, arith, Option, Some, None, append_assoc, length-append}
+use Rattle.desk.proofs.Common.{nat_lt, not, slice_get, if◌then◌else◌, IsTrue, option_and_then, flat_map, FlatStore, Plain, Program, Activation, numbered, serial, Begin, Turn, Checkpoint, Crash, Desk, Entry, opened, numbers, Word, Fine, ReadFailed, Unwritten, Doubt, Failed, Counts, Ending, Idle, Limit, Checked, Journal, Disk, Victim, Waits, Committed, CommitUnwritten, CommitDoubted, Turning, Going, Over, turn, number_after, happening_lines, cycle_lines, event_lines, nat_tests, ◌≡◌, ℕ, suc, ◌+◌, ◌%◌, ◌^◌, ◌≤◌, ◌⊎◌, inl, inr, Bool, true, false, List, [], ◌∷◌, ◌++◌, length, map, refl, sym, ◌∙◌, ap, subst, arith, Option, Some, None, append_assoc, length-append}
 use Rattle.std.proofs.lemmas.List.{append-nil}
 use Rattle.std.proofs.lemmas.List.Elements.{filter-append}
 use Rattle.std.proofs.lemmas.List.Sums.{sum_by-append}

@@ -1,11 +1,6 @@
 -- The desk that asks where it is refused does what the desk does.
-use Rattle.desk_law.proofs.Common.{◌≡◌, refl, ℕ, zero, suc, ◌+◌, ◌==◌, not, if◌then◌else◌, Bool, true, false, List, [], ◌∷◌, ◌++◌, length, map, find, Option, Some, None, option_map_or, arith, ap, sym, ◌∙◌, subst, eqb-true, and_parts, Plain, Outcome, Check, after, Program, Event, Begin, Turn, Checkpoint, Crash, Desk, Entry, opened, Word, Counts, Turning, Going, Over, Idle, Fetching, Fetched, Broken, no_counts, attempts, attempts_at, limited, is_over_limit, fetched_first, fetches_touched, asks, refused_pages, conflicts_of, instruction, turns, turn_of, step, IsAmong, IsConsistent, IsOrderly, Memory, after_event, after_turns, after_instruction, memory_of, IsMemory, FindTheirOwn, nat_tests, Turned, Committed, Machine, next_attempt}
-use Rattle.desk.specs.Commits.{begun, IsSerial}
-use Rattle.desk.specs.Instruction.{counts_refused}
+use Rattle.desk_law.proofs.Common.{◌≡◌, refl, ℕ, zero, suc, ◌+◌, ◌==◌, not, if◌then◌else◌, Bool, true, false, List, [], ◌∷◌, ◌++◌, length, map, find, Option, Some, None, option_map_or, arith, ap, sym, ◌∙◌, subst, eqb-true, and_parts, Plain, Outcome, Check, after, Program, Event, Begin, Turn, Checkpoint, Crash, Desk, Entry, opened, Word, Counts, Turning, Going, Over, Idle, Fetching, Fetched, Broken, no_counts, attempts, attempts_at, limited, is_over_limit, fetched_first, fetches_touched, asks, refused_pages, conflicts_of, instruction, turns, turn_of, step, IsAmong, IsConsistent, IsOrderly, Memory, after_event, after_turns, after_instruction, memory_of, IsMemory, FindTheirOwn, nat_tests, Turned, Committed, Machine, next_attempt, begun, IsSerial, counts_refused, happening_lines, number_after, Step, asks_for, asks_refused, comes_to_ask, attempts_by, own_event, turned_with, event_by, step_by, before, run_by, InstructionsAskAlike, IsRunOfDesk, RunsAskAlike, RunsStayConsistentBy, RunsAreIsolatedBy, SideBySideIsSerialBy, CommitsTellTheMachineBy}
 use Rattle.desk.specs.Lines.{Line}
-use Rattle.desk.specs.Report.{happening_lines, number_after}
-use Rattle.desk.specs.Run.{Step}
-use Rattle.desk_law.specs.Asking.{asks_for, asks_refused, comes_to_ask, attempts_by, own_event, turned_with, event_by, step_by, before, run_by, InstructionsAskAlike, IsRunOfDesk, RunsAskAlike, RunsStayConsistentBy, RunsAreIsolatedBy, SideBySideIsSerialBy, CommitsTellTheMachineBy}
 unfoldable use Rattle.desk_law.specs.Asking.{instruction_by, turns_by}
 use Rattle.desk_law.proofs.Orderly.{orderly}
 use Rattle.desk_law.proofs.Entries.{among-found}

@@ -1,5 +1,5 @@
 -- The names that most proofs cite, passed on from one place. Declares nothing.
-pub use Rattle.std.proofs.Common.{ap, arith, inl, inr, length-append, subst, sym, ◌∙◌}
+pub use Rattle.std.proofs.Common.{ap, arith, inl, inr, length-append, subst, sym, ◌∙◌, get_or, lit<, lit≤, ◌≢◌}
 pub use Rattle.std.proofs.lemmas.Bool.{and_cases, and_from, and_parts, and_right, both_ways, cases_Bool, cases_lt, cond-false, eq-eqb, eqb-true, false_from_ne_true, ltb-false, ltb-true, ne_eqb, not-false, not-true, not_from_false, not_from_true, or_cases, or_from, or_left, or_parts, or_right}
 pub use Rattle.std.proofs.lemmas.Bool.Decides.{nat_tests}
 pub use Rattle.std.proofs.lemmas.Grind.{same_number_lists}
@@ -11,9 +11,9 @@ pub use Rattle.std.specs.Option.{option_map, option_map_or}
 pub use Rattle.std.specs.Prelude.{Bool, List, None, Option, Some, [], cond, drop, false, filter, find, fold, if◌then◌else◌, length, map, max, min, nat_lt, not, option_and_then, position, refl, remove, replicate, slice_get, slice_index, slice_index_or, slice_range, slice_set, suc, take, true, unwrap_or, zero, ℕ, ◌&&◌, ◌*◌, ◌++◌, ◌+◌, ◌-◌, ◌/◌, ◌<◌, ◌==◌, ◌||◌, ◌∷◌, ◌≡◌, ◌≤◌, ◌⊎◌}
 pub use Rattle.desk.specs.Desk.{Authority, Desk, Entry, ended, nobody, opened, rolled_back, with_entry}
 pub use Rattle.desk.specs.Holdings.{conflicts_of, conflicts_with, held, numbers, request, waits_for, wanted}
-pub use Rattle.desk.specs.Instruction.{Attempt, Broken, Checked, CommitDoubted, CommitUnwritten, Committed, Contest, Contested, Counts, Disk, Doubt, Ending, Failed, Fetched, Fetching, Fine, Going, Idle, Journal, Limit, Lost, Over, ReadFailed, Settled, Turning, Unwritten, Victim, Waits, Word, asks, attempts, attempts_at, authority_by, breaks, breaks_cycle, breaks_cycles, can't_be_read, commits, contest_ends, fetched_first, fetches, fetches_touched, fine_authority_by, gets, given, goes_on, granted, is_over_limit, limited, lines_within, lines_written, locks_with, lowered, lowered_pages, no_counts, ordered, refused_pages, refuses, takes_effect, to_read, touched_pages, turn, turn_of, waits_or_gets, with_each, with_grants, with_lowered}
+pub use Rattle.desk.specs.Instruction.{Attempt, Broken, Checked, CommitDoubted, CommitUnwritten, Committed, Contest, Contested, Counts, Disk, Doubt, Ending, Failed, Fetched, Fetching, Fine, Going, Idle, Journal, Limit, Lost, Over, ReadFailed, Settled, Turning, Unwritten, Victim, Waits, Word, asks, attempts, attempts_at, authority_by, breaks, breaks_cycle, breaks_cycles, can't_be_read, commits, contest_ends, fetched_first, fetches, fetches_touched, fine_authority_by, gets, given, goes_on, granted, is_over_limit, limited, lines_within, lines_written, locks_with, lowered, lowered_pages, no_counts, ordered, refused_pages, refuses, takes_effect, to_read, touched_pages, turn, turn_of, waits_or_gets, with_each, with_grants, with_lowered, counts_refused}
 unfoldable pub use Rattle.desk.specs.Instruction.{instruction, turns}
-pub use Rattle.desk.specs.Run.{Busy, Nothing, Turned, absent_segment, begin_if, begins, event_of, restarted, run, step, turned}
+pub use Rattle.desk.specs.Run.{Busy, Nothing, Turned, absent_segment, begin_if, begins, event_of, restarted, run, step, turned, Step}
 pub use Rattle.desk.specs.declared.event.Event.{Event}
 pub use Rattle.desk.specs.declared.event.Event.TheVariants.{Begin, Checkpoint, Crash, Turn}
 pub use Rattle.flat_machine.proofs.Agreement.{after-kept, after-whole, agreement-enough}
@@ -47,7 +47,10 @@ pub use Rattle.desk_law.specs.Causes.{EndsHaveCauses, EndsForCause, IsAccounted,
 pub use Rattle.desk_law.specs.Changes.{committed_at, gone_on, left_by, row_done}
 pub use Rattle.desk_law.specs.Consistent.{AreApart, AreConsistent, AreDistinct, AreResident, Ascend, HasNoCycle, IsAmong, IsConsistent, IsCovered, IsHeld, IsLive, IsOwned, due_to, permitted}
 pub use Rattle.desk_law.specs.Current.{IsCurrent, bytes_of, current, current_bytes, current_of, writer}
-pub use Rattle.desk_law.specs.Laws.{ArePermitted, BrokenCyclesWere, ContestedCyclesClose, EachWaits, EndsWith, FineRowsAskForTheirLines, IdleWhereInactive, IsActive, IsNotIdle, PermittedIsFree, RunsStayConsistent, SomebodyCanGoOn, StaysConsistent, WriteBitsHoldPages, contest_counts, next_attempt}
+pub use Rattle.desk_law.specs.Laws.{ArePermitted, BrokenCyclesWere, ContestedCyclesClose, EachWaits, EndsWith, FineRowsAskForTheirLines, IdleWhereInactive, IsActive, IsNotIdle, PermittedIsFree, RunsStayConsistent, SomebodyCanGoOn, StaysConsistent, WriteBitsHoldPages, contest_counts, next_attempt, UnrefusedAsksNothing}
 pub use Rattle.desk_law.specs.Memory.{CommitsTellTheMachine, FindTheirOwn, IsAlone, IsMemory, Machine, Memory, RunsAreIsolated, SideBySideIsSerial, after_event, after_instruction, after_turns, commit_of, does_row, first_machine, given_back, laid, memory_after, memory_of, row_of, went_on, with_machine, wrote_by}
 pub use Rattle.desk_law.specs.Orderly.{IsOrderly}
 pub use Rattle.desk_law.specs.UnderWay.{IsContending, IsReady, IsUnderWay, KeepsPages, contest, except, marked, served_attempt, touched_of}
+pub use Rattle.desk.specs.Commits.{IsSerial, begun}
+pub use Rattle.desk.specs.Report.{event_lines, happening_lines, number_after}
+pub use Rattle.desk_law.specs.Asking.{Asking, CommitsTellTheMachineBy, InstructionsAskAlike, IsRunOfDesk, Ran, RunsAreIsolatedBy, RunsAskAlike, RunsStayConsistentBy, SideBySideIsSerialBy, asks_for, asks_refused, attempts_by, before, comes_to_ask, event_by, own_event, run_by, step_by, turned_with}

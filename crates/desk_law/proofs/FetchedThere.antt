@@ -1,6 +1,5 @@
 -- After two pages were fetched into two frames or more, both are there.
-use Rattle.desk_law.proofs.Common.{not, remove, position, list_any, nat_tests, position-Some, has, first_out}
-use Rattle.std.proofs.Common.{◌≡◌, ◌≢◌, ℕ, zero, suc, ◌<◌, Bool, true, false, List, [], ◌∷◌, length, refl, arith, get_or, None, ◌⊎◌}
+use Rattle.desk_law.proofs.Common.{not, remove, position, list_any, nat_tests, position-Some, has, first_out, ◌≡◌, ◌≢◌, ℕ, zero, suc, ◌<◌, Bool, true, false, List, [], ◌∷◌, length, refl, arith, get_or, None, ◌⊎◌}
 
 -- where no place passes, no item does
 nowhere : (p : ℕ → Bool) (xs : List ℕ) → position p xs ≡ None → list_any p xs ≡ false

@@ -1,8 +1,6 @@
 -- The law of isolation.
-use Rattle.desk_law.proofs.Common.{◌≤◌, ◌≡◌, refl, ℕ, zero, suc, ◌+◌, ◌<◌, ◌==◌, ◌||◌, nat_lt, not, if◌then◌else◌, Bool, true, false, List, [], ◌∷◌, ◌++◌, length, map, find, Option, Some, None, slice_get, arith, ap, sym, ◌∙◌, subst, inl, inr, eqb-true, eq-eqb, ne_eqb, ltb-true, or_cases, or_left, or_right, not_from_false, cond-false, FlatStore, IsWhole, has, Program, start, after, Event, Begin, Turn, Checkpoint, Crash, Desk, Entry, opened, numbers, Word, Fine, ReadFailed, Unwritten, Doubt, Failed, Counts, Turning, Going, Over, Idle, Committed, Attempt, instruction, turns, turn_of, no_counts, Turned, Busy, Nothing, turned, begin_if, begins, absent_segment, restarted, event_of, step, run, gone_on, row_done, IsAmong, IsConsistent, current_bytes, turn_desk, Machine, Memory, first_machine, with_machine, given_back, row_of, after_instruction, after_turns, after_event, memory_after, memory_of, IsAlone, IsMemory, FindTheirOwn, RunsAreIsolated, CommitsTellTheMachine, SideBySideIsSerial, IsOrderly, nat_tests, next_attempt}
+use Rattle.desk_law.proofs.Common.{◌≤◌, ◌≡◌, refl, ℕ, zero, suc, ◌+◌, ◌<◌, ◌==◌, ◌||◌, nat_lt, not, if◌then◌else◌, Bool, true, false, List, [], ◌∷◌, ◌++◌, length, map, find, Option, Some, None, slice_get, arith, ap, sym, ◌∙◌, subst, inl, inr, eqb-true, eq-eqb, ne_eqb, ltb-true, or_cases, or_left, or_right, not_from_false, cond-false, FlatStore, IsWhole, has, Program, start, after, Event, Begin, Turn, Checkpoint, Crash, Desk, Entry, opened, numbers, Word, Fine, ReadFailed, Unwritten, Doubt, Failed, Counts, Turning, Going, Over, Idle, Committed, Attempt, instruction, turns, turn_of, no_counts, Turned, Busy, Nothing, turned, begin_if, begins, absent_segment, restarted, event_of, step, run, gone_on, row_done, IsAmong, IsConsistent, current_bytes, turn_desk, Machine, Memory, first_machine, with_machine, given_back, row_of, after_instruction, after_turns, after_event, memory_after, memory_of, IsAlone, IsMemory, FindTheirOwn, RunsAreIsolated, CommitsTellTheMachine, SideBySideIsSerial, IsOrderly, nat_tests, next_attempt, begun, IsSerial, event_lines}
 use Rattle.flat_machine.proofs.Whole.{serial-whole}
-use Rattle.desk.specs.Commits.{begun, IsSerial}
-use Rattle.desk.specs.Report.{event_lines}
 use Rattle.desk.proofs.SerialLaw.{run_serial}
 use Rattle.desk_law.proofs.Orderly.{orderly}
 use Rattle.desk_law.proofs.Entries.{among-found, among-filter, filter-among, new-among, among-push, between, found-among, one-entry, numbers-replaced}

@@ -1,10 +1,8 @@
 -- For each rule of locks a run that breaks once it is taken away. The store has one page. The programs that run get an address in register 2 and a
 -- value in register 3, and what one reads is in its register 4.
-use Rattle.desk_law.proofs.Common.{◌≡◌, refl, ℕ, ◌≤◌, ◌==◌, true, false, List, [], ◌∷◌, length, replicate, slice_index, Option, Some, None, option_map_or, sym, ◌∙◌, ap, inl, inr, both_ways, eq-eqb, FlatStore, IsWhole, Program, Plain, after, conflicts, Begin, Turn, Event, Desk, Entry, opened, request, held, conflicts_of, Word, Fine, IsAmong, Machine, memory_of}
-use Rattle.std.proofs.Common.{lit<, lit≤}
+use Rattle.desk_law.proofs.Common.{◌≡◌, refl, ℕ, ◌≤◌, ◌==◌, true, false, List, [], ◌∷◌, length, replicate, slice_index, Option, Some, None, option_map_or, sym, ◌∙◌, ap, inl, inr, both_ways, eq-eqb, FlatStore, IsWhole, Program, Plain, after, conflicts, Begin, Turn, Event, Desk, Entry, opened, request, held, conflicts_of, Word, Fine, IsAmong, Machine, memory_of, lit<, lit≤, Asking, Ran, run_by, RunsAreIsolatedBy}
 unfoldable use Rattle.desk.proofs.Common.{row_numbered}
 use Rattle.line_geometry.specs.declared.directory.PageSize.TheVariants.{Four, Two}
-use Rattle.desk_law.specs.Asking.{Asking, Ran, run_by, RunsAreIsolatedBy}
 unfoldable use Rattle.desk_law.specs.Asking.{instruction_by, turns_by}
 use Rattle.desk_law.specs.Rules.{conflicting, without_whole_pages, without_bits_off, without_read_meets_write, without_write_meets_read, without_kept_reads, IsolationRestsOnRules}
 

@@ -1,7 +1,5 @@
 -- A row of which no entry refuses a line.
-use Rattle.desk_law.proofs.Common.{◌≡◌, refl, ℕ, ◌<◌, true, List, [], length, Option, Some, option_map_or, arith, ap, sym, ◌∙◌, subst, is_fine_page, line_count, has, Lines, no_lines, page_of_line, Plain, touched, after, all_of, touched-below, Desk, Entry, Authority, conflicts_of, wanted, gets, granted, refused_pages, IsAmong, ArePermitted, IsOrderly, Word, Counts, next_attempt, nat_tests}
-use Rattle.desk.specs.Instruction.{counts_refused}
-use Rattle.desk_law.specs.Laws.{UnrefusedAsksNothing}
+use Rattle.desk_law.proofs.Common.{◌≡◌, refl, ℕ, ◌<◌, true, List, [], length, Option, Some, option_map_or, arith, ap, sym, ◌∙◌, subst, is_fine_page, line_count, has, Lines, no_lines, page_of_line, Plain, touched, after, all_of, touched-below, Desk, Entry, Authority, conflicts_of, wanted, gets, granted, refused_pages, IsAmong, ArePermitted, IsOrderly, Word, Counts, next_attempt, nat_tests, counts_refused, UnrefusedAsksNothing}
 use Rattle.desk_law.proofs.Granted.{granted-permits}
 use Rattle.desk_law.proofs.Orderly.{orderly}
 use Rattle.desk_law.proofs.Permitted.{permitted-held, held-free}

@@ -4,3 +4,4 @@ pub mod SeenLemmas
 pub mod CopyLemmas
 pub mod DrillLemmas
 pub mod StoppingLemmas
+pub mod Lemmas

@@ -1,8 +1,7 @@
 -- The commit lines in printed bytes, counted a byte at a time.
-use Rattle.drills.proofs.Common.{◌≡◌, ◌≢◌, ℕ, ◌+◌, ◌-◌, ◌<◌, ◌≤◌, Bool, true, false, List, [], ◌∷◌, ◌++◌, length, get_or, take, drop, refl, sym, ap, ◌∙◌, cond, arith, add-one, ◌==◌, if◌then◌else◌, codes, count_by, nat_eq, starts_with, take_more, get_or-drop, length-drop, sum_by-append, commits_seen, whole_lines}
+use Rattle.drills.proofs.Common.{◌≡◌, ◌≢◌, ℕ, ◌+◌, ◌-◌, ◌<◌, ◌≤◌, Bool, true, false, List, [], ◌∷◌, ◌++◌, length, get_or, take, drop, refl, sym, ap, ◌∙◌, cond, arith, add-one, ◌==◌, if◌then◌else◌, codes, count_by, nat_eq, starts_with, take_more, get_or-drop, length-drop, sum_by-append, commits_seen, whole_lines, nat_tests}
 use Rattle.std.proofs.Math.Nat.{zero-add}
 use Rattle.std.proofs.Math.Seq.{drop-cons}
-use Rattle.std.proofs.lemmas.Bool.Decides.{nat_tests}
 
 -- whether a line is that of a commit
 abbrev pub is_commits : List ℕ → Bool

@@ -1,18 +1,9 @@
 -- What a run leaves on a disk that stops.
-use Rattle.std.proofs.Common.{⊎_elim}
 use Rattle.run_law.proofs.HeadlineLemmas.{start_is_prefix}
-use Rattle.drills.proofs.Common.{◌≡◌, ℕ, ◌+◌, ◌*◌, ◌<◌, ◌≤◌, inl, inr, Bool, true, false, List, [], ◌∷◌, ◌++◌, length, map, take, rules, cond, refl, sym, ◌∙◌, ap, subst, arith, append-nil, append_assoc, Option, Some, None, ◌↔◌, Result, Ok, IsSome, unwrap_or, count_by, not, length-map, length-append, length-filter, sum_by-append, Ghosts, Rose, Elapses, FewerLater, held_of, disk_faults, disk_first, disk_held, disk_images, disk_moment, disk_writes, FlatStore, Program, header_of, most_lines, stands, Event, Committed, order_told, commits_seen, Job, Status, Stop, IsLeft, IsStop, IsStoppedRun, IsTold, all_fine, fine_order, ByOpening, DidBy, FoundNoStore, JobHasRun, HasRunFrom, HappenedTo, StoodForNone, TellsStore, Untouched, job_desk, names_of, call, StandsAt}
-use Rattle.std.proofs.lemmas.Bool.{cases_Bool}
-use Rattle.std.specs.List.{flat_map}
+use Rattle.drills.proofs.Common.{◌≡◌, ℕ, ◌+◌, ◌*◌, ◌<◌, ◌≤◌, inl, inr, Bool, true, false, List, [], ◌∷◌, ◌++◌, length, map, take, rules, cond, refl, sym, ◌∙◌, ap, subst, arith, append-nil, append_assoc, Option, Some, None, ◌↔◌, Result, Ok, IsSome, unwrap_or, count_by, not, length-map, length-append, length-filter, sum_by-append, Ghosts, Rose, Elapses, FewerLater, held_of, disk_faults, disk_first, disk_held, disk_images, disk_moment, disk_writes, FlatStore, Program, header_of, most_lines, stands, Event, Committed, order_told, commits_seen, Job, Status, Stop, IsLeft, IsStop, IsStoppedRun, IsTold, all_fine, fine_order, ByOpening, DidBy, FoundNoStore, JobHasRun, HasRunFrom, HappenedTo, StoodForNone, TellsStore, Untouched, job_desk, names_of, call, StandsAt, ⊎_elim, cases_Bool, flat_map, AreTold, Prints, screen_printed, MemoryDisk, disk_origin, disk_plan, Origin, outcome_of, put_by, WereStopped, WereWritten, number_of}
 use Rattle.std.specs.Option.{option_and_then}
-use Rattle.outside.specs.Bytes.{AreTold, Prints}
-use Rattle.outside.specs.MemoryScreen.{screen_printed}
 use Rattle.outside.specs.declared.failed.Failed.{Failed as PutFailed}
-use Rattle.outside.specs.declared.memory_disk.MemoryDisk.{MemoryDisk}
 use Rattle.outside.specs.declared.memory_screen.MemoryScreen.{MemoryScreen}
-use Rattle.outside.specs.MemoryDisk.{disk_origin, disk_plan}
-use Rattle.outside.specs.Origin.{Origin}
-use Rattle.outside.specs.Plan.{outcome_of}
 use Rattle.flat_machine.specs.declared.machine.Plain.{Plain}
 use Rattle.flat_machine.specs.Serial.{Activation, committing, serial}
 use Rattle.desk.specs.Desk.{Desk, opened}
@@ -26,13 +17,11 @@ use Rattle.run_law.specs.Headline.{IsPrefix}
 use Rattle.run_law.proofs.RunLemmas.{report_parts}
 use Rattle.run_law.proofs.SeenLemmas.{commits_in, commits_on, seen_lines}
 use Rattle.run_law.proofs.StepLemmas.{AreNames, run_plain}
-use Rattle.job_calls.specs.Headline.{put_by}
 use Rattle.job_calls.specs.declared.ended.Ended.{Ended}
 use Rattle.schedule_replay.proofs.PutsLemmas.{PrintedNow}
 use Rattle.schedule_replay.proofs.ReportLemmas.{no_closing}
 use Rattle.supervisor.specs.declared.session.Session.{Session}
 use Rattle.call_status.specs.declared.status.Status.TheVariants as status
-use Rattle.drills.specs.Stopping.{WereStopped, WereWritten, number_of}
 
 -- a crash now may leave what is held
 abbrev pub HeldNow : {W : Type 0} → Ghosts W → Type 0

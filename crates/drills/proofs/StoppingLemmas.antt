@@ -1,20 +1,11 @@
 -- A disk that is to stop within one of its writes stays one, at each of its calls.
-use Rattle.drills.proofs.Common.{◌≡◌, ◌≢◌, inl, inr, ℕ, ◌+◌, ◌-◌, ◌<◌, ◌≤◌, ◌^◌, min, Bool, true, false, List, [], ◌∷◌, ◌++◌, length, length-append, refl, sym, ◌∙◌, ap, subst, arith, Option, Some, None, Result, Ok, Err, if◌then◌else◌, disk_faults, disk_first, disk_held, disk_writes}
+use Rattle.drills.proofs.Common.{◌≡◌, ◌≢◌, inl, inr, ℕ, ◌+◌, ◌-◌, ◌<◌, ◌≤◌, ◌^◌, min, Bool, true, false, List, [], ◌∷◌, ◌++◌, length, length-append, refl, sym, ◌∙◌, ap, subst, arith, Option, Some, None, Result, Ok, Err, if◌then◌else◌, disk_faults, disk_first, disk_held, disk_writes, cases_Bool, or_cases, eqb-false, eqb-true, Failed, MemoryDisk, CountsWrite, written, CountsFault, disk_origin, disk_plan, is_disk_starved, Answers, FoundNoMemory, IsRecorded, WasTried, Origin, Plan, after_call, after_write, fate_of, held_by_fate, is_failed, is_failing, is_last, outcome_of, stops, IsStopping, KeepsTo, WereStopped, WereWritten, after_writes, number_of}
 use Rattle.std.proofs.Math.Logic.{∥∥₁_map}
-use Rattle.std.proofs.lemmas.Bool.{cases_Bool, or_cases, eqb-false, eqb-true}
-use Rattle.outside.specs.declared.failed.Failed.{Failed}
-use Rattle.outside.specs.declared.memory_disk.MemoryDisk.{MemoryDisk}
 use Rattle.outside.specs.declared.record.Fate.{Fate}
 use Rattle.outside.specs.declared.record.Fate.TheVariants.{Whole, Refused, Cut, Stopped}
 use Rattle.outside.specs.declared.refusals.Call.{Call}
 use Rattle.outside.specs.declared.refusals.Call.TheVariants.{Write}
-use Rattle.outside.specs.Bytes.{CountsWrite, written}
-use Rattle.outside.specs.Causes.{CountsFault}
-use Rattle.outside.specs.MemoryDisk.{disk_origin, disk_plan, is_disk_starved, Answers, FoundNoMemory, IsRecorded, WasTried}
-use Rattle.outside.specs.Origin.{Origin}
-use Rattle.outside.specs.Plan.{Plan, after_call, after_write, fate_of, held_by_fate, is_failed, is_failing, is_last, outcome_of, stops}
 use Rattle.outside.specs.Refusals.{is_refused, used_up}
-use Rattle.drills.specs.Stopping.{IsStopping, KeepsTo, WereStopped, WereWritten, after_writes, number_of}
 
 -- one write more
 one-more : (first : List ℕ) (writes : List (ℕ × List ℕ)) (at : ℕ) (bytes : List ℕ) → after_writes first (writes ++ (at, bytes) ∷ []) ≡ written (after_writes first writes) at bytes

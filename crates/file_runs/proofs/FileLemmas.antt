@@ -1,38 +1,18 @@
 -- From what the console did on an outside to what it did on the file and the screen behind it.
-use Rattle.outside.proofs.Common.{◌≡◌, ◌⊎◌, inl, inr, ⊎_elim, zero, ℕ, ◌+◌, ◌≤◌, List, [], ◌∷◌, ◌++◌, append_assoc, Torn, written, length, length-append, take, drop, refl, sym, ◌∙◌, ap, subst, arith, suc, AreTold, Option, Result, Some, IsSome, unwrap_or, Leaves, AsksAndPuts, OnlyAsks, None}
+use Rattle.file_runs.proofs.Common.{◌≡◌, ◌⊎◌, inl, inr, ⊎_elim, zero, ℕ, ◌+◌, ◌≤◌, List, [], ◌∷◌, ◌++◌, append_assoc, Torn, written, length, length-append, take, drop, refl, sym, ◌∙◌, ap, subst, arith, suc, Option, Result, Some, IsSome, unwrap_or, Leaves, AsksAndPuts, OnlyAsks, None, Ghosts, All, cond, count_by, false, IsSure, FlatStore, Stands, stands, begun, IsSerial, Given, call, IsFaultAt, TellsStore, Status, Session, report, event_lines, Desk, IsRunOf, run, Line, Failed, held_of, Happened, RanJob, Refused, job_desk, names_of, Deed, Wrote, Tore, Synced, Unsynced, images_after, images_at, images_by, is_write, bytes_of, printed_of, marks_of, AreBehind, Hands, IsBehind, IsQuiet, IsSeenAt, KeepsFile, LeavesAlways, LeavesAt, LeavesLast, OnlyAsked, RanOnFile, RanOnScreen, RunsFrom, RunsOnFile, begun_by}
 use Rattle.std.proofs.lemmas.List.{append_cancel_left, nil_from_length, take_all}
 use Rattle.std.proofs.lemmas.List.Elements.{All-nil, All-cons}
 use Rattle.outside.proofs.Torn.{torn_by_written, untouched}
-use Rattle.outside.specs.declared.world.Outside.{Ghosts}
-use Rattle.std.specs.Prelude.{All, cond, count_by, false}
 use Rattle.std.proofs.lemmas.List.Sums.{sum_by-cons}
 use Rattle.std.proofs.lemmas.Bool.Decides.{nat_tests}
 use Rattle.outside.specs.Clock.{printed_before}
 use Rattle.outside.specs.Moments.{Moment}
-use Rattle.outside.specs.Durable.{IsSure}
-use Rattle.line_geometry.specs.FlatStore.{FlatStore}
-use Rattle.store_format.specs.Stands.{Stands, stands}
-use Rattle.desk.specs.Commits.{begun, IsSerial}
 use Rattle.run_law.specs.Headline.{IsPrefix}
 use Rattle.run_law.proofs.HeadlineLemmas.{start_is_prefix}
-use Rattle.call_status.specs.Call.{Given, call}
-use Rattle.call_status.specs.Opening.{IsFaultAt, TellsStore}
 use Rattle.call_status.specs.Printed.{PrintsBy}
-use Rattle.call_status.specs.declared.status.Status.{Status}
 use Rattle.call_status.specs.declared.status.Status.TheVariants as status
-use Rattle.supervisor.specs.declared.session.Session.{Session}
-use Rattle.desk.specs.Report.{report, event_lines}
-use Rattle.desk.specs.Desk.{Desk}
 use Rattle.desk.specs.Kept.{KeepsJournal, journal_in}
-use Rattle.desk.specs.Run.{IsRunOf, run}
-use Rattle.desk.specs.Lines.{Line}
 use Rattle.outside.specs.Bytes.{AreTold, Prints}
-use Rattle.outside.specs.declared.failed.Failed.{Failed}
-use Rattle.outside.specs.Runs.{held_of}
-use Rattle.job_calls.specs.Headline.{Happened, RanJob, Refused, job_desk, names_of}
-use Rattle.real_files.specs.Deeds.{Deed, Wrote, Tore, Synced, Unsynced, images_after, images_at, images_by, is_write}
-use Rattle.real_files.specs.Shown.{bytes_of, printed_of, marks_of}
-use Rattle.file_runs.specs.FileRun.{AreBehind, Hands, IsBehind, IsQuiet, IsSeenAt, KeepsFile, LeavesAlways, LeavesAt, LeavesLast, OnlyAsked, RanOnFile, RanOnScreen, RunsFrom, RunsOnFile, begun_by}
 
 -- nothing was printed before the first put
 none_before : (puts : List Deed) → printed_before (marks_of 0 puts) (length (printed_of puts)) 0 ≡ 0

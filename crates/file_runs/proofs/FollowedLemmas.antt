@@ -1,23 +1,12 @@
 -- From what `follow` did on an outside to what it did on the file and the screen behind it.
-use Rattle.outside.proofs.Common.{◌≡◌, inl, inr, ⊎_elim, ℕ, List, [], length, sym, ap, ◌∙◌, subst, arith, AreTold, IsSome, Option, Some, held_of}
-use Rattle.outside.specs.declared.world.Outside.{Ghosts}
-use Rattle.outside.specs.Durable.{IsSure}
-use Rattle.outside.specs.Runs.{OnlyAsks}
-use Rattle.line_geometry.specs.FlatStore.{FlatStore}
-use Rattle.store_format.specs.Stands.{Standing, Stands, stands}
+use Rattle.file_runs.proofs.Common.{◌≡◌, inl, inr, ⊎_elim, ℕ, List, [], length, sym, ap, ◌∙◌, subst, arith, AreTold, IsSome, Option, Some, held_of, Ghosts, IsSure, OnlyAsks, FlatStore, Standing, Stands, stands, Given, call, IsFaultAt, Status, Deed, printed_of, AreBehind, LeavesLast, RunsFrom}
 use Rattle.store_format.proofs.Sound.{stood_header}
 use Rattle.standby.specs.Followed.{IsAtNumber, followed_text, kept_text, well}
 use Rattle.standby.specs.State.{due}
 use Rattle.standby.specs.Text.{Content, later}
 use Rattle.standby.proofs.TellLemmas.{at_some}
 use Rattle.standby_calls.specs.Followed.{EndsOn, FollowedFrom, FollowsOn, IsDue, IsRefusal, OnStore}
-use Rattle.call_status.specs.Call.{Given, call}
-use Rattle.call_status.specs.Opening.{IsFaultAt}
-use Rattle.call_status.specs.declared.status.Status.{Status}
 use Rattle.call_status.specs.declared.status.Status.TheVariants as status
-use Rattle.real_files.specs.Deeds.{Deed}
-use Rattle.real_files.specs.Shown.{printed_of}
-use Rattle.file_runs.specs.FileRun.{AreBehind, LeavesLast, RunsFrom}
 use Rattle.file_runs.specs.FileFollowed.{EndsAt, FollowedOnFile, FollowedText, FollowsBy, IsAfter, IsDueAt}
 use Rattle.file_runs.proofs.FileLemmas.{handed, held_is, leaves_at, nothing, only_asked, printed_so, stands_at, sure_now, told}
 

@@ -4,3 +4,4 @@ mod MadeLemmas
 mod ScreenLemmas
 mod ShownLemmas
 mod WordLemmas
+pub mod Common

@@ -1,13 +1,7 @@
 -- From what `new` and `renew` did on an outside to what they did on the file and the screen behind it.
-use Rattle.outside.proofs.Common.{◌≡◌, ◌⊎◌, ℕ, ◌<◌, List, [], length, ap, sym, ◌∙◌, subst, IsSome, Torn, held_of}
-use Rattle.outside.specs.declared.world.Outside.{Ghosts}
-use Rattle.call_status.specs.Call.{Given, call}
-use Rattle.call_status.specs.declared.status.Status.{Status}
+use Rattle.file_runs.proofs.Common.{◌≡◌, ◌⊎◌, ℕ, ◌<◌, List, [], length, ap, sym, ◌∙◌, subst, IsSome, Torn, held_of, Ghosts, Given, call, Status, IsNoStore, IsStored, Written, WrittenBy, Deed, AreBehind, LeavesLast}
 use Rattle.call_status.specs.declared.status.Status.TheVariants as status
-use Rattle.store_calls.specs.New.{IsNoStore, IsStored, Written, WrittenBy}
 use Rattle.store_calls.specs.Renewed.{IsRenewed, Renewed}
-use Rattle.real_files.specs.Deeds.{Deed}
-use Rattle.file_runs.specs.FileRun.{AreBehind, LeavesLast}
 use Rattle.file_runs.specs.FileMade.{RenewedOnFile, WritesBy, WroteWidened, WrittenOnFile}
 use Rattle.file_runs.proofs.FileLemmas.{handed, held_is, leaves_always, nothing, only_asked, sure_last, told, unprinted}
 

@@ -1,33 +1,16 @@
 -- From what the words without a file did on an outside to what they handed to the screen behind it.
-use Rattle.outside.proofs.Common.{◌≡◌, inl, inr, ⊎_elim, ℕ, ◌≤◌, List, [], length, min, ap, ◌∙◌, subst, IsSome, Option, None, Some, Result, Prints, held_of}
-use Rattle.std.specs.Prelude.{◌*◌, ◌++◌}
-use Rattle.outside.specs.declared.world.Outside.{Ghosts}
-use Rattle.outside.specs.declared.failed.Failed.{Failed}
+use Rattle.file_runs.proofs.Common.{◌≡◌, inl, inr, ⊎_elim, ℕ, ◌≤◌, List, [], length, min, ap, ◌∙◌, subst, IsSome, Option, None, Some, Result, Prints, held_of, ◌*◌, ◌++◌, Ghosts, Failed, Desk, Line, serial_lines, event_lines, IsRunOf, run, Session, Given, call, IsFaultAt, Status, Happened, Refused, job_desk, Deed, printed_of, Hands, IsBehind, AuditedOnScreen, AuditsBy, DrilledJob, DrilledOnScreen, DrillsBy, HandsDrill, HandsLoad, HandsStops, ListedOnScreen, LoadedOnScreen, TracedOnScreen, TracesBy, TriedOnScreen}
 use Rattle.desk.specs.Commits.{begun, IsSerial}
-use Rattle.desk.specs.Desk.{Desk}
 use Rattle.desk.specs.declared.event.Event.{Event}
-use Rattle.desk.specs.Lines.{Line}
-use Rattle.desk.specs.Commits.{serial_lines}
-use Rattle.desk.specs.Report.{event_lines}
-use Rattle.desk.specs.Run.{IsRunOf, run}
 use Rattle.job_text.specs.declared.job.Job.{Job}
-use Rattle.supervisor.specs.declared.session.Session.{Session}
-use Rattle.call_status.specs.Call.{Given, call}
-use Rattle.call_status.specs.Opening.{IsFaultAt}
 use Rattle.call_status.specs.Statuses.{WentThrough}
-use Rattle.call_status.specs.declared.status.Status.{Status}
 use Rattle.call_status.specs.declared.status.Status.TheVariants as status
 use Rattle.job_calls.specs.Big.{Loaded, RanBig, last_out, line_for}
-use Rattle.job_calls.specs.Headline.{Happened, Refused, job_desk}
 use Rattle.bundle_calls.specs.Audited.{Audited, AuditedBy}
 use Rattle.bundle_calls.specs.Bundled.{WithBundle}
 use Rattle.bundle_calls.specs.Traced.{TracedBy, TracedFrom}
 use Rattle.drills.specs.Drilled.{Drilled, DrilledTo, DrillsJob, PutsFirst, PutsWhole, broken, last_line, stop_lines, well}
 use Rattle.console.specs.Listed.{Listed}
-use Rattle.real_files.specs.Deeds.{Deed}
-use Rattle.real_files.specs.Shown.{printed_of}
-use Rattle.file_runs.specs.FileRun.{Hands, IsBehind}
-use Rattle.file_runs.specs.ScreenWords.{AuditedOnScreen, AuditsBy, DrilledJob, DrilledOnScreen, DrillsBy, HandsDrill, HandsLoad, HandsStops, ListedOnScreen, LoadedOnScreen, TracedOnScreen, TracesBy, TriedOnScreen}
 use Rattle.file_runs.proofs.FileLemmas.{handed, held_is, printed_so, ran_on_screen, stands_at, told, unprinted, unput}
 
 -- what was done with the text of a bundle, in other words

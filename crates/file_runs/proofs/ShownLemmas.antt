@@ -1,17 +1,9 @@
 -- From what `show` and `ship` did on an outside to what they did on the file and the screen behind it.
-use Rattle.outside.proofs.Common.{◌≡◌, inl, inr, ⊎_elim, ℕ, List, [], ap, sym, ◌∙◌, subst, IsSome, held_of}
-use Rattle.outside.specs.declared.world.Outside.{Ghosts}
-use Rattle.store_format.specs.Stands.{stands}
-use Rattle.call_status.specs.Call.{call}
-use Rattle.call_status.specs.Opening.{IsFaultAt}
-use Rattle.call_status.specs.declared.status.Status.{Status}
+use Rattle.file_runs.proofs.Common.{◌≡◌, inl, inr, ⊎_elim, ℕ, List, [], ap, sym, ◌∙◌, subst, IsSome, held_of, Ghosts, stands, call, IsFaultAt, Status, Deed, printed_of, AreBehind}
 use Rattle.call_status.specs.declared.status.Status.TheVariants as status
 use Rattle.store_calls.specs.Show.{HasNoRange, HasRange, PrintsRows, RangeShown}
 use Rattle.store_calls.specs.declared.show.Range.{Range}
 use Rattle.standby_calls.specs.Shipped.{IsNotKept, PutsText, ShippedFrom}
-use Rattle.real_files.specs.Deeds.{Deed}
-use Rattle.real_files.specs.Shown.{printed_of}
-use Rattle.file_runs.specs.FileRun.{AreBehind}
 use Rattle.file_runs.specs.FileShown.{HandsRecords, HandsRows, HasNoSuch, KeepsTooFew, ShipsBy, ShippedOnFile, ShownOnFile, ShowsBy}
 use Rattle.file_runs.proofs.FileLemmas.{handed, held_is, keeps, told, unprinted, unput}
 

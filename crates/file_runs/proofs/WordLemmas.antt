@@ -1,18 +1,11 @@
 -- From what each word did on an outside to what it did on the file and the screen behind it.
-use Rattle.outside.proofs.Common.{◌≡◌, ℕ, List}
-use Rattle.outside.specs.declared.world.Outside.{Ghosts}
+use Rattle.file_runs.proofs.Common.{◌≡◌, ℕ, List, Ghosts, Given, new_line, Deed, AreBehind, IsBehind, DidOnFile, IsOnFile, DidOnScreen}
 use Rattle.desk.specs.Answers.{order_told}
-use Rattle.call_status.specs.Call.{Given}
 use Rattle.job_calls.specs.declared.ended.Ended.{Ended}
 use Rattle.console.specs.Did.{Does}
 use Rattle.console.specs.declared.words.Command.{Command}
 use Rattle.console.specs.declared.words.Command.TheVariants as command
 use Rattle.store_format.specs.Header.{fresh}
-use Rattle.store_calls.specs.New.{new_line}
-use Rattle.real_files.specs.Deeds.{Deed}
-use Rattle.file_runs.specs.FileRun.{AreBehind, IsBehind}
-use Rattle.file_runs.specs.FileWords.{DidOnFile, IsOnFile}
-use Rattle.file_runs.specs.ScreenWords.{DidOnScreen}
 use Rattle.file_runs.proofs.FileLemmas.{run_on_file}
 use Rattle.file_runs.proofs.FollowedLemmas.{follow_on_file}
 use Rattle.file_runs.proofs.MadeLemmas.{renew_on_file, renew_origin, write_on_file}

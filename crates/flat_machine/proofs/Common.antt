@@ -1,12 +1,12 @@
 -- The names that most proofs cite, passed on from one place. Declares nothing.
-pub use Rattle.std.proofs.Common.{ap, arith, inl, inr, lit<, lit≤, subst, sym, ◌∙◌}
+pub use Rattle.std.proofs.Common.{ap, arith, inl, inr, lit<, lit≤, subst, sym, ◌∙◌, Err, IfOk, Ok, Result, get_or, rules}
 pub use Rattle.std.proofs.lemmas.Bool.{both_ways, cases_lt, leb-true, or_cases, or_parts}
-pub use Rattle.std.proofs.lemmas.Grind.{flat_map-append, same_number_lists}
-pub use Rattle.std.proofs.lemmas.List.{append-nil, get_or-drop, get_or-take, length-drop, length-take, nil_from_length, take_more}
+pub use Rattle.std.proofs.lemmas.Grind.{flat_map-append, same_number_lists, common_steps}
+pub use Rattle.std.proofs.lemmas.List.{append-nil, get_or-drop, get_or-take, length-drop, length-take, nil_from_length, take_more, drop-drop}
 pub use Rattle.std.proofs.lemmas.Nat.{div-add-mod', div-mul-add, le-div}
 pub use Rattle.std.proofs.lemmas.Option.{none-some, option_and_then_some, same_Some}
 pub use Rattle.std.specs.List.{flat_map, range_with_len}
-pub use Rattle.std.specs.Prelude.{Bool, List, None, Option, Some, [], drop, false, if◌then◌else◌, length, map, nat_le, nat_lt, option_and_then, option_map, refl, replicate, slice_index, slice_set, suc, take, true, zero, ℕ, ◌&&◌, ◌++◌, ◌+◌, ◌-◌, ◌<◌, ◌∷◌, ◌≡◌, ◌≤◌, ◌⊎◌}
+pub use Rattle.std.specs.Prelude.{Bool, List, None, Option, Some, [], drop, false, if◌then◌else◌, length, map, nat_le, nat_lt, option_and_then, option_map, refl, replicate, slice_index, slice_set, suc, take, true, zero, ℕ, ◌&&◌, ◌++◌, ◌+◌, ◌-◌, ◌<◌, ◌∷◌, ◌≡◌, ◌≤◌, ◌⊎◌, cond, not, pos, slice_index_or, slice_range, ◌%◌, ◌*ℤ◌, ◌*◌, ◌/◌, ◌^◌}
 pub use Rattle.byteorder.specs.Endian.{big_bytes, big_number}
 pub use Rattle.byteorder.specs.Numbers.{length-bytes_high_first}
 pub use Rattle.line_geometry.proofs.Within.{line-below, line-bytes-pos, segment-within}
@@ -33,3 +33,5 @@ pub use Rattle.flat_machine.specs.declared.machine.Located.TheVariants.{Private,
 pub use Rattle.flat_machine.specs.declared.machine.Plain.{Plain}
 pub use Rattle.flat_machine.specs.Plans.{Plan, Does, Fails}
 pub use Rattle.flat_machine.specs.declared.machine.Program.{Program}
+pub use Rattle.flat_machine.specs.Branches.{target}
+pub use Rattle.flat_machine.specs.declared.ready.Ready.{Ready}

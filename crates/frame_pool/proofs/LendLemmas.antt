@@ -1,6 +1,5 @@
 -- What is seen of a pool once the borrow of bytes of its frames has ended.
-use Rattle.frame_pool.proofs.Common.{with_items_is, length-append, length-take, length-drop, drop-drop, overlaid, FramePool, marked_in, with_bytes, pool_of, nat_tests}
-use Rattle.std.proofs.Common.{◌≡◌, ℕ, ◌+◌, ◌≤◌, List, ◌++◌, length, take, drop, sym, ◌∙◌, ap, arith, append_assoc}
+use Rattle.frame_pool.proofs.Common.{with_items_is, length-append, length-take, length-drop, drop-drop, overlaid, FramePool, marked_in, with_bytes, pool_of, nat_tests, ◌≡◌, ℕ, ◌+◌, ◌≤◌, List, ◌++◌, length, take, drop, sym, ◌∙◌, ap, arith, append_assoc}
 use Rattle.std.specs.Vec.{with_items_from}
 use Rattle.frame_pool.specs.PoolLending.{with_frame_part, with_marked}
 

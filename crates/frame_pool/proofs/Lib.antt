@@ -6,3 +6,4 @@ pub mod PoolLemmas
 pub mod LendLemmas
 pub mod LayLemmas
 pub mod SeenLemmas
+pub mod Lemmas

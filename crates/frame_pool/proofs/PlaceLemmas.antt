@@ -1,6 +1,5 @@
 -- What a step of the places needs and leaves.
-use Rattle.frame_pool.proofs.Common.{◌≡◌, ℕ, zero, suc, ◌+◌, ◌<◌, ◌≤◌, true, List, [], ◌∷◌, ◌++◌, length, sym, ◌∙◌, ap, arith, Some, None, vec_len, vec_capacity, not, position, slice_index, slice_index_or, if◌then◌else◌, Option, unwrap_or, Result, Ok, Err, is_ok, IsOk, IsSome, option_to_list, prefix_len, range_with_len, get_or_read_under, has, place_of, index_out, IsSound, is_apart, places_of}
-use Rattle.std.proofs.lemmas.Bool.Decides.{nat_tests}
+use Rattle.frame_pool.proofs.Common.{◌≡◌, ℕ, zero, suc, ◌+◌, ◌<◌, ◌≤◌, true, List, [], ◌∷◌, ◌++◌, length, sym, ◌∙◌, ap, arith, Some, None, vec_len, vec_capacity, not, position, slice_index, slice_index_or, if◌then◌else◌, Option, unwrap_or, Result, Ok, Err, is_ok, IsOk, IsSome, option_to_list, prefix_len, range_with_len, get_or_read_under, has, place_of, index_out, IsSound, is_apart, places_of, nat_tests}
 use Rattle.frame_pool.specs.declared.pages.StorePages.{StorePages}
 use Rattle.frame_pool.proofs.ApartLemmas.{has-push_last}
 use Rattle.frame_pool.proofs.SoundLemmas.{resident-in_frame, page-within, frame-of_store}

@@ -1,6 +1,5 @@
 -- What holds of every pool, and stays where a page leaves.
-use Rattle.frame_pool.proofs.Common.{◌==◌, if◌then◌else◌, slice_index_or, slice_set, is_some, option_map_or, cases_eq, eq-eqb, ne_eqb, length-set, get_or-set_same, get_or-set_other, get_or_past, length-take, length-drop, overlaid, length-overlaid, page_bytes, has, taken_out, has-filter, IsSeen, frame_count, pool_of, frame_at, page_at, marks_at, frame_bytes, paging_after, gone, Pool, FramePool, nat_tests}
-use Rattle.std.proofs.Common.{◌≡◌, ◌≢◌, ℕ, ◌*◌, ◌<◌, Bool, true, false, List, [], ◌∷◌, length, refl, sym, ◌∙◌, ap, subst, arith, Option, Some, None, ◌⊎◌, inl, inr}
+use Rattle.frame_pool.proofs.Common.{◌==◌, if◌then◌else◌, slice_index_or, slice_set, is_some, option_map_or, cases_eq, eq-eqb, ne_eqb, length-set, get_or-set_same, get_or-set_other, get_or_past, length-take, length-drop, overlaid, length-overlaid, page_bytes, has, taken_out, has-filter, IsSeen, frame_count, pool_of, frame_at, page_at, marks_at, frame_bytes, paging_after, gone, Pool, FramePool, nat_tests, ◌≡◌, ◌≢◌, ℕ, ◌*◌, ◌<◌, Bool, true, false, List, [], ◌∷◌, length, refl, sym, ◌∙◌, ap, subst, arith, Option, Some, None, ◌⊎◌, inl, inr}
 use Rattle.frame_pool.proofs.SoundLemmas.{page_part}
 use Rattle.frame_pool.proofs.PoolLemmas.{gone-from}
 

@@ -1,8 +1,5 @@
 -- Lists in which no number stands twice.
-use Rattle.inverted_table.proofs.Common.{range_with_len, ◌⊎◌, arith, refl, ap, sym, ◌∙◌, inl, inr, has, distinct, size, has-filter, in_range, before_in}
-use Rattle.std.proofs.lemmas.Bool.Decides.{nat_tests}
-use Rattle.std.proofs.lemmas.Bool.{cases_Bool}
-use Rattle.std.specs.Prelude.{◌≡◌, ◌≢◌, ℕ, ◌<◌, ◌≤◌, ◌==◌, not, Bool, true, false, List, [], ◌∷◌, length, filter, Some, None}
+use Rattle.inverted_table.proofs.Common.{range_with_len, ◌⊎◌, arith, refl, ap, sym, ◌∙◌, inl, inr, has, distinct, size, has-filter, in_range, before_in, nat_tests, cases_Bool, ◌≡◌, ◌≢◌, ℕ, ◌<◌, ◌≤◌, ◌==◌, not, Bool, true, false, List, [], ◌∷◌, length, filter, Some, None}
 use Rattle.lock_rules.proofs.Sizes.{size-part, size-range}
 
 pub equal : (n : ℕ) → (n == n) ≡ true

@@ -1,6 +1,5 @@
 -- A list whose items are mapped one after another.
-use Rattle.std.proofs.lemmas.Bool.Decides.{nat_tests}
-use Rattle.inverted_table.proofs.Common.{◌≡◌, ℕ, ◌+◌, ◌<◌, ◌≤◌, List, ◌++◌, length, take, drop, map, slice_index_or, slice_set, take_all, drop_all, append-nil, get_or_default, arith}
+use Rattle.inverted_table.proofs.Common.{◌≡◌, ℕ, ◌+◌, ◌<◌, ◌≤◌, List, ◌++◌, length, take, drop, map, slice_index_or, slice_set, take_all, drop_all, append-nil, get_or_default, arith, nat_tests}
 use Rattle.std.proofs.lemmas.List.Edits.{map_over_more}
 
 module _ {A : Type 0} (f : A → A) (items now : List A) (at : ℕ) (so_far : now ≡ map f (take at items) ++ drop at items) where

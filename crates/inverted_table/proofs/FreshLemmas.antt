@@ -1,7 +1,5 @@
 -- A table with nothing in it.
-use Rattle.std.proofs.lemmas.Bool.Decides.{nat_tests}
-use Rattle.inverted_table.proofs.Common.{◌≡◌, ℕ, List, arith, None, length-replicate, get_or-replicate, get_or-eq_default, Key, IsChained}
-use Rattle.std.specs.Prelude.{replicate, slice_index_or, Option}
+use Rattle.inverted_table.proofs.Common.{◌≡◌, ℕ, List, arith, None, length-replicate, get_or-replicate, get_or-eq_default, Key, IsChained, nat_tests, replicate, slice_index_or, Option}
 use Rattle.std.specs.Int.{IsPowerOfTwo}
 use Rattle.inverted_table.proofs.WalkLemmas.{chain-none, end-none}
 

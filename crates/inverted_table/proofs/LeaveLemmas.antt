@@ -1,6 +1,5 @@
 -- The table stays chained where a frame leaves.
-use Rattle.std.proofs.lemmas.Bool.Decides.{nat_tests}
-use Rattle.inverted_table.proofs.Common.{◌≡◌, ◌≢◌, ℕ, zero, suc, ◌<◌, Bool, true, false, List, length, refl, sym, ◌∙◌, ap, arith, Some, None, Option, ◌==◌, filter, slice_set, get_or-set_same, get_or-set_other, length-set, eqb-true, eqb-false, ne_eqb, has, distinct, has-filter, Key, key_in, hash_of, following, chain_from, chain_end, chain_of, before_in, IsChain, IsChained}
+use Rattle.inverted_table.proofs.Common.{◌≡◌, ◌≢◌, ℕ, zero, suc, ◌<◌, Bool, true, false, List, length, refl, sym, ◌∙◌, ap, arith, Some, None, Option, ◌==◌, filter, slice_set, get_or-set_same, get_or-set_other, length-set, eqb-true, eqb-false, ne_eqb, has, distinct, has-filter, Key, key_in, hash_of, following, chain_from, chain_end, chain_of, before_in, IsChain, IsChained, nat_tests}
 use Rattle.inverted_table.proofs.ApartLemmas.{equal, is_other, apart-filter, filter-absent, before-none, before-in}
 use Rattle.inverted_table.proofs.EnterLemmas.{is_hashed, frame-below, held-same, held-other, chain-by, end-by}
 use Rattle.inverted_table.proofs.WalkLemmas.{chain-untouched, chain-headless, chain-unlinked}

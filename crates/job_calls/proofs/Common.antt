@@ -1,8 +1,8 @@
 -- The names that most proofs cite, passed on from one place. Declares nothing.
-pub use Rattle.std.proofs.Common.{All, List, Option, Some, [], ap, append-nil, append_assoc, arith, false, get_or, inr, length, refl, subst, suc, sym, true, vec_len, ℕ, ⊎_elim, ◌++◌, ◌<◌, ◌∙◌, ◌∷◌, ◌≡◌, ◌≢◌, ◌≤◌}
+pub use Rattle.std.proofs.Common.{All, List, Option, Some, [], ap, append-nil, append_assoc, arith, false, get_or, inr, length, refl, subst, suc, sym, true, vec_len, ℕ, ⊎_elim, ◌++◌, ◌<◌, ◌∙◌, ◌∷◌, ◌≡◌, ◌≢◌, ◌≤◌, None, inl, take, ◌%◌, ◌+◌, ◌^◌, ◌⊎◌}
 pub use Rattle.std.proofs.lemmas.List.{length-map}
 pub use Rattle.std.proofs.lemmas.List.Sums.{count_by-le-length}
-pub use Rattle.std.specs.Prelude.{Err, IsErr, IsSome, IsTrue, Ok, Result, map, unwrap_or}
+pub use Rattle.std.specs.Prelude.{Err, IsErr, IsSome, IsTrue, Ok, Result, map, unwrap_or, Bool, codes, count_by, decimal}
 pub use Rattle.call_status.specs.Call.{Call, Given, call, given}
 pub use Rattle.call_status.specs.Opening.{IsOfStart, IsStanding, TellsStore}
 pub use Rattle.call_status.specs.declared.status.Status.{Status}
@@ -11,7 +11,7 @@ pub use Rattle.desk.specs.Calls.{Fixed}
 pub use Rattle.desk.specs.Commits.{IsSerial, begun, commit_lines, is_commit, serial_lines}
 pub use Rattle.desk.specs.Desk.{Desk, opened}
 pub use Rattle.desk.specs.Instruction.{Doubt, Word}
-pub use Rattle.desk.specs.Kept.{StillTold}
+pub use Rattle.desk.specs.Kept.{StillTold, HoldsStore}
 pub use Rattle.desk.specs.Lines.{Line, Open, line_text, printed, spaced}
 pub use Rattle.desk.specs.Report.{event_lines, number_after, report, report_lines}
 pub use Rattle.desk.specs.Run.{IsRunOf, faulted, run}
@@ -24,7 +24,7 @@ pub use Rattle.job_text.specs.declared.job.Job.{Job}
 pub use Rattle.line_geometry.specs.FlatStore.{FlatStore}
 pub use Rattle.outside.proofs.Runs.{elapses-trans, leaves_on}
 pub use Rattle.outside.specs.Bytes.{AreTold, Prints}
-pub use Rattle.outside.specs.Causes.{Rose}
+pub use Rattle.outside.specs.Causes.{Rose, FailsOnlyCounted}
 pub use Rattle.outside.specs.Durable.{IsSure}
 pub use Rattle.outside.specs.Moments.{Elapses}
 pub use Rattle.outside.specs.Runs.{CallsDisk, FewerLater, Leaves, OnlyAsks, held_of}

@@ -1,6 +1,5 @@
 -- What runs on the store that a disk stands for.
-use Rattle.job_calls.proofs.Common.{Result, Ok, Err, IsErr, IsSome, IsTrue, unwrap_or, Ghosts, Failed, Prints, Rose, Elapses, OnlyAsks, FewerLater, Leaves, held_of, elapses-trans, leaves_on, FlatStore, Program, Activation, serial, header_of, most_lines, Standing, Stands, stands, Event, Desk, opened, Word, Doubt, run, faulted, IsRunOf, Line, line_text, Open, report, report_lines, event_lines, number_after, begun, IsSerial, IsSessionOpened, activity, session_desk, order_of, Session, ghosts, Replayed, PrintsEarlier, HasOpened, InDoubt, text_of, Reports, Replays, PrintedNow, to_since, Job, Status, status_of_replay, Call, Given, call, TellsStore, StillTold, EndsBy, DidBy, JobHasRun, HasRunFrom, DoubtStands, Happened, HappenedTo, IsOfStart, RanJob, RunsFrom, put_by, names_of, job_desk}
-use Rattle.std.proofs.Common.{◌≡◌, ◌⊎◌, ℕ, ◌+◌, ◌%◌, ◌^◌, inl, inr, Bool, true, false, List, [], ◌∷◌, ◌++◌, length, take, refl, sym, ◌∙◌, ap, subst, arith, append-nil, Option, Some, None}
+use Rattle.job_calls.proofs.Common.{Result, Ok, Err, IsErr, IsSome, IsTrue, unwrap_or, Ghosts, Failed, Prints, Rose, Elapses, OnlyAsks, FewerLater, Leaves, held_of, elapses-trans, leaves_on, FlatStore, Program, Activation, serial, header_of, most_lines, Standing, Stands, stands, Event, Desk, opened, Word, Doubt, run, faulted, IsRunOf, Line, line_text, Open, report, report_lines, event_lines, number_after, begun, IsSerial, IsSessionOpened, activity, session_desk, order_of, Session, ghosts, Replayed, PrintsEarlier, HasOpened, InDoubt, text_of, Reports, Replays, PrintedNow, to_since, Job, Status, status_of_replay, Call, Given, call, TellsStore, StillTold, EndsBy, DidBy, JobHasRun, HasRunFrom, DoubtStands, Happened, HappenedTo, IsOfStart, RanJob, RunsFrom, put_by, names_of, job_desk, ◌≡◌, ◌⊎◌, ℕ, ◌+◌, ◌%◌, ◌^◌, inl, inr, Bool, true, false, List, [], ◌∷◌, ◌++◌, length, take, refl, sym, ◌∙◌, ap, subst, arith, append-nil, Option, Some, None}
 use Rattle.std.proofs.lemmas.Bool.{cases_lt}
 use Rattle.outside.proofs.Prints.{prints_well, prints_broken}
 use Rattle.restart.specs.Kept.{number_of}

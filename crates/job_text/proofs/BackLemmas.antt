@@ -1,5 +1,5 @@
 -- A job that some text has can be run, and is the job of what is written of it.
-use Rattle.job_text.proofs.Common.{◌≡◌, ℕ, suc, ◌+◌, ◌<◌, ◌^◌, map, List, [], ◌∷◌, ◌++◌, length, Ok, Err, Result, sym, ◌∙◌, subst, arith, All, AllByRecursion, zip, length-map, recursion_from_All, ArrayVec, Parts, parts_of, IsByte, Job, JobFault, HasPrograms, IsJobText, content_of, job_of, IsJobAnswer, IsEventAmong, IsReady, AreBytes, written}
+use Rattle.job_text.proofs.Common.{◌≡◌, ℕ, suc, ◌+◌, ◌<◌, ◌^◌, map, List, [], ◌∷◌, ◌++◌, length, Ok, Err, Result, sym, ◌∙◌, subst, arith, All, AllByRecursion, zip, length-map, recursion_from_All, ArrayVec, Parts, parts_of, IsByte, Job, JobFault, HasPrograms, IsJobText, content_of, job_of, IsJobAnswer, IsEventAmong, IsReady, AreBytes, written, nat_tests}
 use Rattle.std.specs.Prelude.{IfOk}
 use Rattle.flat_machine.specs.declared.machine.Program.{Program}
 use Rattle.job_text.proofs.FormLemmas.{has_form}
@@ -8,7 +8,6 @@ use Rattle.job_text.proofs.LengthLemmas.{written_short}
 use Rattle.job_text.proofs.NameLemmas.{job_names}
 use Rattle.job_text.proofs.ReadyLemmas.{events_among}
 use Rattle.job_text.proofs.WrittenFormLemmas.{AllSound, written_form}
-use Rattle.std.proofs.lemmas.Bool.Decides.{nat_tests}
 
 -- each program has a name
 as_many : (others : List (List ℕ)) (number : ℕ) (names : List (List ℕ)) (programs : List Parts) (lines : List (List ℕ)) → HasPrograms others number names programs lines → length names ≡ length programs

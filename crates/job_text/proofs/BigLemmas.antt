@@ -1,9 +1,8 @@
 -- The events of `big N`.
-use Rattle.job_text.proofs.Common.{flat_map, range_with_len, flat_map-append, All-append, All-cons, All-nil, All-map, Event, Begin, Turn, Job, batch, batches, big_events, move_of, account_of, other_of, transfer, turns_of, IsEventAmong, IsReady}
+use Rattle.job_text.proofs.Common.{flat_map, range_with_len, flat_map-append, All-append, All-cons, All-nil, All-map, Event, Begin, Turn, Job, batch, batches, big_events, move_of, account_of, other_of, transfer, turns_of, IsEventAmong, IsReady, nat_tests}
 use Rattle.std.proofs.Common.{Global, ◌≡◌, ℕ, ◌+◌, ◌-◌, ◌*◌, ◌/◌, ◌%◌, ◌<◌, ◌≤◌, ◌==◌, min, Bool, true, false, List, [], ◌∷◌, ◌++◌, length, map, refl, ap, ◌∙◌, sym, subst, arith, append_assoc, append-nil, length-append, if◌then◌else◌, All}
 use Rattle.std.proofs.lemmas.List.FromFn.{map-range_with_len_more, length-map-range_with_len, length-range_with_len}
 use Rattle.std.specs.declared.vec.Vec.{Vec}
-use Rattle.std.proofs.lemmas.Bool.Decides.{nat_tests}
 
 -- a list with more events behind it, and then one more
 pub one_more : (old mid new : List Event) (f : ℕ → Event) (first n k : ℕ) → first + n ≡ k → mid ≡ old ++ map f (range_with_len first n) → new ≡ mid ++ f k ∷ [] → new ≡ old ++ map f (range_with_len first (n + 1))

@@ -1,12 +1,10 @@
 -- The sources of `big N`, as the checker reads them.
-use Rattle.job_text.proofs.Common.{◌≡◌, ℕ, List, [], length, map, refl, ap, ◌∙◌, sym, Option, Some, None, Result, Ok, Err, length-map, Event, tokens_past, image_behind, parts_of, fault_among, fault_behind, Job, Content, content_of, job_of, read_from, big_sources}
+use Rattle.job_text.proofs.Common.{◌≡◌, ℕ, List, [], length, map, refl, ap, ◌∙◌, sym, Option, Some, None, Result, Ok, Err, length-map, Event, tokens_past, image_behind, parts_of, fault_among, fault_behind, Job, Content, content_of, job_of, read_from, big_sources, nat_tests, arith}
 use Rattle.asm_parse.specs.Form.{form_of}
 use Rattle.romp_table.specs.Names.{mnemonic, op_named}
 use Rattle.romp_table.specs.Rows.{row_of}
 use Rattle.romp_asm.specs.Sources.{joined_from}
 use Rattle.romp_asm.specs.Value.{address_from}
-use Rattle.std.proofs.lemmas.Bool.Decides.{nat_tests}
-use Rattle.std.proofs.Common.{arith}
 
 -- how many programs a reading gives, and the events
 abbrev told_of : Result Content (ℕ × ℕ) → Option (ℕ × List Event)

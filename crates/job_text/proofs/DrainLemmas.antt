@@ -1,6 +1,5 @@
 -- A drain, written out.
-use Rattle.job_text.proofs.Common.{◌≡◌, ℕ, zero, suc, ◌+◌, ◌*◌, ◌<◌, ◌≤◌, List, [], ◌∷◌, ◌++◌, length, refl, ap, ◌∙◌, arith, append_assoc, add-one, length-append, Event, Turn, rounds_of, turns_to}
-use Rattle.std.proofs.lemmas.Bool.Decides.{nat_tests}
+use Rattle.job_text.proofs.Common.{◌≡◌, ℕ, zero, suc, ◌+◌, ◌*◌, ◌<◌, ◌≤◌, List, [], ◌∷◌, ◌++◌, length, refl, ap, ◌∙◌, arith, append_assoc, add-one, length-append, Event, Turn, rounds_of, turns_to, nat_tests}
 
 -- no turn
 pub no_turns : (limit : ℕ) → turns_to limit 0 ≡ []

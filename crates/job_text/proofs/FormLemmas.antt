@@ -1,6 +1,5 @@
 -- What is read as a job has the form of one.
-use Rattle.job_text.proofs.Common.{◌≡◌, inl, inr, ℕ, ◌+◌, ◌≤◌, ◌&&◌, nat_le, nat_lt, is_some, if◌then◌else◌, Bool, true, false, List, [], ◌∷◌, ◌++◌, length, map, codes, Option, Some, None, Result, Ok, Err, refl, sym, ap, ◌∙◌, subst, arith, append_assoc, append-nil, length-append, bytes_eq, and_parts, nat_tests, bytes_eq-Decides, Event, Turn, Checkpoint, Crash, Token, Word, Number, Statement, place_among, is_label, line_of, at_line, lines_of, statements_from, tokens, Parts, linked, Stage, Frames, Programs, Source, Schedule, Ended, Content, job_of, last_part, read_from, then_read, Reading, nothing_read, frames_line, program_begins, programs_line, is_end, is_part, program_ends, source_goes_on, source_line, sources_of, with_event, values_of, begin_of, begin_line, is_limit, turn_line, drain_line, single_line, schedule_line, ended_line, by_tokens, line_read, IsBlank, AreBlank, IsOnly, HasSources, IsFramesLine, HasPrograms, IsLimit, IsEventLine, HasEvents, IsJobText}
-use Rattle.std.proofs.lemmas.Bool.{cond_both}
+use Rattle.job_text.proofs.Common.{◌≡◌, inl, inr, ℕ, ◌+◌, ◌≤◌, ◌&&◌, nat_le, nat_lt, is_some, if◌then◌else◌, Bool, true, false, List, [], ◌∷◌, ◌++◌, length, map, codes, Option, Some, None, Result, Ok, Err, refl, sym, ap, ◌∙◌, subst, arith, append_assoc, append-nil, length-append, bytes_eq, and_parts, nat_tests, bytes_eq-Decides, Event, Turn, Checkpoint, Crash, Token, Word, Number, Statement, place_among, is_label, line_of, at_line, lines_of, statements_from, tokens, Parts, linked, Stage, Frames, Programs, Source, Schedule, Ended, Content, job_of, last_part, read_from, then_read, Reading, nothing_read, frames_line, program_begins, programs_line, is_end, is_part, program_ends, source_goes_on, source_line, sources_of, with_event, values_of, begin_of, begin_line, is_limit, turn_line, drain_line, single_line, schedule_line, ended_line, by_tokens, line_read, IsBlank, AreBlank, IsOnly, HasSources, IsFramesLine, HasPrograms, IsLimit, IsEventLine, HasEvents, IsJobText, cond_both}
 use Rattle.job_text.proofs.DrainLemmas.{length-rounds_of}
 
 -- what a reading says

@@ -1,9 +1,8 @@
 -- A text that has the form of a job is read as it.
-use Rattle.job_text.proofs.Common.{◌≡◌, inl, inr, ℕ, ◌+◌, ◌*◌, ◌≤◌, true, false, List, [], ◌∷◌, ◌++◌, length, map, codes, Option, Some, None, Result, Ok, Err, refl, sym, ap, ◌∙◌, subst, arith, append_assoc, append-nil, length-append, le-leb, lt-ltb, false_from_ne_true, Event, Begin, Turn, Token, Word, Number, Statement, place_among, is_label, line_of, at_line, statements_from, then_statements, tokens, Parts, linked, Stage, Programs, Source, Schedule, Ended, Content, job_of, read_from, then_read, tokens_read, Reading, nothing_read, frames_line, programs_line, is_end, is_part, source_goes_on, source_line, with_event, values_of, four_of, is_limit, schedule_line, line_read, AreBlank, IsOnly, HaveNoMark, HasSources, IsProgram, HasPrograms, IsBegin, IsLimit, IsTurn, IsDrain, IsSingle, IsNoBegin, IsEventLine, HasEvents, IsJobText}
+use Rattle.job_text.proofs.Common.{◌≡◌, inl, inr, ℕ, ◌+◌, ◌*◌, ◌≤◌, true, false, List, [], ◌∷◌, ◌++◌, length, map, codes, Option, Some, None, Result, Ok, Err, refl, sym, ap, ◌∙◌, subst, arith, append_assoc, append-nil, length-append, le-leb, lt-ltb, false_from_ne_true, Event, Begin, Turn, Token, Word, Number, Statement, place_among, is_label, line_of, at_line, statements_from, then_statements, tokens, Parts, linked, Stage, Programs, Source, Schedule, Ended, Content, job_of, read_from, then_read, tokens_read, Reading, nothing_read, frames_line, programs_line, is_end, is_part, source_goes_on, source_line, with_event, values_of, four_of, is_limit, schedule_line, line_read, AreBlank, IsOnly, HaveNoMark, HasSources, IsProgram, HasPrograms, IsBegin, IsLimit, IsTurn, IsDrain, IsSingle, IsNoBegin, IsEventLine, HasEvents, IsJobText, nat_tests}
 use Rattle.job_text.proofs.DrainLemmas.{length-rounds_of}
 use Rattle.job_text.proofs.FormLemmas.{end_is, part_is}
 use Rattle.job_text.proofs.GrammarLemmas.{read_line}
-use Rattle.std.proofs.lemmas.Bool.Decides.{nat_tests}
 
 -- some lines
 abbrev pub AreSome : List (List ℕ) → Type 0

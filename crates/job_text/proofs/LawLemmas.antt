@@ -1,8 +1,7 @@
 -- Each text has one job or one first fault, which ends its reading.
-use Rattle.job_text.proofs.Common.{◌≡◌, ◌⊎◌, inl, inr, ℕ, ◌+◌, List, [], ◌∷◌, ◌++◌, length, Result, Ok, Err, refl, sym, ap, ◌∙◌, arith, Stage, Content, job_of, last_part, read_from, then_read, Reading, line_read, FaultsEndTheReading, IsJobText}
+use Rattle.job_text.proofs.Common.{◌≡◌, ◌⊎◌, inl, inr, ℕ, ◌+◌, List, [], ◌∷◌, ◌++◌, length, Result, Ok, Err, refl, sym, ap, ◌∙◌, arith, Stage, Content, job_of, last_part, read_from, then_read, Reading, line_read, FaultsEndTheReading, IsJobText, nat_tests}
 use Rattle.job_text.proofs.FormLemmas.{has_form}
 use Rattle.job_text.proofs.FormReadLemmas.{form_read, read_some, some_behind}
-use Rattle.std.proofs.lemmas.Bool.Decides.{nat_tests}
 
 pub job_or_fault : (text : List ℕ) → ((content : Content) × IsJobText text content) ⊎ ((fault : ℕ × ℕ) × (job_of text ≡ Err fault))
 job_or_fault text = by_answer (job_of text) refl

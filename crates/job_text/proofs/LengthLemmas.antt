@@ -1,9 +1,8 @@
 -- The text that a job is written as is short.
-use Rattle.job_text.proofs.Common.{◌≡◌, ℕ, zero, suc, ◌+◌, ◌*◌, ◌<◌, ◌≤◌, ◌^◌, List, [], ◌∷◌, ◌++◌, decimal, length, map, codes, Option, Some, None, sym, subst, arith, length-append, from_be_bytes, w32, AllByRecursion, flat_map, zip, Event, Begin, Turn, Token, Word, Number, Comma, IsToken, IsWord, Parts, assembled_windows, linked_made, Content, HasPrograms, IsEventLine, HasEvents, IsJobText, rounds_of, turns_to, behind_text, end_line, event_line, image_lines, line_text, number_line, program_lines, token_text, window_line, window_lines, written}
+use Rattle.job_text.proofs.Common.{◌≡◌, ℕ, zero, suc, ◌+◌, ◌*◌, ◌<◌, ◌≤◌, ◌^◌, List, [], ◌∷◌, ◌++◌, decimal, length, map, codes, Option, Some, None, sym, subst, arith, length-append, from_be_bytes, w32, AllByRecursion, flat_map, zip, Event, Begin, Turn, Token, Word, Number, Comma, IsToken, IsWord, Parts, assembled_windows, linked_made, Content, HasPrograms, IsEventLine, HasEvents, IsJobText, rounds_of, turns_to, behind_text, end_line, event_line, image_lines, line_text, number_line, program_lines, token_text, window_line, window_lines, written, nat_tests}
 use Rattle.std.proofs.lemmas.Fmt.{length-decimal-le}
 use Rattle.flat_machine.specs.declared.machine.Window.{Window as Sight}
 use Rattle.job_text.proofs.WrittenFormLemmas.{AllSound, AreTokens, job_tokens}
-use Rattle.std.proofs.lemmas.Bool.Decides.{nat_tests}
 
 word_short : (word : List ℕ) → IsWord word → length word ≤ 31
 word_short [] is = absurd is

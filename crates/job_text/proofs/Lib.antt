@@ -14,3 +14,4 @@ pub mod BigSources
 pub mod PutLemmas
 pub mod NameLemmas
 pub mod LengthLemmas
+pub mod Lemmas

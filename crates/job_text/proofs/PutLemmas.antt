@@ -1,6 +1,5 @@
 -- The programs that were written, one after the other.
-use Rattle.job_text.proofs.Common.{◌≡◌, ℕ, zero, suc, ◌<◌, min, List, [], ◌∷◌, ◌++◌, length, map, take, get_or, codes, refl, sym, ap, ◌∙◌, subst, arith, append_assoc, append-nil, All, flat_map, zip, flat_map-append, length-map, take_all, All-append, All-cons, All-nil, length-zip, Token, Word, Content, end_line, event_line, head_lines, line_text, number_line, program_lines, written}
-use Rattle.std.proofs.lemmas.Bool.Decides.{nat_tests}
+use Rattle.job_text.proofs.Common.{◌≡◌, ℕ, zero, suc, ◌<◌, min, List, [], ◌∷◌, ◌++◌, length, map, take, get_or, codes, refl, sym, ap, ◌∙◌, subst, arith, append_assoc, append-nil, All, flat_map, zip, flat_map-append, length-map, take_all, All-append, All-cons, All-nil, length-zip, Token, Word, Content, end_line, event_line, head_lines, line_text, number_line, program_lines, written, nat_tests}
 
 -- one pair more
 pub pair_more : {A B C D : Type 0} (f : A → C) (g : B → D) (xs : List A) (ys : List B) (n : ℕ) (x : A) (y : B) → n < length xs → n < length ys → ((d : A) → x ≡ get_or xs n d) → ((d : B) → y ≡ get_or ys n d)

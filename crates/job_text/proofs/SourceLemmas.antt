@@ -1,12 +1,11 @@
 -- The source that a program is written as.
-use Rattle.job_text.proofs.Common.{◌≡◌, ℕ, pos, ◌+◌, ◌<◌, ◌≤◌, ◌^◌, ◌%◌, Bool, true, false, List, [], ◌∷◌, ◌++◌, length, map, codes, Option, Some, None, Ok, refl, ap, ◌∙◌, subst, arith, from_be_bytes, w32, AllByRecursion, AllZip, map-append, is_label, statement_of, statements_from, Token, Word, IsToken, IsWord, Parts, IsByte, IsLegalPlace, byte_body, image_bodies, made, plain_at, source_bodies, source_made, window_bodies, word_small, exported, linked_alone, HaveNoMark, IsProgram, is_end, is_part, access_text, end_line, image_lines, number_line, program_lines, tokens_text, window_line, window_lines}
+use Rattle.job_text.proofs.Common.{◌≡◌, ℕ, pos, ◌+◌, ◌<◌, ◌≤◌, ◌^◌, ◌%◌, Bool, true, false, List, [], ◌∷◌, ◌++◌, length, map, codes, Option, Some, None, Ok, refl, ap, ◌∙◌, subst, arith, from_be_bytes, w32, AllByRecursion, AllZip, map-append, is_label, statement_of, statements_from, Token, Word, IsToken, IsWord, Parts, IsByte, IsLegalPlace, byte_body, image_bodies, made, plain_at, source_bodies, source_made, window_bodies, word_small, exported, linked_alone, HaveNoMark, IsProgram, is_end, is_part, access_text, end_line, image_lines, number_line, program_lines, tokens_text, window_line, window_lines, nat_tests}
 use Rattle.flat_machine.specs.declared.machine.Window.{Window as Sight}
 use Rattle.asm_parse.specs.declared.statement.Body.{Body}
 use Rattle.asm_parse.specs.declared.statement.Body.TheVariants.{Data, Window, Entry}
 use Rattle.asm_parse.specs.declared.statement.Expr.TheVariants.{Number}
 use Rattle.asm_parse.proofs.DirectiveLemmas.{byte_stated, entry_stated, window_stated, word_stated}
 use Rattle.job_text.proofs.WrittenLemmas.{written_tokens}
-use Rattle.std.proofs.lemmas.Bool.Decides.{nat_tests}
 
 -- what holds of two lists holds of both
 pub all_both : {X : Type 0} (P : X → Type 0) (xs ys : List X) → AllByRecursion P xs → AllByRecursion P ys → AllByRecursion P (xs ++ ys)

@@ -1,8 +1,7 @@
 -- The text that a job is written as has the form of the job.
-use Rattle.job_text.proofs.Common.{◌≡◌, inl, inr, ℕ, zero, suc, ◌+◌, ◌<◌, ◌≤◌, ◌^◌, true, List, [], ◌∷◌, ◌++◌, length, map, codes, slice_index_or, Some, refl, sym, ap, ◌∙◌, subst, arith, append_assoc, append-nil, length-append, bytes_eq, AllByRecursion, flat_map, zip, map-append, position-Some, bytes_eq-Decides, Event, Begin, Turn, Checkpoint, Crash, Token, Word, Number, place_among, is_label, lines_of, found_tokens, IsToken, IsWord, Parts, assembled_windows, linked_made, Content, HasPrograms, IsBegin, IsLimit, IsNoBegin, IsEventLine, HasEvents, IsJobText, four_of, rounds_of, turns_to, end_line, event_line, job_lines, line_text, number_line, program_lines, tokens_text, written}
+use Rattle.job_text.proofs.Common.{◌≡◌, inl, inr, ℕ, zero, suc, ◌+◌, ◌<◌, ◌≤◌, ◌^◌, true, List, [], ◌∷◌, ◌++◌, length, map, codes, slice_index_or, Some, refl, sym, ap, ◌∙◌, subst, arith, append_assoc, append-nil, length-append, bytes_eq, AllByRecursion, flat_map, zip, map-append, position-Some, bytes_eq-Decides, Event, Begin, Turn, Checkpoint, Crash, Token, Word, Number, place_among, is_label, lines_of, found_tokens, IsToken, IsWord, Parts, assembled_windows, linked_made, Content, HasPrograms, IsBegin, IsLimit, IsNoBegin, IsEventLine, HasEvents, IsJobText, four_of, rounds_of, turns_to, end_line, event_line, job_lines, line_text, number_line, program_lines, tokens_text, written, nat_tests}
 use Rattle.job_text.proofs.SourceLemmas.{IsSound, all_both, end_tokens, program_form, program_tokens}
 use Rattle.job_text.proofs.WrittenLemmas.{written_line, written_tokens}
-use Rattle.std.proofs.lemmas.Bool.Decides.{nat_tests}
 
 -- lines of tokens that can be written
 abbrev pub AreTokens : List (List Token) → Type 0

@@ -1,7 +1,5 @@
 -- Pages by the flags of their segments.
-use Rattle.line_geometry.proofs.Common.{arith, nat_tests}
-use Rattle.std.specs.Prelude.{◌≡◌, refl, ℕ, ◌-◌, false, List, [], ◌∷◌}
-use Rattle.line_geometry.specs.Directory.{fine_among}
+use Rattle.line_geometry.proofs.Common.{arith, nat_tests, ◌≡◌, refl, ℕ, ◌-◌, false, List, [], ◌∷◌, fine_among}
 
 -- without flags no page is fine
 pub none_fine : (segments : List (ℕ × ℕ)) (page : ℕ) → fine_among 0 segments page ≡ false

@@ -1,6 +1,5 @@
 -- What a directory's fields are made from.
-use Rattle.line_geometry.proofs.Common.{pow_pos, arith, refl, length-append, length-drop, PageSize, IsLegal, AreFlags, flag_count, nat_tests}
-use Rattle.std.specs.Prelude.{◌≡◌, ℕ, List, ◌++◌, length, drop, replicate}
+use Rattle.line_geometry.proofs.Common.{pow_pos, arith, refl, length-append, length-drop, PageSize, IsLegal, AreFlags, flag_count, nat_tests, ◌≡◌, ℕ, List, ◌++◌, length, drop, replicate}
 use Rattle.std.proofs.Math.Seq.{take-append_seam, drop-append_seam}
 use Rattle.line_geometry.specs.Kept.{IsKept}
 

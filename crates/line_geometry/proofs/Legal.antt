@@ -1,6 +1,5 @@
 -- Segments have no fault exactly where they are a directory's.
-use Rattle.line_geometry.proofs.Common.{arith, refl, ap, add-one, sum_by-cons, nat_tests, Order, Range, TooMany, PageSize, Two, Four, page_bytes, Layout, byte_count, fault_of, fault_after, is_strange, IsInRange, IsLegal}
-use Rattle.std.specs.Prelude.{◌≡◌, ℕ, zero, suc, ◌+◌, ◌*◌, ◌<◌, ◌≤◌, ◌==◌, nat_lt, nat_le, Bool, true, false, List, [], ◌∷◌, length, map, sum_by, slice_index, All, Option, Some, None, cond}
+use Rattle.line_geometry.proofs.Common.{arith, refl, ap, add-one, sum_by-cons, nat_tests, Order, Range, TooMany, PageSize, Two, Four, page_bytes, Layout, byte_count, fault_of, fault_after, is_strange, IsInRange, IsLegal, ◌≡◌, ℕ, zero, suc, ◌+◌, ◌*◌, ◌<◌, ◌≤◌, ◌==◌, nat_lt, nat_le, Bool, true, false, List, [], ◌∷◌, length, map, sum_by, slice_index, All, Option, Some, None, cond}
 use Rattle.std.specs.List.Sorted.{IsStrictlyIncreasing}
 use Rattle.std.proofs.lemmas.List.Elements.{All-cons, All-head, All-tail}
 use Rattle.line_geometry.specs.declared.directory.DirectoryFault.{DirectoryFault}

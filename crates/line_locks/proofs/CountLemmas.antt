@@ -1,6 +1,5 @@
 -- How many lines are held to write.
-use Rattle.line_locks.proofs.Common.{arith, sym, ◌∙◌, sum_by-le, sum_by-replicate, length-replicate, All-replicate, nothing, IsCounted}
-use Rattle.std.specs.Prelude.{◌≡◌, ℕ, ◌*◌, ◌<◌, ◌≤◌, List, length, replicate}
+use Rattle.line_locks.proofs.Common.{arith, sym, ◌∙◌, sum_by-le, sum_by-replicate, length-replicate, All-replicate, nothing, IsCounted, ◌≡◌, ℕ, ◌*◌, ◌<◌, ◌≤◌, List, length, replicate}
 
 -- they are few
 pub all_few : (pages : List (List ℕ × List ℕ)) (written : ℕ) → IsCounted pages written → written ≤ 16 * 65535

@@ -1,6 +1,5 @@
 -- What a seat holds page by page, and what it holds in flat lines.
-use Rattle.line_locks.proofs.Common.{flat_map, list_any, ◌⊎◌, arith, ap, sym, subst, ◌∙◌, get_or-set_same, get_or-set_other, eqb-true, eqb-false, or_left, or_right, nat_tests, append-nil, append_assoc, length-set, All-head, All-tail, list_any-append, has, meets, has-append, IsOfPage, union, of_page-below, is_in_where-below, Want, of_page, together, with_want, with_wants, AreWithin, conflicts_with}
-use Rattle.std.specs.Prelude.{◌≡◌, ◌≢◌, refl, ℕ, ◌+◌, ◌*◌, ◌<◌, ◌==◌, ◌||◌, Bool, true, false, List, [], ◌∷◌, ◌++◌, length, All}
+use Rattle.line_locks.proofs.Common.{flat_map, list_any, ◌⊎◌, arith, ap, sym, subst, ◌∙◌, get_or-set_same, get_or-set_other, eqb-true, eqb-false, or_left, or_right, nat_tests, append-nil, append_assoc, length-set, All-head, All-tail, list_any-append, has, meets, has-append, IsOfPage, union, of_page-below, is_in_where-below, Want, of_page, together, with_want, with_wants, AreWithin, conflicts_with, ◌≡◌, ◌≢◌, refl, ℕ, ◌+◌, ◌*◌, ◌<◌, ◌==◌, ◌||◌, Bool, true, false, List, [], ◌∷◌, ◌++◌, length, All}
 use Rattle.lock_rules.specs.Lines.{Lines, both, conflicts}
 use Rattle.line_locks.specs.Flat.{flat_lines, lines_wanted, IsFlat}
 

@@ -1,6 +1,5 @@
 -- The pages of which something is held, as they are listed.
-use Rattle.line_locks.proofs.Common.{range_with_len, arith, ap, sym, ◌∙◌, subst, get_or, get_or-set_same, get_or-set_other, eqb-true, eqb-false, eq-eqb, or_parts, or_left, or_right, not-false, get_or-replicate, length_push, nil_from_length, get_or_past, same_lists, get_or_default, length-replicate, has, meets, size, has-append, in_range, size-part, size-range, size-apart, IsOfPage, union, is_in_where-below, of_page-below, Want, nothing, of_page, holds_some, together, conflicts_in, conflicts_with, AreListed, nat_tests}
-use Rattle.std.specs.Prelude.{◌≡◌, refl, ℕ, zero, suc, ◌+◌, ◌<◌, ◌==◌, ◌&&◌, ◌||◌, not, if◌then◌else◌, Bool, true, false, List, [], ◌∷◌, ◌++◌, length, replicate, slice_set}
+use Rattle.line_locks.proofs.Common.{range_with_len, arith, ap, sym, ◌∙◌, subst, get_or, get_or-set_same, get_or-set_other, eqb-true, eqb-false, eq-eqb, or_parts, or_left, or_right, not-false, get_or-replicate, length_push, nil_from_length, get_or_past, same_lists, get_or_default, length-replicate, has, meets, size, has-append, in_range, size-part, size-range, size-apart, IsOfPage, union, is_in_where-below, of_page-below, Want, nothing, of_page, holds_some, together, conflicts_in, conflicts_with, AreListed, nat_tests, ◌≡◌, refl, ℕ, zero, suc, ◌+◌, ◌<◌, ◌==◌, ◌&&◌, ◌||◌, not, if◌then◌else◌, Bool, true, false, List, [], ◌∷◌, ◌++◌, length, replicate, slice_set}
 
 -- where nothing is held, no line is
 pub none-held : (held : List ℕ × List ℕ) → holds_some held ≡ false → held ≡ nothing

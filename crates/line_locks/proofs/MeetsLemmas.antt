@@ -1,6 +1,5 @@
 -- Whether two sets of a page's lines meet, by the bits that they are told by.
-use Rattle.line_locks.proofs.Common.{arith, ap, sym, ◌∙◌, nat_tests, has, meets, has-append, any-at, any-some, lines_of_bits, is_in-where, none-bits}
-use Rattle.std.specs.Prelude.{◌≡◌, refl, ℕ, ◌<◌, ◌==◌, ◌||◌, ◌&&◌, not, min, true, List, [], ◌∷◌, ◌++◌, length, bit_and}
+use Rattle.line_locks.proofs.Common.{arith, ap, sym, ◌∙◌, nat_tests, has, meets, has-append, any-at, any-some, lines_of_bits, is_in-where, none-bits, ◌≡◌, refl, ℕ, ◌<◌, ◌==◌, ◌||◌, ◌&&◌, not, min, true, List, [], ◌∷◌, ◌++◌, length, bit_and}
 use Rattle.std.specs.Int.{bit_at}
 use Rattle.std.proofs.lemmas.Nat.Bits.{bit_at-lt, bit_at_and}
 use Rattle.line_geometry.specs.LineBits.{is_on}

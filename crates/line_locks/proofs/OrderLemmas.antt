@@ -1,6 +1,5 @@
 -- The pages of which something is held, as they ascend.
-use Rattle.line_locks.proofs.Common.{insert, IsPermutation, IsBinarySearchResult, arith, ap, sym, ◌∙◌, inl, inr, get_or, subst, both_ways, cases_lt, get_or_default, has, size-alike, AreListed, Ascend}
-use Rattle.std.specs.Prelude.{◌≡◌, ◌≢◌, ℕ, ◌+◌, ◌-◌, ◌<◌, ◌≤◌, ◌==◌, ◌⊎◌, false, List, [], ◌∷◌, ◌++◌, length, Result, Ok, Err}
+use Rattle.line_locks.proofs.Common.{insert, IsPermutation, IsBinarySearchResult, arith, ap, sym, ◌∙◌, inl, inr, get_or, subst, both_ways, cases_lt, get_or_default, has, size-alike, AreListed, Ascend, ◌≡◌, ◌≢◌, ℕ, ◌+◌, ◌-◌, ◌<◌, ◌≤◌, ◌==◌, ◌⊎◌, false, List, [], ◌∷◌, ◌++◌, length, Result, Ok, Err}
 use Rattle.std.specs.Ordering.{nat_cmp}
 use Rattle.std.specs.Result.{MatchResult}
 use Rattle.std.proofs.lemmas.List.Edits.{get_or-insert_below, get_or-insert_at, get_or-insert_above, length-insert}

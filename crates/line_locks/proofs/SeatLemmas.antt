@@ -1,6 +1,5 @@
 -- The number in which the bits of some seats are on, seat by seat.
-use Rattle.line_locks.proofs.Common.{range_with_len, arith, ap, sym, ◌∙◌, sum_by-cons, passing, bits_of_seats}
-use Rattle.std.specs.Prelude.{◌≡◌, refl, ℕ, zero, suc, ◌+◌, ◌*◌, ◌%◌, ◌^◌, ◌<◌, cond, Bool, true, false, List, [], ◌∷◌, filter, bit_or}
+use Rattle.line_locks.proofs.Common.{range_with_len, arith, ap, sym, ◌∙◌, sum_by-cons, passing, bits_of_seats, ◌≡◌, refl, ℕ, zero, suc, ◌+◌, ◌*◌, ◌%◌, ◌^◌, ◌<◌, cond, Bool, true, false, List, [], ◌∷◌, filter, bit_or}
 use Rattle.std.specs.Int.Bits.{or_shifted_r}
 use Rattle.std.proofs.Math.Pow.{pow-lt}
 

@@ -1,7 +1,6 @@
 -- The calls of runs, and of one call more.
-use Rattle.outside.proofs.Common.{◌≡◌, ℕ, zero, suc, ◌+◌, List, [], ◌∷◌, ◌++◌, length, refl, sym, ◌∙◌, ap, append_assoc, append-nil, arith, ◌≤◌, length-append, replicate-append-replicate, length-replicate, replicate, count_by, if◌then◌else◌, cond, Result, Ok, Err, is_ok, IsOk, Run, Entry, Asked, calls_of, is_write}
+use Rattle.outside.proofs.Common.{◌≡◌, ℕ, zero, suc, ◌+◌, List, [], ◌∷◌, ◌++◌, length, refl, sym, ◌∙◌, ap, append_assoc, append-nil, arith, ◌≤◌, length-append, replicate-append-replicate, length-replicate, replicate, count_by, if◌then◌else◌, cond, Result, Ok, Err, is_ok, IsOk, Run, Entry, Asked, calls_of, is_write, nat_tests}
 use Rattle.std.proofs.lemmas.List.Sums.{sum_by-cons}
-use Rattle.std.proofs.lemmas.Bool.Decides.{nat_tests}
 
 -- one more that asked alone
 pub calls_of-asked : (runs : List Run) (asked : ℕ) → calls_of runs (asked + 1) ≡ calls_of runs asked ++ Asked ∷ []

@@ -1,6 +1,6 @@
 -- The names that most proofs cite, passed on from one place. Declares nothing.
 pub use Rattle.std.proofs.Common.{Bool, List, [], ap, append-nil, append_assoc, arith, drop, get_or, inl, inr, length, length-append, min, refl, rules, subst, suc, sym, take, zero, ℕ, ⊎_elim, ◌++◌, ◌+◌, ◌-◌, ◌<◌, ◌∙◌, ◌∷◌, ◌≡◌, ◌≢◌, ◌≤◌, ◌⊎◌}
-pub use Rattle.std.proofs.lemmas.List.{drop-drop, drop_all, drop_at, length-drop, length-replicate, length-take, length-take-le, replicate-append-replicate, take-append-le, take_at, take_min, take_more}
+pub use Rattle.std.proofs.lemmas.List.{drop-drop, drop_all, drop_at, length-drop, length-replicate, length-take, length-take-le, replicate-append-replicate, take-append-le, take_at, take_min, take_more, drop-append-le, take_all}
 pub use Rattle.std.specs.Prelude.{Err, IsErr, IsOk, IsSome, None, Ok, OnErr, OnOk, Option, Result, Some, cond, count_by, if◌then◌else◌, is_ok, not, replicate, true, unwrap_or}
 pub use Rattle.outside.specs.Bytes.{AreTold, Prints, Torn, Writes, written}
 pub use Rattle.outside.specs.Calls.{made_of}
@@ -18,3 +18,6 @@ pub use Rattle.outside.specs.declared.record.Entry.{Entry}
 pub use Rattle.outside.specs.declared.record.Entry.TheVariants.{Asked, Synced, Tore, Wrote}
 pub use Rattle.outside.specs.declared.screen.PutMark.{PutMark}
 pub use Rattle.outside.specs.declared.world.Outside.{Ghosts}
+pub use Rattle.std.proofs.Math.Nat.{le_refl}
+pub use Rattle.std.proofs.lemmas.Bool.Decides.{nat_tests}
+pub use Rattle.std.proofs.lemmas.Grind.{common_steps}

@@ -1,8 +1,6 @@
 -- What a crash leaves of bytes that were sure.
-use Rattle.outside.proofs.Common.{Option, None, Some, unwrap_or, Ghosts, AreTold, Torn, LeavesStep, Leaves, held_of}
-use Rattle.std.proofs.Common.{◌≡◌, ℕ, List, [], refl, IsSome, arith}
+use Rattle.outside.proofs.Common.{Option, None, Some, unwrap_or, Ghosts, AreTold, Torn, LeavesStep, Leaves, held_of, ◌≡◌, ℕ, List, [], refl, IsSome, arith, nat_tests}
 use Rattle.outside.specs.Durable.{IsSure}
-use Rattle.std.proofs.lemmas.Bool.Decides.{nat_tests}
 
 pub told_is : (told : Option (List ℕ)) (bytes : List ℕ) → IsSome told → AreTold told bytes → bytes ≡ unwrap_or told []
 told_is None bytes some is = cc

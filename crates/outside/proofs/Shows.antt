@@ -1,7 +1,6 @@
 -- Calls that ask the disk, and puts, one after another.
-use Rattle.outside.proofs.Common.{◌≡◌, ⊎_elim, ℕ, List, [], sym, ◌∙◌, ap, subst, arith, Option, IsSome, Result, unwrap_or, Failed, Ghosts, Prints, AsksAndPuts, FewerLater, OnlyAsks, OnlyPuts, held_of}
+use Rattle.outside.proofs.Common.{◌≡◌, ⊎_elim, ℕ, List, [], sym, ◌∙◌, ap, subst, arith, Option, IsSome, Result, unwrap_or, Failed, Ghosts, Prints, AsksAndPuts, FewerLater, OnlyAsks, OnlyPuts, held_of, nat_tests}
 use Rattle.outside.proofs.Runs.{elapses-trans}
-use Rattle.std.proofs.lemmas.Bool.Decides.{nat_tests}
 
 -- a put leaves printed bytes told
 still_told : {T : Type 0} (old new : Option (List ℕ)) (bytes : List ℕ) (result : Result T Failed) → Prints old new bytes result → IsSome old → IsSome new

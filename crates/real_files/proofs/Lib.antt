@@ -1,2 +1,3 @@
 mod DeedSteps
 mod PutSteps
+pub mod Common

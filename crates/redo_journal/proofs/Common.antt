@@ -5,7 +5,7 @@ pub use Rattle.std.proofs.lemmas.Bool.Decides.{nat_tests}
 pub use Rattle.std.proofs.lemmas.List.{append-nil, drop-drop, drop-set-lt, drop_at, get_or-drop, get_or-replicate, get_or-set_same, get_or-take, length-drop, length-replicate, length-set, length-take, length-take-le, take-append-drop, take-set-le, take-take, take_all, take_at, take_rest}
 pub use Rattle.std.proofs.lemmas.List.Elements.{All-append, All-cons, All-drop, All-head, All-nil, All-replicate, All-tail, All-take}
 pub use Rattle.std.specs.Option.{ForSome, option_map, option_or}
-pub use Rattle.std.specs.Prelude.{All, IfSome, None, Option, Some, fold, nat_le, nat_lt, unwrap_or, ◌&&◌, ◌==◌}
+pub use Rattle.std.specs.Prelude.{All, IfSome, None, Option, Some, fold, nat_le, nat_lt, unwrap_or, ◌&&◌, ◌==◌, Err, IfOk, IsTrue, Ok, Result, if◌then◌else◌, slice_get, ◌≢◌}
 pub use Rattle.byteorder.specs.Endian.{big_bytes, big_number}
 pub use Rattle.byteorder.specs.Numbers.{big_from-take, big_number-reads_back}
 pub use Rattle.line_geometry.specs.Lines.{line_count}
@@ -36,8 +36,9 @@ pub use Rattle.redo_journal.specs.Inside.{IsWhole, begun_count, begun_lines, buf
 pub use Rattle.redo_journal.specs.Kept.{KeptBank, SameShape, area_end, begun_of, end_of, line_bytes_of, needed_end, place_of, record_bytes_of, spoilt, with_line, with_record}
 pub use Rattle.redo_journal.specs.Noted.{AreNewest, AreWithin, IsNowhere, newest_place, noted, place_in}
 pub use Rattle.redo_journal.specs.Read.{AreRead, IsBank}
-pub use Rattle.redo_journal.specs.Records.{IsCounted, IsLine, IsLineOf, IsRecordAt, area_bytes}
+pub use Rattle.redo_journal.specs.Records.{IsCounted, IsLine, IsLineOf, IsRecordAt, area_bytes, IsFound}
 pub use Rattle.redo_journal.specs.Tracks.{HoldsOneOf, IsAppended, IsEither, TracksBank}
 pub use Rattle.redo_journal.specs.Turned.{head_bytes, placed, turned}
 pub use Rattle.redo_journal.specs.declared.bank.Bank.TheInside.{Inside}
 pub use Rattle.redo_journal.specs.declared.find.Record.{Record}
+pub use Rattle.std.proofs.lemmas.Grind.{common_steps, elements}

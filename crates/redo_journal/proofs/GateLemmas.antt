@@ -1,7 +1,6 @@
 -- A body that is written behind a shut gate, and the gate after it.
-use Rattle.redo_journal.proofs.Common.{◌≡◌, ℕ, ◌+◌, ◌≤◌, true, false, List, [], ◌∷◌, ◌++◌, length, take, drop, refl, sym, ◌∙◌, ap, arith, append_assoc, slice_index, Option, Some, ◌==◌, unwrap_or, take_at, drop_at, drop-drop, length-take-le, get_or-drop, written, Torn, shorter_front, same_byte, is_open, HasBody, IsSafe}
+use Rattle.redo_journal.proofs.Common.{◌≡◌, ℕ, ◌+◌, ◌≤◌, true, false, List, [], ◌∷◌, ◌++◌, length, take, drop, refl, sym, ◌∙◌, ap, arith, append_assoc, slice_index, Option, Some, ◌==◌, unwrap_or, take_at, drop_at, drop-drop, length-take-le, get_or-drop, written, Torn, shorter_front, same_byte, is_open, HasBody, IsSafe, nat_tests}
 use Rattle.outside.proofs.Torn.{torn_by_written}
-use Rattle.std.proofs.lemmas.Bool.Decides.{nat_tests}
 
 pub drop-written : (held : List ℕ) (at : ℕ) (bytes : List ℕ) → at ≤ length held → drop at (written held at bytes) ≡ bytes ++ drop (at + length bytes) held
 drop-written held at bytes within = grind (arith, nat_tests, append_assoc, drop_at, length-take-le)

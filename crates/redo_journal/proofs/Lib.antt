@@ -14,3 +14,4 @@ pub mod Places
 pub mod WriteLemmas
 pub mod TurnLemmas
 pub mod HeadLemmas
+pub mod Lemmas

@@ -1,6 +1,5 @@
 -- The newest place of a line has its bytes of the store.
-use Rattle.redo_journal.proofs.Common.{◌≡◌, inl, inr, ℕ, zero, suc, ◌+◌, ◌*◌, ◌-◌, ◌<◌, ◌≤◌, List, [], ◌∷◌, ◌++◌, length, take, drop, refl, sym, ◌∙◌, ap, subst, arith, option_or, nat_tests, cases_lt, cases_eq, take_at, drop-drop, take-append-drop, length-drop, length-take-le, overlaid, big_number, line_count, PageSize, Which, line_bytes, Header, home_at, bank_at, number_at, entry_bytes, RecordLine, lines_from, wrong_line, lines_of, count_of, Area, Gate, Closed, Wrong, Sound, Holds, gate_at, holds_from, bank_held, area_within, laid, home_of, IsStore, shorter_front, rest_front, sound_is, preceded_is, length-overlaid, lines-below, place_in, newest_place}
-use Rattle.std.specs.Prelude.{Option, None, Some, fold, Bool, true, false, if◌then◌else◌, ◌%◌, ◌^◌, ◌==◌, slice_index}
+use Rattle.redo_journal.proofs.Common.{◌≡◌, inl, inr, ℕ, zero, suc, ◌+◌, ◌*◌, ◌-◌, ◌<◌, ◌≤◌, List, [], ◌∷◌, ◌++◌, length, take, drop, refl, sym, ◌∙◌, ap, subst, arith, option_or, nat_tests, cases_lt, cases_eq, take_at, drop-drop, take-append-drop, length-drop, length-take-le, overlaid, big_number, line_count, PageSize, Which, line_bytes, Header, home_at, bank_at, number_at, entry_bytes, RecordLine, lines_from, wrong_line, lines_of, count_of, Area, Gate, Closed, Wrong, Sound, Holds, gate_at, holds_from, bank_held, area_within, laid, home_of, IsStore, shorter_front, rest_front, sound_is, preceded_is, length-overlaid, lines-below, place_in, newest_place, Option, None, Some, fold, Bool, true, false, if◌then◌else◌, ◌%◌, ◌^◌, ◌==◌, slice_index}
 use Rattle.redo_journal.proofs.Overlaid.{take-overlaid, drop-overlaid, behind-overlaid}
 use Rattle.redo_journal.proofs.NoteLemmas.{first_in_order}
 use Rattle.redo_journal.proofs.Places.{or_assoc, or_none, last_of, if_some, AreBelow, AllBelow}

@@ -1,7 +1,5 @@
 -- The parts of a list of which a part is written over.
-use Rattle.redo_journal.proofs.Common.{◌≡◌, ℕ, ◌+◌, ◌≤◌, List, ◌++◌, length, take, drop, refl, sym, ◌∙◌, ap, append_assoc, take_at, drop_at, drop-drop, length-take-le, overlaid}
-use Rattle.std.proofs.lemmas.Bool.Decides.{nat_tests}
-use Rattle.std.proofs.Common.{arith}
+use Rattle.redo_journal.proofs.Common.{◌≡◌, ℕ, ◌+◌, ◌≤◌, List, ◌++◌, length, take, drop, refl, sym, ◌∙◌, ap, append_assoc, take_at, drop_at, drop-drop, length-take-le, overlaid, nat_tests, arith}
 
 module _ {X : Type 0} (xs : List X) (at : ℕ) (part : List X) (within : at ≤ length xs) where
   pub take-overlaid : take at (overlaid xs at part) ≡ take at xs

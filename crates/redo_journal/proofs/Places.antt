@@ -1,6 +1,5 @@
 -- The newest places that are noted are those in the last records.
-use Rattle.redo_journal.proofs.Common.{◌≡◌, ◌⊎◌, inl, inr, ℕ, ◌+◌, ◌-◌, ◌<◌, ◌≤◌, List, [], ◌∷◌, ◌++◌, length, get_or, refl, sym, ◌∙◌, ap, subst, arith, replicate, option_or, cases_lt, cases_eq, nat_tests, get_or-take, get_or-drop, get_or-replicate, length-replicate, All-nil, All-cons, All-head, All-tail, overlaid, length-overlaid, RecordLine, wrong_line, noted, place_in, newest_place, AreNewest, IsNowhere}
-use Rattle.std.specs.Prelude.{Bool, true, false, ◌==◌, ◌≢◌, if◌then◌else◌, Option, None, Some, fold, All}
+use Rattle.redo_journal.proofs.Common.{◌≡◌, ◌⊎◌, inl, inr, ℕ, ◌+◌, ◌-◌, ◌<◌, ◌≤◌, List, [], ◌∷◌, ◌++◌, length, get_or, refl, sym, ◌∙◌, ap, subst, arith, replicate, option_or, cases_lt, cases_eq, nat_tests, get_or-take, get_or-drop, get_or-replicate, length-replicate, All-nil, All-cons, All-head, All-tail, overlaid, length-overlaid, RecordLine, wrong_line, noted, place_in, newest_place, AreNewest, IsNowhere, Bool, true, false, ◌==◌, ◌≢◌, if◌then◌else◌, Option, None, Some, fold, All}
 use Rattle.std.proofs.lemmas.Option.{slice_get-get_or}
 use Rattle.redo_journal.specs.Opened.{NewestLaw}
 use Rattle.redo_journal.proofs.Overlaid.{take-overlaid, drop-overlaid, behind-overlaid}

@@ -1,9 +1,6 @@
 -- The records of a bank, each at its place.
-use Rattle.redo_journal.proofs.Common.{drop-drop, big_number, line_bytes, PageSize, entry_bytes, number_at, RecordLine, lines_from, lines_of, count_of, record_bytes, wrong_line, Area, Gate, Closed, Wrong, Sound, Holds, gate_at, holds_from, IsSound, sound_is, preceded_is, KeptBank, place_of, area_bytes, IsRecordAt, IsCounted, IsLine, IsLineOf, Record}
-use Rattle.std.proofs.Common.{None, ◌≡◌, ℕ, zero, suc, ◌+◌, ◌*◌, ◌<◌, List, [], ◌∷◌, ◌++◌, length, take, drop, refl, sym, subst, ◌∙◌, ap, arith, slice_index}
-use Rattle.std.specs.Prelude.{◌%◌, ◌^◌, ◌==◌, Some, slice_get, Result, Ok, Err, IfOk}
+use Rattle.redo_journal.proofs.Common.{drop-drop, big_number, line_bytes, PageSize, entry_bytes, number_at, RecordLine, lines_from, lines_of, count_of, record_bytes, wrong_line, Area, Gate, Closed, Wrong, Sound, Holds, gate_at, holds_from, IsSound, sound_is, preceded_is, KeptBank, place_of, area_bytes, IsRecordAt, IsCounted, IsLine, IsLineOf, Record, None, ◌≡◌, ℕ, zero, suc, ◌+◌, ◌*◌, ◌<◌, List, [], ◌∷◌, ◌++◌, length, take, drop, refl, sym, subst, ◌∙◌, ap, arith, slice_index, ◌%◌, ◌^◌, ◌==◌, Some, slice_get, Result, Ok, Err, IfOk, nat_tests}
 use Rattle.redo_journal.proofs.AppendLemmas.{length-lines_from}
-use Rattle.std.proofs.lemmas.Bool.Decides.{nat_tests}
 
 -- where a record with these lines stands, in an area with this end, of a store with so many lines
 pub record StandsAt (page : PageSize) (image : List ℕ) (bound end at : ℕ) (lines : List RecordLine) : Type 0 where

@@ -1,8 +1,6 @@
 -- Lines that are placed anew.
-use Rattle.redo_journal.proofs.Common.{◌≡◌, ℕ, zero, suc, ◌+◌, ◌*◌, List, [], ◌∷◌, length, take, drop, refl, ◌∙◌, ap, arith, replicate, option_map, All-replicate, big_number, overlaid, PageSize, Which, line_bytes, entry_bytes, in_order, RecordLine, lines_from, wrong_line, Standing, laid, one_more, Inside, buffered, kept_of, KeptBank, place_of, AreWithin, placed, turned}
-use Rattle.std.specs.Prelude.{Option, None, IfSome, ◌%◌, ◌^◌, ◌≤◌}
+use Rattle.redo_journal.proofs.Common.{◌≡◌, ℕ, zero, suc, ◌+◌, ◌*◌, List, [], ◌∷◌, length, take, drop, refl, ◌∙◌, ap, arith, replicate, option_map, All-replicate, big_number, overlaid, PageSize, Which, line_bytes, entry_bytes, in_order, RecordLine, lines_from, wrong_line, Standing, laid, one_more, Inside, buffered, kept_of, KeptBank, place_of, AreWithin, placed, turned, Option, None, IfSome, ◌%◌, ◌^◌, ◌≤◌, nat_tests}
 use Rattle.redo_journal.proofs.NoteLemmas.{first_in_order, low_of}
-use Rattle.std.proofs.lemmas.Bool.Decides.{nat_tests}
 
 -- the same bytes read from another offset are the lines placed there
 pub lines_placed : (page : PageSize) (count at from : ℕ) (bytes : List ℕ) → lines_from page count at bytes ≡ placed page at (lines_from page count from bytes)

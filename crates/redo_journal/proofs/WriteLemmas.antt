@@ -1,10 +1,8 @@
 -- Calls that write, one after another.
-use Rattle.redo_journal.proofs.Common.{◌≡◌, ℕ, ◌+◌, ◌≤◌, List, length, refl, sym, ◌∙◌, ap, subst, arith, length-append, ForSome, option_map, length-take, length-drop, Ghosts, Failed, Torn, Writes, CountsWrite, written, OnlyAsks, FewerLater, held_of, told_some, calls_none, calls_on, still_told}
-use Rattle.std.specs.Prelude.{Option, Some, IsSome, IsTrue, Result, Ok, Err}
+use Rattle.redo_journal.proofs.Common.{◌≡◌, ℕ, ◌+◌, ◌≤◌, List, length, refl, sym, ◌∙◌, ap, subst, arith, length-append, ForSome, option_map, length-take, length-drop, Ghosts, Failed, Torn, Writes, CountsWrite, written, OnlyAsks, FewerLater, held_of, told_some, calls_none, calls_on, still_told, Option, Some, IsSome, IsTrue, Result, Ok, Err, nat_tests}
 use Rattle.outside.specs.Causes.{FailsOnlyCounted}
 use Rattle.outside.specs.Moments.{IsOneCall, Elapses, PrintsNothing, LeavesStep}
 use Rattle.redo_journal.specs.Held.{IsMoreBy, OnlyWrites, WritesOnce}
-use Rattle.std.proofs.lemmas.Bool.Decides.{nat_tests}
 
 pub more_on : (a b : ℕ) (old mid new : Option ℕ) → IsMoreBy a old mid → IsMoreBy b mid new → IsMoreBy (a + b) old new
 more_on a b old mid new first second before is = grind (arith, nat_tests, first)

@@ -10,7 +10,8 @@ pub use Rattle.byteorder.specs.Endian.{big_bytes, big_number}
 pub use Rattle.desk.specs.Commits.{is_commit}
 pub use Rattle.desk.specs.Lines.{Begin, Busy, Check, Closed, Commit, Cycle, Disk, Doubt, End, Idle, Journal, Left, Line, Lost, NoSegment, Open, Stored, Turn, Victim, Wait, line_text, printed}
 pub use Rattle.hex.specs.Hex.{IsBytes, decode_of, decode_sized, encode_lower}
-pub use Rattle.text_line.proofs.Bytes.{each_byte, empty_is}
+pub use Rattle.text_line.proofs.Bytes.{each_byte, empty_is, some_is}
 pub use Rattle.report_text.specs.Line.{line_told}
 pub use Rattle.report_text.specs.ReadLines.{IsLine, IsWhole, owned_told}
 pub use Rattle.report_text.specs.Words.{IsOneWord, is_feed, is_space, kind_of, parts_of}
+pub use Rattle.report_text.specs.declared.owned.OwnedLine.{OwnedLine}

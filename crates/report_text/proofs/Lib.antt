@@ -3,3 +3,4 @@ pub mod LineLemmas
 pub mod Listed
 pub mod PartLemmas
 pub mod WordLemmas
+pub mod Lemmas

@@ -1,6 +1,5 @@
 -- Words with a space between each two, of which the last are numbers.
-use Rattle.report_text.proofs.Common.{◌≡◌, ℕ, List, [], ◌∷◌, ◌++◌, map, sym, ◌∙◌, ap, append-nil, append_assoc, codes, flat_map, join_with_byte}
-use Rattle.std.specs.Prelude.{decimal}
+use Rattle.report_text.proofs.Common.{◌≡◌, ℕ, List, [], ◌∷◌, ◌++◌, map, sym, ◌∙◌, ap, append-nil, append_assoc, codes, flat_map, join_with_byte, decimal}
 
 -- a word and numbers, each behind a space
 pub joined : (word : List ℕ) (numbers : List ℕ)

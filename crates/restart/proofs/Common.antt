@@ -1,10 +1,10 @@
 -- The names that most proofs cite, passed on from one place. Declares nothing.
 pub use Rattle.std.proofs.Common.{IsSome, IsTrue, List, [], ap, append_assoc, arith, drop, get_or, inl, inr, length, refl, subst, sym, take, ℕ, ⊎_elim, ◌%◌, ◌*◌, ◌++◌, ◌+◌, ◌-◌, ◌<◌, ◌^◌, ◌∙◌, ◌∷◌, ◌≡◌, ◌≤◌}
 pub use Rattle.std.proofs.lemmas.List.{drop-drop, drop-take, length-drop, length-take-le, places, take-take}
-pub use Rattle.std.specs.Prelude.{Err, IfErr, IfSome, None, Ok, Option, Result, Some, false, fold, is_some, slice_range, true, unwrap_or}
+pub use Rattle.std.specs.Prelude.{Err, IfErr, IfSome, None, Ok, Option, Result, Some, false, fold, is_some, slice_range, true, unwrap_or, OnOk}
 pub use Rattle.checkpoint.proofs.StepLemmas.{map_ok, synced_sure}
 pub use Rattle.checkpoint.specs.Chosen.{IsChosen, other}
-pub use Rattle.checkpoint.specs.Committed.{Commits, HoldsCommitted, emptied, roomy}
+pub use Rattle.checkpoint.specs.Committed.{Commits, HoldsCommitted, emptied, roomy, IsKeptAfter}
 pub use Rattle.line_geometry.proofs.Within.{byte_count-lines, page-lines}
 pub use Rattle.line_geometry.specs.Directory.{Layout, byte_count, page_count}
 pub use Rattle.line_geometry.specs.Lines.{line_count}
@@ -27,3 +27,5 @@ pub use Rattle.restart.specs.Faults.{IsStoreOpenFault, IsStoreReopenFault}
 pub use Rattle.restart.specs.Kept.{Fits, KeptStore, number_of, with_begun}
 pub use Rattle.restart.specs.Page.{newest_over}
 pub use Rattle.restart.specs.Shows.{IsStoreWith, IsReopened, ShownStands, Shows, TracksStore, page_in}
+pub use Rattle.std.proofs.lemmas.Bool.Decides.{nat_tests}
+pub use Rattle.std.specs.List.{list_any}

@@ -1,12 +1,10 @@
 -- A page whose home lines have the newest lines over them.
-use Rattle.restart.proofs.Common.{◌≡◌, inl, inr, ℕ, ◌+◌, ◌*◌, ◌-◌, ◌<◌, ◌≤◌, List, length, take, drop, get_or, refl, sym, ◌∙◌, ap, arith, Option, None, Some, IfSome, fold, slice_range, is_some, true, false, drop-drop, drop-take, take-take, length-drop, length-take-le, places, page_count, line_count, PageSize, page-lines, line_bytes, Header, home_at, laid, home_of, stands, stands_is, bytes_at, bytes_of_line, newest_bytes, same_line, other_line, same_lines, Agree, store_agrees, KeptStore, Shows, page_in, newest_over}
-use Rattle.std.specs.List.{list_any}
+use Rattle.restart.proofs.Common.{◌≡◌, inl, inr, ℕ, ◌+◌, ◌*◌, ◌-◌, ◌<◌, ◌≤◌, List, length, take, drop, get_or, refl, sym, ◌∙◌, ap, arith, Option, None, Some, IfSome, fold, slice_range, is_some, true, false, drop-drop, drop-take, take-take, length-drop, length-take-le, places, page_count, line_count, PageSize, page-lines, line_bytes, Header, home_at, laid, home_of, stands, stands_is, bytes_at, bytes_of_line, newest_bytes, same_line, other_line, same_lines, Agree, store_agrees, KeptStore, Shows, page_in, newest_over, list_any, nat_tests}
 use Rattle.std.proofs.lemmas.List.Folds.{list_any_at}
 use Rattle.std.proofs.lemmas.Bool.{cases_eq}
 use Rattle.store_format.proofs.Widths.{lines-below, lines-within}
 use Rattle.redo_journal.specs.Noted.{newest_place}
 use Rattle.restart.proofs.ShowLemmas.{shown_store}
-use Rattle.std.proofs.lemmas.Bool.Decides.{nat_tests}
 
 -- the lines up to one are the newest, and those from it on are at home
 pub record Composed (size : PageSize) (image home : List ℕ) (newest : List (Option ℕ)) (first i : ℕ) (page : List ℕ) : Type 0 where

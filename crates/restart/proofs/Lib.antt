@@ -3,3 +3,4 @@ pub mod ShowLemmas
 pub mod PageLemmas
 pub mod Compose
 pub mod StoodLemmas
+pub mod Lemmas

@@ -1,8 +1,6 @@
 -- A page that is put together from lines.
-use Rattle.restart.proofs.Common.{◌≡◌, ℕ, ◌++◌, List, length, take, drop, append_assoc, drop-drop}
+use Rattle.restart.proofs.Common.{◌≡◌, ℕ, ◌++◌, List, length, take, drop, append_assoc, drop-drop, nat_tests, arith}
 use Rattle.owned_list.specs.Overlay.{overlaid}
-use Rattle.std.proofs.lemmas.Bool.Decides.{nat_tests}
-use Rattle.std.proofs.Common.{arith}
 
 -- a part of a list written over in place
 pub spliced : (count : ℕ) (page front rest line tail part : List ℕ) (at : ℕ) → front ≡ take at page → rest ≡ drop at page → tail ≡ drop count rest → line ≡ part → length part ≡ count → front ++ (line ++ tail) ≡ overlaid page at part

@@ -1,5 +1,5 @@
 -- What a store shows of bytes, and what these stand for.
-use Rattle.restart.proofs.Common.{◌≡◌, ⊎_elim, ℕ, ◌+◌, ◌%◌, ◌^◌, ◌≤◌, List, [], ◌∷◌, ◌++◌, length, take, refl, sym, ◌∙◌, ap, subst, arith, IsSome, Option, None, fold, unwrap_or, Result, Ok, Err, IfErr, line_count, Header, bank_at, number_at, header_of, total, PageSize, Stands, Damaged, stands, standing_if, standing_by, HasHeader, IsStore, chosen, laid, home_of, stands_is, not_less, OnlyAsks, FewerLater, held_of, IsChosen, other, emptied, HoldsCommitted, ReopenFault, IsStoreOpenFault, IsStoreReopenFault, KeptStore, Fits, number_of, with_begun, Shows, IsStoreWith, IsReopened, TracksStore, ShownStands}
+use Rattle.restart.proofs.Common.{◌≡◌, ⊎_elim, ℕ, ◌+◌, ◌%◌, ◌^◌, ◌≤◌, List, [], ◌∷◌, ◌++◌, length, take, refl, sym, ◌∙◌, ap, subst, arith, IsSome, Option, None, fold, unwrap_or, Result, Ok, Err, IfErr, line_count, Header, bank_at, number_at, header_of, total, PageSize, Stands, Damaged, stands, standing_if, standing_by, HasHeader, IsStore, chosen, laid, home_of, stands_is, not_less, OnlyAsks, FewerLater, held_of, IsChosen, other, emptied, HoldsCommitted, ReopenFault, IsStoreOpenFault, IsStoreReopenFault, KeptStore, Fits, number_of, with_begun, Shows, IsStoreWith, IsReopened, TracksStore, ShownStands, nat_tests}
 use Rattle.store_format.specs.declared.header.Which.{Which}
 use Rattle.store_format.specs.declared.header.Which.TheVariants.{A, B}
 use Rattle.store_format.specs.Bank.{RecordLine, Holds, Faulty, base_of, bank_of, bank_held}
@@ -15,7 +15,6 @@ use Rattle.checkpoint.specs.Chosen as opened
 use Rattle.redo_journal.specs.declared.fault.ReopenFault.TheVariants as reopening
 use Rattle.redo_journal.specs.declared.fault.OpenFault.TheVariants as opening
 use Rattle.redo_journal.specs.Tracks as journal
-use Rattle.std.proofs.lemmas.Bool.Decides.{nat_tests}
 
 -- the bank of a header is the one that such a bank's size says
 pub bank_is : (held : List ℕ) (header : Header) (which : Which) (page : PageSize) (bytes bound : ℕ) → header.directory.page ≡ page → header.bank_bytes ≡ bytes → line_count header.directory ≡ bound → bank_of held header which ≡ bank_in held page which bytes bound

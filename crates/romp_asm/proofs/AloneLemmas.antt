@@ -1,7 +1,5 @@
 -- Labels that stand nowhere before.
-use Rattle.romp_asm.proofs.Common.{◌≡◌, ℕ, ◌+◌, ◌<◌, ◌≤◌, ◌||◌, Bool, true, false, List, length, get_or, Option, refl, sym, ap, ◌∙◌, arith, inl, inr, BTreeMap, le-ltb, cases_lt, get_or_default, Statement, Place, is_labelled, found_in, stands_before, repeated_in, noted, IsNew, AreAlone}
-use Rattle.std.proofs.lemmas.Bool.Decides.{nat_tests}
-use Rattle.romp_asm.specs.Labels.{LabelKey}
+use Rattle.romp_asm.proofs.Common.{◌≡◌, ℕ, ◌+◌, ◌<◌, ◌≤◌, ◌||◌, Bool, true, false, List, length, get_or, Option, refl, sym, ap, ◌∙◌, arith, inl, inr, BTreeMap, le-ltb, cases_lt, get_or_default, Statement, Place, is_labelled, found_in, stands_before, repeated_in, noted, IsNew, AreAlone, nat_tests, LabelKey}
 
 -- neither of two
 pub or_none : (one two : Bool) → (one || two) ≡ false → (one ≡ false) × (two ≡ false)

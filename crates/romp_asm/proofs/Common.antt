@@ -1,5 +1,5 @@
 -- The names that most proofs cite, passed on from one place. Declares nothing.
-pub use Rattle.std.proofs.Common.{Bool, Bor, Err, List, None, Ok, Option, Result, Some, [], add-one, ap, append-nil, append_assoc, arith, cond, drop, false, get_or, inl, inr, is_some, length, length-append, map, nat_lt, pos, refl, replicate, subst, suc, sum_by, sym, take, true, unwrap_or, w32, w8, zero, ℕ, ℤ, ◌*◌, ◌++◌, ◌+◌, ◌-◌, ◌<◌, ◌^◌, ◌||◌, ◌∙◌, ◌∷◌, ◌≡◌, ◌≤◌, ◌⊎◌}
+pub use Rattle.std.proofs.Common.{Bool, Bor, Err, List, None, Ok, Option, Result, Some, [], add-one, ap, append-nil, append_assoc, arith, cond, drop, false, get_or, inl, inr, is_some, length, length-append, map, nat_lt, pos, refl, replicate, subst, suc, sum_by, sym, take, true, unwrap_or, w32, w8, zero, ℕ, ℤ, ◌*◌, ◌++◌, ◌+◌, ◌-◌, ◌<◌, ◌^◌, ◌||◌, ◌∙◌, ◌∷◌, ◌≡◌, ◌≤◌, ◌⊎◌, length-set, min, slice_set, to_z, w64, ◌%◌, ◌&&◌}
 pub use Rattle.std.proofs.Math.Path.{fun_ext}
 pub use Rattle.std.proofs.Math.Seq.{drop-cons}
 pub use Rattle.std.proofs.lemmas.Bool.{cases_lt, eq-eqb, le-leb, le-ltb}
@@ -8,10 +8,10 @@ pub use Rattle.std.proofs.lemmas.Int.{ints, to_z-of_z}
 pub use Rattle.std.proofs.lemmas.List.{drop_all, get_or-map, get_or_append_left, get_or_default, get_or_push, length-map, length-replicate, length-take-le, map-append, set_at, take-append-le, take-map, take_all, take_more}
 pub use Rattle.std.proofs.lemmas.List.Sums.{fold_push, sum_by-append, sum_by-cons, sum_by-take-le, sum_by_push}
 pub use Rattle.std.proofs.lemmas.Result.{err_from_is_err_and}
-pub use Rattle.std.specs.BTreeMap.{BTreeMap}
+pub use Rattle.std.specs.BTreeMap.{BTreeMap, UpdatesBy, get_by}
 pub use Rattle.std.specs.List.{AllByRecursion, fold, list_any}
 pub use Rattle.std.specs.Option.{IsSomeAnd, option_map, option_map_or, option_or}
-pub use Rattle.std.specs.Prelude.{option_and_then, slice_get}
+pub use Rattle.std.specs.Prelude.{option_and_then, slice_get, if◌then◌else◌}
 pub use Rattle.std.specs.Str.{bytes_eq}
 unfoldable pub use Rattle.asm_parse.specs.Form.{form_of}
 pub use Rattle.asm_parse.specs.Kept.{stated}
@@ -21,7 +21,7 @@ pub use Rattle.asm_parse.specs.declared.statement.Statement.{Statement}
 pub use Rattle.romp_table.specs.declared.table.Use.{Use}
 pub use Rattle.romp_asm.specs.Encoding.{code_bytes, data_bytes, encoding_of, in_range, then_value}
 pub use Rattle.romp_asm.specs.Field.{even_at_most}
-pub use Rattle.romp_asm.specs.Labels.{AreAlone, AreTables, IsNew, IsTable, addresses_in, found_in, given_in, noted, place_of, repeated_in, stands_before}
+pub use Rattle.romp_asm.specs.Labels.{AreAlone, AreTables, IsNew, IsTable, addresses_in, found_in, given_in, noted, place_of, repeated_in, stands_before, LabelKey, word_number}
 unfoldable pub use Rattle.romp_asm.specs.Labels.{place_from}
 pub use Rattle.romp_asm.specs.Laid.{AreReadAs, IsLaid, IsReadAs, LaidTo, image_joined}
 pub use Rattle.romp_asm.specs.Layout.{Parts, assembled, entry_by, entry_of, fitted, has_label_of, is_entry, is_free, parts_of, piece_before, piece_of, takes_window, windows_of, with_entry, with_image, with_window}
@@ -34,3 +34,5 @@ unfoldable pub use Rattle.romp_asm.specs.Value.{address_from}
 pub use Rattle.romp_asm.specs.declared.value.Place.{Place}
 pub use Rattle.romp_asm.specs.declared.value.Scope.{Scope}
 pub use Rattle.romp_asm.specs.declared.value.Table.{Table}
+pub use Rattle.std.proofs.lemmas.Grind.{common_steps}
+pub use Rattle.std.proofs.lemmas.Slice.Eq.{bytes_eq-Decides}

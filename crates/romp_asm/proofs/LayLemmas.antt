@@ -1,6 +1,5 @@
 -- Zeros that are laid one after the other.
-use Rattle.romp_asm.proofs.Common.{◌≡◌, ℕ, suc, ◌+◌, ◌-◌, ◌<◌, ◌≤◌, List, [], ◌∷◌, ◌++◌, replicate, ap, arith, append_assoc, append-nil, length, length-append, length-replicate}
-use Rattle.std.proofs.lemmas.Bool.Decides.{nat_tests}
+use Rattle.romp_asm.proofs.Common.{◌≡◌, ℕ, suc, ◌+◌, ◌-◌, ◌<◌, ◌≤◌, List, [], ◌∷◌, ◌++◌, replicate, ap, arith, append_assoc, append-nil, length, length-append, length-replicate, nat_tests}
 
 -- one zero more
 pub one_more : (laid next whole : List ℕ) (count i : ℕ) → i < count → next ≡ laid ++ 0 ∷ [] → laid ++ replicate (count - i) 0 ≡ whole → next ++ replicate (count - (i + 1)) 0 ≡ whole

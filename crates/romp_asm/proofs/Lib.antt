@@ -11,3 +11,4 @@ pub mod MadeLemmas
 pub mod WindowLemmas
 pub mod RenamedLemmas
 pub mod SourcesLemmas
+pub mod Lemmas

@@ -1,11 +1,9 @@
 -- The program that an entry address, windows and data make.
-use Rattle.romp_asm.proofs.Common.{AllByRecursion, fold, eq-eqb, le-leb, le-ltb, set_at, fold_push, sum_by_push, Statement, Body, Data, Window, Entry, encoding_of, even_at_most, Parts, assembled, entry_of, image_behind, is_entry, is_free, takes_window, windows_of, with_entry, with_window, size_of, total, addresses_of}
-use Rattle.std.proofs.Common.{◌≡◌, ℕ, ℤ, pos, zero, suc, ◌+◌, ◌-◌, ◌%◌, ◌<◌, ◌≤◌, ◌&&◌, true, false, is_some, List, [], ◌∷◌, ◌++◌, length, map, get_or, replicate, slice_get, Option, Some, None, Ok, refl, sym, ap, ◌∙◌, arith, append_assoc, length-append}
+use Rattle.romp_asm.proofs.Common.{AllByRecursion, fold, eq-eqb, le-leb, le-ltb, set_at, fold_push, sum_by_push, Statement, Body, Data, Window, Entry, encoding_of, even_at_most, Parts, assembled, entry_of, image_behind, is_entry, is_free, takes_window, windows_of, with_entry, with_window, size_of, total, addresses_of, ◌≡◌, ℕ, ℤ, pos, zero, suc, ◌+◌, ◌-◌, ◌%◌, ◌<◌, ◌≤◌, ◌&&◌, true, false, is_some, List, [], ◌∷◌, ◌++◌, length, map, get_or, replicate, slice_get, Option, Some, None, Ok, refl, sym, ap, ◌∙◌, arith, append_assoc, length-append, nat_tests}
 use Rattle.std.specs.Int.{from_be_bytes, to_be_bytes, w32}
 use Rattle.std.proofs.lemmas.Nat.{be_bytes_4}
 use Rattle.flat_machine.specs.declared.machine.Window.{Window as Sight}
 use Rattle.asm_parse.specs.declared.statement.Expr.TheVariants.{Number}
-use Rattle.std.proofs.lemmas.Bool.Decides.{nat_tests}
 
 -- a statement without a label
 abbrev pub plain_at : ℕ → Body → Statement

@@ -1,6 +1,5 @@
 -- The label of one statement more.
-use Rattle.romp_asm.proofs.Common.{◌≡◌, ℕ, Bool, true, false, cond, List, Option, Some, None, is_some, refl, sym, ap, ◌∙◌, arith, bytes_eq, Place, Statement, noted, is_labelled}
-use Rattle.std.proofs.lemmas.Slice.Eq.{bytes_eq-Decides}
+use Rattle.romp_asm.proofs.Common.{◌≡◌, ℕ, Bool, true, false, cond, List, Option, Some, None, is_some, refl, sym, ap, ◌∙◌, arith, bytes_eq, Place, Statement, noted, is_labelled, bytes_eq-Decides}
 
 -- a label that had no place gets this one, and the others keep theirs
 pub noted_new : (before : List ℕ → Option Place) (label word : List ℕ) (place : Place) → false ≡ is_some (before label) → cond (bytes_eq label word) (Some place) (before word) ≡ noted (before word) (bytes_eq label word) place

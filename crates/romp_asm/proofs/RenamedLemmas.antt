@@ -1,11 +1,9 @@
 -- A statement whose labels are replaced by other words is read as it was.
-use Rattle.romp_asm.proofs.Common.{◌≡◌, ℕ, ℤ, Bool, List, [], ◌∷◌, map, Option, Result, refl, ap, ◌∙◌, Body, Nothing, Entry, encoding_of, entry_by, fitted, piece_of, with_entry, with_window, size_of, renamed_body, renamed_expr, renamed_operand, known_before, known_of, knowns_of, value_of}
+use Rattle.romp_asm.proofs.Common.{◌≡◌, ℕ, ℤ, Bool, List, [], ◌∷◌, map, Option, Result, refl, ap, ◌∙◌, Body, Nothing, Entry, encoding_of, entry_by, fitted, piece_of, with_entry, with_window, size_of, renamed_body, renamed_expr, renamed_operand, known_before, known_of, knowns_of, value_of, nat_tests, arith}
 use Rattle.flat_machine.specs.declared.machine.Window.{Window as Sight}
 use Rattle.asm_parse.specs.declared.statement.Operand.{Operand}
 use Rattle.asm_parse.specs.declared.statement.Expr.{Expr}
 use Rattle.asm_parse.specs.declared.statement.Expr.TheVariants as expr
-use Rattle.std.proofs.lemmas.Bool.Decides.{nat_tests}
-use Rattle.std.proofs.Common.{arith}
 
 module _ (addresses : List ℕ → Option ℤ) (name : List ℕ → List ℕ) where
   abbrev by_name : List ℕ → Option ℤ

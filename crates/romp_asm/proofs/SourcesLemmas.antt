@@ -1,6 +1,5 @@
 -- Where the labels of several sources stand.
-use Rattle.romp_asm.proofs.Common.{◌≡◌, inl, inr, ℕ, ℤ, pos, zero, suc, ◌+◌, ◌<◌, ◌≤◌, Bool, true, false, is_some, cond, List, [], ◌∷◌, ◌++◌, length, map, take, drop, get_or, sum_by, unwrap_or, replicate, Option, Some, None, Result, Ok, Err, refl, sym, ap, subst, ◌∙◌, arith, append-nil, append_assoc, length-append, list_any, option_map, option_map_or, option_or, fun_ext, drop-cons, cases_lt, nat_tests, drop_all, get_or_push, get_or_append_left, get_or_default, get_or-map, take-append-le, take_all, take_more, take-map, map-append, length-map, length-take-le, fold_push, sum_by-append, sum_by-cons, Statement, Place, Scope, Table, addresses_in, found_in, given_in, repeated_in, stands_before, AreAlone, AreTables, IsTable, AreReadAs, IsReadAs, assembled, entry_of, has_label_of, image_behind, piece_before, piece_of, windows_of, with_entry, with_image, with_window, size_of, total, defines, joined_from, meant, name_in, named, renamed_body, address_from, address_of, addresses_of, is_labelled}
-use Rattle.std.specs.Prelude.{if◌then◌else◌, option_and_then, slice_get}
+use Rattle.romp_asm.proofs.Common.{◌≡◌, inl, inr, ℕ, ℤ, pos, zero, suc, ◌+◌, ◌<◌, ◌≤◌, Bool, true, false, is_some, cond, List, [], ◌∷◌, ◌++◌, length, map, take, drop, get_or, sum_by, unwrap_or, replicate, Option, Some, None, Result, Ok, Err, refl, sym, ap, subst, ◌∙◌, arith, append-nil, append_assoc, length-append, list_any, option_map, option_map_or, option_or, fun_ext, drop-cons, cases_lt, nat_tests, drop_all, get_or_push, get_or_append_left, get_or_default, get_or-map, take-append-le, take_all, take_more, take-map, map-append, length-map, length-take-le, fold_push, sum_by-append, sum_by-cons, Statement, Place, Scope, Table, addresses_in, found_in, given_in, repeated_in, stands_before, AreAlone, AreTables, IsTable, AreReadAs, IsReadAs, assembled, entry_of, has_label_of, image_behind, piece_before, piece_of, windows_of, with_entry, with_image, with_window, size_of, total, defines, joined_from, meant, name_in, named, renamed_body, address_from, address_of, addresses_of, is_labelled, if◌then◌else◌, option_and_then, slice_get}
 use Rattle.std.proofs.lemmas.Option.{slice_get-get_or, slice_get_past}
 use Rattle.romp_asm.proofs.LayoutLemmas.{address_same, among_first}
 use Rattle.romp_asm.proofs.RenamedLemmas.{entry_renamed, piece_renamed, size_renamed, window_renamed}

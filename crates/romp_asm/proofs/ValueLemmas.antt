@@ -1,6 +1,5 @@
 -- Labels and values, as they are collected one after the other.
-use Rattle.romp_asm.proofs.Common.{ints, take_more, sum_by-cons, sum_by_push, Statement, Place, noted, place_from, size_of, total, is_labelled}
-use Rattle.std.proofs.Common.{◌≡◌, ℕ, pos, suc, ◌+◌, ◌^◌, ◌<◌, Bool, true, false, cond, List, [], ◌∷◌, ◌++◌, length, take, get_or, Option, Some, None, Result, Ok, Err, min, refl, arith, length-take-le, to_z, w64}
+use Rattle.romp_asm.proofs.Common.{ints, take_more, sum_by-cons, sum_by_push, Statement, Place, noted, place_from, size_of, total, is_labelled, ◌≡◌, ℕ, pos, suc, ◌+◌, ◌^◌, ◌<◌, Bool, true, false, cond, List, [], ◌∷◌, ◌++◌, length, take, get_or, Option, Some, None, Result, Ok, Err, min, refl, arith, length-take-le, to_z, w64}
 use Rattle.romp_asm.specs.declared.value.Known.{Known}
 
 -- operands behind those that were read, of which some may have had no value

@@ -1,6 +1,5 @@
 -- The windows of a program that was assembled.
-use Rattle.romp_asm.proofs.Common.{AllByRecursion, fold, nat_tests, Statement, Body, encoding_of, Parts, assembled, entry_of, fitted, has_label_of, image_behind, is_entry, piece_before, piece_of, takes_window, windows_of, with_window, size_of, total, addresses_of}
-use Rattle.std.proofs.Common.{◌≡◌, ℕ, zero, suc, ◌+◌, ◌&&◌, ◌||◌, nat_lt, if◌then◌else◌, Bool, true, false, is_some, List, [], ◌∷◌, ◌++◌, length, replicate, slice_set, Option, None, Result, Ok, Err, refl, arith, append_assoc, append-nil, length-set}
+use Rattle.romp_asm.proofs.Common.{AllByRecursion, fold, nat_tests, Statement, Body, encoding_of, Parts, assembled, entry_of, fitted, has_label_of, image_behind, is_entry, piece_before, piece_of, takes_window, windows_of, with_window, size_of, total, addresses_of, ◌≡◌, ℕ, zero, suc, ◌+◌, ◌&&◌, ◌||◌, nat_lt, if◌then◌else◌, Bool, true, false, is_some, List, [], ◌∷◌, ◌++◌, length, replicate, slice_set, Option, None, Result, Ok, Err, refl, arith, append_assoc, append-nil, length-set}
 use Rattle.flat_machine.specs.declared.machine.Window.{Window as Sight}
 use Rattle.romp_asm.proofs.MadeLemmas.{IsLegalPlace, windows_push}
 

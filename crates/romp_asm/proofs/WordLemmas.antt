@@ -1,12 +1,8 @@
 -- A table after a word was put into it.
-use Rattle.romp_asm.proofs.Common.{◌≡◌, ℕ, Bool, cond, List, Option, refl, ap, ◌∙◌, arith, bytes_eq, BTreeMap, found_in}
-use Rattle.std.proofs.lemmas.Bool.Decides.{nat_tests}
-use Rattle.std.proofs.lemmas.Slice.Eq.{bytes_eq-Decides}
+use Rattle.romp_asm.proofs.Common.{◌≡◌, ℕ, Bool, cond, List, Option, refl, ap, ◌∙◌, arith, bytes_eq, BTreeMap, found_in, nat_tests, bytes_eq-Decides, UpdatesBy, get_by, LabelKey, word_number}
 use Rattle.std.proofs.lemmas.Map.Text.{is_eq-slice_cmp}
-use Rattle.std.specs.BTreeMap.{UpdatesBy, get_by}
 use Rattle.std.specs.Cmp.Lexicographic.{slice_cmp}
 use Rattle.std.specs.Ordering.{is_eq, nat_cmp, ordering_then}
-use Rattle.romp_asm.specs.Labels.{LabelKey, word_number}
 
 -- two words are the same in a table exactly where their bytes are
 same_word : (word other : List ℕ) → is_eq (ordering_then (nat_cmp (word_number word) (word_number other)) (slice_cmp nat_cmp word other)) ≡ bytes_eq word other

@@ -1,14 +1,14 @@
 -- The names that most proofs cite, passed on from one place. Declares nothing.
-pub use Rattle.std.proofs.Common.{ap, arith, inl, inr, subst, sym, ◌∙◌}
+pub use Rattle.std.proofs.Common.{ap, arith, inl, inr, subst, sym, ◌∙◌, get_or, ◌≢◌}
 pub use Rattle.std.proofs.Math.ListN.{get_or-map}
 pub use Rattle.std.proofs.lemmas.Bool.{cases_lt, leb-true}
 pub use Rattle.std.proofs.lemmas.Bool.Decides.{nat_tests}
 pub use Rattle.std.proofs.lemmas.List.{get_or-drop, get_or-take, length-append, length-drop, length-map, length-take}
 pub use Rattle.std.proofs.lemmas.List.FromFn.{fill_by_all, get_or-map-range_with_len, length-map-range_with_len}
 pub use Rattle.std.specs.Option.{option_map_or, option_or}
-pub use Rattle.std.specs.Prelude.{All, Bool, Err, IsTrue, List, None, Ok, Option, Result, Some, [], cond, false, find, nat_le, nat_lt, not, option_map, refl, slice_index, slice_index_or, suc, true, zero, ℕ, ◌%◌, ◌&&◌, ◌+◌, ◌/◌, ◌<◌, ◌==◌, ◌^◌, ◌||◌, ◌∷◌, ◌≡◌, ◌≤◌}
+pub use Rattle.std.specs.Prelude.{All, Bool, Err, IsTrue, List, None, Ok, Option, Result, Some, [], cond, false, find, nat_le, nat_lt, not, option_map, refl, slice_index, slice_index_or, suc, true, zero, ℕ, ◌%◌, ◌&&◌, ◌+◌, ◌/◌, ◌<◌, ◌==◌, ◌^◌, ◌||◌, ◌∷◌, ◌≡◌, ◌≤◌, length, slice_range, ◌++◌}
 pub use Rattle.byteorder.specs.Endian.{big_bytes, big_number}
-pub use Rattle.flat_machine.specs.Pending.{IsSoundPending, StaysIfWanting, planned}
+pub use Rattle.flat_machine.specs.Pending.{IsSoundPending, StaysIfWanting, planned, StaysIfPending}
 pub use Rattle.flat_machine.specs.Row.{in_register, in_segment, in_window, plan, stored_bytes}
 pub use Rattle.flat_machine.specs.declared.machine.Act.{Act}
 pub use Rattle.flat_machine.specs.declared.machine.Cs.{Cs}
@@ -32,3 +32,4 @@ pub use Rattle.romp_cpu.specs.declared.cpu.Attempt.{Attempt}
 pub use Rattle.romp_cpu.specs.declared.cpu.Cpu.{Cpu}
 pub use Rattle.romp_cpu.specs.declared.storage.Access.{Access}
 pub use Rattle.romp_cpu.specs.declared.storage.Probe.{Probe}
+pub use Rattle.flat_machine.specs.declared.machine.Pending.{Pending}

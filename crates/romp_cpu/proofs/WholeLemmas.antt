@@ -1,7 +1,5 @@
 -- A store has as many bytes as its access.
-use Rattle.romp_cpu.proofs.Common.{nat_tests, length-take, length-drop, Act, Cs, planned, IsSoundPending, stored_bytes, StoresAll}
-use Rattle.std.proofs.Common.{◌≡◌, ℕ, List, length, arith}
-use Rattle.flat_machine.specs.declared.machine.Pending.{Pending}
+use Rattle.romp_cpu.proofs.Common.{nat_tests, length-take, length-drop, Act, Cs, planned, IsSoundPending, stored_bytes, StoresAll, ◌≡◌, ℕ, List, length, arith, Pending}
 use Rattle.flat_machine.specs.Access.{FitsFrom}
 use Rattle.flat_machine.proofs.Steps.{length-words}
 

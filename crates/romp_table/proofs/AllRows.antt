@@ -1,6 +1,5 @@
 -- An instruction of each of the 85 rows, and its bytes and halfwords in literal numbers.
-use Rattle.romp_table.proofs.Common.{Inst, decoded, row_numbered, encoded, row_of}
-use Rattle.std.specs.Prelude.{◌≡◌, ℕ, refl, ◌+◌, ◌*◌, List, [], ◌∷◌, map, Some, negsuc, pos}
+use Rattle.romp_table.proofs.Common.{Inst, decoded, row_numbered, encoded, row_of, ◌≡◌, ℕ, refl, ◌+◌, ◌*◌, List, [], ◌∷◌, map, Some, negsuc, pos}
 use Rattle.romp_table.specs.declared.inst.Op.TheVariants as Op
 
 -- an instruction, how many bytes it has, and these, filled up with zeros

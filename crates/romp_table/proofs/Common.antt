@@ -1,11 +1,11 @@
 -- The names that most proofs cite, passed on from one place. Declares nothing.
-pub use Rattle.std.proofs.Common.{None, Option, Some, ap, arith, cond, false, refl, rules, subst, sym, take, ℕ, ◌/◌, ◌<◌, ◌^◌, ◌∙◌, ◌≡◌}
+pub use Rattle.std.proofs.Common.{None, Option, Some, ap, arith, cond, false, refl, rules, subst, sym, take, ℕ, ◌/◌, ◌<◌, ◌^◌, ◌∙◌, ◌≡◌, find, get_or, length, suc, zero, zero-add, ℤ, ◌%◌, ◌-◌, ◌≢◌}
 pub use Rattle.std.proofs.lemmas.Bool.Decides.{nat_tests}
 pub use Rattle.std.proofs.lemmas.List.FromFn.{get_or-map-range_with_len, get_or-range_with_len}
-pub use Rattle.std.proofs.lemmas.Option.{slice_get-map}
+pub use Rattle.std.proofs.lemmas.Option.{slice_get-map, get_or_from_slice_get}
 pub use Rattle.std.specs.List.{list_all, position_or_len, range_with_len, slice_get}
 pub use Rattle.std.specs.Option.{option_map, option_map_or}
-pub use Rattle.std.specs.Prelude.{IfNone, IfSome, IsSomeAnd, IsTrue, nat_lt, option_and_then, ◌-ℤ◌}
+pub use Rattle.std.specs.Prelude.{IfNone, IfSome, IsSomeAnd, IsTrue, nat_lt, option_and_then, ◌-ℤ◌, Bool, List, [], is_none, is_some, map, negsuc, pos, slice_index, true, ◌*◌, ◌+◌, ◌==◌, ◌∷◌}
 pub use Rattle.romp_table.specs.Decode.{decoded, has_number, has_uses, if_used, instruction_by, nibble, number_unit, signed}
 unfoldable pub use Rattle.romp_table.specs.Decode.{row_numbered}
 pub use Rattle.romp_table.specs.Encode.{BeginWith, bits_of, bytes_in, bytes_of, encoded, first_of, first_with, number_of, second_of}

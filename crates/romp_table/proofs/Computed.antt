@@ -1,6 +1,5 @@
 -- What the checker computes over the whole table, once.
-use Rattle.romp_table.proofs.Common.{range_with_len, position_or_len, list_all, number_unit, is_row_at, place_of, op_named, mnemonic, slot_of, Format, Row, TABLE, PLACES, NAMES, SLOTS}
-use Rattle.std.specs.Prelude.{◌≡◌, ℕ, ◌+◌, ◌*◌, ◌/◌, ◌^◌, ◌==◌, Bool, true, List, map, refl, Some, nat_lt, slice_index}
+use Rattle.romp_table.proofs.Common.{range_with_len, position_or_len, list_all, number_unit, is_row_at, place_of, op_named, mnemonic, slot_of, Format, Row, TABLE, PLACES, NAMES, SLOTS, ◌≡◌, ℕ, ◌+◌, ◌*◌, ◌/◌, ◌^◌, ◌==◌, Bool, true, List, map, refl, Some, nat_lt, slice_index}
 
 -- how many high bytes a row of this format has
 abbrev pub span : Format → ℕ

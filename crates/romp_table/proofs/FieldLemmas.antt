@@ -1,6 +1,5 @@
 -- The fields of each format, written and read again.
-use Rattle.romp_table.proofs.Common.{number_unit, instruction_by, nibble, HasWidths, op_of, format_of, first_with, second_of, bytes_in, bytes_of, Op, Inst, Format, nat_tests}
-use Rattle.std.proofs.Common.{◌≡◌, ℕ, ◌+◌, ◌*◌, ◌/◌, ◌%◌, ◌^◌, ◌<◌, List, ◌∷◌, [], take, get_or, refl, ap, arith}
+use Rattle.romp_table.proofs.Common.{number_unit, instruction_by, nibble, HasWidths, op_of, format_of, first_with, second_of, bytes_in, bytes_of, Op, Inst, Format, nat_tests, ◌≡◌, ℕ, ◌+◌, ◌*◌, ◌/◌, ◌%◌, ◌^◌, ◌<◌, List, ◌∷◌, [], take, get_or, refl, ap, arith}
 use Rattle.romp_table.proofs.SignLemmas.{bits-signed_8, bits-signed_20, bits_small_8, bits_small_20, signed-bits_8, signed-bits_20}
 
 -- the number of a first halfword is that of its row

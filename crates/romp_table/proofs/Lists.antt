@@ -1,6 +1,5 @@
 -- What a look-up found, and what was computed of each element, in any list.
-use Rattle.romp_table.proofs.Common.{range_with_len, list_all, slice_get, get_or-map-range_with_len, nat_tests}
-use Rattle.std.proofs.Common.{◌≡◌, ℕ, zero, suc, ◌+◌, ◌<◌, Bool, true, false, cond, List, [], ◌∷◌, Option, Some, refl, ap, map, length, find, slice_index, arith}
+use Rattle.romp_table.proofs.Common.{range_with_len, list_all, slice_get, get_or-map-range_with_len, nat_tests, ◌≡◌, ℕ, zero, suc, ◌+◌, ◌<◌, Bool, true, false, cond, List, [], ◌∷◌, Option, Some, refl, ap, map, length, find, slice_index, arith}
 use Rattle.std.proofs.lemmas.Bool.{and_parts}
 
 found_by : {X : Type 0} (p : X → Bool) (y x : X) (rest : Option X) (t : Bool) → p y ≡ t → cond t (Some y) rest ≡ Some x → (rest ≡ Some x → p x ≡ true) → p x ≡ true

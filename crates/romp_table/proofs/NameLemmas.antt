@@ -1,10 +1,7 @@
 -- The mnemonics, from what was computed of them.
-use Rattle.romp_table.proofs.Common.{IfSome, IfNone, slice_get, option_map, slice_get-map, place_of, mnemonic, op_named, slot_of, Op, Row, TABLE, NAMES, SLOTS}
-use Rattle.std.proofs.Common.{◌≡◌, ◌≢◌, ℕ, true, false, List, Option, Some, None, map, sym, ap, ◌∙◌, subst, arith, get_or}
+use Rattle.romp_table.proofs.Common.{IfSome, IfNone, slice_get, option_map, slice_get-map, place_of, mnemonic, op_named, slot_of, Op, Row, TABLE, NAMES, SLOTS, ◌≡◌, ◌≢◌, ℕ, true, false, List, Option, Some, None, map, sym, ap, ◌∙◌, subst, arith, get_or, refl, slice_index, get_or_from_slice_get}
 use Rattle.std.specs.Str.{bytes_eq}
 use Rattle.std.proofs.lemmas.Slice.Eq.{bytes_eq-Decides}
-use Rattle.std.specs.Prelude.{refl, slice_index}
-use Rattle.std.proofs.lemmas.Option.{get_or_from_slice_get}
 use Rattle.romp_table.proofs.Computed.{names_ordered, names_computed, slots_computed}
 use Rattle.romp_table.proofs.Lists.{find_passes, found_within}
 use Rattle.romp_table.proofs.TableLemmas.{place_below, op_at_place}

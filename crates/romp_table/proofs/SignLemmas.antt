@@ -1,6 +1,5 @@
 -- Bits with a sign and without.
-use Rattle.romp_table.proofs.Common.{◌-ℤ◌, nat_lt, nat_tests, signed, IsSigned, bits_of}
-use Rattle.std.proofs.Common.{◌≡◌, ℕ, ℤ, pos, negsuc, suc, ◌-◌, ◌^◌, ◌<◌, Bool, true, false, cond, refl, ap, ◌∙◌, arith}
+use Rattle.romp_table.proofs.Common.{◌-ℤ◌, nat_lt, nat_tests, signed, IsSigned, bits_of, ◌≡◌, ℕ, ℤ, pos, negsuc, suc, ◌-◌, ◌^◌, ◌<◌, Bool, true, false, cond, refl, ap, ◌∙◌, arith}
 use Rattle.std.proofs.lemmas.Int.{ints}
 
 below_zero : (a b : ℕ) → a < b → pos a -ℤ pos b ≡ negsuc (b - suc a)

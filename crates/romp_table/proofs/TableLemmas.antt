@@ -1,6 +1,5 @@
 -- The rules of the table at each row, from what was computed over all rows.
-use Rattle.romp_table.proofs.Common.{nat_tests, get_or-range_with_len, slice_get-map, nat_lt, range_with_len, position_or_len, slice_get, option_map, number_unit, has_number, row_numbered, is_row_at, place_of, row_of, Op, Format, Row, TABLE, PLACES}
-use Rattle.std.proofs.Common.{◌≡◌, ℕ, ◌+◌, ◌*◌, ◌/◌, ◌%◌, ◌^◌, ◌<◌, ◌==◌, true, List, Some, sym, ap, ◌∙◌, map, find, slice_index, zero-add, arith}
+use Rattle.romp_table.proofs.Common.{nat_tests, get_or-range_with_len, slice_get-map, nat_lt, range_with_len, position_or_len, slice_get, option_map, number_unit, has_number, row_numbered, is_row_at, place_of, row_of, Op, Format, Row, TABLE, PLACES, ◌≡◌, ℕ, ◌+◌, ◌*◌, ◌/◌, ◌%◌, ◌^◌, ◌<◌, ◌==◌, true, List, Some, sym, ap, ◌∙◌, map, find, slice_index, zero-add, arith}
 use mathlib.Core.Path.{fun_ext}
 use denote.Enum.Bare.{tag_one}
 use denote.Enum.Declared.{variants}

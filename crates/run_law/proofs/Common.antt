@@ -1,9 +1,9 @@
 -- The names that most proofs cite, passed on from one place. Declares nothing.
-pub use Rattle.std.proofs.Common.{List, [], ap, append-nil, append_assoc, arith, cond, inl, inr, length, length-append, map, min, refl, subst, suc, sym, take, zero, ℕ, ⊎_elim, ◌++◌, ◌+◌, ◌∙◌, ◌∷◌, ◌≡◌, ◌≤◌, ◌⊎◌}
+pub use Rattle.std.proofs.Common.{List, [], ap, append-nil, append_assoc, arith, cond, inl, inr, length, length-append, map, min, refl, subst, suc, sym, take, zero, ℕ, ⊎_elim, ◌++◌, ◌+◌, ◌∙◌, ◌∷◌, ◌≡◌, ◌≤◌, ◌⊎◌, IsTrue, Some, codes, drop, rules, ◌/◌, ◌<◌}
 pub use Rattle.std.proofs.lemmas.List.{map-append, take-append-drop, take-append-le, take_at, take_min}
 pub use Rattle.std.proofs.lemmas.List.Sums.{sum_by-append}
 pub use Rattle.std.specs.List.{flat_map, join_with_byte, list_any, starts_with}
-pub use Rattle.std.specs.Prelude.{Bool, count_by, decimal, false, if◌then◌else◌, nat_eq, nat_lt, not, slice_index, true, ◌%◌, ◌==◌, ◌^◌, ◌||◌}
+pub use Rattle.std.specs.Prelude.{Bool, count_by, decimal, false, if◌then◌else◌, nat_eq, nat_lt, not, slice_index, true, ◌%◌, ◌==◌, ◌^◌, ◌||◌, None, Option, find, slice_get, slice_index_or}
 pub use Rattle.desk.specs.Commits.{IsSerial, begun, is_commit}
 pub use Rattle.desk.specs.Crash.{IsEitherOf, fine_step, standing_of}
 pub use Rattle.desk.specs.Desk.{Desk, Entry, opened, rolled_back, with_entry}
@@ -20,3 +20,4 @@ pub use Rattle.flat_machine.specs.declared.machine.Program.{Program}
 pub use Rattle.store_format.specs.Stands.{Stands}
 unfoldable pub use Rattle.store_format.specs.Stands.{stands}
 pub use Rattle.run_law.specs.Left.{EndsInDoubt, IsLeft, IsStage}
+pub use Rattle.std.proofs.lemmas.Bool.Decides.{nat_tests}

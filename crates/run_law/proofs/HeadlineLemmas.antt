@@ -1,9 +1,6 @@
 -- What a crash leaves of a run from an opening.
-use Rattle.std.proofs.lemmas.Bool.Decides.{nat_tests}
-use Rattle.run_law.proofs.Common.{false, not, Bool, ◌%◌, ◌^◌, take_at, map-append, Program, serial, Stands, Event, begun, IsSerial, stands, standing_of, fine_step, Desk, opened, Word, Fine, Doubt, event_lines, run, step, IsRunOf, OpenBeforeEach, IsStage}
-use Rattle.std.proofs.Common.{◌≡◌, ℕ, ◌+◌, ◌<◌, List, [], ◌∷◌, ◌++◌, length, map, take, refl, sym, ap, ◌∙◌, arith, length-append, append-nil, append_assoc, Some, IsTrue}
+use Rattle.run_law.proofs.Common.{false, not, Bool, ◌%◌, ◌^◌, take_at, map-append, Program, serial, Stands, Event, begun, IsSerial, stands, standing_of, fine_step, Desk, opened, Word, Fine, Doubt, event_lines, run, step, IsRunOf, OpenBeforeEach, IsStage, nat_tests, ◌≡◌, ℕ, ◌+◌, ◌<◌, List, [], ◌∷◌, ◌++◌, length, map, take, refl, sym, ap, ◌∙◌, arith, length-append, append-nil, append_assoc, Some, IsTrue, Activation}
 use Rattle.line_geometry.specs.FlatStore.{FlatStore}
-use Rattle.flat_machine.specs.Serial.{Activation}
 use Rattle.store_format.proofs.Sound.{stood_header}
 use Rattle.desk.proofs.SerialLaw.{run_serial}
 use Rattle.run_law.specs.Headline.{IsFirst, IsPrefix, LeftIsPrefix, DoubtIsWhole}

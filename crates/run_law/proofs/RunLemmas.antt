@@ -1,6 +1,5 @@
 -- Runs, one after another.
-use Rattle.std.proofs.lemmas.Bool.Decides.{nat_tests}
-use Rattle.run_law.proofs.Common.{◌≡◌, ℕ, ◌+◌, List, [], ◌∷◌, ◌++◌, refl, sym, ap, ◌∙◌, append_assoc, cond, not, flat_map, sum_by-append, Program, Event, Desk, Word, run, step, is_fine, faulted, OpenBeforeEach, Line, Open, line_text, number_after, happening_lines, closing_lines, lines_from, report, event_lines, arith}
+use Rattle.run_law.proofs.Common.{◌≡◌, ℕ, ◌+◌, List, [], ◌∷◌, ◌++◌, refl, sym, ap, ◌∙◌, append_assoc, cond, not, flat_map, sum_by-append, Program, Event, Desk, Word, run, step, is_fine, faulted, OpenBeforeEach, Line, Open, line_text, number_after, happening_lines, closing_lines, lines_from, report, event_lines, arith, nat_tests}
 use Rattle.std.proofs.lemmas.Grind.{flat_map-append}
 
 module _ (programs : List Program) where

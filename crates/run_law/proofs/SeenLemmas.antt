@@ -1,7 +1,5 @@
 -- The commits that the bytes of a report tell of, also where it is cut.
-use Rattle.std.proofs.lemmas.Bool.Decides.{nat_tests}
-use Rattle.run_law.proofs.Common.{◌==◌, if◌then◌else◌, count_by, nat_eq, flat_map, starts_with, take-append-drop, sum_by-append, Line, line_text, is_commit, whole_lines, commits_seen, IsUnbroken}
-use Rattle.std.proofs.Common.{◌≡◌, ℕ, ◌+◌, ◌≤◌, Bool, true, false, List, [], ◌∷◌, ◌++◌, take, drop, refl, sym, ap, ◌∙◌, append_assoc, append-nil, cond, codes, arith}
+use Rattle.run_law.proofs.Common.{◌==◌, if◌then◌else◌, count_by, nat_eq, flat_map, starts_with, take-append-drop, sum_by-append, Line, line_text, is_commit, whole_lines, commits_seen, IsUnbroken, nat_tests, ◌≡◌, ℕ, ◌+◌, ◌≤◌, Bool, true, false, List, [], ◌∷◌, ◌++◌, take, drop, refl, sym, ap, ◌∙◌, append_assoc, append-nil, cond, codes, arith}
 use Rattle.run_law.proofs.Unbroken.{unbroken_first, unbroken_rest, body_of, text_is, IsPlain, body-unbroken}
 
 -- whether a line without its line feed is a commit's

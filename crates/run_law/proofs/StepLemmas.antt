@@ -1,7 +1,5 @@
 -- What a step of an open desk does to its order, and the lines that it has.
-use Rattle.std.proofs.lemmas.Bool.Decides.{nat_tests}
-use Rattle.run_law.proofs.Common.{◌≡◌, ℕ, ◌+◌, ◌≤◌, List, [], ◌∷◌, ◌++◌, length, map, refl, sym, ap, ◌∙◌, subst, arith, append-nil, append_assoc, length-append, inl, inr, ⊎_elim, ◌⊎◌, flat_map, Program, Activation, Event, Desk, numbers, Word, Fine, Doubt, Failed, Counts, Ending, Idle, Limit, Victim, Committed, CommitUnwritten, CommitDoubted, Turning, Going, Over, turn, Happening, Nothing, Busy, Turned, Crashed, CrashFailed, Step, event_of, step, turned, run, begins, begin_if, absent_segment, OpenBeforeEach, Line, number_after, happening_lines, turn_lines, ending_lines, cycle_lines, event_lines, IsUnbroken, EndsInDoubt}
-use Rattle.std.specs.Prelude.{Bool, true, false, not, if◌then◌else◌, Some, None, Option, IsTrue, slice_get, slice_index_or, nat_lt}
+use Rattle.run_law.proofs.Common.{◌≡◌, ℕ, ◌+◌, ◌≤◌, List, [], ◌∷◌, ◌++◌, length, map, refl, sym, ap, ◌∙◌, subst, arith, append-nil, append_assoc, length-append, inl, inr, ⊎_elim, ◌⊎◌, flat_map, Program, Activation, Event, Desk, numbers, Word, Fine, Doubt, Failed, Counts, Ending, Idle, Limit, Victim, Committed, CommitUnwritten, CommitDoubted, Turning, Going, Over, turn, Happening, Nothing, Busy, Turned, Crashed, CrashFailed, Step, event_of, step, turned, run, begins, begin_if, absent_segment, OpenBeforeEach, Line, number_after, happening_lines, turn_lines, ending_lines, cycle_lines, event_lines, IsUnbroken, EndsInDoubt, nat_tests, Bool, true, false, not, if◌then◌else◌, Some, None, Option, IsTrue, slice_get, slice_index_or, nat_lt}
 use Rattle.desk.specs.declared.event.Event.TheVariants as event
 use Rattle.desk.specs.Lines as line
 use Rattle.run_law.proofs.SeenLemmas.{ArePlain, plain_on, commits_in, commits_on}

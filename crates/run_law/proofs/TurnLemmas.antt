@@ -1,7 +1,5 @@
 -- What a turn leaves of a desk: whether it is closed, and what its order is.
-use Rattle.std.proofs.lemmas.Bool.Decides.{nat_tests}
-use Rattle.run_law.proofs.Common.{◌≡◌, ℕ, zero, suc, List, [], ◌∷◌, refl, ap, ◌+◌, ◌++◌, Desk, Entry, rolled_back, wanted, conflicts_of, numbers, waits_for, Word, Fine, Unwritten, Doubt, Counts, Ending, Committed, CommitUnwritten, CommitDoubted, Turning, Going, Over, Attempt, Contest, Contested, Settled, Lost, Fetching, Fetched, Broken, commits, takes_effect, goes_on, gets, with_grants, fetches_touched, breaks_cycle, breaks_cycles, waits_or_gets, contest_ends, asks, fetched_first, limited, is_over_limit, attempts, attempts_at, instruction, turns, turn, arith}
-use Rattle.std.specs.Prelude.{Bool, true, false, Option, Some, None, find, ◌==◌}
+use Rattle.run_law.proofs.Common.{◌≡◌, ℕ, zero, suc, List, [], ◌∷◌, refl, ap, ◌+◌, ◌++◌, Desk, Entry, rolled_back, wanted, conflicts_of, numbers, waits_for, Word, Fine, Unwritten, Doubt, Counts, Ending, Committed, CommitUnwritten, CommitDoubted, Turning, Going, Over, Attempt, Contest, Contested, Settled, Lost, Fetching, Fetched, Broken, commits, takes_effect, goes_on, gets, with_grants, fetches_touched, breaks_cycle, breaks_cycles, waits_or_gets, contest_ends, asks, fetched_first, limited, is_over_limit, attempts, attempts_at, instruction, turns, turn, arith, nat_tests, Bool, true, false, Option, Some, None, find, ◌==◌}
 use Rattle.lock_rules.specs.Waits.{shown_cycle}
 use Rattle.flat_machine.specs.declared.machine.Plain.{Plain}
 use Rattle.flat_machine.specs.Row.{Outcome, Commit, Check, row}

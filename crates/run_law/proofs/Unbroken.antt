@@ -1,7 +1,5 @@
 -- Bytes without a line feed, and the lines of a report.
-use Rattle.std.proofs.lemmas.Bool.Decides.{nat_tests}
-use Rattle.run_law.proofs.Common.{◌==◌, ◌||◌, if◌then◌else◌, slice_index, decimal, list_any, join_with_byte, Line, line_text, printed, IsUnbroken}
-use Rattle.std.proofs.Common.{◌≡◌, ℕ, zero, suc, ◌/◌, ◌%◌, Bool, true, false, List, [], ◌∷◌, ◌++◌, map, refl, codes, arith, rules}
+use Rattle.run_law.proofs.Common.{◌==◌, ◌||◌, if◌then◌else◌, slice_index, decimal, list_any, join_with_byte, Line, line_text, printed, IsUnbroken, nat_tests, ◌≡◌, ℕ, zero, suc, ◌/◌, ◌%◌, Bool, true, false, List, [], ◌∷◌, ◌++◌, map, refl, codes, arith, rules}
 use Rattle.std.specs.Fmt.{digits, digits_onto, digit_glyph}
 use Rattle.byteorder.specs.Endian.{big_bytes}
 use Rattle.hex.specs.Hex.{encode_with, encode_lower, lower_digits}

@@ -1,6 +1,6 @@
 -- The names that most proofs cite, passed on from one place. Declares nothing.
 pub use Rattle.std.proofs.Common.{IsSome, IsTrue, List, [], ap, append-nil, append_assoc, arith, cond, drop, get_or, inl, inr, length, length-append, map, min, refl, rules, subst, suc, sym, take, zero, ℕ, ⊎_elim, ◌*◌, ◌++◌, ◌+◌, ◌<◌, ◌∙◌, ◌∷◌, ◌≡◌, ◌≢◌, ◌≤◌, ◌⊎◌}
-pub use Rattle.std.proofs.lemmas.Grind.{flat_map-append}
+pub use Rattle.std.proofs.lemmas.Grind.{flat_map-append, common_steps}
 pub use Rattle.std.proofs.lemmas.List.{length-map, map-append, take-append-drop, take-append-le, take_all, take_min, take_more}
 pub use Rattle.std.proofs.lemmas.List.Sums.{fold-append, sum_by-append}
 pub use Rattle.std.specs.List.{flat_map, fold}
@@ -16,7 +16,7 @@ pub use Rattle.desk.specs.Instruction.{Counts, Doubt, Ending, Fine, Word}
 pub use Rattle.desk.specs.Kept.{HoldsStore, IsDamage, Journal, JournalAfter, KeepsJournal, StillTold, WritesMore, journal_emptied, journal_in, journal_with, tells_fault, turn_fails, writes_due}
 pub use Rattle.desk.specs.Lines.{End, Left, Line, Lost, Open, line_text}
 pub use Rattle.desk.specs.Report.{closing_lines, cycle_lines, ending_lines, event_lines, happening_lines, number_after, report, turn_lines}
-pub use Rattle.desk.specs.Run.{Happening, OpenBeforeEach, Step, faulted, run, step}
+pub use Rattle.desk.specs.Run.{Happening, OpenBeforeEach, Step, faulted, run, step, CrashFailed, Crashed, Turned}
 pub use Rattle.desk.specs.Seen.{IsUnbroken, commits_seen}
 pub use Rattle.desk.specs.declared.answers.Begun.{Begun}
 pub use Rattle.desk.specs.declared.answers.Cycle.{Cycle}
@@ -56,3 +56,5 @@ pub use Rattle.schedule_replay.specs.Ran.{HasOpened, InDoubt, PrintsEarlier, Ran
 pub use Rattle.schedule_replay.specs.RanTo.{RanTo}
 pub use Rattle.schedule_replay.specs.Replays.{RanSome, Reports, WentBy, going_begun, going_by, going_if, is_closed, is_damaged}
 pub use Rattle.schedule_replay.specs.declared.events.Going.{Going}
+pub use Rattle.std.proofs.lemmas.Bool.Decides.{nat_tests}
+pub use Rattle.std.specs.Result.{result_and}

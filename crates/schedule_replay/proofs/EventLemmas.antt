@@ -1,7 +1,5 @@
 -- What one event keeps, how it goes on, and the numbers in its lines.
-use Rattle.std.proofs.lemmas.Bool.Decides.{nat_tests}
-use Rattle.schedule_replay.proofs.Common.{◌≡◌, ℕ, ◌+◌, ◌*◌, ◌≤◌, List, [], ◌∷◌, refl, sym, ap, ◌∙◌, subst, arith, true, false, Bool, Option, Result, Ok, Err, IfOk, Failed, Ghosts, IsSure, OnlyAsks, FewerLater, held_of, leaves_held, Program, stands, Event, Begun, Turn, TurnEnd, Stored, Reopened, begun_told, turn_told, stored_told, reopened_told, turn_closes, turn_fails, stored_closes, stored_fails, reopened_closes, reopened_fails, HasNumbers, StoredNumber, IsReopened, Did, standing_of, Desk, numbers, Fine, CallsStore, FailsCounted, Fixed, StaysShut, HoldsStore, IsDamage, WritesMore, writes_due, Line, happening_lines, number_after, step, AreNames, Answered, GoesBy, Going, begins_in, turns_in, Puts, number_told, stored_number, reopened_number, WasStep, WentBy, going_if, going_begun, going_by, is_closed, is_damaged}
-use Rattle.std.specs.Result.{result_and}
+use Rattle.schedule_replay.proofs.Common.{◌≡◌, ℕ, ◌+◌, ◌*◌, ◌≤◌, List, [], ◌∷◌, refl, sym, ap, ◌∙◌, subst, arith, true, false, Bool, Option, Result, Ok, Err, IfOk, Failed, Ghosts, IsSure, OnlyAsks, FewerLater, held_of, leaves_held, Program, stands, Event, Begun, Turn, TurnEnd, Stored, Reopened, begun_told, turn_told, stored_told, reopened_told, turn_closes, turn_fails, stored_closes, stored_fails, reopened_closes, reopened_fails, HasNumbers, StoredNumber, IsReopened, Did, standing_of, Desk, numbers, Fine, CallsStore, FailsCounted, Fixed, StaysShut, HoldsStore, IsDamage, WritesMore, writes_due, Line, happening_lines, number_after, step, AreNames, Answered, GoesBy, Going, begins_in, turns_in, Puts, number_told, stored_number, reopened_number, WasStep, WentBy, going_if, going_begun, going_by, is_closed, is_damaged, nat_tests, result_and}
 use Rattle.desk.specs.declared.event.Event.TheVariants as event
 use Rattle.desk.specs.declared.answers.Begun.TheVariants as begun
 use Rattle.desk.specs.declared.answers.TurnEnd.TheVariants as end

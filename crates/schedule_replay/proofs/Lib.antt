@@ -9,3 +9,4 @@ pub mod AnsweredLemmas
 pub mod RanLemmas
 pub mod ReportLemmas
 pub mod QuietLemmas
+pub mod Lemmas

@@ -1,7 +1,5 @@
 -- What runs leave, one after another.
-use Rattle.std.proofs.lemmas.Bool.Decides.{nat_tests}
-use Rattle.schedule_replay.proofs.Common.{◌≡◌, ℕ, ◌+◌, ◌*◌, ◌≤◌, ◌⊎◌, List, [], ◌∷◌, ◌++◌, sym, ap, ◌∙◌, subst, arith, ⊎_elim, false, Option, unwrap_or, Ghosts, Rose, RoseBy, IsSure, held_of, Program, Event, Desk, KeepsJournal, WritesMore, journal_in, Line, number_after, faulted, commits_in, commits_on, RanTo, WasStep}
-use Rattle.desk.specs.Instruction.{Word, Fine}
+use Rattle.schedule_replay.proofs.Common.{◌≡◌, ℕ, ◌+◌, ◌*◌, ◌≤◌, ◌⊎◌, List, [], ◌∷◌, ◌++◌, sym, ap, ◌∙◌, subst, arith, ⊎_elim, false, Option, unwrap_or, Ghosts, Rose, RoseBy, IsSure, held_of, Program, Event, Desk, KeepsJournal, WritesMore, journal_in, Line, number_after, faulted, commits_in, commits_on, RanTo, WasStep, nat_tests, Word, Fine}
 use Rattle.desk.specs.declared.supervisor.Supervisor as desk
 use Rattle.schedule_replay.proofs.CountLemmas.{faults_in, faults_front, faults_behind, happened_keep, journal_on}
 use Rattle.schedule_replay.proofs.WriteLemmas.{writes_on}

@@ -1,6 +1,5 @@
 -- The bits of seats that pass a test, one by one.
-use Rattle.seats.proofs.Common.{arith, ap, sym, ◌∙◌, lt-ltb, le-ltb, bits_of_seats, is_on, marked, unmarked}
-use Rattle.std.specs.Prelude.{◌≡◌, refl, ℕ, zero, suc, ◌+◌, ◌<◌, ◌≤◌, ◌&&◌, nat_lt, Bool, true, false}
+use Rattle.seats.proofs.Common.{arith, ap, sym, ◌∙◌, lt-ltb, le-ltb, bits_of_seats, is_on, marked, unmarked, ◌≡◌, refl, ℕ, zero, suc, ◌+◌, ◌<◌, ◌≤◌, ◌&&◌, nat_lt, Bool, true, false}
 use Rattle.line_geometry.specs.LineSets.{passing}
 use Rattle.line_locks.proofs.SeatLemmas.{seats-start, seat-on, seat-off}
 use Rattle.wait_cycles.proofs.Bits.{on-none}

@@ -1,5 +1,5 @@
 -- The names that most proofs cite, passed on from one place. Declares nothing.
-pub use Rattle.std.proofs.Common.{Bool, ap, arith, false, get_or, get_or-set_other, get_or-set_same, inl, inr, length, map, replicate, subst, sym, take, ℕ, ◌<◌, ◌∙◌, ◌≡◌}
+pub use Rattle.std.proofs.Common.{Bool, ap, arith, false, get_or, get_or-set_other, get_or-set_same, inl, inr, length, map, replicate, subst, sym, take, ℕ, ◌<◌, ◌∙◌, ◌≡◌, append-nil, drop, rules, set, take_all, ◌++◌, ◌-◌}
 pub use Rattle.std.proofs.lemmas.Bool.{and_cases, and_parts, both_ways, cases_eq, cases_lt, cond-false, eq-eqb, eqb-false, eqb-true, le-ltb, lt-ltb, ltb-true, ne_eqb, not-false, not-true, not_from_false, or_cases, or_left, or_parts, or_right}
 pub use Rattle.std.proofs.lemmas.List.{drop_more, get_or_append_left, get_or_default, get_or_push, length-replicate, length-set, map-append, same_lists, take_more}
 pub use Rattle.std.proofs.lemmas.List.Elements.{All-filter, All-get_or, All-head, All-push, All-set, All-tail, filter_more}
@@ -22,3 +22,4 @@ pub use Rattle.seats.specs.Waiting.{AreOfPage, cycle_of, holders, seat_at, seat_
 pub use Rattle.seats.specs.declared.seat.Seat.{Seat}
 pub use Rattle.std.proofs.lemmas.Bool.Decides.{nat_tests}
 pub use Rattle.std.proofs.lemmas.Grind.{common_steps}
+pub use Rattle.std.specs.Prelude.{All, List, None, Option, Some, [], cond, filter, find, nat_le, nat_lt, not, refl, slice_index_or, suc, true, zero, ◌&&◌, ◌+◌, ◌==◌, ◌∷◌, ◌≤◌}

@@ -4,3 +4,4 @@ pub mod Kept
 pub mod Places
 pub mod Numbers
 mod Bits
+pub mod Lemmas

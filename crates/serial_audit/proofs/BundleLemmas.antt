@@ -1,6 +1,5 @@
 -- The first line of a bundle.
-use Rattle.std.proofs.lemmas.Bool.Decides.{nat_tests}
-use Rattle.serial_audit.proofs.Common.{◌≡◌, ℕ, ◌+◌, ◌≤◌, List, [], ◌∷◌, ◌++◌, length, take, drop, codes, decimal, position, Some, None, append_assoc, length-append, arith, AllByRecursion, join_with_byte, length-drop, length-take, take_at, take-append-drop, feed_of_words, AreAllowed, HasHead, Sizes, head_text, head_words}
+use Rattle.serial_audit.proofs.Common.{◌≡◌, ℕ, ◌+◌, ◌≤◌, List, [], ◌∷◌, ◌++◌, length, take, drop, codes, decimal, position, Some, None, append_assoc, length-append, arith, AllByRecursion, join_with_byte, length-drop, length-take, take_at, take-append-drop, feed_of_words, AreAllowed, HasHead, Sizes, head_text, head_words, nat_tests}
 use Rattle.report_text.specs.Words.{IsOneWord, is_feed}
 use Rattle.report_text.proofs.PartLemmas.{number_word}
 

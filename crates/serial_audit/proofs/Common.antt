@@ -1,7 +1,7 @@
 -- The names that most proofs cite, passed on from one place. Declares nothing.
 pub use Rattle.std.proofs.Common.{Bool, Decides, IsTrue, List, MatchOption, None, Option, Some, [], add-one, add-zero, ap, append-nil, append_assoc, arith, codes, decimal, drop, drop-cons, eq-eqb, eqb, eqb-true, false, get_or, inl, inr, length, length-append, map, min, ne_eqb, option_and_then, option_map, position, refl, rules, set, slice_get, subst, suc, sum, sym, take, true, zero, zero-add, ℕ, ◌%◌, ◌&&◌, ◌++◌, ◌+◌, ◌-◌, ◌<◌, ◌==◌, ◌^◌, ◌||◌, ◌↔◌, ◌∙◌, ◌∷◌, ◌≡◌, ◌≢◌, ◌≤◌, ◌⊎◌}
 pub use Rattle.std.proofs.lemmas.Bool.{eqb-false}
-pub use Rattle.std.proofs.lemmas.Bool.Decides.{Decides-and, Decides-eqb}
+pub use Rattle.std.proofs.lemmas.Bool.Decides.{Decides-and, Decides-eqb, nat_tests}
 pub use Rattle.std.proofs.lemmas.List.{get_or-set_same, length-drop, length-set, length-take, map-append, take-append-drop, take_at, take_more, with_items_is}
 pub use Rattle.std.proofs.lemmas.Option.{option_and_then_some, slice_get-get_or, slice_get_past, slice_get_within}
 pub use Rattle.std.proofs.lemmas.Slice.Eq.{slice_eq-Decides}
@@ -25,3 +25,4 @@ pub use Rattle.serial_audit.specs.Index.{IsEntry, IsFresh, IsIndex, activation_i
 pub use Rattle.serial_audit.specs.Lengths.{sizes_of}
 pub use Rattle.serial_audit.specs.Progress.{IsTaken, MayFollow, Replays, Stands}
 pub use Rattle.serial_audit.specs.declared.index.Entry.{Entry}
+pub use Rattle.std.proofs.lemmas.Grind.{common_steps}

@@ -6,3 +6,4 @@ pub mod OneLemmas
 pub mod RowLemmas
 pub mod SameLemmas
 pub mod VerdictLemmas
+pub mod Lemmas

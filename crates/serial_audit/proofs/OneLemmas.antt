@@ -1,6 +1,5 @@
 -- A bundle has one splitting.
-use Rattle.std.proofs.lemmas.Bool.Decides.{nat_tests}
-use Rattle.serial_audit.proofs.Common.{◌≡◌, ℕ, List, ◌∷◌, ◌++◌, codes, decimal, inl, inr, append_assoc, arith, HasHead, HasOneSplitting, IsBundle, IsWrongAt, Sizes, head_text}
+use Rattle.serial_audit.proofs.Common.{◌≡◌, ℕ, List, ◌∷◌, ◌++◌, codes, decimal, inl, inr, append_assoc, arith, HasHead, HasOneSplitting, IsBundle, IsWrongAt, Sizes, head_text, nat_tests}
 use Rattle.text_line.proofs.Words.{same_number}
 use Rattle.serial_audit.specs.declared.bundle.Bundle.{Bundle}
 

@@ -1,6 +1,5 @@
 -- Equal directories.
-use Rattle.std.proofs.lemmas.Bool.Decides.{nat_tests}
-use Rattle.serial_audit.proofs.Common.{◌≡◌, ℕ, ◌==◌, ◌&&◌, Decides, Layout, arith}
+use Rattle.serial_audit.proofs.Common.{◌≡◌, ℕ, ◌==◌, ◌&&◌, Decides, Layout, arith, nat_tests}
 
 -- pairs are the same where their parts are
 pub pair_decides : (a b : ℕ × ℕ) → Decides ((a.0 == b.0) && (a.1 == b.1)) (a ≡ b)

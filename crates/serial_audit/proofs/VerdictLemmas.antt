@@ -1,6 +1,5 @@
 -- Commit lines one after another, and whether they are sound.
-use Rattle.std.proofs.lemmas.Bool.Decides.{nat_tests}
-use Rattle.serial_audit.proofs.Common.{◌≡◌, ℕ, ◌+◌, ◌%◌, ◌^◌, ◌<◌, ◌≤◌, Bool, true, false, List, [], ◌∷◌, ◌++◌, length, map, take, drop, get_or, slice_get, Option, Some, None, option_and_then, ◌⊎◌, inl, inr, refl, sym, ◌∙◌, ap, length-append, add-one, drop-cons, arith, map-append, take-append-drop, take_more, option_and_then_some, Layout, FlatStore, Plain, Activation, before_commit, committing, numbered, serial, Job, Entry, AreSound, IsSound, Told, activations_of, commits_told, flat_of, pair_of, report_told, steps_allowed, told_before, IsIndex, activation_in, IsTaken, MayFollow, Replays, Stands}
+use Rattle.serial_audit.proofs.Common.{◌≡◌, ℕ, ◌+◌, ◌%◌, ◌^◌, ◌<◌, ◌≤◌, Bool, true, false, List, [], ◌∷◌, ◌++◌, length, map, take, drop, get_or, slice_get, Option, Some, None, option_and_then, ◌⊎◌, inl, inr, refl, sym, ◌∙◌, ap, length-append, add-one, drop-cons, arith, map-append, take-append-drop, take_more, option_and_then_some, Layout, FlatStore, Plain, Activation, before_commit, committing, numbered, serial, Job, Entry, AreSound, IsSound, Told, activations_of, commits_told, flat_of, pair_of, report_told, steps_allowed, told_before, IsIndex, activation_in, IsTaken, MayFollow, Replays, Stands, nat_tests}
 use Rattle.desk.specs.Lines.{Line}
 use Rattle.report_text.specs.declared.owned.OwnedLine.{OwnedLine}
 use Rattle.report_text.specs.ReadLines.{owned_told}

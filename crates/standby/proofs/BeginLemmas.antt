@@ -1,7 +1,6 @@
 -- The lines of a record of a text.
-use Rattle.standby.proofs.Common.{◌≡◌, ℕ, zero, suc, ◌+◌, ◌-◌, ◌*◌, ◌/◌, ◌<◌, ◌≤◌, List, [], ◌∷◌, length, take, drop, get_or, refl, sym, ap, arith, All, drop-drop, PageSize, RecordLine, record_bytes, entry_bytes, ShipLine, AreLines, parted, told}
+use Rattle.standby.proofs.Common.{◌≡◌, ℕ, zero, suc, ◌+◌, ◌-◌, ◌*◌, ◌/◌, ◌<◌, ◌≤◌, List, [], ◌∷◌, length, take, drop, get_or, refl, sym, ap, arith, All, drop-drop, PageSize, RecordLine, record_bytes, entry_bytes, ShipLine, AreLines, parted, told, nat_tests}
 use Rattle.line_geometry.specs.declared.directory.PageSize.TheVariants.{Two, Four}
-use Rattle.std.proofs.lemmas.Bool.Decides.{nat_tests}
 
 pub length-parted : (bytes : ℕ) (lines all : List ℕ) → length (parted bytes lines all) ≡ length lines
 length-parted bytes [] all = refl

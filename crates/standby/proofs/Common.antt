@@ -1,15 +1,15 @@
 -- The names that most proofs cite, passed on from one place. Declares nothing.
-pub use Rattle.std.proofs.Common.{IsSome, IsTrue, List, [], ap, append-nil, append_assoc, arith, codes, decimal, drop, get_or, inl, inr, length, length-append, map, min, refl, subst, suc, sym, take, zero, ℕ, ⊎_elim, ◌*◌, ◌++◌, ◌+◌, ◌-◌, ◌/◌, ◌<◌, ◌^◌, ◌∙◌, ◌∷◌, ◌≡◌, ◌≢◌, ◌≤◌, ◌⊎◌}
+pub use Rattle.std.proofs.Common.{IsSome, IsTrue, List, [], ap, append-nil, append_assoc, arith, codes, decimal, drop, get_or, inl, inr, length, length-append, map, min, refl, subst, suc, sym, take, zero, ℕ, ⊎_elim, ◌*◌, ◌++◌, ◌+◌, ◌-◌, ◌/◌, ◌<◌, ◌^◌, ◌∙◌, ◌∷◌, ◌≡◌, ◌≢◌, ◌≤◌, ◌⊎◌, Bool, cond, false, nat_le, nat_lt, not, position, true, ◌%◌, ◌&&◌, ◌==◌}
 pub use Rattle.std.proofs.lemmas.Bool.{cases_lt, lt-ltb}
-pub use Rattle.std.proofs.lemmas.Bool.Decides.{nat_tests}
-pub use Rattle.std.proofs.lemmas.Grind.{common_steps, flat_map-append}
+pub use Rattle.std.proofs.lemmas.Bool.Decides.{nat_tests, Decides-eqb}
+pub use Rattle.std.proofs.lemmas.Grind.{common_steps, flat_map-append, elements}
 pub use Rattle.std.proofs.lemmas.List.{drop-append-le, drop-drop, drop-map, drop_at, get_or-drop, get_or-map, length-drop, length-map, length-take-le, map-append, take-append-drop, take-append-le, take_all, take_at, take_min, take_more, take_rest}
-pub use Rattle.std.proofs.lemmas.List.Elements.{All-drop, All-from_recursion, All-get_or, All-map, All-more, All-push, recursion_from_All}
+pub use Rattle.std.proofs.lemmas.List.Elements.{All-drop, All-from_recursion, All-get_or, All-map, All-more, All-push, recursion_from_All, All-from_get_or}
 pub use Rattle.std.proofs.lemmas.List.Sums.{AllPass-from_list_all, fold-append, sum_by-append}
 pub use Rattle.std.proofs.lemmas.Option.{IfSome_then, get_or_from_slice_get, slice_get-get_or, slice_get-map, slice_get_read}
 pub use Rattle.std.specs.List.{AllByRecursion, prefix_len}
 pub use Rattle.std.specs.Option.{ForSome, option_map}
-pub use Rattle.std.specs.Prelude.{All, Err, IfSome, MatchOption, None, Ok, OnErr, OnOk, Option, Result, Some, if◌then◌else◌, slice_get, slice_index, unwrap_or}
+pub use Rattle.std.specs.Prelude.{All, Err, IfSome, MatchOption, None, Ok, OnErr, OnOk, Option, Result, Some, if◌then◌else◌, slice_get, slice_index, unwrap_or, fold}
 pub use Rattle.hex.proofs.HexLemmas.{decode_of-encode_lower, length-encode_with}
 pub use Rattle.hex.specs.Hex.{decode_of, encode_lower, lower_digits}
 pub use Rattle.line_geometry.specs.Directory.{Layout}
@@ -26,7 +26,7 @@ pub use Rattle.outside.specs.Durable.{IsSure}
 pub use Rattle.outside.specs.Runs.{AsksAndPuts, CallsDisk, FewerLater, Leaves, OnlyAsks, held_of}
 pub use Rattle.outside.specs.declared.failed.Failed.{Failed}
 pub use Rattle.outside.specs.declared.world.Outside.{Ghosts}
-pub use Rattle.redo_journal.specs.Kept.{KeptBank, begun_of, place_of, record_bytes_of}
+pub use Rattle.redo_journal.specs.Kept.{KeptBank, begun_of, place_of, record_bytes_of, with_line, with_record}
 pub use Rattle.redo_journal.specs.Opened.{bank_in}
 pub use Rattle.redo_journal.specs.Records.{IsCounted, IsRecordAt, area_bytes}
 pub use Rattle.redo_journal.specs.Tracks.{IsEither}

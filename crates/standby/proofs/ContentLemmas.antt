@@ -1,6 +1,5 @@
 -- What is shipped is in the ranges of a ship text.
-use Rattle.standby.proofs.Common.{if◌then◌else◌, Option, None, Some, nat_tests, All-drop, All-map, recursion_from_All, AllByRecursion, line_count, line_bytes, RecordLine, wrong_line, KeptBank, area_bytes, KeptStore, Shows, HasBytes, shipped, behind, AreLines, IsContent, ShipLine, told}
-use Rattle.std.proofs.Common.{All, ◌≡◌, ℕ, ◌+◌, ◌^◌, ◌<◌, ◌≤◌, ◌&&◌, nat_le, nat_lt, Bool, true, false, List, [], ◌∷◌, length, take, drop, get_or, refl, ◌∙◌, ap, arith}
+use Rattle.standby.proofs.Common.{if◌then◌else◌, Option, None, Some, nat_tests, All-drop, All-map, recursion_from_All, AllByRecursion, line_count, line_bytes, RecordLine, wrong_line, KeptBank, area_bytes, KeptStore, Shows, HasBytes, shipped, behind, AreLines, IsContent, ShipLine, told, All, ◌≡◌, ℕ, ◌+◌, ◌^◌, ◌<◌, ◌≤◌, ◌&&◌, nat_le, nat_lt, Bool, true, false, List, [], ◌∷◌, length, take, drop, get_or, refl, ◌∙◌, ap, arith}
 use Rattle.store_format.proofs.Widths.{line-few, line-some}
 use Rattle.redo_journal.specs.Opened.{IsRead}
 use Rattle.redo_journal.proofs.RecordLemmas.{stands_there}

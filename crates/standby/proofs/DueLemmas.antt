@@ -1,9 +1,8 @@
 -- The records of a text that are due.
-use Rattle.standby.proofs.Common.{◌≡◌, ℕ, zero, suc, ◌-◌, ◌≤◌, List, [], ◌∷◌, length, map, take, drop, get_or, refl, sym, subst, ◌∙◌, ap, arith, All, Option, option_map, drop-map, length-map, take_rest, All-drop, All-map, slice_get-map, line_count, Header, most_lines, line_bytes, IsAlike, IsFirstLong, IsLongAt, IsFitting, AreLines, IsPacked, IsShip, ShipLine, content_of, record_of, ShipRecord}
+use Rattle.standby.proofs.Common.{◌≡◌, ℕ, zero, suc, ◌-◌, ◌≤◌, List, [], ◌∷◌, length, map, take, drop, get_or, refl, sym, subst, ◌∙◌, ap, arith, All, Option, option_map, drop-map, length-map, take_rest, All-drop, All-map, slice_get-map, line_count, Header, most_lines, line_bytes, IsAlike, IsFirstLong, IsLongAt, IsFitting, AreLines, IsPacked, IsShip, ShipLine, content_of, record_of, ShipRecord, nat_tests}
 use Rattle.std.proofs.Math.ListN.{get_or-map}
 use Rattle.standby.specs.declared.text.Ship.{Ship}
 use Rattle.standby.proofs.BeginLemmas.{length-parted}
-use Rattle.std.proofs.lemmas.Bool.Decides.{nat_tests}
 
 all_unmap : {X Y : Type 0} (P : Y → Type 0) (f : X → Y) (xs : List X) → All P (map f xs) → All (λ x. P (f x)) xs
 all_unmap P f xs all k d lt = subst P (get_or-map f xs k d) (all k (f d) (omega (arith, lt, length-map xs f)))

@@ -1,7 +1,6 @@
 -- Calls and puts, one after another.
-use Rattle.standby.proofs.Common.{◌≡◌, ℕ, List, ◌∙◌, arith, Option, Result, Ghosts, Failed, FewerLater, OnlyGoesOn, Puts}
+use Rattle.standby.proofs.Common.{◌≡◌, ℕ, List, ◌∙◌, arith, Option, Result, Ghosts, Failed, FewerLater, OnlyGoesOn, Puts, nat_tests}
 use Rattle.redo_journal.specs.Held.{IsMoreBy, OnlyWrites}
-use Rattle.std.proofs.lemmas.Bool.Decides.{nat_tests}
 
 more_on : (first second third : Option ℕ) → IsMoreBy 0 first second → IsMoreBy 0 second third → IsMoreBy 0 first third
 more_on first second third one two before is = grind (arith, nat_tests)

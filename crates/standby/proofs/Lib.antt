@@ -13,3 +13,4 @@ pub mod PartLemmas
 pub mod TailLemmas
 pub mod ReadLemmas
 pub mod OneLemmas
+pub mod Lemmas

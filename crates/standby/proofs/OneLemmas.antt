@@ -1,9 +1,7 @@
 -- A text holds one content.
-use Rattle.standby.proofs.Common.{AllByRecursion, recursion_from_All, AreLines, Content, HoldsOne, ShipLine, end_line, head_line, later, line_line, lines_text, next, records_text}
-use Rattle.std.proofs.Common.{All, ◌≡◌, ℕ, ◌+◌, ◌^◌, ◌<◌, List, [], ◌∷◌, ◌++◌, length, refl, sym, ◌∙◌, ap, subst, append_assoc, append-nil, arith}
+use Rattle.standby.proofs.Common.{AllByRecursion, recursion_from_All, AreLines, Content, HoldsOne, ShipLine, end_line, head_line, later, line_line, lines_text, next, records_text, All, ◌≡◌, ℕ, ◌+◌, ◌^◌, ◌<◌, List, [], ◌∷◌, ◌++◌, length, refl, sym, ◌∙◌, ap, subst, append_assoc, append-nil, arith, nat_tests}
 use Rattle.standby.proofs.PartLemmas.{end_parts}
 use Rattle.standby.proofs.TailLemmas.{first_is, records_are, room_left, same_head, same_line, same_record}
-use Rattle.std.proofs.lemmas.Bool.Decides.{nat_tests}
 
 module _ (bytes bound : ℕ) (few : bound < 2 ^ 32) where
   -- as many lines, with anything behind them

@@ -1,9 +1,8 @@
 -- The lines of a record that are read, one after another, and the records.
-use Rattle.standby.proofs.Common.{◌≡◌, ◌≢◌, ℕ, suc, ◌+◌, ◌-◌, ◌*◌, ◌^◌, ◌<◌, ◌≤◌, List, [], ◌∷◌, ◌++◌, length, drop, refl, sym, ◌∙◌, ap, subst, append_assoc, append-nil, arith, All, length-drop, drop-append-le, take-append-le, take_all, flat_map-append, common_steps, IsFirstBad, IsRead, Tail, AreLines, ShipLine, end_line, later, line_line, lines_text, next, parted, record_line, record_text, records_text}
+use Rattle.standby.proofs.Common.{◌≡◌, ◌≢◌, ℕ, suc, ◌+◌, ◌-◌, ◌*◌, ◌^◌, ◌<◌, ◌≤◌, List, [], ◌∷◌, ◌++◌, length, drop, refl, sym, ◌∙◌, ap, subst, append_assoc, append-nil, arith, All, length-drop, drop-append-le, take-append-le, take_all, flat_map-append, common_steps, IsFirstBad, IsRead, Tail, AreLines, ShipLine, end_line, later, line_line, lines_text, next, parted, record_line, record_text, records_text, nat_tests}
 use Rattle.standby.proofs.PartLemmas.{line_parts, record_parts}
 use Rattle.standby.proofs.ShipLemmas.{records_append}
 use Rattle.standby.proofs.TailLemmas.{bad_here, read_count, read_one}
-use Rattle.std.proofs.lemmas.Bool.Decides.{nat_tests}
 
 -- a line more
 pub parted_more : (bytes : ℕ) (lines all : List ℕ) (k : ℕ) (held : List ℕ) → length all ≡ bytes * length lines → length held ≡ bytes → parted bytes (lines ++ k ∷ []) (all ++ held) ≡ parted bytes lines all ++ record { line = k; bytes = held } ∷ []

@@ -1,13 +1,10 @@
 -- One record that is kept and told.
-use Rattle.standby.proofs.Common.{IsSome, ◌≡◌, ℕ, ◌+◌, ◌*◌, List, [], ◌∷◌, refl, sym, ◌∙◌, ap, subst, append-nil, IfSome_then, FlatStore, line_bytes, PageSize, RecordLine, Standing, Stands, home_of, stands, one_more, Failed, Ghosts, Prints, IsSure, CallsDisk, FewerLater, Leaves, held_of, begun_of, IsEither, KeptStore, with_begun, Shows, TracksStore, Puts, laid, well, broken, IsStep, Steps, over, put_of, Followed, DiskFault, PutFault, ShipLine, next, kept_line, told}
-use Rattle.std.specs.Prelude.{◌%◌, ◌^◌, length, Option, Result, Ok, Err, OnErr, OnOk, fold}
+use Rattle.standby.proofs.Common.{IsSome, ◌≡◌, ℕ, ◌+◌, ◌*◌, List, [], ◌∷◌, refl, sym, ◌∙◌, ap, subst, append-nil, IfSome_then, FlatStore, line_bytes, PageSize, RecordLine, Standing, Stands, home_of, stands, one_more, Failed, Ghosts, Prints, IsSure, CallsDisk, FewerLater, Leaves, held_of, begun_of, IsEither, KeptStore, with_begun, Shows, TracksStore, Puts, laid, well, broken, IsStep, Steps, over, put_of, Followed, DiskFault, PutFault, ShipLine, next, kept_line, told, ◌%◌, ◌^◌, length, Option, Result, Ok, Err, OnErr, OnOk, fold, nat_tests, arith}
 use Rattle.owned_list.specs.Overlay.{overlaid}
 use Rattle.store_format.proofs.Stores.{stands_is}
 use Rattle.restart.proofs.ShowLemmas.{shown_store, shows_begun}
 use Rattle.store_format.specs.Stands as format
 use Rattle.standby.proofs.PutLemmas.{PrintedNow, quiet_is, image_is, sure_puts}
-use Rattle.std.proofs.lemmas.Bool.Decides.{nat_tests}
-use Rattle.std.proofs.Common.{arith}
 
 -- what is so is so where it went well
 pub on_ok : {T E P : Type 0} (result : Result T E) → P → OnOk result P

@@ -1,36 +1,20 @@
 -- A call over an opening that follows a text.
-use Rattle.std.proofs.Common.{◌≡◌, inl, inr, ℕ, ◌+◌, ◌-◌, ◌^◌, ◌<◌, ◌≤◌, List, [], ◌++◌, length, refl, sym, ◌∙◌, ap, subst, arith, append-nil, IsSome, IsTrue}
+use Rattle.standby_calls.proofs.Common.{◌≡◌, inl, inr, ℕ, ◌+◌, ◌-◌, ◌^◌, ◌<◌, ◌≤◌, List, [], ◌++◌, length, refl, sym, ◌∙◌, ap, subst, arith, append-nil, IsSome, IsTrue, ◌⊎◌, Option, Result, unwrap_or, take_all, length-drop, Ghosts, Prints, FewerLater, Leaves, OnlyAsks, held_of, leaves_on, OpenFault, IsStoreOpenFault, KeptStore, number_of, Shows, TracksStore, IsAmong, behind, due, laid_by, Content, ShipLine, later, PrintedNow, call, status_of_open, Status}
 use Rattle.std.proofs.lemmas.Option.{IfSome_then}
-use Rattle.std.specs.Prelude.{◌⊎◌, Option, Result, unwrap_or}
-use Rattle.std.proofs.lemmas.List.{take_all, length-drop}
 use Rattle.line_geometry.specs.FlatStore.{FlatStore}
 use Rattle.store_format.specs.Header.{Header}
 use Rattle.store_format.specs.Stands.{Stands, stands}
 use Rattle.store_format.proofs.Sound.{stood_header}
-use Rattle.outside.specs.declared.world.Outside.{Ghosts}
-use Rattle.outside.specs.Bytes.{Prints}
 use Rattle.outside.specs.Moments.{Elapses}
-use Rattle.outside.specs.Runs.{FewerLater, Leaves, OnlyAsks, held_of}
 use Rattle.outside.proofs.Prints.{prints_none, prints_on, prints_same, prints_unput}
-use Rattle.outside.proofs.Runs.{leaves_on}
-use Rattle.redo_journal.specs.declared.fault.OpenFault.{OpenFault}
 use Rattle.redo_journal.specs.Kept.{KeptBank}
-use Rattle.restart.specs.Faults.{IsStoreOpenFault}
-use Rattle.restart.specs.Kept.{KeptStore, number_of}
-use Rattle.restart.specs.Shows.{Shows, TracksStore}
 use Rattle.restart.proofs.ShowLemmas.{shown_stands}
 use Rattle.standby.specs.Bank.{bank_behind}
 use Rattle.standby.specs.Followed.{Follows, IsAtNumber, broken, followed_text, kept_text, well}
-use Rattle.standby.specs.State.{IsAmong, behind, due, laid_by}
-use Rattle.standby.specs.Text.{Content, ShipLine, later}
 use Rattle.standby.specs.declared.following.Followed.{Followed}
 use Rattle.standby.specs.declared.following.Followed.TheVariants.{Done, DiskFault, PutFault}
-use Rattle.standby.proofs.PutLemmas.{PrintedNow}
 use Rattle.standby.proofs.TellLemmas.{at_some, told_front}
-use Rattle.call_status.specs.Call.{call}
 use Rattle.call_status.specs.Opening.{IsOfStart, TellsStore}
-use Rattle.call_status.specs.Statuses.{status_of_open}
-use Rattle.call_status.specs.declared.status.Status.{Status}
 use Rattle.standby_calls.specs.Followed.{FollowsOn, HasFollowed, OnStore}
 use Rattle.redo_journal.specs.declared.fault.OpenFault.TheVariants as open_fault
 use Rattle.call_status.specs.declared.status.Status.TheVariants as status

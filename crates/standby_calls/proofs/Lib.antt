@@ -1,2 +1,3 @@
 pub mod ShipLemmas
 pub mod FollowLemmas
+pub mod Common

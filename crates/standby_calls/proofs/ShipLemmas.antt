@@ -1,27 +1,12 @@
 -- What shipping the records of a store did.
-use Rattle.std.proofs.Common.{◌≡◌, ◌⊎◌, ◌<◌, ◌≤◌, ℕ, List, [], inl, inr, ⊎_elim, refl, sym, ◌∙◌, ap, subst}
-use Rattle.std.specs.Prelude.{Option, IsSome, IsTrue, Result, Ok, Err, unwrap_or}
+use Rattle.standby_calls.proofs.Common.{◌≡◌, ◌⊎◌, ◌<◌, ◌≤◌, ℕ, List, [], inl, inr, ⊎_elim, refl, sym, ◌∙◌, ap, subst, Option, IsSome, IsTrue, Result, Ok, Err, unwrap_or, Ghosts, AreTold, FewerLater, OnlyAsks, held_of, AsksAndPuts, OpenFault, KeptStore, number_of, IsStoreOpenFault, IsShown, Shows, TracksStore, behind, IsContent, text_of, leaves_on, PrintedNow, prints_by, quiet_by, quiet_is, call, status_of_open, Status}
 use Rattle.std.proofs.lemmas.Bool.{cases_lt}
-use Rattle.outside.specs.declared.world.Outside.{Ghosts}
-use Rattle.outside.specs.Bytes.{AreTold}
-use Rattle.outside.specs.Runs.{FewerLater, OnlyAsks, held_of, AsksAndPuts}
-use Rattle.redo_journal.specs.declared.fault.OpenFault.{OpenFault}
 use Rattle.store_format.specs.Bank.{RecordLine}
-use Rattle.restart.specs.Kept.{KeptStore, number_of}
-use Rattle.restart.specs.Faults.{IsStoreOpenFault}
-use Rattle.restart.specs.Shows.{IsShown, Shows, TracksStore}
 use Rattle.standby.specs.Shipped.{PrintsBy as PutsBy, ShipsBy, shipped}
-use Rattle.standby.specs.State.{behind}
-use Rattle.standby.specs.Text.{IsContent, text_of}
 use Rattle.standby.specs.declared.shipping.Shipped.{Shipped}
 use Rattle.outside.proofs.Durable.{leaves_held}
-use Rattle.outside.proofs.Runs.{leaves_on}
 use Rattle.outside.proofs.Shows.{shows_asks, shows_on}
-use Rattle.standby.proofs.PutLemmas.{PrintedNow, prints_by, quiet_by, quiet_is}
 use Rattle.standby.proofs.ShowLemmas.{still_shown}
-use Rattle.call_status.specs.Call.{call}
-use Rattle.call_status.specs.Statuses.{status_of_open}
-use Rattle.call_status.specs.declared.status.Status.{Status}
 use Rattle.standby_calls.specs.Shipped.{ShippedBy, ShippedFrom}
 use Rattle.redo_journal.specs.declared.fault.OpenFault.TheVariants as open_fault
 use Rattle.standby.specs.declared.shipping.Shipped.TheVariants as how

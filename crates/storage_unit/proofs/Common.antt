@@ -1,9 +1,9 @@
 -- The names that most proofs cite, passed on from one place. Declares nothing.
-pub use Rattle.std.proofs.Common.{All, Bool, Err, List, None, Ok, Option, Result, Some, [], ap, arith, drop, false, get_or, inl, inr, length, refl, replicate, subst, suc, sym, take, true, zero, ℕ, ◌%◌, ◌*◌, ◌++◌, ◌+◌, ◌-◌, ◌/◌, ◌<◌, ◌^◌, ◌∙◌, ◌∷◌, ◌≡◌, ◌≢◌, ◌≤◌, ◌⊎◌}
-pub use Rattle.std.proofs.lemmas.Bool.{cases_Bool, cases_eq, cases_lt, eq-eqb, eqb-false, eqb-true, leb-true, ltb-true, ne_eqb}
+pub use Rattle.std.proofs.Common.{All, Bool, Err, List, None, Ok, Option, Result, Some, [], ap, arith, drop, false, get_or, inl, inr, length, refl, replicate, subst, suc, sym, take, true, zero, ℕ, ◌%◌, ◌*◌, ◌++◌, ◌+◌, ◌-◌, ◌/◌, ◌<◌, ◌^◌, ◌∙◌, ◌∷◌, ◌≡◌, ◌≢◌, ◌≤◌, ◌⊎◌, add-one}
+pub use Rattle.std.proofs.lemmas.Bool.{cases_Bool, cases_eq, cases_lt, eq-eqb, eqb-false, eqb-true, leb-true, ltb-true, ne_eqb, both_ways, or_left}
 pub use Rattle.std.proofs.lemmas.Bool.Decides.{nat_tests}
-pub use Rattle.std.proofs.lemmas.Grind.{same_number_lists}
-pub use Rattle.std.proofs.lemmas.List.{get_or-append_right, get_or-drop, get_or-replicate, get_or-set_other, get_or-set_same, get_or-take, get_or_append_left, get_or_default, get_or_past, length-append, length-drop, length-map, length-replicate, length-set, length-take, map-append, same_lists, set_past, take-append-drop, take_all}
+pub use Rattle.std.proofs.lemmas.Grind.{same_number_lists, common_steps}
+pub use Rattle.std.proofs.lemmas.List.{get_or-append_right, get_or-drop, get_or-replicate, get_or-set_other, get_or-set_same, get_or-take, get_or_append_left, get_or_default, get_or_past, length-append, length-drop, length-map, length-replicate, length-set, length-take, map-append, same_lists, set_past, take-append-drop, take_all, set-get_or}
 pub use Rattle.std.proofs.lemmas.List.Elements.{All-head, All-nil, All-tail}
 pub use Rattle.std.proofs.lemmas.List.FromFn.{get_or-map-range_with_len, length-map-range_with_len}
 pub use Rattle.std.proofs.lemmas.Nat.{div-add-mod'}
@@ -30,11 +30,11 @@ pub use Rattle.inverted_table.proofs.FindLemmas.{is-held, look_up-held, look_up-
 pub use Rattle.inverted_table.specs.Keys.{key_of, key_to}
 pub use Rattle.inverted_table.specs.Placed.{Placed, cleared_entry, entered, entry_at, key_in, look_up, unowned, without_frame}
 pub use Rattle.inverted_table.specs.declared.key.Key.{Key}
-pub use Rattle.line_geometry.proofs.LineSetLemmas.{is_in_where-below, of_page_where, where-alike}
+pub use Rattle.line_geometry.proofs.LineSetLemmas.{is_in_where-below, of_page_where, where-alike, bits_of-lines}
 pub use Rattle.line_geometry.proofs.Within.{byte_count_pages, segment-within}
 pub use Rattle.line_geometry.specs.Directory.{Layout, byte_count, length_of, page_count, start_of}
 pub use Rattle.line_geometry.specs.Legal.{IsLegal}
-pub use Rattle.line_geometry.specs.LineSets.{IsOfPage, between, difference, lines_where, union}
+pub use Rattle.line_geometry.specs.LineSets.{IsOfPage, between, difference, lines_where, union, bits_of, lines_of_bits}
 unfoldable pub use Rattle.line_geometry.specs.LineSets.{passing}
 pub use Rattle.line_geometry.specs.Lines.{line_of, page_of}
 pub use Rattle.line_geometry.specs.Segments.{bytes_of, is_named, line_bytes, page_bytes}
@@ -49,7 +49,7 @@ pub use Rattle.owned_list.proofs.Overlay.{length-overlaid, overlaid_before, over
 pub use Rattle.owned_list.specs.Overlay.{overlaid}
 pub use Rattle.romp_cpu.proofs.WholeLemmas.{stored_bytes-long}
 pub use Rattle.romp_cpu.proofs.WindowLemmas.{bytes-low, named-low, register-window}
-pub use Rattle.romp_cpu.specs.Answers.{IsOutside, answer_in, answered, answered_at, bytes_of_range, if_permitted, unless_absent_at, unless_refused_at}
+pub use Rattle.romp_cpu.specs.Answers.{IsOutside, answer_in, answered, answered_at, bytes_of_range, if_permitted, unless_absent_at, unless_refused_at, IsRefusal, answer_of}
 pub use Rattle.romp_cpu.specs.Attempts.{lines_of_access}
 pub use Rattle.romp_cpu.specs.Segments.{register_of_window, registers_of_program}
 pub use Rattle.romp_cpu.specs.Shown.{access_to, bytes_from, halfword_of}
@@ -74,3 +74,11 @@ pub use Rattle.storage_unit.specs.Rows.{ChangesBytes, GoesOpen, HasWindows, IsOp
 pub use Rattle.storage_unit.specs.View.{buffer_of, reach_of}
 pub use Rattle.storage_unit.specs.declared.model.Reach.{Reach}
 pub use Rattle.storage_unit.specs.declared.unit.Unit.{Unit}
+pub use Rattle.byteorder.specs.Endian.{big_number}
+pub use Rattle.frame_pool.proofs.LayLemmas.{all-lines, laid-anyway, overlaid-joined}
+pub use Rattle.open_lines.specs.declared.lines.OpenLine.{OpenLine}
+pub use Rattle.ready_rows.specs.Known.{known}
+pub use Rattle.ready_rows.specs.declared.rows.ReadyRows.{ReadyRows}
+pub use Rattle.storage_unit.specs.Cleared.{AreClear, AreUsed}
+pub use Rattle.storage_unit.specs.OpenLines.{AreMarked, AreOpened, IsOpenAt, IsOpenFrom, IsOpened, is_marked_at, lets_at}
+pub use Rattle.storage_unit.specs.ReadyRows.{AreReady, after_store, private_byte, private_half}

@@ -1,16 +1,10 @@
 -- A page that comes in: the frame that is lent is filled, and its kept lines are laid over it.
-use Rattle.storage_unit.proofs.Common.{◌≡◌, refl, ℕ, ◌+◌, ◌*◌, ◌<◌, ◌≤◌, ◌==◌, true, List, [], ◌∷◌, length, Option, Some, None, is_some, range_with_len, slice_index, slice_index_or, get_or-set_same, page_count, frame_at, marks_at, with_room, ap, arith, sym, subst, ◌∙◌, eq-eqb, length-take, length-drop, page_bytes, Layout, has, Pool, pool_of, IsSeen, frame_bytes, Brought, emptied, laid, with_bytes, with_frame_part, lent-part, page_part, Fits, filled, private_frames, Reach, reach_of, Unit, nat_tests}
-use Rattle.std.proofs.lemmas.Bool.{both_ways, or_left}
-use Rattle.line_geometry.specs.LineSets.{bits_of, lines_of_bits}
-use Rattle.line_geometry.proofs.LineSetLemmas.{bits_of-lines}
-use Rattle.frame_pool.proofs.LayLemmas.{laid-anyway}
+use Rattle.storage_unit.proofs.Common.{◌≡◌, refl, ℕ, ◌+◌, ◌*◌, ◌<◌, ◌≤◌, ◌==◌, true, List, [], ◌∷◌, length, Option, Some, None, is_some, range_with_len, slice_index, slice_index_or, get_or-set_same, page_count, frame_at, marks_at, with_room, ap, arith, sym, subst, ◌∙◌, eq-eqb, length-take, length-drop, page_bytes, Layout, has, Pool, pool_of, IsSeen, frame_bytes, Brought, emptied, laid, with_bytes, with_frame_part, lent-part, page_part, Fits, filled, private_frames, Reach, reach_of, Unit, nat_tests, both_ways, or_left, bits_of, lines_of_bits, bits_of-lines, laid-anyway, AreReady, AreClear}
 use Rattle.storage_unit.specs.Incoming.{IsFilled, IsKept, HasGoneOut}
-use Rattle.storage_unit.specs.ReadyRows.{AreReady}
 use Rattle.storage_unit.proofs.SizeLemmas.{frame-high}
 use Rattle.storage_unit.proofs.StoreLemmas.{all-private}
 use Rattle.storage_unit.proofs.LaidLemmas.{over-low}
 use Rattle.storage_unit.proofs.ReadyLemmas.{ready-kept}
-use Rattle.storage_unit.specs.Cleared.{AreClear}
 use Rattle.storage_unit.proofs.ClearLemmas.{clear-kept}
 use Rattle.storage_unit.proofs.LeaveLemmas.{emptied-frame}
 use Rattle.storage_unit.proofs.StateLemmas.{laid-bytes, room-stays}

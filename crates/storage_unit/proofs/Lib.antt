@@ -39,3 +39,4 @@ pub mod UndoForgets
 pub mod CommitIsUnseen
 pub mod SettleKeeps
 pub mod IncomingLemmas
+pub mod Lemmas

@@ -1,6 +1,5 @@
 -- An access under the segment registers of a program lies where the plain machine has it.
-use Rattle.storage_unit.proofs.Common.{arith, nat_tests, Layout, length_of, start_of, IsLegal, Check, Virtual, virtual_at, located_under, located_by, Private, Shared, Refused, Program, in_segment, in_window, in_register, located, register_of_window, registers_of_program, named-low, Reach, private_segment, is_private, place_at, seat_of, HasWindows}
-use Rattle.std.specs.Prelude.{◌≡◌, refl, ℕ, zero, suc, ◌+◌, ◌/◌, ◌%◌, ◌^◌, nat_le, ◌&&◌, cond, Bool, true, false, slice_index_or, Option, Some, None, option_map, Result, Ok, Err}
+use Rattle.storage_unit.proofs.Common.{arith, nat_tests, Layout, length_of, start_of, IsLegal, Check, Virtual, virtual_at, located_under, located_by, Private, Shared, Refused, Program, in_segment, in_window, in_register, located, register_of_window, registers_of_program, named-low, Reach, private_segment, is_private, place_at, seat_of, HasWindows, ◌≡◌, refl, ℕ, zero, suc, ◌+◌, ◌/◌, ◌%◌, ◌^◌, nat_le, ◌&&◌, cond, Bool, true, false, slice_index_or, Option, Some, None, option_map, Result, Ok, Err}
 use Rattle.std.proofs.Math.ListN.{get_or-map}
 use Rattle.flat_machine.specs.declared.machine.Window.{Window}
 use Rattle.storage_unit.proofs.PlaceLemmas.{offset-is}

@@ -1,7 +1,5 @@
 -- A store to lines that are marked leaves the marks.
-use Rattle.storage_unit.proofs.Common.{◌≡◌, ℕ, Bool, ◌+◌, ◌-◌, ◌*◌, ◌/◌, ◌%◌, ◌<◌, ◌≤◌, ◌==◌, ◌&&◌, ◌||◌, nat_le, if◌then◌else◌, true, false, List, [], length, sym, ◌∙◌, ap, subst, arith, nat_tests, Option, Some, inl, inr, cases_Bool, option_map_or, slice_set, page_bytes, line_bytes, start_of, line_of, page_of, page_of_line, between, where-alike, is_in_where-below, has, Virtual, key_of, look_up, Pool, marks_at, marked_in, with_marks, with_bytes, lines_of_part, with_frame_part, with_marked, pool_of, lent-part, refl, Access, Unit, Reach, is_private, offset_of, place_of, put_at, seat_pages, table_of, IsSound, Lies, reach_of}
-use Rattle.std.proofs.lemmas.List.{set-get_or}
-use Rattle.storage_unit.specs.OpenLines.{AreMarked, IsOpenFrom}
+use Rattle.storage_unit.proofs.Common.{◌≡◌, ℕ, Bool, ◌+◌, ◌-◌, ◌*◌, ◌/◌, ◌%◌, ◌<◌, ◌≤◌, ◌==◌, ◌&&◌, ◌||◌, nat_le, if◌then◌else◌, true, false, List, [], length, sym, ◌∙◌, ap, subst, arith, nat_tests, Option, Some, inl, inr, cases_Bool, option_map_or, slice_set, page_bytes, line_bytes, start_of, line_of, page_of, page_of_line, between, where-alike, is_in_where-below, has, Virtual, key_of, look_up, Pool, marks_at, marked_in, with_marks, with_bytes, lines_of_part, with_frame_part, with_marked, pool_of, lent-part, refl, Access, Unit, Reach, is_private, offset_of, place_of, put_at, seat_pages, table_of, IsSound, Lies, reach_of, set-get_or, AreMarked, IsOpenFrom, OpenLine, ReadyRows, known, AreReady, after_store, AreClear, AreUsed}
 use Rattle.storage_unit.proofs.SizeLemmas.{seat-frame, seat-page, page-of-line, same-page-on, line-in, rest-on}
 use Rattle.storage_unit.proofs.PlaceLemmas.{finds-own, place-byte}
 use Rattle.storage_unit.proofs.LineLemmas.{lies-one, page-found}
@@ -11,11 +9,6 @@ use Rattle.storage_unit.proofs.StoreLemmas.{private-none}
 use Rattle.storage_unit.proofs.UnitLemmas.{unit-sound}
 use Rattle.storage_unit.proofs.OpenedLemmas.{open-lies, open-room, spot-is}
 use Rattle.storage_unit.proofs.WrittenLemmas.{stored-part, ready-part, clear-part}
-use Rattle.open_lines.specs.declared.lines.OpenLine.{OpenLine}
-use Rattle.ready_rows.specs.declared.rows.ReadyRows.{ReadyRows}
-use Rattle.ready_rows.specs.Known.{known}
-use Rattle.storage_unit.specs.ReadyRows.{AreReady, after_store}
-use Rattle.storage_unit.specs.Cleared.{AreClear, AreUsed}
 
 both : (a b : Bool) → (a && b) ≡ true → (a ≡ true) × (b ≡ true)
 both a b is = grind (arith, nat_tests)

@@ -1,6 +1,5 @@
 -- Lines that are settled leave the bytes as they were.
-use Rattle.storage_unit.proofs.Common.{◌≡◌, ℕ, ◌<◌, Bool, true, false, List, refl, arith, Layout, byte_count, Pool, is_marked, byte_over, IsClean, SettleKeeps, nat_tests}
-use Rattle.std.specs.Prelude.{◌&&◌, not, slice_index}
+use Rattle.storage_unit.proofs.Common.{◌≡◌, ℕ, ◌<◌, Bool, true, false, List, refl, arith, Layout, byte_count, Pool, is_marked, byte_over, IsClean, SettleKeeps, nat_tests, ◌&&◌, not, slice_index}
 use Rattle.storage_unit.proofs.ByteLemmas.{same-bytes, byte-of-all}
 use Rattle.storage_unit.proofs.LeaveLemmas.{settled-over, settled-line, clean-of, clean-shows}
 

@@ -1,6 +1,5 @@
 -- What a store leaves, as it is written page by page, and what is shown after it.
-use Rattle.storage_unit.proofs.Common.{◌≡◌, ℕ, ◌+◌, ◌-◌, ◌*◌, ◌/◌, ◌%◌, ◌<◌, ◌≤◌, List, ◌++◌, length, refl, sym, ◌∙◌, ap, subst, arith, Option, Some, None, get_or, inl, inr, ◌||◌, slice_set, option_map_or, cases_Bool, nat_tests, same_lists, length-append, get_or_append_left, get_or-append_right, get_or-map-range_with_len, length-map-range_with_len, same_number_lists, page_bytes, start_of, page_of, union, where-alike, is_in_where-below, of_page_where, has, Located, Private, Shared, Refused, lines_at, Virtual, key_of, look_up, Pool, private_frames, frame_count, page_at, marks_at, marked_in, with_marks, with_bytes, lines_of_part, page_part, Reach, is_private, offset_of, place_of, on, AreOfPages, seat_pages, table_of, put_byte, put_in_store, put_at, IsSound, Lies, some-within}
-use Rattle.frame_pool.proofs.LayLemmas.{overlaid-joined}
+use Rattle.storage_unit.proofs.Common.{◌≡◌, ℕ, ◌+◌, ◌-◌, ◌*◌, ◌/◌, ◌%◌, ◌<◌, ◌≤◌, List, ◌++◌, length, refl, sym, ◌∙◌, ap, subst, arith, Option, Some, None, get_or, inl, inr, ◌||◌, slice_set, option_map_or, cases_Bool, nat_tests, same_lists, length-append, get_or_append_left, get_or-append_right, get_or-map-range_with_len, length-map-range_with_len, same_number_lists, page_bytes, start_of, page_of, union, where-alike, is_in_where-below, of_page_where, has, Located, Private, Shared, Refused, lines_at, Virtual, key_of, look_up, Pool, private_frames, frame_count, page_at, marks_at, marked_in, with_marks, with_bytes, lines_of_part, page_part, Reach, is_private, offset_of, place_of, on, AreOfPages, seat_pages, table_of, put_byte, put_in_store, put_at, IsSound, Lies, some-within, overlaid-joined}
 use Rattle.storage_unit.proofs.SizeLemmas.{private-whole, seat-bytes, seat-frame, seat-page, line-order, line-next}
 use Rattle.storage_unit.proofs.StateLemmas.{marks-set}
 use Rattle.storage_unit.proofs.PlaceLemmas.{private-is, shared-is, finds-own, finds-shared, place-byte}

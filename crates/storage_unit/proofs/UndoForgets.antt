@@ -1,6 +1,5 @@
 -- An undo gives its lines their committed bytes.
-use Rattle.storage_unit.proofs.Common.{◌≡◌, ℕ, ◌<◌, Bool, true, false, List, sym, ◌∙◌, ap, arith, has, Layout, byte_count, line_of, page_of, Pool, is_marked, byte_over, IsClean, Fits, is_among, UndoForgets}
-use Rattle.std.specs.Prelude.{◌==◌, ◌%◌, ◌&&◌, not, if◌then◌else◌, slice_index, length}
+use Rattle.storage_unit.proofs.Common.{◌≡◌, ℕ, ◌<◌, Bool, true, false, List, sym, ◌∙◌, ap, arith, has, Layout, byte_count, line_of, page_of, Pool, is_marked, byte_over, IsClean, Fits, is_among, UndoForgets, ◌==◌, ◌%◌, ◌&&◌, not, if◌then◌else◌, slice_index, length}
 use Rattle.frame_pool.specs.Pool.{settled, undone}
 use Rattle.storage_unit.proofs.SizeLemmas.{page-of-line}
 use Rattle.storage_unit.proofs.ByteLemmas.{byte-of-all, gone-over}

@@ -1,9 +1,5 @@
 -- A unit in which a part of a frame was written.
-use Rattle.storage_unit.proofs.Common.{◌≡◌, ℕ, ◌+◌, ◌-◌, ◌*◌, ◌<◌, ◌≤◌, List, length, sym, ◌∙◌, ap, subst, arith, Some, page_bytes, Virtual, key_of, look_up, Pool, marked_in, with_bytes, lines_of_part, with_frame_part, with_marked, pool_of, Reach, place_of, put_at, is_private, offset_of, true, false, table_of, Lies, Unit, reach_of}
-use Rattle.ready_rows.specs.declared.rows.ReadyRows.{ReadyRows}
-use Rattle.ready_rows.specs.Known.{known}
-use Rattle.storage_unit.specs.ReadyRows.{AreReady, after_store}
-use Rattle.storage_unit.specs.Cleared.{AreClear, AreUsed}
+use Rattle.storage_unit.proofs.Common.{◌≡◌, ℕ, ◌+◌, ◌-◌, ◌*◌, ◌<◌, ◌≤◌, List, length, sym, ◌∙◌, ap, subst, arith, Some, page_bytes, Virtual, key_of, look_up, Pool, marked_in, with_bytes, lines_of_part, with_frame_part, with_marked, pool_of, Reach, place_of, put_at, is_private, offset_of, true, false, table_of, Lies, Unit, reach_of, ReadyRows, known, AreReady, after_store, AreClear, AreUsed}
 use Rattle.storage_unit.proofs.ClearLemmas.{clear-put}
 use Rattle.storage_unit.proofs.PartLemmas.{pool-after}
 use Rattle.storage_unit.proofs.ReadyLemmas.{ready-put}

@@ -4,3 +4,4 @@ pub mod ShownLemmas
 pub mod NameLemmas
 pub mod WrittenLemmas
 pub mod RenewLemmas
+pub mod Lemmas

@@ -1,16 +1,8 @@
 -- An image without the name of a store is none; and what a torn write over the places of one leaves.
-use Rattle.std.proofs.Common.{◌≡◌, ◌⊎◌, inl, inr, ⊎_elim, ℕ, ◌+◌, ◌-◌, ◌<◌, ◌≤◌, Bool, true, false, List, [], ◌∷◌, ◌++◌, length, take, drop, refl, sym, ◌∙◌, ap, arith, length-drop, length-take}
-use Rattle.std.specs.Prelude.{nat_eq, not, codes, replicate, slice_index, None, Some, Option, OnOk, Result, Ok, Err}
+use Rattle.store_calls.proofs.Common.{◌≡◌, ◌⊎◌, inl, inr, ⊎_elim, ℕ, ◌+◌, ◌-◌, ◌<◌, ◌≤◌, Bool, true, false, List, [], ◌∷◌, ◌++◌, length, take, drop, refl, sym, ◌∙◌, ap, arith, length-drop, length-take, nat_eq, not, codes, replicate, slice_index, None, Some, Option, OnOk, Result, Ok, Err, cases_lt, nat_tests, append-nil, drop-drop, drop_all, take_all, take-append-drop, take-take, Torn, written, Field, fields, first_fault, header_of, name_field, number_at, page_of, segment_fields, segments_of, spare_fields, within, standing_if, IsNoStore, IsOnTheWay}
 use Rattle.std.specs.Option.{option_map}
-use Rattle.std.proofs.lemmas.Bool.{cases_lt}
 use Rattle.std.specs.List.{starts_with}
-use Rattle.std.proofs.lemmas.Bool.Decides.{nat_tests}
-use Rattle.std.proofs.lemmas.List.{append-nil, drop-drop, drop_all, take_all, take-append-drop, take-take}
-use Rattle.outside.specs.Bytes.{Torn, written}
-use Rattle.store_format.specs.Header.{Field, fields, first_fault, header_of, name_field, number_at, page_of, segment_fields, segments_of, spare_fields, within}
-use Rattle.store_format.specs.Stands.{standing_if}
 unfoldable use Rattle.store_format.specs.Stands.{stands}
-use Rattle.store_calls.specs.New.{IsNoStore, IsOnTheWay}
 
 abbrev pub name : List ℕ
 name = codes "801STORE"

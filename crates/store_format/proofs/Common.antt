@@ -7,7 +7,7 @@ pub use Rattle.std.proofs.lemmas.List.Elements.{All-append, All-cons, All-head, 
 pub use Rattle.std.proofs.lemmas.Nat.{pow_below, pow_pos}
 pub use Rattle.std.specs.List.{starts_with}
 pub use Rattle.std.specs.Option.{option_or}
-pub use Rattle.std.specs.Prelude.{All, IfOk, IfSome, IsSome, None, Ok, Option, Some, cond, fold, if◌then◌else◌, is_some, min, nat_eq, nat_le, nat_lt, not, unwrap_or, ◌&&◌, ◌==◌}
+pub use Rattle.std.specs.Prelude.{All, IfOk, IfSome, IsSome, None, Ok, Option, Some, cond, fold, if◌then◌else◌, is_some, min, nat_eq, nat_le, nat_lt, not, unwrap_or, ◌&&◌, ◌==◌, map, slice_set}
 pub use Rattle.std.specs.Vec.{vec_len}
 pub use Rattle.byteorder.specs.Endian.{big_bytes, big_from, big_number}
 pub use Rattle.byteorder.specs.Numbers.{big_from-take, big_number-reads_back}

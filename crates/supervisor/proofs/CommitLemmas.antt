@@ -1,10 +1,7 @@
 -- The commit of a session is one of the desk, and what the disk holds in it.
-use Rattle.std.proofs.lemmas.Bool.Decides.{nat_tests}
-use Rattle.supervisor.proofs.Common.{◌≡◌, ◌⊎◌, inl, inr, ⊎_elim, ℕ, ◌+◌, ◌*◌, ◌%◌, ◌^◌, ◌<◌, ◌≤◌, List, [], ◌∷◌, ◌++◌, length, refl, sym, ◌∙◌, ap, subst, arith, Option, Some, length-append, map-append, Layout, FlatStore, has, Plain, after, Ghosts, Rose, IsSure, Leaves, held_of, Header, HasRanges, most_lines, RecordLine, Standing, Stands, stands, one_more, laid, IsMoreBy, journal_in, journal_with, KeptStore, number_of, with_begun, TracksStore, Committed, order_told, standing_of, Desk, Fine, Doubt, Unwritten, Over, ordered, WritesMore, number_after, IsState, over_all, committed_at, sitter, number_in, Activity, live_in, program_in, entry_in, store_over, desk_over, state_in, Live, KeepsDesk, AreRowsWithin, rolled, tally_counts, commit_call, Tally, Session, IsSound, activity, order_of, session_desk, IsOpenOver, HasCommitted, IsEitherSide, fine_desk, shows_begun}
-use Rattle.std.specs.Prelude.{◌==◌, not, filter, None, true, false, vec_len, vec_capacity, slice_set}
+use Rattle.supervisor.proofs.Common.{◌≡◌, ◌⊎◌, inl, inr, ⊎_elim, ℕ, ◌+◌, ◌*◌, ◌%◌, ◌^◌, ◌<◌, ◌≤◌, List, [], ◌∷◌, ◌++◌, length, refl, sym, ◌∙◌, ap, subst, arith, Option, Some, length-append, map-append, Layout, FlatStore, has, Plain, after, Ghosts, Rose, IsSure, Leaves, held_of, Header, HasRanges, most_lines, RecordLine, Standing, Stands, stands, one_more, laid, IsMoreBy, journal_in, journal_with, KeptStore, number_of, with_begun, TracksStore, Committed, order_told, standing_of, Desk, Fine, Doubt, Unwritten, Over, ordered, WritesMore, number_after, IsState, over_all, committed_at, sitter, number_in, Activity, live_in, program_in, entry_in, store_over, desk_over, state_in, Live, KeepsDesk, AreRowsWithin, rolled, tally_counts, commit_call, Tally, Session, IsSound, activity, order_of, session_desk, IsOpenOver, HasCommitted, IsEitherSide, fine_desk, shows_begun, nat_tests, ◌==◌, not, filter, None, true, false, vec_len, vec_capacity, slice_set, IsEither}
 use Rattle.lock_rules.proofs.Sets.{has-filter}
 use Rattle.frame_pool.specs.declared.model.Pool.{Pool}
-use Rattle.redo_journal.specs.Tracks.{IsEither}
 use Rattle.activations.proofs.ContendLemmas.{fewer}
 use Rattle.desk.specs.declared.answers.TurnEnd.TheVariants as end
 use Rattle.desk.specs.Instruction as turn

@@ -1,12 +1,12 @@
 -- The names that most proofs cite, passed on from one place. Declares nothing.
-pub use Rattle.std.proofs.Common.{List, None, Option, Some, [], ap, arith, inl, inr, length, length-append, refl, subst, sym, take, ℕ, ⊎_elim, ◌%◌, ◌*◌, ◌++◌, ◌+◌, ◌-◌, ◌<◌, ◌^◌, ◌∙◌, ◌∷◌, ◌≡◌, ◌≤◌, ◌⊎◌}
+pub use Rattle.std.proofs.Common.{List, None, Option, Some, [], ap, arith, inl, inr, length, length-append, refl, subst, sym, take, ℕ, ⊎_elim, ◌%◌, ◌*◌, ◌++◌, ◌+◌, ◌-◌, ◌<◌, ◌^◌, ◌∙◌, ◌∷◌, ◌≡◌, ◌≤◌, ◌⊎◌, find, get_or, suc, zero}
 pub use Rattle.std.proofs.lemmas.Bool.{and_parts, cases_lt, eq-eqb, eqb-true}
-pub use Rattle.std.proofs.lemmas.List.{get_or_past, map-append}
-pub use Rattle.std.specs.Prelude.{Bool, IsFalse, false, is_some, not, true, unwrap_or, ◌==◌}
+pub use Rattle.std.proofs.lemmas.List.{get_or_past, map-append, nil_from_length}
+pub use Rattle.std.specs.Prelude.{Bool, IsFalse, false, is_some, not, true, unwrap_or, ◌==◌, IsSome, drop, filter, if◌then◌else◌, map, nat_lt, slice_index, slice_set, vec_capacity, vec_len}
 pub use Rattle.activations.specs.Activity.{Activity, desk_over, entries, entry_in, live_in, program_at, program_in, shown, state_in, store_over}
 pub use Rattle.activations.specs.Begins.{Begins, IsBegin, begins, begins_by, idle}
 pub use Rattle.activations.specs.Causes.{IfJournal, IfVictim}
-pub use Rattle.activations.specs.Ends.{IsRestarted, reprinted}
+pub use Rattle.activations.specs.Ends.{IsRestarted, reprinted, IsDeserted}
 pub use Rattle.activations.specs.Follows.{KeepsDesk}
 pub use Rattle.activations.specs.Instructed.{IfWaits, IsEndOfRows}
 pub use Rattle.activations.specs.Kept.{AreRowsWithin}
@@ -24,7 +24,7 @@ pub use Rattle.desk.specs.Desk.{Desk, Entry, opened, with_entry}
 pub use Rattle.desk.specs.Holdings.{conflicts_of, numbers, waits_for, wanted}
 pub use Rattle.desk.specs.Instruction.{Attempt, Broken, Contest, Contested, Counts, Doubt, Failed, Fetched, Fetching, Fine, Going, Limit, Lost, Over, ReadFailed, Settled, Turning, Unwritten, Word, asks, attempts, attempts_at, breaks_cycle, breaks_cycles, commits, contest_ends, fetched_first, fetches_touched, gets, goes_on, is_over_limit, limited, no_counts, ordered, refused_pages, takes_effect, turn, turn_of, waits_or_gets, with_grants}
 unfoldable pub use Rattle.desk.specs.Instruction.{instruction, turns}
-pub use Rattle.desk.specs.Kept.{HoldsStore, Journal, JournalAfter, WritesMore, journal_emptied, journal_in, journal_under, journal_with, records_of, turn_fails}
+pub use Rattle.desk.specs.Kept.{HoldsStore, Journal, JournalAfter, WritesMore, journal_emptied, journal_in, journal_under, journal_with, records_of, turn_fails, bytes_taken}
 pub use Rattle.desk.specs.Report.{number_after}
 pub use Rattle.desk.specs.Run.{CheckpointFailed, CheckpointMade, CrashFailed, Crashed, Happening, Step, Turned, absent_segment, restarted, run, shut, step, turned}
 pub use Rattle.desk.specs.declared.answers.Begun.{Begun}
@@ -46,7 +46,7 @@ pub use Rattle.outside.specs.Durable.{IsSure}
 pub use Rattle.outside.specs.Runs.{FewerLater, Leaves, OnlyAsks, held_of}
 pub use Rattle.outside.specs.declared.world.Outside.{Ghosts}
 pub use Rattle.redo_journal.specs.Held.{IsMoreBy, OnlyWrites}
-pub use Rattle.redo_journal.specs.Kept.{begun_of}
+pub use Rattle.redo_journal.specs.Kept.{begun_of, KeptBank, with_record}
 pub use Rattle.redo_journal.specs.declared.keep.Kept.{Kept}
 pub use Rattle.restart.proofs.ShowLemmas.{reopened_holds, shown_stands, shown_store, shows_begun, sure_on}
 pub use Rattle.restart.specs.Kept.{KeptStore, number_of, with_begun}
@@ -56,8 +56,8 @@ pub use Rattle.seats.proofs.Kept.{few-taken, taken-below}
 pub use Rattle.seats.proofs.Numbers.{seat-found}
 pub use Rattle.seats.specs.Seating.{newcomer, number_in, seat_of, sitter}
 unfoldable pub use Rattle.seats.specs.Seating.{next_seat}
-pub use Rattle.store_format.specs.Bank.{Faulty, Holds, RecordLine, bank_of}
-pub use Rattle.store_format.specs.Header.{HasRanges, Header, header_of, most_lines, total}
+pub use Rattle.store_format.specs.Bank.{Faulty, Holds, RecordLine, bank_of, Area, Bank, Closed, Gate, Sound, Wrong, count_of, gate_at, record_bytes}
+pub use Rattle.store_format.specs.Header.{HasRanges, Header, header_of, most_lines, total, entry_bytes, number_at}
 pub use Rattle.store_format.specs.Stands.{Standing, Stands, chosen, laid, one_more}
 unfoldable pub use Rattle.store_format.specs.Stands.{stands}
 pub use Rattle.supervisor.specs.Causes.{ClosesAsCommit, ClosesInCommit, HasPlace, IsFailedCommit, IsFull, IsTurnEnd, KeepsStore, TellsNumber, answer_of, lacking}
@@ -66,3 +66,8 @@ pub use Rattle.supervisor.specs.Session.{IsSound, activity, session_desk, order_
 pub use Rattle.supervisor.specs.Shown.{IsOpenOver, ShowsDesk}
 pub use Rattle.supervisor.specs.Went.{HasCommitted, TurnHasRun, IsCommitEnd, IsEitherSide, IsTurned, fine_desk}
 pub use Rattle.supervisor.specs.declared.session.Session.{Session}
+pub use Rattle.checkpoint.specs.Committed.{HoldsCommitted, emptied, roomy}
+pub use Rattle.desk.specs.declared.answers.Turn.{Turn}
+pub use Rattle.redo_journal.specs.Tracks.{HoldsRecords, IsEither}
+pub use Rattle.std.proofs.lemmas.Bool.Decides.{nat_tests}
+pub use Rattle.std.specs.Option.{option_map}

@@ -1,7 +1,5 @@
 -- A session whose desk is deserted and whose store was read again is sound.
-use Rattle.std.specs.Prelude.{vec_len}
-use Rattle.supervisor.proofs.Common.{◌≡◌, sym, ◌∙◌, ap, subst, arith, ℕ, ◌≤◌, ◌+◌, Bool, false, length, Header, HasRanges, most_lines, KeptStore, activity, activity_of, Activations, IsSound, Session, Activity, AreRowsWithin, ◌*◌}
-use Rattle.activations.specs.Ends.{IsDeserted}
+use Rattle.supervisor.proofs.Common.{◌≡◌, sym, ◌∙◌, ap, subst, arith, ℕ, ◌≤◌, ◌+◌, Bool, false, length, Header, HasRanges, most_lines, KeptStore, activity, activity_of, Activations, IsSound, Session, Activity, AreRowsWithin, ◌*◌, vec_len, IsDeserted}
 use Rattle.activations.specs.Follows as running
 
 pub deserted-sound : (s : Session) → IsSound s → (store : KeptStore) → store.header ≡ s.store.header → (left : Activations) → running.IsSound (activity_of left) → IsDeserted (activity s) (activity_of left) → s.closed ≡ false → (closed : Bool) → (closed ≡ false → store.bank.spoiled ≡ false) → IsSound (record s { store = store; activations = left; closed = closed })

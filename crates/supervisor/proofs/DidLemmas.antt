@@ -1,6 +1,5 @@
 -- What the turns and the checkpoints of a session did.
-use Rattle.supervisor.proofs.Common.{◌≡◌, inl, inr, ℕ, List, refl, sym, ◌∙◌, ap, subst, arith, true, false, Ghosts, Rose, IsSure, Leaves, held_of, Header, Stands, stands, KeptStore, number_of, Shows, TurnEnd, counts_told, ending_told, turn_told, Did, IsEitherOf, standing_of, Desk, Fine, Failed, Doubt, Counts, JournalAfter, journal_in, Happening, Step, Turned, CheckpointMade, CheckpointFailed, turned, shut, stepped, Tally, tally_counts, Session, IsSound, activity, session_desk, order_of, IsOpenOver, ShowsDesk, TurnHasRun, IsTurned}
-use Rattle.desk.specs.declared.answers.Turn.{Turn}
+use Rattle.supervisor.proofs.Common.{◌≡◌, inl, inr, ℕ, List, refl, sym, ◌∙◌, ap, subst, arith, true, false, Ghosts, Rose, IsSure, Leaves, held_of, Header, Stands, stands, KeptStore, number_of, Shows, TurnEnd, counts_told, ending_told, turn_told, Did, IsEitherOf, standing_of, Desk, Fine, Failed, Doubt, Counts, JournalAfter, journal_in, Happening, Step, Turned, CheckpointMade, CheckpointFailed, turned, shut, stepped, Tally, tally_counts, Session, IsSound, activity, session_desk, order_of, IsOpenOver, ShowsDesk, TurnHasRun, IsTurned, Turn}
 use Rattle.supervisor.proofs.JournalLemmas.{checkpoint-empties}
 use Rattle.desk.specs.declared.event.Event.TheVariants as event
 

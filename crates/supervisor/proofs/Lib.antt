@@ -10,3 +10,4 @@ pub mod TurnLemmas
 pub mod CauseLemmas
 pub mod ShownLemmas
 pub mod CyclesMet
+pub mod Lemmas

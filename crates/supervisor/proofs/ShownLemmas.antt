@@ -1,6 +1,5 @@
 -- What holds of the desk that a session shows.
-use Rattle.supervisor.proofs.Common.{not, IsFalse, is_some, get_or_past, page_count, FlatStore, Plain, after, Desk, Entry, opened, run, over_all, seat-told, Session, activity, session_desk, ShownIsConsistent, ShownIsIsolated}
-use Rattle.std.proofs.Common.{◌≡◌, ℕ, ◌+◌, ◌<◌, ◌≤◌, Bool, true, false, List, [], ◌∷◌, length, refl, sym, ◌∙◌, ap, subst, arith, Option, Some, None, get_or}
+use Rattle.supervisor.proofs.Common.{not, IsFalse, is_some, get_or_past, page_count, FlatStore, Plain, after, Desk, Entry, opened, run, over_all, seat-told, Session, activity, session_desk, ShownIsConsistent, ShownIsIsolated, ◌≡◌, ℕ, ◌+◌, ◌<◌, ◌≤◌, Bool, true, false, List, [], ◌∷◌, length, refl, sym, ◌∙◌, ap, subst, arith, Option, Some, None, get_or}
 use Rattle.frame_pool.specs.Sound.{is_apart}
 use Rattle.desk_law.specs.Consistent.{IsAmong, AreDistinct, AreResident, IsConsistent}
 use Rattle.desk_law.specs.Current.{IsCurrent}

@@ -12,3 +12,4 @@ pub use Rattle.tlb_model.specs.Buffer.{AreApart, ArePlaced, IsOfTable, after_fou
 pub use Rattle.tlb_model.specs.Ways.{AreClasses, pairs_of, unless_of, ways_without}
 pub use Rattle.tlb_model.specs.declared.tlb.Pair.{Pair}
 pub use Rattle.tlb_model.specs.declared.tlb.Ways.{Ways}
+pub use Rattle.std.proofs.lemmas.Bool.Decides.{nat_tests}

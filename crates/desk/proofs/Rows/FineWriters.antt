@@ -1,6 +1,5 @@
 -- Two writers of different lines of a fine page: neither waits.
-use Rattle.desk.proofs.Common.{range_with_len, lit≤, row_numbered, FlatStore, Four, Program, Begin, Turn, opened, Fine, fine_authority_by, instruction, turns, report, run}
-use Rattle.std.specs.Prelude.{◌≡◌, refl, true, false, [], ◌∷◌, ◌++◌, codes, replicate, slice_range}
+use Rattle.desk.proofs.Common.{range_with_len, lit≤, row_numbered, FlatStore, Four, Program, Begin, Turn, opened, Fine, fine_authority_by, instruction, turns, report, run, ◌≡◌, refl, true, false, [], ◌∷◌, ◌++◌, codes, replicate, slice_range}
 use Rattle.std.specs.Fmt.{digits}
 use Rattle.hex.specs.Hex.{encode_with}
 use Rattle.desk.proofs.Rows.Programs.{program, text, args, add_code}

@@ -1,5 +1,4 @@
-use Rattle.std.proofs.Common.{◌≡◌, drop}
-use Rattle.desk.specs.Run.{absent_segment}
+use Rattle.activations.proofs.Common.{◌≡◌, drop, absent_segment}
 use Rattle.activations.proofs.activations.absent_segment.Given as goal
 
 -- the windows so far have their segments

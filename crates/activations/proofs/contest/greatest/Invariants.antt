@@ -1,5 +1,4 @@
-use Rattle.std.proofs.Common.{◌≡◌, take}
-use Rattle.lock_rules.specs.Waits.{victim_of}
+use Rattle.activations.proofs.Common.{◌≡◌, take, victim_of}
 use Rattle.activations.proofs.contest.greatest.Given as goal
 
 abbrev pub invariant-loop-number : goal.invariant-loop-number

@@ -1,5 +1,4 @@
-use Rattle.activations.proofs.Common.{refl, take_all, holds_some, Holding, held_at, reach_of, unit-sound, sound-fits, ◌<◌, ℕ, List, sym, ap, ◌∙◌, subst, slice_index_or}
-use Rattle.activations.proofs.WrittenLemmas.{WrittenSo, written-none, written-same, undone-step, settled-step, page-held, page-there, writes-are, has-undone, has-settled, lines_of, written_in}
+use Rattle.activations.proofs.Lemmas.{refl, take_all, holds_some, Holding, held_at, reach_of, unit-sound, sound-fits, ◌<◌, ℕ, List, sym, ap, ◌∙◌, subst, slice_index_or, WrittenSo, written-none, written-same, undone-step, settled-step, page-held, page-there, writes-are, has-undone, has-settled, lines_of, written_in}
 use Rattle.activations.proofs.endings.end_written.Goals as goal
 use Rattle.activations.proofs.endings.end_written.Goals.{then-committed, else-committed}
 

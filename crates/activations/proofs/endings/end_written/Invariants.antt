@@ -1,5 +1,4 @@
-use Rattle.activations.proofs.Common.{take, reach_of}
-use Rattle.activations.proofs.WrittenLemmas.{WrittenSo, lines_of, written_in}
+use Rattle.activations.proofs.Lemmas.{take, reach_of, WrittenSo, lines_of, written_in}
 use Rattle.activations.proofs.endings.end_written.Given as goal
 
 -- the pages so far that were written into

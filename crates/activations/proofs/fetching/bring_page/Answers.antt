@@ -1,5 +1,4 @@
-use Rattle.activations.proofs.BringLemmas.{on-ok, either-way, came-asked, came-moved, came-resident, came-keeps, out-moved, out-keeps}
-use Rattle.activations.proofs.FetchLemmas.{if-err}
+use Rattle.activations.proofs.Lemmas.{on-ok, either-way, came-asked, came-moved, came-resident, came-keeps, out-moved, out-keeps, if-err}
 use Rattle.activations.proofs.fetching.bring_page.Goals as goal
 
 pub returns-clause-asks : goal.returns-clause-asks

@@ -1,5 +1,4 @@
-use Rattle.activations.proofs.Common.{IsSome, page_count, line_bytes, LinesOf, pool_of, pool-seen, Header, record_bytes, begun_of, with_line, KeptStore, ◌+◌, ◌*◌, ◌≤◌, ℕ, List, length, refl, sym, ◌∙◌, ap, subst, arith}
-use Rattle.activations.proofs.RecordLemmas.{Adds, adds-all, adds-none, adds-next, adds-one, next-line, next-above, next-room}
+use Rattle.activations.proofs.Lemmas.{IsSome, page_count, line_bytes, LinesOf, pool_of, pool-seen, Header, record_bytes, begun_of, with_line, KeptStore, ◌+◌, ◌*◌, ◌≤◌, ℕ, List, length, refl, sym, ◌∙◌, ap, subst, arith, Adds, adds-all, adds-none, adds-next, adds-one, next-line, next-above, next-room}
 use Rattle.activations.proofs.RecordBytes.{shown-long}
 use Rattle.activations.proofs.SizeLemmas.{lines-fit}
 use Rattle.activations.proofs.record.record_lines.Goals as goal

@@ -1,5 +1,4 @@
-use Rattle.frame_pool.specs.View.{pool_of}
-use Rattle.activations.proofs.RecordLemmas.{Adds}
+use Rattle.activations.proofs.Lemmas.{pool_of, Adds}
 use Rattle.activations.proofs.record.record_lines.Given as goal
 
 -- what is left of the page's lines is to be added

@@ -1,7 +1,5 @@
-use Rattle.activations.proofs.Common.{◌∙◌, sym, ap, subst, WasAttempted, printed_after, with_live, Reach, GivesRows, reach_of}
+use Rattle.activations.proofs.Lemmas.{◌∙◌, sym, ap, subst, WasAttempted, printed_after, with_live, Reach, GivesRows, reach_of, not-printed, room, attempted-at}
 use Rattle.romp_cpu.specs.declared.cpu.Attempt.{Attempt}
-use Rattle.activations.proofs.ExecuteLemmas.{not-printed}
-use Rattle.activations.proofs.StridingLemmas.{room, attempted-at}
 use Rattle.activations.proofs.rows.attempt_on.Goals as goal
 
 pub push-requires : goal.push-requires

@@ -1,8 +1,5 @@
-use Rattle.activations.proofs.Common.{Commit, Check, Access, reach_of, Activity, WasAttempted, IsShut, with_live, ◌≡◌, ◌∙◌, arith, refl, sym, subst, inl, inr}
+use Rattle.activations.proofs.Lemmas.{Commit, Check, Access, reach_of, Activity, WasAttempted, IsShut, with_live, ◌≡◌, ◌∙◌, arith, refl, sym, subst, inl, inr, took-either, came-still, none-yet, attempted-again, strode-one, strode-halted, came-either}
 use Rattle.romp_cpu.specs.declared.cpu.Attempt.{Attempt}
-use Rattle.activations.proofs.GoOnLemmas.{took-either}
-use Rattle.activations.proofs.StrideLemmas.{came-still}
-use Rattle.activations.proofs.StridingLemmas.{none-yet, attempted-again, strode-one, strode-halted, came-either}
 use Rattle.activations.proofs.rows.stride_on.Goals as goal
 
 pub loop-ran-init : goal.loop-ran-init

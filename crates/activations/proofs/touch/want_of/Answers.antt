@@ -1,6 +1,5 @@
-use Rattle.std.proofs.Common.{sym, ◌∙◌, ap}
+use Rattle.activations.proofs.Lemmas.{sym, ◌∙◌, ap, sets-one}
 use Rattle.activations.proofs.TouchLemmas.{sets_between, one-page}
-use Rattle.activations.proofs.TouchingLemmas.{sets-one}
 use Rattle.activations.proofs.touch.want_of.Goals.{then-store, else-store}
 use Rattle.activations.proofs.touch.want_of.Goals as goal
 

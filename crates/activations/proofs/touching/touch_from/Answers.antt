@@ -1,5 +1,4 @@
-use Rattle.activations.proofs.Common.{start_of, line_of, ◌≡◌, ◌+◌, ◌-◌, ◌∙◌, ap, arith}
-use Rattle.activations.proofs.TouchingLemmas.{near-lines}
+use Rattle.activations.proofs.Lemmas.{start_of, line_of, ◌≡◌, ◌+◌, ◌-◌, ◌∙◌, ap, arith, near-lines}
 use Rattle.activations.proofs.touching.touch_from.Goals as goal
 
 pub returns-clause-wanted : goal.returns-clause-wanted

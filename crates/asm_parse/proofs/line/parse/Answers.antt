@@ -1,8 +1,6 @@
-use Rattle.std.proofs.lemmas.Grind.{common_steps}
-use Rattle.asm_parse.proofs.Common.{◌≡◌, ℕ, List, Bor, Err, arith, ap, sym, ◌∙◌, subst, option_map, line_of}
+use Rattle.asm_parse.proofs.Lemmas.{◌≡◌, ℕ, List, Bor, Err, arith, ap, sym, ◌∙◌, subst, option_map, line_of, common_steps, all_read, line_faulty, line_read, gained_one, behind_shorter, left_of}
 use Rattle.asm_parse.specs.declared.fault.LineFault.{LineFault}
 use Rattle.asm_parse.specs.Answers.{IsFaultOf}
-use Rattle.asm_parse.proofs.TextLemmas.{all_read, line_faulty, line_read, gained_one, behind_shorter, left_of}
 use Rattle.asm_parse.proofs.line.parse.Goals as goal
 
 pub loop-left-preserved : goal.loop-left-preserved

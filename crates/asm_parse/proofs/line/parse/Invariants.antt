@@ -1,5 +1,4 @@
-use Rattle.asm_parse.proofs.Common.{◌≡◌, ◌+◌, ◌≤◌, length, option_map, is_feed, parsed, statements_from}
-use Rattle.asm_parse.proofs.TextLemmas.{left_of, parts_behind, statements_behind}
+use Rattle.asm_parse.proofs.Lemmas.{◌≡◌, ◌+◌, ◌≤◌, length, option_map, is_feed, parsed, statements_from, left_of, parts_behind, statements_behind}
 use Rattle.asm_parse.proofs.line.parse.Given as goal
 
 abbrev pub invariant-loop-left : goal.invariant-loop-left

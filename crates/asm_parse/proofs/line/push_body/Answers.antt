@@ -1,5 +1,4 @@
-use Rattle.std.proofs.lemmas.Grind.{common_steps}
-use Rattle.std.proofs.Common.{arith}
+use Rattle.asm_parse.proofs.Common.{common_steps, arith}
 use Rattle.asm_parse.proofs.line.push_body.Goals as goal
 
 pub returns-in-Err : goal.returns-in-Err

@@ -1,5 +1,4 @@
-use Rattle.std.proofs.lemmas.Grind.{common_steps}
-use Rattle.std.proofs.Common.{arith}
+use Rattle.asm_parse.proofs.Common.{common_steps, arith}
 use Rattle.asm_parse.proofs.line.split_label.Goals as goal
 
 pub returns-in-Word-clause-behind : goal.returns-in-Word-clause-behind

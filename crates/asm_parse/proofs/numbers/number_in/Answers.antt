@@ -1,5 +1,4 @@
-use Rattle.std.proofs.Common.{rules}
-use Rattle.asm_parse.proofs.NumberLemmas.{as_number}
+use Rattle.asm_parse.proofs.Lemmas.{rules, as_number}
 use Rattle.asm_parse.proofs.numbers.number_in.Goals as goal
 
 pub returns : goal.returns

@@ -1,5 +1,4 @@
-use Rattle.asm_parse.proofs.Common.{◌*◌, ap, arith, digits_more, digits_value_more, digit_value}
-use Rattle.asm_parse.proofs.NumberLemmas.{digit_at, value_so_far, all_taken}
+use Rattle.asm_parse.proofs.Lemmas.{◌*◌, ap, arith, digits_more, digits_value_more, digit_value, digit_at, value_so_far, all_taken}
 use Rattle.asm_parse.proofs.numbers.value_of.Goals as goal
 
 pub returns-in_err-digit : goal.returns-in_err-digit

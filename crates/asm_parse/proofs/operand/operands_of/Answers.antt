@@ -1,6 +1,4 @@
-use Rattle.std.proofs.lemmas.Grind.{common_steps}
-use Rattle.std.proofs.Common.{arith}
-use Rattle.asm_parse.proofs.OperandLemmas.{stopped}
+use Rattle.asm_parse.proofs.Lemmas.{common_steps, arith, stopped}
 use Rattle.asm_parse.proofs.operand.operands_of.Goals as goal
 
 pub returns-in_default : goal.returns-in_default

@@ -1,5 +1,4 @@
-use Rattle.asm_parse.proofs.Common.{◌≡◌, length, drop, Some, option_map, operands_of}
-use Rattle.asm_parse.proofs.OperandLemmas.{operands_behind}
+use Rattle.asm_parse.proofs.Lemmas.{◌≡◌, length, drop, Some, option_map, operands_of, operands_behind}
 use Rattle.asm_parse.proofs.operand.operands_of.Given as goal
 
 abbrev pub invariant-loop-sort : goal.invariant-loop-sort

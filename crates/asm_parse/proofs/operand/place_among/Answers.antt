@@ -1,5 +1,4 @@
-use Rattle.asm_parse.proofs.Common.{sym, ◌∙◌, bytes_eq}
-use Rattle.asm_parse.proofs.OperandLemmas.{position_mapped}
+use Rattle.asm_parse.proofs.Lemmas.{sym, ◌∙◌, bytes_eq, position_mapped}
 use Rattle.asm_parse.proofs.operand.place_among.Goals as goal
 
 pub returns-in-Some : goal.returns-in-Some

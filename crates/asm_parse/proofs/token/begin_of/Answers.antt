@@ -1,5 +1,4 @@
-use Rattle.std.proofs.Common.{sym}
-use Rattle.asm_parse.proofs.TokenLemmas.{begins_with_word, begins_with_digit, word_ascii, word_inside, number_inside}
+use Rattle.asm_parse.proofs.Lemmas.{sym, begins_with_word, begins_with_digit, word_ascii, word_inside, number_inside}
 use Rattle.asm_parse.proofs.token.begin_of.Goals as goal
 
 pub word_begins-requires-clause-ascii : goal.word_begins-requires-clause-ascii

@@ -1,5 +1,4 @@
-use Rattle.asm_parse.proofs.Common.{sym, ◌∙◌, append-nil, Blank, Comment, Takes, Bad}
-use Rattle.asm_parse.proofs.TokenLemmas.{step, behind_none, behind_one, behind_all}
+use Rattle.asm_parse.proofs.Lemmas.{sym, ◌∙◌, append-nil, Blank, Comment, Takes, Bad, step, behind_none, behind_one, behind_all}
 use Rattle.asm_parse.proofs.token.tokens_into.Goals as goal
 
 pub loop-first-init : goal.loop-first-init

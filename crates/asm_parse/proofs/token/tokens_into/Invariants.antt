@@ -1,5 +1,4 @@
-use Rattle.asm_parse.proofs.Common.{◌≡◌, length, tokens_past}
-use Rattle.asm_parse.proofs.TokenLemmas.{behind}
+use Rattle.asm_parse.proofs.Lemmas.{◌≡◌, length, tokens_past, behind}
 use Rattle.asm_parse.proofs.token.tokens_into.Given as goal
 
 abbrev pub invariant-loop-first : goal.invariant-loop-first

@@ -1,6 +1,4 @@
-use Rattle.std.proofs.lemmas.Grind.{common_steps}
-use Rattle.std.proofs.Common.{arith}
-use Rattle.checkpoint.proofs.Common.{◌≡◌, ℕ, get_or, sym, subst, ◌∙◌, Option, None, Some, OnOk, IsSome, line_bytes_of, Torn, written, bytes_at, LeavesStep, held_of, home_place, copied, TornLine}
+use Rattle.checkpoint.proofs.Common.{◌≡◌, ℕ, get_or, sym, subst, ◌∙◌, Option, None, Some, OnOk, IsSome, line_bytes_of, Torn, written, bytes_at, LeavesStep, held_of, home_place, copied, TornLine, common_steps, arith}
 use Rattle.std.proofs.lemmas.Option.{get_or_from_slice_get}
 use Rattle.checkpoint.proofs.home.copy_newest.Given.{Over}
 use Rattle.checkpoint.proofs.home.copy_newest.Goals as goal

@@ -1,5 +1,4 @@
-use Rattle.std.proofs.lemmas.Grind.{common_steps}
-use Rattle.std.proofs.Common.{arith}
+use Rattle.checkpoint.proofs.Common.{common_steps, arith}
 use Rattle.checkpoint.proofs.selector.read_selector.Goals as goal
 
 pub returns-else-selector-eq1-clause-selected : goal.returns-else-selector-eq1-clause-selected

@@ -1,8 +1,6 @@
-use Rattle.console.proofs.Common.{◌≡◌, ◌⊎◌, List, [], inl, inr, subst, sym, Call, call, given, Status, TracedFrom, Command, IsForm}
+use Rattle.console.proofs.Common.{◌≡◌, ◌⊎◌, List, [], inl, inr, subst, sym, Call, call, given, Status, TracedFrom, Command, IsForm, Made, Ended}
 use Rattle.desk.specs.Answers.{order_told}
 use Rattle.desk.specs.declared.answers.Committed.{Committed}
-use Rattle.store_calls.specs.New.{Made}
-use Rattle.job_calls.specs.declared.ended.Ended.{Ended}
 use Rattle.console.proofs.PromiseLemmas.{audits, follow_promise, renewal_promise, ship_promise, traces}
 use Rattle.console.proofs.DidLemmas.{made_as_said, traced_as_said}
 use Rattle.console.proofs.commands.console.Goals as goal

@@ -1,5 +1,4 @@
-use Rattle.console.proofs.Common.{◌∙◌}
-use Rattle.console.proofs.WantLemmas.{one_disk}
+use Rattle.console.proofs.Lemmas.{◌∙◌, one_disk}
 use Rattle.console.proofs.wants.disk_of.Goals as goal
 
 pub returns-in-Some-clause-asked : goal.returns-in-Some-clause-asked

@@ -1,5 +1,4 @@
-use Rattle.console.proofs.Common.{◌∙◌}
-use Rattle.console.proofs.WantLemmas.{one_reading}
+use Rattle.console.proofs.Lemmas.{◌∙◌, one_reading}
 use Rattle.console.proofs.wants.reads_source.Goals as goal
 
 pub returns-in-Some-clause-asked : goal.returns-in-Some-clause-asked

@@ -1,6 +1,5 @@
-use Rattle.console.proofs.Common.{◌≡◌, ℕ, suc, ◌+◌, ◌≤◌, ◌<◌, ◌^◌, ◌-◌, ◌/◌, ◌++◌, Bool, true, false, List, [], ◌∷◌, length, take, drop, slice_index_or, arith, sym, ◌∙◌, ap, All, Option, Some, None, MatchOption, Result, Ok, Err, OnOk, is_err, length-append, pow_below, IsInRange, spread}
+use Rattle.console.proofs.Lemmas.{◌≡◌, ℕ, suc, ◌+◌, ◌≤◌, ◌<◌, ◌^◌, ◌-◌, ◌/◌, ◌++◌, Bool, true, false, List, [], ◌∷◌, length, take, drop, slice_index_or, arith, sym, ◌∙◌, ap, All, Option, Some, None, MatchOption, Result, Ok, Err, OnOk, is_err, length-append, pow_below, IsInRange, spread, behind_first}
 use Rattle.std.specs.Int.{from_bool}
-use Rattle.console.proofs.WordLemmas.{behind_first}
 use Rattle.console.proofs.words.+add_segments.Goals as goal
 
 -- what holds of no further segments holds of none with one in front

@@ -1,4 +1,4 @@
-use Rattle.std.proofs.Common.{length}
+use Rattle.console.proofs.Common.{length}
 use Rattle.console.proofs.words.+add_segments.Given as goal
 
 abbrev pub decreases-add_segments : goal.decreases-add_segments

@@ -1,5 +1,4 @@
-use Rattle.console.proofs.Common.{◌≢◌, [], ℕ, Bool, ◌-◌, List, length, map, take, drop, sym, subst, string_bytes, AreNumbers}
-use Rattle.console.proofs.WordLemmas.{alone, not_empty, with_store, without_numbers}
+use Rattle.console.proofs.Lemmas.{◌≢◌, [], ℕ, Bool, ◌-◌, List, length, map, take, drop, sym, subst, string_bytes, AreNumbers, alone, not_empty, with_store, without_numbers}
 use Rattle.console.proofs.words.command_of.Goals as goal
 
 pub returns-in-len1 : goal.returns-in-len1

@@ -1,5 +1,4 @@
-use Rattle.console.proofs.Common.{◌≡◌, ℕ, List, ◌++◌, ap, ◌∙◌, sym, subst, IsLegal, AreFlags}
-use Rattle.console.proofs.WordLemmas.{flags_few, one_spread}
+use Rattle.console.proofs.Lemmas.{◌≡◌, ℕ, List, ◌++◌, ap, ◌∙◌, sym, subst, IsLegal, AreFlags, flags_few, one_spread}
 use Rattle.console.proofs.words.directory_of.Goals as goal
 
 pub returns-in-Err : goal.returns-in-Err

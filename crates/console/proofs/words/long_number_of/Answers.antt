@@ -1,5 +1,4 @@
-use Rattle.console.proofs.Common.{◌≡◌, ◌≢◌, ◌≤◌, ℕ, List, length, subst, slice_index, MatchResult, Result, ParsesUnsigned, IsLong}
-use Rattle.console.proofs.WordLemmas.{parsed_long}
+use Rattle.console.proofs.Lemmas.{◌≡◌, ◌≢◌, ◌≤◌, ℕ, List, length, subst, slice_index, MatchResult, Result, ParsesUnsigned, IsLong, parsed_long}
 use Rattle.console.proofs.words.long_number_of.Goals as goal
 
 -- what `parse` answered

@@ -1,6 +1,5 @@
-use Rattle.console.proofs.Common.{false, ◌∙◌, ap, sym, arith, None, option_map}
+use Rattle.console.proofs.Lemmas.{false, ◌∙◌, ap, sym, arith, None, option_map, without_mark}
 use Rattle.std.proofs.lemmas.Str.Pattern.{strip_suffix_char}
-use Rattle.console.proofs.WordLemmas.{without_mark}
 use Rattle.console.proofs.words.marked_of.Goals as goal
 
 pub returns-in_err-number_of-in-None : goal.returns-in_err-number_of-in-None

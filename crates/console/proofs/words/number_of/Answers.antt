@@ -1,5 +1,4 @@
-use Rattle.console.proofs.Common.{◌≡◌, ◌≢◌, ◌<◌, ◌≤◌, ℕ, List, Bool, false, length, subst, arith, slice_index, MatchResult, Result, Some, None, ◌==◌, ParsesUnsigned, nat_tests, number_of}
-use Rattle.console.proofs.WordLemmas.{parsed}
+use Rattle.console.proofs.Lemmas.{◌≡◌, ◌≢◌, ◌<◌, ◌≤◌, ℕ, List, Bool, false, length, subst, arith, slice_index, MatchResult, Result, Some, None, ◌==◌, ParsesUnsigned, nat_tests, number_of, parsed}
 use Rattle.console.proofs.words.number_of.Goals as goal
 
 -- what `parse` answered

@@ -1,5 +1,4 @@
-use Rattle.console.proofs.Common.{◌≡◌, ℕ, ◌+◌, ◌++◌, Bool, true, false, List, [], ◌∷◌, length, map, take, ap, subst, arith, ◌∙◌, sym, Result, Ok, Err, OnOk, OnErr, is_err, string_bytes, length-map, length-take, AreNumbers, marked_of}
-use Rattle.console.proofs.WordLemmas.{as_many, no_number, numbers_more}
+use Rattle.console.proofs.Lemmas.{◌≡◌, ℕ, ◌+◌, ◌++◌, Bool, true, false, List, [], ◌∷◌, length, map, take, ap, subst, arith, ◌∙◌, sym, Result, Ok, Err, OnOk, OnErr, is_err, string_bytes, length-map, length-take, AreNumbers, marked_of, as_many, no_number, numbers_more}
 use Rattle.console.proofs.words.numbers_of.Goals as goal
 
 pub returns-in-None : goal.returns-in-None

@@ -1,5 +1,4 @@
-use Rattle.console.proofs.Common.{rules, ◌≡◌, ◌≢◌, ℕ, List, [], sym, ◌∙◌, subst, arith, codes, MatchOption, IsLong}
-use Rattle.console.proofs.WordLemmas.{not_empty, with_long}
+use Rattle.console.proofs.Lemmas.{rules, ◌≡◌, ◌≢◌, ℕ, List, [], sym, ◌∙◌, subst, arith, codes, MatchOption, IsLong, not_empty, with_long}
 use Rattle.console.proofs.words.shipping.Goals as goal
 
 pub returns-in-len3 : goal.returns-in-len3

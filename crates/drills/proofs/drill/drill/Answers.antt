@@ -1,5 +1,4 @@
-use Rattle.drills.proofs.Common.{inr, broken, well}
-use Rattle.drills.proofs.DrillLemmas.{whole-put}
+use Rattle.drills.proofs.Lemmas.{inr, broken, well, whole-put}
 use Rattle.drills.proofs.drill.drill.Goals as goal
 
 pub returns-in-Err-put_last-clause-did : goal.returns-in-Err-put_last-clause-did

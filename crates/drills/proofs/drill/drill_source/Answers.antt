@@ -1,5 +1,4 @@
-use Rattle.drills.proofs.Common.{refl, given}
-use Rattle.drills.proofs.DrillLemmas.{drill-rose, drill-same, drilled-text, drilled-unread}
+use Rattle.drills.proofs.Lemmas.{refl, given, drill-rose, drill-same, drilled-text, drilled-unread}
 use Rattle.drills.proofs.drill.drill_source.Goals as goal
 
 pub returns-in-Err-clause-drilled : goal.returns-in-Err-clause-drilled

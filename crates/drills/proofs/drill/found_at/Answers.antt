@@ -1,5 +1,4 @@
-use Rattle.drills.proofs.Common.{◌*◌, ◌≤◌, length, ap, refl, subst, List, ℕ, sym, fine_order, try_flat, try_order}
-use Rattle.drills.proofs.DrillLemmas.{stop-fresh, stop-standing, stop-stands, try-standing, try-stands, unreached}
+use Rattle.drills.proofs.Lemmas.{◌*◌, ◌≤◌, length, ap, refl, subst, List, ℕ, sym, fine_order, try_flat, try_order, stop-fresh, stop-standing, stop-stands, try-standing, try-stands, unreached}
 use Rattle.drills.proofs.drill.found_at.Goals as goal
 
 pub drill_stop-requires-clause-stands : goal.drill_stop-requires-clause-stands

@@ -1,5 +1,4 @@
-use Rattle.drills.proofs.Common.{◌≡◌, ℕ, subst, IfOk}
-use Rattle.drills.proofs.DrillLemmas.{stop-all, stop-fresh, stop-standing, stop-stands, try-standing}
+use Rattle.drills.proofs.Lemmas.{◌≡◌, ℕ, subst, IfOk, stop-all, stop-fresh, stop-standing, stop-stands, try-standing}
 use Rattle.drills.proofs.drill.last_number.Goals as goal
 
 pub drill_stop-requires-clause-stands : goal.drill_stop-requires-clause-stands

@@ -1,5 +1,4 @@
-use Rattle.drills.proofs.Common.{List, [], ◌∷◌, ◌++◌, ℕ, ap, ◌∙◌, subst}
-use Rattle.drills.specs.Drilled.{IsFound}
+use Rattle.drills.proofs.Common.{List, [], ◌∷◌, ◌++◌, ℕ, ap, ◌∙◌, subst, IsFound}
 use Rattle.drills.proofs.drill.pair_at.Goals as goal
 
 pub returns : goal.returns

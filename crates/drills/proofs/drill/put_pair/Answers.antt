@@ -1,5 +1,4 @@
-use Rattle.drills.proofs.Common.{puts_on, puts_stop, stop_line}
-use Rattle.std.proofs.Common.{codes, rules}
+use Rattle.drills.proofs.Common.{puts_on, puts_stop, stop_line, codes, rules}
 use Rattle.drills.proofs.drill.put_pair.Goals as goal
 
 pub returns-in_err-put_stop-clause-puts : goal.returns-in_err-put_stop-clause-puts

@@ -1,6 +1,4 @@
-use Rattle.std.proofs.Common.{◌≡◌, ◌∙◌, arith}
-use Rattle.drills.proofs.Common.{broken, well}
-use Rattle.drills.proofs.DrillLemmas.{none-put, put-more}
+use Rattle.drills.proofs.Lemmas.{broken, well, ◌≡◌, ◌∙◌, arith, none-put, put-more}
 use Rattle.drills.proofs.drill.put_stops.Goals as goal
 
 pub loop-stops-init : goal.loop-stops-init

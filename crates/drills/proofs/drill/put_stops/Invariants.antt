@@ -1,5 +1,4 @@
-use Rattle.drills.proofs.Common.{well}
-use Rattle.drills.proofs.DrillLemmas.{IsPut}
+use Rattle.drills.proofs.Lemmas.{well, IsPut}
 use Rattle.drills.proofs.drill.put_stops.Given as goal
 
 -- the lines of the stops so far are put

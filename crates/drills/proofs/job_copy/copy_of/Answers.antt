@@ -1,5 +1,4 @@
-use Rattle.drills.proofs.Common.{◌≡◌, ◌∙◌, ap, refl, ArrayVec}
-use Rattle.std.specs.Prelude.{map}
+use Rattle.drills.proofs.Common.{◌≡◌, ◌∙◌, ap, refl, ArrayVec, map}
 use Rattle.drills.proofs.CopyLemmas.{is_ready, same_names}
 use Rattle.drills.proofs.job_copy.copy_of.Goals as goal
 

@@ -1,4 +1,4 @@
-use Rattle.std.proofs.Common.{◌≡◌, take}
+use Rattle.drills.proofs.Common.{◌≡◌, take}
 use Rattle.drills.proofs.job_copy.programs_of.Given as goal
 
 abbrev pub invariant-loop-program : goal.invariant-loop-program

@@ -1,5 +1,4 @@
-use Rattle.std.proofs.Common.{◌≡◌, ◌+◌, ◌∙◌, cond, ap, sym, arith}
-use Rattle.drills.proofs.SeenLemmas.{counted_feed, counted_other}
+use Rattle.drills.proofs.Lemmas.{◌≡◌, ◌+◌, ◌∙◌, cond, ap, sym, arith, counted_feed, counted_other}
 use Rattle.drills.proofs.stops.commits_in.Goals.{then-byte-eq10, then-starts_with, else-starts_with, else-byte-eq10}
 use Rattle.drills.proofs.stops.commits_in.Goals as goal
 

@@ -1,4 +1,4 @@
-use Rattle.drills.proofs.SeenLemmas.{IsCounted}
+use Rattle.drills.proofs.Lemmas.{IsCounted}
 use Rattle.drills.proofs.stops.commits_in.Given as goal
 
 -- what was counted, and what is still to be counted from the start of the line

@@ -1,10 +1,6 @@
-use Rattle.drills.proofs.Common.{◌≡◌, ◌∙◌, true, ap, refl, rules, arith, Some, List, [], ℕ, disk_held, disk_faults, disk_writes, FlatStore, Stands, stands, order_told, IsStop, fine_order, IfOk, IsStoppedRun, IsTold, commits_seen, job_desk, names_of, subst}
+use Rattle.drills.proofs.Lemmas.{◌≡◌, ◌∙◌, true, ap, refl, rules, arith, Some, List, [], ℕ, disk_held, disk_faults, disk_writes, FlatStore, Stands, stands, order_told, IsStop, fine_order, IfOk, IsStoppedRun, IsTold, commits_seen, job_desk, names_of, subst, MemoryDisk, disk_origin, screen_printed, HasLeft, is-reached, one-image, stop-is}
 use Rattle.std.proofs.lemmas.Result.{IfOk-weaker}
-use Rattle.outside.specs.declared.memory_disk.MemoryDisk.{MemoryDisk}
-use Rattle.outside.specs.MemoryDisk.{disk_origin}
-use Rattle.outside.specs.MemoryScreen.{screen_printed}
 use Rattle.drills.specs.StoppingDisk.{memory_of}
-use Rattle.drills.proofs.StopLemmas.{HasLeft, is-reached, one-image, stop-is}
 use Rattle.drills.proofs.stops.drill_stop.Goals as goal
 
 -- what was left on the disk that was made

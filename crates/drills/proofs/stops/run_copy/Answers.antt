@@ -1,7 +1,6 @@
-use Rattle.drills.proofs.Common.{ℕ, get_or, ArrayVec, order_told}
+use Rattle.drills.proofs.Lemmas.{ℕ, get_or, ArrayVec, order_told, happened-left, left-same}
 use Rattle.job_calls.proofs.NameLemmas.{name-unbroken}
 use Rattle.schedule_replay.proofs.WentLemmas.{names_are}
-use Rattle.drills.proofs.StopLemmas.{happened-left, left-same}
 use Rattle.drills.proofs.stops.run_copy.Goals as goal
 
 pub returns-clause-left : goal.returns-clause-left

@@ -1,7 +1,4 @@
-use Rattle.std.proofs.lemmas.Bool.Decides.{nat_tests}
-use Rattle.drills.proofs.Common.{◌≡◌, ◌<◌, ◌∙◌, false, sym, ap, arith, refl, rules, commits_seen, disk_faults}
-use Rattle.outside.specs.MemoryDisk.{is_disk_starved}
-use Rattle.drills.proofs.StoppingLemmas.{failed-stops, unfailed-runs}
+use Rattle.drills.proofs.Lemmas.{◌≡◌, ◌<◌, ◌∙◌, false, sym, ap, arith, refl, rules, commits_seen, disk_faults, nat_tests, is_disk_starved, failed-stops, unfailed-runs}
 use Rattle.drills.proofs.stops.told.Goals as goal
 
 pub returns-in-Done : goal.returns-in-Done

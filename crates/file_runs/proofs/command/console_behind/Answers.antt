@@ -1,4 +1,4 @@
-use Rattle.call_status.specs.Call.{given}
+use Rattle.file_runs.proofs.Common.{given}
 use Rattle.file_runs.proofs.WordLemmas.{did_on_file, did_on_screen, same_origin}
 use Rattle.file_runs.proofs.command.console_behind.Goals as goal
 

@@ -1,12 +1,7 @@
-use Rattle.outside.proofs.Common.{◌≡◌, ℕ, List, length, sym, ◌∙◌, ap, subst, refl, Some, LeftAt, Moment}
+use Rattle.file_runs.proofs.Common.{◌≡◌, ℕ, List, length, sym, ◌∙◌, ap, subst, refl, Some, LeftAt, Moment, Deed, images_at, is_write, printed_of, marks_of, count_by, given, DidOnFile}
 use Rattle.outside.specs.ClockLaws.{left_now}
 use Rattle.outside.specs.Origin.{Origin}
-use Rattle.real_files.specs.Deeds.{Deed, images_at, is_write}
-use Rattle.real_files.specs.Shown.{printed_of, marks_of}
 use Rattle.real_files.specs.ShownLaws.{marks_within}
-use Rattle.std.specs.Prelude.{count_by}
-use Rattle.call_status.specs.Call.{given}
-use Rattle.file_runs.specs.FileWords.{DidOnFile}
 use Rattle.file_runs.proofs.FileLemmas.{marks_counted}
 use Rattle.file_runs.proofs.command.console_on_file.Goals as goal
 

@@ -1,10 +1,6 @@
-use Rattle.outside.proofs.Common.{◌≡◌, ℕ, List, [], length, sym, ◌∙◌, ap, subst, refl, arith, Some}
+use Rattle.file_runs.proofs.Common.{◌≡◌, ℕ, List, [], length, sym, ◌∙◌, ap, subst, refl, arith, Some, Deed, printed_of, marks_of, given, DidOnScreen}
 use Rattle.outside.specs.MemoryDisk.{disk_held, disk_images, disk_moment}
 use Rattle.outside.specs.declared.memory_disk.MemoryDisk.{MemoryDisk}
-use Rattle.real_files.specs.Deeds.{Deed}
-use Rattle.real_files.specs.Shown.{printed_of, marks_of}
-use Rattle.call_status.specs.Call.{given}
-use Rattle.file_runs.specs.ScreenWords.{DidOnScreen}
 use Rattle.file_runs.proofs.FileLemmas.{marks_counted}
 use Rattle.file_runs.proofs.command.console_on_screen.Goals as goal
 

@@ -1,7 +1,5 @@
-use Rattle.flat_machine.proofs.Common.{length-drop, slice_set, big_number, fill_words}
-use Rattle.std.proofs.Common.{◌≡◌, refl, ℕ, suc, ◌+◌, ◌-◌, ◌*◌, ◌/◌, ◌<◌, List, length, take, drop, sym, ap, ◌∙◌, arith}
+use Rattle.flat_machine.proofs.Common.{length-drop, slice_set, big_number, fill_words, ◌≡◌, refl, ℕ, suc, ◌+◌, ◌-◌, ◌*◌, ◌/◌, ◌<◌, List, length, take, drop, sym, ap, ◌∙◌, arith, drop-drop}
 use Rattle.std.proofs.Math.Seq.{take-length}
-use Rattle.std.proofs.lemmas.List.{drop-drop}
 use Rattle.flat_machine.proofs.effects.fill_registers.Goals as goal
 
 -- four bytes fill a register, and those after them the others

@@ -1,5 +1,4 @@
-use Rattle.std.proofs.Common.{◌≡◌, ◌+◌, ◌-◌, ◌*◌, ◌/◌, drop, length}
-use Rattle.flat_machine.specs.Effect.{fill_words}
+use Rattle.flat_machine.proofs.Common.{◌≡◌, ◌+◌, ◌-◌, ◌*◌, ◌/◌, drop, length, fill_words}
 use Rattle.flat_machine.proofs.effects.fill_registers.Given as goal
 
 abbrev pub invariant-loop-i : goal.invariant-loop-i

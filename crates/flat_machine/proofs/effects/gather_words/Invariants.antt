@@ -1,5 +1,4 @@
-use Rattle.flat_machine.proofs.Common.{flat_map, big_bytes}
-use Rattle.std.proofs.Common.{◌≡◌, ◌*◌, take, drop}
+use Rattle.flat_machine.proofs.Common.{flat_map, big_bytes, ◌≡◌, ◌*◌, take, drop}
 use Rattle.flat_machine.proofs.effects.gather_words.Given as goal
 
 abbrev pub invariant-loop-i : goal.invariant-loop-i

@@ -1,7 +1,4 @@
-use Rattle.std.specs.Prelude.{◌≡◌, ◌*ℤ◌, pos}
-use Rattle.std.proofs.Common.{rules}
-use Rattle.flat_machine.specs.Branches.{target}
-use Rattle.flat_machine.specs.declared.ready.Ready.{Ready}
+use Rattle.flat_machine.proofs.Common.{◌≡◌, ◌*ℤ◌, pos, rules, target, Ready}
 use Rattle.flat_machine.proofs.making.ready_instruction.Goals as goal
 
 pub returns-in_ok-doing-in-J-clause-value : goal.returns-in_ok-doing-in-J-clause-value

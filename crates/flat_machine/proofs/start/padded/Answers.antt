@@ -1,5 +1,4 @@
-use Rattle.std.proofs.Common.{arith}
-use Rattle.std.proofs.lemmas.Grind.{common_steps}
+use Rattle.flat_machine.proofs.Common.{arith, common_steps}
 use Rattle.flat_machine.proofs.start.padded.Goals as goal
 
 pub returns-clause-value : goal.returns-clause-value

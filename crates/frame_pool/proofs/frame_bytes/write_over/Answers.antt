@@ -1,5 +1,4 @@
-use Rattle.std.proofs.Common.{arith}
-use Rattle.std.proofs.lemmas.Grind.{common_steps}
+use Rattle.frame_pool.proofs.Common.{arith, common_steps}
 use Rattle.frame_pool.proofs.frame_bytes.write_over.Goals as goal
 
 pub returns : goal.returns

@@ -1,6 +1,4 @@
-use Rattle.std.proofs.lemmas.Bool.Decides.{nat_tests}
-use Rattle.std.proofs.Common.{arith}
-use Rattle.frame_pool.proofs.PlaceLemmas.{range-push}
+use Rattle.frame_pool.proofs.Lemmas.{nat_tests, arith, range-push}
 use Rattle.frame_pool.proofs.pages.frames_from.Goals as goal
 
 pub loop-frame-preserved : goal.loop-frame-preserved

@@ -1,5 +1,4 @@
-use Rattle.std.proofs.lemmas.Bool.Decides.{nat_tests}
-use Rattle.inverted_table.proofs.Common.{ℕ, ◌-◌, ◌+◌, List, length, sym, ◌∙◌, ap, before_in, arith}
+use Rattle.inverted_table.proofs.Common.{ℕ, ◌-◌, ◌+◌, List, length, sym, ◌∙◌, ap, before_in, arith, nat_tests}
 use Rattle.inverted_table.proofs.WalkLemmas.{walked-none, walked-one, ends-one, before-here, before-later, same-option, other-option}
 use Rattle.inverted_table.proofs.chain.before.Goals as goal
 

@@ -1,6 +1,4 @@
-use Rattle.std.proofs.lemmas.Bool.Decides.{nat_tests}
-use Rattle.inverted_table.proofs.Common.{find, holds, key_in, chain_from, following}
-use Rattle.std.proofs.Common.{ℕ, ◌-◌, ◌+◌, length, sym, ◌∙◌, ap, cond, Some, refl, arith}
+use Rattle.inverted_table.proofs.Common.{find, holds, key_in, chain_from, following, nat_tests, ℕ, ◌-◌, ◌+◌, length, sym, ◌∙◌, ap, cond, Some, refl, arith}
 use Rattle.inverted_table.proofs.WalkLemmas.{walked-none, walked-one}
 use Rattle.inverted_table.proofs.chain.find_along.Goals as goal
 

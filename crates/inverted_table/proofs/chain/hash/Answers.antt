@@ -1,6 +1,4 @@
-use Rattle.std.proofs.lemmas.Grind.{common_steps}
-use Rattle.std.proofs.lemmas.Bool.Decides.{nat_tests}
-use Rattle.inverted_table.proofs.Common.{arith}
+use Rattle.inverted_table.proofs.Common.{arith, common_steps, nat_tests}
 use Rattle.std.proofs.lemmas.Nat.{and_mask}
 use Rattle.inverted_table.proofs.chain.hash.Goals as goal
 

@@ -1,5 +1,4 @@
-use Rattle.job_text.proofs.BigLemmas.{big_ready, from_none}
-use Rattle.job_text.specs.Big.{big_events}
+use Rattle.job_text.proofs.Lemmas.{big_events, big_ready, from_none}
 use Rattle.job_text.proofs.big.big_job.Goals as goal
 
 pub returns-clause-ready : goal.returns-clause-ready

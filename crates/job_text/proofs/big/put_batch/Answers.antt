@@ -1,5 +1,4 @@
-use Rattle.job_text.proofs.Common.{◌≡◌, ap, ◌∙◌, ◌++◌, arith, map, flat_map, range_with_len, transfer, turns_of}
-use Rattle.job_text.proofs.BigLemmas.{some_more, three_more}
+use Rattle.job_text.proofs.Lemmas.{◌≡◌, ap, ◌∙◌, ◌++◌, arith, map, flat_map, range_with_len, transfer, turns_of, some_more, three_more}
 use Rattle.job_text.proofs.big.put_batch.Goals as goal
 
 pub loop-round-preserved : goal.loop-round-preserved

@@ -1,5 +1,4 @@
-use Rattle.job_text.proofs.Common.{◌*◌, ◌-◌, min, ap, ◌∙◌, ◌++◌, batch}
-use Rattle.job_text.proofs.BigLemmas.{some_more}
+use Rattle.job_text.proofs.Lemmas.{◌*◌, ◌-◌, min, ap, ◌∙◌, ◌++◌, batch, some_more}
 use Rattle.job_text.proofs.big.put_batches.Goals as goal
 
 pub loop-place-preserved : goal.loop-place-preserved

@@ -1,5 +1,4 @@
-use Rattle.job_text.proofs.Common.{◌+◌, ◌∷◌, [], ◌++◌, ap, ◌∙◌, refl, transfer}
-use Rattle.job_text.proofs.BigLemmas.{one_more}
+use Rattle.job_text.proofs.Lemmas.{◌+◌, ◌∷◌, [], ◌++◌, ap, ◌∙◌, refl, transfer, one_more}
 use Rattle.job_text.proofs.big.put_begins.Goals as goal
 
 pub loop-place-preserved : goal.loop-place-preserved

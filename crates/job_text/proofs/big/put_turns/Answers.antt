@@ -1,5 +1,4 @@
-use Rattle.job_text.proofs.Common.{◌+◌, refl, Turn}
-use Rattle.job_text.proofs.BigLemmas.{one_more}
+use Rattle.job_text.proofs.Lemmas.{◌+◌, refl, Turn, one_more}
 use Rattle.job_text.proofs.big.put_turns.Goals as goal
 
 pub loop-place-preserved : goal.loop-place-preserved

@@ -1,6 +1,5 @@
-use Rattle.std.proofs.Common.{List, ℕ, Bor, ap}
+use Rattle.job_text.proofs.Lemmas.{List, ℕ, Bor, ap, first_cut, first_shorter, only_part}
 use Rattle.std.specs.Option.{option_map}
-use Rattle.job_text.proofs.GrammarLemmas.{first_cut, first_shorter, only_part}
 use Rattle.job_text.proofs.grammar.next_line.Goals as goal
 
 pub returns-in-Some : goal.returns-in-Some

@@ -1,6 +1,4 @@
-use Rattle.job_text.proofs.Common.{◌+◌, arith, ap, length, sum_by, Reading, read_from, lines_of, reading_of}
-use Rattle.job_text.proofs.GrammarLemmas.{last_left, line_faulty, line_more}
-use Rattle.job_text.proofs.BackLemmas.{answer_ready}
+use Rattle.job_text.proofs.Lemmas.{◌+◌, arith, ap, length, sum_by, Reading, read_from, lines_of, reading_of, last_left, line_faulty, line_more, answer_ready}
 use Rattle.job_text.proofs.grammar.read_job.Goals as goal
 
 pub loop-line-init : goal.loop-line-init

@@ -1,4 +1,4 @@
-use Rattle.job_text.proofs.LawLemmas.{job_or_fault, no_fault, one_job}
+use Rattle.job_text.proofs.Lemmas.{job_or_fault, no_fault, one_job}
 use Rattle.job_text.proofs.law.a_text_has_one_answer.Goals as goal
 
 pub returns-clause-some : goal.returns-clause-some

@@ -1,4 +1,4 @@
-use Rattle.job_text.proofs.LawLemmas.{first_fault}
+use Rattle.job_text.proofs.Lemmas.{first_fault}
 use Rattle.job_text.proofs.law.faults_end_the_reading.Goals as goal
 
 pub returns : goal.returns

@@ -1,6 +1,4 @@
-use Rattle.std.proofs.lemmas.Grind.{common_steps}
-use Rattle.std.proofs.Common.{arith, sym, append-nil}
-use Rattle.job_text.proofs.DrainLemmas.{no_rounds, round_more, rounds_short, rounds_within, round_fits}
+use Rattle.job_text.proofs.Lemmas.{common_steps, arith, sym, append-nil, no_rounds, round_more, rounds_short, rounds_within, round_fits}
 use Rattle.job_text.proofs.reader.drain.Goals as goal
 
 pub loop-round-init : goal.loop-round-init

@@ -1,6 +1,4 @@
-use Rattle.std.proofs.lemmas.Grind.{common_steps}
-use Rattle.std.proofs.Common.{arith, sym, ap, append-nil, length}
-use Rattle.job_text.proofs.DrainLemmas.{no_turns, turn_more, turns_short}
+use Rattle.job_text.proofs.Lemmas.{common_steps, arith, sym, ap, append-nil, length, no_turns, turn_more, turns_short}
 use Rattle.job_text.proofs.reader.turns_to.Goals as goal
 
 pub loop-before-init : goal.loop-before-init

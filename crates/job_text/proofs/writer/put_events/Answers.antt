@@ -1,5 +1,4 @@
-use Rattle.std.proofs.lemmas.Grind.{common_steps}
-use Rattle.std.proofs.Common.{arith}
+use Rattle.job_text.proofs.Common.{common_steps, arith}
 use Rattle.job_text.proofs.writer.put_events.Goals as goal
 
 pub loop-event-preserved : goal.loop-event-preserved

@@ -1,5 +1,4 @@
-use Rattle.std.proofs.lemmas.Grind.{common_steps}
-use Rattle.std.proofs.Common.{arith}
+use Rattle.job_text.proofs.Common.{common_steps, arith}
 use Rattle.job_text.proofs.writer.put_name_line.Goals as goal
 
 pub returns : goal.returns

@@ -1,7 +1,6 @@
-use Rattle.job_text.proofs.Common.{rules, ◌≡◌, ℕ, suc, List, ◌∷◌, ◌++◌, [], length, length-append, ap, ◌∙◌, subst, arith, All, flat_map, zip_turn, zip_end, Parts, parts_of, AreBytes, line_text, program_lines}
+use Rattle.job_text.proofs.Lemmas.{rules, ◌≡◌, ℕ, suc, List, ◌∷◌, ◌++◌, [], length, length-append, ap, ◌∙◌, subst, arith, All, flat_map, zip_turn, zip_end, Parts, parts_of, AreBytes, line_text, program_lines, all_more, pair_more, pairs_whole, text_more}
 use Rattle.std.specs.Iterator.Adapters.{zip_first, zip_second}
 use Rattle.std.specs.Slice.Iter.{iter_rest}
-use Rattle.job_text.proofs.PutLemmas.{all_more, pair_more, pairs_whole, text_more}
 use Rattle.job_text.proofs.writer.put_programs.Goals as goal
 
 pub loop-name-preserved : goal.loop-name-preserved

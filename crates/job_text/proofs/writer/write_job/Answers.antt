@@ -1,6 +1,4 @@
-use Rattle.job_text.proofs.Common.{◌≡◌, ℕ, ◌<◌, ◌^◌, List, ◌++◌, length, codes, ap, sym, subst, ◌∙◌, content_of, job_of, line_text, number_line, written}
-use Rattle.job_text.proofs.BackLemmas.{read_back, short_back}
-use Rattle.job_text.proofs.PutLemmas.{job_put}
+use Rattle.job_text.proofs.Lemmas.{◌≡◌, ℕ, ◌<◌, ◌^◌, List, ◌++◌, length, codes, ap, sym, subst, ◌∙◌, content_of, job_of, line_text, number_line, written, read_back, short_back, job_put}
 use Rattle.job_text.proofs.writer.write_job.Goals.{In_ok-put_word_line-2}
 use Rattle.job_text.proofs.writer.write_job.Goals as goal
 

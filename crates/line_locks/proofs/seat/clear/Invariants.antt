@@ -1,5 +1,4 @@
-use Rattle.line_locks.proofs.Common.{has, nothing, of_page}
-use Rattle.std.proofs.Common.{◌≡◌, true, false, ℕ, length, take}
+use Rattle.line_locks.proofs.Common.{has, nothing, of_page, ◌≡◌, true, false, ℕ, length, take}
 use Rattle.line_locks.proofs.seat.clear.Given as goal
 
 -- nothing is held of those that were looked at

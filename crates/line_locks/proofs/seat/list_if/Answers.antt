@@ -1,5 +1,4 @@
-use Rattle.line_locks.proofs.Common.{if◌then◌else◌, Result, Ok, Err, is_ok, IsOk, insert, IsPermutation, Ascend}
-use Rattle.std.proofs.Common.{◌≡◌, ◌<◌, ◌≤◌, ℕ, List, ◌∷◌, [], ◌++◌, Bool, length, sym, ap, subst, arith, get_or}
+use Rattle.line_locks.proofs.Common.{if◌then◌else◌, Result, Ok, Err, is_ok, IsOk, insert, IsPermutation, Ascend, ◌≡◌, ◌<◌, ◌≤◌, ℕ, List, ◌∷◌, [], ◌++◌, Bool, length, sym, ap, subst, arith, get_or}
 use Rattle.line_locks.proofs.OrderLemmas.{ascend-insert, insert-moves}
 use Rattle.line_locks.proofs.seat.list_if.Goals as goal
 

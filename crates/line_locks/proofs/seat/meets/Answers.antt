@@ -1,4 +1,4 @@
-use Rattle.std.proofs.Common.{arith}
+use Rattle.line_locks.proofs.Common.{arith}
 use Rattle.std.proofs.lemmas.Nat.{and_le_l}
 use Rattle.line_locks.proofs.MeetsLemmas.{meets-bits}
 use Rattle.line_locks.proofs.seat.meets.Goals as goal

@@ -1,4 +1,4 @@
-use Rattle.std.proofs.Common.{arith}
+use Rattle.outside.proofs.Common.{arith}
 use Rattle.outside.proofs.calls.writes_of.Goals as goal
 
 pub returns : goal.returns

@@ -1,4 +1,4 @@
-use Rattle.std.proofs.Common.{◌≤◌, length}
+use Rattle.real_files.proofs.Common.{◌≤◌, length}
 use Rattle.real_files.proofs.std_out.hand_over.Given as goal
 
 -- no more was taken than there is

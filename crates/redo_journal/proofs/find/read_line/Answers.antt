@@ -1,6 +1,4 @@
-use Rattle.redo_journal.proofs.Common.{asks_one, asks_on, ◌≡◌, ◌+◌, List, ℕ, take, drop, ap, sym, subst, ◌∙◌, arith, drop-drop, big_number, big_from-take, line_bytes, bytes_at, held_of, read_is}
-use Rattle.std.specs.Prelude.{IfSome}
-use Rattle.redo_journal.proofs.ReadLemmas.{read_on}
+use Rattle.redo_journal.proofs.Lemmas.{asks_one, asks_on, ◌≡◌, ◌+◌, List, ℕ, take, drop, ap, sym, subst, ◌∙◌, arith, drop-drop, big_number, big_from-take, line_bytes, bytes_at, held_of, read_is, IfSome, read_on}
 use Rattle.redo_journal.proofs.find.read_line.Goals as goal
 
 pub returns-clause-read : goal.returns-clause-read

@@ -1,4 +1,4 @@
-use Rattle.std.proofs.Common.{arith}
+use Rattle.redo_journal.proofs.Common.{arith}
 use Rattle.redo_journal.proofs.find.read_record.Goals as goal
 
 pub returns-else-next-bank_bytes-clause-read : goal.returns-else-next-bank_bytes-clause-read

@@ -1,8 +1,5 @@
-use Rattle.std.proofs.lemmas.Grind.{common_steps}
-use Rattle.std.proofs.Common.{arith}
-use Rattle.redo_journal.proofs.Common.{◌≡◌, List, ℕ, ◌+◌, ◌≤◌, ◌∷◌, [], length, sym, subst, ap, ◌∙◌, Torn, written, held_of, Leaves, told_some, leaves_on, IsSafe, IsShut, is_open}
+use Rattle.redo_journal.proofs.Lemmas.{◌≡◌, List, ℕ, ◌+◌, ◌≤◌, ◌∷◌, [], length, sym, subst, ap, ◌∙◌, Torn, written, held_of, Leaves, told_some, leaves_on, IsSafe, IsShut, is_open, common_steps, arith, writes_on}
 use Rattle.outside.specs.Durable.{IsWritten}
-use Rattle.redo_journal.proofs.WriteLemmas.{writes_on}
 use Rattle.redo_journal.proofs.GateLemmas.{safe_behind, safe_at, opened, opened_torn, held_is}
 use Rattle.redo_journal.proofs.keep.keep_body.Given.{Over}
 use Rattle.redo_journal.proofs.keep.keep_body.Goals as goal

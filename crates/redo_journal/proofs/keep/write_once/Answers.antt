@@ -1,4 +1,4 @@
-use Rattle.redo_journal.proofs.WriteLemmas.{once}
+use Rattle.redo_journal.proofs.Lemmas.{once}
 use Rattle.redo_journal.proofs.keep.write_once.Goals as goal
 
 pub returns : goal.returns

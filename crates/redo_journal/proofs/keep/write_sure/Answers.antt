@@ -1,5 +1,4 @@
-use Rattle.redo_journal.proofs.Common.{List, ℕ, length, Torn, held_of, torn_first, asks_one, leaves_same}
-use Rattle.redo_journal.proofs.WriteLemmas.{writes_on, asks_only}
+use Rattle.redo_journal.proofs.Lemmas.{List, ℕ, length, Torn, held_of, torn_first, asks_one, leaves_same, writes_on, asks_only}
 use Rattle.redo_journal.proofs.keep.write_sure.Goals as goal
 
 pub returns-clause-only : goal.returns-clause-only

@@ -1,7 +1,5 @@
-use Rattle.redo_journal.proofs.Common.{◌≡◌, ℕ, ◌+◌, ◌%◌, ◌^◌, List, [], length, drop, sym, subst, ◌∙◌, ap, arith, refl, IsSome, Option, unwrap_or, big_number, big_from-take, number_at, gate_at, bank_held, held_of, AreWithin, read_is, asks_one, asks_on}
+use Rattle.redo_journal.proofs.Lemmas.{◌≡◌, ℕ, ◌+◌, ◌%◌, ◌^◌, List, [], length, drop, sym, subst, ◌∙◌, ap, arith, refl, IsSome, Option, unwrap_or, big_number, big_from-take, number_at, gate_at, bank_held, held_of, AreWithin, read_is, asks_one, asks_on, reads_within, read_gate, starts, read_closed, read_wrong, read_sound, area_to}
 use Rattle.store_format.specs.Bank as format
-use Rattle.redo_journal.proofs.ReadLemmas.{reads_within}
-use Rattle.redo_journal.proofs.BankLemmas.{read_gate, starts, read_closed, read_wrong, read_sound, area_to}
 use Rattle.redo_journal.proofs.read.read_bank.Given.{Over}
 use Rattle.redo_journal.proofs.read.read_bank.Goals as goal
 use Rattle.redo_journal.proofs.read.read_bank.Goals.{After-read_gate}

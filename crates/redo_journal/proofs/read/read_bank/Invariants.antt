@@ -1,5 +1,4 @@
-use Rattle.redo_journal.proofs.Common.{◌≡◌, ◌+◌, ◌*◌, ◌<◌, ◌≤◌, length, IsSome, OnlyAsks, held_of, AreWithin}
-use Rattle.redo_journal.proofs.BankLemmas.{Reaches}
+use Rattle.redo_journal.proofs.Lemmas.{◌≡◌, ◌+◌, ◌*◌, ◌<◌, ◌≤◌, length, IsSome, OnlyAsks, held_of, AreWithin, Reaches}
 use Rattle.redo_journal.proofs.read.read_bank.Given as goal
 
 abbrev pub invariant-loop-count : goal.invariant-loop-count

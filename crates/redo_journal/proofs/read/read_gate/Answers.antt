@@ -1,7 +1,4 @@
-use Rattle.std.proofs.lemmas.Grind.{common_steps}
-use Rattle.redo_journal.proofs.Common.{◌≡◌, ℕ, ◌+◌, ◌*◌, List, [], length, drop, sym, subst, ◌∙◌, ap, arith, IsSome, entry_bytes, RecordLine, lines_from, wrong_line, gate_if, lined_gate, held_of, OnlyAsks, noted, read_is, asks_on, asks_one}
-use Rattle.std.specs.Prelude.{Option, None, Some, unwrap_or, slice_index, ◌==◌}
-use Rattle.redo_journal.proofs.ReadLemmas.{first_read, gate_read, gate_misnumbered, read_on}
+use Rattle.redo_journal.proofs.Lemmas.{◌≡◌, ℕ, ◌+◌, ◌*◌, List, [], length, drop, sym, subst, ◌∙◌, ap, arith, IsSome, entry_bytes, RecordLine, lines_from, wrong_line, gate_if, lined_gate, held_of, OnlyAsks, noted, read_is, asks_on, asks_one, common_steps, Option, None, Some, unwrap_or, slice_index, ◌==◌, first_read, gate_read, gate_misnumbered, read_on}
 use Rattle.redo_journal.proofs.read.read_gate.Given.{Over}
 use Rattle.redo_journal.proofs.read.read_gate.Goals as goal
 use Rattle.redo_journal.proofs.read.read_gate.Goals.{After-read_lines}

@@ -1,6 +1,4 @@
-use Rattle.redo_journal.proofs.Common.{◌≡◌, ℕ, ◌+◌, ◌*◌, ◌≤◌, List, [], ◌∷◌, length, sym, subst, ◌∙◌, ap, arith, IsSome, false, ForSome, Option, Some, unwrap_or, nat_le, nat_lt, ◌&&◌, overlaid, entry_bytes, wrong_line, bytes_at, OnlyAsks, held_of, noted, AreWithin, read_is, asks_on, asks_one, in_order, entries-below}
-use Rattle.redo_journal.proofs.WithinLemmas.{within-overlaid}
-use Rattle.redo_journal.proofs.ReadLemmas.{lines_after, wrong_here, right_here, noted_here, is_low, is_high, reads_within}
+use Rattle.redo_journal.proofs.Lemmas.{◌≡◌, ℕ, ◌+◌, ◌*◌, ◌≤◌, List, [], ◌∷◌, length, sym, subst, ◌∙◌, ap, arith, IsSome, false, ForSome, Option, Some, unwrap_or, nat_le, nat_lt, ◌&&◌, overlaid, entry_bytes, wrong_line, bytes_at, OnlyAsks, held_of, noted, AreWithin, read_is, asks_on, asks_one, in_order, entries-below, within-overlaid, lines_after, wrong_here, right_here, noted_here, is_low, is_high, reads_within}
 use Rattle.redo_journal.proofs.read.read_lines.Given.{Over}
 use Rattle.redo_journal.proofs.read.read_lines.Goals as goal
 use Rattle.redo_journal.proofs.read.read_lines.Goals.{After-read_u32-line, then-from-least-via-then-from-least, then-from-least-via-else-from-least+then-len-line}

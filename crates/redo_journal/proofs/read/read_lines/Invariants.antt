@@ -1,5 +1,4 @@
-use Rattle.redo_journal.proofs.Common.{◌≡◌, ℕ, ◌+◌, ◌*◌, ◌≤◌, length, drop, IsSome, entry_bytes, lines_from, wrong_line, OnlyAsks, held_of, noted, AreWithin}
-use Rattle.redo_journal.proofs.ReadLemmas.{lines_after}
+use Rattle.redo_journal.proofs.Lemmas.{◌≡◌, ℕ, ◌+◌, ◌*◌, ◌≤◌, length, drop, IsSome, entry_bytes, lines_from, wrong_line, OnlyAsks, held_of, noted, AreWithin, lines_after}
 use Rattle.redo_journal.proofs.read.read_lines.Given as goal
 
 abbrev pub invariant-loop-i : goal.invariant-loop-i

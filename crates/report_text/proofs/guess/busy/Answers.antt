@@ -1,4 +1,4 @@
-use Rattle.std.proofs.Common.{[], ◌∷◌, refl}
+use Rattle.report_text.proofs.Common.{[], ◌∷◌, refl}
 use Rattle.report_text.proofs.guess.busy.Goals as goal
 
 pub returns : goal.returns

@@ -1,4 +1,4 @@
-use Rattle.std.proofs.Common.{[], ◌∷◌, codes, decimal, refl}
+use Rattle.report_text.proofs.Common.{[], ◌∷◌, codes, decimal, refl}
 use Rattle.report_text.proofs.guess.doubt.Goals as goal
 
 pub returns : goal.returns

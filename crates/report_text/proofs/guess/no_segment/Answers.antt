@@ -1,5 +1,4 @@
-use Rattle.std.proofs.Common.{[], ◌∷◌, decimal, refl}
-use Rattle.report_text.proofs.PartLemmas.{name_word}
+use Rattle.report_text.proofs.Lemmas.{[], ◌∷◌, decimal, refl, name_word}
 use Rattle.report_text.proofs.guess.no_segment.Goals as goal
 
 pub returns : goal.returns

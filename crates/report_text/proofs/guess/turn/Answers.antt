@@ -1,4 +1,4 @@
-use Rattle.std.proofs.Common.{ℕ, List, [], ◌∷◌, codes, decimal, refl}
+use Rattle.report_text.proofs.Common.{ℕ, List, [], ◌∷◌, codes, decimal, refl}
 use Rattle.report_text.proofs.guess.turn.Goals as goal
 
 pub returns : goal.returns

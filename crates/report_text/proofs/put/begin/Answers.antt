@@ -1,5 +1,4 @@
-use Rattle.report_text.proofs.Common.{ℕ, List, [], ◌∷◌, ◌++◌, ap, sym, ◌∙◌, codes, line_text, line_told}
-use Rattle.std.specs.Prelude.{decimal}
+use Rattle.report_text.proofs.Common.{ℕ, List, [], ◌∷◌, ◌++◌, ap, sym, ◌∙◌, codes, line_text, line_told, decimal}
 use Rattle.report_text.specs.declared.line.Line.{Line}
 use Rattle.report_text.proofs.Listed.{joined, wait_joined}
 use Rattle.report_text.proofs.put.begin.Goals as goal

@@ -1,5 +1,4 @@
-use Rattle.report_text.proofs.Common.{◌≡◌, ◌+◌, ◌*◌, ◌≤◌, ◌∷◌, ◌++◌, length, take, flat_map}
-use Rattle.std.specs.Prelude.{decimal}
+use Rattle.report_text.proofs.Common.{◌≡◌, ◌+◌, ◌*◌, ◌≤◌, ◌∷◌, ◌++◌, length, take, flat_map, decimal}
 use Rattle.report_text.proofs.put.listed.Given as goal
 
 -- so many numbers are listed

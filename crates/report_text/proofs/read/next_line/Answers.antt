@@ -1,5 +1,4 @@
-use Rattle.std.proofs.Common.{sym, ◌∙◌}
-use Rattle.report_text.proofs.LineLemmas.{no_line, up_to_feed}
+use Rattle.report_text.proofs.Lemmas.{sym, ◌∙◌, no_line, up_to_feed}
 use Rattle.report_text.proofs.read.next_line.Goals as goal
 
 pub returns-in-None : goal.returns-in-None

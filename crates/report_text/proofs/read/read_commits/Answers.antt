@@ -1,6 +1,4 @@
-use Rattle.report_text.proofs.Common.{List, [], refl, ◌++◌, ◌∷◌, ap, sym, ◌∙◌, append-nil, length-append, arith, filter, filter-append, flat_map, is_commit, All-push, line_text, IsWhole, owned_told, empty_is}
-use Rattle.report_text.specs.declared.owned.OwnedLine.{OwnedLine}
-use Rattle.report_text.proofs.LineLemmas.{bytes_more, fewer}
+use Rattle.report_text.proofs.Lemmas.{List, [], refl, ◌++◌, ◌∷◌, ap, sym, ◌∙◌, append-nil, length-append, arith, filter, filter-append, flat_map, is_commit, All-push, line_text, IsWhole, owned_told, empty_is, OwnedLine, bytes_more, fewer}
 use Rattle.report_text.proofs.read.read_commits.Goals as goal
 
 pub loop-left-init : goal.loop-left-init

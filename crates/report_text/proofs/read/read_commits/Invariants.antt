@@ -1,5 +1,4 @@
-use Rattle.report_text.proofs.Common.{◌≡◌, ◌+◌, ◌≤◌, ◌++◌, List, length, filter, All, flat_map, is_commit, line_text, IsWhole, owned_told}
-use Rattle.report_text.specs.declared.owned.OwnedLine.{OwnedLine}
+use Rattle.report_text.proofs.Common.{◌≡◌, ◌+◌, ◌≤◌, ◌++◌, List, length, filter, All, flat_map, is_commit, line_text, IsWhole, owned_told, OwnedLine}
 use Rattle.report_text.proofs.read.read_commits.Given as goal
 
 abbrev pub invariant-loop-left : goal.invariant-loop-left

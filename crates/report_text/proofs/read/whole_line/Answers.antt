@@ -1,5 +1,4 @@
-use Rattle.report_text.proofs.Common.{◌∙◌, line_told, IsWhole}
-use Rattle.report_text.proofs.LineLemmas.{not_both, without_feed}
+use Rattle.report_text.proofs.Lemmas.{◌∙◌, line_told, IsWhole, not_both, without_feed}
 use Rattle.report_text.proofs.read.whole_line.Goals as goal
 use Rattle.report_text.proofs.read.whole_line.Goals.{else-is_line-via-then-is_line+else-is_written, else-is_line-via-else-is_line}
 

@@ -1,5 +1,4 @@
-use Rattle.std.proofs.Common.{◌∙◌}
-use Rattle.report_text.proofs.PartLemmas.{address_is}
+use Rattle.report_text.proofs.Lemmas.{◌∙◌, address_is}
 use Rattle.report_text.proofs.word.address.Goals as goal
 
 pub returns : goal.returns

@@ -1,5 +1,4 @@
-use Rattle.report_text.proofs.PartLemmas.{all_listed, one_more}
-use Rattle.text_line.proofs.Bytes.{empty_is, some_is}
+use Rattle.report_text.proofs.Lemmas.{empty_is, some_is, all_listed, one_more}
 use Rattle.report_text.proofs.word.all_small.Goals as goal
 
 pub loop-left-preserved : goal.loop-left-preserved

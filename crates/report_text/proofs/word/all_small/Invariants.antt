@@ -1,5 +1,4 @@
-use Rattle.report_text.proofs.Common.{◌≡◌, ℕ, ◌^◌, ◌<◌, List, length, map, decimal, AllByRecursion, join_with_byte}
-use Rattle.report_text.proofs.PartLemmas.{Left}
+use Rattle.report_text.proofs.Lemmas.{◌≡◌, ℕ, ◌^◌, ◌<◌, List, length, map, decimal, AllByRecursion, join_with_byte, Left}
 use Rattle.report_text.proofs.word.all_small.Given as goal
 
 abbrev pub invariant-loop-left : goal.invariant-loop-left

@@ -1,7 +1,6 @@
-use Rattle.report_text.proofs.Common.{◌≡◌, ◌≢◌, List, [], ℕ, ◌<◌, ◌∙◌, inl, inr, All, printed}
+use Rattle.report_text.proofs.Lemmas.{◌≡◌, ◌≢◌, List, [], ℕ, ◌<◌, ◌∙◌, inl, inr, All, printed, decoded, undecoded}
 use Rattle.std.proofs.lemmas.Result.{IfOk-weaker}
 use Rattle.hex.specs.declared.error.FromHexError.TheVariants.{OutOfMemory}
-use Rattle.report_text.proofs.PartLemmas.{decoded, undecoded}
 use Rattle.report_text.proofs.word.bytes.Goals as goal
 
 pub returns-in-Ok : goal.returns-in-Ok

@@ -1,5 +1,4 @@
-use Rattle.std.proofs.Common.{decimal}
-use Rattle.report_text.proofs.PartLemmas.{number_word}
+use Rattle.report_text.proofs.Lemmas.{decimal, number_word}
 use Rattle.report_text.proofs.word.first_number.Goals as goal
 
 pub returns-clause-parts : goal.returns-clause-parts

@@ -1,5 +1,4 @@
-use Rattle.std.proofs.Common.{decimal, arith}
-use Rattle.report_text.proofs.PartLemmas.{number_word}
+use Rattle.report_text.proofs.Lemmas.{decimal, arith, number_word}
 use Rattle.report_text.proofs.word.first_small.Goals as goal
 
 pub returns-clause-parts : goal.returns-clause-parts

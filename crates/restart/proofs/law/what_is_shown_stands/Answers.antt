@@ -1,4 +1,4 @@
-use Rattle.restart.proofs.ShowLemmas.{shown_stands}
+use Rattle.restart.proofs.Lemmas.{shown_stands}
 use Rattle.restart.proofs.law.what_is_shown_stands.Goals as goal
 
 pub returns : goal.returns

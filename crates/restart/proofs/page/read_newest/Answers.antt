@@ -1,5 +1,5 @@
+use Rattle.restart.proofs.Common.{arith}
 use Rattle.std.proofs.lemmas.Grind.{common_steps}
-use Rattle.std.proofs.Common.{arith}
 use Rattle.restart.proofs.page.read_newest.Goals as goal
 
 pub returns-in-None-clause-asks : goal.returns-in-None-clause-asks

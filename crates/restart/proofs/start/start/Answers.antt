@@ -1,6 +1,4 @@
-use Rattle.std.proofs.Common.{arith}
-use Rattle.outside.proofs.Runs.{asks_on}
-use Rattle.restart.proofs.ShowLemmas.{sure_on}
+use Rattle.restart.proofs.Lemmas.{arith, asks_on, sure_on}
 use Rattle.restart.proofs.start.start.Goals as goal
 
 pub returns-in-Ok-read_header-clause-sure : goal.returns-in-Ok-read_header-clause-sure

@@ -1,4 +1,4 @@
-use Rattle.std.proofs.Common.{arith}
+use Rattle.romp_asm.proofs.Common.{arith}
 use Rattle.romp_asm.proofs.encoding.word_of.Goals as goal
 
 pub overflow_cast-result : goal.overflow_cast-result

@@ -1,4 +1,4 @@
-use Rattle.std.proofs.Common.{arith}
+use Rattle.romp_asm.proofs.Common.{arith}
 use Rattle.romp_asm.proofs.field.relative.Goals as goal
 
 pub returns-then-is_between-clause-low : goal.returns-then-is_between-clause-low

@@ -1,5 +1,4 @@
-use Rattle.romp_asm.proofs.Common.{refl, sym, ap, ◌∙◌, arith, Use}
-use Rattle.romp_asm.proofs.LegalLemmas.{legal_S, legal_D, shape_of, scale_some}
+use Rattle.romp_asm.proofs.Lemmas.{refl, sym, ap, ◌∙◌, arith, Use, legal_S, legal_D, shape_of, scale_some}
 use Rattle.romp_asm.proofs.instruction.at_place.Goals as goal
 
 pub short_field-requires : goal.short_field-requires

@@ -1,5 +1,4 @@
-use Rattle.romp_asm.proofs.Common.{ap, arith, w8, w32, le-leb, to_z-of_z, Use}
-use Rattle.romp_asm.proofs.LegalLemmas.{legal_J, legal_BI, shape_of}
+use Rattle.romp_asm.proofs.Lemmas.{ap, arith, w8, w32, le-leb, to_z-of_z, Use, legal_J, legal_BI, shape_of}
 use Rattle.romp_asm.proofs.instruction.conditional.Goals as goal
 
 pub returns-in_ok-disp-in-Jump-clause-legal : goal.returns-in_ok-disp-in-Jump-clause-legal

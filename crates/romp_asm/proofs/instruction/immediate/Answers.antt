@@ -1,5 +1,4 @@
-use Rattle.romp_asm.proofs.Common.{refl, ap, arith, Use}
-use Rattle.romp_asm.proofs.LegalLemmas.{legal_D, shape_of}
+use Rattle.romp_asm.proofs.Lemmas.{refl, ap, arith, Use, legal_D, shape_of}
 use Rattle.romp_asm.proofs.instruction.immediate.Goals as goal
 
 pub returns-in_ok-i-in-Signed-clause-legal : goal.returns-in_ok-i-in-Signed-clause-legal

@@ -1,4 +1,4 @@
-use Rattle.std.proofs.Common.{arith}
+use Rattle.romp_asm.proofs.Common.{arith}
 use Rattle.romp_asm.proofs.instruction.inst_of.Goals as goal
 
 pub returns-in-Value-2-clause-size : goal.returns-in-Value-2-clause-size

@@ -1,5 +1,4 @@
-use Rattle.std.proofs.Common.{arith}
-use Rattle.romp_asm.proofs.LegalLemmas.{legal_X}
+use Rattle.romp_asm.proofs.Lemmas.{arith, legal_X}
 use Rattle.romp_asm.proofs.instruction.three_registers.Goals as goal
 
 pub returns-in_ok-c-in-ThreeRegisters-clause-legal : goal.returns-in_ok-c-in-ThreeRegisters-clause-legal

@@ -1,5 +1,4 @@
-use Rattle.romp_asm.proofs.Common.{ap, arith, le-leb, Use}
-use Rattle.romp_asm.proofs.LegalLemmas.{legal_R, shape_of}
+use Rattle.romp_asm.proofs.Lemmas.{ap, arith, le-leb, Use, legal_R, shape_of}
 use Rattle.romp_asm.proofs.instruction.to_register.Goals as goal
 
 pub returns-in_ok-c-in-BranchRegister-clause-legal : goal.returns-in_ok-c-in-BranchRegister-clause-legal

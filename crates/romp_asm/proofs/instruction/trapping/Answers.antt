@@ -1,5 +1,4 @@
-use Rattle.romp_asm.proofs.Common.{refl, ap, arith, le-leb, Use}
-use Rattle.romp_asm.proofs.LegalLemmas.{legal_D, shape_of}
+use Rattle.romp_asm.proofs.Lemmas.{refl, ap, arith, le-leb, Use, legal_D, shape_of}
 use Rattle.romp_asm.proofs.instruction.trapping.Goals as goal
 
 pub returns-in_ok-i-in-Trap-clause-legal : goal.returns-in_ok-i-in-Trap-clause-legal

@@ -1,5 +1,4 @@
-use Rattle.romp_asm.proofs.Common.{refl, ap, arith, Use}
-use Rattle.romp_asm.proofs.LegalLemmas.{legal_R, shape_of}
+use Rattle.romp_asm.proofs.Lemmas.{refl, ap, arith, Use, legal_R, shape_of}
 use Rattle.romp_asm.proofs.instruction.two_registers.Goals as goal
 
 pub returns-in_ok-c-in-TwoRegisters-clause-legal : goal.returns-in_ok-c-in-TwoRegisters-clause-legal

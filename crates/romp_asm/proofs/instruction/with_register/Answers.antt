@@ -1,5 +1,4 @@
-use Rattle.romp_asm.proofs.Common.{refl, ap, arith, w32, to_z-of_z, Use}
-use Rattle.romp_asm.proofs.LegalLemmas.{legal_BI, legal_R, legal_D, shape_of}
+use Rattle.romp_asm.proofs.Lemmas.{refl, ap, arith, w32, to_z-of_z, Use, legal_BI, legal_R, legal_D, shape_of}
 use Rattle.romp_asm.proofs.instruction.with_register.Goals as goal
 
 pub returns-in_ok-disp-in-Link-clause-legal : goal.returns-in_ok-disp-in-Link-clause-legal

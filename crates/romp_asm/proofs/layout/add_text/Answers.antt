@@ -1,5 +1,4 @@
-use Rattle.romp_asm.proofs.Common.{◌≡◌, get_or, sym, ap, ◌∙◌, err_from_is_err_and, stated}
-use Rattle.romp_asm.proofs.LayoutLemmas.{source_fault, source_laid, source_more, source_start}
+use Rattle.romp_asm.proofs.Lemmas.{◌≡◌, get_or, sym, ap, ◌∙◌, err_from_is_err_and, stated, source_fault, source_laid, source_more, source_start}
 use Rattle.romp_asm.proofs.layout.add_text.Goals as goal
 
 pub loop-index-init : goal.loop-index-init

@@ -1,5 +1,4 @@
-use Rattle.romp_asm.proofs.Common.{List, [], ◌++◌, append-nil, refl, sym, subst, err_from_is_err_and, Statement, LaidTo}
-use Rattle.romp_asm.proofs.LayoutLemmas.{laid_all, laid_none, text_as_itself}
+use Rattle.romp_asm.proofs.Lemmas.{List, [], ◌++◌, append-nil, refl, sym, subst, err_from_is_err_and, Statement, LaidTo, laid_all, laid_none, text_as_itself}
 use Rattle.romp_asm.proofs.layout.assemble.Goals as goal
 use Rattle.romp_asm.proofs.layout.assemble.Goals.{After-add_text}
 

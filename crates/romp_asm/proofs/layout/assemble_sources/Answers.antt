@@ -1,6 +1,5 @@
+use Rattle.romp_asm.proofs.Lemmas.{laid_all, laid_none, alone_of, joined-all, joined-none, laid_to, left_from, reads_source}
 use Rattle.romp_asm.proofs.Common.{◌≡◌, ◌+◌, List, [], ◌++◌, map, take, drop, get_or, sym, subst, ◌∙◌, err_from_is_err_and, get_or_default, Statement, Table, found_in, AreTables, LaidTo, joined_from, named}
-use Rattle.romp_asm.proofs.LayoutLemmas.{laid_all, laid_none}
-use Rattle.romp_asm.proofs.SourcesLemmas.{alone_of, joined-all, joined-none, laid_to, left_from, reads_source}
 use Rattle.romp_asm.proofs.layout.assemble_sources.Goals as goal
 use Rattle.romp_asm.proofs.layout.assemble_sources.Goals.{After-index-tables-source}
 

@@ -1,4 +1,4 @@
-use Rattle.std.proofs.Common.{◌≡◌, ◌-◌, ◌++◌, replicate}
+use Rattle.romp_asm.proofs.Common.{◌≡◌, ◌-◌, ◌++◌, replicate}
 use Rattle.romp_asm.proofs.output.lay_zeros.Given as goal
 
 abbrev pub invariant-loop-laid : goal.invariant-loop-laid

@@ -1,5 +1,4 @@
-use Rattle.std.proofs.lemmas.Grind.{common_steps}
-use Rattle.std.proofs.Common.{arith}
+use Rattle.romp_asm.proofs.Common.{common_steps, arith}
 use Rattle.romp_asm.proofs.value.knowns_of.Goals as goal
 
 pub loop-operand-preserved : goal.loop-operand-preserved

@@ -1,5 +1,4 @@
-use Rattle.romp_asm.proofs.Common.{◌≡◌, ◌≤◌, length, drop, addresses_in, knowns_of}
-use Rattle.romp_asm.proofs.ValueLemmas.{knowns_behind}
+use Rattle.romp_asm.proofs.Lemmas.{◌≡◌, ◌≤◌, length, drop, addresses_in, knowns_of, knowns_behind}
 use Rattle.romp_asm.proofs.value.knowns_of.Given as goal
 
 abbrev pub invariant-loop-operand : goal.invariant-loop-operand

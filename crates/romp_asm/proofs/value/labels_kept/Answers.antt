@@ -1,6 +1,4 @@
-use Rattle.romp_asm.proofs.Common.{◌≡◌, ℕ, ◌+◌, List, length, take, arith, sym, ap, subst, ◌∙◌, take_all, Statement, place_from, AreAlone, total, stated}
-use Rattle.romp_asm.proofs.AloneLemmas.{or_none, alone_more}
-use Rattle.romp_asm.proofs.ValueLemmas.{no_place, place_more, signed_same, total_more}
+use Rattle.romp_asm.proofs.Lemmas.{◌≡◌, ℕ, ◌+◌, List, length, take, arith, sym, ap, subst, ◌∙◌, take_all, Statement, place_from, AreAlone, total, stated, or_none, alone_more, no_place, place_more, signed_same, total_more}
 use Rattle.romp_asm.proofs.value.labels_kept.Goals as goal
 
 pub loop-index-init : goal.loop-index-init

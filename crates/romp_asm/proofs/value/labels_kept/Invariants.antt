@@ -1,5 +1,4 @@
-use Rattle.romp_asm.proofs.Common.{◌≡◌, ◌+◌, ◌≤◌, ◌*◌, ◌^◌, ℕ, List, take, found_in, place_from, AreAlone, total}
-use Rattle.std.specs.Prelude.{false}
+use Rattle.romp_asm.proofs.Common.{◌≡◌, ◌+◌, ◌≤◌, ◌*◌, ◌^◌, ℕ, List, take, found_in, place_from, AreAlone, total, false}
 use Rattle.romp_asm.proofs.value.labels_kept.Given as goal
 
 abbrev pub invariant-loop-index : goal.invariant-loop-index

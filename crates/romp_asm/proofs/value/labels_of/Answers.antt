@@ -1,6 +1,4 @@
-use Rattle.romp_asm.proofs.Common.{◌≡◌, get_or, arith, refl, sym, ap, ◌∙◌, Statement, stated, size_of}
-use Rattle.romp_asm.proofs.AloneLemmas.{or_none, alone_more}
-use Rattle.romp_asm.proofs.ValueLemmas.{no_place, place_more, signed_same, total_more}
+use Rattle.romp_asm.proofs.Lemmas.{◌≡◌, get_or, arith, refl, sym, ap, ◌∙◌, Statement, stated, size_of, or_none, alone_more, no_place, place_more, signed_same, total_more}
 use Rattle.romp_asm.proofs.value.labels_of.Goals as goal
 
 pub loop-index-init : goal.loop-index-init

@@ -1,6 +1,4 @@
-use Rattle.std.proofs.lemmas.Grind.{common_steps}
-use Rattle.romp_asm.proofs.Common.{◌≡◌, ◌+◌, ◌∷◌, [], ◌++◌, List, length, take, sum_by, sym, ap, subst, ◌∙◌, arith, take_more, sum_by-take-le, sum_by_push, Statement, AreTables, IsTable, total}
-use Rattle.romp_asm.proofs.SourcesLemmas.{tables_more}
+use Rattle.romp_asm.proofs.Lemmas.{◌≡◌, ◌+◌, ◌∷◌, [], ◌++◌, List, length, take, sum_by, sym, ap, subst, ◌∙◌, arith, take_more, sum_by-take-le, sum_by_push, Statement, AreTables, IsTable, total, common_steps, tables_more}
 use Rattle.romp_asm.proofs.value.tables_of.Goals as goal
 use Rattle.romp_asm.proofs.value.tables_of.Goals.{After-statements-item}
 

@@ -1,5 +1,4 @@
-use Rattle.romp_cpu.proofs.Common.{◌==◌, cond, option_or, length-map, nat_tests, fill_by_all, get_or-map, PageSize, SegmentRegister, register_at, register_of, register_with, registers_with, Layout, Program, register_of_window, registers_of_program}
-use Rattle.std.proofs.Common.{arith, ap, refl, sym, ◌∙◌, ◌≡◌, ◌≢◌, ℕ, zero, suc, ◌<◌, Bool, false, List, [], ◌∷◌, ◌++◌, Option, Some, None, length, length-append, get_or}
+use Rattle.romp_cpu.proofs.Common.{◌==◌, cond, option_or, length-map, nat_tests, fill_by_all, get_or-map, PageSize, SegmentRegister, register_at, register_of, register_with, registers_with, Layout, Program, register_of_window, registers_of_program, arith, ap, refl, sym, ◌∙◌, ◌≡◌, ◌≢◌, ℕ, zero, suc, ◌<◌, Bool, false, List, [], ◌∷◌, ◌++◌, Option, Some, None, length, length-append, get_or}
 use Rattle.std.proofs.lemmas.List.Folds.{find-append}
 use Rattle.romp_cpu.proofs.segments.registers_of.Goals as goal
 use Rattle.romp_cpu.proofs.segments.registers_of.Goals.{in-Some, in_default}

@@ -1,5 +1,4 @@
-use Rattle.romp_cpu.proofs.Common.{register_at, register_of_window}
-use Rattle.std.proofs.Common.{◌≡◌, ◌<◌, ◌≤◌, ℕ, suc, None, length, get_or}
+use Rattle.romp_cpu.proofs.Common.{register_at, register_of_window, ◌≡◌, ◌<◌, ◌≤◌, ℕ, suc, None, length, get_or}
 use Rattle.romp_cpu.proofs.segments.registers_of.Given as goal
 
 -- the windows so far stand under their registers, and nothing stands under those behind

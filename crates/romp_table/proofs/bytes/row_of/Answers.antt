@@ -1,4 +1,4 @@
-use Rattle.std.proofs.Common.{◌∙◌}
+use Rattle.romp_table.proofs.Common.{◌∙◌}
 use Rattle.romp_table.proofs.TableLemmas.{row_of_place}
 use Rattle.romp_table.proofs.bytes.row_of.Goals as goal
 

@@ -1,5 +1,4 @@
-use Rattle.romp_table.proofs.Common.{ap, sym, ◌∙◌, elements, arith}
-use Rattle.std.specs.Prelude.{slice_index}
+use Rattle.romp_table.proofs.Common.{ap, sym, ◌∙◌, elements, arith, slice_index}
 use Rattle.romp_table.proofs.NameLemmas.{not_named}
 use Rattle.romp_table.proofs.names.op_at.Goals as goal
 

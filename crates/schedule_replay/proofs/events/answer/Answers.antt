@@ -1,9 +1,5 @@
-use Rattle.std.proofs.lemmas.Grind.{common_steps}
-use Rattle.schedule_replay.proofs.Common.{ℕ, List, map, ap, ◌∙◌, arith, asks_none, TurnEnd, Stored, begun_told, turn_told, stored_told, reopened_told, turn_closes, turn_fails, stored_closes, stored_fails, happening_lines, number_told, stored_number, reopened_number, going_begun, going_if, going_by}
+use Rattle.schedule_replay.proofs.Lemmas.{ℕ, List, map, ap, ◌∙◌, arith, asks_none, TurnEnd, Stored, begun_told, turn_told, stored_told, reopened_told, turn_closes, turn_fails, stored_closes, stored_fails, happening_lines, number_told, stored_number, reopened_number, going_begun, going_if, going_by, common_steps, puts_same, names_are, begun_closes, if_closes, crash_closes, turn_shut, stored_shut, undamaged, undamaged_begun, undamaged_if, store_asked, goes_begin, goes_if, goes_crash, begin_step, turn_step, checkpoint_step, crash_step, went_event}
 use Rattle.desk.specs.declared.event.Event.TheVariants as event
-use Rattle.schedule_replay.proofs.PutsLemmas.{puts_same}
-use Rattle.schedule_replay.proofs.WentLemmas.{names_are}
-use Rattle.schedule_replay.proofs.EventLemmas.{begun_closes, if_closes, crash_closes, turn_shut, stored_shut, undamaged, undamaged_begun, undamaged_if, store_asked, goes_begin, goes_if, goes_crash, begin_step, turn_step, checkpoint_step, crash_step, went_event}
 use Rattle.schedule_replay.proofs.events.answer.Goals as goal
 
 pub returns-in-Begin : goal.returns-in-Begin

@@ -1,5 +1,4 @@
-use Rattle.schedule_replay.proofs.Common.{◌≡◌, ℕ, List, [], ◌∷◌, ◌++◌, map, sym, ap, ◌∙◌, Bool, false, if◌then◌else◌, Desk, numbers, Line, Left, End, number_after, closing_lines}
-use Rattle.schedule_replay.proofs.PutsLemmas.{puts_same}
+use Rattle.schedule_replay.proofs.Lemmas.{◌≡◌, ℕ, List, [], ◌∷◌, ◌++◌, map, sym, ap, ◌∙◌, Bool, false, if◌then◌else◌, Desk, numbers, Line, Left, End, number_after, closing_lines, puts_same}
 use Rattle.schedule_replay.proofs.events.put_closing.Goals as goal
 
 closing_open : (number : ℕ) (desk : Desk) → desk.closed ≡ false → map Left (numbers desk) ++ End (number_after number desk) ∷ [] ≡ closing_lines number [] desk

@@ -1,9 +1,6 @@
-use Rattle.schedule_replay.proofs.Common.{◌≡◌, [], ◌+◌, length, map, take, refl, sym, ap, ◌∙◌, arith, rules, append-nil, Ok, take_all, Fixed, Begin, is_closed, prints_broken, prints_well}
+use Rattle.schedule_replay.proofs.Lemmas.{◌≡◌, [], ◌+◌, length, map, take, refl, sym, ap, ◌∙◌, arith, rules, append-nil, Ok, take_all, Fixed, Begin, is_closed, prints_broken, prints_well, answered_none, ready_next, answered_more, answered_well, answered_broken, goes_since, shut_asked, shut_unasked, names_are, if_ok_broken, not_on_closed}
 use Rattle.schedule_replay.specs.declared.events.Going.TheVariants as going
-use Rattle.schedule_replay.proofs.AnsweredLemmas.{answered_none, ready_next, answered_more, answered_well, answered_broken, goes_since, shut_asked, shut_unasked}
-use Rattle.schedule_replay.proofs.WentLemmas.{names_are}
 use Rattle.schedule_replay.proofs.RanLemmas.{ran_as, ran_further, ran_last, ran_none}
-use Rattle.schedule_replay.proofs.ReportLemmas.{if_ok_broken, not_on_closed}
 use Rattle.schedule_replay.proofs.events.put_events.Goals as goal
 
 pub loop-event-init : goal.loop-event-init

@@ -1,9 +1,5 @@
-use Rattle.schedule_replay.proofs.Common.{◌≡◌, [], map, take, refl, rules, arith, Ok, false, is_closed}
+use Rattle.schedule_replay.proofs.Lemmas.{◌≡◌, [], map, take, refl, rules, arith, Ok, false, is_closed, puts_broken, puts_well, answered_on, answered_puts, goes_since, Laws, names_are, if_ok_broken, reports_unopened, some_ran, reports_stopped, reports_shut, reports_ended}
 use Rattle.schedule_replay.specs.declared.events.Going.TheVariants as going
-use Rattle.schedule_replay.proofs.PutsLemmas.{puts_broken, puts_well}
-use Rattle.schedule_replay.proofs.AnsweredLemmas.{answered_on, answered_puts, goes_since}
-use Rattle.schedule_replay.proofs.WentLemmas.{Laws, names_are}
-use Rattle.schedule_replay.proofs.ReportLemmas.{if_ok_broken, reports_unopened, some_ran, reports_stopped, reports_shut, reports_ended}
 use Rattle.schedule_replay.proofs.events.put_report.Given as given
 use Rattle.schedule_replay.proofs.events.put_report.Goals as goal
 

@@ -1,7 +1,4 @@
-use Rattle.std.proofs.Common.{arith}
-use Rattle.std.proofs.lemmas.Grind.{common_steps}
-use Rattle.schedule_replay.proofs.Common.{map, ap, false, is_closed}
-use Rattle.schedule_replay.proofs.ReportLemmas.{reports_broken, reports_told}
+use Rattle.schedule_replay.proofs.Lemmas.{map, ap, false, is_closed, arith, common_steps, reports_broken, reports_told}
 use Rattle.schedule_replay.proofs.events.replay.Goals as goal
 
 pub returns-in-Ok-On-clause-replays : goal.returns-in-Ok-On-clause-replays

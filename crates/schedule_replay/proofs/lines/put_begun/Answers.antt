@@ -1,5 +1,4 @@
-use Rattle.std.proofs.Common.{arith}
-use Rattle.std.proofs.lemmas.Grind.{common_steps}
+use Rattle.schedule_replay.proofs.Common.{arith, common_steps}
 use Rattle.schedule_replay.proofs.lines.put_begun.Goals as goal
 
 pub returns-in-NoSegment : goal.returns-in-NoSegment

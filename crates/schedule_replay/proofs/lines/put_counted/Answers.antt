@@ -1,6 +1,6 @@
+use Rattle.schedule_replay.proofs.Lemmas.{PrintedNow, puts_on, puts_stop, puts_same, cycles_of}
 use Rattle.schedule_replay.proofs.Common.{◌≡◌, ℕ, List, [], ◌∷◌, ◌++◌, rules, ap, Result, Ok, flat_map, Failed, Ghosts, FewerLater, Cycle, Turn as Answer, counts_told, ending_told, cycle_lines, ending_lines, number_told, Puts}
 use Rattle.desk.specs.Lines.{Line, Turn}
-use Rattle.schedule_replay.proofs.PutsLemmas.{PrintedNow, puts_on, puts_stop, puts_same, cycles_of}
 use Rattle.schedule_replay.proofs.lines.put_counted.Goals as goal
 
 -- the line of the counts, and those behind the rollbacks

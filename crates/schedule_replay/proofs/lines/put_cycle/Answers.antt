@@ -1,7 +1,6 @@
-use Rattle.std.proofs.Common.{ℕ, ◌∷◌, [], ap, rules}
+use Rattle.schedule_replay.proofs.Lemmas.{ℕ, ◌∷◌, [], ap, rules, puts_on, puts_stop, puts_same}
 use Rattle.lock_rules.specs.Waits.{victim_of}
 use Rattle.desk.specs.Lines.{Cycle, Victim}
-use Rattle.schedule_replay.proofs.PutsLemmas.{puts_on, puts_stop, puts_same}
 use Rattle.schedule_replay.proofs.lines.put_cycle.Goals as goal
 
 pub returns-in_err-put_one : goal.returns-in_err-put_one

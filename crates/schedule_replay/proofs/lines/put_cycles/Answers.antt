@@ -1,5 +1,4 @@
-use Rattle.schedule_replay.proofs.Common.{◌≡◌, ℕ, ◌+◌, List, [], ◌∷◌, take, get_or, rules, ap, ◌∙◌, sym, append-nil, Ok, take_all, Cycle, cycle_lines}
-use Rattle.schedule_replay.proofs.PutsLemmas.{puts_none, puts_more, puts_no_more, puts_same, puts_well, cycles_of, cycles_split}
+use Rattle.schedule_replay.proofs.Lemmas.{◌≡◌, ℕ, ◌+◌, List, [], ◌∷◌, take, get_or, rules, ap, ◌∙◌, sym, append-nil, Ok, take_all, Cycle, cycle_lines, puts_none, puts_more, puts_no_more, puts_same, puts_well, cycles_of, cycles_split}
 use Rattle.schedule_replay.proofs.lines.put_cycles.Goals as goal
 
 pub loop-cycle-init : goal.loop-cycle-init

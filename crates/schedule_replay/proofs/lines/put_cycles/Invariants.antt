@@ -1,5 +1,4 @@
-use Rattle.schedule_replay.proofs.Common.{take, Puts}
-use Rattle.schedule_replay.proofs.PutsLemmas.{done, cycles_of}
+use Rattle.schedule_replay.proofs.Lemmas.{take, Puts, done, cycles_of}
 use Rattle.schedule_replay.proofs.lines.put_cycles.Given as goal
 
 -- the lines so far are put

@@ -1,6 +1,5 @@
-use Rattle.std.proofs.Common.{◌∷◌, [], rules}
+use Rattle.schedule_replay.proofs.Lemmas.{◌∷◌, [], rules, puts_on, puts_stop}
 use Rattle.desk.specs.Lines.{Doubt, Closed}
-use Rattle.schedule_replay.proofs.PutsLemmas.{puts_on, puts_stop}
 use Rattle.schedule_replay.proofs.lines.put_doubt.Goals as goal
 
 pub returns-in_err-put_one : goal.returns-in_err-put_one

@@ -1,5 +1,4 @@
-use Rattle.schedule_replay.proofs.Common.{[], ◌∷◌, map, take, rules, ap, Ok, take_all, Line, map-append, unended_told}
-use Rattle.schedule_replay.proofs.PutsLemmas.{puts_none, puts_more, puts_no_more, puts_same, puts_well}
+use Rattle.schedule_replay.proofs.Lemmas.{[], ◌∷◌, map, take, rules, ap, Ok, take_all, Line, map-append, unended_told, puts_none, puts_more, puts_no_more, puts_same, puts_well}
 use Rattle.schedule_replay.proofs.lines.put_each.Goals as goal
 
 pub loop-activation-init : goal.loop-activation-init

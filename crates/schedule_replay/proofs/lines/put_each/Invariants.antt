@@ -1,5 +1,4 @@
-use Rattle.schedule_replay.proofs.Common.{map, take, unended_told, Puts}
-use Rattle.schedule_replay.proofs.PutsLemmas.{done}
+use Rattle.schedule_replay.proofs.Lemmas.{map, take, unended_told, Puts, done}
 use Rattle.schedule_replay.proofs.lines.put_each.Given as goal
 
 -- the lines so far are put

@@ -1,5 +1,4 @@
-use Rattle.schedule_replay.proofs.Common.{[], ◌∷◌, map, rules, line_told, unended_told}
-use Rattle.schedule_replay.proofs.PutsLemmas.{puts_on, puts_stop}
+use Rattle.schedule_replay.proofs.Lemmas.{[], ◌∷◌, map, rules, line_told, unended_told, puts_on, puts_stop}
 use Rattle.schedule_replay.proofs.lines.put_each_and.Goals as goal
 
 pub returns-in_err-put_each : goal.returns-in_err-put_each

@@ -1,5 +1,4 @@
-use Rattle.report_text.specs.Line.{line_told}
-use Rattle.schedule_replay.proofs.PutsLemmas.{puts_one}
+use Rattle.schedule_replay.proofs.Lemmas.{line_told, puts_one}
 use Rattle.schedule_replay.proofs.lines.put_one.Goals as goal
 
 pub returns : goal.returns

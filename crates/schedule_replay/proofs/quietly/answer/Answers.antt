@@ -1,9 +1,5 @@
-use Rattle.std.proofs.Common.{arith}
-use Rattle.std.proofs.lemmas.Grind.{common_steps}
-use Rattle.schedule_replay.proofs.Common.{[], length, refl, begun_told, turn_told, stored_told, happening_lines, number_told, stored_number, last_by, tally_begun, tally_by, tally_stored}
+use Rattle.schedule_replay.proofs.Lemmas.{[], length, refl, begun_told, turn_told, stored_told, happening_lines, number_told, stored_number, last_by, tally_begun, tally_by, tally_stored, arith, common_steps, begin_step, turn_step, checkpoint_step, begin_tells, turn_tells, stored_tells, went_quietly}
 use Rattle.desk.specs.declared.event.Event.TheVariants as event
-use Rattle.schedule_replay.proofs.EventLemmas.{begin_step, turn_step, checkpoint_step}
-use Rattle.schedule_replay.proofs.QuietLemmas.{begin_tells, turn_tells, stored_tells, went_quietly}
 use Rattle.schedule_replay.proofs.quietly.answer.Goals as goal
 
 pub returns-in-Begin-clause-went : goal.returns-in-Begin-clause-went

@@ -1,8 +1,5 @@
-use Rattle.std.proofs.lemmas.Grind.{common_steps}
-use Rattle.schedule_replay.proofs.Common.{◌≡◌, [], ◌+◌, take, drop, refl, arith, append-nil, ◌∙◌, Ok, Some, None, take-append-drop, take_all, ap, Fixed, calls_none, calls_on, Begin, event_lines}
+use Rattle.schedule_replay.proofs.Lemmas.{◌≡◌, [], ◌+◌, take, drop, refl, arith, append-nil, ◌∙◌, Ok, Some, None, take-append-drop, take_all, ap, Fixed, calls_none, calls_on, Begin, event_lines, common_steps, answered_none, answered_more, shut_asked, shut_unasked, ran_nothing, ran_next_quietly, tells_nothing}
 use Rattle.schedule_replay.specs.declared.events.Going.TheVariants as going
-use Rattle.schedule_replay.proofs.AnsweredLemmas.{answered_none, answered_more, shut_asked, shut_unasked}
-use Rattle.schedule_replay.proofs.QuietLemmas.{ran_nothing, ran_next_quietly, tells_nothing}
 use Rattle.schedule_replay.proofs.quietly.run_quiet.Goals as goal
 
 pub loop-event-init : goal.loop-event-init

@@ -1,7 +1,6 @@
-use Rattle.serial_audit.proofs.Common.{sym, ◌∙◌, rules, slice_eq-Decides}
+use Rattle.serial_audit.proofs.Lemmas.{sym, ◌∙◌, rules, slice_eq-Decides, pair_decides}
 use Rattle.line_geometry.specs.contracts.directory.PageSize.{the_type}
 use denote.Enum.Bare.{same_true}
-use Rattle.serial_audit.proofs.SameLemmas.{pair_decides}
 use Rattle.serial_audit.proofs.auditing.are_alike.Goals as goal
 
 pub returns-then-eq : goal.returns-then-eq

@@ -1,7 +1,4 @@
-use Rattle.std.proofs.lemmas.Grind.{common_steps}
-use Rattle.serial_audit.proofs.Common.{ℕ, ◌+◌, [], ◌++◌, take, drop, refl, ◌∙◌, ap, append-nil, arith, Told, report_told, told_of}
-use Rattle.std.specs.Prelude.{List}
-use Rattle.serial_audit.proofs.VerdictLemmas.{none_sound, sound_more, told_all, told_more}
+use Rattle.serial_audit.proofs.Lemmas.{ℕ, ◌+◌, [], ◌++◌, take, drop, refl, ◌∙◌, ap, append-nil, arith, Told, report_told, told_of, common_steps, List, none_sound, sound_more, told_all, told_more}
 use Rattle.serial_audit.proofs.auditing.audit_lines.Goals as goal
 use Rattle.serial_audit.proofs.auditing.audit_lines.Goals.{in-Some+in_ok-next-in-Some+in-Some-2, in-None}
 

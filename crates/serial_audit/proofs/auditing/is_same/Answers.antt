@@ -1,6 +1,4 @@
-use Rattle.serial_audit.proofs.Common.{sym, ◌∙◌, ap, eq-eqb, Layout}
-use Rattle.std.proofs.lemmas.Bool.{eqb-true}
-use Rattle.serial_audit.proofs.SameLemmas.{layout_same}
+use Rattle.serial_audit.proofs.Lemmas.{sym, ◌∙◌, ap, eq-eqb, Layout, eqb-true, layout_same}
 use Rattle.serial_audit.proofs.auditing.is_same.Goals as goal
 
 pub returns-then-are_alike : goal.returns-then-are_alike

@@ -1,4 +1,4 @@
-use Rattle.std.proofs.Common.{ℕ, List, [], ◌∷◌, codes, decimal, refl, arith}
+use Rattle.serial_audit.proofs.Common.{ℕ, List, [], ◌∷◌, codes, decimal, refl, arith}
 use Rattle.serial_audit.proofs.bundle.lengths_in.Goals as goal
 
 pub returns : goal.returns

@@ -1,5 +1,4 @@
-use Rattle.serial_audit.proofs.Common.{◌+◌, ℕ, drop, inl, inr, refl, sym, ◌∙◌, ap, subst, arith, not_both, AreAllowed, bundle_from, head_text, sizes_of}
-use Rattle.serial_audit.proofs.BundleLemmas.{head_before, head_length, no_head}
+use Rattle.serial_audit.proofs.Lemmas.{◌+◌, ℕ, drop, inl, inr, refl, sym, ◌∙◌, ap, subst, arith, not_both, AreAllowed, bundle_from, head_text, sizes_of, head_before, head_length, no_head}
 use Rattle.serial_audit.proofs.bundle.split_bundle.Goals as goal
 use Rattle.serial_audit.proofs.bundle.split_bundle.Goals.{then-not-are_allowed-via-then-not-are_allowed, then-not-are_allowed-via-else-not-are_allowed+then-not-are_told}
 

@@ -1,5 +1,4 @@
-use Rattle.serial_audit.proofs.Common.{[], get_or, refl, ◌∙◌, slice_get-get_or, Begin}
-use Rattle.serial_audit.proofs.IndexLemmas.{past_other, past_turn, turned}
+use Rattle.serial_audit.proofs.Lemmas.{[], get_or, refl, ◌∙◌, slice_get-get_or, Begin, past_other, past_turn, turned}
 use Rattle.serial_audit.proofs.index.allow_turns.Goals as goal
 use Rattle.serial_audit.proofs.index.allow_turns.Goals.{in-Turn+in-Some, in-Turn+in-None, in_default}
 

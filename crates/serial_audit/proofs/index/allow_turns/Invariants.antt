@@ -1,5 +1,4 @@
-use Rattle.std.proofs.Common.{take}
-use Rattle.serial_audit.proofs.IndexLemmas.{HasTurns}
+use Rattle.serial_audit.proofs.Lemmas.{take, HasTurns}
 use Rattle.serial_audit.proofs.index.allow_turns.Given as goal
 
 abbrev pub invariant-loop-event : goal.invariant-loop-event

@@ -1,8 +1,4 @@
-use Rattle.std.proofs.Common.{arith}
-use Rattle.std.proofs.lemmas.Grind.{common_steps}
-use Rattle.serial_audit.proofs.Common.{◌+◌, false, List, [], ◌∷◌, ◌++◌, map, drop, refl, sym, ◌∙◌, ap, append_assoc, map-append, slice_get_past, Begin, Activation, begun, Entry, activation_in}
-use Rattle.serial_audit.proofs.BegunLemmas.{begun_here, begun_later, begun_none, got}
-use Rattle.serial_audit.proofs.IndexLemmas.{fresh_more}
+use Rattle.serial_audit.proofs.Lemmas.{◌+◌, false, List, [], ◌∷◌, ◌++◌, map, drop, refl, sym, ◌∙◌, ap, append_assoc, map-append, slice_get_past, Begin, Activation, begun, Entry, activation_in, arith, common_steps, begun_here, begun_later, begun_none, got, fresh_more}
 use Rattle.serial_audit.proofs.index.begins.Goals as goal
 use Rattle.serial_audit.proofs.index.begins.Goals.{in-Begin+in-Some+in_ok-push-in-Some, in-Begin+in-None, in_default}
 

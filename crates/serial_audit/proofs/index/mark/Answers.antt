@@ -1,4 +1,4 @@
-use Rattle.serial_audit.proofs.IndexLemmas.{none_marked}
+use Rattle.serial_audit.proofs.Lemmas.{none_marked}
 use Rattle.serial_audit.proofs.index.mark.Goals as goal
 
 pub returns-in-None : goal.returns-in-None

@@ -1,7 +1,4 @@
-use Rattle.standby.proofs.Common.{◌≡◌, ℕ, suc, ◌+◌, ◌*◌, ◌-◌, ◌<◌, ◌≤◌, List, [], ◌∷◌, ◌++◌, length, take, drop, get_or, sym, ◌∙◌, ap, subst, arith, refl, All, Some, fold-append, length-take-le, take_all, take_more, map-append, RecordLine, record_bytes, line_count, line_bytes, Layout, PageSize, Header, begun_of, record_bytes_of, KeptBank, KeptStore, bank_begun, with_begun, AreLines, ShipLine, parted, told}
-use Rattle.std.specs.Prelude.{fold}
-use Rattle.redo_journal.specs.Kept.{with_line}
-use Rattle.standby.proofs.BeginLemmas.{before_next, get_or-parted, length-parted, line_below, no_line, part_at, room_for}
+use Rattle.standby.proofs.Lemmas.{◌≡◌, ℕ, suc, ◌+◌, ◌*◌, ◌-◌, ◌<◌, ◌≤◌, List, [], ◌∷◌, ◌++◌, length, take, drop, get_or, sym, ◌∙◌, ap, subst, arith, refl, All, Some, fold-append, length-take-le, take_all, take_more, map-append, RecordLine, record_bytes, line_count, line_bytes, Layout, PageSize, Header, begun_of, record_bytes_of, KeptBank, KeptStore, bank_begun, with_begun, AreLines, ShipLine, parted, told, fold, with_line, before_next, get_or-parted, length-parted, line_below, no_line, part_at, room_for}
 use Rattle.standby.proofs.following.begin.Goals as goal
 
 -- a line of the record is one of the store

@@ -1,8 +1,5 @@
-use Rattle.std.proofs.lemmas.Grind.{common_steps}
-use Rattle.standby.proofs.Common.{◌≡◌, ℕ, ◌+◌, ◌-◌, List, length, map, take, drop, refl, sym, subst, ◌∙◌, ap, arith, length-map, line_bytes, most_lines, number_of, bank_behind, Follows, IsAlike, IsLongAt, behind, due, ShipLine, content_of, later, record_of, Done, Geometry, NotKept, Long, ShipRecord}
-use Rattle.std.specs.Prelude.{All, ◌≤◌}
+use Rattle.standby.proofs.Lemmas.{◌≡◌, ℕ, ◌+◌, ◌-◌, List, length, map, take, drop, refl, sym, subst, ◌∙◌, ap, arith, length-map, line_bytes, most_lines, number_of, bank_behind, Follows, IsAlike, IsLongAt, behind, due, ShipLine, content_of, later, record_of, Done, Geometry, NotKept, Long, ShipRecord, common_steps, All, ◌≤◌, follows_none, not_done}
 use Rattle.standby.proofs.DueLemmas.{due_are, few_are, first_is, fitting}
-use Rattle.standby.proofs.FollowLemmas.{follows_none, not_done}
 use Rattle.standby.proofs.following.follow.Given.{Over}
 use Rattle.standby.proofs.following.follow.Goals as goal
 use Rattle.standby.proofs.following.follow.Goals.{After-long_among}

@@ -1,7 +1,4 @@
-use Rattle.standby.proofs.GoLemmas.{goes_puts, goes_on}
-use Rattle.standby.proofs.Common.{◌≡◌, length, map, sym, ◌∙◌, ap, length-map, line_bytes, number_of, end_line, later, record_of}
-use Rattle.standby.proofs.FollowLemmas.{ended, not_done, stopped_early}
-use Rattle.standby.proofs.StepLemmas.{on_ok}
+use Rattle.standby.proofs.Lemmas.{◌≡◌, length, map, sym, ◌∙◌, ap, length-map, line_bytes, number_of, end_line, later, record_of, goes_puts, goes_on, ended, not_done, stopped_early, on_ok}
 use Rattle.standby.proofs.following.keep_all.Goals as goal
 
 pub returns-in-Err-clause-follows : goal.returns-in-Err-clause-follows

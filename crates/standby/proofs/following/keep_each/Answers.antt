@@ -1,9 +1,6 @@
-use Rattle.standby.proofs.Common.{◌≡◌, ℕ, ◌+◌, ◌<◌, List, [], ◌∷◌, length, map, take, get_or, refl, sym, subst, ◌∙◌, ap, arith, Result, Ok, Err, fold-append, get_or-map, length-map, take_all, take_more, line_bytes, Header, FlatStore, Stands, Ghosts, KeptBank, KeptStore, number_of, bank_behind, bank_with, laid_by, Steps, ShipLine, later, next, record_of, Followed, ShipRecord}
-use Rattle.standby.proofs.FollowLemmas.{so_far_all, so_far_more, so_far_none, so_far_stopped}
-use Rattle.standby.proofs.GoLemmas.{goes_none, goes_on}
+use Rattle.standby.proofs.Lemmas.{◌≡◌, ℕ, ◌+◌, ◌<◌, List, [], ◌∷◌, length, map, take, get_or, refl, sym, subst, ◌∙◌, ap, arith, Result, Ok, Err, fold-append, get_or-map, length-map, take_all, take_more, line_bytes, Header, FlatStore, Stands, Ghosts, KeptBank, KeptStore, number_of, bank_behind, bank_with, laid_by, Steps, ShipLine, later, next, record_of, Followed, ShipRecord, nat_tests, so_far_all, so_far_more, so_far_none, so_far_stopped, goes_none, goes_on}
 use Rattle.standby.proofs.TellLemmas.{later_more}
 use Rattle.standby.proofs.following.keep_each.Goals as goal
-use Rattle.std.proofs.lemmas.Bool.Decides.{nat_tests}
 
 -- the same step, by a number, lines and a result that are these
 step_at : {W : Type 0} (G : Ghosts W) (bytes number numbered : ℕ) (store : FlatStore) (lines those : List ShipLine) (durable : KeptStore) (before after : W) (result how : Result (Unit {0}) Followed)

@@ -1,5 +1,4 @@
-use Rattle.standby.proofs.Common.{◌≡◌, map, take, FlatStore, line_bytes, Stands, stands, held_of, number_of, TracksStore, bank_behind, OnlyGoesOn, SoFar, later, record_of}
-use Rattle.std.specs.Prelude.{false}
+use Rattle.standby.proofs.Common.{◌≡◌, map, take, FlatStore, line_bytes, Stands, stands, held_of, number_of, TracksStore, bank_behind, OnlyGoesOn, SoFar, later, record_of, false}
 use Rattle.standby.proofs.following.keep_each.Given as goal
 
 -- the records so far are kept and told

@@ -1,6 +1,4 @@
-use Rattle.std.proofs.lemmas.List.Elements.{All-from_get_or}
-use Rattle.standby.proofs.Common.{◌<◌, [], ◌∷◌, ap, arith, decimal, encode_lower, feeds, number_word}
-use Rattle.standby.proofs.PartLemmas.{feeds_append, hex_word, word_plain}
+use Rattle.standby.proofs.Lemmas.{◌<◌, [], ◌∷◌, ap, arith, decimal, encode_lower, feeds, number_word, All-from_get_or, feeds_append, hex_word, word_plain}
 use Rattle.standby.proofs.line.fill_line.Goals as goal
 
 pub returns-clause-one : goal.returns-clause-one

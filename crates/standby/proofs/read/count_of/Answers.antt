@@ -1,5 +1,4 @@
-use Rattle.standby.proofs.Common.{◌≡◌, ◌∷◌, ◌++◌, List, ℕ, decimal, drop, sym, ap, ◌∙◌, arith, record_line}
-use Rattle.standby.proofs.PartLemmas.{record_parts}
+use Rattle.standby.proofs.Lemmas.{◌≡◌, ◌∷◌, ◌++◌, List, ℕ, decimal, drop, sym, ap, ◌∙◌, arith, record_line, record_parts}
 use Rattle.standby.proofs.read.count_of.Goals as goal
 
 pub returns-in-Some : goal.returns-in-Some

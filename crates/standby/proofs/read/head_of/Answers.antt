@@ -1,6 +1,4 @@
-use Rattle.std.proofs.lemmas.Grind.{common_steps}
-use Rattle.standby.proofs.Common.{◌≡◌, ◌∷◌, ◌++◌, List, ℕ, decimal, drop, sym, ap, ◌∙◌, arith, head_line}
-use Rattle.standby.proofs.PartLemmas.{head_parts}
+use Rattle.standby.proofs.Lemmas.{◌≡◌, ◌∷◌, ◌++◌, List, ℕ, decimal, drop, sym, ap, ◌∙◌, arith, head_line, common_steps, head_parts}
 use Rattle.standby.proofs.read.head_of.Goals as goal
 
 pub returns-in-None : goal.returns-in-None

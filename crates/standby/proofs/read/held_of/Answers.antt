@@ -1,5 +1,4 @@
-use Rattle.standby.proofs.Common.{◌+◌, ◌∷◌, ◌++◌, List, ℕ, length, drop, sym, ap, ◌∙◌, arith, length-take-le, take_rest, encode_lower, lower_digits, length-encode_with}
-use Rattle.standby.proofs.PartLemmas.{cut_at, hex_word, parts_at, uncut}
+use Rattle.standby.proofs.Lemmas.{◌+◌, ◌∷◌, ◌++◌, List, ℕ, length, drop, sym, ap, ◌∙◌, arith, length-take-le, take_rest, encode_lower, lower_digits, length-encode_with, cut_at, hex_word, parts_at, uncut}
 use Rattle.standby.proofs.read.held_of.Goals as goal
 
 pub returns-in-Some-2 : goal.returns-in-Some-2

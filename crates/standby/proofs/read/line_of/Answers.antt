@@ -1,6 +1,4 @@
-use Rattle.std.proofs.lemmas.Grind.{common_steps}
-use Rattle.standby.proofs.Common.{◌≡◌, ◌∷◌, ◌++◌, [], List, ℕ, codes, decimal, drop, sym, ap, ◌∙◌, arith, encode_lower}
-use Rattle.standby.proofs.PartLemmas.{line_front, line_parts}
+use Rattle.standby.proofs.Lemmas.{◌≡◌, ◌∷◌, ◌++◌, [], List, ℕ, codes, decimal, drop, sym, ap, ◌∙◌, arith, encode_lower, common_steps, line_front, line_parts}
 use Rattle.standby.proofs.read.line_of.Goals as goal
 
 pub returns-in-None : goal.returns-in-None

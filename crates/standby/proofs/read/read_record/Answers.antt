@@ -1,6 +1,4 @@
-use Rattle.std.proofs.lemmas.Grind.{common_steps}
-use Rattle.standby.proofs.Common.{◌≡◌, ◌+◌, ◌-◌, ◌*◌, ◌∷◌, ◌++◌, [], List, ℕ, length, sym, ap, subst, ◌∙◌, arith, length-append, IsRead, AreLines, ShipLine, lines_text, parted, record_of}
-use Rattle.standby.proofs.ReadLemmas.{at_none, line_long, lines_more, parted_more, record_bad, record_step, text_on, wider}
+use Rattle.standby.proofs.Lemmas.{◌≡◌, ◌+◌, ◌-◌, ◌*◌, ◌∷◌, ◌++◌, [], List, ℕ, length, sym, ap, subst, ◌∙◌, arith, length-append, IsRead, AreLines, ShipLine, lines_text, parted, record_of, common_steps, at_none, line_long, lines_more, parted_more, record_bad, record_step, text_on, wider}
 use Rattle.standby.proofs.read.read_record.Goals as goal
 
 pub returns-in-None-clause-fault : goal.returns-in-None-clause-fault

@@ -1,8 +1,4 @@
-use Rattle.std.proofs.lemmas.Grind.{common_steps}
-use Rattle.standby.proofs.Common.{◌≡◌, ◌≢◌, ⊎_elim, ◌+◌, ◌≤◌, ◌∷◌, ◌++◌, [], List, ℕ, length, map, sym, ap, subst, ◌∙◌, arith, append_assoc, append-nil, length-append, All, length-map, map-append, All-map, All-push, IsRead, IsReadFault, AreLines, IsPacked, ShipLine, end_line, head_line, later, next, record_line, record_of, records_text, ShipRecord, empty_is, some_is}
-use Rattle.standby.proofs.BeginLemmas.{length-parted}
-use Rattle.standby.proofs.ReadLemmas.{record_long, records_step, text_more, whole_text}
-use Rattle.standby.proofs.TailLemmas.{bad_behind, bad_here, read_count, read_head}
+use Rattle.standby.proofs.Lemmas.{◌≡◌, ◌≢◌, ⊎_elim, ◌+◌, ◌≤◌, ◌∷◌, ◌++◌, [], List, ℕ, length, map, sym, ap, subst, ◌∙◌, arith, append_assoc, append-nil, length-append, All, length-map, map-append, All-map, All-push, IsRead, IsReadFault, AreLines, IsPacked, ShipLine, end_line, head_line, later, next, record_line, record_of, records_text, ShipRecord, empty_is, some_is, common_steps, length-parted, record_long, records_step, text_more, whole_text, bad_behind, bad_here, read_count, read_head}
 use Rattle.standby.proofs.read.read_records.Goals as goal
 
 pub loop-count-init : goal.loop-count-init

@@ -1,4 +1,4 @@
-use Rattle.standby.proofs.TailLemmas.{bad_head}
+use Rattle.standby.proofs.Lemmas.{bad_head}
 use Rattle.standby.proofs.read.read_ship.Goals as goal
 
 pub returns-in-None : goal.returns-in-None

@@ -1,6 +1,4 @@
-use Rattle.standby.proofs.Common.{◌≡◌, ⊎_elim, ℕ, ◌+◌, ◌<◌, List, [], get_or, length, take, refl, sym, ◌∙◌, ap, arith, RecordLine, held_of, asks_none, asks_on, area_bytes}
-use Rattle.standby.proofs.ShipLemmas.{area_more, next_is, record_there}
-use Rattle.standby.proofs.ShowLemmas.{still_shown}
+use Rattle.standby.proofs.Lemmas.{◌≡◌, ⊎_elim, ℕ, ◌+◌, ◌<◌, List, [], get_or, length, take, refl, sym, ◌∙◌, ap, arith, RecordLine, held_of, asks_none, asks_on, area_bytes, area_more, next_is, record_there, still_shown}
 use Rattle.standby.proofs.shipping.place_behind.Goals as goal
 
 pub loop-index-init : goal.loop-index-init

@@ -1,7 +1,4 @@
-use Rattle.standby.proofs.ShowLemmas.{shows_line}
-use Rattle.outside.proofs.Shows.{shows_asks, shows_on}
-use Rattle.standby.proofs.Common.{◌≡◌, ℕ, List, [], refl, subst, sym, ◌∙◌, ap, RecordLine, PrintsBy, broken, feeds, line_line, prints_unput}
-use Rattle.standby.proofs.PutLemmas.{by_put, prints_by, quiet_by}
+use Rattle.standby.proofs.Lemmas.{◌≡◌, ℕ, List, [], refl, subst, sym, ◌∙◌, ap, RecordLine, PrintsBy, broken, feeds, line_line, prints_unput, shows_asks, shows_on, shows_line, by_put, prints_by, quiet_by}
 use Rattle.standby.proofs.shipping.put_one.Goals as goal
 
 pub returns-in-Err-clause-prints : goal.returns-in-Err-clause-prints

@@ -1,8 +1,5 @@
-use Rattle.standby.proofs.Common.{◌≡◌, ℕ, ◌+◌, ◌<◌, List, [], ◌++◌, length, take, drop, get_or, refl, sym, subst, ◌∙◌, ap, arith, append-nil, All, Ok, Option, Some, slice_get, unwrap_or, length-map, take_all, slice_get-get_or, line_bytes, RecordLine, Prints, PrintsBy, Ghosts, feeds, held_of, prints_on, prints_same, prints_stop, Record, IsRecordAt, KeptStore, IsShown, broken, HasBytes, ShipLine, line_line, lines_text, record_line, told, shows_on}
+use Rattle.standby.proofs.Lemmas.{◌≡◌, ℕ, ◌+◌, ◌<◌, List, [], ◌++◌, length, take, drop, get_or, refl, sym, subst, ◌∙◌, ap, arith, append-nil, All, Ok, Option, Some, slice_get, unwrap_or, length-map, take_all, slice_get-get_or, line_bytes, RecordLine, Prints, PrintsBy, Ghosts, feeds, held_of, prints_on, prints_same, prints_stop, Record, IsRecordAt, KeptStore, IsShown, broken, HasBytes, ShipLine, line_line, lines_text, record_line, told, shows_on, one_feed, record_is_line, by_put, prints_by, shows_line, still_shown}
 use Rattle.standby.proofs.ShipLemmas.{all_more, text_more, text_rest, there_still}
-use Rattle.standby.proofs.PartLemmas.{one_feed, record_is_line}
-use Rattle.standby.proofs.PutLemmas.{by_put, prints_by}
-use Rattle.standby.proofs.ShowLemmas.{shows_line, still_shown}
 use Rattle.standby.proofs.shipping.put_record.Goals as goal
 
 -- the first line counts the lines

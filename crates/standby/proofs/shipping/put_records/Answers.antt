@@ -1,11 +1,7 @@
-use Rattle.standby.proofs.Common.{◌≡◌, ⊎_elim, ℕ, ◌+◌, ◌-◌, ◌<◌, List, [], ◌++◌, length, map, take, drop, get_or, refl, sym, subst, ◌∙◌, ap, arith, get_or-drop, length-drop, length-map, take-append-drop, take_all, line_bytes, RecordLine, Prints, prints_on, prints_same, prints_stop, prints_none, prints_unput, HasBytes, Ok, PrintsBy, broken, later, record_text, records_text, told, shows_asks, shows_none, shows_on, held_of, IsCounted, IsRecordAt, area_bytes, IsShown}
-use Rattle.std.specs.Prelude.{All, ◌%◌, ◌^◌, ◌≤◌, Option}
-use Rattle.standby.proofs.PutLemmas.{prints_by, quiet_by}
-use Rattle.standby.proofs.ShipLemmas.{all_more, area_more, later_later, next_is, records_more, records_rest, records_split, there_in}
+use Rattle.standby.proofs.Lemmas.{◌≡◌, ⊎_elim, ℕ, ◌+◌, ◌-◌, ◌<◌, List, [], ◌++◌, length, map, take, drop, get_or, refl, sym, subst, ◌∙◌, ap, arith, get_or-drop, length-drop, length-map, take-append-drop, take_all, line_bytes, RecordLine, Prints, prints_on, prints_same, prints_stop, prints_none, prints_unput, HasBytes, Ok, PrintsBy, broken, later, record_text, records_text, told, shows_asks, shows_none, shows_on, held_of, IsCounted, IsRecordAt, area_bytes, IsShown, All, ◌%◌, ◌^◌, ◌≤◌, Option, nat_tests, prints_by, quiet_by, all_more, area_more, later_later, next_is, records_more, records_rest, records_split, there_in}
 use Rattle.standby.proofs.shipping.put_records.Given.{Over}
 use Rattle.standby.proofs.shipping.put_records.Goals as goal
 use Rattle.standby.proofs.shipping.put_records.Goals.{In-Ok}
-use Rattle.std.proofs.lemmas.Bool.Decides.{nat_tests}
 
 pub loop-index-init : goal.loop-index-init
 loop-index-init g c =

@@ -1,13 +1,8 @@
-use Rattle.standby.proofs.Common.{◌≡◌, ℕ, ◌≤◌, List, [], ◌++◌, length, map, take, drop, refl, sym, subst, ◌∙◌, ap, arith, Result, Ok, Err, All, OnOk, length-drop, length-map, Layout, line_count, Header, line_bytes, RecordLine, Prints, PrintsBy, Puts, Shipped, feeds, prints_on, prints_stop, prints_unput, area_bytes, broken, HasBytes, shipped, behind, put_of, end_line, head_line, later, records_text, text_of, told, held_of, AsksAndPuts, shows_asks, shows_on, IsShown}
-use Rattle.standby.proofs.ShipLemmas.{later_later}
+use Rattle.standby.proofs.Lemmas.{◌≡◌, ℕ, ◌≤◌, List, [], ◌++◌, length, map, take, drop, refl, sym, subst, ◌∙◌, ap, arith, Result, Ok, Err, All, OnOk, length-drop, length-map, Layout, line_count, Header, line_bytes, RecordLine, Prints, PrintsBy, Puts, Shipped, feeds, prints_on, prints_stop, prints_unput, area_bytes, broken, HasBytes, shipped, behind, put_of, end_line, head_line, later, records_text, text_of, told, held_of, AsksAndPuts, shows_asks, shows_on, IsShown, nat_tests, later_later, end_is_line, head_is_line, one_feed, by_put, prints_by, quiet_by, shows_line, still_shown}
 use Rattle.standby.proofs.ContentLemmas.{content_is}
-use Rattle.standby.proofs.PartLemmas.{end_is_line, head_is_line, one_feed}
-use Rattle.standby.proofs.PutLemmas.{by_put, prints_by, quiet_by}
-use Rattle.standby.proofs.ShowLemmas.{shows_line, still_shown}
 use Rattle.standby.proofs.shipping.put_text.Given.{Over}
 use Rattle.standby.proofs.shipping.put_text.Goals as goal
 use Rattle.standby.proofs.shipping.put_text.Goals.{After-put_line, After-put_records}
-use Rattle.std.proofs.lemmas.Bool.Decides.{nat_tests}
 
 pub returns-in-Err-clause-prints : goal.returns-in-Err-clause-prints
 returns-in-Err-clause-prints g c shown =

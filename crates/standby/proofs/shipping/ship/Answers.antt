@@ -1,4 +1,4 @@
-use Rattle.std.proofs.Common.{arith}
+use Rattle.standby.proofs.Common.{arith}
 use Rattle.standby.proofs.shipping.ship.Goals as goal
 
 pub returns-in-Err-clause-ships : goal.returns-in-Err-clause-ships

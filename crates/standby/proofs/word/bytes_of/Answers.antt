@@ -1,8 +1,6 @@
-use Rattle.standby.proofs.Common.{All, MatchOption, decode_of, encode_lower}
-use Rattle.std.proofs.Common.{subst, ◌≡◌, ◌≢◌, ◌<◌, List, ℕ, None, sym, ap, ◌∙◌, inl, inr}
+use Rattle.standby.proofs.Lemmas.{All, MatchOption, decode_of, encode_lower, subst, ◌≡◌, ◌≢◌, ◌<◌, List, ℕ, None, sym, ap, ◌∙◌, inl, inr, decodes}
 use Rattle.std.proofs.lemmas.Result.{IfOk-weaker}
 use Rattle.hex.specs.declared.error.FromHexError.TheVariants.{OutOfMemory}
-use Rattle.standby.proofs.PartLemmas.{decodes}
 use Rattle.standby.proofs.word.bytes_of.Goals as goal
 
 pub returns-else-branch : goal.returns-else-branch

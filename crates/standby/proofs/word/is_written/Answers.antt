@@ -1,5 +1,4 @@
-use Rattle.std.proofs.lemmas.Grind.{elements}
-use Rattle.std.proofs.Common.{arith}
+use Rattle.standby.proofs.Common.{elements, arith}
 use Rattle.standby.proofs.word.is_written.Goals as goal
 
 pub returns-clause-small : goal.returns-clause-small

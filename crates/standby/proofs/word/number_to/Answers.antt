@@ -1,5 +1,4 @@
-use Rattle.standby.proofs.Common.{◌+◌, decimal, sym, ◌∙◌, take_rest, number_word}
-use Rattle.standby.proofs.PartLemmas.{cut_at, uncut}
+use Rattle.standby.proofs.Lemmas.{◌+◌, decimal, sym, ◌∙◌, take_rest, number_word, cut_at, uncut}
 use Rattle.standby.proofs.word.number_to.Goals as goal
 
 pub returns-in-Some : goal.returns-in-Some

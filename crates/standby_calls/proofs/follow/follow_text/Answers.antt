@@ -1,8 +1,4 @@
-use Rattle.std.proofs.Common.{◌≡◌, inl, inr, length, refl, sym, ap, subst, arith}
-use Rattle.std.proofs.lemmas.List.{length-map}
-use Rattle.outside.proofs.Runs.{elapses-trans}
-use Rattle.outside.specs.Runs.{OnlyAsks}
-use Rattle.standby.specs.Text.{content_of, later, record_of}
+use Rattle.standby_calls.proofs.Common.{◌≡◌, inl, inr, length, refl, sym, ap, subst, arith, length-map, elapses-trans, OnlyAsks, content_of, later, record_of}
 use Rattle.standby_calls.proofs.FollowLemmas.{followed_disk, followed_done, followed_put, not_opened}
 use Rattle.standby_calls.proofs.follow.follow_text.Goals as goal
 

@@ -1,5 +1,4 @@
-use Rattle.std.proofs.Common.{refl, ◌∙◌}
-use Rattle.standby.specs.State.{behind}
+use Rattle.standby_calls.proofs.Common.{refl, ◌∙◌, behind}
 use Rattle.standby_calls.proofs.ShipLemmas.{all_kept, none_kept, not_shipped, shipped_all, shipped_part, shipped_short}
 use Rattle.standby.specs.declared.shipping.Shipped.TheVariants as how
 use Rattle.standby_calls.proofs.ship.ship_store.Goals as goal

@@ -1,6 +1,4 @@
-use Rattle.std.proofs.lemmas.Grind.{common_steps}
-use Rattle.storage_unit.proofs.Common.{◌≡◌, ℕ, ◌+◌, ◌≤◌, ◌<◌, List, length, sym, ◌∙◌, ap, subst, arith, Option, None, overlaid, length-overlaid, IsOfTable, of_table-entered, Key, key_to, Placed, key_in, look_up, entered, first_keys, nat_tests}
-use Rattle.storage_unit.proofs.PrivateLemmas.{first-long, keys-more, next-free, next-absent}
+use Rattle.storage_unit.proofs.Lemmas.{◌≡◌, ℕ, ◌+◌, ◌≤◌, ◌<◌, List, length, sym, ◌∙◌, ap, subst, arith, Option, None, overlaid, length-overlaid, IsOfTable, of_table-entered, Key, key_to, Placed, key_in, look_up, entered, first_keys, nat_tests, common_steps, first-long, keys-more, next-free, next-absent}
 use Rattle.storage_unit.proofs.private.enter_pages.Goals as goal
 
 module _ (old now : Placed) (first segment all index : ℕ) (so_far : now ≡ record old { keys = overlaid old.keys first (first_keys segment index) }) (room : first + all ≤ length old.keys) (few : index < all) where

@@ -1,6 +1,4 @@
-use Rattle.std.proofs.lemmas.Grind.{common_steps}
-use Rattle.storage_unit.proofs.Common.{length, ap, arith, Placed, nat_tests}
-use Rattle.storage_unit.proofs.PrivateLemmas.{nones-more, nones-long}
+use Rattle.storage_unit.proofs.Lemmas.{length, ap, arith, Placed, nat_tests, common_steps, nones-more, nones-long}
 use Rattle.storage_unit.proofs.private.leave_pages.Goals as goal
 
 pub clear_frame-requires-clause-room : goal.clear_frame-requires-clause-room

@@ -1,5 +1,4 @@
-use Rattle.storage_unit.proofs.Common.{◌≡◌, replicate, overlaid, IsOfTable}
-use Rattle.std.specs.Prelude.{None}
+use Rattle.storage_unit.proofs.Common.{◌≡◌, replicate, overlaid, IsOfTable, None}
 use Rattle.storage_unit.proofs.private.leave_pages.Given as goal
 
 abbrev pub invariant-loop-index : goal.invariant-loop-index

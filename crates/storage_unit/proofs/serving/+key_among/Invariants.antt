@@ -1,4 +1,4 @@
-use Rattle.std.proofs.Common.{length}
+use Rattle.storage_unit.proofs.Common.{length}
 use Rattle.storage_unit.proofs.serving.+key_among.Given as goal
 
 abbrev pub decreases-key_among : goal.decreases-key_among

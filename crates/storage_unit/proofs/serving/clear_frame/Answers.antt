@@ -1,6 +1,4 @@
-use Rattle.std.proofs.Common.{arith}
-use Rattle.std.proofs.lemmas.Grind.{common_steps}
-use Rattle.storage_unit.proofs.Common.{sym, subst, List, Placed, Pair, IsOfTable, forgotten, of_table-left}
+use Rattle.storage_unit.proofs.Common.{sym, subst, List, Placed, Pair, IsOfTable, forgotten, of_table-left, arith, common_steps}
 use Rattle.storage_unit.proofs.serving.clear_frame.Goals as goal
 
 pub forget_page-requires : goal.forget_page-requires

@@ -1,6 +1,4 @@
-use Rattle.std.proofs.lemmas.Grind.{common_steps}
-use Rattle.storage_unit.proofs.Common.{take, arith, nat_tests}
-use Rattle.storage_unit.proofs.StateLemmas.{fold-long}
+use Rattle.storage_unit.proofs.Lemmas.{take, arith, nat_tests, common_steps, fold-long}
 use Rattle.storage_unit.proofs.serving.leave_all.Goals as goal
 
 pub leave-requires : goal.leave-requires

@@ -1,5 +1,4 @@
-use Rattle.store_calls.proofs.Common.{◌≡◌, ◌*◌, ◌+◌, ◌++◌, ℕ, List, sym, ◌∙◌, ap, arith, Layout, page_count, page_bytes, byte_count_pages, held_of, Standing, stands, Header, page_in, bytes_in, held_same, shows_asks, shows_none, shows_on}
-use Rattle.store_calls.proofs.ShowLemmas.{bytes_on, has_pages, none_in, page_whole, still_shown}
+use Rattle.store_calls.proofs.Lemmas.{◌≡◌, ◌*◌, ◌+◌, ◌++◌, ℕ, List, sym, ◌∙◌, ap, arith, Layout, page_count, page_bytes, byte_count_pages, held_of, Standing, stands, Header, page_in, bytes_in, held_same, shows_asks, shows_none, shows_on, bytes_on, has_pages, none_in, page_whole, still_shown}
 use Rattle.store_calls.proofs.kept.all_bytes.Goals as goal
 
 pub loop-number-init : goal.loop-number-init

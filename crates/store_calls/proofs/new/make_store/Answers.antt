@@ -1,5 +1,4 @@
-use Rattle.store_calls.proofs.Common.{◌≡◌, ℕ, List, [], ◌++◌, ◌∙◌, ap, subst, codes, decimal, fresh, call, Written, new_line}
-use Rattle.store_calls.proofs.WrittenLemmas.{written_since, not_written, unmade}
+use Rattle.store_calls.proofs.Lemmas.{◌≡◌, ℕ, List, [], ◌++◌, ◌∙◌, ap, subst, codes, decimal, fresh, call, Written, new_line, written_since, not_written, unmade}
 use Rattle.store_calls.proofs.new.make_store.Goals as goal
 
 pub returns-clause-made : goal.returns-clause-made

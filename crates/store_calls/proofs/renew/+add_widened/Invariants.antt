@@ -1,4 +1,4 @@
-use Rattle.std.proofs.Common.{length}
+use Rattle.store_calls.proofs.Common.{length}
 use Rattle.store_calls.proofs.renew.+add_widened.Given as goal
 
 abbrev pub decreases-add_widened : goal.decreases-add_widened

@@ -1,5 +1,4 @@
-use Rattle.store_calls.proofs.Common.{◌≡◌, false, sym, ◌∙◌, ap, bytes_of, page_bytes, PageSize, sum_by, flat_of, is_version_two}
-use Rattle.store_calls.proofs.RenewLemmas.{stood_one}
+use Rattle.store_calls.proofs.Lemmas.{◌≡◌, false, sym, ◌∙◌, ap, bytes_of, page_bytes, PageSize, sum_by, flat_of, is_version_two, stood_one}
 use Rattle.store_calls.proofs.renew.old_store.Goals as goal
 
 pub returns-in-Ok-clause-has : goal.returns-in-Ok-clause-has

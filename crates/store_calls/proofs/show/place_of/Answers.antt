@@ -1,5 +1,4 @@
-use Rattle.store_calls.proofs.Common.{IfSome, Layout, byte_count, length_of, start_of, Range, IsInside}
-use Rattle.std.proofs.Common.{◌≡◌, ℕ, ◌+◌, ◌-◌, ◌≤◌, ◌^◌, Option, Some, ap, ◌∙◌, sym, subst, arith}
+use Rattle.store_calls.proofs.Common.{IfSome, Layout, byte_count, length_of, start_of, Range, IsInside, ◌≡◌, ℕ, ◌+◌, ◌-◌, ◌≤◌, ◌^◌, Option, Some, ap, ◌∙◌, sym, subst, arith}
 use Rattle.store_calls.proofs.show.place_of.Goals as goal
 
 -- a range that lies in its segment lies in the store

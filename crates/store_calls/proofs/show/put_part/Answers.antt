@@ -1,5 +1,4 @@
-use Rattle.std.proofs.Common.{length, arith}
-use Rattle.store_calls.proofs.ShowLemmas.{part_put, part_failed}
+use Rattle.store_calls.proofs.Lemmas.{length, arith, part_put, part_failed}
 use Rattle.store_calls.proofs.show.put_part.Goals as goal
 
 pub returns-in-Ok-put_rows-clause-puts : goal.returns-in-Ok-put_rows-clause-puts

@@ -1,5 +1,4 @@
-use Rattle.store_calls.proofs.Common.{◌≡◌, ◌≤◌, ◌+◌, ◌<◌, length, arith, subst, ap, Ok, held_of, stands, PutsBytes}
-use Rattle.store_calls.proofs.ShowLemmas.{none_in, nothing_put, parts_on, parts-long, parts_stop}
+use Rattle.store_calls.proofs.Lemmas.{◌≡◌, ◌≤◌, ◌+◌, ◌<◌, length, arith, subst, ap, Ok, held_of, stands, PutsBytes, none_in, nothing_put, parts_on, parts-long, parts_stop}
 use Rattle.store_calls.proofs.show.put_range.Goals as goal
 
 pub parts-init : goal.parts-init

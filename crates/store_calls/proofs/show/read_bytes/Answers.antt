@@ -1,5 +1,4 @@
-use Rattle.store_calls.proofs.Common.{◌≡◌, ◌+◌, Bool, true, List, ℕ, [], ◌∷◌, refl, length, ap, ◌∙◌, sym, arith, Result, Ok, Err, OnOk, ◌==◌, nat_tests, asks_on, held_of, stands, bytes_in, held_same, shows_asks}
-use Rattle.store_calls.proofs.ShowLemmas.{in_two_pages, none_in, still_shown}
+use Rattle.store_calls.proofs.Lemmas.{◌≡◌, ◌+◌, Bool, true, List, ℕ, [], ◌∷◌, refl, length, ap, ◌∙◌, sym, arith, Result, Ok, Err, OnOk, ◌==◌, nat_tests, asks_on, held_of, stands, bytes_in, held_same, shows_asks, in_two_pages, none_in, still_shown}
 use Rattle.store_calls.proofs.show.read_bytes.Goals as goal
 
 on_ok : {T E P Q : Type 0} (result : Result T E) → (P → Q) → OnOk result P → OnOk result Q

@@ -1,8 +1,4 @@
-use Rattle.store_calls.proofs.Common.{◌≡◌, ◌++◌, ◌∙◌, ◌+◌, ◌-◌, [], List, ℕ, Some, sym, refl, ap, subst, length, take, drop, replicate, unwrap_or, IsTrue, IsSome, Torn, Option, held_of, leaves_on, option_map}
-use Rattle.outside.proofs.Durable.{leaves_held}
-use Rattle.outside.specs.Bytes.{written}
-use Rattle.store_calls.specs.New.{IsOnTheWay}
-use Rattle.store_calls.proofs.NameLemmas.{long_enough, name_on_the_way, put_name, put_tail, tail_is, tail_on_the_way, two_more, where_ok}
+use Rattle.store_calls.proofs.Lemmas.{◌≡◌, ◌++◌, ◌∙◌, ◌+◌, ◌-◌, [], List, ℕ, Some, sym, refl, ap, subst, length, take, drop, replicate, unwrap_or, IsTrue, IsSome, Torn, Option, held_of, leaves_on, option_map, leaves_held, written, IsOnTheWay, long_enough, name_on_the_way, put_name, put_tail, tail_is, tail_on_the_way, two_more, where_ok}
 use Rattle.store_calls.proofs.written.fill.Given as given
 use Rattle.store_calls.proofs.written.fill.Goals as goal
 

@@ -1,8 +1,4 @@
-use Rattle.store_calls.proofs.Common.{◌≡◌, ◌⊎◌, ◌∙◌, ◌+◌, [], inl, List, ℕ, Some, sym, refl, ap, subst, length, replicate, unwrap_or, IsTrue, IsSome, Torn, Option, held_of, leaves_on, option_map}
-use Rattle.outside.proofs.Durable.{told_some}
-use Rattle.outside.specs.Bytes.{written}
-use Rattle.store_calls.specs.New.{IsNoStore}
-use Rattle.store_calls.proofs.NameLemmas.{long_enough, put_zeros, short, three_more, torn_empty, torn_short, torn_wider, where_ok}
+use Rattle.store_calls.proofs.Lemmas.{◌≡◌, ◌⊎◌, ◌∙◌, ◌+◌, [], inl, List, ℕ, Some, sym, refl, ap, subst, length, replicate, unwrap_or, IsTrue, IsSome, Torn, Option, held_of, leaves_on, option_map, told_some, written, IsNoStore, long_enough, put_zeros, short, three_more, torn_empty, torn_short, torn_wider, where_ok}
 use Rattle.store_calls.proofs.written.write.Given as given
 use Rattle.store_calls.proofs.written.write.Goals as goal
 

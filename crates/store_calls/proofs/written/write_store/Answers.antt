@@ -1,4 +1,4 @@
-use Rattle.store_calls.proofs.WrittenLemmas.{written_put, written_torn}
+use Rattle.store_calls.proofs.Lemmas.{written_put, written_torn}
 use Rattle.store_calls.proofs.written.write_store.Goals as goal
 
 pub returns-in-Err-clause-written : goal.returns-in-Err-clause-written

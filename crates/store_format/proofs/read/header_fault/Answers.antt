@@ -1,5 +1,4 @@
-use Rattle.store_format.proofs.Common.{◌≡◌, ℕ, ◌∷◌, [], ◌∙◌, ap, length, arith, min, name_field, number_at, within, segment_fields, segments_at, segments_of, page_of, spare_fields, first_fault, PageSize}
-use Rattle.store_format.proofs.Checks.{six_faults, or_is, length-segments_at}
+use Rattle.store_format.proofs.Lemmas.{◌≡◌, ℕ, ◌∷◌, [], ◌∙◌, ap, length, arith, min, name_field, number_at, within, segment_fields, segments_at, segments_of, page_of, spare_fields, first_fault, PageSize, six_faults, or_is, length-segments_at}
 use Rattle.store_format.proofs.read.header_fault.Goals as goal
 
 pub returns : goal.returns

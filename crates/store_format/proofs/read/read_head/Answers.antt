@@ -1,5 +1,4 @@
-use Rattle.store_format.proofs.Common.{◌≡◌, ℕ, [], ◌∙◌, sym, ap, subst, length, List, take, drop, Option, IsSome, unwrap_or, min, held_of, common_steps, arith}
-use Rattle.store_format.proofs.Padded.{padded_is, read_is, number_is}
+use Rattle.store_format.proofs.Lemmas.{◌≡◌, ℕ, [], ◌∙◌, sym, ap, subst, length, List, take, drop, Option, IsSome, unwrap_or, min, held_of, common_steps, arith, padded_is, read_is, number_is}
 use Rattle.store_format.proofs.read.read_head.Goals as goal
 
 pub returns-clause-head : goal.returns-clause-head

@@ -1,6 +1,4 @@
-use Rattle.store_format.proofs.Common.{◌≡◌, ℕ, ◌∙◌, sym, ap, length, List, take, refl, Option, None, Some, IsSome, min, held_of, fields, first_fault, header_of}
-use Rattle.store_format.proofs.Padded.{padded_fault, padded_header}
-use Rattle.store_format.proofs.Sound.{faulty_header, faulty_length}
+use Rattle.store_format.proofs.Lemmas.{◌≡◌, ℕ, ◌∙◌, sym, ap, length, List, take, refl, Option, None, Some, IsSome, min, held_of, fields, first_fault, header_of, padded_fault, padded_header, faulty_header, faulty_length}
 use Rattle.store_format.proofs.read.read_header.Given.{Over}
 use Rattle.store_format.proofs.read.read_header.Goals as goal
 use Rattle.store_format.proofs.read.read_header.Goals.{After-header_fault, After-total-total}

@@ -1,5 +1,4 @@
-use Rattle.store_format.proofs.Common.{◌≡◌, ℕ, ◌+◌, ◌*◌, ◌∷◌, [], ◌∙◌, sym, ap, arith, is_some, min, Option, within, first_fault, common_steps}
-use Rattle.store_format.proofs.Checks.{wrong_identifier, wrong_pages, right_segment}
+use Rattle.store_format.proofs.Lemmas.{◌≡◌, ℕ, ◌+◌, ◌*◌, ◌∷◌, [], ◌∙◌, sym, ap, arith, is_some, min, Option, within, first_fault, common_steps, wrong_identifier, wrong_pages, right_segment}
 use Rattle.store_format.proofs.read.segments_fault.Goals as goal
 use Rattle.store_format.proofs.read.segments_fault.Goals.{After-is_some, After-is_some-in-loop-i}
 

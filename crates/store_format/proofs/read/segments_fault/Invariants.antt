@@ -1,5 +1,4 @@
-use Rattle.store_format.proofs.Common.{◌≡◌, ◌+◌, ◌*◌, ◌≤◌, segments_at, segment_fields, first_fault}
-use Rattle.store_format.proofs.Checks.{segments_left}
+use Rattle.store_format.proofs.Lemmas.{◌≡◌, ◌+◌, ◌*◌, ◌≤◌, segments_at, segment_fields, first_fault, segments_left}
 use Rattle.store_format.proofs.read.segments_fault.Given as goal
 
 abbrev pub invariant-loop-i : goal.invariant-loop-i

@@ -1,5 +1,4 @@
-use Rattle.store_format.proofs.Common.{◌≡◌, ℕ, ◌+◌, ◌*◌, ◌-◌, ◌^◌, ◌∷◌, [], ◌∙◌, sym, ap, arith, option_or, PageSize, number_at, within, zeros, last_zeros, spare_fields, first_fault}
-use Rattle.store_format.proofs.Checks.{first_fault-append, first_fault-cons, or_is, option_or-assoc, last_zeros_are}
+use Rattle.store_format.proofs.Lemmas.{◌≡◌, ℕ, ◌+◌, ◌*◌, ◌-◌, ◌^◌, ◌∷◌, [], ◌∙◌, sym, ap, arith, option_or, PageSize, number_at, within, zeros, last_zeros, spare_fields, first_fault, first_fault-append, first_fault-cons, or_is, option_or-assoc, last_zeros_are}
 use Rattle.store_format.proofs.read.spare_fault.Goals as goal
 
 pub returns-in-Two : goal.returns-in-Two

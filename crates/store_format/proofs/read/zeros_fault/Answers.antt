@@ -1,5 +1,4 @@
-use Rattle.store_format.proofs.Common.{◌≡◌, ℕ, ◌+◌, ◌-◌, ◌∷◌, [], ◌∙◌, sym, ap, slice_index, is_some, Option, within, zeros, first_fault}
-use Rattle.store_format.proofs.Checks.{zeros_more, or_first, or_second}
+use Rattle.store_format.proofs.Lemmas.{◌≡◌, ℕ, ◌+◌, ◌-◌, ◌∷◌, [], ◌∙◌, sym, ap, slice_index, is_some, Option, within, zeros, first_fault, zeros_more, or_first, or_second}
 use Rattle.store_format.proofs.read.zeros_fault.Goals as goal
 use Rattle.store_format.proofs.read.zeros_fault.Goals.{After-is_some}
 

@@ -1,6 +1,6 @@
+use Rattle.supervisor.proofs.Lemmas.{consistent}
 use Rattle.desk_law.proofs.ConsistentLaw.{idle-where-inactive}
 use Rattle.desk_law.proofs.TurnCauses.{turns-end-for-cause}
-use Rattle.supervisor.proofs.ShownLemmas.{consistent}
 use Rattle.supervisor.proofs.law.shown_turns_end.Goals as goal
 
 pub returns : goal.returns

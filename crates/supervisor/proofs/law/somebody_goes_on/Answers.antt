@@ -1,5 +1,5 @@
+use Rattle.supervisor.proofs.Lemmas.{consistent}
 use Rattle.desk_law.proofs.SomebodyGoesOn.{somebody-can-go-on}
-use Rattle.supervisor.proofs.ShownLemmas.{consistent}
 use Rattle.supervisor.proofs.law.somebody_goes_on.Goals as goal
 
 pub returns : goal.returns

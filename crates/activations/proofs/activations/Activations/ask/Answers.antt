@@ -1,8 +1,6 @@
-use Rattle.activations.proofs.Common.{Seating, sitter, number_in, holders, desk_over, IsSound, KeepsParts, StaysSeated, IsContested, tally_counts, activity_of, wants_of, taken-below, ◌≡◌, ℕ, IsSome, ap, sym, ◌∙◌, subst}
+use Rattle.activations.proofs.Lemmas.{Seating, sitter, number_in, holders, desk_over, IsSound, KeepsParts, StaysSeated, IsContested, tally_counts, activity_of, wants_of, taken-below, ◌≡◌, ℕ, IsSome, ap, sym, ◌∙◌, subst, EndsContest, keeps-two, stays-on, ok-then}
 use Rattle.std.specs.Result.{IfErr}
-use Rattle.activations.specs.Stages.{EndsContest}
 use Rattle.activations.proofs.AskLemmas.{asked-within, some-holders, sound-asking, asks-now, keeps-asking, stays-asking, asked-whole}
-use Rattle.activations.proofs.KeptLemmas.{keeps-two, stays-on, ok-then}
 use Rattle.activations.proofs.activations.Activations.ask.Goals as goal
 
 pub holders-requires : goal.holders-requires

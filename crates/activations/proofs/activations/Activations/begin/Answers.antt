@@ -1,7 +1,5 @@
-use Rattle.std.proofs.lemmas.Grind.{common_steps}
-use Rattle.activations.proofs.Common.{Begun, reach_of, absent_segment, unit-sound, sound-fits, Activity, program_at, Program, first_registers, clear, registers_of_program, IsSound, activity_of, ◌≡◌, ◌+◌, length, refl, sym, ap, ◌∙◌, arith, subst, slice_set, []}
+use Rattle.activations.proofs.Common.{Begun, reach_of, absent_segment, unit-sound, sound-fits, Activity, program_at, Program, first_registers, clear, registers_of_program, IsSound, activity_of, ◌≡◌, ◌+◌, length, refl, sym, ap, ◌∙◌, arith, subst, slice_set, [], common_steps, begins, begun_in, given, started}
 use Rattle.storage_unit.specs.Served.{begun}
-use Rattle.activations.specs.Begins.{begins, begun_in, given, started}
 use Rattle.desk.specs.declared.answers.Begun.TheVariants
 use Rattle.activations.proofs.BeginLemmas.{begin-goes, begins-full, begins-refused, begins-started, sound-begins, is-code, is-fresh, has-room, some-next, sound-given}
 use Rattle.activations.proofs.activations.Activations.begin.Goals.{In-Some-sit}

@@ -1,5 +1,4 @@
-use Rattle.activations.proofs.Common.{pages_wanted, wants_of, activity_of}
-use Rattle.activations.proofs.PrepareLemmas.{broken-off}
+use Rattle.activations.proofs.Lemmas.{pages_wanted, wants_of, activity_of, broken-off}
 use Rattle.activations.proofs.activations.Activations.bring.Goals as goal
 
 pub returns-in-Err-clause-broke : goal.returns-in-Err-clause-broke

@@ -1,8 +1,5 @@
-use Rattle.std.proofs.lemmas.Grind.{common_steps}
-use Rattle.activations.proofs.Common.{sym, subst, Live, Activity, live_in, ComesToEnd, instruction_in, activity_of, arith}
+use Rattle.activations.proofs.Lemmas.{sym, subst, Live, Activity, live_in, ComesToEnd, instruction_in, activity_of, arith, common_steps, checked, runs-there}
 use Rattle.desk.specs.Instruction as desk
-use Rattle.activations.proofs.EndLemmas.{checked}
-use Rattle.activations.proofs.ExecuteLemmas.{runs-there}
 use Rattle.activations.proofs.activations.Activations.check.Goals as goal
 
 pub returns-clause-checked : goal.returns-clause-checked

@@ -1,5 +1,4 @@
-use Rattle.activations.proofs.Common.{activity_of, refl}
-use Rattle.activations.proofs.EndingLemmas.{commits-left}
+use Rattle.activations.proofs.Lemmas.{activity_of, refl, commits-left}
 use Rattle.activations.proofs.activations.Activations.commit.Goals as goal
 
 pub returns-clause-commits : goal.returns-clause-commits

@@ -1,6 +1,4 @@
-use Rattle.std.proofs.lemmas.Grind.{common_steps}
-use Rattle.activations.proofs.Common.{eq-eqb, ne_eqb, option_map, victim_of, number_in, seat_of, sitter, Seat, cycle_of, seat-found, Victim, Activity, activity_of, Cycle, has, rolled, ComesToEnd, Contests, tally_counts, KeepsParts, StaysSeated, ◌≡◌, ◌<◌, ◌==◌, true, false, ℕ, List, length, map, IsSome, refl, Some, sym, ◌∙◌, ap, arith, subst}
-use Rattle.activations.proofs.KeptLemmas.{keeps-itself, keeps-rolled, stays-itself, stays-rolled, tally-on}
+use Rattle.activations.proofs.Lemmas.{eq-eqb, ne_eqb, option_map, victim_of, number_in, seat_of, sitter, Seat, cycle_of, seat-found, Victim, Activity, activity_of, Cycle, has, rolled, ComesToEnd, Contests, tally_counts, KeepsParts, StaysSeated, ◌≡◌, ◌<◌, ◌==◌, true, false, ℕ, List, length, map, IsSome, refl, Some, sym, ◌∙◌, ap, arith, subst, common_steps, keeps-itself, keeps-rolled, stays-itself, stays-rolled, tally-on}
 use Rattle.activations.proofs.ContendLemmas.{fewer, contests-on, contests-lost, stays-taken, recorded, victim-sits, told-settles, told-stays}
 use Rattle.activations.proofs.activations.Activations.contend.Goals.{in-Some+in_default-seat_of, in_default}
 use Rattle.activations.proofs.activations.Activations.contend.Goals as goal

@@ -1,6 +1,4 @@
-use Rattle.std.proofs.lemmas.Grind.{common_steps}
-use Rattle.activations.proofs.Common.{reach_of, activity_of, arith}
-use Rattle.activations.proofs.EndingLemmas.{shape-left, sound-after}
+use Rattle.activations.proofs.Lemmas.{reach_of, activity_of, arith, common_steps, shape-left, sound-after}
 use Rattle.activations.proofs.activations.Activations.end.Goals as goal
 
 pub returns-clause-shape : goal.returns-clause-shape

@@ -1,5 +1,4 @@
-use Rattle.activations.proofs.Common.{subst, reach_of, Activity, WasAttempted, IsSound, activity_of}
-use Rattle.activations.proofs.StridingLemmas.{runs-at, in-place}
+use Rattle.activations.proofs.Lemmas.{subst, reach_of, Activity, WasAttempted, IsSound, activity_of, runs-at, in-place}
 use Rattle.activations.proofs.activations.Activations.execute.Goals as goal
 
 pub returns-clause-sound : goal.returns-clause-sound

@@ -1,6 +1,4 @@
-use Rattle.activations.proofs.Common.{Layout, page_count, AreWithin, has, asks_on, pool_of, Touch, Activity, IsSound, pages_wanted, wants_of, activity_of, ◌≡◌, ◌∙◌, true, false, ◌<◌, [], ◌∷◌, sym, ap, subst, arith}
-use Rattle.activations.proofs.EndLemmas.{sound-pool}
-use Rattle.activations.proofs.FetchLemmas.{none-fetched, one-fetches, first-broken, two-fetch, fetch-fails}
+use Rattle.activations.proofs.Lemmas.{Layout, page_count, AreWithin, has, asks_on, pool_of, Touch, Activity, IsSound, pages_wanted, wants_of, activity_of, ◌≡◌, ◌∙◌, true, false, ◌<◌, [], ◌∷◌, sym, ap, subst, arith, sound-pool, none-fetched, one-fetches, first-broken, two-fetch, fetch-fails}
 use Rattle.activations.proofs.activations.Activations.fetch.Goals as goal
 
 pub returns-in-Nothing-clause-fetched : goal.returns-in-Nothing-clause-fetched

@@ -1,5 +1,4 @@
-use Rattle.activations.proofs.Common.{has, Pool, ◌≡◌, ◌∙◌, false, sym, ap}
-use Rattle.activations.proofs.BringLemmas.{came-in, on-ok}
+use Rattle.activations.proofs.Lemmas.{has, Pool, ◌≡◌, ◌∙◌, false, sym, ap, came-in, on-ok}
 use Rattle.activations.proofs.activations.Activations.fetch_page.Goals as goal
 
 pub returns-clause-page_in : goal.returns-clause-page_in

@@ -1,5 +1,4 @@
-use Rattle.activations.proofs.Common.{has, pool-seen, pool_of, Fits, reach_of, unit-sound, sound-fits, Activity, IsSound, rolled, RollsBack, activity_of, ◌≡◌, ◌+◌, ℕ, List, sym, ap, ◌∙◌, arith, subst}
-use Rattle.activations.proofs.EndingLemmas.{RolledSo, rolled-none, rolled-past, rolled-step, sound-emptied, deserted, restarted-left}
+use Rattle.activations.proofs.Lemmas.{has, pool-seen, pool_of, Fits, reach_of, unit-sound, sound-fits, Activity, IsSound, rolled, RollsBack, activity_of, ◌≡◌, ◌+◌, ℕ, List, sym, ap, ◌∙◌, arith, subst, RolledSo, rolled-none, rolled-past, rolled-step, sound-emptied, deserted, restarted-left}
 use Rattle.activations.proofs.activations.Activations.forget.Goals as goal
 use Rattle.activations.proofs.activations.Activations.forget.Goals.{After-empty, then-contains, else-contains}
 

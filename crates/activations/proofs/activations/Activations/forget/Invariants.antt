@@ -1,5 +1,4 @@
-use Rattle.activations.specs.View.{activity_of}
-use Rattle.activations.proofs.EndingLemmas.{RolledSo}
+use Rattle.activations.proofs.Lemmas.{activity_of, RolledSo}
 use Rattle.activations.proofs.activations.Activations.forget.Given as goal
 
 -- those of the seats so far were rolled back

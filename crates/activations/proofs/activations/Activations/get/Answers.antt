@@ -1,7 +1,5 @@
-use Rattle.activations.proofs.Common.{has, page_count, Counts, Activity, IsSound, Serves, locked, pages_picked, pages_wanted, wants_of, tally_counts, activity_of, ◌≡◌, ◌<◌, ℕ, true, length, sym, ap, subst}
+use Rattle.activations.proofs.Lemmas.{has, page_count, Counts, Activity, IsSound, Serves, locked, pages_picked, pages_wanted, wants_of, tally_counts, activity_of, ◌≡◌, ◌<◌, ℕ, true, length, sym, ap, subst, EndsByDisk, granted-same}
 use Rattle.activations.proofs.GetLemmas.{picked-below, served-so, broken-so, serves-by, parts-by}
-use Rattle.activations.proofs.GrantingLemmas.{granted-same}
-use Rattle.activations.specs.Stages.{EndsByDisk}
 use Rattle.activations.proofs.activations.Activations.get.Goals as goal
 
 pub returns-clause-keeps : goal.returns-clause-keeps

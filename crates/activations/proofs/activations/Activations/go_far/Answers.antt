@@ -1,8 +1,4 @@
-use Rattle.activations.proofs.Common.{has, Seating, IsSound, KeepsParts, IsTurning, activity_of, ◌+◌, ◌∙◌, arith, ap, sym, subst}
-use Rattle.activations.proofs.GoOnLemmas.{keeps-counted}
-use Rattle.activations.proofs.KeptLemmas.{keeps-on}
-use Rattle.activations.proofs.StrideLemmas.{sound-counted}
-use Rattle.activations.proofs.TurnLemmas.{turn-strides}
+use Rattle.activations.proofs.Lemmas.{has, Seating, IsSound, KeepsParts, IsTurning, activity_of, ◌+◌, ◌∙◌, arith, ap, sym, subst, keeps-counted, keeps-on, sound-counted, turn-strides}
 use Rattle.activations.proofs.activations.Activations.go_far.Goals as goal
 
 pub returns-clause-sound : goal.returns-clause-sound

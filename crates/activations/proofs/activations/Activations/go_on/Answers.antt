@@ -1,8 +1,5 @@
-use Rattle.activations.proofs.Common.{WasAttempted, Activity, IsSound, GoesUncounted, pages_lowered, has, KeepsParts, wants_of, activity_of, ◌≡◌, true, sym, subst, inl, inr}
+use Rattle.activations.proofs.Lemmas.{WasAttempted, Activity, IsSound, GoesUncounted, pages_lowered, has, KeepsParts, wants_of, activity_of, ◌≡◌, true, sym, subst, inl, inr, lowered-sound, took-served, not-check, not-commit, took-either, keeps-took, keeps-checked}
 use Rattle.romp_cpu.specs.declared.cpu.Attempt.{Attempt}
-use Rattle.activations.proofs.GrantingLemmas.{lowered-sound}
-use Rattle.activations.proofs.GoOnLemmas.{took-served, not-check, not-commit, took-either}
-use Rattle.activations.proofs.KeptLemmas.{keeps-took, keeps-checked}
 use Rattle.activations.proofs.activations.Activations.go_on.Goals as goal
 
 pub returns-in-Went-clause-sound : goal.returns-in-Went-clause-sound

@@ -1,5 +1,4 @@
-use Rattle.activations.proofs.Common.{page_count, Activity, activity_of, ◌<◌, sym, subst, arith}
-use Rattle.activations.proofs.GrantingLemmas.{second_within, one_within, first_within}
+use Rattle.activations.proofs.Lemmas.{page_count, Activity, activity_of, ◌<◌, sym, subst, arith, second_within, one_within, first_within}
 use Rattle.activations.proofs.activations.Activations.grant_picked.Goals as goal
 
 pub grant_if-requires-in-Two-2-clause-page : goal.grant_if-requires-in-Two-2-clause-page

@@ -1,5 +1,4 @@
-use Rattle.activations.proofs.Common.{write_count, Holding, of_seat, activity_of, ◌≡◌, ◌∙◌, ap, arith}
-use Rattle.activations.proofs.TouchingLemmas.{few-held}
+use Rattle.activations.proofs.Lemmas.{write_count, Holding, of_seat, activity_of, ◌≡◌, ◌∙◌, ap, arith, few-held}
 use Rattle.activations.proofs.activations.Activations.held_lines.Goals as goal
 
 pub returns-clause-few : goal.returns-clause-few

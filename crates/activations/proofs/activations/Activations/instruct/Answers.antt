@@ -1,9 +1,6 @@
-use Rattle.activations.proofs.Common.{TurnEnd, Check, row, Activity, program_in, IsSelected, WasAttempted, plain_in, KeepsDesk, GoesUncounted, instruction_in, HasEnded, tally_counts, IsStep, activity_of, asks_none, refl, ◌≡◌, Result, arith, sym, subst}
+use Rattle.activations.proofs.Lemmas.{TurnEnd, Check, row, Activity, program_in, IsSelected, WasAttempted, plain_in, KeepsDesk, GoesUncounted, instruction_in, HasEnded, tally_counts, IsStep, activity_of, asks_none, refl, ◌≡◌, Result, arith, sym, subst, took-either, keeps-took, keeps-checked, handed}
 use Rattle.romp_cpu.specs.declared.cpu.Attempt.{Attempt}
-use Rattle.activations.proofs.GoOnLemmas.{took-either}
 use Rattle.activations.proofs.InstructLemmas.{row-goes, at-commit}
-use Rattle.activations.proofs.KeptLemmas.{keeps-took, keeps-checked}
-use Rattle.activations.proofs.ServeLemmas.{handed}
 use Rattle.activations.proofs.activations.Activations.instruct.Goals as goal
 
 pub returns-in_err-serve-clause-step : goal.returns-in_err-serve-clause-step

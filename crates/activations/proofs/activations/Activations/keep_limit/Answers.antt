@@ -1,6 +1,4 @@
-use Rattle.std.proofs.lemmas.Grind.{common_steps}
-use Rattle.activations.proofs.Common.{nat_lt, nat_tests, TurnEnd, Activity, lines_with, wants_of, activity_of, ◌≡◌, true, ap, arith}
-use Rattle.activations.proofs.TouchingLemmas.{over-limit}
+use Rattle.activations.proofs.Lemmas.{nat_lt, nat_tests, TurnEnd, Activity, lines_with, wants_of, activity_of, ◌≡◌, true, ap, arith, common_steps, over-limit}
 use Rattle.activations.proofs.activations.Activations.keep_limit.Goals as goal
 
 pub returns-then-lines-self-clause-over : goal.returns-then-lines-self-clause-over

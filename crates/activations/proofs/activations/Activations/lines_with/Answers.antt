@@ -1,5 +1,4 @@
-use Rattle.activations.proofs.Common.{◌∙◌, arith, activity_of}
-use Rattle.activations.proofs.TouchingLemmas.{counts-none, counts-one, counts-two, first-within, second-within}
+use Rattle.activations.proofs.Lemmas.{◌∙◌, arith, activity_of, counts-none, counts-one, counts-two, first-within, second-within}
 use Rattle.activations.proofs.activations.Activations.lines_with.Goals as goal
 
 pub overflow_add-result : goal.overflow_add-result

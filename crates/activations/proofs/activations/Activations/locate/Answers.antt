@@ -1,6 +1,4 @@
-use Rattle.std.proofs.lemmas.Grind.{common_steps}
-use Rattle.activations.proofs.Common.{◌∙◌, located_by, activity_of, arith}
-use Rattle.activations.proofs.ExecuteLemmas.{runs-there}
+use Rattle.activations.proofs.Lemmas.{◌∙◌, located_by, activity_of, arith, common_steps, runs-there}
 use Rattle.activations.proofs.activations.Activations.locate.Goals as goal
 
 pub returns : goal.returns

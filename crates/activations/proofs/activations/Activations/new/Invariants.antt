@@ -1,4 +1,4 @@
-use Rattle.std.proofs.Common.{◌≡◌, length}
+use Rattle.activations.proofs.Common.{◌≡◌, length}
 use Rattle.activations.proofs.activations.Activations.new.Given as goal
 
 -- so many seats have their room

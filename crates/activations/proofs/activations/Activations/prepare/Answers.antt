@@ -1,7 +1,4 @@
-use Rattle.activations.proofs.Common.{TurnEnd, IsClean, Tally, Activity, HasBrokenOff, IsPrepared, Prepares, IsFetched, instruction_in, with_pool, wants_of, pages_wanted, HasEnded, HasBroken, tally_counts, activity_of, asks_none, ◌+◌, Result, sym, ◌∙◌, ap, subst}
-use Rattle.activations.proofs.KeptLemmas.{keeps-left, keeps-broke}
-use Rattle.activations.proofs.PrepareLemmas.{is-to-serve, prepare-broke, prepared-so}
-use Rattle.activations.proofs.ServeLemmas.{handed}
+use Rattle.activations.proofs.Lemmas.{TurnEnd, IsClean, Tally, Activity, HasBrokenOff, IsPrepared, Prepares, IsFetched, instruction_in, with_pool, wants_of, pages_wanted, HasEnded, HasBroken, tally_counts, activity_of, asks_none, ◌+◌, Result, sym, ◌∙◌, ap, subst, keeps-left, keeps-broke, is-to-serve, prepare-broke, prepared-so, handed}
 use Rattle.activations.proofs.activations.Activations.prepare.Goals as goal
 
 pub returns-in_err-keep_limit-clause-keeps : goal.returns-in_err-keep_limit-clause-keeps

@@ -1,4 +1,4 @@
-use Rattle.activations.proofs.GrantingLemmas.{second_within}
+use Rattle.activations.proofs.Lemmas.{second_within}
 use Rattle.activations.proofs.activations.Activations.refused.Goals as goal
 
 pub refuses-requires-in-Two-2-clause-page : goal.refuses-requires-in-Two-2-clause-page

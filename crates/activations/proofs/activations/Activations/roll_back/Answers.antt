@@ -1,5 +1,4 @@
-use Rattle.activations.proofs.Common.{activity_of, refl}
-use Rattle.activations.proofs.EndingLemmas.{rolls-left}
+use Rattle.activations.proofs.Lemmas.{activity_of, refl, rolls-left}
 use Rattle.activations.proofs.activations.Activations.roll_back.Goals as goal
 
 pub returns-clause-undone : goal.returns-clause-undone

@@ -1,11 +1,5 @@
-use Rattle.store_format.specs.Header.{total}
-use Rattle.redo_journal.proofs.WriteLemmas.{asks_only}
-use Rattle.activations.proofs.Common.{number_in, has, asks_none, asks_on, Counts, Limit, TurnEnd, array_vec_len, Tally, Activity, KeepsDesk, KeepsParts, counted, ComesToEnd, instruction_in, tally_counts, IsStep, IsTurning, IsAtCommit, AreTurns, turn_in, activity_of, ◌≡◌, ◌+◌, ◌-◌, ◌^◌, ℕ, List, true, length, Result, Ok, refl, ap, arith, sym, ◌∙◌, subst}
+use Rattle.activations.proofs.Lemmas.{number_in, has, asks_none, asks_on, Counts, Limit, TurnEnd, array_vec_len, Tally, Activity, KeepsDesk, KeepsParts, counted, ComesToEnd, instruction_in, tally_counts, IsStep, IsTurning, IsAtCommit, AreTurns, turn_in, activity_of, ◌≡◌, ◌+◌, ◌-◌, ◌^◌, ℕ, List, true, length, Result, Ok, refl, ap, arith, sym, ◌∙◌, subst, total, asks_only, store-on, keeps-itself, keeps-two, stays-itself, stays-on, handed, ended-by-disk, follows-selected, keeps-far, keeps-ran, keeps-within, so-far, turn-begins, turn-goes, turn-commits, turn-ends, turn-limit}
 use Rattle.activations.specs.declared.instructions.Went.{Went}
-use Rattle.activations.proofs.BringLemmas.{store-on}
-use Rattle.activations.proofs.KeptLemmas.{keeps-itself, keeps-two, stays-itself, stays-on}
-use Rattle.activations.proofs.ServeLemmas.{handed, ended-by-disk}
-use Rattle.activations.proofs.TurnLemmas.{follows-selected, keeps-far, keeps-ran, keeps-within, so-far, turn-begins, turn-goes, turn-commits, turn-ends, turn-limit}
 use Rattle.activations.proofs.activations.Activations.run.Goals as goal
 
 pub loop-left-init : goal.loop-left-init

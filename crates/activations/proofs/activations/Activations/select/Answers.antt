@@ -1,6 +1,5 @@
-use Rattle.activations.proofs.Common.{sym, subst, Layout, IsLegal, program-reached, program_in, activity_of, Live}
+use Rattle.activations.proofs.Lemmas.{sym, subst, Layout, IsLegal, program-reached, program_in, activity_of, Live, runs-there}
 use Rattle.storage_unit.specs.Held.{AreReached}
-use Rattle.activations.proofs.ExecuteLemmas.{runs-there}
 use Rattle.activations.proofs.activations.Activations.select.Goals as goal
 
 pub select-requires-clause-registers : goal.select-requires-clause-registers

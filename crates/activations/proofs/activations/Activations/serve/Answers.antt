@@ -1,9 +1,4 @@
-use Rattle.store_format.specs.Header.{total}
-use Rattle.redo_journal.proofs.WriteLemmas.{asks_only}
-use Rattle.activations.proofs.Common.{number_in, TurnEnd, Tally, IsInstruction, instruction_in, tally_counts, activity_of, Result, ap, arith, sym, ◌∙◌}
-use Rattle.activations.proofs.BringLemmas.{store-on}
-use Rattle.activations.proofs.KeptLemmas.{keeps-all-on, keeps-all-then}
-use Rattle.activations.proofs.ServeLemmas.{handed, ended-by-disk}
+use Rattle.activations.proofs.Lemmas.{number_in, TurnEnd, Tally, IsInstruction, instruction_in, tally_counts, activity_of, Result, ap, arith, sym, ◌∙◌, total, asks_only, store-on, keeps-all-on, keeps-all-then, handed, ended-by-disk}
 use Rattle.activations.proofs.activations.Activations.serve.Goals as goal
 
 pub returns-in_err-touch-clause-served : goal.returns-in_err-touch-clause-served

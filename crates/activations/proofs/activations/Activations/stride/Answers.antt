@@ -1,6 +1,4 @@
-use Rattle.activations.proofs.Common.{subst, reach_of, Activity, IsSelected, Strode, IsShut, IsStopped, IsSound, KeepsParts, activity_of}
-use Rattle.activations.specs.Striding.{RunsAt, with_live}
-use Rattle.activations.proofs.StridingLemmas.{runs-at, in-place}
+use Rattle.activations.proofs.Lemmas.{subst, reach_of, Activity, IsSelected, Strode, IsShut, IsStopped, IsSound, KeepsParts, activity_of, RunsAt, with_live, runs-at, in-place}
 use Rattle.activations.proofs.activations.Activations.stride.Goals as goal
 
 -- what runs in the seat, and what is said of it once it is put back there

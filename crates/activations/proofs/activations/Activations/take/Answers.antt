@@ -1,6 +1,4 @@
-use Rattle.std.proofs.lemmas.Grind.{common_steps}
-use Rattle.activations.proofs.Common.{page_count, AreWithin, took, pages_picked, wants_of, with_whole_page, activity_of, ℕ, map, sym, ap, ◌∙◌, subst, arith}
-use Rattle.activations.proofs.GrantingLemmas.{within-whole, sound-then}
+use Rattle.activations.proofs.Lemmas.{page_count, AreWithin, took, pages_picked, wants_of, with_whole_page, activity_of, ℕ, map, sym, ap, ◌∙◌, subst, arith, common_steps, within-whole, sound-then}
 use Rattle.activations.proofs.activations.Activations.take.Goals as goal
 
 pub take-requires-clause-pages : goal.take-requires-clause-pages

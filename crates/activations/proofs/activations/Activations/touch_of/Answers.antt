@@ -1,5 +1,4 @@
-use Rattle.activations.proofs.Common.{nat_tests, Layout, start_of, byte_count, line_of, is_private, lines_between, activity_of, ◌≡◌, ◌+◌, ◌-◌, ◌%◌, ◌^◌, ◌≤◌, true, false, sym, ◌∙◌, ap, subst, arith}
-use Rattle.activations.proofs.TouchingLemmas.{touches-refused, touches-private, touches-shared, touches-within}
+use Rattle.activations.proofs.Lemmas.{nat_tests, Layout, start_of, byte_count, line_of, is_private, lines_between, activity_of, ◌≡◌, ◌+◌, ◌-◌, ◌%◌, ◌^◌, ◌≤◌, true, false, sym, ◌∙◌, ap, subst, arith, touches-refused, touches-private, touches-shared, touches-within}
 use Rattle.activations.proofs.activations.Activations.touch_of.Goals as goal
 
 pub returns-in_default-clause-lines : goal.returns-in_default-clause-lines

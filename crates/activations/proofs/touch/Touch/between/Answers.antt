@@ -1,5 +1,4 @@
-use Rattle.std.proofs.Common.{rules}
-use Rattle.activations.proofs.TouchingLemmas.{wanted-one, wanted-two}
+use Rattle.activations.proofs.Lemmas.{rules, wanted-one, wanted-two}
 use Rattle.activations.proofs.touch.Touch.between.Goals as goal
 
 pub returns-then-first-last-clause-wanted : goal.returns-then-first-last-clause-wanted

@@ -1,5 +1,4 @@
-use Rattle.std.proofs.lemmas.Grind.{common_steps}
-use Rattle.std.proofs.Common.{arith}
+use Rattle.asm_parse.proofs.Common.{common_steps, arith}
 use Rattle.asm_parse.proofs.statements.Statements.push_bare.Goals as goal
 
 pub invariant_of-self-2 : goal.invariant_of-self-2

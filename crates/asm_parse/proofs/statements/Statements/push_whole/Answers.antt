@@ -1,5 +1,4 @@
-use Rattle.std.proofs.lemmas.Grind.{elements, common_steps}
-use Rattle.asm_parse.proofs.Common.{arith, body_of}
+use Rattle.asm_parse.proofs.Common.{arith, body_of, elements, common_steps}
 use Rattle.asm_parse.proofs.KeptLemmas.{are_kept, is_gained}
 use Rattle.asm_parse.proofs.statements.Statements.push_whole.Goals as goal
 

@@ -1,5 +1,4 @@
-use Rattle.std.proofs.lemmas.Grind.{common_steps}
-use Rattle.std.proofs.Common.{arith}
+use Rattle.asm_parse.proofs.Common.{common_steps, arith}
 use Rattle.asm_parse.proofs.word.Word.from_ascii.Goals as goal
 
 pub invariant_of-result : goal.invariant_of-result

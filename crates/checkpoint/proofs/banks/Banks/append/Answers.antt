@@ -1,4 +1,4 @@
-use Rattle.std.proofs.Common.{arith}
+use Rattle.checkpoint.proofs.Common.{arith}
 use Rattle.checkpoint.proofs.banks.Banks.append.Goals as goal
 
 pub returns : goal.returns

@@ -1,6 +1,5 @@
-use Rattle.checkpoint.proofs.Common.{◌≡◌, ℕ, ◌+◌, List, [], length, refl, sym, subst, ◌∙◌, ap, arith, replicate, length-replicate, get_or-replicate, Which, Header, header_of, area_at, IsStore, Leaves, held_of, leaves_held, KeptBank, number_of, TracksBank, HoldsRecords, turned, place_is, other, IsSame, IsMoved}
+use Rattle.checkpoint.proofs.Common.{◌≡◌, ℕ, ◌+◌, List, [], length, refl, sym, subst, ◌∙◌, ap, arith, replicate, length-replicate, get_or-replicate, Which, Header, header_of, area_at, IsStore, Leaves, held_of, leaves_held, KeptBank, number_of, TracksBank, HoldsRecords, turned, place_is, other, IsSame, IsMoved, Option, None, take}
 use Rattle.checkpoint.proofs.StepLemmas.{held_since}
-use Rattle.std.specs.Prelude.{Option, None, take}
 use Rattle.checkpoint.proofs.banks.Banks.checkpoint.Given.{Over}
 use Rattle.checkpoint.proofs.banks.Banks.checkpoint.Goals as goal
 use Rattle.checkpoint.proofs.banks.Banks.checkpoint.Goals.{After-move_to}

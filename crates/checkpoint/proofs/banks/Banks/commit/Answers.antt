@@ -1,5 +1,4 @@
-use Rattle.checkpoint.proofs.Common.{◌≡◌, inl, sym, subst, ◌∙◌, ap, arith, Option, IfSome, held_of, None, Some, KeptBank, emptied, roomy, Commits, CountsKept, FailedLeaves, bank_appended, kept_in}
-use Rattle.redo_journal.specs.declared.keep.Kept.{Kept}
+use Rattle.checkpoint.proofs.Common.{◌≡◌, inl, sym, subst, ◌∙◌, ap, arith, Option, IfSome, held_of, None, Some, KeptBank, emptied, roomy, Commits, CountsKept, FailedLeaves, bank_appended, kept_in, Kept}
 use Rattle.checkpoint.proofs.CommitLemmas.{appended_apart, carried, leaves_committed, kept_after, roomy_full, roomy_fits, two_more}
 use Rattle.checkpoint.proofs.banks.Banks.commit.Goals as goal
 

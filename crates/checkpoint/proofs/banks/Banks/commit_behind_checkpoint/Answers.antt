@@ -1,6 +1,4 @@
-use Rattle.checkpoint.proofs.Common.{◌≡◌, inl, inr, ⊎_elim, ℕ, List, [], sym, subst, ◌∙◌, ap, arith, Option, IfSome, Some, Header, RecordLine, stands, one_more, Leaves, held_of, leaves_on, KeptBank, begun_of, TracksBank, IsEither, HoldsOneOf, HoldsCommitted, IsSameBut, IsCommitOffset, needed_end, writes_on, other, emptied, CountsKept, FailedLeaves, bank_appended, kept_in}
-use Rattle.redo_journal.specs.declared.keep.Kept.{Kept}
-use Rattle.redo_journal.specs.Appended.{IsApart}
+use Rattle.checkpoint.proofs.Common.{◌≡◌, inl, inr, ⊎_elim, ℕ, List, [], sym, subst, ◌∙◌, ap, arith, Option, IfSome, Some, Header, RecordLine, stands, one_more, Leaves, held_of, leaves_on, KeptBank, begun_of, TracksBank, IsEither, HoldsOneOf, HoldsCommitted, IsSameBut, IsCommitOffset, needed_end, writes_on, other, emptied, CountsKept, FailedLeaves, bank_appended, kept_in, Kept, IsApart}
 use Rattle.checkpoint.proofs.ApartLemmas.{but_on}
 use Rattle.checkpoint.proofs.CommitLemmas.{adds_same, appended_apart, behind_apart, leaves_committed, answered_by, counts_on, either_same, failed_behind, kept_after, no_records, shape_on, two_more}
 use Rattle.checkpoint.proofs.banks.Banks.commit_behind_checkpoint.Given.{Over}

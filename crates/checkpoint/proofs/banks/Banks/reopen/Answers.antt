@@ -1,5 +1,4 @@
-use Rattle.outside.proofs.Runs.{asks_on}
-use Rattle.std.proofs.Common.{arith}
+use Rattle.checkpoint.proofs.Common.{asks_on, arith}
 use Rattle.checkpoint.proofs.banks.Banks.reopen.Goals as goal
 
 pub returns-in-Ok-clause-intact : goal.returns-in-Ok-clause-intact

@@ -1,5 +1,5 @@
+use Rattle.drills.proofs.Lemmas.{call-stops}
 use Rattle.outside.specs.declared.refusals.Call.TheVariants as kind
-use Rattle.drills.proofs.StoppingLemmas.{call-stops}
 use Rattle.drills.proofs.stopping_disk.StoppingDiskDisk.sync.Goals as goal
 
 pub invariant_of-self : goal.invariant_of-self

@@ -1,4 +1,4 @@
-use Rattle.drills.proofs.StoppingLemmas.{write-stops}
+use Rattle.drills.proofs.Lemmas.{write-stops}
 use Rattle.drills.proofs.stopping_disk.StoppingDiskDisk.write_at.Goals as goal
 
 pub invariant_of-self : goal.invariant_of-self

@@ -1,6 +1,5 @@
 -- The copied bytes are those of the store.
-use Rattle.flat_machine.proofs.Common.{Layout, Plain, start}
-use Rattle.std.proofs.Common.{◌≡◌, Result, Ok, Err, IfOk, sym, ◌∙◌}
+use Rattle.flat_machine.proofs.Common.{Layout, Plain, start, ◌≡◌, Result, Ok, Err, IfOk, sym, ◌∙◌}
 use Rattle.flat_machine.proofs.machine.Plain.start.Goals as goal
 
 at_one : {E : Type 0} → (made : Layout → Plain) (directory : Layout) (result : Result Plain E)

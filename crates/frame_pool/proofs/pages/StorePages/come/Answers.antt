@@ -1,6 +1,4 @@
-use Rattle.frame_pool.proofs.Common.{◌≡◌, ℕ, ◌<◌, [], ◌∷◌, ◌++◌, length, ◌∙◌, ap, arith, Some, vec_len, vec_capacity, slice_set, unwrap_or, places_of}
-use Rattle.frame_pool.proofs.SoundLemmas.{sound-came_by}
-use Rattle.frame_pool.proofs.PlaceLemmas.{pushed, popped, some-free, free-within}
+use Rattle.frame_pool.proofs.Lemmas.{◌≡◌, ℕ, ◌<◌, [], ◌∷◌, ◌++◌, length, ◌∙◌, ap, arith, Some, vec_len, vec_capacity, slice_set, unwrap_or, places_of, sound-came_by, pushed, popped, some-free, free-within}
 use Rattle.frame_pool.proofs.pages.StorePages.come.Goals as goal
 
 pub index_mut-requires-2 : goal.index_mut-requires-2

@@ -1,8 +1,4 @@
-use Rattle.std.proofs.lemmas.Grind.{common_steps}
-use Rattle.frame_pool.proofs.Common.{◌≡◌, ℕ, [], ◌∷◌, ◌++◌, sym, ◌∙◌, ap, arith, place_of, places_of, nat_tests}
-use Rattle.std.specs.Prelude.{slice_set, None, unwrap_or}
-use Rattle.frame_pool.proofs.SoundLemmas.{sound-left_by}
-use Rattle.frame_pool.proofs.PlaceLemmas.{Leaves, leaves, read_frame, pushed}
+use Rattle.frame_pool.proofs.Lemmas.{◌≡◌, ℕ, [], ◌∷◌, ◌++◌, sym, ◌∙◌, ap, arith, place_of, places_of, nat_tests, common_steps, slice_set, None, unwrap_or, sound-left_by, Leaves, leaves, read_frame, pushed}
 use Rattle.frame_pool.proofs.pages.StorePages.leave.Goals as goal
 
 pub index-requires : goal.index-requires

@@ -1,6 +1,4 @@
-use Rattle.std.proofs.Common.{arith}
-use Rattle.std.proofs.lemmas.Bool.Decides.{nat_tests}
-use Rattle.frame_pool.proofs.SoundLemmas.{sound-fresh_by}
+use Rattle.frame_pool.proofs.Lemmas.{arith, nat_tests, sound-fresh_by}
 use Rattle.frame_pool.proofs.pages.StorePages.new.Goals as goal
 
 pub invariant_of-result-clause-sound : goal.invariant_of-result-clause-sound

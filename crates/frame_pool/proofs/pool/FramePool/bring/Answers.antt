@@ -1,7 +1,4 @@
-use Rattle.std.proofs.Common.{arith}
-use Rattle.std.proofs.lemmas.Bool.Decides.{nat_tests}
-use Rattle.frame_pool.specs.PlacesView.{places_of}
-use Rattle.frame_pool.proofs.PoolLemmas.{came-brought}
+use Rattle.frame_pool.proofs.Lemmas.{arith, nat_tests, places_of, came-brought}
 use Rattle.frame_pool.proofs.pool.FramePool.bring.Goals as goal
 
 pub returns-clause-brought : goal.returns-clause-brought

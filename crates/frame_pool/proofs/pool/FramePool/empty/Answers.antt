@@ -1,6 +1,4 @@
-use Rattle.std.proofs.lemmas.Grind.{common_steps}
-use Rattle.frame_pool.proofs.Common.{◌≢◌, ◌<◌, length, sym, ◌∙◌, ap, arith, vec_len, eqb-false, emptied}
-use Rattle.frame_pool.proofs.PoolLemmas.{emptied-step}
+use Rattle.frame_pool.proofs.Lemmas.{◌≢◌, ◌<◌, length, sym, ◌∙◌, ap, arith, vec_len, eqb-false, emptied, common_steps, emptied-step}
 use Rattle.frame_pool.proofs.pool.FramePool.empty.Goals as goal
 
 pub loop-self-preserved : goal.loop-self-preserved

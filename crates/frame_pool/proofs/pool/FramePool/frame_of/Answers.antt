@@ -1,4 +1,4 @@
-use Rattle.frame_pool.proofs.PoolLemmas.{some-above, some-below}
+use Rattle.frame_pool.proofs.Lemmas.{some-above, some-below}
 use Rattle.frame_pool.proofs.pool.FramePool.frame_of.Goals as goal
 
 pub returns-clause-above : goal.returns-clause-above

@@ -1,5 +1,4 @@
-use Rattle.frame_pool.proofs.Common.{◌≡◌, sym, ◌∙◌, ap, range_with_len, lines_of_bits, marks_at, pool_of}
-use Rattle.frame_pool.proofs.PoolLemmas.{frame-within}
+use Rattle.frame_pool.proofs.Lemmas.{◌≡◌, sym, ◌∙◌, ap, range_with_len, lines_of_bits, marks_at, pool_of, frame-within}
 use Rattle.frame_pool.proofs.LayLemmas.{all-lines, whole-laid}
 use Rattle.frame_pool.proofs.pool.FramePool.lay_kept.Goals as goal
 

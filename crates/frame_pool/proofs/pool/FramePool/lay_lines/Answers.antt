@@ -1,5 +1,4 @@
-use Rattle.frame_pool.proofs.Common.{◌<◌, ℕ, List, length, sym, ◌∙◌, ap, subst, All, fold, All-head, All-tail, Pool, line_laid, pool_of, nat_tests, arith}
-use Rattle.frame_pool.proofs.PoolLemmas.{lines-below}
+use Rattle.frame_pool.proofs.Lemmas.{◌<◌, ℕ, List, length, sym, ◌∙◌, ap, subst, All, fold, All-head, All-tail, Pool, line_laid, pool_of, nat_tests, arith, lines-below}
 use Rattle.frame_pool.proofs.pool.FramePool.lay_lines.Goals as goal
 
 pub loop-line-init : goal.loop-line-init

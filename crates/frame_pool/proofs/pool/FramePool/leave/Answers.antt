@@ -1,6 +1,4 @@
-use Rattle.std.proofs.lemmas.Grind.{common_steps}
-use Rattle.frame_pool.proofs.Common.{◌≡◌, ℕ, ◌+◌, ◌*◌, sym, ◌∙◌, ap, arith, slice_range, slice_index, unwrap_or, Option, get_or_read_under, page_bytes, left, frame_of_index, places_of, frame_at, gone, paging_after, pool_of, nat_tests}
-use Rattle.frame_pool.proofs.PoolLemmas.{frame-at_index, frame-within, frame-part, kept-after_by, left-gone}
+use Rattle.frame_pool.proofs.Lemmas.{◌≡◌, ℕ, ◌+◌, ◌*◌, sym, ◌∙◌, ap, arith, slice_range, slice_index, unwrap_or, Option, get_or_read_under, page_bytes, left, frame_of_index, places_of, frame_at, gone, paging_after, pool_of, nat_tests, common_steps, frame-at_index, frame-within, frame-part, kept-after_by, left-gone}
 use Rattle.frame_pool.proofs.pool.FramePool.leave.Goals.{After-unwrap_or-frame}
 use Rattle.frame_pool.proofs.pool.FramePool.leave.Goals as goal
 

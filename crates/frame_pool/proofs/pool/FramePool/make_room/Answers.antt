@@ -1,6 +1,4 @@
-use Rattle.frame_pool.proofs.Common.{ℕ, sym, ◌∙◌, ap, Some, pool_of, nat_tests, arith}
-use Rattle.frame_pool.proofs.PlaceLemmas.{none-room}
-use Rattle.frame_pool.proofs.PoolLemmas.{out-some, out-none, room-some, room-none}
+use Rattle.frame_pool.proofs.Lemmas.{ℕ, sym, ◌∙◌, ap, Some, pool_of, nat_tests, arith, none-room, out-some, out-none, room-some, room-none}
 use Rattle.frame_pool.proofs.pool.FramePool.make_room.Goals as goal
 
 pub returns-in-Some-clause-out : goal.returns-in-Some-clause-out

@@ -1,6 +1,4 @@
-use Rattle.std.proofs.lemmas.Bool.Decides.{nat_tests}
-use Rattle.std.proofs.Common.{arith}
-use Rattle.frame_pool.proofs.PoolLemmas.{page-in_frame}
+use Rattle.frame_pool.proofs.Lemmas.{nat_tests, arith, page-in_frame}
 use Rattle.frame_pool.proofs.pool.FramePool.mark.Goals as goal
 
 pub index-requires : goal.index-requires

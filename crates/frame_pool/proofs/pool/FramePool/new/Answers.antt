@@ -1,5 +1,4 @@
-use Rattle.std.proofs.Common.{arith}
-use Rattle.std.proofs.lemmas.Grind.{common_steps}
+use Rattle.frame_pool.proofs.Common.{arith, common_steps}
 use Rattle.frame_pool.proofs.pool.FramePool.new.Goals as goal
 
 pub invariant_of-result : goal.invariant_of-result

@@ -1,6 +1,4 @@
-use Rattle.frame_pool.proofs.Common.{ℕ, sym, ◌∙◌, ap, arith, vec_len, Some, get_or_read_under}
-use Rattle.frame_pool.proofs.PlaceLemmas.{index-out_below}
-use Rattle.frame_pool.proofs.PoolLemmas.{out-some, out-none}
+use Rattle.frame_pool.proofs.Lemmas.{ℕ, sym, ◌∙◌, ap, arith, vec_len, Some, get_or_read_under, index-out_below, out-some, out-none}
 use Rattle.frame_pool.proofs.pool.FramePool.page_out.Goals as goal
 
 pub returns-in_err-index : goal.returns-in_err-index

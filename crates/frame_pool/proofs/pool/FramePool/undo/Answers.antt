@@ -1,6 +1,4 @@
-use Rattle.frame_pool.proofs.Common.{slice_index, eqb-true, position-Some, Pool, gone, pool_of, nat_tests}
-use Rattle.std.proofs.Common.{◌==◌, ℕ, sym, ◌∙◌, ap, arith}
-use Rattle.frame_pool.proofs.PoolLemmas.{gone-none, not-resident}
+use Rattle.frame_pool.proofs.Lemmas.{slice_index, eqb-true, position-Some, Pool, gone, pool_of, nat_tests, ◌==◌, ℕ, sym, ◌∙◌, ap, arith, gone-none, not-resident}
 use Rattle.frame_pool.proofs.pool.FramePool.undo.Goals as goal
 
 pub returns-in-Some : goal.returns-in-Some

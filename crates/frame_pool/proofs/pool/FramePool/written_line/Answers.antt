@@ -1,5 +1,4 @@
-use Rattle.std.proofs.Common.{sym, ◌∙◌}
-use Rattle.frame_pool.proofs.PoolLemmas.{frame-within}
+use Rattle.frame_pool.proofs.Lemmas.{sym, ◌∙◌, frame-within}
 use Rattle.frame_pool.proofs.pool.FramePool.written_line.Goals as goal
 
 pub line-requires-clause-frame : goal.line-requires-clause-frame

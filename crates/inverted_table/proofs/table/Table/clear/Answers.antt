@@ -1,5 +1,4 @@
-use Rattle.std.proofs.Common.{arith}
-use Rattle.std.proofs.lemmas.Grind.{common_steps}
+use Rattle.inverted_table.proofs.Common.{arith, common_steps}
 use Rattle.inverted_table.proofs.table.Table.clear.Goals as goal
 
 pub returns : goal.returns

@@ -1,5 +1,4 @@
-use Rattle.inverted_table.proofs.Common.{◌≡◌, List, sym, ◌∙◌, ap, Option, Some, None, Key, key_in, look_up, IsChained}
-use Rattle.std.specs.Prelude.{IfSome}
+use Rattle.inverted_table.proofs.Common.{◌≡◌, List, sym, ◌∙◌, ap, Option, Some, None, Key, key_in, look_up, IsChained, IfSome}
 use Rattle.inverted_table.proofs.FindLemmas.{look_up-is}
 use Rattle.inverted_table.proofs.table.Table.held.Goals as goal
 

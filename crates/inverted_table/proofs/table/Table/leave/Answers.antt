@@ -1,6 +1,4 @@
-use Rattle.std.proofs.lemmas.Grind.{common_steps}
-use Rattle.std.proofs.lemmas.Bool.Decides.{nat_tests}
-use Rattle.inverted_table.proofs.Common.{◌≡◌, ℕ, ◌<◌, List, length, sym, ◌∙◌, ap, arith, vec_len, Some, Option, None, slice_set, get_or_read_under, Placed, key_in, hash_of, following, chain_of, before_in, IsChained, Key}
+use Rattle.inverted_table.proofs.Common.{◌≡◌, ℕ, ◌<◌, List, length, sym, ◌∙◌, ap, arith, vec_len, Some, Option, None, slice_set, get_or_read_under, Placed, key_in, hash_of, following, chain_of, before_in, IsChained, Key, common_steps, nat_tests}
 use Rattle.inverted_table.proofs.LeaveLemmas.{found-before, before-below, leave-first, leave-behind}
 use Rattle.inverted_table.proofs.table.Table.leave.Goals as goal
 use Rattle.inverted_table.proofs.table.Table.leave.Goals.{in-Some-before, in-None}

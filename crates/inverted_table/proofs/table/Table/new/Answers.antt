@@ -1,5 +1,4 @@
-use Rattle.inverted_table.proofs.Common.{ℕ, ◌∙◌, ap, None, Key}
-use Rattle.std.specs.Prelude.{replicate, Option}
+use Rattle.inverted_table.proofs.Common.{ℕ, ◌∙◌, ap, None, Key, replicate, Option}
 use Rattle.inverted_table.proofs.FreshLemmas.{chained-fresh_by}
 use Rattle.inverted_table.proofs.table.Table.new.Goals as goal
 

@@ -1,4 +1,4 @@
-use Rattle.std.proofs.Common.{arith}
+use Rattle.job_text.proofs.Common.{arith}
 use Rattle.job_text.proofs.reader.Reader.drain_line.Goals as goal
 
 pub returns-clause-read : goal.returns-clause-read

@@ -1,4 +1,4 @@
-use Rattle.std.proofs.Common.{arith}
+use Rattle.job_text.proofs.Common.{arith}
 use Rattle.job_text.proofs.reader.Reader.frames_line.Goals as goal
 
 pub returns-else-count-gt1024-clause-read : goal.returns-else-count-gt1024-clause-read

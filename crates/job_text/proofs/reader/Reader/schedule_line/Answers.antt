@@ -1,5 +1,4 @@
-use Rattle.std.proofs.lemmas.Grind.{common_steps}
-use Rattle.std.proofs.Common.{arith}
+use Rattle.job_text.proofs.Common.{common_steps, arith}
 use Rattle.job_text.proofs.reader.Reader.schedule_line.Goals as goal
 
 pub returns-in-Word-3-clause-read : goal.returns-in-Word-3-clause-read

@@ -1,5 +1,4 @@
-use Rattle.std.proofs.Common.{ℕ, length, List, ◌∙◌, ap, arith}
-use Rattle.line_geometry.specs.LineBits.{is_on}
+use Rattle.line_geometry.proofs.Common.{ℕ, length, List, ◌∙◌, ap, arith, is_on}
 use Rattle.line_geometry.proofs.LineSetLemmas.{count-bits, few-lines, of_page_where}
 use Rattle.line_geometry.proofs.line_set.LineSet.count.Goals as goal
 

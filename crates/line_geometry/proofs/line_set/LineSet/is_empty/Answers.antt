@@ -1,5 +1,4 @@
-use Rattle.std.proofs.Common.{◌==◌, ℕ, length, List, ◌∙◌, ap}
-use Rattle.line_geometry.specs.LineBits.{is_on}
+use Rattle.line_geometry.proofs.Common.{◌==◌, ℕ, length, List, ◌∙◌, ap, is_on}
 use Rattle.line_geometry.proofs.LineSetLemmas.{none-bits, of_page_where}
 use Rattle.line_geometry.proofs.line_set.LineSet.is_empty.Goals as goal
 

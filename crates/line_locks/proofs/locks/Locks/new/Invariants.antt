@@ -1,5 +1,4 @@
-use Rattle.std.proofs.Common.{◌≡◌, replicate}
-use Rattle.line_locks.specs.Holding.{no_lines_of}
+use Rattle.line_locks.proofs.Common.{◌≡◌, replicate, no_lines_of}
 use Rattle.line_locks.proofs.locks.Locks.new.Given as goal
 
 -- so many seats hold nothing

@@ -1,5 +1,4 @@
-use Rattle.line_locks.proofs.Common.{if◌then◌else◌, slice_set, IsPermutation, and_parts, not-true, sum_by-set, get_or-le-sum_by, All-set, get_or_default, length-set, nothing, of_page, holds_some, IsCounted}
-use Rattle.std.proofs.Common.{◌≡◌, ◌<◌, ◌≤◌, ◌&&◌, ℕ, false, not, List, [], ◌∷◌, ◌++◌, length, true, refl, arith, ap, sym, ◌∙◌, subst}
+use Rattle.line_locks.proofs.Common.{if◌then◌else◌, slice_set, IsPermutation, and_parts, not-true, sum_by-set, get_or-le-sum_by, All-set, get_or_default, length-set, nothing, of_page, holds_some, IsCounted, ◌≡◌, ◌<◌, ◌≤◌, ◌&&◌, ℕ, false, not, List, [], ◌∷◌, ◌++◌, length, true, refl, arith, ap, sym, ◌∙◌, subst}
 use Rattle.line_locks.proofs.ListedLemmas.{room, some-more, listed-next}
 use Rattle.line_locks.proofs.OrderLemmas.{listed-moved}
 use Rattle.line_locks.proofs.seat.SeatLines.add.Goals as goal

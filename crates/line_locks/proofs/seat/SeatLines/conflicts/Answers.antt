@@ -1,5 +1,4 @@
-use Rattle.line_locks.proofs.Common.{eqb-true, nil_from_length, AreListed, common_steps}
-use Rattle.std.proofs.Common.{◌≡◌, [], List, ℕ, vec_len, sym, ◌∙◌, subst, arith}
+use Rattle.line_locks.proofs.Common.{eqb-true, nil_from_length, AreListed, common_steps, ◌≡◌, [], List, ℕ, vec_len, sym, ◌∙◌, subst, arith}
 use Rattle.line_locks.proofs.ListedLemmas.{none-conflicts}
 use Rattle.line_locks.proofs.seat.SeatLines.conflicts.Goals as goal
 

@@ -1,5 +1,4 @@
-use Rattle.std.proofs.Common.{◌≡◌, false, take}
-use Rattle.line_locks.specs.Held.{conflicts_with}
+use Rattle.line_locks.proofs.Common.{◌≡◌, false, take, conflicts_with}
 use Rattle.line_locks.proofs.seat.SeatLines.conflicts.Given as goal
 
 -- nothing that was looked at is in conflict

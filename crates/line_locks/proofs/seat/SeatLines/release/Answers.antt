@@ -1,5 +1,4 @@
-use Rattle.line_locks.proofs.Common.{cases_Bool, has, nothing, of_page, IsCounted, AreListed, Ascend}
-use Rattle.std.proofs.Common.{◌≡◌, ℕ, List, length, replicate, get_or, arith, ap, sym, ◌∙◌, subst, inl, inr}
+use Rattle.line_locks.proofs.Common.{cases_Bool, has, nothing, of_page, IsCounted, AreListed, Ascend, ◌≡◌, ℕ, List, length, replicate, get_or, arith, ap, sym, ◌∙◌, subst, inl, inr}
 use Rattle.line_locks.proofs.ListedLemmas.{none-held, all-none, listed-none, listed-at}
 use Rattle.line_locks.proofs.CountLemmas.{none-counted}
 use Rattle.line_locks.proofs.seat.SeatLines.release.Goals as goal

@@ -1,5 +1,4 @@
-use Rattle.std.proofs.Common.{◌≡◌, take, length}
-use Rattle.line_locks.specs.Held.{with_wants}
+use Rattle.line_locks.proofs.Common.{◌≡◌, take, length, with_wants}
 use Rattle.line_locks.proofs.seat.SeatLines.take.Given as goal
 
 -- what was looked at is held too

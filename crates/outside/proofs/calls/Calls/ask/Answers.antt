@@ -1,5 +1,4 @@
-use Rattle.outside.proofs.Common.{◌+◌, ◌∷◌, [], ℕ, length, ap, ◌∙◌, arith, length-append, Asked, made_of}
-use Rattle.outside.proofs.CallLemmas.{calls_of-asked, asked-le}
+use Rattle.outside.proofs.Lemmas.{◌+◌, ◌∷◌, [], ℕ, length, ap, ◌∙◌, arith, length-append, Asked, made_of, calls_of-asked, asked-le}
 use Rattle.outside.proofs.calls.Calls.ask.Goals as goal
 
 pub overflow_add-self : goal.overflow_add-self

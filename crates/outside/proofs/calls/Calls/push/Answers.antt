@@ -1,5 +1,4 @@
-use Rattle.outside.proofs.Common.{◌≡◌, ◌+◌, ◌∷◌, [], ◌++◌, ℕ, length, ap, ◌∙◌, length-append, Run, calls_of, made_of}
-use Rattle.outside.proofs.CallLemmas.{pushed}
+use Rattle.outside.proofs.Lemmas.{◌≡◌, ◌+◌, ◌∷◌, [], ◌++◌, ℕ, length, ap, ◌∙◌, length-append, Run, calls_of, made_of, pushed}
 use Rattle.outside.proofs.calls.Calls.push.Goals as goal
 
 abbrev last_of : goal.After-push-room → Run

@@ -1,6 +1,4 @@
-use Rattle.std.proofs.Common.{count_by, ap, sym, ◌∙◌}
-use Rattle.outside.specs.Record.{is_write}
-use Rattle.outside.proofs.CallLemmas.{writes-of}
+use Rattle.outside.proofs.Lemmas.{count_by, ap, sym, ◌∙◌, is_write, writes-of}
 use Rattle.outside.proofs.calls.Calls.writes.Goals as goal
 
 pub returns : goal.returns

@@ -1,4 +1,4 @@
-use Rattle.std.proofs.Common.{arith}
+use Rattle.outside.proofs.Common.{arith}
 use Rattle.outside.proofs.memory_disk.MemoryDisk.asked.Goals as goal
 
 pub returns-then-fails-clause-durable : goal.returns-then-fails-clause-durable

@@ -1,6 +1,4 @@
-use Rattle.std.proofs.lemmas.Grind.{common_steps}
-use Rattle.std.proofs.Common.{arith, rules}
-use Rattle.outside.proofs.DiskRecord.{tears_either, entry_is_write}
+use Rattle.outside.proofs.Lemmas.{common_steps, arith, rules, tears_either, entry_is_write}
 use Rattle.outside.proofs.memory_disk.MemoryDisk.tried.Goals as goal
 
 pub returns-in-Ok-clause-crash : goal.returns-in-Ok-clause-crash

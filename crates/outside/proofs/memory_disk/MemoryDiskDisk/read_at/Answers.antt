@@ -1,4 +1,4 @@
-use Rattle.std.proofs.Common.{arith}
+use Rattle.outside.proofs.Common.{arith}
 use Rattle.outside.proofs.memory_disk.MemoryDiskDisk.read_at.Goals as goal
 
 pub returns-clause-keeps : goal.returns-clause-keeps

@@ -1,5 +1,4 @@
-use Rattle.std.proofs.lemmas.Grind.{common_steps}
-use Rattle.std.proofs.Common.{arith}
+use Rattle.outside.proofs.Common.{common_steps, arith}
 use Rattle.outside.proofs.memory_screen.MemoryScreenScreen.put.Goals as goal
 
 pub returns-in-None-stop-clause-once : goal.returns-in-None-stop-clause-once

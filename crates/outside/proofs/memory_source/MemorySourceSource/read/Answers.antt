@@ -1,5 +1,4 @@
-use Rattle.std.proofs.lemmas.Grind.{common_steps}
-use Rattle.std.proofs.Common.{arith}
+use Rattle.outside.proofs.Common.{common_steps, arith}
 use Rattle.outside.proofs.memory_source.MemorySourceSource.read.Goals as goal
 
 pub copy_from_slice-requires : goal.copy_from_slice-requires

@@ -1,5 +1,4 @@
-use Rattle.outside.proofs.Common.{inl, inr, refl, arith}
-use Rattle.real_files.specs.Deeds.{Synced, Unsynced}
+use Rattle.real_files.proofs.Common.{inl, inr, refl, arith, Synced, Unsynced}
 use Rattle.real_files.proofs.DeedSteps.{still_replayed, counted, still_unfailed, still_stops, passes, sync_adds, synced_leaves}
 use Rattle.real_files.proofs.kept_disk.KeptDiskDisk.sync.Goals as goal
 

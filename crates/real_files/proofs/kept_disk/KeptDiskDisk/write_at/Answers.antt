@@ -1,5 +1,4 @@
-use Rattle.outside.proofs.Common.{inl, inr, refl, sym, ◌∙◌, arith}
-use Rattle.real_files.specs.Deeds.{Wrote, Tore}
+use Rattle.real_files.proofs.Common.{inl, inr, refl, sym, ◌∙◌, arith, Wrote, Tore}
 use Rattle.real_files.proofs.DeedSteps.{still_replayed, counted, still_unfailed, still_stops, write_follows, where_ok, wrote_some}
 use Rattle.real_files.proofs.kept_disk.KeptDiskDisk.write_at.Goals as goal
 

@@ -1,4 +1,4 @@
-use Rattle.outside.proofs.Common.{inl, ap, Some, take}
+use Rattle.real_files.proofs.Common.{inl, ap, Some, take}
 use Rattle.real_files.proofs.PutSteps.{printed_more, marks_more, count_more, prints_some}
 use Rattle.real_files.proofs.noted_screen.NotedScreenScreen.put.Goals as goal
 

@@ -1,31 +1,15 @@
 -- An empty body. The borrow is opened and closed at another ghost value.
+use Rattle.real_files.proofs.Common.{Ura, Val, vunit, vptr, SProp, ent, sep, emp, via, fst∗, id⊢, Memory, Routine, Calls, Loops, WpFn, Tables, Logic, Fun, ‵, ◌⊛◌, ◌$◌, ◌∵◌, !, qed, by, move, keep, drop, use1, split, join, fsplit, fsplit3, fjoin, fjoin3, feq_i, suffices, frame, done, unit_lit, of_opd, returns, enter, alloc_all, pass_all, free_all, look_at, sets, WpFn-mono, opens, closes, on_entry, Meets, triple_of, entered, Trace, stay_none_slice, Goes-none_slice, ◌<◌, ◌^◌, ◌++◌, length}
 use Rattle.std.proofs.Common.{ℕ, List, [], ◌∷◌, refl, MutBor}
-use seplogic.Ra.Ura.{Ura}
 use mir.Syntax.{named}
-use mir.Val.{Val, vunit, vptr}
-use base.Logic.{SProp, ent, sep, emp, via, fst∗, id⊢}
 use base.Fml.{GName, Lft, Share, ftrue, flft, fobs, fbor}
-use prog.Memory.{Memory}
-use prog.Routine.{Routine}
-use prog.Wp.{Calls, Loops, WpFn, Tables}
-use types.Logic.{Logic}
-use contract.Monad.{Fun}
 use contract.Running.{tables, tables_of}
-use types.Kit.{‵, ◌⊛◌, ◌$◌, ◌∵◌, !, qed, by, move, keep, drop, use1, split, join, fsplit, fsplit3, fjoin, fjoin3, feq_i, suffices, frame, done}
-use types.Run.{unit_lit, of_opd, returns, enter}
 use types.SemTy.{Body}
-use types.ByLocal.{alloc_all, pass_all, free_all, look_at, sets}
-use sound.WpLaws.{WpFn-mono}
 use denote.RattleType.{owns}
 use denote.Memory.{mem}
 use denote.Ref.{MutRef, mut_vals, mut_Tells}
 use denote.Signature.{plain}
-use denote.Steps.{opens, closes}
-use denote.Triple.Entry.{on_entry}
-use denote.Triple.Spec.{Meets, triple_of}
-use denote.Triple.Table.{entered}
 use denote.Triple.Walked.{says, Stays, stay_ref, walk_of, AllGo, Goes-ref, Walks, ends_at, walked, walk_Meets}
-use Rattle.real_files.specs.declared.trace.Trace.{Trace}
 use Rattle.real_files.specs.Noted.{deed_of}
 use Rattle.real_files.specs.contracts.trace.Trace as T
 use Rattle.real_files.specs.contracts.trace.Trace.note.Key.{name as #it}
@@ -36,8 +20,6 @@ use denote.Ref.{Bor}
 use denote.Builtin.{u8, u64}
 use denote.Exit.{yes}
 use denote.Slice.{ShrSlice, slice_val, shr_slice_vals, shr_slice_Tells}
-use denote.Triple.Walked.{stay_none_slice, Goes-none_slice}
-use Rattle.std.proofs.Common.{◌<◌, ◌^◌, ◌++◌, length}
 
 abbrev Arg : Type 0
 Arg = MutBor Trace × (Bor (List ℕ) × (Bor (List ℕ) × Unit {0}))

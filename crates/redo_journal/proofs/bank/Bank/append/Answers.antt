@@ -1,10 +1,5 @@
-use Rattle.redo_journal.proofs.Common.{◌≡◌, inl, ℕ, ◌+◌, ◌*◌, List, [], ◌∷◌, ◌++◌, length, drop, slice_set, refl, sym, subst, ◌∙◌, ap, arith, rules, length-append, Option, None, Some, IfSome, SameShape, IsAppended, entry_bytes, RecordLine, lines_from, wrong_line, record_bytes, length-take-le, leaves_held, IsStore, stands, one_more, held_of, noted, AreNewest, KeptBank, end_of, begun_of, spoilt, begun_count, begun_lines, kept_of, TracksBank, IsEither, HoldsOneOf, IsSafe, IsShut}
-use Rattle.redo_journal.proofs.AppendLemmas.{IsReadied, make_ready, shut, either, one_of, same, more, after, doubted, filled_lines, says_room, begun_is, fields_tracked, with_record_is, is_begun, unwrapped}
-use Rattle.redo_journal.proofs.Places.{below_in_order, newest_more}
-use Rattle.redo_journal.proofs.WriteLemmas.{held_left}
+use Rattle.redo_journal.proofs.Lemmas.{◌≡◌, inl, ℕ, ◌+◌, ◌*◌, List, [], ◌∷◌, ◌++◌, length, drop, slice_set, refl, sym, subst, ◌∙◌, ap, arith, rules, length-append, Option, None, Some, IfSome, SameShape, IsAppended, entry_bytes, RecordLine, lines_from, wrong_line, record_bytes, length-take-le, leaves_held, IsStore, stands, one_more, held_of, noted, AreNewest, KeptBank, end_of, begun_of, spoilt, begun_count, begun_lines, kept_of, TracksBank, IsEither, HoldsOneOf, IsSafe, IsShut, needed_end, take, IsReadied, make_ready, shut, either, one_of, same, more, after, doubted, filled_lines, says_room, begun_is, fields_tracked, with_record_is, is_begun, unwrapped, below_in_order, newest_more, held_left}
 use Rattle.redo_journal.specs.Appended.{Appends, CountsKept, FailedLeaves, IsApart, bank_appended, kept_in}
-use Rattle.redo_journal.specs.Kept.{needed_end}
-use Rattle.std.specs.Prelude.{take}
 use Rattle.redo_journal.specs.declared.keep.Appended.{Appended}
 use Rattle.redo_journal.specs.declared.keep.Appended.TheVariants as appending
 use Rattle.redo_journal.specs.declared.keep.Kept.{Kept}

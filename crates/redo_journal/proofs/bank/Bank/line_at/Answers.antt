@@ -1,6 +1,4 @@
-use Rattle.redo_journal.proofs.Common.{◌≡◌, ◌+◌, ◌*◌, ℕ, length, drop, ap, subst, ◌∙◌, arith, PageSize, entry_bytes, held_of, KeptBank, place_of, IsRecordAt, IsLine, IsLineOf}
-use Rattle.std.specs.Prelude.{IsSome}
-use Rattle.redo_journal.proofs.RecordLemmas.{if_ok, lined}
+use Rattle.redo_journal.proofs.Lemmas.{◌≡◌, ◌+◌, ◌*◌, ℕ, length, drop, ap, subst, ◌∙◌, arith, PageSize, entry_bytes, held_of, KeptBank, place_of, IsRecordAt, IsLine, IsLineOf, IsSome, if_ok, lined}
 use Rattle.redo_journal.proofs.bank.Bank.line_at.Goals as goal
 
 pub returns : goal.returns

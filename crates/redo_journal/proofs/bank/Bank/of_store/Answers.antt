@@ -1,5 +1,4 @@
-use Rattle.std.proofs.lemmas.Grind.{common_steps}
-use Rattle.std.proofs.Common.{arith}
+use Rattle.redo_journal.proofs.Common.{common_steps, arith}
 use Rattle.redo_journal.proofs.bank.Bank.of_store.Goals as goal
 
 pub invariant_of-result : goal.invariant_of-result

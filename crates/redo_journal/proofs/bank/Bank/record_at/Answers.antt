@@ -1,7 +1,4 @@
-use Rattle.redo_journal.proofs.Common.{◌≡◌, ◌+◌, ◌*◌, ◌<◌, List, ℕ, ap, subst, ◌∙◌, PageSize, entry_bytes, number_at, Failed, held_of, Record, KeptBank, place_of, IsRecordAt, IsCounted}
-use Rattle.redo_journal.specs.Records.{IsFound}
-use Rattle.std.specs.Prelude.{IsSome, Result, Ok, Err, IfOk}
-use Rattle.redo_journal.proofs.RecordLemmas.{counted}
+use Rattle.redo_journal.proofs.Lemmas.{◌≡◌, ◌+◌, ◌*◌, ◌<◌, List, ℕ, ap, subst, ◌∙◌, PageSize, entry_bytes, number_at, Failed, held_of, Record, KeptBank, place_of, IsRecordAt, IsCounted, IsFound, IsSome, Result, Ok, Err, IfOk, counted}
 use Rattle.redo_journal.proofs.bank.Bank.record_at.Goals as goal
 
 -- a record that was found is counted

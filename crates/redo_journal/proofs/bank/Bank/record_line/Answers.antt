@@ -1,9 +1,7 @@
-use Rattle.redo_journal.proofs.Common.{◌≡◌, ℕ, ◌+◌, ◌*◌, ◌<◌, ◌≤◌, List, [], ◌∷◌, ◌++◌, length, drop, refl, sym, ◌∙◌, ap, subst, arith, All, Some, big_bytes, overlaid, entry_bytes, RecordLine, lines_from, wrong_line, record_bytes, wrong_line-push, KeptBank, begun_of, with_line, record_bytes_of, line_bytes_of, Inside, begun_count, begun_lines, kept_of}
-use Rattle.redo_journal.proofs.AppendLemmas.{begun_is, length-begun, is_begun, unwrapped}
+use Rattle.redo_journal.proofs.Lemmas.{◌≡◌, ℕ, ◌+◌, ◌*◌, ◌<◌, ◌≤◌, List, [], ◌∷◌, ◌++◌, length, drop, refl, sym, ◌∙◌, ap, subst, arith, All, Some, big_bytes, overlaid, entry_bytes, RecordLine, lines_from, wrong_line, record_bytes, wrong_line-push, KeptBank, begun_of, with_line, record_bytes_of, line_bytes_of, Inside, begun_count, begun_lines, kept_of, nat_tests, begun_is, length-begun, is_begun, unwrapped}
 use Rattle.redo_journal.proofs.LineLemmas.{line_added, least_low}
 use Rattle.redo_journal.proofs.bank.Bank.record_line.Goals as goal
 use Rattle.redo_journal.proofs.bank.Bank.record_line.Goals.{After-write-2}
-use Rattle.std.proofs.lemmas.Bool.Decides.{nat_tests}
 
 pub unwrap-begun-requires : goal.unwrap-begun-requires
 unwrap-begun-requires c = is_begun c.self.inside c.args.self.now c.self.view_is c.requires.begun

@@ -1,8 +1,6 @@
-use Rattle.std.proofs.lemmas.Grind.{elements, common_steps}
-use Rattle.redo_journal.proofs.Common.{◌≡◌, ℕ, ◌+◌, List, length, sym, ◌∙◌, ap, subst, arith, replicate, length-replicate, Option, None, fold, number_at, Holds, bank_held, held_of, told_some, noted, KeptBank, place_of, end_of, IsBank}
+use Rattle.redo_journal.proofs.Lemmas.{◌≡◌, ℕ, ◌+◌, List, length, sym, ◌∙◌, ap, subst, arith, replicate, length-replicate, Option, None, fold, number_at, Holds, bank_held, held_of, told_some, noted, KeptBank, place_of, end_of, IsBank, elements, common_steps, are_newest}
 use Rattle.redo_journal.specs.declared.read.Found.{Found}
 use Rattle.redo_journal.proofs.Newest.{held_records, all_below}
-use Rattle.redo_journal.proofs.Places.{are_newest}
 use Rattle.redo_journal.proofs.bank.Bank.reopen.Goals as goal
 
 pub returns-in-Ok-Holds-clause-read : goal.returns-in-Ok-Holds-clause-read

@@ -1,5 +1,4 @@
-use Rattle.redo_journal.proofs.Common.{◌≡◌, ℕ, ◌+◌, ◌*◌, List, length, drop, refl, sym, subst, ◌∙◌, ap, arith, Option, None, length-replicate, entry_bytes, RecordLine, wrong_line, KeptBank, end_of, AreWithin, begun_count, begun_lines, kept_of}
-use Rattle.redo_journal.proofs.AppendLemmas.{length-begun}
+use Rattle.redo_journal.proofs.Lemmas.{◌≡◌, ℕ, ◌+◌, ◌*◌, List, length, drop, refl, sym, subst, ◌∙◌, ap, arith, Option, None, length-replicate, entry_bytes, RecordLine, wrong_line, KeptBank, end_of, AreWithin, begun_count, begun_lines, kept_of, length-begun}
 use Rattle.redo_journal.proofs.TurnLemmas.{lines_placed, placed_order, none_within, turned_fields, turned_is}
 use Rattle.redo_journal.proofs.bank.Bank.turn_to.Goals as goal
 

@@ -1,9 +1,7 @@
-use Rattle.restart.proofs.Common.{◌≡◌, [], ap, subst, sym, ◌∙◌, ⊎_elim, arith, Header, header_of, total, Leaves, held_of, other, map_ok, KeptStore, TracksStore}
-use Rattle.std.specs.Prelude.{take, OnOk}
+use Rattle.restart.proofs.Lemmas.{◌≡◌, [], ap, subst, sym, ◌∙◌, ⊎_elim, arith, Header, header_of, total, Leaves, held_of, other, map_ok, KeptStore, TracksStore, take, OnOk, bank_tracked, store_tracked, total_is, records_intact}
 use Rattle.redo_journal.specs.Kept.{KeptBank, number_of}
 use Rattle.checkpoint.specs.Moved.{IsSame, IsCheckpointed}
 use Rattle.redo_journal.specs.Tracks as journal
-use Rattle.restart.proofs.ShowLemmas.{bank_tracked, store_tracked, total_is, records_intact}
 use Rattle.restart.proofs.durable.Durable.checkpoint.Given.{Over}
 use Rattle.restart.proofs.durable.Durable.checkpoint.Goals as goal
 use Rattle.restart.proofs.durable.Durable.checkpoint.Goals.{After-checkpoint}

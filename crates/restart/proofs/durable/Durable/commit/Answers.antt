@@ -1,8 +1,6 @@
-use Rattle.restart.proofs.Common.{◌≡◌, ap, subst, sym, ◌∙◌, arith, total, held_of, KeptBank, KeptStore, roomy, Commits}
+use Rattle.restart.proofs.Lemmas.{◌≡◌, ap, subst, sym, ◌∙◌, arith, total, held_of, KeptBank, KeptStore, roomy, Commits, IsKeptAfter, bank_tracked, store_tracked, total_is, committed_intact}
 use Rattle.redo_journal.specs.declared.keep.Kept.{Kept}
-use Rattle.checkpoint.specs.Committed.{IsKeptAfter}
 use Rattle.checkpoint.proofs.CommitLemmas.{usable_kept, number_kept, count_kept}
-use Rattle.restart.proofs.ShowLemmas.{bank_tracked, store_tracked, total_is, committed_intact}
 use Rattle.restart.proofs.durable.Durable.commit.Given.{Over}
 use Rattle.restart.proofs.durable.Durable.commit.Goals as goal
 use Rattle.restart.proofs.durable.Durable.commit.Goals.{After-commit}

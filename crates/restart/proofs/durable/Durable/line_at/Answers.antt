@@ -1,5 +1,4 @@
-use Rattle.restart.proofs.Common.{ap, arith, subst, ◌∙◌, total, KeptBank, KeptStore, ReadsLine}
-use Rattle.restart.proofs.ShowLemmas.{bank_inside}
+use Rattle.restart.proofs.Lemmas.{ap, arith, subst, ◌∙◌, total, KeptBank, KeptStore, ReadsLine, bank_inside}
 use Rattle.restart.proofs.durable.Durable.line_at.Goals as goal
 
 pub returns : goal.returns

@@ -1,6 +1,4 @@
-use Rattle.std.proofs.Common.{arith}
-use Rattle.restart.proofs.Common.{◌≡◌, ℕ, List, [], ap, subst, sym, IsSome, ◌∙◌, Option, unwrap_or, held_of, asks_on, IsChosen, Shows}
-use Rattle.restart.proofs.ShowLemmas.{opening_fault, sure_on, shows_read}
+use Rattle.restart.proofs.Lemmas.{◌≡◌, ℕ, List, [], ap, subst, sym, IsSome, ◌∙◌, Option, unwrap_or, held_of, asks_on, IsChosen, Shows, arith, opening_fault, sure_on, shows_read}
 use Rattle.restart.proofs.durable.Durable.open.Goals as goal
 
 pub returns-in-Err-clause-fault : goal.returns-in-Err-clause-fault

@@ -1,5 +1,4 @@
-use Rattle.restart.proofs.Common.{◌≡◌, ◌*◌, length, IsSome, line_bytes, home_of, OnlyAsks, held_of}
-use Rattle.restart.proofs.Compose.{Composed}
+use Rattle.restart.proofs.Lemmas.{◌≡◌, ◌*◌, length, IsSome, line_bytes, home_of, OnlyAsks, held_of, Composed}
 use Rattle.restart.proofs.durable.Durable.read_page.Given as goal
 
 abbrev pub invariant-loop-i : goal.invariant-loop-i

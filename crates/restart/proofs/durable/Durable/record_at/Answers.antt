@@ -1,5 +1,4 @@
-use Rattle.restart.proofs.Common.{ℕ, ap, arith, subst, sym, PageSize, total, KeptBank, KeptStore, ReadsRecord}
-use Rattle.restart.proofs.ShowLemmas.{bank_inside}
+use Rattle.restart.proofs.Lemmas.{ℕ, ap, arith, subst, sym, PageSize, total, KeptBank, KeptStore, ReadsRecord, bank_inside}
 use Rattle.restart.proofs.durable.Durable.record_at.Goals as goal
 
 -- the sizes are those of the header

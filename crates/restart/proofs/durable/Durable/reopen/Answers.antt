@@ -1,8 +1,6 @@
-use Rattle.outside.proofs.Runs.{asks_on}
-use Rattle.restart.proofs.Common.{◌≡◌, ℕ, List, [], ap, subst, sym, IsSome, ◌∙◌, arith, Option, unwrap_or, total, HasHeader, held_of, IsChosen, map_ok, ReopenFault, IsStoreReopenFault, KeptStore, Fits, Shows, IsStoreWith}
+use Rattle.restart.proofs.Lemmas.{◌≡◌, ℕ, List, [], ap, subst, sym, IsSome, ◌∙◌, arith, Option, unwrap_or, total, HasHeader, held_of, IsChosen, map_ok, ReopenFault, IsStoreReopenFault, KeptStore, Fits, Shows, IsStoreWith, asks_on, sure_on, shows_read, reopening_fault, intact_fault, if_err, total_is}
 use Rattle.checkpoint.specs.Chosen as opened
 use Rattle.redo_journal.specs.declared.fault.ReopenFault.TheVariants as reopening
-use Rattle.restart.proofs.ShowLemmas.{sure_on, shows_read, reopening_fault, intact_fault, if_err, total_is}
 use Rattle.restart.proofs.durable.Durable.reopen.Given.{Over}
 use Rattle.restart.proofs.durable.Durable.reopen.Goals as goal
 use Rattle.restart.proofs.durable.Durable.reopen.Goals.{After-reopen}

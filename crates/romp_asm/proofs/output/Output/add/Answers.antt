@@ -1,4 +1,4 @@
-use Rattle.std.proofs.Common.{arith}
+use Rattle.romp_asm.proofs.Common.{arith}
 use Rattle.romp_asm.proofs.output.Output.add.Goals as goal
 
 pub returns : goal.returns

@@ -1,5 +1,4 @@
-use Rattle.romp_cpu.proofs.Common.{◌≡◌, subst, Cpu, answer_in, plan, seen_in, tried}
-use Rattle.romp_cpu.specs.Shown.{halfword_of}
+use Rattle.romp_cpu.proofs.Common.{◌≡◌, subst, Cpu, answer_in, plan, seen_in, tried, halfword_of}
 use Rattle.romp_cpu.proofs.PendingLemmas.{whole}
 use Rattle.romp_cpu.proofs.cpu.Cpu.carry_out.Goals as goal
 

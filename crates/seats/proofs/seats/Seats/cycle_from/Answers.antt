@@ -1,6 +1,4 @@
-use Rattle.seats.proofs.Common.{take_more, map-append, waits_in, Seating, number_in, seat_waits, seat_at, cycle_of, nat_tests, common_steps}
-use Rattle.std.proofs.Common.{◌≡◌, ◌<◌, ℕ, List, [], ◌∷◌, ◌++◌, Some, map, take, length, get_or, take_all, arith, ap, sym, subst, ◌∙◌}
-use Rattle.seats.proofs.Kept.{has-at}
+use Rattle.seats.proofs.Lemmas.{take_more, map-append, waits_in, Seating, number_in, seat_waits, seat_at, cycle_of, nat_tests, common_steps, ◌≡◌, ◌<◌, ℕ, List, [], ◌∷◌, ◌++◌, Some, map, take, length, get_or, take_all, arith, ap, sym, subst, ◌∙◌, has-at}
 use Rattle.seats.proofs.Places.{cycle-numbered, cycle-none, member-below}
 use Rattle.seats.proofs.seats.Seats.cycle_from.Goals as goal
 

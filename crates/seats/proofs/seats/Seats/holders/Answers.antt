@@ -1,6 +1,4 @@
-use Rattle.seats.proofs.Common.{ArrayVec, map-append, filter_more, Holding, is_in_conflict, number_in, nat_tests}
-use Rattle.std.proofs.Common.{◌≡◌, ◌+◌, ◌<◌, ℕ, Bool, true, false, cond, List, [], ◌∷◌, ◌++◌, length, map, filter, take, get_or, append-nil, arith, ap, sym, ◌∙◌}
-use Rattle.seats.proofs.Kept.{few-taken}
+use Rattle.seats.proofs.Lemmas.{ArrayVec, map-append, filter_more, Holding, is_in_conflict, number_in, nat_tests, ◌≡◌, ◌+◌, ◌<◌, ℕ, Bool, true, false, cond, List, [], ◌∷◌, ◌++◌, length, map, filter, take, get_or, append-nil, arith, ap, sym, ◌∙◌, few-taken}
 use Rattle.seats.proofs.seats.Seats.holders.Goals as goal
 use Rattle.seats.proofs.seats.Seats.holders.Goals.{then-is_in_conflict, else-is_in_conflict}
 

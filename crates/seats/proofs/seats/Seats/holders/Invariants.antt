@@ -1,5 +1,4 @@
-use Rattle.seats.proofs.Common.{is_in_conflict, number_in}
-use Rattle.std.proofs.Common.{◌≡◌, ◌≤◌, take, map, filter, length}
+use Rattle.seats.proofs.Common.{is_in_conflict, number_in, ◌≡◌, ◌≤◌, take, map, filter, length}
 use Rattle.seats.proofs.seats.Seats.holders.Given as goal
 
 -- the numbers of those that were looked at and conflict

@@ -1,7 +1,5 @@
-use Rattle.std.proofs.Common.{rules, ◌≡◌, ◌==◌, not, filter, sym, ap, ◌∙◌, subst}
+use Rattle.seats.proofs.Lemmas.{rules, ◌≡◌, ◌==◌, not, filter, sym, ap, ◌∙◌, subst, Seating, IsSeating, left, kept-left}
 use Rattle.arrayvec.proofs.ArrayVecLemmas.{filter-from_retain}
-use Rattle.seats.specs.Seating.{Seating, IsSeating, left}
-use Rattle.seats.proofs.Kept.{kept-left}
 use Rattle.seats.proofs.seats.Seats.leave.Goals as goal
 
 -- the others stay

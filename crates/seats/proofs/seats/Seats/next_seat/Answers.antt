@@ -1,5 +1,4 @@
-use Rattle.seats.proofs.Common.{range_with_len, has, next_seat}
-use Rattle.std.proofs.Common.{◌≡◌, ◌+◌, ◌-◌, ◌<◌, ◌≤◌, ℕ, suc, not, cond, Bool, true, false, find, List, Some, None, arith, ap, sym, ◌∙◌, refl}
+use Rattle.seats.proofs.Common.{range_with_len, has, next_seat, ◌≡◌, ◌+◌, ◌-◌, ◌<◌, ◌≤◌, ℕ, suc, not, cond, Bool, true, false, find, List, Some, None, arith, ap, sym, ◌∙◌, refl}
 use Rattle.seats.proofs.seats.Seats.next_seat.Goals as goal
 
 -- the lowest of the seats from one on that passes

@@ -1,5 +1,4 @@
-use Rattle.seats.proofs.Common.{range_with_len, has, next_seat}
-use Rattle.std.proofs.Common.{◌≡◌, ◌-◌, not, find}
+use Rattle.seats.proofs.Common.{range_with_len, has, next_seat, ◌≡◌, ◌-◌, not, find}
 use Rattle.seats.proofs.seats.Seats.next_seat.Given as goal
 
 -- the lowest free seat is none of those that were looked at

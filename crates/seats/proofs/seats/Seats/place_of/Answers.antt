@@ -1,5 +1,4 @@
-use Rattle.seats.proofs.Common.{nat_tests, common_steps, arith}
-use Rattle.seats.proofs.Kept.{few-taken}
+use Rattle.seats.proofs.Lemmas.{nat_tests, common_steps, arith, few-taken}
 use Rattle.seats.proofs.seats.Seats.place_of.Goals as goal
 
 pub overflow_add-place : goal.overflow_add-place

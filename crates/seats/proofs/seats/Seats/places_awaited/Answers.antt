@@ -1,5 +1,4 @@
-use Rattle.seats.proofs.Common.{le-ltb, nat_tests}
-use Rattle.std.proofs.Common.{arith}
+use Rattle.seats.proofs.Common.{le-ltb, nat_tests, arith}
 use Rattle.seats.proofs.Bits.{all-on}
 use Rattle.seats.proofs.seats.Seats.places_awaited.Goals as goal
 

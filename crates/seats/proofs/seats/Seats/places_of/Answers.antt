@@ -1,5 +1,4 @@
-use Rattle.seats.proofs.Common.{◌≡◌, ◌<◌, ℕ, Bool, length, get_or, arith, ap, sym, ◌∙◌, is_on, marked, unmarked, nat_tests}
-use Rattle.seats.proofs.Kept.{few-taken}
+use Rattle.seats.proofs.Lemmas.{◌≡◌, ◌<◌, ℕ, Bool, length, get_or, arith, ap, sym, ◌∙◌, is_on, marked, unmarked, nat_tests, few-taken}
 use Rattle.seats.proofs.seats.Seats.places_of.Goals as goal
 use Rattle.seats.proofs.seats.Seats.places_of.Goals.{then-is_on, else-is_on}
 

@@ -1,5 +1,4 @@
-use Rattle.std.proofs.Common.{◌≡◌, ◌<◌, ◌&&◌, ℕ, nat_lt, get_or}
-use Rattle.wait_cycles.specs.Rows.{is_on}
+use Rattle.seats.proofs.Common.{◌≡◌, ◌<◌, ◌&&◌, ℕ, nat_lt, get_or, is_on}
 use Rattle.seats.proofs.seats.Seats.places_of.Given as goal
 
 -- the places so far at which such seats stand are marked

@@ -1,6 +1,4 @@
-use Rattle.seats.proofs.Common.{cases_lt, lt-ltb, get_or_append_left, get_or_push, is_on, waits_in, seat_waits, seat_at, nat_tests}
-use Rattle.std.proofs.Common.{◌≡◌, ◌&&◌, ℕ, Bool, List, [], ◌∷◌, length, get_or, arith, ap, inl, inr, ◌∙◌}
-use Rattle.seats.proofs.Kept.{few-taken}
+use Rattle.seats.proofs.Lemmas.{cases_lt, lt-ltb, get_or_append_left, get_or_push, is_on, waits_in, seat_waits, seat_at, nat_tests, ◌≡◌, ◌&&◌, ℕ, Bool, List, [], ◌∷◌, length, get_or, arith, ap, inl, inr, ◌∙◌, few-taken}
 use Rattle.seats.proofs.seats.Seats.rows_of_waits.Goals as goal
 
 pub push-requires : goal.push-requires

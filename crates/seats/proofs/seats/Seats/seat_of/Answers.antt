@@ -1,5 +1,4 @@
-use Rattle.seats.proofs.Common.{eq-eqb, ne_eqb, drop_more, Seat, number_in}
-use Rattle.std.proofs.Common.{◌≡◌, ◌+◌, ◌<◌, ◌==◌, ℕ, Bool, true, false, cond, find, drop, get_or, length, List, Some, sym, ap, ◌∙◌}
+use Rattle.seats.proofs.Common.{eq-eqb, ne_eqb, drop_more, Seat, number_in, ◌≡◌, ◌+◌, ◌<◌, ◌==◌, ℕ, Bool, true, false, cond, find, drop, get_or, length, List, Some, sym, ap, ◌∙◌}
 use Rattle.seats.proofs.seats.Seats.seat_of.Goals as goal
 
 -- one is looked at: it sits there, or in one of the others

@@ -1,5 +1,4 @@
-use Rattle.std.proofs.Common.{◌≡◌, ◌==◌, find, drop}
-use Rattle.seats.specs.Seating.{number_in, seat_of}
+use Rattle.seats.proofs.Common.{◌≡◌, ◌==◌, find, drop, number_in, seat_of}
 use Rattle.seats.proofs.seats.Seats.seat_of.Given as goal
 
 -- it sits in none of those that were looked at

@@ -1,6 +1,5 @@
-use Rattle.seats.proofs.Common.{has, Seating, IsSeating, next_seat, number_in, newcomer, seated}
-use Rattle.std.proofs.Common.{◌≡◌, ◌<◌, ◌≤◌, ℕ, false, length, set, arith, sym, ap, ◌∙◌, subst, Some, None}
-use Rattle.seats.proofs.Kept.{kept-seated}
+use Rattle.seats.proofs.Lemmas.{kept-seated}
+use Rattle.seats.proofs.Common.{has, Seating, IsSeating, next_seat, number_in, newcomer, seated, ◌≡◌, ◌<◌, ◌≤◌, ℕ, false, length, set, arith, sym, ap, ◌∙◌, subst, Some, None}
 use Rattle.seats.proofs.Ascending.{some-free, none-free}
 use Rattle.seats.proofs.seats.Seats.sit.Goals as goal
 

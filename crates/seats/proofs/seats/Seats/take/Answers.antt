@@ -1,5 +1,4 @@
-use Rattle.seats.proofs.Common.{◌≡◌, sym, ◌∙◌, subst, taken, IsSeating}
-use Rattle.seats.proofs.Kept.{taken-below, kept-took}
+use Rattle.seats.proofs.Lemmas.{◌≡◌, sym, ◌∙◌, subst, taken, IsSeating, taken-below, kept-took}
 use Rattle.seats.proofs.seats.Seats.take.Goals as goal
 
 pub take-requires-clause-seat : goal.take-requires-clause-seat

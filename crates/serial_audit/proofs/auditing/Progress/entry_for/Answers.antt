@@ -1,7 +1,4 @@
-use Rattle.serial_audit.proofs.Common.{◌≡◌, ◌<◌, ◌^◌, false, arith, rules, told_of}
-use Rattle.serial_audit.proofs.BegunLemmas.{got}
-use Rattle.serial_audit.proofs.IndexLemmas.{entry_at, none_begun}
-use Rattle.serial_audit.proofs.VerdictLemmas.{follows_so, may_follow}
+use Rattle.serial_audit.proofs.Lemmas.{◌≡◌, ◌<◌, ◌^◌, false, arith, rules, told_of, got, entry_at, none_begun, follows_so, may_follow}
 use Rattle.serial_audit.proofs.auditing.Progress.entry_for.Goals as goal
 use Rattle.serial_audit.proofs.auditing.Progress.entry_for.Goals.{else-commit-self-via-then-commit-self+then-not-entry+else-commit-entry, else-commit-self-via-then-commit-self+else-not-entry, else-commit-self-via-else-commit-self}
 

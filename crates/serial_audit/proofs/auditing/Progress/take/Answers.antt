@@ -1,6 +1,4 @@
-use Rattle.serial_audit.proofs.Common.{refl, rules, with_items_is, told_of, activation_in}
-use Rattle.serial_audit.proofs.IndexLemmas.{index_more}
-use Rattle.serial_audit.proofs.VerdictLemmas.{refused, same_activation, taken}
+use Rattle.serial_audit.proofs.Lemmas.{refl, rules, with_items_is, told_of, activation_in, index_more, refused, same_activation, taken}
 use Rattle.serial_audit.proofs.auditing.Progress.take.Goals as goal
 
 pub returns-in-None-clause-taken : goal.returns-in-None-clause-taken

@@ -1,7 +1,4 @@
-use Rattle.std.proofs.Common.{arith}
-use Rattle.std.proofs.lemmas.Grind.{common_steps}
-use Rattle.serial_audit.proofs.Common.{◌≡◌, sym, ◌∙◌, Decides-eqb, slice_eq-Decides, head_text, sizes_of}
-use Rattle.serial_audit.proofs.BundleLemmas.{head_written}
+use Rattle.serial_audit.proofs.Lemmas.{◌≡◌, sym, ◌∙◌, Decides-eqb, slice_eq-Decides, head_text, sizes_of, arith, common_steps, head_written}
 use Rattle.serial_audit.proofs.bundle.Lengths.are_told.Goals as goal
 
 pub returns-clause-told : goal.returns-clause-told

@@ -1,12 +1,6 @@
-use Rattle.std.proofs.lemmas.Grind.{common_steps}
-use Rattle.storage_unit.proofs.Common.{◌≡◌, ℕ, ◌+◌, ◌*◌, ◌<◌, ◌≤◌, List, length, true, sym, ◌∙◌, ap, arith, refl, Some, None, nat_le, if◌then◌else◌, slice_index, slice_range, nat_tests, length-take, length-drop, get_or-map-range_with_len, length-map-range_with_len, same_number_lists, bytes_from, halfword_of, Reach, place_at, seat_of, byte_of, byte_at, IsSound, reach_of, pool_of, Unit}
-use Rattle.byteorder.specs.Endian.{big_number}
+use Rattle.storage_unit.proofs.Lemmas.{◌≡◌, ℕ, ◌+◌, ◌*◌, ◌<◌, ◌≤◌, List, length, true, sym, ◌∙◌, ap, arith, refl, Some, None, nat_le, if◌then◌else◌, slice_index, slice_range, nat_tests, length-take, length-drop, get_or-map-range_with_len, length-map-range_with_len, same_number_lists, bytes_from, halfword_of, Reach, place_at, seat_of, byte_of, byte_at, IsSound, reach_of, pool_of, Unit, common_steps, big_number, Selected, selected, all-private, own-located, unit-sound}
 use Rattle.storage_unit.proofs.ByteLemmas.{in-range}
-use Rattle.storage_unit.proofs.PlaceLemmas.{Selected, selected}
-use Rattle.storage_unit.proofs.StoreLemmas.{all-private}
-use Rattle.storage_unit.proofs.AfterLemmas.{own-located}
 use Rattle.storage_unit.proofs.LocatedLemmas.{private-at}
-use Rattle.storage_unit.proofs.UnitLemmas.{unit-sound}
 use Rattle.storage_unit.proofs.storage.UnitStorage.fetch.Goals as goal
 
 -- else two private bytes of the seat

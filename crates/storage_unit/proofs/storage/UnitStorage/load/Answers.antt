@@ -1,9 +1,4 @@
-use Rattle.std.proofs.Common.{arith}
-use Rattle.std.proofs.lemmas.Grind.{common_steps}
-use Rattle.storage_unit.proofs.Common.{false, length, sym, ◌∙◌, reach_of}
-use Rattle.storage_unit.proofs.AccessLemmas.{begins}
-use Rattle.storage_unit.proofs.AfterLemmas.{range-shown}
-use Rattle.storage_unit.proofs.UnitLemmas.{unit-sound}
+use Rattle.storage_unit.proofs.Lemmas.{false, length, sym, ◌∙◌, reach_of, arith, common_steps, begins, range-shown, unit-sound}
 use Rattle.storage_unit.proofs.storage.UnitStorage.load.Goals as goal
 
 pub copy-requires-clause-lies : goal.copy-requires-clause-lies

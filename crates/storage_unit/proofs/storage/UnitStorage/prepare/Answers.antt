@@ -1,5 +1,4 @@
-use Rattle.storage_unit.proofs.Common.{pool_of, arith}
-use Rattle.storage_unit.proofs.ReadyLemmas.{ready-with}
+use Rattle.storage_unit.proofs.Lemmas.{pool_of, arith, ready-with}
 use Rattle.storage_unit.proofs.storage.UnitStorage.prepare.Goals as goal
 
 pub invariant_of-self : goal.invariant_of-self

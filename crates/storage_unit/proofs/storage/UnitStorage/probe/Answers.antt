@@ -1,5 +1,4 @@
-use Rattle.storage_unit.proofs.Common.{refl}
-use Rattle.storage_unit.proofs.FoundLemmas.{found-answer, found-lies}
+use Rattle.storage_unit.proofs.Lemmas.{refl, found-answer, found-lies}
 use Rattle.storage_unit.proofs.storage.UnitStorage.probe.Goals as goal
 
 pub answer-requires : goal.answer-requires

@@ -1,6 +1,4 @@
-use Rattle.storage_unit.proofs.Common.{reach_of}
-use Rattle.storage_unit.proofs.ReadyLemmas.{is-ready}
-use Rattle.storage_unit.proofs.UnitLemmas.{unit-sound}
+use Rattle.storage_unit.proofs.Lemmas.{reach_of, is-ready, unit-sound}
 use Rattle.storage_unit.proofs.storage.UnitStorage.ready.Goals as goal
 
 pub returns : goal.returns

@@ -1,9 +1,4 @@
-use Rattle.std.proofs.Common.{arith}
-use Rattle.std.proofs.lemmas.Grind.{common_steps}
-use Rattle.storage_unit.proofs.Common.{true, length, sym, ◌∙◌, ap, answer_in, bytes_from, Reach, place_of, byte_at, is_in_frame, refuses, reach_of}
-use Rattle.storage_unit.proofs.AccessLemmas.{begins}
-use Rattle.storage_unit.proofs.AfterLemmas.{shows, others-stay, answers-stay}
-use Rattle.storage_unit.proofs.UnitLemmas.{unit-sound}
+use Rattle.storage_unit.proofs.Lemmas.{true, length, sym, ◌∙◌, ap, answer_in, bytes_from, Reach, place_of, byte_at, is_in_frame, refuses, reach_of, arith, common_steps, begins, shows, others-stay, answers-stay, unit-sound}
 use Rattle.storage_unit.proofs.storage.UnitStorage.store.Goals as goal
 
 pub put-requires-clause-lies : goal.put-requires-clause-lies

@@ -1,4 +1,4 @@
-use Rattle.storage_unit.proofs.OpenedLemmas.{open-lies}
+use Rattle.storage_unit.proofs.Lemmas.{open-lies}
 use Rattle.storage_unit.proofs.storage.UnitStorage.write.Goals as goal
 
 pub gather_over-requires-clause-lies : goal.gather_over-requires-clause-lies

@@ -1,7 +1,4 @@
-use Rattle.std.proofs.lemmas.Grind.{common_steps}
-use Rattle.storage_unit.proofs.Common.{◌≡◌, ℕ, ◌+◌, ◌≤◌, List, ◌++◌, length, sym, ◌∙◌, ap, subst, arith, Virtual, bytes_on, Located, Reach, place_of, Lies, AreThere, bytes_shown, reach_of}
-use Rattle.storage_unit.proofs.PlaceLemmas.{lies-on, there-on, place-on}
-use Rattle.storage_unit.proofs.CopyLemmas.{shown-split}
+use Rattle.storage_unit.proofs.Lemmas.{◌≡◌, ℕ, ◌+◌, ◌≤◌, List, ◌++◌, length, sym, ◌∙◌, ap, subst, arith, Virtual, bytes_on, Located, Reach, place_of, Lies, AreThere, bytes_shown, reach_of, common_steps, lies-on, there-on, place-on, shown-split}
 use Rattle.storage_unit.proofs.unit.Unit.+copy_parts.Goals as goal
 
 behind : (state : Reach) (first next : Virtual) (rest m n : ℕ) → next ≡ bytes_on state.directory.page first rest → rest + m ≤ n → Lies state first n → AreThere state first n → Lies state next m × AreThere state next m

@@ -1,9 +1,4 @@
-use Rattle.std.proofs.lemmas.Grind.{common_steps}
-use Rattle.storage_unit.proofs.Common.{◌≡◌, ℕ, ◌+◌, ◌-◌, ◌<◌, ◌≤◌, List, ◌++◌, length, take, drop, sym, ◌∙◌, ap, subst, arith, take_all, length-take, length-drop, length-append, take-append-drop, Virtual, bytes_on, Located, Reach, place_of, on, put_at, IsSound, Lies, AreThere, reach_of}
-use Rattle.storage_unit.proofs.PlaceLemmas.{lies-on, there-on, place-on}
-use Rattle.storage_unit.proofs.AfterLemmas.{private-room, lies-after, there-after, directory-after}
-use Rattle.storage_unit.proofs.StoreLemmas.{put-then}
-use Rattle.storage_unit.proofs.UnitLemmas.{unit-sound}
+use Rattle.storage_unit.proofs.Lemmas.{◌≡◌, ℕ, ◌+◌, ◌-◌, ◌<◌, ◌≤◌, List, ◌++◌, length, take, drop, sym, ◌∙◌, ap, subst, arith, take_all, length-take, length-drop, length-append, take-append-drop, Virtual, bytes_on, Located, Reach, place_of, on, put_at, IsSound, Lies, AreThere, reach_of, common_steps, lies-on, there-on, place-on, private-room, lies-after, there-after, directory-after, put-then, unit-sound}
 use Rattle.storage_unit.proofs.unit.Unit.+put_parts.Goals as goal
 
 behind : (state now : Reach) (first next : Virtual) (place : Located) (part : List ℕ) (rest m n : ℕ) → now ≡ put_at state place part → next ≡ bytes_on state.directory.page first rest → rest + m ≤ n

@@ -1,7 +1,4 @@
-use Rattle.storage_unit.proofs.Common.{◌≡◌, ℕ, Bool, sym, ◌∙◌, ap, Option, Some, None, range_with_len, Virtual, bytes_on, Access, Fault, Probe, unless_refused_at, unless_absent_at, answered_at, Reach, place_of, on, is_there, is_kept_from, is_in_frame, refuses, reach_of, nat_tests, arith}
-use Rattle.std.specs.Prelude.{find, not, option_map, Ok}
-use Rattle.storage_unit.proofs.AnswerLemmas.{answered-by}
-use Rattle.storage_unit.proofs.CopyLemmas.{none-of}
+use Rattle.storage_unit.proofs.Lemmas.{◌≡◌, ℕ, Bool, sym, ◌∙◌, ap, Option, Some, None, range_with_len, Virtual, bytes_on, Access, Fault, Probe, unless_refused_at, unless_absent_at, answered_at, Reach, place_of, on, is_there, is_kept_from, is_in_frame, refuses, reach_of, nat_tests, arith, find, not, option_map, Ok, answered-by, none-of}
 use Rattle.storage_unit.proofs.unit.Unit.answer.Goals as goal
 
 module _ (state : Reach) (first : Virtual) (bytes : ℕ) (store : Bool) where

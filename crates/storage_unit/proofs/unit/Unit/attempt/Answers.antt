@@ -1,5 +1,4 @@
-use Rattle.storage_unit.proofs.Common.{ap, plan, halfword_of, Tried, Reach, byte_at, reach_of}
-use Rattle.storage_unit.proofs.UnitLemmas.{unit-sound}
+use Rattle.storage_unit.proofs.Lemmas.{ap, plan, halfword_of, Tried, Reach, byte_at, reach_of, unit-sound}
 use Rattle.storage_unit.proofs.RowLemmas.{attempt-changes, attempt-clean, attempt-seats, attempt-is}
 use Rattle.storage_unit.proofs.unit.Unit.attempt.Goals as goal
 

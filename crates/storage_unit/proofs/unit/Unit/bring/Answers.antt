@@ -1,9 +1,4 @@
-use Rattle.storage_unit.proofs.Common.{◌≡◌, ℕ, ◌<◌, ◌≤◌, false, List, length, sym, ◌∙◌, ap, subst, arith, Option, Some, None, slice_set, option_and_then, option_map_or, Key, Placed, key_in, look_up, without_frame, IsOfTable, of_table-entered, Pool, private_frames, frame_count, frame_at, page_out, with_room, Brought, IsSeen, has, page_count, length-set, pool_of, pool-seen, Stays, Unit, key_among, key_of_page, keys_of, pages_begun, AreOfPages, nat_tests}
-use Rattle.storage_unit.proofs.HeldLemmas.{key-at, keys-long, held-store, finds-page, keys-store}
-use Rattle.storage_unit.proofs.StateLemmas.{frames-held, room-stays, room-none, absent-frame, keys-room, without-keys, without-entries}
-use Rattle.storage_unit.specs.ReadyRows.{AreReady}
-use Rattle.storage_unit.specs.Cleared.{AreClear}
-use Rattle.storage_unit.proofs.OpenedLemmas.{opened-none}
+use Rattle.storage_unit.proofs.Lemmas.{◌≡◌, ℕ, ◌<◌, ◌≤◌, false, List, length, sym, ◌∙◌, ap, subst, arith, Option, Some, None, slice_set, option_and_then, option_map_or, Key, Placed, key_in, look_up, without_frame, IsOfTable, of_table-entered, Pool, private_frames, frame_count, frame_at, page_out, with_room, Brought, IsSeen, has, page_count, length-set, pool_of, pool-seen, Stays, Unit, key_among, key_of_page, keys_of, pages_begun, AreOfPages, nat_tests, AreReady, AreClear, key-at, keys-long, held-store, finds-page, keys-store, frames-held, room-stays, room-none, absent-frame, keys-room, without-keys, without-entries, opened-none}
 use Rattle.storage_unit.proofs.unit.Unit.bring.Goals as goal
 
 module _ (unit : Unit) (page : ℕ) (keep : Option ℕ) where

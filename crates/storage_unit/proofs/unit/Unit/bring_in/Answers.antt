@@ -1,8 +1,4 @@
-use Rattle.std.proofs.Common.{arith}
-use Rattle.std.proofs.lemmas.Bool.Decides.{nat_tests}
-use Rattle.storage_unit.proofs.Common.{refl, sym, ◌∙◌, ap, inl, inr}
-use Rattle.line_geometry.specs.LineSets.{lines_of_bits}
-use Rattle.frame_pool.proofs.LayLemmas.{all-lines}
+use Rattle.storage_unit.proofs.Common.{refl, sym, ◌∙◌, ap, inl, inr, arith, nat_tests, lines_of_bits, all-lines}
 use Rattle.storage_unit.proofs.IncomingLemmas.{is-filled, is-kept, all-marked, has-gone-out, still-ready, still-clear}
 use Rattle.storage_unit.proofs.unit.Unit.bring_in.Goals as goal
 

@@ -1,5 +1,4 @@
-use Rattle.storage_unit.proofs.Common.{sym, ◌∙◌, ap, subst, List, length, Option, length-map, Key, Placed, cleared_entry, IsOfTable}
-use Rattle.storage_unit.proofs.OpenedLemmas.{opened-none}
+use Rattle.storage_unit.proofs.Lemmas.{sym, ◌∙◌, ap, subst, List, length, Option, length-map, Key, Placed, cleared_entry, IsOfTable, opened-none}
 use Rattle.storage_unit.proofs.unit.Unit.clear.Goals as goal
 
 pub invariant_of-self-clause-entries : goal.invariant_of-self-clause-entries

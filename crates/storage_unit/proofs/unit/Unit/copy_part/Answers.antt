@@ -1,7 +1,4 @@
-use Rattle.std.proofs.lemmas.Grind.{common_steps}
-use Rattle.storage_unit.proofs.Common.{◌≡◌, ℕ, length, sym, ◌∙◌, refl, Option, Some, None, reach_of, nat_tests, arith}
-use Rattle.storage_unit.proofs.CopyLemmas.{found-some, shown-long}
-use Rattle.storage_unit.proofs.UnitLemmas.{unit-sound}
+use Rattle.storage_unit.proofs.Lemmas.{◌≡◌, ℕ, length, sym, ◌∙◌, refl, Option, Some, None, reach_of, nat_tests, arith, common_steps, found-some, shown-long, unit-sound}
 use Rattle.storage_unit.proofs.unit.Unit.copy_part.Goals as goal
 
 pub copy_from_slice-requires : goal.copy_from_slice-requires

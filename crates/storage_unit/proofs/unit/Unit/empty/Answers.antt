@@ -1,8 +1,4 @@
-use Rattle.storage_unit.proofs.Common.{sym, ◌∙◌, ap, subst, List, ℕ, length, Option, fold, Key, Placed, Pair, IsOfTable, Pool, pool_of, pool-seen, AreOfPages, keys_of, keys_without, pages_begun}
-use Rattle.storage_unit.proofs.StateLemmas.{frames-held, emptied-stays, keys-emptied, none-of_table}
-use Rattle.storage_unit.specs.ReadyRows.{AreReady}
-use Rattle.storage_unit.specs.Cleared.{AreClear}
-use Rattle.storage_unit.proofs.OpenedLemmas.{opened-none}
+use Rattle.storage_unit.proofs.Lemmas.{sym, ◌∙◌, ap, subst, List, ℕ, length, Option, fold, Key, Placed, Pair, IsOfTable, Pool, pool_of, pool-seen, AreOfPages, keys_of, keys_without, pages_begun, AreReady, AreClear, frames-held, emptied-stays, keys-emptied, none-of_table, opened-none}
 use Rattle.storage_unit.proofs.unit.Unit.empty.Goals as goal
 
 pub leave_all-requires : goal.leave_all-requires

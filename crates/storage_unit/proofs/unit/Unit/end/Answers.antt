@@ -1,9 +1,4 @@
-use Rattle.storage_unit.proofs.Common.{◌≡◌, ◌≢◌, ℕ, ◌*◌, ◌<◌, false, List, length, sym, ◌∙◌, ap, arith, Option, None, replicate, slice_set, length-replicate, get_or-set_other, length-set, overlaid, Key, Placed, Registers, pool_of, Unit, seat_pages, keys_of, pages_begun, nat_tests}
-use Rattle.storage_unit.proofs.SizeLemmas.{seat-room}
-use Rattle.storage_unit.proofs.HeldLemmas.{keys-long, keys-seat}
-use Rattle.storage_unit.proofs.PrivateLemmas.{begun-other, holds-none}
-use Rattle.storage_unit.proofs.ReadyLemmas.{ready-none}
-use Rattle.storage_unit.proofs.OpenedLemmas.{opened-none}
+use Rattle.storage_unit.proofs.Lemmas.{◌≡◌, ◌≢◌, ℕ, ◌*◌, ◌<◌, false, List, length, sym, ◌∙◌, ap, arith, Option, None, replicate, slice_set, length-replicate, get_or-set_other, length-set, overlaid, Key, Placed, Registers, pool_of, Unit, seat_pages, keys_of, pages_begun, nat_tests, seat-room, keys-long, keys-seat, begun-other, holds-none, ready-none, opened-none}
 use Rattle.storage_unit.proofs.unit.Unit.end.Goals as goal
 
 pub leave_pages-requires-clause-room : goal.leave_pages-requires-clause-room

@@ -1,8 +1,5 @@
-use Rattle.storage_unit.proofs.Common.{List, ℕ, sym, ◌∙◌, ap, subst, Reach, place_of, Lies, byte_at, bytes_from, bytes_shown, reach_of, nat_tests, arith}
+use Rattle.storage_unit.proofs.Lemmas.{List, ℕ, sym, ◌∙◌, ap, subst, Reach, place_of, Lies, byte_at, bytes_from, bytes_shown, reach_of, nat_tests, arith, answer_of, shown-long, open-lies, open-bytes, refused-stays}
 use Rattle.flat_machine.specs.Effect.{filled}
-use Rattle.romp_cpu.specs.Answers.{answer_of}
-use Rattle.storage_unit.proofs.CopyLemmas.{shown-long}
-use Rattle.storage_unit.proofs.OpenedLemmas.{open-lies, open-bytes, refused-stays}
 use Rattle.storage_unit.proofs.unit.Unit.fill_at.Goals as goal
 
 pub part_in-part-requires-clause-lies : goal.part_in-part-requires-clause-lies

@@ -1,6 +1,5 @@
-use Rattle.storage_unit.proofs.Common.{List, ℕ, length, refl, sym, ◌∙◌, ap, subst, FitsFrom}
+use Rattle.storage_unit.proofs.Lemmas.{List, ℕ, length, refl, sym, ◌∙◌, ap, subst, FitsFrom, open-long, open-part, open-room}
 use Rattle.flat_machine.specs.Effect.{filled}
-use Rattle.storage_unit.proofs.OpenedLemmas.{open-long, open-part, open-room}
 use Rattle.storage_unit.proofs.unit.Unit.fill_from.Goals as goal
 
 pub spot_part-part-requires : goal.spot_part-part-requires

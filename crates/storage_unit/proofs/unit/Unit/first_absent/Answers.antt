@@ -1,6 +1,4 @@
-use Rattle.storage_unit.proofs.Common.{◌≡◌, sym, ◌∙◌, arith, bytes_on, is_absent, reach_of, nat_tests}
-use Rattle.storage_unit.proofs.ProbeLemmas.{absent-first, none-absent, absent-next, none-next}
-use Rattle.storage_unit.proofs.UnitLemmas.{unit-sound}
+use Rattle.storage_unit.proofs.Lemmas.{◌≡◌, sym, ◌∙◌, arith, bytes_on, is_absent, reach_of, nat_tests, absent-first, none-absent, absent-next, none-next, unit-sound}
 use Rattle.storage_unit.proofs.unit.Unit.first_absent.Goals.{After-is_absent-2}
 use Rattle.storage_unit.proofs.unit.Unit.first_absent.Goals as goal
 

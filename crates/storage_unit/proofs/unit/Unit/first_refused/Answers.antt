@@ -1,5 +1,4 @@
-use Rattle.storage_unit.proofs.Common.{◌≡◌, ℕ, ◌≤◌, true, arith, nat_tests, is_private, reach_of}
-use Rattle.storage_unit.proofs.ProbeLemmas.{private-kept}
+use Rattle.storage_unit.proofs.Lemmas.{◌≡◌, ℕ, ◌≤◌, true, arith, nat_tests, is_private, reach_of, private-kept}
 use Rattle.storage_unit.proofs.unit.Unit.first_refused.Goals as goal
 
 own : (segment : ℕ) → 3840 ≤ segment → is_private segment ≡ true

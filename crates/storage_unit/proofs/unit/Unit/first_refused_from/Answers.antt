@@ -1,7 +1,6 @@
-use Rattle.storage_unit.proofs.Common.{◌+◌, ◌%◌, sym, ◌∙◌, ap, arith, inl, inr, cases_lt, line_bytes, line_of, is_refused, reach_of, nat_tests}
+use Rattle.storage_unit.proofs.Lemmas.{◌+◌, ◌%◌, sym, ◌∙◌, ap, arith, inl, inr, cases_lt, line_bytes, line_of, is_refused, reach_of, nat_tests, same-line}
 use Rattle.line_geometry.proofs.Legal.{legal_bytes}
 use Rattle.storage_unit.proofs.FindLemmas.{none-found, first-found}
-use Rattle.storage_unit.proofs.ProbeLemmas.{same-line}
 use Rattle.storage_unit.proofs.unit.Unit.first_refused_from.Goals as goal
 
 pub overflow_add-here : goal.overflow_add-here

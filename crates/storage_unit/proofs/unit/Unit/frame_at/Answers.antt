@@ -1,6 +1,4 @@
-use Rattle.storage_unit.proofs.Common.{◌≡◌, false, sym, ◌∙◌, ap, arith, nat_tests, frame_at, pool_of, page_of, is_private, reach_of}
-use Rattle.storage_unit.proofs.PlaceLemmas.{finds-shared}
-use Rattle.storage_unit.proofs.UnitLemmas.{unit-sound}
+use Rattle.storage_unit.proofs.Lemmas.{◌≡◌, false, sym, ◌∙◌, ap, arith, nat_tests, frame_at, pool_of, page_of, is_private, reach_of, finds-shared, unit-sound}
 use Rattle.storage_unit.proofs.unit.Unit.frame_at.Goals as goal
 
 pub returns : goal.returns

@@ -1,10 +1,4 @@
-use Rattle.storage_unit.proofs.Common.{◌≡◌, ℕ, true, sym, ◌∙◌, ap, subst, arith, Bool, false, nat_tests, Reach, is_private, offset_of, place_of, on, is_kept_from, line_bytes, PageSize, bytes_on, Virtual, Fault, Probe, leb-true, Lies, reach_of}
-use Rattle.std.specs.Prelude.{nat_le, ◌+◌, ◌%◌, ◌≤◌, ◌<◌}
-use Rattle.storage_unit.proofs.AnswerLemmas.{answered-private}
-use Rattle.storage_unit.proofs.LineLemmas.{lies-one, page-fault, lock-fault, line-permitted, second-fault, lines-permitted}
-use Rattle.storage_unit.proofs.PlaceLemmas.{private-is}
-use Rattle.storage_unit.proofs.UnitLemmas.{unit-sound}
-use Rattle.storage_unit.proofs.CopyLemmas.{none-of}
+use Rattle.storage_unit.proofs.Lemmas.{◌≡◌, ℕ, true, sym, ◌∙◌, ap, subst, arith, Bool, false, nat_tests, Reach, is_private, offset_of, place_of, on, is_kept_from, line_bytes, PageSize, bytes_on, Virtual, Fault, Probe, leb-true, Lies, reach_of, nat_le, ◌+◌, ◌%◌, ◌≤◌, ◌<◌, answered-private, lies-one, page-fault, lock-fault, line-permitted, second-fault, lines-permitted, private-is, unit-sound, none-of}
 use Rattle.storage_unit.proofs.unit.Unit.frame_for.Goals as goal
 
 pub private_frame-requires-clause-lies : goal.private_frame-requires-clause-lies

@@ -1,9 +1,4 @@
-use Rattle.storage_unit.proofs.Common.{refl, sym, ◌∙◌, ap, subst, Reach, Lies, located_by, place_of, stored, stored_bytes, reach_of}
-use Rattle.storage_unit.specs.OpenLines.{IsOpenAt}
-use Rattle.storage_unit.proofs.FoundLemmas.{found-answer, found-lies}
-use Rattle.storage_unit.proofs.GatheredLemmas.{gathered-at}
-use Rattle.storage_unit.proofs.OpenedLemmas.{opens-when, open-after, refused-stays}
-use Rattle.storage_unit.proofs.UnitLemmas.{unit-sound}
+use Rattle.storage_unit.proofs.Lemmas.{refl, sym, ◌∙◌, ap, subst, Reach, Lies, located_by, place_of, stored, stored_bytes, reach_of, IsOpenAt, found-answer, found-lies, gathered-at, opens-when, open-after, refused-stays, unit-sound}
 use Rattle.storage_unit.proofs.unit.Unit.gather_at.Goals as goal
 
 pub frame_for-requires-clause-lies : goal.frame_for-requires-clause-lies

@@ -1,14 +1,4 @@
-use Rattle.storage_unit.proofs.Common.{◌≡◌, ℕ, ◌+◌, ◌≤◌, List, length, sym, ◌∙◌, ap, subst, arith, page_bytes, stored_bytes, stored_bytes-long, Pool, lines_of_part, pool_of, put_at, place_of, keys_of, AreOfPages, Lies, reach_of, nat_tests, offset_of, ◌-◌}
-use Rattle.ready_rows.specs.Known.{known}
-use Rattle.storage_unit.specs.ReadyRows.{after_store}
-use Rattle.storage_unit.specs.Cleared.{AreUsed}
-use Rattle.storage_unit.proofs.CopyLemmas.{found-below}
-use Rattle.storage_unit.proofs.PartLemmas.{part-long, pool-after, marked-same, marked-keys}
-use Rattle.storage_unit.proofs.StoreLemmas.{marked-of_pages}
-use Rattle.storage_unit.specs.OpenLines.{AreOpened}
-use Rattle.storage_unit.proofs.OpenedLemmas.{opened-more}
-use Rattle.storage_unit.proofs.UnitLemmas.{unit-sound}
-use Rattle.storage_unit.proofs.WrittenLemmas.{stored-part, ready-part, clear-part}
+use Rattle.storage_unit.proofs.Lemmas.{◌≡◌, ℕ, ◌+◌, ◌≤◌, List, length, sym, ◌∙◌, ap, subst, arith, page_bytes, stored_bytes, stored_bytes-long, Pool, lines_of_part, pool_of, put_at, place_of, keys_of, AreOfPages, Lies, reach_of, nat_tests, offset_of, ◌-◌, known, after_store, AreUsed, AreOpened, found-below, part-long, pool-after, marked-same, marked-keys, marked-of_pages, opened-more, unit-sound, stored-part, ready-part, clear-part}
 use Rattle.storage_unit.proofs.unit.Unit.gather_in.Goals as goal
 
 pub part_mut-requires-clause-frame : goal.part_mut-requires-clause-frame

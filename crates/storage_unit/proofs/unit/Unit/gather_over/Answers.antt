@@ -1,11 +1,5 @@
-use Rattle.storage_unit.proofs.Common.{◌≡◌, ◌+◌, ◌-◌, length, sym, ◌∙◌, ap, subst, FitsFrom, stored_bytes, stored_bytes-long, put_at, place_of, offset_of, reach_of}
-use Rattle.ready_rows.specs.Known.{known}
-use Rattle.storage_unit.specs.ReadyRows.{after_store}
-use Rattle.storage_unit.specs.Cleared.{AreUsed}
-use Rattle.storage_unit.proofs.GatheredLemmas.{gathered-at}
-use Rattle.storage_unit.proofs.UnitLemmas.{unit-sound}
+use Rattle.storage_unit.proofs.Lemmas.{◌≡◌, ◌+◌, ◌-◌, length, sym, ◌∙◌, ap, subst, FitsFrom, stored_bytes, stored_bytes-long, put_at, place_of, offset_of, reach_of, known, after_store, AreUsed, gathered-at, unit-sound, open-room, open-long}
 use Rattle.storage_unit.proofs.MarkedLemmas.{stored-over, ready-over, clear-over}
-use Rattle.storage_unit.proofs.OpenedLemmas.{open-room, open-long}
 use Rattle.storage_unit.proofs.unit.Unit.gather_over.Goals.{After-gather, After-spot_mut}
 use Rattle.storage_unit.proofs.unit.Unit.gather_over.Goals as goal
 

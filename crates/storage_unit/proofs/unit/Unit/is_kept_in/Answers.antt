@@ -1,8 +1,4 @@
-use Rattle.storage_unit.proofs.Common.{◌≡◌, ℕ, ◌+◌, ◌/◌, ◌%◌, sym, ◌∙◌, ap, arith, Some, None, ◌<◌, not, start_of, line_of, page_of, page_bytes, line_bytes, entry_of, lets, Authority, entry_at, Virtual, Unit, offset_of, on, is_kept_from, reach_of}
-use Rattle.storage_unit.proofs.LineLemmas.{page-found}
-use Rattle.storage_unit.proofs.PlaceLemmas.{place-below, place-byte, shared-is}
-use Rattle.storage_unit.proofs.SizeLemmas.{line-in, rest-on, same-page-on, page-of-line, page-below}
-use Rattle.storage_unit.proofs.UnitLemmas.{unit-sound}
+use Rattle.storage_unit.proofs.Lemmas.{◌≡◌, ℕ, ◌+◌, ◌/◌, ◌%◌, sym, ◌∙◌, ap, arith, Some, None, ◌<◌, not, start_of, line_of, page_of, page_bytes, line_bytes, entry_of, lets, Authority, entry_at, Virtual, Unit, offset_of, on, is_kept_from, reach_of, page-found, place-below, place-byte, shared-is, line-in, rest-on, same-page-on, page-of-line, page-below, unit-sound}
 use Rattle.storage_unit.proofs.unit.Unit.is_kept_in.Goals as goal
 
 abbrev place : Unit → Virtual → ℕ

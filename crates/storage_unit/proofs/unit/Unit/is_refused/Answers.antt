@@ -1,5 +1,4 @@
-use Rattle.storage_unit.proofs.Common.{arith, nat_tests}
-use Rattle.storage_unit.proofs.SizeLemmas.{page-of-line, page-below}
+use Rattle.storage_unit.proofs.Lemmas.{arith, nat_tests, page-of-line, page-below}
 use Rattle.storage_unit.proofs.unit.Unit.is_refused.Goals as goal
 
 pub authority-requires : goal.authority-requires

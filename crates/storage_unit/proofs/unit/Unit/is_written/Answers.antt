@@ -1,8 +1,4 @@
-use Rattle.storage_unit.proofs.Common.{◌≡◌, ℕ, ◌+◌, ◌/◌, ◌%◌, List, sym, ◌∙◌, ap, arith, None, Some, line_bytes, start_of, page_of, line_of, page_of_line, has, some-within, pool-seen, pool_of, marks_at, offset_of, reach_of}
-use Rattle.storage_unit.proofs.SizeLemmas.{page-of-line, line-in}
-use Rattle.storage_unit.proofs.PlaceLemmas.{place-byte}
-use Rattle.storage_unit.proofs.LineLemmas.{page-found}
-use Rattle.storage_unit.proofs.UnitLemmas.{unit-sound}
+use Rattle.storage_unit.proofs.Lemmas.{◌≡◌, ℕ, ◌+◌, ◌/◌, ◌%◌, List, sym, ◌∙◌, ap, arith, None, Some, line_bytes, start_of, page_of, line_of, page_of_line, has, some-within, pool-seen, pool_of, marks_at, offset_of, reach_of, page-of-line, line-in, place-byte, page-found, unit-sound}
 use Rattle.storage_unit.proofs.unit.Unit.is_written.Goals as goal
 
 same : (a b : ℕ) → Some a ≡ Some b → a ≡ b

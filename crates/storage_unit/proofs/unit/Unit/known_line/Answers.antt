@@ -1,5 +1,4 @@
-use Rattle.storage_unit.proofs.Common.{refl, ◌≡◌, ◌+◌, ◌%◌, ◌≤◌, ◌∙◌, sym, false, not, ◌&&◌, arith, nat_tests}
-use Rattle.storage_unit.proofs.OpenedLemmas.{opened-line, opened-low}
+use Rattle.storage_unit.proofs.Lemmas.{refl, ◌≡◌, ◌+◌, ◌%◌, ◌≤◌, ◌∙◌, sym, false, not, ◌&&◌, arith, nat_tests, opened-line, opened-low}
 use Rattle.storage_unit.proofs.unit.Unit.known_line.Goals.{else-wants-via-then-wants+else-not-line, else-wants-via-else-wants}
 use Rattle.storage_unit.proofs.unit.Unit.known_line.Goals as goal
 

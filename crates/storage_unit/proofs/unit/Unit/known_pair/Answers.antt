@@ -1,5 +1,4 @@
-use Rattle.storage_unit.proofs.Common.{◌≡◌, ◌∙◌, sym, refl, false, not, ◌&&◌, arith, nat_tests}
-use Rattle.storage_unit.proofs.OpenedLemmas.{opened-pair, opened-low}
+use Rattle.storage_unit.proofs.Lemmas.{◌≡◌, ◌∙◌, sym, refl, false, not, ◌&&◌, arith, nat_tests, opened-pair, opened-low}
 use Rattle.storage_unit.proofs.unit.Unit.known_pair.Goals.{else-wants-via-then-wants+else-not-back, then-front, else-front, else-wants-via-else-wants}
 use Rattle.storage_unit.proofs.unit.Unit.known_pair.Goals as goal
 

@@ -1,12 +1,5 @@
-use Rattle.storage_unit.proofs.Common.{◌≡◌, sym, ◌∙◌, ap, subst, List, ℕ, length, arith, Pool, pool_of, AreOfPages, keys_of, reach_of}
-use Rattle.storage_unit.proofs.StateLemmas.{laid-bytes}
-use Rattle.storage_unit.specs.ReadyRows.{AreReady}
-use Rattle.storage_unit.specs.Cleared.{AreClear}
-use Rattle.storage_unit.proofs.ClearLemmas.{clear-kept}
+use Rattle.storage_unit.proofs.Lemmas.{◌≡◌, sym, ◌∙◌, ap, subst, List, ℕ, length, arith, Pool, pool_of, AreOfPages, keys_of, reach_of, AreReady, AreClear, AreOpened, laid-bytes, clear-kept, ready-kept, unit-sound}
 use Rattle.storage_unit.proofs.LaidLemmas.{laid-low}
-use Rattle.storage_unit.proofs.ReadyLemmas.{ready-kept}
-use Rattle.storage_unit.specs.OpenLines.{AreOpened}
-use Rattle.storage_unit.proofs.UnitLemmas.{unit-sound}
 use Rattle.storage_unit.proofs.unit.Unit.lay_kept.Goals as goal
 
 pub lay_kept-requires : goal.lay_kept-requires

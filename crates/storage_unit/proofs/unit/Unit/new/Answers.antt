@@ -1,11 +1,4 @@
-use Rattle.storage_unit.proofs.Common.{ℕ, ◌+◌, List, length, replicate, sym, ◌∙◌, ap, subst, arith, Option, None, refl, length-replicate, Placed, unowned, Pair, IsOfTable, Registers, Pool, private_frames, AreOfPages, keys_of, pool_of}
-use Rattle.std.specs.Prelude.{false}
-use Rattle.storage_unit.proofs.PrivateLemmas.{keys-bare}
-use Rattle.storage_unit.proofs.StateLemmas.{none-of_table, marks-none}
-use Rattle.storage_unit.specs.Cleared.{AreClear}
-use Rattle.storage_unit.proofs.ClearLemmas.{clear-fresh}
-use Rattle.storage_unit.proofs.ReadyLemmas.{ready-none}
-use Rattle.storage_unit.proofs.OpenedLemmas.{opened-none}
+use Rattle.storage_unit.proofs.Lemmas.{ℕ, ◌+◌, List, length, replicate, sym, ◌∙◌, ap, subst, arith, Option, None, refl, length-replicate, Placed, unowned, Pair, IsOfTable, Registers, Pool, private_frames, AreOfPages, keys_of, pool_of, false, AreClear, keys-bare, none-of_table, marks-none, clear-fresh, ready-none, opened-none}
 use Rattle.storage_unit.proofs.unit.Unit.new.Goals as goal
 
 pub invariant_of-result : goal.invariant_of-result

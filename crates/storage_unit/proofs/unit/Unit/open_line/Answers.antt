@@ -1,7 +1,4 @@
-use Rattle.storage_unit.proofs.Common.{◌≡◌, ℕ, ◌+◌, ◌%◌, ◌≤◌, ◌^◌, ◌∙◌, ap, arith, PageSize, Two, Four, page_bytes, Virtual, reach_of}
-use Rattle.storage_unit.proofs.FoundLemmas.{found}
-use Rattle.storage_unit.proofs.PlaceLemmas.{under, registers-page}
-use Rattle.storage_unit.proofs.UnitLemmas.{unit-sound}
+use Rattle.storage_unit.proofs.Lemmas.{◌≡◌, ℕ, ◌+◌, ◌%◌, ◌≤◌, ◌^◌, ◌∙◌, ap, arith, PageSize, Two, Four, page_bytes, Virtual, reach_of, found, under, registers-page, unit-sound}
 use Rattle.storage_unit.proofs.unit.Unit.open_line.Goals as goal
 
 -- what ends within 128 bytes ends within its page

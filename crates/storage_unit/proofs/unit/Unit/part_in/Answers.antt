@@ -1,6 +1,4 @@
-use Rattle.storage_unit.proofs.Common.{◌∙◌, ap, part_of, pool_of, reach_of}
-use Rattle.storage_unit.proofs.CopyLemmas.{found-below, part-shown}
-use Rattle.storage_unit.proofs.UnitLemmas.{unit-sound}
+use Rattle.storage_unit.proofs.Lemmas.{◌∙◌, ap, part_of, pool_of, reach_of, found-below, part-shown, unit-sound}
 use Rattle.storage_unit.proofs.unit.Unit.part_in.Goals as goal
 
 pub part-requires-clause-frame : goal.part-requires-clause-frame

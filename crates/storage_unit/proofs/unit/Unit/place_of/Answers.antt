@@ -1,5 +1,4 @@
-use Rattle.std.proofs.Common.{arith}
-use Rattle.std.proofs.lemmas.Grind.{common_steps}
+use Rattle.storage_unit.proofs.Common.{arith, common_steps}
 use Rattle.storage_unit.proofs.unit.Unit.place_of.Goals as goal
 
 pub overflow_add-result : goal.overflow_add-result

@@ -1,7 +1,4 @@
-use Rattle.std.proofs.lemmas.Bool.Decides.{nat_tests}
-use Rattle.storage_unit.proofs.Common.{◌≡◌, ℕ, ◌+◌, ◌-◌, ◌*◌, Some, sym, ◌∙◌, ap, arith, seat_pages, reach_of}
-use Rattle.storage_unit.proofs.PlaceLemmas.{finds-own}
-use Rattle.storage_unit.proofs.UnitLemmas.{unit-sound}
+use Rattle.storage_unit.proofs.Lemmas.{◌≡◌, ℕ, ◌+◌, ◌-◌, ◌*◌, Some, sym, ◌∙◌, ap, arith, seat_pages, reach_of, nat_tests, finds-own, unit-sound}
 use Rattle.storage_unit.proofs.unit.Unit.private_frame.Goals as goal
 
 pub returns : goal.returns

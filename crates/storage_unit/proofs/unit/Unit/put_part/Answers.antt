@@ -1,15 +1,4 @@
-use Rattle.std.proofs.lemmas.Grind.{common_steps}
-use Rattle.storage_unit.proofs.Common.{ℕ, List, length, sym, ◌∙◌, ap, subst, Pool, lines_of_part, pool_of, put_at, place_of, keys_of, AreOfPages, reach_of, nat_tests, arith, offset_of, ◌-◌, ◌+◌}
-use Rattle.ready_rows.specs.Known.{known}
-use Rattle.storage_unit.specs.ReadyRows.{after_store}
-use Rattle.storage_unit.specs.Cleared.{AreUsed}
-use Rattle.storage_unit.proofs.CopyLemmas.{found-below, found-some, none-of}
-use Rattle.storage_unit.proofs.StoreLemmas.{marked-of_pages}
-use Rattle.storage_unit.specs.OpenLines.{AreOpened}
-use Rattle.storage_unit.proofs.OpenedLemmas.{opened-more}
-use Rattle.storage_unit.proofs.UnitLemmas.{unit-sound}
-use Rattle.storage_unit.proofs.PartLemmas.{part-long, pool-after, marked-same, marked-keys}
-use Rattle.storage_unit.proofs.WrittenLemmas.{stored-part, ready-part, clear-part}
+use Rattle.storage_unit.proofs.Lemmas.{ℕ, List, length, sym, ◌∙◌, ap, subst, Pool, lines_of_part, pool_of, put_at, place_of, keys_of, AreOfPages, reach_of, nat_tests, arith, offset_of, ◌-◌, ◌+◌, common_steps, known, after_store, AreUsed, AreOpened, found-below, found-some, none-of, marked-of_pages, opened-more, unit-sound, part-long, pool-after, marked-same, marked-keys, stored-part, ready-part, clear-part}
 use Rattle.storage_unit.proofs.unit.Unit.put_part.Goals as goal
 
 pub part_mut-requires-clause-frame : goal.part_mut-requires-clause-frame

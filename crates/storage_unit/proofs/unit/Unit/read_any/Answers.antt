@@ -1,4 +1,4 @@
-use Rattle.storage_unit.proofs.FoundLemmas.{found, found-lies}
+use Rattle.storage_unit.proofs.Lemmas.{found, found-lies}
 use Rattle.storage_unit.proofs.unit.Unit.read_any.Goals as goal
 
 pub is_in_page-requires : goal.is_in_page-requires

@@ -1,5 +1,4 @@
-use Rattle.std.proofs.Common.{arith}
-use Rattle.std.proofs.lemmas.Bool.Decides.{nat_tests}
+use Rattle.storage_unit.proofs.Common.{arith, nat_tests}
 use Rattle.storage_unit.proofs.unit.Unit.read_apart.Goals as goal
 
 pub returns-in_default : goal.returns-in_default

@@ -1,6 +1,4 @@
-use Rattle.storage_unit.proofs.Common.{sym, ◌∙◌, reach_of}
-use Rattle.storage_unit.proofs.ReadyLemmas.{row-found}
-use Rattle.storage_unit.proofs.UnitLemmas.{unit-sound}
+use Rattle.storage_unit.proofs.Lemmas.{sym, ◌∙◌, reach_of, row-found, unit-sound}
 use Rattle.storage_unit.proofs.unit.Unit.row_at.Goals as goal
 
 pub returns-clause-row : goal.returns-clause-row

@@ -1,7 +1,4 @@
-use Rattle.storage_unit.proofs.Common.{◌≡◌, ◌+◌, subst, ℕ, true, arith, AreReached}
-use Rattle.std.specs.Prelude.{slice_index_or, false}
-use Rattle.storage_unit.proofs.ReadyLemmas.{ready-selected}
-use Rattle.storage_unit.proofs.OpenedLemmas.{opened-none}
+use Rattle.storage_unit.proofs.Lemmas.{◌≡◌, ◌+◌, subst, ℕ, true, arith, AreReached, slice_index_or, false, ready-selected, opened-none}
 use Rattle.storage_unit.proofs.unit.Unit.select.Goals as goal
 
 pub invariant_of-self-clause-selected : goal.invariant_of-self-clause-selected

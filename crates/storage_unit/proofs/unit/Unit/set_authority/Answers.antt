@@ -1,5 +1,4 @@
-use Rattle.storage_unit.proofs.Common.{sym, ◌∙◌, ap, subst, List, length, Option, arith, length-set, Key, Placed, IsOfTable}
-use Rattle.storage_unit.proofs.OpenedLemmas.{opened-none}
+use Rattle.storage_unit.proofs.Lemmas.{sym, ◌∙◌, ap, subst, List, length, Option, arith, length-set, Key, Placed, IsOfTable, opened-none}
 use Rattle.storage_unit.proofs.unit.Unit.set_authority.Goals as goal
 
 pub set_authority-requires : goal.set_authority-requires

@@ -1,8 +1,4 @@
-use Rattle.storage_unit.proofs.Common.{ap, subst, sym, ◌∙◌, length, List, ℕ, arith, Pool, pool_of, marks_at, keys_of, AreOfPages}
-use Rattle.storage_unit.specs.ReadyRows.{AreReady}
-use Rattle.storage_unit.specs.Cleared.{AreClear}
-use Rattle.storage_unit.proofs.OpenedLemmas.{opened-none}
-use Rattle.storage_unit.proofs.StateLemmas.{marks-settled}
+use Rattle.storage_unit.proofs.Lemmas.{ap, subst, sym, ◌∙◌, length, List, ℕ, arith, Pool, pool_of, marks_at, keys_of, AreOfPages, AreReady, AreClear, opened-none, marks-settled}
 use Rattle.storage_unit.proofs.unit.Unit.settle.Goals as goal
 
 pub settle-requires : goal.settle-requires

@@ -1,9 +1,5 @@
-use Rattle.storage_unit.proofs.Common.{sym, ◌∙◌, ap, subst, List, ℕ, length, Option, None, arith, slice_set, option_map_or, Key, Placed, Pool, IsSeen, frame_at, marks_at, settled, pool_of, pool-seen, gone-stays, AreOfPages, keys_of, pages_begun}
+use Rattle.storage_unit.proofs.Lemmas.{sym, ◌∙◌, ap, subst, List, ℕ, length, Option, None, arith, slice_set, option_map_or, Key, Placed, Pool, IsSeen, frame_at, marks_at, settled, pool_of, pool-seen, gone-stays, AreOfPages, keys_of, pages_begun, AreReady, AreClear, frames-held, marks-settled, keys-gone, without-keys, without-entries, opened-none}
 use Rattle.storage_unit.proofs.LeaveLemmas.{seen-settled}
-use Rattle.storage_unit.proofs.StateLemmas.{frames-held, marks-settled, keys-gone, without-keys, without-entries}
-use Rattle.storage_unit.specs.ReadyRows.{AreReady}
-use Rattle.storage_unit.specs.Cleared.{AreClear}
-use Rattle.storage_unit.proofs.OpenedLemmas.{opened-none}
 use Rattle.storage_unit.proofs.unit.Unit.undo.Goals as goal
 
 pub leave_frame-requires-clause-room : goal.leave_frame-requires-clause-room

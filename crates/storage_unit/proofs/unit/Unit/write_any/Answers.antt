@@ -1,5 +1,4 @@
-use Rattle.storage_unit.proofs.OpenedLemmas.{open-lies}
-use Rattle.storage_unit.proofs.FoundLemmas.{found, found-lies}
+use Rattle.storage_unit.proofs.Lemmas.{open-lies, found, found-lies}
 use Rattle.storage_unit.proofs.unit.Unit.write_any.Goals as goal
 
 pub is_in_page-requires : goal.is_in_page-requires

@@ -1,6 +1,5 @@
+use Rattle.supervisor.proofs.Lemmas.{activity, IsAnswered, answered}
 use Rattle.supervisor.proofs.BeginLemmas.{session-begun, shown-begun}
-use Rattle.supervisor.specs.Session.{activity}
-use Rattle.supervisor.proofs.CauseLemmas.{IsAnswered, answered}
 use Rattle.supervisor.proofs.session.Session.begin.Goals.{After-begin}
 use Rattle.supervisor.proofs.session.Session.begin.Goals as goal
 

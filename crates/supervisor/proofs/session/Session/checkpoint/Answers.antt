@@ -1,9 +1,5 @@
-use Rattle.supervisor.proofs.DesertedLemmas.{stored-sound}
-use Rattle.supervisor.proofs.Common.{◌≡◌, ap, sym, ◌∙◌, subst, true, Leaves, held_of, TracksStore, stands, Did, Desk, number_after, CheckpointMade, CheckpointFailed, activity, session_desk, order_of, ShowsDesk, refl}
-use Rattle.redo_journal.specs.Kept.{KeptBank}
+use Rattle.supervisor.proofs.Lemmas.{◌≡◌, ap, sym, ◌∙◌, subst, true, Leaves, held_of, TracksStore, stands, Did, Desk, number_after, CheckpointMade, CheckpointFailed, activity, session_desk, order_of, ShowsDesk, refl, KeptBank, stored-sound, calls-store, did-checkpoint, did-fail-checkpoint}
 use Rattle.desk.specs.declared.event.Event.TheVariants as event
-use Rattle.supervisor.proofs.CauseLemmas.{calls-store}
-use Rattle.supervisor.proofs.DidLemmas.{did-checkpoint, did-fail-checkpoint}
 use Rattle.supervisor.proofs.session.Session.checkpoint.Goals as goal
 
 pub returns-in-Ok-clause-did : goal.returns-in-Ok-clause-did

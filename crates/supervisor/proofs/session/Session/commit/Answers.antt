@@ -1,14 +1,9 @@
-use Rattle.supervisor.proofs.DesertedLemmas.{stored-sound}
-use Rattle.supervisor.proofs.Common.{◌≡◌, ◌+◌, ◌%◌, ◌^◌, ◌∙◌, ◌∷◌, [], length, refl, sym, ap, subst, arith, Some, length-append, true, false, has, Commit, row, begun_of, Kept, KeptStore, number_of, TracksStore, held_of, over_all, committed_at, sitter, number_in, taken-below, Activity, live_in, program_in, entry_in, store_over, desk_over, shown, KeepsDesk, rolled, reprinted, activity_of, Session, activity}
+use Rattle.supervisor.proofs.Lemmas.{◌≡◌, ◌+◌, ◌%◌, ◌^◌, ◌∙◌, ◌∷◌, [], length, refl, sym, ap, subst, arith, Some, length-append, true, false, has, Commit, row, begun_of, Kept, KeptStore, number_of, TracksStore, held_of, over_all, committed_at, sitter, number_in, taken-below, Activity, live_in, program_in, entry_in, store_over, desk_over, shown, KeepsDesk, rolled, reprinted, activity_of, Session, activity, with_record, HoldsStore, Header, stored-sound, closes-now}
 use Rattle.flat_machine.specs.After.{after as after_rows}
 use Rattle.redo_journal.specs.declared.keep.Kept.TheVariants.{Unwritten, Doubt}
 use Rattle.checkpoint.specs.Committed.{roomy, number_after, IsKeptAfter}
-use Rattle.redo_journal.specs.Kept.{with_record}
-use Rattle.supervisor.proofs.CauseLemmas.{closes-now}
 use Rattle.supervisor.proofs.JournalLemmas.{commit-adds}
 use Rattle.supervisor.proofs.CommitLemmas.{order-more, writes-more, gone, has_place, sound-left, sound-closed, out-is, tracked, went-done, went-doubt, went-unwritten}
-use Rattle.desk.specs.Kept.{HoldsStore}
-use Rattle.store_format.specs.Header.{Header}
 use Rattle.activations.specs.Follows as running
 use Rattle.supervisor.proofs.session.Session.commit.Goals as goal
 

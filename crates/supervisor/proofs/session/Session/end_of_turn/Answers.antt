@@ -1,7 +1,6 @@
-use Rattle.supervisor.proofs.Common.{ℕ, List, length, ap, arith, sym, ◌∙◌, subst, sure_on, Cycle, few-taken, seat-found, TurnEnd, FailsCounted, turn_fails, activity, order_of, IfWaits, IfJournal, IfVictim, IsEndOfRows, number_of, TellsNumber, EntersOrder, ClosesAsCommit, asks_none, total}
+use Rattle.supervisor.proofs.Lemmas.{ℕ, List, length, ap, arith, sym, ◌∙◌, subst, sure_on, Cycle, few-taken, seat-found, TurnEnd, FailsCounted, turn_fails, activity, order_of, IfWaits, IfJournal, IfVictim, IsEndOfRows, number_of, TellsNumber, EntersOrder, ClosesAsCommit, asks_none, total, closes-since, commit-told, rows-counted, rows-number}
 use Rattle.redo_journal.proofs.WriteLemmas.{asks_only, writes_on}
 use Rattle.supervisor.proofs.TurnLemmas.{idle, ended, committed, nothing-counted, sound-ran, over-ran, store-over}
-use Rattle.supervisor.proofs.CauseLemmas.{closes-since, commit-told, rows-counted, rows-number}
 use Rattle.supervisor.proofs.session.Session.end_of_turn.Goals as goal
 
 pub returns-in_default-clause-went : goal.returns-in_default-clause-went

@@ -1,9 +1,8 @@
-use Rattle.supervisor.proofs.Common.{◌≡◌, sym, ◌∙◌, subst, true, held_of, reopened_holds, Did, Desk, numbers, number_after, Crashed, CrashFailed, activity, order_of, ShowsDesk}
+use Rattle.supervisor.proofs.Lemmas.{◌≡◌, sym, ◌∙◌, subst, true, held_of, reopened_holds, Did, Desk, numbers, number_after, Crashed, CrashFailed, activity, order_of, ShowsDesk, deserted-sound}
 use Rattle.redo_journal.specs.declared.fault.ReopenFault.{ReopenFault}
 use Rattle.restart.specs.Faults.{IsStoreReopenFault}
 use Rattle.desk.specs.declared.event.Event.TheVariants as event
 use Rattle.supervisor.proofs.CrashLemmas.{did-crash, did-fail-crash, number-restarted, undamaged}
-use Rattle.supervisor.proofs.DesertedLemmas.{deserted-sound}
 use Rattle.supervisor.proofs.session.Session.forget.Goals as goal
 
 pub returns-in-Ok-clause-did : goal.returns-in-Ok-clause-did

@@ -1,5 +1,4 @@
-use Rattle.supervisor.proofs.Common.{held_of, byte_count, FlatStore, Header, most_lines, opened, Begins, activity, Session}
-use Rattle.std.proofs.Common.{length, false, ◌≡◌, refl, sym, ◌∙◌, ap, subst}
+use Rattle.supervisor.proofs.Common.{held_of, byte_count, FlatStore, Header, most_lines, opened, Begins, activity, Session, length, false, ◌≡◌, refl, sym, ◌∙◌, ap, subst}
 use Rattle.supervisor.proofs.OpeningLemmas.{IsMade, idle-directory, made-opened, has-stood}
 use Rattle.supervisor.proofs.session.Session.open.Given as given
 use Rattle.supervisor.proofs.session.Session.open.Goals as goal

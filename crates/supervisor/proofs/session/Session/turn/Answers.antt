@@ -1,8 +1,5 @@
-use Rattle.supervisor.proofs.Common.{◌≡◌, ◌+◌, ap, sym, subst, held_of, most_lines, number_of, IsTurnEnd, KeepsStore, FailsCounted, Fixed, turn_fails, TurnEnd, counts_told, turn_told, HasNumbers, Did, Desk, number_after, activity, order_of, IsOpenOver, ShowsDesk}
-use Rattle.desk.specs.declared.answers.Turn.{Turn}
+use Rattle.supervisor.proofs.Lemmas.{◌≡◌, ◌+◌, ap, sym, subst, held_of, most_lines, number_of, IsTurnEnd, KeepsStore, FailsCounted, Fixed, turn_fails, TurnEnd, counts_told, turn_told, HasNumbers, Did, Desk, number_after, activity, order_of, IsOpenOver, ShowsDesk, Turn, calls-store, did-turn}
 use Rattle.desk.specs.declared.event.Event.TheVariants as event
-use Rattle.supervisor.proofs.CauseLemmas.{calls-store}
-use Rattle.supervisor.proofs.DidLemmas.{did-turn}
 use Rattle.supervisor.proofs.session.Session.turn.Goals as goal
 
 pub returns-clause-did : goal.returns-clause-did

@@ -1,5 +1,4 @@
-use Rattle.std.proofs.lemmas.Bool.Decides.{nat_tests}
-use Rattle.tlb_model.proofs.Common.{◌<◌, length, List, sym, ◌∙◌, ap, arith, find, key_of, Pair, is_pair_of, pairs_in, class_of}
+use Rattle.tlb_model.proofs.Common.{◌<◌, length, List, sym, ◌∙◌, ap, arith, find, key_of, Pair, is_pair_of, pairs_in, class_of, nat_tests}
 use Rattle.tlb_model.proofs.BufferLemmas.{remembered-of, class-pairs}
 use Rattle.tlb_model.proofs.tlb.Tlb.find.Goals as goal
 

@@ -1,6 +1,4 @@
-use Rattle.std.proofs.lemmas.Bool.Decides.{nat_tests}
-use Rattle.tlb_model.proofs.Common.{◌≡◌, ℕ, ◌<◌, length, List, Some, None, sym, ◌∙◌, ap, arith, subst, Key, key_to, Pair, Ways, after_found, is_pair_of, pairs_in, class_of, IsOfTable, pairs_of}
-use Rattle.std.specs.Prelude.{find, Option, slice_index_or, map}
+use Rattle.tlb_model.proofs.Common.{◌≡◌, ℕ, ◌<◌, length, List, Some, None, sym, ◌∙◌, ap, arith, subst, Key, key_to, Pair, Ways, after_found, is_pair_of, pairs_in, class_of, IsOfTable, pairs_of, nat_tests, find, Option, slice_index_or, map}
 use Rattle.tlb_model.proofs.BufferLemmas.{after-added, added-apart, after-of, class-pairs}
 use Rattle.tlb_model.proofs.tlb.Tlb.find_anew.Goals as goal
 
