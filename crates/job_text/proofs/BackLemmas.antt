@@ -12,9 +12,8 @@ use Rattle.job_text.proofs.WrittenFormLemmas.{AllSound, written_form}
 -- each program has a name
 as_many : (others : List (List ℕ)) (number : ℕ) (names : List (List ℕ)) (programs : List Parts) (lines : List (List ℕ)) → HasPrograms others number names programs lines → length names ≡ length programs
 as_many others number [] [] lines has = omega arith
-as_many others number [] (parts ∷ programs) lines has = absurd has
-as_many others number (name ∷ names) [] lines has = absurd has
 as_many others number (name ∷ names) (parts ∷ programs) lines has = omega (arith, as_many (others ++ name ∷ []) (number + length has.0) names programs has.1 has.5)
+as_many others number _ _ lines has = absurd has
 
 bytes_are : (bytes : List ℕ) → AreBytes bytes → AllByRecursion IsByte bytes
 bytes_are [] each = tt
@@ -23,9 +22,8 @@ bytes_are (byte ∷ bytes) each = (each 0 (omega arith), bytes_are bytes (λ k i
 -- programs of bytes are sound
 all_sound : (names : List (List ℕ)) (programs : List Program) → length names ≡ length (map parts_of programs) → AllByRecursion (λ (program : List ℕ × Parts). AreBytes program.1.image) (zip names (map parts_of programs)) → AllSound (map parts_of programs)
 all_sound [] [] long are = tt
-all_sound [] (program ∷ programs) long are = absurd (omega arith)
-all_sound (name ∷ names) [] long are = absurd (omega arith)
 all_sound (name ∷ names) (program ∷ programs) long are = grind (arith, nat_tests, all_sound names programs, bytes_are)
+all_sound _ _ long are = absurd (omega arith)
 
 -- the programs of a job that some text has are sound
 job_sound : (text : List ℕ) (job : Job) → All (λ (program : List ℕ × Parts). AreBytes program.1.image) (zip (content_of job).names (content_of job).programs) → IsJobText text (content_of job) → AllSound (content_of job).programs

@@ -1,6 +1,7 @@
 -- The events of `big N`.
 use Rattle.job_text.proofs.Common.{flat_map, range_with_len, flat_map-append, All-append, All-cons, All-nil, All-map, Event, Begin, Turn, Job, batch, batches, big_events, move_of, account_of, other_of, transfer, turns_of, IsEventAmong, IsReady, nat_tests}
-use Rattle.std.proofs.Common.{Global, ◌≡◌, ℕ, ◌+◌, ◌-◌, ◌*◌, ◌/◌, ◌%◌, ◌<◌, ◌≤◌, ◌==◌, min, Bool, true, false, List, [], ◌∷◌, ◌++◌, length, map, refl, ap, ◌∙◌, sym, subst, arith, append_assoc, append-nil, length-append, if◌then◌else◌, All}
+use Rattle.std.proofs.Common.{Global, ◌≡◌, ℕ, ◌+◌, ◌-◌, ◌*◌, ◌/◌, ◌%◌, ◌<◌, ◌≤◌, ◌==◌, min, Bool, List, [], ◌∷◌, ◌++◌, length, map, ap, ◌∙◌, sym, subst, arith, append_assoc, append-nil, length-append, if◌then◌else◌, All}
+use Rattle.std.proofs.lemmas.List.{map-id}
 use Rattle.std.proofs.lemmas.List.FromFn.{map-range_with_len_more, length-map-range_with_len, length-range_with_len}
 use Rattle.std.specs.declared.vec.Vec.{Vec}
 
@@ -8,18 +9,13 @@ use Rattle.std.specs.declared.vec.Vec.{Vec}
 pub one_more : (old mid new : List Event) (f : ℕ → Event) (first n k : ℕ) → first + n ≡ k → mid ≡ old ++ map f (range_with_len first n) → new ≡ mid ++ f k ∷ [] → new ≡ old ++ map f (range_with_len first (n + 1))
 one_more old mid new f first n k at so_far next = grind (arith, nat_tests, append_assoc, map-range_with_len_more)
 
-map_same : (xs : List ℕ) → map (λ x. x) xs ≡ xs
-map_same [] = refl
-map_same (x ∷ xs) = ap (λ (these : List ℕ). x ∷ these) (map_same xs)
-
 range_more : (first n k : ℕ) → first + n ≡ k → range_with_len first (n + 1) ≡ range_with_len first n ++ k ∷ []
-range_more first n k at = sym (map_same (range_with_len first (n + 1))) ∙ map-range_with_len_more (λ x. x) first n k at ∙ ap (λ (these : List ℕ). these ++ k ∷ []) (map_same (range_with_len first n))
+range_more first n k at = sym (map-id (range_with_len first (n + 1))) ∙ map-range_with_len_more (λ x. x) first n k at ∙ ap (λ (these : List ℕ). these ++ k ∷ []) (map-id (range_with_len first n))
 
 -- and then several more
 pub some_more : (old mid new : List Event) (f : ℕ → List Event) (n : ℕ) → mid ≡ old ++ flat_map f (range_with_len 0 n) → new ≡ mid ++ f n → new ≡ old ++ flat_map f (range_with_len 0 (n + 1))
 some_more old mid new f n so_far next =
-    let split : flat_map f (range_with_len 0 (n + 1)) ≡ flat_map f (range_with_len 0 n) ++ (f n ++ []) = ap (flat_map f) (range_more 0 n n (omega arith)) ∙ flat_map-append f (range_with_len 0 n) (n ∷ []) in
-    cc (next, so_far, append_assoc old (flat_map f (range_with_len 0 n)) (f n), append-nil (f n), split)
+    cc (next, so_far, append_assoc old (flat_map f (range_with_len 0 n)) (f n), append-nil (f n), range_more 0 n n (omega arith), flat_map-append f (range_with_len 0 n) (n ∷ []))
 
 -- three parts, one after another
 pub three_more : (old one two three xs ys zs : List Event) → one ≡ old ++ xs → two ≡ one ++ ys → three ≡ two ++ zs → three ≡ old ++ (xs ++ ys ++ zs)
@@ -47,18 +43,11 @@ small_square n small = grind arith
 batches_short : (size : ℕ → ℕ) → ((i : ℕ) → size i ≤ 16) → (xs : List ℕ) → length (flat_map (λ i. batch (16 * i) (size i)) xs) ≤ 288 * length xs
 batches_short size small [] = omega arith
 batches_short size small (x ∷ xs) =
-    let rest = batches_short size small xs in
-    let split = length-append (batch (16 * x) (size x)) (flat_map (λ i. batch (16 * i) (size i)) xs) in
-    let one = batch_long (16 * x) (size x) in
-    let square = small_square (size x) (small x) in
-    omega (arith, rest, split, one, square, small x)
+    omega (arith, batches_short size small xs, length-append (batch (16 * x) (size x)) (flat_map (λ i. batch (16 * i) (size i)) xs), batch_long (16 * x) (size x), small_square (size x) (small x), small x)
 
 few_events : (n : ℕ) → n ≤ 512 → length (big_events n) ≤ 10000
 few_events n small =
-    let all = batches_short (λ i. min 16 (n - 16 * i)) (λ i. omega arith) (range_with_len 0 ((n + 15) / 16)) in
-    let count = length-range_with_len 0 ((n + 15) / 16) in
-    let split = length-append (batches n) (Begin 2 (0 ∷ 256 ∷ 0 ∷ 0 ∷ []) ∷ Turn (n + 2) 1000000 ∷ []) in
-    omega (arith, all, count, split)
+    omega (arith, batches_short (λ i. min 16 (n - 16 * i)) (λ i. omega arith) (range_with_len 0 ((n + 15) / 16)), length-range_with_len 0 ((n + 15) / 16), length-append (batches n) (Begin 2 (0 ∷ 256 ∷ 0 ∷ 0 ∷ []) ∷ Turn (n + 2) 1000000 ∷ []))
 
 -- what holds of each begin of one of three programs, and of each turn, holds of each of them
 module _ (P : Event → Type 0) (begin : (program : ℕ) (args : List ℕ) → program < 3 → P (Begin program args)) (turn : (activation limit : ℕ) → limit ≤ 1000000 → P (Turn activation limit)) where
@@ -70,8 +59,7 @@ module _ (P : Event → Type 0) (begin : (program : ℕ) (args : List ℕ) → p
   each_of f each xs = All-map P f xs (λ k d below. each _)
 
   moves : (even : Bool) (one other amount : ℕ) → P (if even then move_of one other amount else move_of other one amount)
-  moves true one other amount = begin 1 (32 * one ∷ 32 * other ∷ amount ∷ 0 ∷ []) (omega arith)
-  moves false one other amount = begin 1 (32 * other ∷ 32 * one ∷ amount ∷ 0 ∷ []) (omega arith)
+  moves even one other amount = grind (arith, begin)
 
   turns_all : (limit : ℕ) → limit ≤ 1000000 → (first count : ℕ) → All P (turns_of limit first count)
   turns_all limit small first count = each_of (λ k. Turn (k + 2) limit) (λ k. turn (k + 2) limit small) (range_with_len first count)

@@ -1,5 +1,5 @@
 -- The sources of `big N`, as the checker reads them.
-use Rattle.job_text.proofs.Common.{◌≡◌, ℕ, List, [], length, map, refl, ap, ◌∙◌, sym, Option, Some, None, Result, Ok, Err, length-map, Event, tokens_past, image_behind, parts_of, fault_among, fault_behind, Job, Content, content_of, job_of, read_from, big_sources, nat_tests, arith}
+use Rattle.job_text.proofs.Common.{◌≡◌, ℕ, List, [], length, refl, ap, ◌∙◌, sym, Option, Some, None, Result, Ok, Err, length-map, Event, tokens_past, image_behind, parts_of, fault_among, fault_behind, Job, Content, content_of, job_of, read_from, big_sources, arith}
 use Rattle.asm_parse.specs.Form.{form_of}
 use Rattle.romp_table.specs.Names.{mnemonic, op_named}
 use Rattle.romp_table.specs.Rows.{row_of}
@@ -19,17 +19,9 @@ sources_read = refl
 text_read : (text : List ℕ) → text ≡ big_sources → told_of (job_of text) ≡ Some (3, [])
 text_read text same = ap (λ (these : List ℕ). told_of (job_of these)) same ∙ sources_read
 
-some_none : {A : Type 0} (x : A) → Some x ≡ None → ⊥
-some_none x is = cc
-
-some_same : (n : ℕ) (events : List Event) → ◌≡◌ {A = Option (ℕ × List Event)} (Some (n, events)) (Some (3, [])) → (n ≡ 3) × (events ≡ [])
-some_same n events is = grind (arith, nat_tests)
-
 pub never_faulty : (text : List ℕ) (line kind : ℕ) → text ≡ big_sources → job_of text ≡ Err (line, kind) → ⊥
-never_faulty text line kind same is = some_none (3, []) (sym (text_read text same) ∙ ap told_of is)
+never_faulty text line kind same is = cc (text_read text same, ap told_of is)
 
 -- a job that they mean has three programs and no event
 pub sources_told : (text : List ℕ) (job : Job) → text ≡ big_sources → job_of text ≡ Ok (content_of job) → (length job.programs.items ≡ 3) × (job.events.items ≡ [])
-sources_told text job same is =
-    let both = some_same (length (map parts_of job.programs.items)) job.events.items (sym (ap told_of is) ∙ text_read text same) in
-    (sym (length-map job.programs.items parts_of) ∙ both.0, both.1)
+sources_told text job same is = let told = sym (ap told_of is) ∙ text_read text same in grind (arith, length-map job.programs.items parts_of, told)

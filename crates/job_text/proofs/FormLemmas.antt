@@ -1,5 +1,5 @@
 -- What is read as a job has the form of one.
-use Rattle.job_text.proofs.Common.{◌≡◌, inl, inr, ℕ, ◌+◌, ◌≤◌, ◌&&◌, nat_le, nat_lt, is_some, if◌then◌else◌, Bool, true, false, List, [], ◌∷◌, ◌++◌, length, map, codes, Option, Some, None, Result, Ok, Err, refl, sym, ap, ◌∙◌, subst, arith, append_assoc, append-nil, length-append, bytes_eq, and_parts, nat_tests, bytes_eq-Decides, Event, Turn, Checkpoint, Crash, Token, Word, Number, Statement, place_among, is_label, line_of, at_line, lines_of, statements_from, tokens, Parts, linked, Stage, Frames, Programs, Source, Schedule, Ended, Content, job_of, last_part, read_from, then_read, Reading, nothing_read, frames_line, program_begins, programs_line, is_end, is_part, program_ends, source_goes_on, source_line, sources_of, with_event, values_of, begin_of, begin_line, is_limit, turn_line, drain_line, single_line, schedule_line, ended_line, by_tokens, line_read, IsBlank, AreBlank, IsOnly, HasSources, IsFramesLine, HasPrograms, IsLimit, IsEventLine, HasEvents, IsJobText, cond_both}
+use Rattle.job_text.proofs.Common.{◌≡◌, inl, inr, ℕ, ◌+◌, ◌≤◌, ◌&&◌, nat_lt, if◌then◌else◌, Bool, true, false, List, [], ◌∷◌, ◌++◌, length, map, codes, Option, Some, None, Result, Ok, Err, refl, sym, ap, ◌∙◌, subst, arith, append_assoc, append-nil, length-append, bytes_eq, and_parts, nat_tests, bytes_eq-Decides, Event, Turn, Checkpoint, Crash, Token, Word, Number, Statement, place_among, is_label, line_of, at_line, lines_of, statements_from, tokens, Parts, linked, Stage, Frames, Programs, Source, Schedule, Ended, Content, job_of, last_part, read_from, then_read, Reading, nothing_read, frames_line, program_begins, programs_line, is_end, is_part, program_ends, source_goes_on, source_line, sources_of, with_event, values_of, begin_of, begin_line, is_limit, turn_line, drain_line, single_line, schedule_line, ended_line, by_tokens, line_read, IsBlank, AreBlank, IsOnly, HasSources, IsFramesLine, HasPrograms, IsLimit, IsEventLine, HasEvents, IsJobText, cond_both}
 use Rattle.job_text.proofs.DrainLemmas.{length-rounds_of}
 
 -- what a reading says
@@ -139,13 +139,9 @@ module _ (number : ℕ) (line : List ℕ) (lines : List (List ℕ)) (content : C
   limit_range limit right = (grind (arith, nat_tests, right), grind (arith, nat_tests, right))
 
   turn_step : (activation limit : ℕ) → found ≡ Word (codes "turn") ∷ Number activation ∷ Number limit ∷ [] → BackHere (turn_line reading activation limit)
-  turn_step activation limit says = cond_both (nat_le 1 activation && nat_le activation reading.begins) _ _ BackHere
-      (λ known. cond_both (is_limit limit) _ _ BackHere
-      (λ right.
-      event_step reading.begins (Turn activation limit)
-      (inr (inr (inl (record { activation = activation; limit = limit; says = says; known = (grind (arith, nat_tests, known), grind (arith, nat_tests, known)); small = limit_range limit right; gives = refl })), refl)))
-      (λ _. tt))
-      (λ _. tt)
+  turn_step activation limit says =
+      let one = λ (known : (1 ≤ activation) × (activation ≤ reading.begins)) (small : IsLimit limit). event_step reading.begins (Turn activation limit) (inr (inr (inl (record { activation = activation; limit = limit; says = says; known = known; small = small; gives = refl })), refl)) in
+      grind (arith, nat_tests, one)
 
   drain_step : (rounds limit : ℕ) → found ≡ Word (codes "drain") ∷ Number rounds ∷ Number limit ∷ [] → BackHere (drain_line reading rounds limit)
   drain_step rounds limit says = grind (arith, nat_tests, events_more, length-append, length-rounds_of, says)
@@ -313,8 +309,6 @@ module _ (number : ℕ) (line : List ℕ) (lines : List (List ℕ)) (content : C
 -- a blank line before programs
 has_blank : (others : List (List ℕ)) (number : ℕ) (line : List ℕ) (lines : List (List ℕ)) (names : List (List ℕ)) (programs : List Parts) → IsBlank line → HasPrograms others (number + 1) names programs lines → HasPrograms others number names programs (line ∷ lines)
 has_blank others number line lines [] [] blank has = (blank, has)
-has_blank others number line lines [] (parts ∷ programs) blank has = has
-has_blank others number line lines (name ∷ names) [] blank has = has
 has_blank others number line lines (name ∷ names) (parts ∷ programs) blank has =
     let is = has.3 in (
       line ∷ has.0,
@@ -338,6 +332,7 @@ has_blank others number line lines (name ∷ names) (parts ∷ programs) blank h
       has.4,
       subst (λ n. HasPrograms (others ++ name ∷ []) n names programs has.1) (omega arith) has.5,
     )
+has_blank others number line lines _ _ blank has = has
 
 -- between programs
 module _ (number : ℕ) (line : List ℕ) (lines : List (List ℕ)) (content : Content) (reading : Reading) (found : List Token) (at : reading.stage ≡ Programs) (small : IsFew reading) (is : tokens line ≡ Ok found) where
@@ -420,15 +415,7 @@ module _ (number : ℕ) (line : List ℕ) (lines : List (List ℕ)) (content : C
       }
 
   program_step : (name : List ℕ) → found ≡ Word (codes "program") ∷ Word name ∷ [] → is_label name ≡ true → BackPrograms (program_begins reading name)
-  program_step name says label = by_place (place_among reading.names name) refl
-    where
-      by_place : (place : Option ℕ) → place_among reading.names name ≡ place → BackPrograms (if is_some place then Err 13 else if nat_lt (length reading.names) 64 then Ok (named name) else Err 11)
-      by_place (Some there) is_there = tt
-      by_place None is_there = cond_both (nat_lt (length reading.names) 64) _ _ BackPrograms
-          (λ few.
-          let under : length reading.names + 1 ≤ 64 = grind (arith, nat_tests, few) in
-          λ left. program_begun name says label is_there (left (omega (arith, under, length-append reading.names (name ∷ [])), small.1, omega arith)))
-          (λ _. tt)
+  program_step name says label = grind (arith, nat_tests, program_begun name says label, length-append reading.names (name ∷ []), small)
 
   programs_step : (these : List Token) → found ≡ these → BackPrograms (programs_line reading these)
   programs_step [] says = programs_blank says
@@ -464,23 +451,10 @@ module _ (number : ℕ) (line : List ℕ) (lines : List (List ℕ)) (content : C
   frames_step : (these : List Token) → found ≡ these → BackFrames (frames_line reading these)
   frames_step [] says = frames_blank says
   frames_step (Word word ∷ Number count ∷ []) says =
-      cond_both (bytes_eq word (codes "frames")) _ _ BackFrames
-      (λ same. cond_both (nat_le 2 count && nat_le count 1024) _ _ BackFrames
-      (λ right left. record {
-        blank = [];
-        frames_line = line;
-        rest = lines;
-        frames = count;
-        all = refl;
-        blanks = tt;
-        is = record {
-          says = is ∙ ap Ok (says ∙ ap (λ w. Word w ∷ Number count ∷ []) (same_word word (codes "frames") same));
-          range = (grind (arith, nat_tests, right), grind (arith, nat_tests, right));
-        };
-        left = subst (λ n. ProgramsLeft (record (content_read reading) { frames = count }) reading.begins n lines content) (omega arith) (left small);
-      })
-      (λ _. tt))
-      (λ _. tt)
+      let these = λ (same : bytes_eq word (codes "frames") ≡ true). is ∙ ap Ok (says ∙ ap (λ (w : List ℕ). Word w ∷ Number count ∷ []) (same_word word (codes "frames") same)) in
+      let on : (n : ℕ) → n ≡ number + 0 + 1 → ProgramsLeft (record (content_read reading) { frames = count }) reading.begins n lines content → bytes_eq word (codes "frames") ≡ true → (2 ≤ count) × (count ≤ 1024) → FramesLeft (content_read reading) reading.begins number (line ∷ lines) content =
+      λ n at left same range. record { blank = []; frames_line = line; rest = lines; frames = count; all = refl; blanks = tt; is = record { says = these same; range = range }; left = subst (λ n. ProgramsLeft (record (content_read reading) { frames = count }) reading.begins n lines content) at left } in
+      grind (arith, nat_tests, small, on (number + 1))
   frames_step _ says = tt
 
 -- at the end of a text

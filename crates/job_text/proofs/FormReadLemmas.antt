@@ -1,5 +1,5 @@
 -- A text that has the form of a job is read as it.
-use Rattle.job_text.proofs.Common.{◌≡◌, inl, inr, ℕ, ◌+◌, ◌*◌, ◌≤◌, true, false, List, [], ◌∷◌, ◌++◌, length, map, codes, Option, Some, None, Result, Ok, Err, refl, sym, ap, ◌∙◌, subst, arith, append_assoc, append-nil, length-append, le-leb, lt-ltb, false_from_ne_true, Event, Begin, Turn, Token, Word, Number, Statement, place_among, is_label, line_of, at_line, statements_from, then_statements, tokens, Parts, linked, Stage, Programs, Source, Schedule, Ended, Content, job_of, read_from, then_read, tokens_read, Reading, nothing_read, frames_line, programs_line, is_end, is_part, source_goes_on, source_line, with_event, values_of, four_of, is_limit, schedule_line, line_read, AreBlank, IsOnly, HaveNoMark, HasSources, IsProgram, HasPrograms, IsBegin, IsLimit, IsTurn, IsDrain, IsSingle, IsNoBegin, IsEventLine, HasEvents, IsJobText, nat_tests}
+use Rattle.job_text.proofs.Common.{◌≡◌, inl, inr, ℕ, ◌+◌, ◌≤◌, true, false, List, [], ◌∷◌, ◌++◌, length, map, codes, Option, Some, None, Result, Ok, Err, refl, sym, ap, ◌∙◌, subst, arith, append_assoc, append-nil, length-append, le-leb, lt-ltb, false_from_ne_true, Event, Token, Word, Number, Statement, place_among, is_label, line_of, at_line, statements_from, then_statements, tokens, Parts, linked, Stage, Programs, Source, Schedule, Ended, Content, job_of, read_from, then_read, tokens_read, Reading, nothing_read, frames_line, programs_line, is_end, is_part, source_goes_on, source_line, with_event, values_of, is_limit, schedule_line, line_read, AreBlank, IsOnly, HaveNoMark, HasSources, IsProgram, HasPrograms, IsBegin, IsLimit, IsTurn, IsDrain, IsSingle, IsNoBegin, IsEventLine, HasEvents, IsJobText, nat_tests}
 use Rattle.job_text.proofs.DrainLemmas.{length-rounds_of}
 use Rattle.job_text.proofs.FormLemmas.{end_is, part_is}
 use Rattle.job_text.proofs.GrammarLemmas.{read_line}
@@ -71,33 +71,20 @@ module _ (frames : ℕ) (names : List (List ℕ)) (programs : List Parts) where
   event_read begins events event room = rw (lt-ltb (length events) 10000 (omega (arith, room))) refl
 
   values_back : (values : List ℕ) → length values ≤ 4 → values_of (map Number values) ≡ Some values
-  values_back [] few = refl
-  values_back (a ∷ []) few = refl
-  values_back (a ∷ b ∷ []) few = refl
-  values_back (a ∷ b ∷ c ∷ []) few = refl
-  values_back (a ∷ b ∷ c ∷ d ∷ []) few = refl
   values_back (a ∷ b ∷ c ∷ d ∷ e ∷ values) few = absurd (omega (arith, few))
+  values_back _ few = refl
 
   begin_read : (begins : ℕ) (events : List Event) (found : List Token) (here : List Event) → IsBegin names found here → length events + length here ≤ 10000 → Reads begins events found (begins + 1) here
-  begin_read begins events found here is room =
-      let line = Word (codes "begin") ∷ Word is.name ∷ map Number is.values in
-      let told : schedule_line (so_far begins events) line ≡ with_event (so_far (begins + 1) events) (Begin is.program (four_of is.values)) = rw (is.label, values_back is.values is.few, is.known) refl in
-      let few : length events + 1 ≤ 10000 = omega (arith, room, ap length is.gives) in
-      rw (is.says, is.gives) (told ∙ event_read (begins + 1) events (Begin is.program (four_of is.values)) few)
+  begin_read begins events found here is room = grind (arith, nat_tests, values_back, event_read)
 
   limit_back : (limit : ℕ) → IsLimit limit → is_limit limit ≡ true
   limit_back limit small = rw (le-leb 1 limit small.0, le-leb limit 1000000 small.1) refl
 
   turn_read : (begins : ℕ) (events : List Event) (found : List Token) (here : List Event) → IsTurn begins found here → length events + length here ≤ 10000 → Reads begins events found begins here
-  turn_read begins events found here is room =
-      let few : length events + 1 ≤ 10000 = omega (arith, room, ap length is.gives) in
-      rw (is.says, is.gives) (rw (le-leb 1 is.activation is.known.0, le-leb is.activation begins is.known.1, limit_back is.limit is.small) (event_read begins events (Turn is.activation is.limit) few))
+  turn_read begins events found here is room = grind (arith, nat_tests, event_read)
 
   drain_read : (begins : ℕ) (events : List Event) (found : List Token) (here : List Event) → IsDrain begins found here → length events + length here ≤ 10000 → Reads begins events found begins here
-  drain_read begins events found here is room =
-      let few : length events + is.rounds * begins ≤ 10000 = omega (arith, room, ap length is.gives, length-rounds_of is.limit begins is.rounds) in
-      rw (is.says, is.gives)
-      (rw (le-leb 1 is.rounds is.some.0, le-leb is.rounds 10000 is.some.1, limit_back is.limit is.small, le-leb (length events + is.rounds * begins) 10000 few) refl)
+  drain_read begins events found here is room = grind (arith, nat_tests, length-rounds_of)
 
   single_read : (begins : ℕ) (events : List Event) (found : List Token) (here : List Event) → IsSingle found here → length events + length here ≤ 10000 → Reads begins events found begins here
   single_read begins events found here given room = grind (arith, nat_tests, event_read)
@@ -116,17 +103,10 @@ module _ (frames : ℕ) (names : List (List ℕ)) (programs : List Parts) where
       → (last : ℕ) × (after : ℕ) × (read_from (so_far begins events) number (event_lines ++ lines) ≡ read_from (so_far after (events ++ more)) last lines)
   reads_events number begins events [] lines more has room some = (number, begins, ap (λ all. read_from (so_far begins all) number lines) (sym (append-nil events) ∙ ap (λ these. events ++ these) (sym has)))
   reads_events number begins events (line ∷ event_lines) lines more has room some =
+      let long : length more ≡ length has.1 + length has.2 = ap length has.5 ∙ length-append has.1 has.2 in
       let others = reads_events (number + 1) has.3 (events ++ has.1) event_lines lines has.2 has.7 (omega (arith, room, long, length-append events has.1)) some in
-      (others.0, others.1, first ∙ others.2 ∙ ap (λ these. read_from (so_far others.1 these) others.0 lines) all)
-    where
-      long : length more ≡ length has.1 + length has.2
-      long = ap length has.5 ∙ length-append has.1 has.2
-
-      first : read_from (so_far begins events) number (line ∷ (event_lines ++ lines)) ≡ read_from (so_far has.3 (events ++ has.1)) (number + 1) (event_lines ++ lines)
-      first = reads_tokens (so_far begins events) (so_far has.3 (events ++ has.1)) number line (event_lines ++ lines) has.0 (some_behind event_lines lines some) tt has.4 (line_events_read begins has.3 events has.0 has.1 has.6 (omega (arith, room, long)))
-
-      all : events ++ has.1 ++ has.2 ≡ events ++ more
-      all = append_assoc events has.1 has.2 ∙ ap (λ these. events ++ these) (sym has.5)
+      let first = reads_tokens (so_far begins events) (so_far has.3 (events ++ has.1)) number line (event_lines ++ lines) has.0 (some_behind event_lines lines some) tt has.4 (line_events_read begins has.3 events has.0 has.1 has.6 (omega (arith, room, long))) in
+      (others.0, others.1, cc (first, others.2, append_assoc events has.1 has.2, has.5))
 
 -- a source
 module _ (frames : ℕ) (names : List (List ℕ)) (programs : List Parts) (sources : List (List Statement)) where
@@ -253,9 +233,8 @@ module _ (frames : ℕ) where
         ∙ ap (λ names. read_from (at_programs frames names done) (number + length program_lines) lines) (sym (append-nil before))
         ∙ ap (λ programs. read_from (at_programs frames (before ++ []) programs) (number + length program_lines) lines) (sym (append-nil done)),
   )
-  reads_programs number before done [] (parts ∷ programs) program_lines lines has few some = absurd has
-  reads_programs number before done (name ∷ names) [] program_lines lines has few some = absurd has
   reads_programs number before done (name ∷ names) (parts ∷ programs) program_lines lines has few some = grind (arith, nat_tests, reads_programs (number + length has.0) (before ++ name ∷ []) (done ++ parts ∷ []) names programs has.1 lines, length-append, append_assoc, reads_program, some_behind)
+  reads_programs number before done _ _ program_lines lines has few some = absurd has
 
 -- at the end of a text
 ends_read : (number : ℕ) (frames : ℕ) (names : List (List ℕ)) (programs : List Parts) (begins : ℕ) (events : List Event) → read_from (at_schedule Ended frames names programs begins events) number ([] ∷ []) ≡ Ok (record { frames = frames; names = names; programs = programs; events = events })

@@ -38,9 +38,7 @@ first_cut text line behind rest first after some = cut is_feed text ∙ rw (← 
 -- what stands behind it is shorter
 pub first_shorter : (text behind : List ℕ) (rest : Option (List ℕ)) → rest ≡ behind_first is_feed text → rest ≡ Some behind → length behind < length text
 first_shorter text behind rest after some =
-    let short = behind_shorter text rest after in
-    let left = ap left_of some in
-    omega arith
+    omega (arith, behind_shorter text rest after, ap left_of some)
 
 not_below : (n m : ℕ) → nat_lt n m ≡ false → m ≤ n
 not_below n m e = grind (arith, nat_tests)

@@ -49,10 +49,7 @@ AreLine line = AllByRecursion IsToken line
 -- a `.word` or a `.byte`
 data_short : (word : List ℕ) (number : ℕ) → length word ≤ 5 → number < 2 ^ 32 → length (line_text (number_line word number)) ≤ 17
 data_short word number short small =
-    let whole : length (line_text (number_line word number)) ≡ length (word ++ 32 ∷ (decimal number ++ [])) + 1 = length-append (word ++ 32 ∷ (decimal number ++ [])) (10 ∷ []) in
-    let parts : length (word ++ 32 ∷ (decimal number ++ [])) ≡ length word + suc (length (decimal number ++ [])) = length-append word (32 ∷ (decimal number ++ [])) in
-    let digits : length (decimal number ++ []) ≡ length (decimal number) + 0 = length-append (decimal number) [] in
-    omega (arith, whole, parts, digits, short, number_short number small)
+    grind (arith, length-append, number_short number small)
 
 image_short : (bytes : List ℕ) → AreTokens (image_lines bytes) → 4 * bytes_in (image_lines bytes) ≤ 17 * length bytes + 153
 image_short [] are = omega arith
@@ -99,13 +96,12 @@ program_short name parts are few long =
 programs_short : (others : List (List ℕ)) (number : ℕ) (names : List (List ℕ)) (programs : List Parts) (lines : List (List ℕ)) → HasPrograms others number names programs lines → AllSound programs → AreTokens (flat_map program_lines (zip names programs))
     → bytes_in (flat_map program_lines (zip names programs)) ≤ 73000 * length names
 programs_short others number [] [] lines has sound are = omega arith
-programs_short others number [] (parts ∷ programs) lines has sound are = absurd has
-programs_short others number (name ∷ names) [] lines has sound are = absurd has
 programs_short others number (name ∷ names) (parts ∷ programs) lines has sound are =
     let first = program_lines (name, parts) in
     let rest = flat_map program_lines (zip names programs) in
     let here = program_short name parts (all_first AreLine first rest are) sound.0.few (assembled_windows _ parts (linked_made has.3.sources parts has.3.makes)).1 in
     omega (arith, both_bytes first rest, here, programs_short (others ++ name ∷ []) (number + length has.0) names programs has.1 has.5 sound.1 (all_second AreLine first rest are))
+programs_short others number _ _ lines has sound are = absurd has
 
 -- an event that is a begin has four values
 abbrev HasFour : Event → Type 0

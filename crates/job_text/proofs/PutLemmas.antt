@@ -4,11 +4,10 @@ use Rattle.job_text.proofs.Common.{◌≡◌, ℕ, zero, suc, ◌<◌, min, List
 -- one pair more
 pub pair_more : {A B C D : Type 0} (f : A → C) (g : B → D) (xs : List A) (ys : List B) (n : ℕ) (x : A) (y : B) → n < length xs → n < length ys → ((d : A) → x ≡ get_or xs n d) → ((d : B) → y ≡ get_or ys n d)
     → take (suc n) (zip (map f xs) (map g ys)) ≡ take n (zip (map f xs) (map g ys)) ++ (f x, g y) ∷ []
-pair_more f g [] ys n x y in_x in_y is_x is_y = absurd (omega arith)
-pair_more f g (first ∷ xs) [] n x y in_x in_y is_x is_y = absurd (omega arith)
 pair_more f g (first ∷ xs) (other ∷ ys) zero x y in_x in_y is_x is_y = rw (is_x x, is_y y) refl
 pair_more f g (first ∷ xs) (other ∷ ys) (suc n) x y in_x in_y is_x is_y =
     ap (λ pairs. (f first, g other) ∷ pairs) (pair_more f g xs ys n x y (omega arith) (omega arith) is_x is_y)
+pair_more f g _ _ n x y in_x in_y is_x is_y = absurd (omega arith)
 
 -- all pairs
 pub pairs_whole : {A B C D : Type 0} (f : A → C) (g : B → D) (xs : List A) (ys : List B) (n : ℕ) → n ≡ min (length xs) (length ys) → take n (zip (map f xs) (map g ys)) ≡ zip (map f xs) (map g ys)

@@ -64,30 +64,26 @@ windows_sources register (Some window ∷ windows) bytes small legal are =
 lines_tokens : (lines : List (List Token)) (bodies : List Body) → AllZip IsSourceLine lines bodies → AllByRecursion (AllByRecursion IsToken) lines
 lines_tokens [] [] are = tt
 lines_tokens (line ∷ lines) (body ∷ bodies) are = (are.0.tokens, lines_tokens lines bodies are.1)
-lines_tokens [] (body ∷ bodies) are = absurd are
-lines_tokens (line ∷ lines) [] are = absurd are
+lines_tokens _ _ are = absurd are
 
 -- none of them is `end` or `.part` alone
 lines_go_on : (lines : List (List Token)) (bodies : List Body) → AllZip IsSourceLine lines bodies → HaveNoMark (map tokens_text lines)
 lines_go_on [] [] are = tt
 lines_go_on (line ∷ lines) (body ∷ bodies) are = grind (arith, nat_tests, lines_go_on lines bodies, written_tokens)
-lines_go_on [] (body ∷ bodies) are = absurd are
-lines_go_on (line ∷ lines) [] are = absurd are
+lines_go_on _ _ are = absurd are
 
 -- they export nothing
 lines_plain : (number : ℕ) (lines : List (List Token)) (bodies : List Body) → AllZip IsSourceLine lines bodies → AllByRecursion (λ statement. exported statement.body ≡ None) (made number bodies)
 lines_plain number [] [] are = tt
 lines_plain number (line ∷ lines) (body ∷ bodies) are = (are.0.plain, lines_plain (number + 1) lines bodies are.1)
-lines_plain number [] (body ∷ bodies) are = absurd are
-lines_plain number (line ∷ lines) [] are = absurd are
+lines_plain number _ _ are = absurd are
 
 -- they are their statements
 lines_state : (number : ℕ) (lines : List (List Token)) (bodies : List Body) → AllZip IsSourceLine lines bodies → statements_from number (map tokens_text lines) ≡ Ok (made number bodies)
 unfolding statements_from
 lines_state number [] [] are = refl
 lines_state number (line ∷ lines) (body ∷ bodies) are = rw (written_tokens line are.0.tokens, are.0.says number, lines_state (number + 1) lines bodies are.1) refl
-lines_state number [] (body ∷ bodies) are = absurd are
-lines_state number (line ∷ lines) [] are = absurd are
+lines_state number _ _ are = absurd are
 
 pub end_tokens : AllByRecursion IsToken end_line
 end_tokens = ((refl, refl, omega arith), tt)

@@ -19,8 +19,6 @@ lines_written (line ∷ lines) rest are = grind (arith, nat_tests, lines_written
 programs_form : (others : List (List ℕ)) (number there : ℕ) (names : List (List ℕ)) (programs : List Parts) (lines : List (List ℕ)) → HasPrograms others there names programs lines → AllSound programs
     → AreTokens (flat_map program_lines (zip names programs)) × HasPrograms others number names programs (map tokens_text (flat_map program_lines (zip names programs)))
 programs_form others number there [] [] lines has sound = (tt, tt)
-programs_form others number there [] (parts ∷ programs) lines has sound = absurd has
-programs_form others number there (name ∷ names) [] lines has sound = absurd has
 programs_form others number there (name ∷ names) (parts ∷ programs) lines has sound =
     let is = has.3 in
     let is_word : IsWord name = (found_tokens is.head (Word (codes "program") ∷ Word name ∷ []) is.says).1.0 in
@@ -31,6 +29,7 @@ programs_form others number there (name ∷ names) (parts ∷ programs) lines ha
       all_both (AllByRecursion IsToken) first rest (program_tokens number name parts is_word is.label sound.0 legal.0 legal.1) more.0,
       (map tokens_text first, map tokens_text rest, map-append tokens_text first rest, program_form number name parts is_word is.label sound.0 legal.0 legal.1, has.4, more.1),
     )
+programs_form others number there _ _ lines has sound = absurd has
 
 -- the events, from their form in some text
 module _ (names : List (List ℕ)) where
@@ -49,9 +48,7 @@ module _ (names : List (List ℕ)) where
 
   -- a turn of one of so many begins
   turn_written : (begins activation limit : ℕ) (events : List Event) → begins < 2 ^ 32 → (1 ≤ activation) × (activation ≤ begins) → IsLimit limit → AreWritten begins events → AreWritten begins (Turn activation limit ∷ events)
-  turn_written begins activation limit events few known small others =
-      one_written begins begins (Turn activation limit) events ((refl, refl, omega arith), (omega (arith, known.1, few), (omega (arith, small.1), tt)))
-      (inr (inr (inl (record { activation = activation; limit = limit; says = refl; known = known; small = small; gives = refl })), refl)) others
+  turn_written begins activation limit events few known small others = grind (arith, one_written begins begins (Turn activation limit) events)
 
   turns_written : (begins limit n : ℕ) (events : List Event) → begins < 2 ^ 32 → n ≤ begins → IsLimit limit → AreWritten begins events → AreWritten begins (turns_to limit n ++ events)
   unfolding turns_to
@@ -99,25 +96,22 @@ module _ (names : List (List ℕ)) where
       others)
 
   other_written : (begins : ℕ) (found : List Token) (here later : List Event) → begins < 2 ^ 32 → IsNoBegin begins found here → AreWritten begins later → AreWritten begins (here ++ later)
-  other_written begins found here later few (inl is) others = subst (λ (events : List Event). AreWritten begins (events ++ later)) (sym is.1) others
-  other_written begins found here later few (inr (inl is)) others =
-      subst (λ (events : List Event). AreWritten begins (events ++ later)) (sym is.gives) (turn_written begins is.activation is.limit later few is.known is.small others)
-  other_written begins found here later few (inr (inr (inl is))) others =
-      subst (λ (events : List Event). AreWritten begins (events ++ later)) (sym is.gives) (rounds_written begins is.limit is.rounds later few is.small others)
+  other_written begins found here later few (inl is) others = grind (arith, is.1, others)
+  other_written begins found here later few (inr (inl is)) others = grind (arith, is.gives, turn_written begins is.activation is.limit later few is.known is.small others)
+  other_written begins found here later few (inr (inr (inl is))) others = grind (arith, is.gives, rounds_written begins is.limit is.rounds later few is.small others)
   other_written begins found here later few (inr (inr (inr (inl is)))) others =
-      subst (λ (events : List Event). AreWritten begins (events ++ later)) (sym is.1)
-      (one_written begins begins Checkpoint later ((refl, refl, omega arith), tt) (inr (inr (inr (inr (inl (refl, refl)))), refl)) others)
+      let one = one_written begins begins Checkpoint later ((refl, refl, omega arith), tt) (inr (inr (inr (inr (inl (refl, refl)))), refl)) others in
+      grind (arith, is.1, one)
   other_written begins found here later few (inr (inr (inr (inr is)))) others =
-      subst (λ (events : List Event). AreWritten begins (events ++ later)) (sym is.1)
-      (one_written begins begins Crash later ((refl, refl, omega arith), tt) (inr (inr (inr (inr (inr (refl, refl)))), refl)) others)
+      let one = one_written begins begins Crash later ((refl, refl, omega arith), tt) (inr (inr (inr (inr (inr (refl, refl)))), refl)) others in
+      grind (arith, is.1, one)
 
   line_written : (begins after : ℕ) (found : List Token) (here later : List Event) → begins < 2 ^ 32 → AllByRecursion IsToken found → IsEventLine names begins after found here → AreWritten after later → AreWritten begins (here ++ later)
   line_written begins after found here later few are (inl is) others = begin_written begins found here later are is.0 (subst (λ n. AreWritten n later) is.1 others)
   line_written begins after found here later few are (inr is) others = other_written begins found here later few is.0 (subst (λ n. AreWritten n later) is.1 others)
 
   after_within : (begins after : ℕ) (found : List Token) (here : List Event) → IsEventLine names begins after found here → after ≤ begins + length here
-  after_within begins after found here (inl is) = omega (arith, is.1, ap length is.0.gives)
-  after_within begins after found here (inr is) = omega (arith, is.1)
+  after_within begins after found here given = grind arith
 
   events_form : (begins : ℕ) (lines : List (List ℕ)) (events : List Event) → HasEvents names begins lines events → begins + length events < 2 ^ 32 → AreWritten begins events
   events_form begins [] events has few = subst (AreWritten begins) (sym has) (tt, refl)

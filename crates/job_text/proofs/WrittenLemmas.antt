@@ -1,5 +1,5 @@
 -- A line that was written has its tokens, and no line feed but its own.
-use Rattle.job_text.proofs.Common.{◌≡◌, ℕ, not, Bool, true, List, [], ◌∷◌, ◌++◌, decimal, Ok, refl, ap, ◌∙◌, arith, is_ascii_alphanumeric, AllByRecursion, flat_map, list_all, nat_tests, is_feed, lines_of, before, begins_word, continues_word, tokens, tokens_past, Token, Word, Number, Comma, Open, Close, Colon, Plus, Minus, and_parts, IsToken, IsWord, blank_front, mark_front, number_front, number_pass, word_front, behind_text, token_text, tokens_text}
+use Rattle.job_text.proofs.Common.{◌≡◌, ℕ, not, Bool, true, List, [], ◌∷◌, ◌++◌, decimal, Ok, refl, ap, ◌∙◌, arith, is_ascii_alphanumeric, AllByRecursion, flat_map, list_all, nat_tests, is_feed, lines_of, before, begins_word, continues_word, tokens, tokens_past, Token, Word, Number, Comma, and_parts, IsToken, IsWord, blank_front, mark_front, number_front, number_pass, word_front, behind_text, token_text, tokens_text}
 use Rattle.std.proofs.lemmas.List.Folds.{list_all-append}
 use Rattle.asm_parse.proofs.TokenLemmas.{from_none}
 use Rattle.asm_parse.proofs.RunLemmas.{Stops, each_also}
@@ -10,14 +10,7 @@ plain byte = not (is_feed byte)
 
 -- a token at the front of a line
 token_front : (token : Token) (tail : List ℕ) → IsToken token → Stops continues_word tail → tokens_past (token_text token ++ tail) 0 ≡ before token (tokens_past tail 0)
-token_front (Word word) tail is stops = word_front word tail is stops
-token_front (Number number) tail is stops = number_front number tail is stops
-token_front Comma tail is stops = mark_front Comma 44 tail refl
-token_front Open tail is stops = mark_front Open 40 tail refl
-token_front Close tail is stops = mark_front Close 41 tail refl
-token_front Colon tail is stops = mark_front Colon 58 tail refl
-token_front Plus tail is stops = mark_front Plus 43 tail refl
-token_front Minus tail is stops = mark_front Minus 45 tail refl
+token_front token tail is stops = grind (arith, word_front, number_front, mark_front)
 
 behind_stops : (others : List Token) → Stops continues_word (flat_map behind_text others)
 behind_stops [] = tt
