@@ -1,6 +1,5 @@
 -- The lines of a record of a text.
-use Rattle.standby.proofs.Common.{◌≡◌, ℕ, zero, suc, ◌+◌, ◌-◌, ◌*◌, ◌/◌, ◌<◌, ◌≤◌, List, [], ◌∷◌, length, take, drop, get_or, refl, sym, ap, arith, All, drop-drop, PageSize, RecordLine, record_bytes, entry_bytes, ShipLine, AreLines, parted, told, nat_tests}
-use Rattle.line_geometry.specs.declared.directory.PageSize.TheVariants.{Two, Four}
+use Rattle.standby.proofs.Common.{◌≡◌, ℕ, zero, suc, ◌+◌, ◌-◌, ◌*◌, ◌/◌, ◌<◌, ◌≤◌, List, [], ◌∷◌, length, take, drop, get_or, refl, ap, arith, All, drop-drop, PageSize, RecordLine, record_bytes, entry_bytes, ShipLine, AreLines, parted, told, nat_tests}
 
 pub length-parted : (bytes : ℕ) (lines all : List ℕ) → length (parted bytes lines all) ≡ length lines
 length-parted bytes [] all = refl
@@ -16,8 +15,7 @@ no_line = record { line = 0; bytes = [] }
 pub get_or-parted : (bytes : ℕ) (lines all : List ℕ) (i : ℕ) → i < length lines → get_or (parted bytes lines all) i no_line ≡ part_at bytes lines all i
 get_or-parted bytes [] all i lt = absurd (omega (arith, lt))
 get_or-parted bytes (line ∷ lines) all zero lt =
-    let none : bytes * 0 ≡ 0 = omega arith in
-    ap (λ (n : ℕ). let it : ShipLine = record { line = line; bytes = take bytes (drop n all) } in it) (sym none)
+    let none : bytes * 0 ≡ 0 = omega arith in cc
 get_or-parted bytes (line ∷ lines) all (suc i) lt = grind (arith, nat_tests, get_or-parted bytes lines (drop bytes all) i, drop-drop)
 
 -- each lies below the bound, and above those before it
@@ -48,5 +46,4 @@ before_next bytes bound least (line ∷ lines) (first ∷ begun) (suc i) are lt 
 
 -- a record has room for one line more where it has fewer than the most
 pub room_for : (page : PageSize) (bank_bytes count : ℕ) → count < (bank_bytes - 12) / entry_bytes page → record_bytes page (count + 1) + 1 ≤ bank_bytes
-room_for Two bank_bytes count few = omega (arith, few)
-room_for Four bank_bytes count few = omega (arith, few)
+room_for page bank_bytes count few = grind arith

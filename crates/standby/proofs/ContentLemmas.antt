@@ -1,24 +1,14 @@
 -- What is shipped is in the ranges of a ship text.
-use Rattle.standby.proofs.Common.{if◌then◌else◌, Option, None, Some, nat_tests, All-drop, All-map, recursion_from_All, AllByRecursion, line_count, line_bytes, RecordLine, wrong_line, KeptBank, area_bytes, KeptStore, Shows, HasBytes, shipped, behind, AreLines, IsContent, ShipLine, told, All, ◌≡◌, ℕ, ◌+◌, ◌^◌, ◌<◌, ◌≤◌, ◌&&◌, nat_le, nat_lt, Bool, true, false, List, [], ◌∷◌, length, take, drop, get_or, refl, ◌∙◌, ap, arith}
+use Rattle.standby.proofs.Common.{None, nat_tests, All-drop, All-map, recursion_from_All, AllByRecursion, line_count, line_bytes, RecordLine, wrong_line, KeptBank, area_bytes, KeptStore, Shows, HasBytes, shipped, behind, AreLines, IsContent, ShipLine, told, All, ◌≡◌, ℕ, ◌+◌, ◌^◌, ◌<◌, List, [], ◌∷◌, length, take, drop, get_or, refl, ◌∙◌, ap, arith}
 use Rattle.store_format.proofs.Widths.{line-few, line-some}
 use Rattle.redo_journal.specs.Opened.{IsRead}
 use Rattle.redo_journal.proofs.RecordLemmas.{stands_there}
 use Rattle.standby.proofs.ShipLemmas.{split_at}
 
-by_test : (test : Bool) (rest : Option ℕ) (at : ℕ) → (if test then rest else Some at) ≡ None → (test ≡ true) × (rest ≡ None)
-by_test true rest at is = (refl, is)
-by_test false rest at is = cc
-
-within : (least line bound : ℕ) → (nat_le least line && nat_lt line bound) ≡ true → (least ≤ line) × (line < bound)
-within least line bound is = grind (arith, nat_tests)
-
 -- lines in order are those of a text
 ordered : (bytes bound least : ℕ) (lines : List RecordLine) → wrong_line bound least lines ≡ None → AllByRecursion (HasBytes bytes) lines → AreLines bytes bound least (told lines)
 ordered bytes bound least [] none all = tt
-ordered bytes bound least (line ∷ lines) none all =
-    let test = by_test (nat_le least line.line && nat_lt line.line bound) (wrong_line bound (line.line + 1) lines) line.at none in
-    let inside = within least line.line bound test.0 in
-    (inside.0, inside.1, all.0.0, all.0.1, ordered bytes bound (line.line + 1) lines test.1 all.1)
+ordered bytes bound least (line ∷ lines) none all = grind (arith, nat_tests, ordered bytes bound (line.line + 1) lines)
 
 -- each record of a bank that was read is in order
 all_ordered : (held : List ℕ) (bank : KeptBank) (read : IsRead held bank) → All (λ lines. wrong_line (length bank.newest) 0 lines ≡ None) read.records

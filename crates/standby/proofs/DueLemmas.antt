@@ -1,5 +1,6 @@
 -- The records of a text that are due.
-use Rattle.standby.proofs.Common.{◌≡◌, ℕ, zero, suc, ◌-◌, ◌≤◌, List, [], ◌∷◌, length, map, take, drop, get_or, refl, sym, subst, ◌∙◌, ap, arith, All, Option, option_map, drop-map, length-map, take_rest, All-drop, All-map, slice_get-map, line_count, Header, most_lines, line_bytes, IsAlike, IsFirstLong, IsLongAt, IsFitting, AreLines, IsPacked, IsShip, ShipLine, content_of, record_of, ShipRecord, nat_tests}
+use Rattle.standby.proofs.Common.{◌≡◌, ℕ, ◌-◌, ◌≤◌, List, length, map, take, drop, get_or, sym, subst, ◌∙◌, ap, arith, All, Option, option_map, drop-map, length-map, take_rest, All-drop, All-map, slice_get-map, line_count, Header, most_lines, line_bytes, IsAlike, IsFirstLong, IsLongAt, IsFitting, AreLines, IsPacked, IsShip, ShipLine, content_of, record_of, ShipRecord, nat_tests}
+use Rattle.std.proofs.lemmas.List.{take-map}
 use Rattle.std.proofs.Math.ListN.{get_or-map}
 use Rattle.standby.specs.declared.text.Ship.{Ship}
 use Rattle.standby.proofs.BeginLemmas.{length-parted}
@@ -43,12 +44,7 @@ module _ (ship : Ship) (header : Header) (is : IsShip ship) (alike : IsAlike hea
         there = slice_get-map (record_of (line_bytes header.directory.page)) slice place ∙ ap (λ (kept : Option ShipRecord). option_map (record_of (line_bytes header.directory.page)) kept) long.there;
         long = omega (arith, long.long, length-parted (line_bytes header.directory.page) long.kept.lines.items long.kept.bytes.items);
         before =
-            subst (λ (these : List (List ShipLine)). All (λ lines. length lines ≤ most_lines header) these) (map_take (record_of (line_bytes header.directory.page)) place slice)
+            subst (λ (these : List (List ShipLine)). All (λ lines. length lines ≤ most_lines header) these) (sym (take-map (record_of (line_bytes header.directory.page)) place slice))
             (All-map (λ (lines : List ShipLine). length lines ≤ most_lines header) (record_of (line_bytes header.directory.page)) (take place slice)
             (λ k d lt. let many = length-parted (line_bytes header.directory.page) (get_or (take place slice) k d).lines.items (get_or (take place slice) k d).bytes.items in let these = long.before k d lt in omega (arith, many, these)));
       })
-    where
-      map_take : (f : ShipRecord → List ShipLine) (n : ℕ) (xs : List ShipRecord) → map f (take n xs) ≡ take n (map f xs)
-      map_take f zero xs = refl
-      map_take f (suc n) [] = refl
-      map_take f (suc n) (x ∷ xs) = ap (λ (rest : List (List ShipLine)). f x ∷ rest) (map_take f n xs)

@@ -1,5 +1,5 @@
 -- Records that are kept and told, one after another.
-use Rattle.standby.proofs.Common.{⊎_elim, ◌≡◌, ℕ, suc, ◌+◌, ◌-◌, ◌<◌, List, [], ◌++◌, length, take, get_or, refl, sym, ◌∙◌, ap, subst, arith, append-nil, IfSome_then, Option, Result, Ok, Err, OnErr, take_all, FlatStore, Stands, stands, Failed, Ghosts, Prints, FewerLater, Leaves, held_of, told_is, prints_none, prints_on, prints_same, prints_stop, leaves_on, KeptStore, Shows, TracksStore, BreaksAt, EndsWith, IsAtNumber, IsStopped, Follows, Keeps, SoFar, broken, followed_text, kept_text, well, Puts, laid_by, Steps, followed_of, put_of, ShipLine, end_line, kept_line, later, next, Followed, Done, DiskFault, PutFault}
+use Rattle.standby.proofs.Common.{⊎_elim, ◌≡◌, ℕ, suc, ◌+◌, ◌-◌, ◌<◌, List, [], ◌++◌, length, take, get_or, refl, sym, ◌∙◌, ap, subst, arith, append-nil, IfSome_then, Option, Result, Ok, Err, OnErr, take_all, FlatStore, Stands, stands, Failed, Ghosts, Prints, FewerLater, Leaves, held_of, told_is, prints_none, prints_on, prints_same, prints_stop, leaves_on, KeptStore, TracksStore, BreaksAt, EndsWith, IsAtNumber, IsStopped, Follows, Keeps, SoFar, broken, followed_text, kept_text, well, Puts, laid_by, Steps, followed_of, put_of, ShipLine, end_line, kept_line, later, next, Followed, Done, DiskFault, PutFault}
 use Rattle.outside.specs.Moments.{Elapses}
 use Rattle.standby.proofs.PutLemmas.{PrintedNow, image_is, sure_puts, told_on}
 use Rattle.standby.proofs.TellLemmas.{at_end, at_some, at_step, kept_front, stood_more}
@@ -32,17 +32,10 @@ module _ {W : Type 0} (G : Ghosts W) (fewer_later : FewerLater G) (printed_now :
 
     -- it is kept and told
     pub so_far_more : Steps G bytes (later number i) (laid_by bytes store (take i records)) (get_or records i []) durable mid after (Ok tt) → SoFar G bytes number store records (i + 1) durable before after
-    so_far_more steps = record {
-      crash = crash_on (Ok tt) steps;
-      tracks = steps.ends.0;
-      stood = stood_more bytes number store records i (held_of G after) lt steps.ends.1;
-      printed =
-          let one_on : suc i ≡ i + 1 = omega arith in
-          let text : kept_text number i ++ kept_line (next (later number i)) ≡ kept_text number (i + 1) = ap (λ (n : ℕ). kept_text number i ++ kept_line n) number_on ∙ ap (kept_text number) one_on in
-          prints_same (G.printed before) (G.printed after) (kept_text number i ++ kept_line (next (later number i))) (kept_text number (i + 1)) well text
-          (prints_on (G.printed before) (G.printed mid) (G.printed after) (kept_text number i) (kept_line (next (later number i))) tt well so_far.printed steps.ends.2);
-      times = λ some. omega (arith, so_far.times some, steps.ends.3 (told_on (G.printed before) (G.printed mid) (kept_text number i) so_far.printed some));
-    }
+    so_far_more steps =
+        let printed = prints_on (G.printed before) (G.printed mid) (G.printed after) (kept_text number i) (kept_line (next (later number i))) tt well so_far.printed steps.ends.2 in
+        let text : kept_text number i ++ kept_line (next (later number i)) ≡ kept_text number (i + 1) = ap (λ (n : ℕ). kept_text number i ++ kept_line n) number_on ∙ ap (kept_text number) (let one_on : suc i ≡ i + 1 = omega arith in one_on) in
+        grind (arith, crash_on (Ok tt) steps, steps.ends, stood_more bytes number store records i (held_of G after) lt steps.ends.1, printed, text, so_far.times, told_on (G.printed before) (G.printed mid) (kept_text number i) so_far.printed)
 
     -- it isn't
     pub so_far_stopped : (why : Followed) → Steps G bytes (later number i) (laid_by bytes store (take i records)) (get_or records i []) durable mid after (Err why) → Keeps G bytes number store records durable before after why
@@ -78,17 +71,7 @@ module _ {W : Type 0} (G : Ghosts W) (fewer_later : FewerLater G) (printed_now :
   pub so_far_all : (count : ℕ) (durable : KeptStore) (before now : W) → count ≡ length records → SoFar G bytes number store records count durable before now → Keeps G bytes number store records durable before now Done
   so_far_all count durable before now all so_far = record {
     crash = so_far.crash;
-    ends = (
-      record {
-        tracks = so_far.tracks;
-        stood =
-            so_far.stood
-            ∙ ap (λ (n : ℕ). Stands (later number n) (laid_by bytes store (take count records))) all
-            ∙ ap (λ (these : List (List ShipLine)). Stands (later number (length records)) (laid_by bytes store these)) (take_all count records (omega (arith, all)));
-      },
-      prints_same (G.printed before) (G.printed now) (kept_text number count) (kept_text number (length records)) well (ap (kept_text number) all) so_far.printed,
-      λ some. omega (arith, so_far.times some, all),
-    );
+    ends = grind (arith, so_far.tracks, so_far.stood, take_all count records (omega (arith, all)), prints_same (G.printed before) (G.printed now) (kept_text number count) (kept_text number (length records)) well (ap (kept_text number) all) so_far.printed, so_far.times);
   }
 
   -- and the last line is put behind them
@@ -107,34 +90,17 @@ module _ {W : Type 0} (G : Ghosts W) (fewer_later : FewerLater G) (printed_now :
     ended line (Ok done) is only puts =
         let put = subst (λ (these : List ℕ). Puts {T = Unit {0}} G these mid after well) is puts in
         let sure = sure_puts G printed_now fewer_later last mid after well put keeps.ends.0.tracks.sure in
-        record {
-          crash = end_crash well put;
-          ends = (
-            record {
-              tracks = record { sure = sure.0; shows = subst (λ (held : List ℕ). Shows held durable) (sym sure.1) keeps.ends.0.tracks.shows };
-              stood = ap stands sure.1 ∙ keeps.ends.0.stood;
-            },
-            prints_on (G.printed before) (G.printed mid) (G.printed after) (kept_text number (length records)) last tt well keeps.ends.1 put.printed,
-            λ some. omega (arith, keeps.ends.2 some, put.once.done (told_on (G.printed before) (G.printed mid) (kept_text number (length records)) keeps.ends.1 some)),
-          );
-        }
-    ended line (Err why) is only puts =
+        let printed = prints_on (G.printed before) (G.printed mid) (G.printed after) (kept_text number (length records)) last tt well keeps.ends.1 put.printed in
+        let told = told_on (G.printed before) (G.printed mid) (kept_text number (length records)) keeps.ends.1 in
+        grind (arith, end_crash well put, sure, keeps.ends.0.tracks.shows, keeps.ends.0.stood, printed, keeps.ends.2, put.once, told)
+    ended line (Err PutFault) is only puts =
         let put = subst (λ (these : List ℕ). Puts {T = Unit {0}} G these mid after broken) is puts in
         let sure = sure_puts G printed_now fewer_later last mid after broken put keeps.ends.0.tracks.sure in
-        let put_is : why ≡ PutFault = cc in
-        let stopped : Follows G bytes number store records durable before after PutFault = record {
+        record {
           crash = end_crash broken put;
-          ends = (
-            record {
-              count = length records;
-              few = omega arith;
-              tracks = record { sure = sure.0; shows = subst (λ (held : List ℕ). Shows held durable) (sym sure.1) keeps.ends.0.tracks.shows };
-              stood = ap stands sure.1 ∙ keeps.ends.0.stood ∙ ap (λ (these : List (List ShipLine)). Stands (later number (length records)) (laid_by bytes store these)) (sym (take_all (length records) records (omega arith)));
-            },
-            prints_on (G.printed before) (G.printed mid) (G.printed after) (kept_text number (length records)) last tt broken keeps.ends.1 put.printed,
-          );
-        } in
-        subst (λ (how : Followed). Follows G bytes number store records durable before after how) (sym put_is) stopped
+          ends = grind (arith, sure.0, sure.1, keeps.ends.0.tracks.shows, keeps.ends.0.stood, take_all (length records) records (omega arith), prints_on (G.printed before) (G.printed mid) (G.printed after) (kept_text number (length records)) last tt broken keeps.ends.1 put.printed);
+        }
+    ended line (Err _) is only puts = absurd (cc only)
 
   -- what stopped in a record stops there
   pub stopped_early : (durable : KeptStore) (before after : W) (why : Followed) → (why ≡ Done → ⊥) → Keeps G bytes number store records durable before after why → Follows G bytes number store records durable before after why

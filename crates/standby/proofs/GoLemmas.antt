@@ -2,9 +2,6 @@
 use Rattle.standby.proofs.Common.{◌≡◌, ℕ, List, ◌∙◌, arith, Option, Result, Ghosts, Failed, FewerLater, OnlyGoesOn, Puts, nat_tests}
 use Rattle.redo_journal.specs.Held.{IsMoreBy, OnlyWrites}
 
-more_on : (first second third : Option ℕ) → IsMoreBy 0 first second → IsMoreBy 0 second third → IsMoreBy 0 first third
-more_on first second third one two before is = grind (arith, nat_tests)
-
 more_same : (first second : Option ℕ) → second ≡ first → IsMoreBy 0 first second
 more_same first second same before is = (before, same ∙ is, omega arith)
 
@@ -19,4 +16,4 @@ module _ {W : Type 0} (G : Ghosts W) where
   goes_puts bytes old new result puts = grind (arith, nat_tests, more_same)
 
   pub goes_on : (fewer_later : FewerLater G) (old mid new : W) → OnlyGoesOn G old mid → OnlyGoesOn G mid new → OnlyGoesOn G old new
-  goes_on fewer_later old mid new first second = grind (arith, nat_tests, more_on)
+  goes_on fewer_later old mid new first second = grind (arith, nat_tests)

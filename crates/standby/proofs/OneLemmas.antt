@@ -1,5 +1,5 @@
 -- A text holds one content.
-use Rattle.standby.proofs.Common.{AllByRecursion, recursion_from_All, AreLines, Content, HoldsOne, ShipLine, end_line, head_line, later, line_line, lines_text, next, records_text, All, ◌≡◌, ℕ, ◌+◌, ◌^◌, ◌<◌, List, [], ◌∷◌, ◌++◌, length, refl, sym, ◌∙◌, ap, subst, append_assoc, append-nil, arith, nat_tests}
+use Rattle.standby.proofs.Common.{AllByRecursion, recursion_from_All, AreLines, HoldsOne, ShipLine, end_line, head_line, later, line_line, lines_text, next, records_text, All, ◌≡◌, ℕ, ◌+◌, ◌^◌, ◌<◌, List, [], ◌∷◌, ◌++◌, length, refl, sym, ◌∙◌, ap, subst, append_assoc, append-nil, arith, nat_tests}
 use Rattle.standby.proofs.PartLemmas.{end_parts}
 use Rattle.standby.proofs.TailLemmas.{first_is, records_are, room_left, same_head, same_line, same_record}
 
@@ -7,8 +7,6 @@ module _ (bytes bound : ℕ) (few : bound < 2 ^ 32) where
   -- as many lines, with anything behind them
   same_lines : (least : ℕ) (one two : List ShipLine) (x y : List ℕ) → AreLines bytes bound least one → AreLines bytes bound least two → length one ≡ length two → lines_text one ++ x ≡ lines_text two ++ y → (one ≡ two) × (x ≡ y)
   same_lines least [] [] x y are those many is = (refl, is)
-  same_lines least [] (b ∷ two) x y are those many is = absurd (omega (arith, many))
-  same_lines least (a ∷ one) [] x y are those many is = absurd (omega (arith, many))
   same_lines least (a ∷ one) (b ∷ two) x y are those many is =
       let both : line_line a.line a.bytes ++ (lines_text one ++ x) ≡ line_line b.line b.bytes ++ (lines_text two ++ y) =
       sym (append_assoc (line_line a.line a.bytes) (lines_text one) x) ∙ is ∙ append_assoc (line_line b.line b.bytes) (lines_text two) y in
@@ -18,6 +16,7 @@ module _ (bytes bound : ℕ) (few : bound < 2 ^ 32) where
       ap (λ (n : ℕ). let it : ShipLine = record { line = n; bytes = a.bytes } in it) first.0
       ∙ ap (λ (these : List ℕ). let it : ShipLine = record { line = b.line; bytes = these } in it) first.1 in
       (ap (λ (line : ShipLine). line ∷ one) head ∙ ap (λ (lines : List ShipLine). b ∷ lines) rest.0, rest.1)
+  same_lines least _ _ x y are those many is = absurd (omega (arith, many))
 
   differ : (number : ℕ) (lines : List ShipLine) (records : List (List ShipLine)) (n m : ℕ) → end_line n ≡ records_text number (lines ∷ records) ++ end_line m → ⊥
   differ number lines records n m is = grind (arith, nat_tests, first_is, append-nil, end_parts)
@@ -44,12 +43,8 @@ holds_one one two is that same =
     ∙ same
     ∙ append_assoc (head_line two.line_bytes two.lines two.start) (records_text two.start two.records) (end_line (later two.start (length two.records))) in
     let head = same_head one.line_bytes one.lines one.start two.line_bytes two.lines two.start x y (omega (arith, is.few_bytes)) (omega (arith, is.few_lines)) is.number (omega (arith, that.few_bytes)) (omega (arith, that.few_lines)) that.number both in
-    let were : All (λ (these : List ShipLine). AreLines one.line_bytes one.lines 0 these) two.records =
-    subst (λ (n : ℕ). All (λ (these : List ShipLine). AreLines n one.lines 0 these) two.records) (sym head.0) (subst (λ (n : ℕ). All (λ (these : List ShipLine). AreLines two.line_bytes n 0 these) two.records) (sym head.1) that.records) in
+    let were : All (λ (these : List ShipLine). AreLines one.line_bytes one.lines 0 these) two.records = grind (arith, head.0, head.1) in
     let behind : x ≡ records_text one.start two.records ++ end_line (later two.start (length two.records)) = head.3 ∙ ap (λ (n : ℕ). records_text n two.records ++ end_line (later two.start (length two.records))) (sym head.2) in
     let records = same_records one.line_bytes one.lines is.few_lines one.start (later one.start (length one.records)) (later two.start (length two.records)) one.records two.records
     (recursion_from_All (λ (these : List ShipLine). AreLines one.line_bytes one.lines 0 these) one.records is.records) (recursion_from_All (λ (these : List ShipLine). AreLines one.line_bytes one.lines 0 these) two.records were) behind in
-    ap (λ (n : ℕ). let it : Content = record { line_bytes = n; lines = one.lines; start = one.start; records = one.records } in it) head.0
-    ∙ ap (λ (n : ℕ). let it : Content = record { line_bytes = two.line_bytes; lines = n; start = one.start; records = one.records } in it) head.1
-    ∙ ap (λ (n : ℕ). let it : Content = record { line_bytes = two.line_bytes; lines = two.lines; start = n; records = one.records } in it) head.2
-    ∙ ap (λ (these : List (List ShipLine)). let it : Content = record { line_bytes = two.line_bytes; lines = two.lines; start = two.start; records = these } in it) records
+    grind (arith, head.0, head.1, head.2)

@@ -1,5 +1,5 @@
 -- The parts of a line of a ship text: where each ends, and that none holds a line feed.
-use Rattle.standby.proofs.Common.{All, slice_index, AllByRecursion, prefix_len, lt-ltb, nat_tests, drop_at, take_at, All-get_or, recursion_from_All, AllPass-from_list_all, sum_by-append, decode_of-encode_lower, IsWord, number_word, word_cut, feeds, end_line, head_line, line_line, record_line, each_byte, ◌≡◌, ℕ, ◌+◌, ◌/◌, ◌%◌, ◌^◌, ◌<◌, ◌≤◌, ◌==◌, nat_lt, not, true, false, cond, List, [], ◌∷◌, ◌++◌, length, codes, decimal, get_or, position, Some, None, Ok, take, drop, refl, sym, ◌∙◌, ap, append_assoc, length-append, arith}
+use Rattle.standby.proofs.Common.{All, slice_index, AllByRecursion, prefix_len, lt-ltb, nat_tests, drop_at, take_at, All-get_or, recursion_from_All, AllPass-from_list_all, sum_by-append, decode_of-encode_lower, IsWord, number_word, word_cut, feeds, end_line, head_line, line_line, record_line, each_byte, ◌≡◌, ℕ, ◌+◌, ◌/◌, ◌%◌, ◌^◌, ◌<◌, ◌≤◌, ◌==◌, nat_lt, not, true, false, cond, List, [], ◌∷◌, ◌++◌, length, codes, decimal, get_or, position, Some, None, Ok, take, drop, refl, ◌∙◌, ap, append_assoc, length-append, arith}
 use Rattle.std.proofs.lemmas.List.Quantifiers.{position-Some}
 use Rattle.hex.specs.Hex.{encode_lower, encode_with, lower_digits, decode_of}
 use Rattle.standby.proofs.ShipLemmas.{split_at}
@@ -22,10 +22,7 @@ pub decodes : (bytes : List ℕ) → All (λ byte. byte < 256) bytes → decode_
 decodes bytes all = decode_of-encode_lower bytes (each_byte bytes (recursion_from_All (λ byte. byte < 256) bytes all))
 
 pub same_hex : (a b x y : List ℕ) → All (λ byte. byte < 256) a → All (λ byte. byte < 256) b → encode_lower a ++ 10 ∷ x ≡ encode_lower b ++ 10 ∷ y → (a ≡ b) × (x ≡ y)
-same_hex a b x y one two is =
-    let cut = word_cut 10 (encode_lower a) (encode_lower b) x y (omega arith) (hex_word a one) (hex_word b two) is in
-    let both = sym (decodes a one) ∙ ap decode_of cut.0 ∙ decodes b two in
-    (cc, cut.1)
+same_hex a b x y one two is = grind (arith, decodes a one, (word_cut 10 (encode_lower a) (encode_lower b) x y (omega arith) (hex_word a one) (hex_word b two) is).0, decodes b two, (word_cut 10 (encode_lower a) (encode_lower b) x y (omega arith) (hex_word a one) (hex_word b two) is).1)
 
 -- the place of the byte behind a word
 is_not : (stop : ℕ) → not (stop == stop) ≡ false
@@ -39,8 +36,7 @@ run stop [] tail small is = rw (is_not stop) refl
 run stop (byte ∷ word) tail small is = rw (is_other stop byte small is.0, run stop word tail small is.1) (omega arith)
 
 pub place_is : (stop : ℕ) (word tail : List ℕ) → stop ≤ 32 → IsWord word → position (λ byte. byte == stop) (word ++ stop ∷ tail) ≡ Some (length word)
-place_is stop word tail small is =
-    rw (run stop word tail small is, lt-ltb (length word) (length (word ++ stop ∷ tail)) (simp length-append (omega arith))) refl
+place_is stop word tail small is = grind (arith, run stop word tail small is, lt-ltb (length word) (length (word ++ stop ∷ tail)) (simp length-append (omega arith)))
 
 -- no line ends in a word
 no_feed : (byte : ℕ) → 32 < byte → (byte == 10) ≡ false

@@ -1,5 +1,6 @@
 -- One line that is put, and what a crash leaves of it.
-use Rattle.standby.proofs.Common.{◌≡◌, ⊎_elim, ℕ, List, [], ◌++◌, take, sym, ◌∙◌, ap, subst, arith, IsSome, IsTrue, Option, None, Some, IfSome, Result, Ok, Err, unwrap_or, IfSome_then, Failed, Ghosts, Prints, AreTold, IsSure, CallsDisk, FewerLater, Leaves, held_of, prints_none, prints_on, told_is, Puts, PrintsBy, SeesPart, Shipped, broken, feeds, put_of, well}
+use Rattle.std.proofs.lemmas.Bool.Decides.{nat_tests}
+use Rattle.standby.proofs.Common.{◌≡◌, ⊎_elim, ℕ, List, [], ◌++◌, take, sym, ◌∙◌, ap, subst, arith, IsSome, Option, None, Some, IfSome, Result, Ok, Err, IfSome_then, Failed, Ghosts, Prints, AreTold, IsSure, CallsDisk, FewerLater, Leaves, held_of, prints_none, prints_on, told_is, Puts, PrintsBy, SeesPart, Shipped, broken, feeds, put_of, well}
 use Rattle.standby.proofs.PartLemmas.{feeds_append}
 
 -- a crash leaves the bytes printed
@@ -13,8 +14,7 @@ on_printed (Some old) new bytes value P prints has = subst (λ (those : Option (
 
 -- bytes printed that are told still are then
 pub told_on : (old new : Option (List ℕ)) (bytes : List ℕ) → Prints old new bytes well → IsSome old → IsSome new
-told_on None new bytes prints told = cc
-told_on (Some old) new bytes prints told = cc
+told_on old new bytes prints told = grind arith
 
 module _ {W : Type 0} (G : Ghosts W) (printed_now : PrintedNow G) where
   -- what a call of the disk leaves printed
@@ -33,16 +33,7 @@ module _ {W : Type 0} (G : Ghosts W) (printed_now : PrintedNow G) where
   module _ (fewer_later : FewerLater G) where
     -- bytes that were sure are, after a put
     pub sure_puts : {T : Type 0} (bytes : List ℕ) (before after : W) (result : Result T Failed) → Puts G bytes before after result → IsSure G before → IsSure G after × (held_of G after ≡ held_of G before)
-    sure_puts bytes before after result puts sure = (
-      record {
-        honest = subst (λ b. IsTrue b) (sym puts.only.honest) sure.honest;
-        told = subst (λ (those : Option (List ℕ)). IsSome those) (sym puts.only.held) sure.told;
-        durable = λ image seen left.
-            let from = puts.crash image seen (fewer_later after (G.moment before) (G.moment after) image seen puts.only.time.later left) in
-            subst (λ (those : Option (List ℕ)). AreTold those image) (sym puts.only.held) (sure.durable image from.0 from.1);
-      },
-      ap (λ (those : Option (List ℕ)). unwrap_or those []) puts.only.held,
-    )
+    sure_puts bytes before after result puts sure = grind (arith, nat_tests)
 
 module _ {W : Type 0} (G : Ghosts W) where
   -- calls of the disk put nothing

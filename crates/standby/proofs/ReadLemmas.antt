@@ -1,5 +1,5 @@
 -- The lines of a record that are read, one after another, and the records.
-use Rattle.standby.proofs.Common.{◌≡◌, ◌≢◌, ℕ, suc, ◌+◌, ◌-◌, ◌*◌, ◌^◌, ◌<◌, ◌≤◌, List, [], ◌∷◌, ◌++◌, length, drop, refl, sym, ◌∙◌, ap, subst, append_assoc, append-nil, arith, All, length-drop, drop-append-le, take-append-le, take_all, flat_map-append, common_steps, IsFirstBad, IsRead, Tail, AreLines, ShipLine, end_line, later, line_line, lines_text, next, parted, record_line, record_text, records_text, nat_tests}
+use Rattle.standby.proofs.Common.{◌≡◌, ◌≢◌, ℕ, suc, ◌+◌, ◌-◌, ◌*◌, ◌^◌, ◌<◌, ◌≤◌, List, [], ◌∷◌, ◌++◌, length, drop, refl, sym, ◌∙◌, ap, subst, append_assoc, append-nil, arith, All, length-drop, drop-append-le, take-append-le, take_all, flat_map-append, common_steps, IsFirstBad, IsRead, Tail, AreLines, ShipLine, end_line, later, line_line, lines_text, next, parted, record_line, records_text, nat_tests}
 use Rattle.standby.proofs.PartLemmas.{line_parts, record_parts}
 use Rattle.standby.proofs.ShipLemmas.{records_append}
 use Rattle.standby.proofs.TailLemmas.{bad_here, read_count, read_one}
@@ -12,8 +12,7 @@ parted_more bytes (line ∷ lines) all k held sized one = grind (arith, nat_test
 
 pub lines_more : (bytes bound least k : ℕ) (lines : List ShipLine) (held : List ℕ) → AreLines bytes bound least lines → least ≤ k → bound ≤ k → length held ≡ bytes → All (λ byte. byte < 256) held → AreLines bytes (k + 1) least (lines ++ record { line = k; bytes = held } ∷ [])
 lines_more bytes bound least k [] held are le most sized all = (le, omega arith, sized, all, tt)
-lines_more bytes bound least k (line ∷ lines) held are le most sized all =
-    (are.0, omega (arith, are.1, most), are.2, are.3, lines_more bytes bound (line.line + 1) k lines held are.4 (omega (arith, are.1, most)) most sized all)
+lines_more bytes bound least k (line ∷ lines) held are le most sized all = grind (arith, are.0, are.1, are.2, are.3, lines_more bytes bound (line.line + 1) k lines held are.4 (omega (arith, are.1, most)) most sized all)
 
 pub wider : (bytes bound wide least : ℕ) (lines : List ShipLine) → AreLines bytes bound least lines → bound ≤ wide → AreLines bytes wide least lines
 wider bytes bound wide least [] are le = tt
@@ -52,11 +51,7 @@ at_none bytes bound front read number least is = record {
 -- a record behind others
 records_one : (start number count : ℕ) (records : List (List ShipLine)) (lines : List ShipLine) → number ≡ later start (length records) → length lines ≡ count
     → records_text start records ++ (record_line (next number) count ++ lines_text lines) ≡ records_text start (records ++ lines ∷ [])
-records_one start number count records lines number_is many =
-    let due : next number ≡ later start (length records + 1) = omega (arith, number_is) in
-    ap (λ (n : ℕ). records_text start records ++ (record_line (next number) n ++ lines_text lines)) (sym many)
-    ∙ ap (λ (n : ℕ). records_text start records ++ record_text n lines) due
-    ∙ sym (records_append start records lines)
+records_one start number count records lines number_is many = grind (arith, records_append start records lines)
 
 pub text_more : (start number count : ℕ) (text left rest behind : List ℕ) (records : List (List ShipLine)) (lines : List ShipLine) → number ≡ later start (length records) → length lines ≡ count
     → text ≡ records_text start records ++ left → left ≡ record_line (next number) count ++ rest → rest ≡ lines_text lines ++ behind → text ≡ records_text start (records ++ lines ∷ []) ++ behind
@@ -72,13 +67,10 @@ module _ (bytes bound : ℕ) (few : bound < 2 ^ 32) where
       → IsRead bytes bound (front ++ lines_text (lines ++ record { line = k; bytes = held } ∷ [])) (read + (index + 1)) number (count - (index + 1)) (k + 1)
   record_step front read index count number least k lines held inside le lt sized all is =
       let owed : count - index ≡ suc (count - (index + 1)) = omega (arith, inside) in
-      let was = subst (λ (n : ℕ). IsRead bytes bound (front ++ lines_text lines) (read + index) number n least) owed is in
-      let now = read_one bytes bound few (front ++ lines_text lines) (read + index) number (count - (index + 1)) least k held le lt sized all was in
-      let place : read + index + 1 ≡ read + (index + 1) = omega arith in
-      let text : (front ++ lines_text lines) ++ line_line k held ≡ front ++ lines_text (lines ++ record { line = k; bytes = held } ∷ []) =
-      append_assoc front (lines_text lines) (line_line k held) ∙ ap (λ (these : List ℕ). front ++ these) (sym (one_text lines (record { line = k; bytes = held }))) in
-      subst (λ (these : List ℕ). IsRead bytes bound these (read + (index + 1)) number (count - (index + 1)) (k + 1)) text
-      (subst (λ (n : ℕ). IsRead bytes bound ((front ++ lines_text lines) ++ line_line k held) n number (count - (index + 1)) (k + 1)) place now)
+      let now = read_one bytes bound few (front ++ lines_text lines) (read + index) number (count - (index + 1)) least k held le lt sized all (rw owed at is) in
+      let text = append_assoc front (lines_text lines) (line_line k held) in
+      let one = one_text lines (record { line = k; bytes = held }) in
+      grind (arith, now, text, one)
 
   pub record_bad : (front text left : List ℕ) (read index count number least : ℕ) (lines : List ShipLine) → index < count → least + (count - index) ≤ bound → number < 2 ^ 64 → text ≡ lines_text lines ++ left
       → IsRead bytes bound (front ++ lines_text lines) (read + index) number (count - index) least
@@ -99,8 +91,5 @@ module _ (bytes bound : ℕ) (few : bound < 2 ^ 32) where
   records_step head read number start count records lines number_is le many is goes =
       let front = head ++ records_text start records in
       let now = goes (read_count bytes bound few front read number 0 count le is) in
-      subst (λ (these : List ℕ). IsRead bytes bound these (read + 1 + count) (next number) 0 0)
-      (append_assoc front (record_line (next number) count) (lines_text lines)
-      ∙ append_assoc head (records_text start records) (record_line (next number) count ++ lines_text lines)
-      ∙ ap (λ (these : List ℕ). head ++ these) (records_one start number count records lines number_is many))
-      now
+      let text : (front ++ record_line (next number) count) ++ lines_text lines ≡ head ++ records_text start (records ++ lines ∷ []) = cc (append_assoc front (record_line (next number) count) (lines_text lines), append_assoc head (records_text start records) (record_line (next number) count ++ lines_text lines), records_one start number count records lines number_is many) in
+      rw text at now

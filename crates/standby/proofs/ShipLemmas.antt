@@ -1,5 +1,7 @@
 -- The records of a bank, as they are shipped.
-use Rattle.standby.proofs.Common.{Some, slice_get, flat_map-append, All-push, get_or_from_slice_get, take_more, get_or-map, length-map, length-take-le, take-append-drop, PageSize, RecordLine, record_bytes, Record, KeptBank, IsCounted, IsRecordAt, area_bytes, Ghosts, held_of, KeptStore, IsShown, ShipLine, later, line_line, lines_text, next, record_text, records_text, told, All, ◌≡◌, ℕ, zero, suc, ◌+◌, ◌<◌, List, [], ◌∷◌, ◌++◌, length, map, take, drop, get_or, refl, sym, ◌∙◌, ap, subst, arith, append_assoc, append-nil}
+use Rattle.standby.proofs.Common.{Some, slice_get, flat_map-append, All-push, get_or_from_slice_get, take_more, get_or-map, length-map, length-take-le, take-append-drop, PageSize, RecordLine, record_bytes, Record, KeptBank, IsCounted, IsRecordAt, area_bytes, Ghosts, held_of, KeptStore, IsShown, ShipLine, later, line_line, lines_text, next, record_text, records_text, told, All, ◌≡◌, ℕ, ◌+◌, ◌<◌, List, [], ◌∷◌, ◌++◌, length, map, take, drop, get_or, refl, sym, ◌∙◌, ap, subst, arith, append_assoc, append-nil}
+use Rattle.std.proofs.Common.{add-one}
+use Rattle.std.proofs.Math.Seq.{split_at as cut}
 use Rattle.redo_journal.specs.Opened.{IsRead}
 use Rattle.standby.proofs.ShowLemmas.{still_shown}
 
@@ -13,19 +15,14 @@ area_more page records i lt = ap (area_bytes page) (take_more records i [] lt) �
 
 -- and where it is told to lie
 pub next_is : (page paged : PageSize) (place : ℕ) (lines those : List RecordLine) (found : Record) → page ≡ paged → lines ≡ those → IsCounted page place lines found → found.next ≡ place + record_bytes paged (length those)
-next_is page paged place lines those found same is counted =
-    counted.next ∙ ap (λ (size : PageSize). place + record_bytes size (length lines)) same ∙ ap (λ (these : List RecordLine). place + record_bytes paged (length these)) is
+next_is page paged place lines those found same is counted = cc (counted.next)
 
 -- one more of which it holds
 pub all_more : {A : Type 0} (P : A → Type 0) (xs : List A) (i : ℕ) (d : A) → i < length xs → All P (take i xs) → P (get_or xs i d) → All P (take (i + 1) xs)
 all_more {A} P xs i d lt all one = subst (λ (these : List A). All P these) (sym (take_more xs i d lt)) (All-push P (take i xs) (get_or xs i d) all one)
 
 pub split_at : {A : Type 0} (xs : List A) (i : ℕ) (d : A) → i < length xs → xs ≡ take i xs ++ get_or xs i d ∷ drop (i + 1) xs
-split_at [] i d lt = absurd (omega (arith, lt))
-split_at (x ∷ xs) zero d lt = refl
-split_at (x ∷ xs) (suc i) d lt =
-    let same : suc (i + 1) ≡ suc i + 1 = omega arith in
-    ap (λ rest. x ∷ rest) (split_at xs i d (omega (arith, lt))) ∙ ap (λ (n : ℕ). x ∷ (take i xs ++ get_or xs i d ∷ drop n (x ∷ xs))) same
+split_at xs i d lt = rw (add-one) (cut xs i d lt)
 
 -- the record there
 pub record_there : (held : List ℕ) (bank : KeptBank) (place : ℕ) (read : IsRead held bank) (i : ℕ) → i < length read.records → place ≡ area_bytes bank.page (take i read.records) → (at : IsRecordAt held bank place) × (at.lines ≡ get_or read.records i [])
@@ -95,16 +92,10 @@ module _ (number : ℕ) (records : List (List RecordLine)) (i : ℕ) (lt : i < l
   many = length-take-le i (map told records) (omega (arith, behind_them))
 
   pub records_more : records_text number (take i (map told records)) ++ record_text (later number (i + 1)) (told (get_or records i [])) ≡ records_text number (take (i + 1) (map told records))
-  records_more =
-      ap (λ (n : ℕ). records_text number (take i (map told records)) ++ record_text (later number (n + 1)) (told (get_or records i []))) (sym many)
-      ∙ ap (λ (lines : List ShipLine). records_text number (take i (map told records)) ++ record_text (later number (length (take i (map told records)) + 1)) lines) (sym at_place)
-      ∙ sym (records_append number (take i (map told records)) (get_or (map told records) i []))
-      ∙ ap (records_text number) (sym (take_more (map told records) i [] behind_them))
+  records_more = grind (arith, many, at_place, records_append number (take i (map told records)) (get_or (map told records) i []), take_more (map told records) i [] behind_them)
 
   pub records_rest : (rest : List ℕ) × ((records_text number (take i (map told records)) ++ record_text (later number (i + 1)) (told (get_or records i []))) ++ rest ≡ records_text number (map told records))
-  records_rest =
-      let split = records_split number (take (i + 1) (map told records)) (drop (i + 1) (map told records)) in
-      (split.0, ap (λ (these : List ℕ). these ++ split.0) records_more ∙ sym split.1 ∙ ap (records_text number) (take-append-drop (i + 1) (map told records)))
+  records_rest = grind (arith, records_split number (take (i + 1) (map told records)) (drop (i + 1) (map told records)), records_more, take-append-drop (i + 1) (map told records))
 
 -- the record with an index of a store that is shown, after calls that only asked
 pub there_in : {W : Type 0} (G : Ghosts W) (store : KeptStore) (old new : W) (shown : IsShown G store old) (index place : ℕ) → G.held new ≡ G.held old → index < length shown.shows.read.records → place ≡ area_bytes store.bank.page (take index shown.shows.read.records)

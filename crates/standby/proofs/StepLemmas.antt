@@ -29,8 +29,7 @@ sized held kept number store shows stood =
     ap (λ (that : FlatStore). line_bytes that.directory.page) (sym flat)
 
 pub tracks_begun : {W : Type 0} (G : Ghosts W) (store now : KeptStore) (lines : List RecordLine) (outside : W) → now ≡ with_begun store lines → TracksStore G store outside → TracksStore G now outside
-tracks_begun G store now lines outside is tracks =
-    subst (λ (that : KeptStore). TracksStore G that outside) (sym is) (record { sure = tracks.sure; shows = shows_begun store lines (held_of G outside) tracks.shows })
+tracks_begun G store now lines outside is tracks = grind (arith, tracks.sure, shows_begun store lines (held_of G outside) tracks.shows)
 
 module _ {W : Type 0} (G : Ghosts W) (fewer_later : FewerLater G) (printed_now : PrintedNow G) (number bytes : ℕ) (store : FlatStore) (lines : List ShipLine) (begun : List RecordLine) (before mid : W)
     (sized : bytes ≡ line_bytes store.directory.page) (same : told begun ≡ lines) (stood : stands (held_of G before) ≡ Stands number store) (calls : CallsDisk G before mid) (either : Leaves G (IsEither begun (held_of G before)) before mid) where
@@ -66,20 +65,19 @@ module _ {W : Type 0} (G : Ghosts W) (fewer_later : FewerLater G) (printed_now :
           λ some. kept.once.done (subst (λ (those : Option (List ℕ)). IsSome those) (sym calls.quiet.same) some) ∙ ap (λ (n : ℕ). n + 1) calls.puts,
         );
       }
-  step_kept durable after line (Err why) tracks more is only puts =
+  step_kept durable after line (Err PutFault) tracks more is only puts =
       let kept = subst (λ (these : List ℕ). Puts {T = Unit {0}} G these mid after broken) is puts in
       let stands_more = more ∙ one_over begun lines (stands (held_of G before)) number bytes store sized same stood in
       let sure = sure_puts G printed_now fewer_later (kept_line (next number)) mid after broken kept tracks.sure in
-      let put_is : why ≡ PutFault = cc in
-      let stopped : Steps G bytes number store lines durable before after (Err PutFault) = record {
+      record {
         crash = in_put after broken tracks.sure stands_more kept;
         ends = (
           record { sure = sure.0; shows = subst (λ (held : List ℕ). Shows held durable) (sym sure.1) tracks.shows },
           ap stands sure.1 ∙ stands_more,
           subst (λ (those : Option (List ℕ)). Prints those (G.printed after) (kept_line (next number)) broken) calls.quiet.same kept.printed,
         );
-      } in
-      subst (λ (how : Followed). Steps G bytes number store lines durable before after (Err how)) (sym put_is) stopped
+      }
+  step_kept durable after line (Err _) tracks more is only puts = absurd (cc only)
 
 -- what a commit may leave, by the record that is begun
 pub either_begun : {W : Type 0} (G : Ghosts W) (store now : KeptStore) (begun : List RecordLine) (held : List ℕ) (before mid : W) → now ≡ with_begun store begun → Leaves G (IsEither (begun_of now.bank) held) before mid → Leaves G (IsEither begun held) before mid

@@ -1,5 +1,8 @@
 -- What may stand behind lines that were read, a line at a time.
 use Rattle.standby.proofs.Common.{◌≡◌, ◌≢◌, ◌⊎◌, inl, inr, ℕ, zero, suc, ◌+◌, ◌^◌, ◌<◌, ◌≤◌, List, [], ◌∷◌, ◌++◌, length, codes, decimal, refl, sym, ◌∙◌, ap, subst, append_assoc, append-nil, arith, All, AllByRecursion, All-from_recursion, recursion_from_All, encode_lower, AreWhole, feeds, GoesOn, IsFirstBad, IsRead, Tail, AreLines, Content, ShipLine, end_line, head_line, later, line_line, lines_text, next, record_line, record_text, records_text, text_of, same_number}
+use Rattle.std.proofs.Math.ListN.{replicate}
+use Rattle.std.proofs.lemmas.List.{length-replicate}
+use Rattle.std.proofs.lemmas.List.Elements.{All-replicate}
 use Rattle.standby.proofs.PartLemmas.{IsLine, end_is_line, end_parts, feeds_append, head_is_line, head_parts, line_is_line, line_parts, one_feed, record_is_line, record_parts, same_hex}
 
 -- lines that ascend below a bound are no more than lie between
@@ -65,25 +68,14 @@ first_of bytes bound number (suc owed) least text small tail =
     first_some bytes bound number owed least text (records_text number tail.records ++ end_line (later number (length tail.records))) tail.lines tail.many tail.are tail.text_is
 
 -- lines that may stand there
-abbrev zeros : ℕ → List ℕ
-zeros zero = []
-zeros (suc count) = 0 ∷ zeros count
-
-zeros_small : (count : ℕ) → AllByRecursion (λ byte. byte < 256) (zeros count)
-zeros_small zero = tt
-zeros_small (suc count) = (omega arith, zeros_small count)
-
-zeros_length : (count : ℕ) → length (zeros count) ≡ count
-zeros_length zero = refl
-zeros_length (suc count) = ap suc (zeros_length count)
 
 some_lines : (bytes bound owed least : ℕ) → least + owed ≤ bound → (lines : List ShipLine) × (length lines ≡ owed) × AreLines bytes bound least lines
 some_lines bytes bound zero least le = ([], refl, tt)
 some_lines bytes bound (suc owed) least le =
     let rest = some_lines bytes bound owed (least + 1) (omega (arith, le)) in (
-      record { line = least; bytes = zeros bytes } ∷ rest.0,
+      record { line = least; bytes = replicate bytes 0 } ∷ rest.0,
       ap suc rest.1,
-      (omega arith, omega (arith, le), zeros_length bytes, All-from_recursion (λ byte. byte < 256) (zeros bytes) (zeros_small bytes), rest.2),
+      (omega arith, omega (arith, le), length-replicate bytes 0, All-replicate (λ byte. byte < 256) bytes 0 (omega arith), rest.2),
     )
 
 some_tail : (bytes bound number owed least : ℕ) → least + owed ≤ bound → (text : List ℕ) × Tail bytes bound number owed least text
@@ -163,8 +155,7 @@ drop_same (c ∷ word) a b is = let less : word ++ a ≡ word ++ b = cc in drop_
 pub same_record : (n count other : ℕ) (x y : List ℕ) → n < 2 ^ 64 → count < 2 ^ 64 → other < 2 ^ 64 → record_line n count ++ x ≡ record_line n other ++ y → (count ≡ other) × (x ≡ y)
 same_record n count other x y small one two is =
     let all = drop_same (codes "record ") (decimal n ++ 32 ∷ (decimal count ++ 10 ∷ x)) (decimal n ++ 32 ∷ (decimal other ++ 10 ∷ y)) (sym (record_parts n count x) ∙ is ∙ record_parts n other y) in
-    let behind = same_number 32 n n (decimal count ++ 10 ∷ x) (decimal other ++ 10 ∷ y) (omega arith) small small all in
-    same_number 10 count other x y (omega arith) one two behind.1
+    same_number 10 count other x y (omega arith) one two (same_number 32 n n (decimal count ++ 10 ∷ x) (decimal other ++ 10 ∷ y) (omega arith) small small all).1
 
 pub same_line : (k other : ℕ) (held those x y : List ℕ) → k < 2 ^ 64 → other < 2 ^ 64 → All (λ byte. byte < 256) held → All (λ byte. byte < 256) those → line_line k held ++ x ≡ line_line other those ++ y → (k ≡ other) × (held ≡ those) × (x ≡ y)
 same_line k other held those x y one two all each is =
@@ -190,11 +181,7 @@ module _ (bytes bound : ℕ) (few : bound < 2 ^ 32) where
     many = refl;
     are = tt;
     each = (tail.are, tail.each);
-    text_is =
-        ap (λ (these : List ℕ). record_line (next number) count ++ these) tail.text_is
-        ∙ ap (λ (n : ℕ). record_line (next number) n ++ (lines_text tail.lines ++ (records_text (next number) tail.records ++ end_line (later (next number) (length tail.records))))) (sym tail.many)
-        ∙ sym (records_are number tail.lines tail.records (end_line (later (next number) (length tail.records))))
-        ∙ ap (λ (n : ℕ). records_text number (tail.lines ∷ tail.records) ++ end_line n) (sym (on_is number (length tail.records)));
+    text_is = cc (tail.text_is, tail.many, records_are number tail.lines tail.records (end_line (later (next number) (length tail.records))), on_is number (length tail.records));
   }
 
   count_in_by : (number count least : ℕ) (behind : List ℕ) (lines : List ShipLine) (records : List (List ShipLine)) → count ≤ bound → length lines ≡ 0 → AllByRecursion (λ these. AreLines bytes bound 0 these) records
@@ -224,16 +211,7 @@ module _ (bytes bound : ℕ) (few : bound < 2 ^ 32) where
   line_in_by : (number owed least k : ℕ) (held behind rest : List ℕ) (lines : List ShipLine) (records : List (List ShipLine)) → k < bound → All (λ byte. byte < 256) held → length lines ≡ suc owed → AreLines bytes bound least lines → AllByRecursion (λ these. AreLines bytes bound 0 these) records
       → rest ≡ records_text number records ++ end_line (later number (length records)) → line_line k held ++ behind ≡ lines_text lines ++ rest → Tail bytes bound number owed (k + 1) behind
   line_in_by number owed least k held behind rest [] records lt all many are each last is = absurd (omega (arith, many))
-  line_in_by number owed least k held behind rest (one ∷ lines) records lt all many are each last is =
-      let same = same_line k one.line held one.bytes behind (lines_text lines ++ rest) (omega (arith, lt, few)) (omega (arith, are.1, few)) all are.3 (is ∙ append_assoc (line_line one.line one.bytes) (lines_text lines) rest) in
-      record {
-        lines = lines;
-        records = records;
-        many = omega (arith, many);
-        are = subst (λ (n : ℕ). AreLines bytes bound (n + 1) lines) (sym same.0) are.4;
-        each = each;
-        text_is = same.2 ∙ ap (λ (these : List ℕ). lines_text lines ++ these) last;
-      }
+  line_in_by number owed least k held behind rest (one ∷ lines) records lt all many are each last is = grind (arith, same_line k one.line held one.bytes behind (lines_text lines ++ rest) (omega (arith, lt, few)) (omega (arith, are.1, few)) all are.3 (is ∙ append_assoc (line_line one.line one.bytes) (lines_text lines) rest), are.4)
 
   line_in : (number owed least k : ℕ) (held behind : List ℕ) → k < bound → All (λ byte. byte < 256) held → Tail bytes bound number (suc owed) least (line_line k held ++ behind) → Tail bytes bound number owed (k + 1) behind
   line_in number owed least k held behind lt all tail = line_in_by number owed least k held behind (records_text number tail.records ++ end_line (later number (length tail.records))) tail.lines tail.records lt all tail.many tail.are tail.each refl tail.text_is
@@ -243,23 +221,10 @@ module _ (bytes bound : ℕ) (few : bound < 2 ^ 32) where
   read_count front read number least count le is =
       let line = record_line (next number) count in
       let is_line = record_is_line (next number) count (omega arith) (omega (arith, le, few)) in
-      record {
-        whole = whole_more front line is_line;
-        lines = feeds_more front line read is.lines is_line;
-        goes = λ behind tail. further front line behind (is.goes (line ++ behind) (count_out number count least behind tail));
-        came = λ behind goes. count_in number count least behind le (is.came (line ++ behind) (nearer front line behind goes));
-      }
+      grind (arith, whole_more front line is_line, feeds_more front line read is.lines is_line, is.goes, is.came, further front line, nearer front line, count_out number count least, count_in number count least)
 
   pub read_one : (front : List ℕ) (read number owed least k : ℕ) (held : List ℕ) → least ≤ k → k < bound → length held ≡ bytes → All (λ byte. byte < 256) held → IsRead bytes bound front read number (suc owed) least → IsRead bytes bound (front ++ line_line k held) (read + 1) number owed (k + 1)
-  read_one front read number owed least k held le lt sized all is =
-      let line = line_line k held in
-      let is_line = line_is_line k held (omega (arith, lt, few)) all in
-      record {
-        whole = whole_more front line is_line;
-        lines = feeds_more front line read is.lines is_line;
-        goes = λ behind tail. further front line behind (is.goes (line ++ behind) (line_out number owed least k held behind le lt sized all tail));
-        came = λ behind goes. line_in number owed least k held behind lt all (is.came (line ++ behind) (nearer front line behind goes));
-      }
+  read_one front read number owed least k held le lt sized all is = grind (arith, whole_more front (line_line k held) (line_is_line k held (omega (arith, lt, few)) all), feeds_more front (line_line k held) read is.lines (line_is_line k held (omega (arith, lt, few)) all), is.goes, is.came, further front (line_line k held), nearer front (line_line k held), line_out number owed least k held, line_in number owed least k held)
 
   -- nothing stands behind the last line
   end_in_by : (number : ℕ) (behind : List ℕ) (lines : List ShipLine) (records : List (List ShipLine)) → number < 2 ^ 64 → length lines ≡ 0
@@ -269,9 +234,7 @@ module _ (bytes bound : ℕ) (few : bound < 2 ^ 32) where
       let all = drop_same (codes "end ") (decimal number ++ 10 ∷ behind) (decimal (later number 0) ++ 10 ∷ []) (sym (end_parts number behind) ∙ is ∙ sym (append-nil (end_line (later number 0))) ∙ end_parts (later number 0) []) in
       (same_number 10 number (later number 0) behind [] (omega arith) small (omega arith) all).1
   end_in_by number behind [] (first ∷ records) small many is =
-      let last = end_line (later number (suc (length records))) in
-      let rest = lines_text first ++ (records_text (next number) records ++ last) in
-      absurd (first_is (end_line number ++ behind) (codes "end " ++ (decimal number ++ 10 ∷ behind)) (codes "record " ++ (decimal (next number) ++ 32 ∷ (decimal (length first) ++ 10 ∷ rest))) (end_parts number behind) (is ∙ records_are number first records last ∙ record_parts (next number) (length first) rest) (omega arith))
+      absurd (first_is (end_line number ++ behind) _ _ (end_parts number behind) (is ∙ records_are number first records (end_line (later number (suc (length records)))) ∙ record_parts (next number) (length first) _) (omega arith))
 
   end_tail : (number least : ℕ) → number < 2 ^ 64 → Tail bytes bound number 0 least (end_line number ++ [])
   end_tail number least small = record { lines = []; records = []; many = refl; are = tt; each = tt; text_is = append-nil (end_line number) ∙ ap end_line (sym (last_is number small)) }
@@ -290,8 +253,7 @@ module _ (bytes bound : ℕ) (few : bound < 2 ^ 32) where
         before = further front (end_line number) [] (is.goes (end_line number ++ []) (end_tail number least small));
         bad = λ first rest others at goes.
             let tail = is.came (end_line number ++ (first ++ 10 ∷ others)) (nearer front (end_line number) (first ++ 10 ∷ others) goes) in
-            let none = end_in_by number (first ++ 10 ∷ others) tail.lines tail.records small tail.many tail.text_is in
-            some_bytes first others none;
+            some_bytes first others (end_in_by number (first ++ 10 ∷ others) tail.lines tail.records small tail.many tail.text_is);
         none = λ content ranges same.
             let tail = is.came (end_line number ++ behind) (record { content = content; is_content = ranges; text_is = sym same ∙ text_is }) in
             some (end_in_by number behind tail.lines tail.records small tail.many tail.text_is);

@@ -1,5 +1,6 @@
 -- The lines that tell of records, and what a crash leaves of them.
-use Rattle.standby.proofs.Common.{◌≡◌, inl, inr, ⊎_elim, ℕ, zero, suc, ◌+◌, ◌-◌, ◌<◌, ◌≤◌, List, [], ◌∷◌, ◌++◌, length, take, get_or, min, refl, sym, ◌∙◌, ap, arith, append_assoc, append-nil, length-append, IfSome_then, cases_lt, take_more, take-append-le, take_min, fold-append, FlatStore, Stands, stands, Prints, kept_text, followed_text, IsAtNumber, well, SeesPart, laid, laid_by, IsStep, over, ShipLine, next, later, end_line, kept_line, fold, codes, decimal, Option, IfSome}
+use Rattle.standby.proofs.Common.{◌≡◌, inl, inr, ℕ, zero, suc, ◌+◌, ◌-◌, ◌<◌, ◌≤◌, List, [], ◌∷◌, ◌++◌, length, take, get_or, min, sym, ◌∙◌, ap, arith, append_assoc, append-nil, length-append, IfSome_then, take_more, take-append-le, take_min, fold-append, FlatStore, Stands, stands, Prints, kept_text, followed_text, IsAtNumber, well, SeesPart, laid, laid_by, IsStep, over, ShipLine, next, later, end_line, kept_line, codes, decimal, Option, IfSome}
+use Rattle.std.proofs.lemmas.List.{take_all}
 use Rattle.std.proofs.Math.Seq.{take-append-add, take-append_seam}
 use Rattle.standby.proofs.PutLemmas.{on_printed}
 
@@ -9,32 +10,22 @@ line_some number = omega (arith, length-append (codes "kept ") (decimal number +
 
 -- more lines are longer
 kept_longer : (number i more : ℕ) → length (kept_text number i) + more ≤ length (kept_text number (i + more))
-kept_longer number i zero =
-    let same : i ≡ i + 0 = omega arith in
-    let long = ap (λ (n : ℕ). length (kept_text number n)) same in
-    omega (arith, long)
+kept_longer number i zero = grind arith
 kept_longer number i (suc more) =
     let same : suc (i + more) ≡ i + suc more = omega arith in
-    let long = ap (λ (n : ℕ). length (kept_text number n)) same in
-    omega (arith, long, kept_longer number i more, length-append (kept_text number (i + more)) (kept_line (later number (suc (i + more)))), line_some (later number (suc (i + more))))
+    grind (arith, same, kept_longer number i more, length-append (kept_text number (i + more)) (kept_line (later number (suc (i + more)))), line_some (later number (suc (i + more))))
 
 kept_grows : (number i j : ℕ) → i ≤ j → length (kept_text number i) + (j - i) ≤ length (kept_text number j)
-kept_grows number i j le =
-    let far : i + (j - i) ≡ j = omega (arith, le) in
-    omega (arith, kept_longer number i (j - i), ap (λ (n : ℕ). length (kept_text number n)) far)
+kept_grows number i j le = grind (arith, kept_longer number i (j - i))
 
 -- so a text of at most these lines tells of no more
 pub kept_few : (number i j count : ℕ) → count ≤ length (kept_text number j) → length (kept_text number i) ≤ count → i ≤ j
-kept_few number i j count few many = ⊎_elim
-    (λ (past : j < i). absurd (omega (arith, kept_grows number j i (omega (arith, past)), few, many, past)))
-    (λ (within : i ≤ j). within)
-    (cases_lt j i)
+kept_few number i j count few many = grind (arith, kept_grows number j i)
 
 -- the lines of the first records are in front of all that is told
 pub kept_front : (number i more : ℕ) → (rest : List ℕ) × (kept_text number (i + more) ≡ kept_text number i ++ rest)
 kept_front number i zero =
-    let same : i + 0 ≡ i = omega arith in
-    ([], ap (kept_text number) same ∙ sym (append-nil (kept_text number i)))
+    let same : i + 0 ≡ i = omega arith in ([], cc (same, append-nil (kept_text number i)))
 kept_front number i (suc more) =
     let same : i + suc more ≡ suc (i + more) = omega arith in
     let before = kept_front number i more in
@@ -43,16 +34,12 @@ kept_front number i (suc more) =
 
 pub told_front : (number i all : ℕ) → i ≤ all → (rest : List ℕ) × (followed_text number all ≡ kept_text number i ++ rest)
 told_front number i all le =
-    let far : i + (all - i) ≡ all = omega (arith, le) in
     let front = kept_front number i (all - i) in
-    let end = end_line (later number all) in
-    (front.0 ++ end, ap (λ (n : ℕ). kept_text number n ++ end) (sym far) ∙ ap (λ (these : List ℕ). these ++ end) front.1 ∙ append_assoc (kept_text number i) front.0 end)
+    (front.0 ++ end_line (later number all), grind (arith, front.1, append_assoc (kept_text number i) front.0 (end_line (later number all))))
 
 -- a first part of all, up to the lines of the first records
 pub told_whole : (number i all : ℕ) → i ≤ all → take (length (kept_text number i)) (followed_text number all) ≡ kept_text number i
-told_whole number i all le =
-    let front = told_front number i all le in
-    ap (take (length (kept_text number i))) front.1 ∙ take-append_seam (kept_text number i) front.0
+told_whole number i all le = let front = told_front number i all le in cc (front.1, take-append_seam (kept_text number i) front.0)
 
 cut_more : (count : ℕ) (one two : List ℕ) → take (min count (length one)) (one ++ two) ≡ take count one
 cut_more count one two = take-append-le (min count (length one)) one two (omega arith) ∙ take_min count one
@@ -62,8 +49,7 @@ pub told_into : (number i all count : ℕ) → i < all → take (length (kept_te
 told_into number i all count lt =
     let line = kept_line (later number (suc i)) in
     let front = told_front number (suc i) all (omega (arith, lt)) in
-    let whole : followed_text number all ≡ kept_text number i ++ (line ++ front.0) = front.1 ∙ append_assoc (kept_text number i) line front.0 in
-    cc (whole, take-append-add (kept_text number i) (line ++ front.0) (min count (length line)), cut_more count line front.0)
+    cc (front.1, append_assoc (kept_text number i) line front.0, take-append-add (kept_text number i) (line ++ front.0) (min count (length line)), cut_more count line front.0)
 
 -- one number more
 pub later_more : (number i : ℕ) → next (later number i) ≡ later number (i + 1)
@@ -71,14 +57,11 @@ later_more number i = omega arith
 
 -- one record more
 laid_more : (bytes : ℕ) (store : FlatStore) (records : List (List ShipLine)) (i : ℕ) → i < length records → over bytes (laid_by bytes store (take i records)) (get_or records i []) ≡ laid_by bytes store (take (i + 1) records)
-laid_more bytes store records i lt =
-    ap (λ (these : List ℕ). let it : FlatStore = record { directory = store.directory; bytes = these } in it)
-    (sym (fold-append (laid bytes) store.bytes (take i records) (get_or records i [] ∷ [])) ∙ ap (fold (laid bytes) store.bytes) (sym (take_more records i [] lt)))
+laid_more bytes store records i lt = cc (fold-append (laid bytes) store.bytes (take i records) (get_or records i [] ∷ []), take_more records i [] lt)
 
 pub stood_more : (bytes number : ℕ) (store : FlatStore) (records : List (List ShipLine)) (i : ℕ) (image : List ℕ) → i < length records
     → stands image ≡ Stands (next (later number i)) (over bytes (laid_by bytes store (take i records)) (get_or records i [])) → stands image ≡ Stands (later number (i + 1)) (laid_by bytes store (take (i + 1) records))
-stood_more bytes number store records i image lt more =
-    more ∙ ap (λ (n : ℕ). Stands n (over bytes (laid_by bytes store (take i records)) (get_or records i []))) (later_more number i) ∙ ap (Stands (later number (i + 1))) (laid_more bytes store records i lt)
+stood_more bytes number store records i image lt more = cc (later_more number i, laid_more bytes store records i lt)
 
 module _ (bytes number : ℕ) (store : FlatStore) (records : List (List ShipLine)) (printed : Option (List ℕ)) where
   -- what stands after so many records, with their lines
@@ -130,7 +113,7 @@ module _ (bytes number : ℕ) (store : FlatStore) (records : List (List ShipLine
       record {
         j = all;
         few = omega arith;
-        stood = stood ∙ ap (λ (these : List (List ShipLine)). Stands (later number all) (laid_by bytes store these)) (sym (take_whole records));
+        stood = stood ∙ ap (λ (these : List (List ShipLine)). Stands (later number all) (laid_by bytes store these)) (sym (take_all all records (omega arith)));
         told = IfSome_then printed (on_printed printed mid (kept_text number all) tt (λ (shown : List ℕ). (count : ℕ) × (seen ≡ shown ++ take count (end_line (later number all)))) prints sees) (λ shown part. record {
           count = length (kept_text number all) + part.0;
           seen_is =
@@ -141,7 +124,3 @@ module _ (bytes number : ℕ) (store : FlatStore) (records : List (List ShipLine
           no_fewer = λ k few. omega (arith, kept_grows number k all (omega (arith, few)));
         });
       }
-    where
-      take_whole : (these : List (List ShipLine)) → take (length these) these ≡ these
-      take_whole [] = refl
-      take_whole (one ∷ these) = ap (λ (rest : List (List ShipLine)). one ∷ rest) (take_whole these)

@@ -3,14 +3,11 @@ use Rattle.standby.proofs.following.begin.Goals as goal
 
 -- a line of the record is one of the store
 line_fits : (size bound : ℕ) (items bytes : List ℕ) (i : ℕ) → AreLines size bound 0 (parted size items bytes) → i < length items → get_or items i 0 < bound
-line_fits size bound items bytes i are lt =
-    omega (arith, line_below size bound 0 (parted size items bytes) i are (omega (arith, lt, length-parted size items bytes)), ap (λ (one : ShipLine). one.line) (get_or-parted size items bytes i lt))
+line_fits size bound items bytes i are lt = grind (arith, line_below size bound 0 (parted size items bytes) i are (omega (arith, lt, length-parted size items bytes)), get_or-parted size items bytes i lt)
 
 -- the lines that are begun are below it
 all_below : (size bound : ℕ) (items bytes : List ℕ) (begun : List RecordLine) (i : ℕ) → AreLines size bound 0 (parted size items bytes) → i < length items → told begun ≡ take i (parted size items bytes) → All (λ one. one.line < get_or items i 0) begun
-all_below size bound items bytes begun i are lt is =
-    subst (λ (n : ℕ). All (λ (one : RecordLine). one.line < n) begun) (ap (λ (one : ShipLine). one.line) (get_or-parted size items bytes i lt))
-    (before_next size bound 0 (parted size items bytes) begun i are (omega (arith, lt, length-parted size items bytes)) is)
+all_below size bound items bytes begun i are lt is = grind (arith, get_or-parted size items bytes i lt, before_next size bound 0 (parted size items bytes) begun i are (omega (arith, lt, length-parted size items bytes)) is)
 
 length-told : (begun : List RecordLine) → length (told begun) ≡ length begun
 length-told [] = refl

@@ -1,4 +1,5 @@
-use Rattle.standby.proofs.Lemmas.{◌≡◌, ⊎_elim, ◌∙◌, ap, subst, Err, line_bytes, FlatStore, Stands, stands, Leaves, held_of, IsEither, KeptBank, KeptStore, number_of, TracksStore, Steps, put_of, kept_line, next, record_of, DiskFault, with_record, goes_on, goes_puts, goes_writes, either_begun, more_begun, on_ok, sized, step_kept, step_unkept, tracks_begun}
+use Rattle.std.proofs.Common.{arith}
+use Rattle.standby.proofs.Lemmas.{◌≡◌, ◌∙◌, ap, subst, Err, line_bytes, FlatStore, Stands, stands, Leaves, held_of, IsEither, KeptBank, KeptStore, number_of, TracksStore, Steps, put_of, kept_line, next, record_of, DiskFault, with_record, goes_on, goes_puts, goes_writes, either_begun, more_begun, on_ok, sized, step_kept, step_unkept, tracks_begun}
 use Rattle.redo_journal.specs.Appended.{CountsKept}
 use Rattle.redo_journal.specs.declared.keep.Kept.{Kept}
 use Rattle.redo_journal.specs.declared.keep.Kept.TheVariants.{Unwritten, Doubt}
@@ -29,16 +30,7 @@ counted g c kept is = subst (CountsKept g.W.Outside c.args.outside.now c.commit.
 pub returns-in-Unwritten : goal.returns-in-Unwritten
 returns-in-Unwritten g c =
     let at = (goal.at.returns-in-Unwritten g c).After-commit in
-    record {
-      only = goes_writes g.W.Outside c.args.outside.now c.commit.new.outside c.commit.ensures.only;
-      ends = (⊎_elim (counted g at Unwritten) (counted g at Doubt) c.in-Unwritten.is, c.commit.ensures.only.calls.put);
-      stopped = tt;
-      header = c.commit.ensures.header ∙ ap (λ (store : KeptStore). store.header) c.begin.ensures.now_is;
-      usable = tt;
-      number = tt;
-      kept = tt;
-      steps = unkept g at;
-    }
+    grind (arith, goes_writes g.W.Outside c.args.outside.now c.commit.new.outside c.commit.ensures.only, counted g at Unwritten, counted g at Doubt, c.in-Unwritten.is, c.commit.ensures.only.calls.put, c.commit.ensures.header, c.begin.ensures.now_is, unkept g at)
 
 pub commit-requires-clause-usable : goal.commit-requires-clause-usable
 commit-requires-clause-usable g c = ap (λ (store : KeptStore). store.bank.spoiled) c.begin.ensures.now_is ∙ c.requires.usable

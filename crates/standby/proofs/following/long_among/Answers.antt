@@ -1,4 +1,4 @@
-use Rattle.standby.proofs.Common.{◌≤◌, ℕ, List, length, subst, refl, arith, All, slice_get_read, take_all, All-more, ShipRecord}
+use Rattle.standby.proofs.Common.{◌≤◌, ℕ, length, subst, refl, arith, slice_get_read, take_all, All-more, ShipRecord}
 use Rattle.standby.proofs.following.long_among.Goals as goal
 
 abbrev IsShort : ℕ → ShipRecord → Type 0
@@ -18,5 +18,4 @@ loop-place-preserved c = record {
 }
 
 pub returns-clause-none : goal.returns-clause-none
-returns-clause-none c =
-    subst (λ (records : List ShipRecord). All (IsShort c.args.most) records) (take_all c.loop-place.place c.args.records.now c.loop-place-test.false) c.loop-place.invariant.short
+returns-clause-none c = grind (arith, take_all c.loop-place.place c.args.records.now c.loop-place-test.false, c.loop-place.invariant.short)

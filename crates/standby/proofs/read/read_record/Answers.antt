@@ -39,26 +39,14 @@ loop-index-preserved c =
     }
 
 pub returns-clause-done : goal.returns-clause-done
-returns-clause-done c =
-    let was = c.loop-index.invariant in
-    let end : c.loop-index.index ≡ c.args.count = omega (arith, c.loop-index-test.false, c.loop-index.auto.index-end) in
-    record {
-      packed = was.packed;
-      many = was.many ∙ end;
-      are = wider c.args.line_bytes c.loop-index.least c.args.lines 0 (record_of c.args.line_bytes c.loop-index.record) was.are (omega (arith, was.room));
-      text_is = was.text;
-      shorter = omega (arith, was.shorter, end);
-    }
+returns-clause-done c = grind (arith, c.loop-index-test.false, c.loop-index.auto.index-end, c.loop-index.invariant.packed, c.loop-index.invariant.many, wider c.args.line_bytes c.loop-index.least c.args.lines 0 (record_of c.args.line_bytes c.loop-index.record) c.loop-index.invariant.are (omega (arith, c.loop-index.invariant.room)), c.loop-index.invariant.text, c.loop-index.invariant.shorter)
 
 pub returns-clause-goes : goal.returns-clause-goes
 returns-clause-goes c = λ front number is.
     let end : c.loop-index.index ≡ c.args.count = omega (arith, c.loop-index-test.false, c.loop-index.auto.index-end) in
     let left : c.args.count - c.loop-index.index ≡ 0 = omega (arith, end) in
-    let was = c.loop-index.invariant.goes front number is in
-    let text = front ++ lines_text (record_of c.args.line_bytes c.loop-index.record) in
-    let none = subst (λ (n : ℕ). IsRead c.args.line_bytes c.args.lines text (c.args.read + c.loop-index.index) number n c.loop-index.least) left was in
-    let placed = subst (λ (n : ℕ). IsRead c.args.line_bytes c.args.lines text (c.args.read + n) number 0 c.loop-index.least) end none in
-    at_none c.args.line_bytes c.args.lines text (c.args.read + c.args.count) number c.loop-index.least placed
+    let placed = rw (left, end) at (c.loop-index.invariant.goes front number is) in
+    at_none c.args.line_bytes c.args.lines (front ++ lines_text (record_of c.args.line_bytes c.loop-index.record)) (c.args.read + c.args.count) number c.loop-index.least placed
 
 pub loop-index-init : goal.loop-index-init
 loop-index-init c = grind (arith, common_steps)

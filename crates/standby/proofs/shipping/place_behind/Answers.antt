@@ -1,4 +1,4 @@
-use Rattle.standby.proofs.Lemmas.{◌≡◌, ⊎_elim, ℕ, ◌+◌, ◌<◌, List, [], get_or, length, take, refl, sym, ◌∙◌, ap, arith, RecordLine, held_of, asks_none, asks_on, area_bytes, area_more, next_is, record_there, still_shown}
+use Rattle.standby.proofs.Lemmas.{⊎_elim, ◌+◌, ◌<◌, List, [], get_or, length, take, refl, sym, ◌∙◌, ap, arith, RecordLine, held_of, asks_none, asks_on, area_bytes, area_more, next_is, record_there, still_shown}
 use Rattle.standby.proofs.shipping.place_behind.Goals as goal
 
 pub loop-index-init : goal.loop-index-init
@@ -23,6 +23,4 @@ loop-index-preserved g c = record {
 }
 
 pub returns-clause-place : goal.returns-clause-place
-returns-clause-place g c shown =
-    let all : c.loop-index._index ≡ c.args.passed = omega (arith, c.loop-index-test.false, c.loop-index.auto._index-end) in
-    c.loop-index.invariant.place shown ∙ ap (λ (n : ℕ). area_bytes c.args.durable.now.bank.page (take n shown.shows.read.records)) all
+returns-clause-place g c shown = grind (arith, c.loop-index-test.false, c.loop-index.auto._index-end, c.loop-index.invariant.place shown)

@@ -1,4 +1,4 @@
-use Rattle.standby.proofs.Lemmas.{◌≡◌, ℕ, ◌+◌, ◌<◌, List, [], ◌++◌, length, take, drop, get_or, refl, sym, subst, ◌∙◌, ap, arith, append-nil, All, Ok, Option, Some, slice_get, unwrap_or, length-map, take_all, slice_get-get_or, line_bytes, RecordLine, Prints, PrintsBy, Ghosts, feeds, held_of, prints_on, prints_same, prints_stop, Record, IsRecordAt, KeptStore, IsShown, broken, HasBytes, ShipLine, line_line, lines_text, record_line, told, shows_on, one_feed, record_is_line, by_put, prints_by, shows_line, still_shown}
+use Rattle.standby.proofs.Lemmas.{◌≡◌, ℕ, ◌+◌, ◌<◌, List, [], ◌++◌, length, take, drop, get_or, refl, sym, subst, ◌∙◌, ap, arith, append-nil, Ok, Option, Some, slice_get, unwrap_or, length-map, take_all, slice_get-get_or, line_bytes, RecordLine, Prints, PrintsBy, Ghosts, feeds, held_of, prints_on, prints_same, prints_stop, Record, IsRecordAt, KeptStore, IsShown, broken, HasBytes, ShipLine, line_line, lines_text, record_line, told, shows_on, one_feed, record_is_line, by_put, prints_by, shows_line, still_shown}
 use Rattle.standby.proofs.ShipLemmas.{all_more, text_more, text_rest, there_still}
 use Rattle.standby.proofs.shipping.put_record.Goals as goal
 
@@ -80,9 +80,7 @@ loop-index-preserved g c =
     }
 
 pub returns-clause-bytes : goal.returns-clause-bytes
-returns-clause-bytes g c shown at many =
-    subst (λ (these : List RecordLine). All (HasBytes (line_bytes c.args.durable.now.header.directory.page)) these)
-    (take_all c.loop-index.index at.lines (omega (arith, many, c.loop-index-test.false))) (c.loop-index.invariant.bytes shown at many)
+returns-clause-bytes g c shown at many = grind (arith, take_all c.loop-index.index at.lines (omega (arith, many, c.loop-index-test.false)), c.loop-index.invariant.bytes shown at many)
 
 pub returns-clause-prints : goal.returns-clause-prints
 returns-clause-prints g c shown at many =

@@ -28,9 +28,7 @@ lines_at records passed index le = grind (arith, nat_tests, get_or-drop)
 
 -- the text of the records so far is a first part of that of all
 part_of : (number : ℕ) (records : List (List RecordLine)) (i : ℕ) → (rest : List ℕ) × (records_text number (take i (map told records)) ++ rest ≡ records_text number (map told records))
-part_of number records i =
-    let split = records_split number (take i (map told records)) (drop i (map told records)) in
-    (split.0, sym split.1 ∙ ap (records_text number) (take-append-drop i (map told records)))
+part_of number records i = grind (arith, records_split number (take i (map told records)) (drop i (map told records)), take-append-drop i (map told records))
 
 pub returns-in-Err-clause-prints : goal.returns-in-Err-clause-prints
 returns-in-Err-clause-prints g c shown is =
@@ -134,11 +132,7 @@ loop-index-preserved g c =
     }
 
 pub returns-clause-bytes : goal.returns-clause-bytes
-returns-clause-bytes g c shown is =
-    let behind = drop c.args.passed shown.shows.read.records in
-    subst (λ (these : List (List RecordLine)). All (λ lines. All (HasBytes (line_bytes c.args.durable.now.header.directory.page)) lines) these)
-    (take_all (c.loop-index.index - c.args.passed) behind (omega (arith, shown.shows.read.count, c.loop-index-test.false, c.records-index-end.ensures, length-drop c.args.passed shown.shows.read.records)))
-    (c.loop-index.invariant.bytes shown is)
+returns-clause-bytes g c shown is = grind (arith, take_all (c.loop-index.index - c.args.passed) (drop c.args.passed shown.shows.read.records) (omega (arith, shown.shows.read.count, c.loop-index-test.false, c.records-index-end.ensures, length-drop c.args.passed shown.shows.read.records)), c.loop-index.invariant.bytes shown is)
 
 pub returns-clause-prints : goal.returns-clause-prints
 returns-clause-prints g c shown is =

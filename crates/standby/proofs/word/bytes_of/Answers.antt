@@ -1,4 +1,5 @@
-use Rattle.standby.proofs.Lemmas.{All, MatchOption, decode_of, encode_lower, subst, ◌≡◌, ◌≢◌, ◌<◌, List, ℕ, None, sym, ap, ◌∙◌, inl, inr, decodes}
+use Rattle.std.proofs.Common.{arith}
+use Rattle.standby.proofs.Lemmas.{All, MatchOption, decode_of, encode_lower, ◌≡◌, ◌≢◌, ◌<◌, List, ℕ, None, sym, ap, ◌∙◌, inl, inr, decodes}
 use Rattle.std.proofs.lemmas.Result.{IfOk-weaker}
 use Rattle.hex.specs.declared.error.FromHexError.TheVariants.{OutOfMemory}
 use Rattle.standby.proofs.word.bytes_of.Goals as goal
@@ -12,10 +13,7 @@ returns-else-branch c = λ held all is.
     no_one
 
 pub returns-then-branch : goal.returns-then-branch
-returns-then-branch c = (
-  c.in_ok-is_written-in-Ok.ensures.written.0 c.if-branch.true ∙ ap encode_lower c.as_slice.ensures.value,
-  subst (λ (bytes : List ℕ). All (λ byte. byte < 256) bytes) c.as_slice.ensures.value c.is_written.ensures.small,
-)
+returns-then-branch c = grind (arith, c.in_ok-is_written-in-Ok.ensures.written.0 c.if-branch.true, c.as_slice.ensures.value, c.is_written.ensures.small)
 
 pub returns-in-Err : goal.returns-in-Err
 returns-in-Err c = IfOk-weaker c.no_bytes.result
