@@ -1,5 +1,5 @@
 -- The desk that asks where it is refused does what the desk does.
-use Rattle.desk_law.proofs.Common.{◌≡◌, refl, ℕ, zero, suc, ◌+◌, ◌==◌, not, if◌then◌else◌, Bool, true, false, List, [], ◌∷◌, ◌++◌, length, map, find, Option, Some, None, option_map_or, arith, ap, sym, ◌∙◌, subst, eqb-true, and_parts, Plain, Outcome, Check, after, Program, Event, Begin, Turn, Checkpoint, Crash, Desk, Entry, opened, Word, Counts, Turning, Going, Over, Idle, Fetching, Fetched, Broken, no_counts, attempts, attempts_at, limited, is_over_limit, fetched_first, fetches_touched, asks, refused_pages, conflicts_of, instruction, turns, turn_of, step, IsAmong, IsConsistent, IsOrderly, Memory, after_event, after_turns, after_instruction, memory_of, IsMemory, FindTheirOwn, nat_tests, Turned, Committed, Machine, next_attempt, begun, IsSerial, counts_refused, happening_lines, number_after, Step, asks_for, asks_refused, comes_to_ask, attempts_by, own_event, turned_with, event_by, step_by, before, run_by, InstructionsAskAlike, IsRunOfDesk, RunsAskAlike, RunsStayConsistentBy, RunsAreIsolatedBy, SideBySideIsSerialBy, CommitsTellTheMachineBy}
+use Rattle.desk_law.proofs.Common.{◌≡◌, refl, ℕ, zero, suc, ◌+◌, ◌==◌, not, if◌then◌else◌, Bool, true, false, List, [], ◌∷◌, ◌++◌, length, map, find, Some, option_map_or, arith, ap, sym, ◌∙◌, subst, and_parts, Plain, Outcome, Check, after, Program, Event, Begin, Turn, Checkpoint, Crash, Desk, Entry, opened, Word, Counts, Turning, Going, Over, Fetching, Fetched, Broken, no_counts, attempts, limited, is_over_limit, fetched_first, fetches_touched, asks, refused_pages, conflicts_of, instruction, turns, step, IsAmong, IsConsistent, IsOrderly, Memory, after_event, after_turns, after_instruction, memory_of, IsMemory, FindTheirOwn, nat_tests, Turned, Committed, Machine, next_attempt, begun, IsSerial, counts_refused, happening_lines, number_after, Step, asks_for, asks_refused, comes_to_ask, attempts_by, own_event, event_by, step_by, before, run_by, InstructionsAskAlike, IsRunOfDesk, RunsAskAlike, RunsStayConsistentBy, RunsAreIsolatedBy, SideBySideIsSerialBy, CommitsTellTheMachineBy}
 use Rattle.desk.specs.Lines.{Line}
 unfoldable use Rattle.desk_law.specs.Asking.{instruction_by, turns_by}
 use Rattle.desk_law.proofs.Orderly.{orderly}
@@ -37,12 +37,7 @@ module _ (word : Word) (entry : Entry) (now : Plain) where
 
 pub instructions_alike : InstructionsAskAlike
 unfolding instruction instruction_by
-instructions_alike word desk counts entry is here = by_state (after entry.runs.program entry.runs.args desk.committed entry.rows) refl
-  where
-    by_state : (state : Option Plain) → after entry.runs.program entry.runs.args desk.committed entry.rows ≡ state
-        → option_map_or (λ now. attempts_by asks_refused word (next_attempt desk entry now) desk counts) state (Over desk counts Idle) ≡ attempts_at word entry state desk counts
-    by_state None at = refl
-    by_state (Some now) at = row-alike word entry now desk counts is here at
+instructions_alike word desk counts entry is here = grind (arith, row-alike)
 
 -- a turn under way stands at an orderly desk
 abbrev GoesOrderly : Turning → Type 0
@@ -58,18 +53,10 @@ module _ (word : Word) (number : ℕ) where
       → (instruction_by asks_refused word (find (λ (entry : Entry). entry.number == number) desk.active) desk counts ≡ instruction word (find (λ (entry : Entry). entry.number == number) desk.active) desk counts)
       × GoesOrderly (instruction word (find (λ (entry : Entry). entry.number == number) desk.active) desk counts)
   unfolding instruction instruction_by
-  one-alike desk counts is = by_entry (find (λ (entry : Entry). entry.number == number) desk.active) refl
-    where
-      by_entry : (one : Option Entry) → find (λ (entry : Entry). entry.number == number) desk.active ≡ one
-          → (instruction_by asks_refused word one desk counts ≡ instruction word one desk counts) × GoesOrderly (instruction word one desk counts)
-      by_entry None found = (refl, tt)
-      by_entry (Some entry) found =
-          let (here, passes) = among-found (λ (entry : Entry). entry.number == number) desk.active entry found in (
-            instructions_alike word desk counts entry is here,
-            subst (λ (one : Option Entry). GoesOrderly (instruction word one desk counts)) found
-                (goes-orderly number (length counts.cycles + length desk.active) (instruction word (find (λ (entry : Entry). entry.number == number) desk.active) desk counts)
-                (stays-instruction word number (length counts.cycles + length desk.active) desk counts is (entry, here, eqb-true entry.number number passes) (omega arith))),
-          )
+  one-alike desk counts is =
+      let found = among-found (λ (entry : Entry). entry.number == number) desk.active in
+      let goes = λ (entry : Entry) (here : IsAmong desk.active entry) (same : entry.number ≡ number). goes-orderly number (length counts.cycles + length desk.active) (instruction word (find (λ (entry : Entry). entry.number == number) desk.active) desk counts) (stays-instruction word number (length counts.cycles + length desk.active) desk counts is (entry, here, same) (omega arith)) in
+      grind (arith, nat_tests, found, goes, instructions_alike word desk counts)
 
   turns-alike : (left : ℕ) (turning : Turning) (memory : Memory) → GoesOrderly turning → turns_by asks_refused word number left turning memory ≡ (turns word number left turning, after_turns word number left turning memory)
   unfolding turns turns_by
@@ -86,15 +73,7 @@ module _ (programs : List Program) (word : Word) (desk : Desk) (memory : Memory)
   event-alike (Begin program args) = refl
   event-alike Checkpoint = refl
   event-alike Crash = refl
-  event-alike (Turn activation limit) = by_entry (find (λ (entry : Entry). entry.number == activation) desk.active) refl
-    where
-      by_entry : (one : Option Entry) → find (λ (entry : Entry). entry.number == activation) desk.active ≡ one
-          → option_map_or (λ (entry : Entry). turned_with activation (turns_by asks_refused word activation limit (Going desk no_counts) memory)) one (own_event programs (Turn activation limit) word desk memory)
-          ≡ own_event programs (Turn activation limit) word desk memory
-      by_entry None found = refl
-      by_entry (Some entry) found =
-          ap (turned_with activation) (turns-alike word activation limit (Going desk no_counts) memory is)
-          ∙ ap (λ (one : Option Entry). turned_with activation (turn_of one word activation limit desk, after_turns word activation limit (Going desk no_counts) memory)) (sym found)
+  event-alike (Turn activation limit) = grind (arith, turns-alike word activation limit (Going desk no_counts) memory is)
 
   step-alike : (event : Event) → step_by asks_refused programs event word desk memory ≡ (step programs event word desk, if desk.closed then memory else after_event programs event word desk memory)
   step-alike event = grind (arith, nat_tests, event-alike event)

@@ -26,8 +26,7 @@ own-row program directory now shown bytes went = by_way (row program directory n
       went = is;
       lines = lines-of program directory now next is ∙ sym (lines-of program directory (over_all now bytes) shown went);
     }
-    by_way Commit is way = absurd way
-    by_way (Check code) is way = absurd way
+    by_way _ is way = absurd way
 
 pub own-commit : (program : Program) (directory : Layout) (now : Plain) (bytes : List ℕ) → row program directory (over_all now bytes) ≡ Commit → row program directory now ≡ Commit
 own-commit program directory now bytes went = grind (arith, nat_tests, row-way program directory now bytes)

@@ -1,5 +1,5 @@
 -- A consistent desk stays so.
-use Rattle.desk_law.proofs.Common.{◌≡◌, refl, ℕ, ◌+◌, ◌<◌, ◌==◌, nat_lt, if◌then◌else◌, Bool, true, List, [], ◌∷◌, length, find, Option, Some, None, slice_get, arith, subst, eqb-true, eq-eqb, both_ways, ltb-true, page_count, Program, Event, Begin, Turn, Checkpoint, Crash, Desk, Entry, opened, Word, Fine, ReadFailed, Unwritten, Doubt, Failed, Counts, Turning, Going, instruction, turns, turn, turn_of, no_counts, turned, begin_if, begins, absent_segment, restarted, event_of, step, run, Busy, IsAmong, Ascend, IsConsistent, turn_desk, StaysConsistent, IsActive, IsNotIdle, IdleWhereInactive, RunsStayConsistent, IsOrderly, nat_tests}
+use Rattle.desk_law.proofs.Common.{◌≡◌, refl, ℕ, ◌+◌, ◌<◌, ◌==◌, true, List, [], ◌∷◌, length, find, Option, Some, None, slice_get, arith, eqb-true, eq-eqb, both_ways, ltb-true, page_count, Program, Event, Begin, Turn, Checkpoint, Crash, Desk, Entry, opened, Word, Failed, Counts, Turning, Going, instruction, turns, turn, turn_of, no_counts, turned, begin_if, restarted, event_of, step, run, IsAmong, Ascend, IsConsistent, turn_desk, StaysConsistent, IsActive, IsNotIdle, IdleWhereInactive, RunsStayConsistent, IsOrderly, nat_tests}
 use Rattle.desk_law.proofs.Orderly.{orderly}
 use Rattle.desk_law.proofs.Entries.{among-found, none-found, found-among}
 use Rattle.desk_law.proofs.Endings.{begins-consistent, refused-consistent, quiet-consistent, opened-consistent}
@@ -51,13 +51,8 @@ stays-turn word activation limit desk is = by_entry (find (λ (entry : Entry). e
 -- an instruction of an active entry leaves a consistent desk, whatever it comes to
 pub instruction-consistent : (word : Word) (desk : Desk) (counts : Counts) (entry : Entry) → IsConsistent desk → IsAmong desk.active entry → IsConsistent (turn_desk (instruction word (Some entry) desk counts))
 instruction-consistent word desk counts entry is here =
-    by_turning (instruction word (Some entry) desk counts)
-    (subst (λ (one : Option Entry). Stays entry.number (length counts.cycles + length desk.active) (instruction word one desk counts)) (found-among desk.next desk.active entry is.active.ascend here)
-    (stays-instruction word entry.number (length counts.cycles + length desk.active) desk counts (orderly desk is) (entry, here, refl) (omega arith)))
-    (fits-instruction word (Some entry) desk counts (fits desk is))
-  where
-    by_turning : (turning : Turning) → Stays entry.number (length counts.cycles + length desk.active) turning → TurnFits turning → IsConsistent (turn_desk turning)
-    by_turning turning stays fit = grind (arith, nat_tests, consistent)
+    let stays = stays-instruction word entry.number (length counts.cycles + length desk.active) desk counts (orderly desk is) (entry, here, refl) (omega arith) in
+    grind (arith, nat_tests, consistent, stays, found-among desk.next desk.active entry is.active.ascend here, fits-instruction word (Some entry) desk counts (fits desk is))
 
 -- a begin
 refused : (desk : Desk) → IsConsistent desk → IsConsistent (record desk { next = desk.next + 1 })
@@ -65,18 +60,9 @@ refused desk is = consistent (record desk { next = desk.next + 1 }) (refused-con
 
 stays-begin : (program : ℕ) (args : List ℕ) (code : Option Program) (desk : Desk) → IsConsistent desk → IsConsistent (begin_if program args code desk).desk
 stays-begin program args None desk is = is
-stays-begin program args (Some code) desk is = by_room (nat_lt (length desk.active) desk.most_active) refl
-  where
-    by_segment : length desk.active < desk.most_active → (absent : Option ℕ) → absent_segment desk.committed.directory code.windows ≡ absent
-        → IsConsistent (begins absent program (record { program = code; args = args }) desk).desk
-    by_segment room None present =
-        consistent _ (begins-consistent desk (record { program = code; args = args }) (orderly desk is) room present) (record { frames = is.frames; resident = is.resident })
-    by_segment room (Some segment) absent = refused desk is
-
-    by_room : (room : Bool) → nat_lt (length desk.active) desk.most_active ≡ room
-        → IsConsistent (if room then begins (absent_segment desk.committed.directory code.windows) program (record { program = code; args = args }) desk
-        else record { desk = record desk { next = desk.next + 1 }; happening = Busy desk.next program }).desk
-    by_room room e = grind (arith, nat_tests, by_segment, ltb-true, refused)
+stays-begin program args (Some code) desk is =
+    let begun = begins-consistent desk (record { program = code; args = args }) (orderly desk is) in
+    grind (arith, nat_tests, begun, consistent, ltb-true, refused desk is)
 
 -- a crash
 stays-crash : (desk : Desk) → IsConsistent desk → IsConsistent (restarted desk)
@@ -98,11 +84,8 @@ stays-event programs (Begin program args) word desk is = stays-begin program arg
 stays-event programs (Turn activation limit) word desk is = stays-turn word activation limit desk is
 stays-event programs Checkpoint Failed desk is = shut-consistent desk is
 stays-event programs Crash Failed desk is = shut-consistent (restarted desk) (stays-crash desk is)
-stays-event programs Crash Fine desk is = stays-crash desk is
-stays-event programs Crash (ReadFailed page) desk is = stays-crash desk is
-stays-event programs Crash Unwritten desk is = stays-crash desk is
-stays-event programs Crash Doubt desk is = stays-crash desk is
 stays-event programs Checkpoint _ desk is = is
+stays-event programs Crash _ desk is = stays-crash desk is
 
 -- the law
 pub stays-consistent : StaysConsistent

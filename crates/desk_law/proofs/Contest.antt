@@ -1,5 +1,5 @@
 -- Cycles of waits and their victims.
-use Rattle.desk_law.proofs.Common.{◌≡◌, refl, ℕ, zero, suc, ◌+◌, ◌<◌, ◌≤◌, ◌==◌, ◌⊎◌, not, max, Bool, true, false, List, [], ◌∷◌, ◌++◌, length, filter, map, find, fold, Option, Some, None, arith, ap, sym, ◌∙◌, subst, inl, inr, length-append, eqb-true, eq-eqb, ne_eqb, both_ways, and_parts, and_from, or_left, or_right, not_from_false, not-true, false_from_ne_true, cases_lt, not_from_true, has, leads, shown_cycle, victim_of, after-among, Desk, Entry, Authority, rolled_back, numbers, waits_for, Counts, Contest, Contested, Settled, Lost, breaks_cycle, breaks_cycles, IsAmong, IsOrderly, except, IsContending, KeepsPages, nat_tests}
+use Rattle.desk_law.proofs.Common.{◌≡◌, refl, ℕ, zero, suc, ◌+◌, ◌<◌, ◌≤◌, ◌==◌, ◌⊎◌, not, max, Bool, true, false, List, [], ◌∷◌, ◌++◌, length, filter, map, find, fold, Option, Some, None, arith, ap, sym, ◌∙◌, subst, inl, inr, length-append, eqb-true, eq-eqb, both_ways, and_parts, and_from, or_left, or_right, not_from_false, false_from_ne_true, cases_lt, not_from_true, has, leads, shown_cycle, victim_of, after-among, Desk, Entry, Authority, rolled_back, numbers, waits_for, Counts, Contest, Contested, Settled, Lost, breaks_cycle, breaks_cycles, IsAmong, IsOrderly, except, IsContending, KeepsPages, nat_tests}
 use Rattle.desk_law.proofs.Entries.{among-filter, filter-among, among-found, none-found, filter-short}
 use Rattle.desk_law.proofs.Walks.{no-cycle-fewer, no-cycle-from, no-cycle-leaves, walk-short}
 use Rattle.desk_law.proofs.Others.{rollback-leaves}
@@ -133,12 +133,7 @@ breaks-all (suc left) one most entry old desk counts named among is enough store
     by_cycle None shown later =
         subst (Came one most entry old) (sym (stays-settled left one desk counts)) (
           settled one desk is
-              (λ steps.
-              false_from_ne_true (leads (waits_for desk) (numbers desk) steps one one)
-              (λ walk.
-              both_ways (leads (waits_for desk) (numbers desk) (length (numbers desk)) one one)
-              (shown-none (waits_for desk) (numbers desk) one shown)
-              (walk-short (waits_for desk) (numbers desk) one one steps here walk))),
+              (λ steps. grind (arith, shown-none (waits_for desk) (numbers desk) one shown, walk-short (waits_for desk) (numbers desk) one one steps here)),
           among,
           store,
           limit,
@@ -150,35 +145,24 @@ breaks-all (suc left) one most entry old desk counts named among is enough store
         one_more : (victim : Entry) → find (λ (entry : Entry). entry.number == victim_of cycle) desk.active ≡ Some victim
             → length (counts.cycles ++ cycle ∷ []) + length (rolled_back desk victim).active ≤ most
         one_more victim found =
-            let (at, passes) = among-found (λ (entry : Entry). entry.number == victim_of cycle) desk.active victim found in
-            omega (
-              arith,
-              fits_all,
-              length-append counts.cycles (cycle ∷ []),
-              filter-shorter (λ (other : Entry). not (other.number == victim.number)) desk.active victim at (not_from_true (victim.number == victim.number) (eq-eqb victim.number victim.number refl)),
-            )
+            let shorter = filter-shorter (λ (other : Entry). not (other.number == victim.number)) desk.active victim in
+            grind (arith, nat_tests, fits_all, length-append counts.cycles (cycle ∷ []), among-found (λ (entry : Entry). entry.number == victim_of cycle) desk.active victim found, shorter)
 
         by_victim : (victim : Option Entry) → find (λ (entry : Entry). entry.number == victim_of cycle) desk.active ≡ victim
             → (lost : Bool) → (victim_of cycle == one) ≡ lost
             → Came one most entry old (breaks_cycles left one (left_over desk (record counts { cycles = counts.cycles ++ cycle ∷ [] }) victim lost))
         by_victim None none lost e =
-            let (victim, there, same) = number-of desk.active (victim_of cycle) (shown-victim (waits_for desk) (numbers desk) one cycle here shown) in
-            absurd (both_ways (victim.number == victim_of cycle) (none-found (λ (entry : Entry). entry.number == victim_of cycle) desk.active none victim there) (eq-eqb victim.number (victim_of cycle) same))
+            grind (arith, nat_tests, number-of desk.active (victim_of cycle) (shown-victim (waits_for desk) (numbers desk) one cycle here shown), none-found (λ (entry : Entry). entry.number == victim_of cycle) desk.active none)
         by_victim (Some victim) found true e =
             subst (Came one most entry old) (sym (stays-lost left one (rolled_back desk victim) (record counts { cycles = counts.cycles ++ cycle ∷ [] }))) (
               gone-consistent one (rolled_back desk victim) (rolled-contending one desk victim is)
-                  (λ other there.
-                  let (at, passes) = among-found (λ (entry : Entry). entry.number == victim_of cycle) desk.active victim found in
-                  let victim_is : victim.number ≡ one = eqb-true victim.number (victim_of cycle) passes ∙ eqb-true (victim_of cycle) one e in
-                  ap (λ (n : ℕ). other.number == n) (sym victim_is)
-                  ∙ not-true (other.number == victim.number) (among-filter (λ (other : Entry). not (other.number == victim.number)) desk.active other there).1),
+                  (λ other there. grind (arith, nat_tests, e, among-found (λ (entry : Entry). entry.number == victim_of cycle) desk.active victim found, among-filter (λ (other : Entry). not (other.number == victim.number)) desk.active other there)),
               one_more victim found,
             )
         by_victim (Some victim) found false e =
             let (at, passes) = among-found (λ (entry : Entry). entry.number == victim_of cycle) desk.active victim found in
             let victim_is : victim.number ≡ victim_of cycle = eqb-true victim.number (victim_of cycle) passes in
-            let apart : (entry.number == victim.number) ≡ false =
-            ne_eqb entry.number victim.number (λ same. both_ways (victim_of cycle == one) e (eq-eqb (victim_of cycle) one (sym victim_is ∙ sym same ∙ named))) in
+            let apart : (entry.number == victim.number) ≡ false = grind (arith, nat_tests, e, victim_is, named) in
             later (rolled_back desk victim) (record counts { cycles = counts.cycles ++ cycle ∷ [] })
             (filter-among (λ (other : Entry). not (other.number == victim.number)) desk.active entry among (not_from_false (entry.number == victim.number) apart))
             (rolled-contending one desk victim is)
@@ -190,7 +174,5 @@ breaks-all (suc left) one most entry old desk counts named among is enough store
 -- what each round of a contest keeps, the contest keeps
 pub breaks-keep : (P : Contest → Type 0) (number : ℕ) → ((desk : Desk) (counts : Counts) → P (Contested desk counts) → P (breaks_cycle number (shown_cycle (waits_for desk) (numbers desk) number) desk counts))
     → (left : ℕ) (contest : Contest) → P contest → P (breaks_cycles left number contest)
-breaks-keep P number round zero contest is = is
-breaks-keep P number round (suc left) (Settled desk counts) is = is
-breaks-keep P number round (suc left) (Lost desk counts) is = is
 breaks-keep P number round (suc left) (Contested desk counts) is = breaks-keep P number round left (breaks_cycle number (shown_cycle (waits_for desk) (numbers desk) number) desk counts) (round desk counts is)
+breaks-keep P number round _ _ is = is

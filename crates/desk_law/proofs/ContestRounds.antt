@@ -1,5 +1,5 @@
 -- A contest round by round: a loop that looks for one cycle at a time goes through the same desks as the definition.
-use Rattle.desk_law.proofs.Common.{◌≡◌, refl, ℕ, zero, suc, ◌≤◌, ◌<◌, ◌==◌, not, Bool, true, false, List, [], ◌∷◌, ◌++◌, length, find, Option, Some, None, arith, ap, sym, ◌∙◌, eqb-true, eq-eqb, ne_eqb, both_ways, not_from_false, not-true, false_from_ne_true, leads, shown_cycle, victim_of, Desk, Entry, with_entry, rolled_back, numbers, waits_for, Word, Counts, Attempt, Contested, Settled, Lost, breaks_cycle, breaks_cycles, contest_ends, asks, IsAmong, contest, IsUnderWay, IsOrderly, nat_tests}
+use Rattle.desk_law.proofs.Common.{◌≡◌, refl, ℕ, zero, suc, ◌≤◌, ◌<◌, ◌==◌, not, Bool, true, false, List, [], ◌∷◌, ◌++◌, length, find, Option, Some, None, arith, ap, sym, ◌∙◌, eqb-true, eq-eqb, ne_eqb, both_ways, not_from_false, not-true, shown_cycle, victim_of, Desk, Entry, with_entry, rolled_back, numbers, waits_for, Word, Counts, Attempt, Contested, Settled, Lost, breaks_cycle, breaks_cycles, contest_ends, asks, IsAmong, contest, IsUnderWay, IsOrderly, nat_tests}
 use Rattle.desk_law.proofs.Contest.{contending, settled, rolled-contending, gone-consistent, freed-keeps, stays-settled, stays-lost, filter-shorter, some-active, shown-victim, shown-none, without, left_over}
 use Rattle.desk_law.proofs.Entries.{among-found, none-found, filter-among, among-filter, new-among}
 use Rattle.desk_law.proofs.GoesOn.{length-replaced, marked-contending}
@@ -126,13 +126,9 @@ round-under_way old desk entry victim cycle is found other =
 -- where it is settled the desk is consistent, with the mark on
 pub settled-consistent : (old desk : Desk) (entry : Entry) → IsUnderWay old desk entry → shown_cycle (waits_for desk) (numbers desk) entry.number ≡ None → IsOrderly desk
 settled-consistent old desk entry is shown =
-    grind (
-      arith,
-      nat_tests,
-      settled entry.number desk is.contending (λ steps. false_from_ne_true (leads (waits_for desk) (numbers desk) steps entry.number entry.number) (λ walk. both_ways (leads (waits_for desk) (numbers desk) (length (numbers desk)) entry.number entry.number) (shown-none (waits_for desk) (numbers desk) entry.number shown) (walk-short (waits_for desk) (numbers desk) entry.number entry.number steps (has-number desk.active entry is.here) walk))),
-      shown-none (waits_for desk) (numbers desk) entry.number shown,
-      has-number desk.active entry is.here,
-    )
+    let none = shown-none (waits_for desk) (numbers desk) entry.number shown in
+    let short = λ (steps : ℕ). walk-short (waits_for desk) (numbers desk) entry.number entry.number steps (has-number desk.active entry is.here) in
+    settled entry.number desk is.contending (λ steps. grind (arith, none, short steps))
 
 -- and where it is lost
 pub lost-consistent : (old desk : Desk) (entry victim : Entry) (cycle : List ℕ) → IsUnderWay old desk entry → entry_with (victim_of cycle) desk ≡ Some victim → (victim_of cycle == entry.number) ≡ true

@@ -1,5 +1,5 @@
 -- A shown cycle closes, where only the waits of its number close one.
-use Rattle.desk_law.proofs.Common.{◌≡◌, refl, ℕ, zero, suc, ◌<◌, ◌≤◌, ◌==◌, ◌&&◌, not, if◌then◌else◌, Bool, true, false, List, [], ◌∷◌, ◌++◌, length, filter, find, Option, Some, None, option_map_or, arith, ap, sym, ◌∙◌, inl, inr, eqb-true, and_parts, and_from, cases_Bool, not_from_false, none-some, has, leads, next_shown, shown_after, shown_cycle, victim_of, found-has, found-passes, has-filter, Desk, Entry, with_entry, rolled_back, numbers, waits_for, Counts, Contested, Settled, Lost, breaks_cycle, breaks_cycles, IsAmong, HasNoCycle, EndsWith, ContestedCyclesClose, except, IsContending, nat_tests}
+use Rattle.desk_law.proofs.Common.{◌≡◌, refl, ℕ, zero, suc, ◌≤◌, ◌==◌, ◌&&◌, Bool, true, false, List, [], ◌∷◌, ◌++◌, length, filter, find, Option, Some, None, arith, ap, sym, ◌∙◌, inl, inr, and_from, has, leads, next_shown, shown_after, shown_cycle, victim_of, found-has, found-passes, has-filter, Desk, Entry, with_entry, rolled_back, numbers, waits_for, Counts, Contested, Settled, Lost, breaks_cycle, breaks_cycles, IsAmong, HasNoCycle, EndsWith, ContestedCyclesClose, except, IsContending, nat_tests}
 use Rattle.desk_law.proofs.Entries.{new-among}
 use Rattle.desk_law.proofs.Orderly.{orderly}
 use Rattle.desk_law.proofs.Walks.{first-step, one-step, leads-more, walk-short, all-pass}
@@ -14,16 +14,7 @@ first-arrival : (waits : ℕ → ℕ → Bool) (all : List ℕ) (to steps from :
 first-arrival waits all to zero from apart walk = absurd (cc)
 first-arrival waits all to (suc steps) from apart walk =
     let first = first-step waits all steps from to walk in
-    let step : except to waits from first.next ≡ true = and_from (not (from == to)) (waits from first.next) (not_from_false (from == to) apart) first.step in
-    one-step (except to waits) all steps from to first.next first.there step
-    (elim first.rest [
-      | inl same ↦ inl same
-      | inr later ↦
-          elim (cases_Bool (first.next == to)) [
-            | inl here ↦ inl (eqb-true first.next to here)
-            | inr away ↦ inr (first-arrival waits all to steps first.next away later)
-          ]
-    ])
+    grind (arith, nat_tests, first.there, first.step, first.rest, first-arrival waits all to steps first.next, one-step (except to waits) all steps from to first.next)
 
 -- one that passes is found
 some-found : (test : ℕ → Bool) (all : List ℕ) (x : ℕ) → has all x ≡ true → test x ≡ true → (y : ℕ) × (find test all ≡ Some y)
@@ -64,26 +55,9 @@ module _ (waits : ℕ → ℕ → Bool) (all : List ℕ) (first : ℕ) (none : H
       empty : (xs : List ℕ) → length xs ≤ 0 → has xs first ≡ true → ⊥
       empty [] few inside = cc
       empty (x ∷ xs) few inside = omega (arith, few)
-  after-closes (suc steps) last inside apart walk few = by_next (next_shown waits all first last) refl (λ next in_all away leads_on less. after-closes steps next in_all away leads_on (omega (arith, less, few)))
-    where
-      by_next : (next : Option ℕ) → next_shown waits all first last ≡ next
-          → ((next : ℕ) → has all next ≡ true → (next == first) ≡ false → leads waits all (length all) next first ≡ true
-          → length (filter (reached (except first waits) all next) all) < length (filter (reached (except first waits) all last) all) → EndsWith first (next ∷ shown_after waits all steps first next))
-          → EndsWith first (last ∷ option_map_or (λ next. next ∷ (if next == first then [] else shown_after waits all steps first next)) next [])
-      by_next None is later =
-          let (next, found) = next-there last walk in
-          absurd (none-some next (sym is ∙ found))
-      by_next (Some next) is later =
-          let parts = and_parts (waits last next) (leads waits all (length all) next first) (found-passes (λ next. waits last next && leads waits all (length all) next first) all next is) in
-          let in_all : has all next ≡ true = found-has (λ next. waits last next && leads waits all (length all) next first) all next is in
-          by_round (next == first) refl
-          (λ away.
-          later next in_all away parts.1
-          (leads-to-fewer (except first waits) all none last next inside in_all (and_from (not (last == first)) (waits last next) (not_from_false (last == first) apart) parts.0)))
-        where
-          by_round : (closes : Bool) → (next == first) ≡ closes → ((next == first) ≡ false → EndsWith first (next ∷ shown_after waits all steps first next))
-              → EndsWith first (next ∷ (if closes then [] else shown_after waits all steps first next))
-          by_round closes e rest = grind (arith, nat_tests, eqb-true)
+  after-closes (suc steps) last inside apart walk few =
+      let test = λ (next : ℕ). waits last next && leads waits all (length all) next first in
+      grind (arith, nat_tests, next-there last walk, found-passes test all, found-has test all, leads-to-fewer (except first waits) all none last, after-closes steps)
 
   -- and from the first on
   pub first-closes : (steps : ℕ) → length all ≡ steps → EndsWith first (first ∷ shown_after waits all steps first first)

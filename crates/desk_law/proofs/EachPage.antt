@@ -44,10 +44,9 @@ each-same of other (page ∷ pages) authority same = grind (arith, nat_tests, ea
 
 list-same : (xs ys : List Authority) → length xs ≡ length ys → ((i : ℕ) → i < length xs → slice_index_or xs i nobody ≡ slice_index_or ys i nobody) → xs ≡ ys
 list-same [] [] long same = refl
-list-same [] (y ∷ ys) long same = absurd (omega (arith, long))
-list-same (x ∷ xs) [] long same = absurd (omega (arith, long))
 list-same (x ∷ xs) (y ∷ ys) long same =
     λ i. same 0 (omega arith) i ∷ list-same xs ys (omega (arith, long)) (λ at below. same (suc at) (omega (arith, below))) i
+list-same _ _ long same = absurd (omega (arith, long))
 
 -- Which pages they are is all that counts, and not their order.
 pub each-alike : (of : ℕ → Authority) (xs ys : List ℕ) (authority : List Authority) → ((page : ℕ) → has xs page ≡ has ys page)

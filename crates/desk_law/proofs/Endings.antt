@@ -1,5 +1,5 @@
 -- A commit, a begin and a crash leave the desk consistent.
-use Rattle.desk_law.proofs.Common.{Some, ◌≡◌, refl, ℕ, zero, suc, ◌+◌, ◌<◌, ◌==◌, not, Bool, true, false, List, [], ◌∷◌, ◌++◌, length, map, replicate, slice_index_or, None, arith, ap, sym, ◌∙◌, subst, inl, inr, eqb-true, ne_eqb, both_ways, and_parts, and_from, or_from, and_right, not-true, false_from_ne_true, page_count, is_fine_page, FlatStore, IsWhole, has, meets, Lines, no_lines, conflicts, both, with_whole_pages, append-nil, leads, Plain, start, after, Commit, row, after-whole, Desk, Entry, Authority, nobody, opened, rolled_back, wanted, request, conflicts_with, numbers, waits_for, Attempt, lowered, locks_with, absent_segment, committed_at, gone_on, left_by, IsAmong, Ascend, due_to, IsLive, AreApart, AreConsistent, IsCovered, IsOwned, IsHeld, IsOrderly, except, touched_of, nat_tests}
+use Rattle.desk_law.proofs.Common.{Some, ◌≡◌, refl, ℕ, zero, suc, ◌+◌, ◌<◌, ◌==◌, not, Bool, true, false, List, [], ◌∷◌, ◌++◌, length, map, replicate, slice_index_or, None, arith, ap, sym, ◌∙◌, subst, inl, inr, eqb-true, both_ways, and_parts, and_from, or_from, and_right, not-true, false_from_ne_true, page_count, is_fine_page, FlatStore, IsWhole, has, meets, Lines, no_lines, conflicts, both, with_whole_pages, append-nil, leads, Plain, start, after, Commit, row, after-whole, Desk, Entry, Authority, nobody, opened, rolled_back, wanted, request, conflicts_with, numbers, waits_for, Attempt, lowered, locks_with, absent_segment, committed_at, gone_on, left_by, IsAmong, Ascend, due_to, IsLive, AreApart, AreConsistent, IsCovered, IsOwned, IsHeld, IsOrderly, except, touched_of, nat_tests}
 use Rattle.flat_machine.specs.Serial.{Activation}
 use Rattle.desk_law.proofs.Entries.{among-filter, among-push, push-among, ascend-push, between, one-entry, among-replaced, replaced-among, new-among, replaced, filter-short}
 use Rattle.desk_law.proofs.Walks.{no-cycle-fewer, no-cycle-leaves, first-step, one-step}
@@ -112,25 +112,14 @@ granted-closes desk attempt is went = record {
     ]
 
     covered : (page : ℕ) (entry : Entry) → IsAmong desk.active entry → IsCovered (slice_index_or desk.authority page nobody) page entry.number (due_to desk.committed entry)
-    covered page entry among = by_number (entry.number == attempt.entry.number) refl
-      where
-        by_number : (own : Bool) → (entry.number == attempt.entry.number) ≡ own → IsCovered (slice_index_or desk.authority page nobody) page entry.number (due_to desk.committed entry)
-        by_number true own =
-            subst (λ (x : Entry). IsCovered (slice_index_or desk.authority page nobody) page x.number (due_to desk.committed x))
-            (it entry among (eqb-true entry.number attempt.entry.number own))
-            (subst (IsCovered (slice_index_or desk.authority page nobody) page attempt.entry.number) due
-            (held.covered page (gone_on attempt.entry) (new-among (gone_on attempt.entry) desk.active (record attempt.entry { waiting = is.mark }) is.here refl)))
-        by_number false other = held.covered page entry (replaced-among (gone_on attempt.entry) desk.active entry among other)
+    covered page entry among =
+        let new = new-among (gone_on attempt.entry) desk.active (record attempt.entry { waiting = is.mark }) is.here refl in
+        grind (arith, nat_tests, held.covered page, it entry among, due, new, replaced-among (gone_on attempt.entry) desk.active entry among)
 
     waits_for_none : (to : ℕ) → waits_for desk attempt.entry.number to ≡ false
     waits_for_none to =
-        false_from_ne_true (waits_for desk attempt.entry.number to)
-        (λ waits.
-        let by = waits-by desk attempt.entry.number to waits in
-        both_ways (conflicts_with desk by.entry by.other)
-        (ap (λ (x : Entry). conflicts_with desk x by.other) (sym (it by.entry by.entry_among (eqb-true by.entry.number attempt.entry.number by.is_from)))
-        ∙ nobody-conflicts (conflicts_with desk attempt.entry) desk.active is.none by.other by.other_among)
-        by.conflict)
+        let by = waits-by desk attempt.entry.number to in
+        grind (arith, nat_tests, by, it, nobody-conflicts (conflicts_with desk attempt.entry) desk.active is.none)
 
 -- an entry that begins
 abbrev pub first_entry : ℕ → Activation → Entry
@@ -237,12 +226,7 @@ begins-consistent desk runs is room present = record {
     below low (entry ∷ entries) up = omega (arith, up.0, below entry.number entries up.1)
 
     not_next : (page : ℕ) → ((slice_index_or desk.authority page nobody).owner == desk.next) ≡ false
-    not_next page = elim (is.held.owned page) [
-      | inl none ↦ ne_eqb (slice_index_or desk.authority page nobody).owner desk.next (λ same. omega (arith, none, same, below 0 desk.active is.active.ascend))
-      | inr some ↦
-          ne_eqb (slice_index_or desk.authority page nobody).owner desk.next
-          (λ same. omega (arith, same, some.2, (between 0 desk.next desk.active some.0 is.active.ascend some.1).1))
-    ]
+    not_next page = grind (arith, nat_tests, is.held.owned page, below 0 desk.active is.active.ascend, between 0 desk.next desk.active)
 
 -- a begin that is refused
 pub refused-consistent : (desk : Desk) → IsOrderly desk → IsOrderly (record desk { next = desk.next + 1 })
@@ -280,9 +264,8 @@ quiet-consistent desk whole next none free = record {
     length-same (suc n) = ap suc (length-same n)
 
     at : (n page : ℕ) → slice_index_or (replicate n nobody) page nobody ≡ nobody
-    at zero page = refl
-    at (suc n) zero = refl
     at (suc n) (suc page) = at n page
+    at _ _ = refl
 
     nowhere : (steps number : ℕ) → leads (waits_for desk) [] steps number number ≡ false
     nowhere steps number = grind (arith, nat_tests)

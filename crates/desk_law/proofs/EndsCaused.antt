@@ -1,5 +1,5 @@
 -- Who ends in a turn: victims, and the turn's own activation.
-use Rattle.desk_law.proofs.Common.{◌≡◌, refl, ℕ, zero, suc, ◌+◌, ◌==◌, ◌⊎◌, not, Bool, true, false, List, [], ◌∷◌, ◌++◌, length, map, filter, find, Option, Some, None, ap, sym, ◌∙◌, inl, inr, eqb-true, eq-eqb, or_cases, or_left, or_right, not_from_false, cases_Bool, has, shown_cycle, victim_of, Plain, Outcome, On, Commit, Check, after, Desk, Entry, with_entry, conflicts_of, numbers, waits_for, Word, Fine, ReadFailed, Unwritten, Doubt, Failed, Counts, Turning, Going, Over, Attempt, Fetching, Fetched, Broken, Contest, Contested, Settled, Lost, attempts, attempts_at, instruction, turns, limited, is_over_limit, fetched_first, fetches_touched, asks, gets, goes_on, takes_effect, commits, contest_ends, waits_or_gets, with_grants, refused_pages, breaks_cycle, breaks_cycles, gone_on, turn_desk, turn_counts, ends_own, IsAccounted, EndsHaveCauses, nat_tests, arith}
+use Rattle.desk_law.proofs.Common.{◌≡◌, refl, ℕ, zero, suc, ◌==◌, ◌⊎◌, not, Bool, true, false, List, [], ◌∷◌, ◌++◌, length, map, filter, find, Option, Some, None, ap, ◌∙◌, inl, inr, eqb-true, eq-eqb, or_left, or_right, not_from_false, cases_Bool, has, shown_cycle, victim_of, Plain, Outcome, On, Check, after, Desk, Entry, with_entry, numbers, waits_for, Word, Counts, Turning, Going, Over, Attempt, Fetching, Contest, Contested, Settled, Lost, attempts, attempts_at, instruction, turns, limited, is_over_limit, fetched_first, fetches_touched, asks, gets, goes_on, takes_effect, commits, contest_ends, waits_or_gets, with_grants, breaks_cycle, breaks_cycles, gone_on, turn_desk, turn_counts, ends_own, IsAccounted, EndsHaveCauses, nat_tests, arith}
 use Rattle.desk_law.proofs.Entries.{among-found, filter-among, numbers-replaced}
 use Rattle.desk_law.proofs.Waiting.{number-of, has-number}
 use Rattle.desk_law.proofs.Contest.{breaks-keep, left_over, without}
@@ -33,10 +33,7 @@ own-ended before gone desk counts turning kept active cycles ends other inside =
 
 has-more : (cycles : List (List ℕ)) (cycle : List ℕ) (other : ℕ) → has (map victim_of cycles) other ≡ true → has (map victim_of (cycles ++ cycle ∷ [])) other ≡ true
 has-more [] cycle other inside = absurd (cc)
-has-more (one ∷ cycles) cycle other inside = elim (or_cases (victim_of one == other) (has (map victim_of cycles) other) inside) [
-  | inl here ↦ or_left (victim_of one == other) (has (map victim_of (cycles ++ cycle ∷ [])) other) here
-  | inr later ↦ or_right (victim_of one == other) (has (map victim_of (cycles ++ cycle ∷ [])) other) (has-more cycles cycle other later)
-]
+has-more (one ∷ cycles) cycle other inside = grind (arith, has-more cycles cycle other)
 
 has-last : (cycles : List (List ℕ)) (cycle : List ℕ) (other : ℕ) → (victim_of cycle == other) ≡ true → has (map victim_of (cycles ++ cycle ∷ [])) other ≡ true
 has-last [] cycle other same = or_left (victim_of cycle == other) false same
@@ -51,19 +48,9 @@ breaks-kept before left number contest kept = breaks-keep (ContestKept before) n
       where
         more : (cycle : List ℕ) (victim : Option Entry) → find (λ (entry : Entry). entry.number == victim_of cycle) desk.active ≡ victim
             → AreKept before (without desk victim) (record counts { cycles = counts.cycles ++ cycle ∷ [] })
-        more cycle None found other inside = elim (kept other inside) [
-          | inl there ↦ inl there
-          | inr lost ↦ inr (has-more counts.cycles cycle other lost)
-        ]
-        more cycle (Some victim) found other inside = elim (kept other inside) [
-          | inl there ↦ elim (left-active desk victim.number other there) [
-            | inl stays ↦ inl stays
-            | inr same ↦
-                let (at, passes) = among-found (λ (entry : Entry). entry.number == victim_of cycle) desk.active victim found in
-                inr (has-last counts.cycles cycle other (eq-eqb (victim_of cycle) other (sym (eqb-true victim.number (victim_of cycle) passes) ∙ sym (eqb-true other victim.number same))))
-          ]
-          | inr lost ↦ inr (has-more counts.cycles cycle other lost)
-        ]
+        more cycle None found other inside = grind (arith, kept other inside, has-more counts.cycles cycle other)
+        more cycle (Some victim) found other inside =
+            grind (arith, nat_tests, kept other inside, left-active desk victim.number other, among-found (λ (entry : Entry). entry.number == victim_of cycle) desk.active victim found, has-last counts.cycles cycle other, has-more counts.cycles cycle other)
 
         by_lost : (cycle : List ℕ) (lost : Bool) → ContestKept before (left_over desk (record counts { cycles = counts.cycles ++ cycle ∷ [] }) (find (λ (entry : Entry). entry.number == victim_of cycle) desk.active) lost)
         by_lost cycle lost = grind (arith, nat_tests, more)
@@ -77,20 +64,14 @@ module _ (word : Word) (attempt : Attempt) (before : List ℕ) where
   accounts desk counts other out = grind (arith, nat_tests)
 
   acc-commit : (word : Word) (desk : Desk) (counts : Counts) → AreKept before desk counts → AreAccounted before attempt.entry.number (commits word attempt desk counts)
-  acc-commit Unwritten desk counts kept = λ other inside. accounts desk counts other (kept other inside)
-  acc-commit Doubt desk counts kept = λ other inside. accounts desk counts other (kept other inside)
-  acc-commit Fine desk counts kept = own-ended before attempt.entry.number desk counts (commits Fine attempt desk counts) kept refl refl refl
-  acc-commit (ReadFailed page) desk counts kept = own-ended before attempt.entry.number desk counts (commits (ReadFailed page) attempt desk counts) kept refl refl refl
-  acc-commit Failed desk counts kept = own-ended before attempt.entry.number desk counts (commits Failed attempt desk counts) kept refl refl refl
+  acc-commit word desk counts kept = grind (arith, own-ended before attempt.entry.number desk counts, accounts desk counts)
 
   acc-effect : (desk : Desk) (counts : Counts) (outcome : Outcome) → AreKept before desk counts → AreAccounted before attempt.entry.number (takes_effect word attempt outcome desk counts)
   acc-effect desk counts (On next) kept = grind (arith, nat_tests, numbers-replaced (gone_on attempt.entry) desk.active)
-  acc-effect desk counts Commit kept = acc-commit word desk counts kept
-  acc-effect desk counts (Check code) kept = own-ended before attempt.entry.number desk counts (takes_effect word attempt (Check code) desk counts) kept refl refl refl
+  acc-effect desk counts outcome kept = grind (arith, acc-commit, own-ended before attempt.entry.number desk counts (takes_effect word attempt outcome desk counts) kept)
 
   acc-on : (desk : Desk) (counts : Counts) (fetching : Fetching) → AreKept before desk counts → AreAccounted before attempt.entry.number (goes_on word attempt desk counts fetching)
-  acc-on desk counts (Fetched resident counted) kept = acc-effect (record desk { resident = resident }) (record counts { pages = counted }) attempt.outcome kept
-  acc-on desk counts (Broken counted) kept = own-ended before attempt.entry.number desk counts (goes_on word attempt desk counts (Broken counted)) kept refl refl refl
+  acc-on desk counts fetching kept = grind (arith, acc-effect, own-ended before attempt.entry.number desk counts (goes_on word attempt desk counts fetching) kept)
 
   acc-get : (refused : List ℕ) (desk : Desk) (counts : Counts) → AreKept before desk counts → AreAccounted before attempt.entry.number (gets word attempt refused desk counts)
   acc-get refused desk counts kept = acc-on (with_grants attempt refused desk) counts (fetches_touched word attempt (with_grants attempt refused desk) counts) kept
@@ -114,20 +95,14 @@ module _ (word : Word) (attempt : Attempt) (before : List ℕ) where
       ]))
 
   acc-first : (desk : Desk) (counts : Counts) (fetching : Fetching) → AreKept before desk counts → AreAccounted before attempt.entry.number (fetched_first word attempt desk counts fetching)
-  acc-first desk counts (Fetched resident counted) kept =
-      let there = record desk { resident = resident } in
-      acc-ask (refused_pages attempt there) (conflicts_of there attempt.entry) there
-      (record { ran = counts.ran; pages = counted; locks = counts.locks + length (refused_pages attempt there); cycles = counts.cycles }) kept
-  acc-first desk counts (Broken counted) kept = own-ended before attempt.entry.number desk counts (fetched_first word attempt desk counts (Broken counted)) kept refl refl refl
+  acc-first desk counts fetching kept = grind (arith, acc-ask, own-ended before attempt.entry.number desk counts (fetched_first word attempt desk counts fetching) kept)
 
   acc-limit : (over : Bool) (desk : Desk) (counts : Counts) → AreKept before desk counts → AreAccounted before attempt.entry.number (limited over word attempt desk counts)
-  acc-limit true desk counts kept = own-ended before attempt.entry.number desk counts (limited true word attempt desk counts) kept refl refl refl
-  acc-limit false desk counts kept = acc-first desk counts (fetches_touched word attempt desk counts) kept
+  acc-limit over desk counts kept = grind (arith, acc-first, own-ended before attempt.entry.number desk counts (limited over word attempt desk counts) kept)
 
   acc-attempt : (outcome : Outcome) (desk : Desk) (counts : Counts) → AreKept before desk counts → AreAccounted before attempt.entry.number (attempts word attempt outcome desk counts)
   acc-attempt (Check code) desk counts kept = own-ended before attempt.entry.number desk counts (attempts word attempt (Check code) desk counts) kept refl refl refl
-  acc-attempt (On next) desk counts kept = acc-limit (is_over_limit attempt desk) desk counts kept
-  acc-attempt Commit desk counts kept = acc-limit (is_over_limit attempt desk) desk counts kept
+  acc-attempt _ desk counts kept = acc-limit (is_over_limit attempt desk) desk counts kept
 
 -- an instruction of the entry with a number
 acc-instruction : (word : Word) (before : List ℕ) (number : ℕ) (one : Option Entry) (desk : Desk) (counts : Counts) → find (λ (entry : Entry). entry.number == number) desk.active ≡ one → AreKept before desk counts
@@ -146,19 +121,10 @@ acc-instruction word before number (Some entry) desk counts found kept = by_stat
 acc-turns : (word : Word) (before : List ℕ) (number left : ℕ) (turning : Turning) → AreAccounted before number turning → AreAccounted before number (turns word number left turning)
 unfolding turns
 acc-turns word before number zero (Going desk counts) accounted = grind (arith, nat_tests)
-acc-turns word before number zero (Over desk counts ending) accounted = accounted
-acc-turns word before number (suc left) (Over desk counts ending) accounted = accounted
 acc-turns word before number (suc left) (Going desk counts) accounted =
     acc-turns word before number left (instruction word (find (λ (entry : Entry). entry.number == number) desk.active) desk counts)
-    (acc-instruction word before number (find (λ (entry : Entry). entry.number == number) desk.active) desk counts refl (λ other inside. by_case other (accounted other inside)))
-  where
-    by_case : (other : ℕ) → IsAccounted number (Going desk counts) other → IsKept desk counts other
-    by_case other (inl there) = inl there
-    by_case other (inr (inl lost)) = inr lost
-    by_case other (inr (inr own)) = absurd (wrong own.1)
-      where
-        wrong : false ≡ true → ⊥
-        wrong same = cc
+    (acc-instruction word before number (find (λ (entry : Entry). entry.number == number) desk.active) desk counts refl (λ other inside. grind (arith, accounted other inside)))
+acc-turns word before number _ (Over desk counts ending) accounted = accounted
 
 pub ends_have_causes : EndsHaveCauses
 ends_have_causes word number limit desk entry here = grind (arith, nat_tests, has-number, acc-turns)

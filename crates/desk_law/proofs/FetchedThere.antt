@@ -15,9 +15,8 @@ has-out (x ∷ xs) (suc i) other apart inside = grind (arith, nat_tests, has-out
 module _ (kept : List ℕ) (page other : ℕ) (only : (x : ℕ) → has kept x ≡ true → (x ≡ page) ⊎ (x ≡ other)) (is_kept : has kept other ≡ true) where
   -- where all of two or more are kept, and one of the two isn't among them, each is the other
   all-kept : (pages : List ℕ) → 1 < length pages → list_any (λ x. not (has kept x)) pages ≡ false → has pages page ≡ false → has (remove pages 0) other ≡ true
-  all-kept [] some all new = absurd (omega (arith, some))
-  all-kept (x ∷ []) some all new = absurd (omega (arith, some))
   all-kept (x ∷ y ∷ pages) some all new = let one = only y in grind (arith, nat_tests, one)
+  all-kept _ some all new = absurd (omega (arith, some))
 
   -- the page that is kept is not the one that goes out
   out-keeps : (pages : List ℕ) → 1 < length pages → has pages page ≡ false → has pages other ≡ true → has (first_out kept pages) other ≡ true

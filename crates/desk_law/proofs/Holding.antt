@@ -86,10 +86,7 @@ held-replaced store entries authority old new here same covers held = record {
           | inr other ↦ inr (some.0, replaced-among new entries some.0 some.1 other, some.2)
         ]
   ];
-  covered = λ page entry among. elim (among-replaced new entries entry among) [
-    | inl it ↦ subst (λ (x : Entry). IsCovered (slice_index_or authority page nobody) page x.number (due_to store x)) it (covers page)
-    | inr there ↦ held.covered page entry there.0
-  ];
+  covered = λ page entry among. grind (arith, among-replaced new entries entry among, covers page, held.covered page entry);
 }
 
 bit_on : (same bit store : Bool) → permits same false bit store ≡ true → bit ≡ true
@@ -138,21 +135,11 @@ fine-covers number page false locks whole = by_whole (is_whole_page (within_page
 pub grant-covers : (fine : ℕ → Bool) (attempt : Attempt) (page : ℕ) (lines : Lines)
     → (fine page ≡ true → has (pages_of attempt.lines.writes) page ≡ true → is_whole_page (within_page page (with_whole_pages fine lines).reads) ≡ true)
     → IsCovered (given fine attempt (with_whole_pages fine lines) page) page attempt.entry.number (with_whole_pages fine lines)
-grant-covers fine attempt page lines whole = by_fine (fine page) refl
-  where
-    by_fine : (is_fine : Bool) → fine page ≡ is_fine
-        → IsCovered
-        (if is_fine
-        then fine_authority_by attempt.entry.number (has (pages_of attempt.lines.writes) page) (within_page page (with_whole_pages fine lines).reads) (within_page page (with_whole_pages fine lines).writes)
-        else authority_by attempt.entry.number (within_page page (with_whole_pages fine lines).reads) (within_page page (with_whole_pages fine lines).writes))
-        page attempt.entry.number (with_whole_pages fine lines)
-    by_fine true e = fine-covers attempt.entry.number page (has (pages_of attempt.lines.writes) page) (with_whole_pages fine lines) (whole e)
-    by_fine false e =
-        by-covers attempt.entry.number page (with_whole_pages fine lines) (within_page page lines.writes) (λ line there. there)
-        (λ written there line here.
-        let (at, was) = inside page written lines.writes there in
-        whole-reached fine lines line written was
-        (reaches-coarse fine line written (sym at ∙ sym here) (ap fine here ∙ e)))
+grant-covers fine attempt page lines whole =
+    let all = with_whole_pages fine lines in
+    let coarse = λ (e : fine page ≡ false). by-covers attempt.entry.number page all (within_page page lines.writes) (λ line there. there) (λ written there line here. let (at, was) = inside page written lines.writes there in whole-reached fine lines line written was (reaches-coarse fine line written (sym at ∙ sym here) (ap fine here ∙ e))) in
+    let of_fine = fine-covers attempt.entry.number page (has (pages_of attempt.lines.writes) page) all in
+    grind (arith, coarse, of_fine, whole)
 
 -- an authority of another number permits nothing
 pub other-covers : (authority : Authority) (page number : ℕ) (locks : Lines) → (authority.owner == number) ≡ false → IsCovered authority page number locks

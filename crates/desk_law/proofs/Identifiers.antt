@@ -40,9 +40,8 @@ module _ (numbers : ℕ → ℕ) (none : numbers 0 ≡ 0) where
       first a b e = grind (arith, nat_tests, none)
 
   told-set : (authority : List Authority) (page : ℕ) (new : Authority) → owners_told numbers (slice_set authority page new) ≡ slice_set (owners_told numbers authority) page (owner_told numbers new)
-  told-set [] page new = refl
-  told-set (one ∷ authority) zero new = refl
   told-set (one ∷ authority) (suc page) new = ap (λ (rest : List Authority). owner_told numbers one ∷ rest) (told-set authority page new)
+  told-set _ _ new = refl
 
   -- pages that have what is told of an identifier have what is told of its number
   each-told : (of told : ℕ → Authority) (pages : List ℕ) (authority : List Authority) → ((page : ℕ) → owner_told numbers (of page) ≡ told page)

@@ -1,5 +1,5 @@
 -- The law of isolation.
-use Rattle.desk_law.proofs.Common.{◌≤◌, ◌≡◌, refl, ℕ, zero, suc, ◌+◌, ◌<◌, ◌==◌, ◌||◌, nat_lt, not, if◌then◌else◌, Bool, true, false, List, [], ◌∷◌, ◌++◌, length, map, find, Option, Some, None, slice_get, arith, ap, sym, ◌∙◌, subst, inl, inr, eqb-true, eq-eqb, ne_eqb, ltb-true, or_cases, or_left, or_right, not_from_false, cond-false, FlatStore, IsWhole, has, Program, start, after, Event, Begin, Turn, Checkpoint, Crash, Desk, Entry, opened, numbers, Word, Fine, ReadFailed, Unwritten, Doubt, Failed, Counts, Turning, Going, Over, Idle, Committed, Attempt, instruction, turns, turn_of, no_counts, Turned, Busy, Nothing, turned, begin_if, begins, absent_segment, restarted, event_of, step, run, gone_on, row_done, IsAmong, IsConsistent, current_bytes, turn_desk, Machine, Memory, first_machine, with_machine, given_back, row_of, after_instruction, after_turns, after_event, memory_after, memory_of, IsAlone, IsMemory, FindTheirOwn, RunsAreIsolated, CommitsTellTheMachine, SideBySideIsSerial, IsOrderly, nat_tests, next_attempt, begun, IsSerial, event_lines}
+use Rattle.desk_law.proofs.Common.{◌≤◌, ◌≡◌, refl, ℕ, zero, suc, ◌+◌, ◌<◌, ◌==◌, ◌||◌, nat_lt, not, if◌then◌else◌, Bool, true, false, List, [], ◌∷◌, ◌++◌, length, map, find, Option, Some, None, slice_get, arith, ap, sym, ◌∙◌, subst, inl, inr, eqb-true, eq-eqb, ne_eqb, ltb-true, or_cases, or_left, or_right, not_from_false, cond-false, FlatStore, IsWhole, has, Program, start, after, Event, Begin, Turn, Checkpoint, Crash, Desk, Entry, opened, numbers, Word, Failed, Counts, Turning, Going, Over, Idle, Committed, Attempt, instruction, turns, turn_of, no_counts, Turned, Busy, Nothing, turned, begin_if, begins, absent_segment, restarted, event_of, step, run, gone_on, row_done, IsAmong, IsConsistent, current_bytes, turn_desk, Machine, Memory, first_machine, with_machine, given_back, row_of, after_instruction, after_turns, after_event, memory_after, memory_of, IsAlone, IsMemory, FindTheirOwn, RunsAreIsolated, CommitsTellTheMachine, SideBySideIsSerial, IsOrderly, nat_tests, next_attempt, begun, IsSerial, event_lines}
 use Rattle.flat_machine.proofs.Whole.{serial-whole}
 use Rattle.desk.proofs.SerialLaw.{run_serial}
 use Rattle.desk_law.proofs.Orderly.{orderly}
@@ -252,11 +252,8 @@ memory-event programs (Begin program args) word desk memory is of = memory-begin
 memory-event programs (Turn activation limit) word desk memory is of = grind (arith, nat_tests, memory-turn word activation limit desk memory is of (find (λ (entry : Entry). entry.number == activation) desk.active) refl)
 memory-event programs Checkpoint Failed desk memory is of = shut-memory desk memory of
 memory-event programs Crash Failed desk memory is of = shut-memory (restarted desk) (record memory { bytes = memory.committed }) (crash-memory desk memory is of)
-memory-event programs Crash Fine desk memory is of = crash-memory desk memory is of
-memory-event programs Crash (ReadFailed page) desk memory is of = crash-memory desk memory is of
-memory-event programs Crash Unwritten desk memory is of = crash-memory desk memory is of
-memory-event programs Crash Doubt desk memory is of = crash-memory desk memory is of
 memory-event programs Checkpoint _ desk memory is of = of
+memory-event programs Crash _ desk memory is of = crash-memory desk memory is of
 
 memory-step : (programs : List Program) (event : Event) (word : Word) (desk : Desk) (memory : Memory) → IsConsistent desk → IsMemory desk memory
     → IsMemory (step programs event word desk).desk (if desk.closed then memory else after_event programs event word desk memory)

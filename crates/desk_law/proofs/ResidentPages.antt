@@ -1,5 +1,5 @@
 -- The resident pages fit the frames, each once, and are pages of the store.
-use Rattle.desk_law.proofs.Common.{◌≡◌, refl, ℕ, zero, suc, ◌+◌, ◌<◌, ◌≤◌, ◌==◌, ◌||◌, if◌then◌else◌, Bool, true, false, List, [], ◌∷◌, ◌++◌, length, filter, remove, arith, ap, sym, ◌∙◌, length-append, eq-eqb, both_ways, or_left, or_right, or_parts, or_from, ne_eqb, position-Some, has, first_out, brought, taken_out, has-append, has-filter, Word, Fetching, Fetched, Broken, can't_be_read, fetches, AreDistinct, AreResident, nat_tests}
+use Rattle.desk_law.proofs.Common.{◌≡◌, refl, ℕ, zero, suc, ◌+◌, ◌<◌, ◌≤◌, ◌==◌, ◌||◌, Bool, true, false, List, [], ◌∷◌, ◌++◌, length, filter, remove, arith, ap, sym, ◌∙◌, length-append, eq-eqb, both_ways, or_right, or_parts, or_from, ne_eqb, position-Some, has, first_out, brought, taken_out, has-append, has-filter, Word, Fetching, Fetched, Broken, fetches, AreDistinct, AreResident, nat_tests}
 use Rattle.desk_law.proofs.Entries.{filter-short}
 
 -- one page more, which isn't there
@@ -59,20 +59,7 @@ pub fetches-resident : (word : Word) (frames pages : ℕ) (kept wanted resident 
     → ((page : ℕ) → has wanted page ≡ true → page < pages) → FetchFits frames pages (fetches word frames kept wanted resident counted)
 fetches-resident word frames pages kept [] resident counted some are below = are
 fetches-resident word frames pages kept (page ∷ wanted) resident counted some are below =
-    by_there (has resident page) refl
-    (fetches-resident word frames pages kept wanted resident counted some are later)
-    (λ more. fetches-resident word frames pages kept wanted (brought frames kept resident page) (counted + 1) some more later)
-  where
-    later : (x : ℕ) → has wanted x ≡ true → x < pages
-    later x inside = below x (or_right (page == x) (has wanted x) inside)
-
-    by_there : (there : Bool) → has resident page ≡ there → FetchFits frames pages (fetches word frames kept wanted resident counted)
-        → (AreResident frames pages (brought frames kept resident page) → FetchFits frames pages (fetches word frames kept wanted (brought frames kept resident page) (counted + 1)))
-        → FetchFits frames pages (if there then fetches word frames kept wanted resident counted
-        else if can't_be_read word (counted + 1) then Broken (counted + 1) else fetches word frames kept wanted (brought frames kept resident page) (counted + 1))
-    by_there true e rest more = rest
-    by_there false e rest more = by_read (can't_be_read word (counted + 1))
-      where
-        by_read : (fails : Bool) → FetchFits frames pages (if fails then Broken (counted + 1) else fetches word frames kept wanted (brought frames kept resident page) (counted + 1))
-        by_read true = tt
-        by_read false = more (brought-resident frames pages kept resident page some are e (below page (or_left (page == page) (has wanted page) (eq-eqb page page refl))))
+    let later : (x : ℕ) → has wanted x ≡ true → x < pages = λ x inside. below x (or_right (page == x) (has wanted x) inside) in
+    let rest = fetches-resident word frames pages kept wanted resident counted some are later in
+    let more = λ (came : AreResident frames pages (brought frames kept resident page)). fetches-resident word frames pages kept wanted (brought frames kept resident page) (counted + 1) some came later in
+    grind (arith, nat_tests, rest, more, brought-resident frames pages kept resident page some are, below page)

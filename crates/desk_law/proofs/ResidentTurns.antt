@@ -1,5 +1,5 @@
 -- A turn leaves resident pages that fit.
-use Rattle.desk_law.proofs.Common.{◌≡◌, refl, ℕ, zero, suc, ◌<◌, ◌≤◌, ◌==◌, Bool, true, false, List, [], ◌∷◌, ◌++◌, length, find, Option, Some, None, option_map_or, arith, ap, sym, ◌∙◌, eqb-true, Layout, page_count, line_count, has, no_lines, page_of_line, shown_cycle, victim_of, any-some, has-pages_of, Plain, Program, Outcome, On, Commit, Check, row, after, touched, all_of, touched-below, Desk, Entry, with_entry, rolled_back, wanted, numbers, waits_for, Word, Counts, Turning, Going, Over, Attempt, Fetching, Contest, Contested, Settled, Lost, attempts, attempts_at, instruction, turns, touched_pages, limited, is_over_limit, fetched_first, fetches_touched, asks, gets, goes_on, takes_effect, commits, contest_ends, waits_or_gets, breaks_cycle, breaks_cycles, AreResident, nat_tests}
+use Rattle.desk_law.proofs.Common.{◌≡◌, refl, ℕ, zero, suc, ◌<◌, ◌≤◌, ◌==◌, Bool, true, false, List, [], ◌∷◌, ◌++◌, length, find, Option, Some, None, option_map_or, arith, ap, sym, ◌∙◌, eqb-true, Layout, page_count, line_count, has, no_lines, page_of_line, shown_cycle, victim_of, any-some, has-pages_of, Plain, Program, Outcome, row, after, touched, all_of, touched-below, Desk, Entry, with_entry, rolled_back, wanted, numbers, waits_for, Word, Counts, Turning, Going, Over, Attempt, Fetching, Contest, Contested, Settled, Lost, attempts, attempts_at, instruction, turns, touched_pages, limited, fetched_first, fetches_touched, asks, gets, goes_on, takes_effect, commits, contest_ends, waits_or_gets, breaks_cycle, breaks_cycles, AreResident, nat_tests}
 use Rattle.desk_law.proofs.Contest.{breaks-keep, left_over}
 use Rattle.desk_law.proofs.ResidentPages.{FetchFits, fetches-resident, taken-resident, none-resident}
 
@@ -65,9 +65,7 @@ module _ (word : Word) (attempt : Attempt) (directory : Layout) (below : (page :
   fits-commit word desk counts is = grind (arith, nat_tests)
 
   fits-effect : (desk : Desk) (counts : Counts) (outcome : Outcome) → Fits desk → TurnFits (takes_effect word attempt outcome desk counts)
-  fits-effect desk counts (On next) is = record { frames = is.frames; resident = is.resident }
-  fits-effect desk counts Commit is = fits-commit word desk counts is
-  fits-effect desk counts (Check code) is = rolled-fits desk attempt.entry is
+  fits-effect desk counts outcome is = grind (arith, fits-commit, rolled-fits desk attempt.entry)
 
   fits-on : (desk : Desk) (counts : Counts) (fetching : Fetching) → Fits desk → FetchFits desk.frames (page_count desk.committed.directory) fetching → TurnFits (goes_on word attempt desk counts fetching)
   fits-on desk counts fetching is are = grind (arith, nat_tests, fits-effect, resident-fits, none-resident)
@@ -95,13 +93,10 @@ module _ (word : Word) (attempt : Attempt) (directory : Layout) (below : (page :
   fits-first desk counts fetching same is are = grind (arith, nat_tests, fits-ask, resident-fits, none-resident)
 
   fits-limit : (over : Bool) (desk : Desk) (counts : Counts) → desk.committed.directory ≡ directory → Fits desk → TurnFits (limited over word attempt desk counts)
-  fits-limit true desk counts same is = rolled-fits desk attempt.entry is
-  fits-limit false desk counts same is = fits-first desk counts (fetches_touched word attempt desk counts) same is (fits-fetched desk counts same is)
+  fits-limit over desk counts same is = grind (arith, rolled-fits desk attempt.entry is, fits-first, fits-fetched)
 
   fits-attempt : (outcome : Outcome) (desk : Desk) (counts : Counts) → desk.committed.directory ≡ directory → Fits desk → TurnFits (attempts word attempt outcome desk counts)
-  fits-attempt (Check code) desk counts same is = rolled-fits desk attempt.entry is
-  fits-attempt (On next) desk counts same is = fits-limit (is_over_limit attempt desk) desk counts same is
-  fits-attempt Commit desk counts same is = fits-limit (is_over_limit attempt desk) desk counts same is
+  fits-attempt outcome desk counts same is = grind (arith, rolled-fits desk attempt.entry is, fits-limit)
 
 -- an instruction
 pub fits-instruction : (word : Word) (one : Option Entry) (desk : Desk) (counts : Counts) → Fits desk → TurnFits (instruction word one desk counts)

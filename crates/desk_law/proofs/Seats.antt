@@ -97,7 +97,7 @@ module _ (taken : List ℕ) (entry_of : ℕ → Entry) (are : AreSeats taken ent
       (λ entry. entry.number == (entry_of from).number && entry.waiting && list_any (λ other. other.number == (entry_of to).number && kept_conflict (by_number taken entry_of requests no_lines entry.number) (by_number taken entry_of locks no_lines) entry.number other) (map entry_of taken))
       asks taken (λ at inside. refl)
       ∙ one-passes asks ((entry_of from).waiting && (not (to == from) && conflicts (requests from) (locks to))) taken from here
-      (λ at inside. by_test at inside (at == from) refl)
+      (λ at inside. grind (arith, nat_tests, eqb-true, eq-eqb, here-meets))
     where
       meets : ℕ → Bool
       meets at = list_any (λ (other : Entry). other.number == (entry_of to).number && kept_conflict (by_number taken entry_of requests no_lines (entry_of at).number) (by_number taken entry_of locks no_lines) (entry_of at).number other) (map entry_of taken)
@@ -116,14 +116,4 @@ module _ (taken : List ℕ) (entry_of : ℕ → Entry) (are : AreSeats taken ent
           (not (to == from) && conflicts (requests from) (locks to)) taken to there
           (λ other inside.
           (λ i. are.apart other to inside there i && kept_conflict (at-number taken entry_of requests no_lines from are here i) (by_number taken entry_of locks no_lines) (entry_of from).number (entry_of other))
-          ∙ by_same other inside (other == to) refl)
-        where
-          by_same : (other : ℕ) → has taken other ≡ true → (same : Bool) → (other == to) ≡ same
-              → (same && kept_conflict (requests from) (by_number taken entry_of locks no_lines) (entry_of from).number (entry_of other)) ≡ (same && (not (to == from) && conflicts (requests from) (locks to)))
-          by_same other inside true e =
-              conflict-seats (requests from) from other here inside ∙ (λ i. not (eqb-true other to e i == from) && conflicts (requests from) (locks (eqb-true other to e i)))
-          by_same other inside false e = refl
-
-      by_test : (at : ℕ) → has taken at ≡ true → (same : Bool) → (at == from) ≡ same
-          → asks at ≡ (at == from && ((entry_of from).waiting && (not (to == from) && conflicts (requests from) (locks to))))
-      by_test at inside same e = grind (arith, nat_tests, eqb-true, eq-eqb, here-meets)
+          ∙ grind (arith, nat_tests, conflict-seats (requests from) from other here inside))

@@ -176,8 +176,6 @@ module _ (word : Word) (limit left : ℕ) (start : Desk) (first : Entry) (desk :
     rows = omega (arith, under.rows, comes.3);
     left_is = omega (arith, under.left_is, comes.3);
   }
-  cause-instruction (Over later more Idle) is comes = absurd comes
-  cause-instruction (Over later more Limit) is comes = absurd comes
   cause-instruction (Over later more (Checked code address)) is comes = (now, its-row more.ran (Check code) comes.0 comes.1, comes.2)
   cause-instruction (Over later more (Journal lines most)) is comes = (comes.1 ∙ its-lines more.ran comes.0, comes.2 ∙ under.most, comes.3)
   cause-instruction (Over later more Disk) is comes = comes
@@ -186,12 +184,11 @@ module _ (word : Word) (limit left : ℕ) (start : Desk) (first : Entry) (desk :
   cause-instruction (Over later more (Committed steps printed)) is comes = (counts.ran, comes.0, omega (arith, comes.1, under.rows), (now, its-row counts.ran Commit refl comes.2, comes.3))
   cause-instruction (Over later more CommitUnwritten) is comes = (comes.1, (now, its-row more.ran Commit comes.0 comes.2))
   cause-instruction (Over later more CommitDoubted) is comes = (comes.1, (now, its-row more.ran Commit comes.0 comes.2))
+  cause-instruction _ is comes = absurd comes
 
 cause-turns : (word : Word) (limit left : ℕ) (start : Desk) (first : Entry) (turning : Turning) → IsUnder word limit left start first turning → IsOverFor word limit start first (turns word first.number left turning)
 unfolding turns
 cause-turns word limit zero start first (Going desk counts) under = omega (arith, under.left_is)
-cause-turns word limit zero start first (Over desk counts ending) cause = cause
-cause-turns word limit (suc left) start first (Over desk counts ending) cause = cause
 cause-turns word limit (suc left) start first (Going desk counts) under =
     let live = under.is.active.live under.entry under.here in
     cause-turns word limit left start first (instruction word (find (λ (entry : Entry). entry.number == first.number) desk.active) desk counts)
@@ -200,6 +197,7 @@ cause-turns word limit (suc left) start first (Going desk counts) under =
     (cause-instruction word limit left start first desk counts under live.state live.is (instruction word (Some under.entry) desk counts)
     (instruction-consistent word desk counts under.entry under.is under.here)
     (come-instruction word desk counts under.entry live.state under.here live.is)))
+cause-turns word limit _ start first (Over desk counts ending) cause = cause
 
 pub turns-end-for-cause : TurnsEndForCause
 turns-end-for-cause word limit desk entry is here =

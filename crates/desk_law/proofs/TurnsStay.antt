@@ -1,5 +1,5 @@
 -- A turn leaves a desk orderly.
-use Rattle.desk_law.proofs.Common.{◌≡◌, refl, ℕ, zero, suc, ◌+◌, ◌≤◌, ◌==◌, Bool, true, false, List, [], ◌∷◌, ◌++◌, length, find, Option, Some, None, arith, sym, ◌∙◌, subst, eqb-true, eq-eqb, both_ways, ltb-false, none-some, size, Lines, Plain, Outcome, On, Commit, Check, row, after, Desk, Entry, with_entry, ended, rolled_back, wanted, conflicts_of, Word, Fine, Unwritten, Doubt, Counts, Turning, Going, Over, Ending, Idle, Committed, Attempt, Fetching, Fetched, Broken, Contest, Contested, Settled, Lost, attempts, attempts_at, instruction, turns, limited, is_over_limit, lines_written, fetched_first, fetches_touched, asks, gets, goes_on, breaks, ordered, takes_effect, commits, contest_ends, waits_or_gets, with_grants, refused_pages, gone_on, IsAmong, IsActive, IsOrderly, touched_of, IsReady, nat_tests, next_attempt}
+use Rattle.desk_law.proofs.Common.{◌≡◌, refl, ℕ, zero, suc, ◌+◌, ◌≤◌, ◌==◌, Bool, true, false, List, [], ◌∷◌, ◌++◌, length, find, Option, Some, None, arith, sym, ◌∙◌, subst, eqb-true, eq-eqb, both_ways, ltb-false, none-some, size, Lines, Plain, Outcome, On, Commit, Check, row, after, Desk, Entry, with_entry, ended, rolled_back, wanted, conflicts_of, Word, Unwritten, Doubt, Counts, Turning, Going, Over, Ending, Idle, Committed, Attempt, Fetching, Fetched, Broken, Contest, Contested, Settled, Lost, attempts, attempts_at, instruction, turns, limited, is_over_limit, lines_written, fetched_first, fetches_touched, asks, gets, goes_on, breaks, ordered, takes_effect, commits, contest_ends, waits_or_gets, with_grants, refused_pages, gone_on, IsAmong, IsActive, IsOrderly, touched_of, IsReady, nat_tests, next_attempt}
 use Rattle.desk_law.proofs.Entries.{among-found, none-found, new-among}
 use Rattle.desk_law.proofs.Contest.{contending, rolled-consistent, breaks-all, Came}
 use Rattle.desk_law.proofs.GoesOn.{ready-again, IsGranted, grants-held, row-goes-on, marked-contending, length-replaced}
@@ -52,7 +52,6 @@ module _ (word : Word) (attempt : Attempt) (most : ℕ) (old : Desk) where
   goes-commit Doubt desk counts fits from went is =
       let order = desk.order ++ (attempt.entry.number, attempt.entry.rows + 1) ∷ [] in
       ((goes-closed desk is went order, tt, omega (arith, fits)), goes-left desk order from is)
-  goes-commit Fine desk counts fits from went is = goes-done desk counts fits from is
   goes-commit _ desk counts fits from went is = goes-done desk counts fits from is
 
   goes-effect : (desk : Desk) (counts : Counts) (outcome : Outcome) → Room desk counts → From attempt.entry.number old desk → attempt.outcome ≡ outcome → IsGranted attempt desk → Goes old attempt most (takes_effect word attempt outcome desk counts)
@@ -89,13 +88,9 @@ module _ (word : Word) (attempt : Attempt) (most : ℕ) (old : Desk) where
   goes-contest refused mark before (Lost desk counts) ready came did = ((came.0, tt, omega (arith, came.1)), record { from = did.0; own = left-before attempt.entry desk did.1 })
   goes-contest refused mark before (Contested desk counts) ready came did = absurd came
   goes-contest refused mark before (Settled desk counts) ready came did =
-      grind (
-        arith,
-        nat_tests,
-        goes-wait refused (conflicts_of desk attempt.entry) desk counts came.5 did refl (ready-again attempt before desk mark ready (contending attempt.entry.number desk came.0) came.1 came.2 came.3) came.0,
-        ready-again attempt before desk mark ready (contending attempt.entry.number desk came.0) came.1 came.2 came.3,
-        contending attempt.entry.number desk came.0,
-      )
+      let again = ready-again attempt before desk mark ready (contending attempt.entry.number desk came.0) came.1 came.2 came.3 in
+      let waits = goes-wait refused (conflicts_of desk attempt.entry) desk counts came.5 did refl again came.0 in
+      grind (arith, nat_tests, waits)
 
   goes-ask : (refused holders : List ℕ) (desk : Desk) (counts : Counts) → Room desk counts → From attempt.entry.number old desk → conflicts_of desk attempt.entry ≡ holders → IsReady attempt desk → IsAmong desk.active attempt.entry
       → Goes old attempt most (asks word attempt refused holders desk counts)
@@ -147,8 +142,7 @@ module _ (word : Word) (attempt : Attempt) (most : ℕ) (old : Desk) where
       → attempt.lines ≡ wanted desk attempt.entry
       → Goes old attempt most (attempts word attempt outcome desk counts)
   goes-attempt (Check code) desk counts fits from is here now went lines = ((rolled-consistent desk attempt.entry is, tt, omega (arith, fits)), rolled-done old attempt desk from)
-  goes-attempt (On next) desk counts fits from is here now went lines = goes-limit (is_over_limit attempt desk) desk counts fits from refl is here now went lines
-  goes-attempt Commit desk counts fits from is here now went lines = goes-limit (is_over_limit attempt desk) desk counts fits from refl is here now went lines
+  goes-attempt _ desk counts fits from is here now went lines = goes-limit (is_over_limit attempt desk) desk counts fits from refl is here now went lines
 
 -- what the instruction of an active number does
 pub record Instructed (number most : ℕ) (old : Desk) (turning : Turning) : Type 0 where

@@ -1,5 +1,5 @@
 -- Where waits lead.
-use Rattle.desk_law.proofs.Common.{◌≡◌, refl, ℕ, zero, suc, ◌<◌, ◌≤◌, ◌==◌, ◌&&◌, ◌||◌, ◌⊎◌, not, if◌then◌else◌, Bool, true, false, List, [], ◌∷◌, length, filter, list_any, arith, ap, sym, ◌∙◌, subst, inl, inr, eqb-true, both_ways, and_from, or_cases, cases_Bool, not_from_false, false_from_ne_true, has, leads, any-at, any-some, HasNoCycle, except, nat_tests}
+use Rattle.desk_law.proofs.Common.{◌≡◌, ℕ, zero, suc, ◌<◌, ◌≤◌, ◌==◌, ◌&&◌, ◌||◌, ◌⊎◌, not, Bool, true, false, List, [], ◌∷◌, length, filter, list_any, arith, ap, ◌∙◌, subst, inl, inr, eqb-true, both_ways, and_from, cases_Bool, not_from_false, false_from_ne_true, has, leads, any-at, any-some, HasNoCycle, except, nat_tests}
 use Rattle.desk_law.proofs.Entries.{filter-short}
 
 -- the first step of a walk
@@ -101,16 +101,9 @@ by-or-without waits all one (suc steps) from to walk =
 pub no-cycle-from : (waits : ℕ → ℕ → Bool) (all : List ℕ) (one : ℕ) → HasNoCycle (except one waits) all
     → ((steps : ℕ) → leads waits all steps one one ≡ false) → HasNoCycle waits all
 no-cycle-from waits all one none not_back steps number =
-    false_from_ne_true (leads waits all steps number number)
-    (λ walk. elim (by-or-without waits all one steps number number walk) [
-      | inl without ↦ both_ways (leads (except one waits) all steps number number) (none steps number) without
-      | inr by ↦ elim by.until [
-        | inl same ↦ both_ways (leads waits all by.steps one one) (not_back by.steps) (ap (leads waits all by.steps one) (sym same) ∙ by.onwards)
-        | inr before ↦
-            let (sum, round) = walk-on waits all by.steps before.0 one number one by.onwards before.1 in
-            both_ways (leads waits all sum one one) (not_back sum) round
-      ]
-    ])
+    let by = by-or-without waits all one steps number number in
+    let on = λ (first second : ℕ). walk-on waits all first second one number one in
+    grind (arith, by, none steps number, not_back, on)
 
 -- with fewer waits there is no cycle either
 pub no-cycle-fewer : (fewer waits : ℕ → ℕ → Bool) (less all : List ℕ)
@@ -134,17 +127,8 @@ stays-away : (one : ℕ) (new old : ℕ → ℕ → Bool) (all : List ℕ) (step
 stays-away one new old all zero from to leaves other walk = absurd (cc)
 stays-away one new old all (suc steps) from to leaves other walk =
     let first = first-step new all steps from to walk in
-    let away : (from == one) ≡ false = away-from one new old all (suc steps) from to leaves walk in
-    let step : (first.next == one) ≡ false → except one old from first.next ≡ true =
-    λ next_away. and_from (not (from == one)) (old from first.next) (not_from_false (from == one) away) (leaves.kept from first.next next_away first.step) in
-    elim first.rest [
-      | inl same ↦
-          one-step (except one old) all steps from to first.next first.there
-          (step (ap (λ (x : ℕ). x == one) same ∙ other)) (inl same)
-      | inr later ↦
-          one-step (except one old) all steps from to first.next first.there
-          (step (away-from one new old all steps first.next to leaves later)) (inr (stays-away one new old all steps first.next to leaves other later))
-    ]
+    let away = away-from one new old all (suc steps) from to leaves walk in
+    grind (arith, nat_tests, first.there, first.step, first.rest, away, leaves.kept from first.next, away-from one new old all steps first.next to leaves, stays-away one new old all steps first.next to leaves other, one-step (except one old) all steps from to first.next)
 
 pub no-cycle-leaves : (one : ℕ) (new old : ℕ → ℕ → Bool) (all : List ℕ) → Leaves one new old → HasNoCycle (except one old) all → HasNoCycle new all
 no-cycle-leaves one new old all leaves none steps number =
@@ -161,24 +145,11 @@ count-le test wider (x ∷ xs) wide = grind (arith, nat_tests, count-le test wid
 pub count-lt : (test wider : ℕ → Bool) (xs : List ℕ) → ((x : ℕ) → test x ≡ true → wider x ≡ true)
     → list_any (λ x. wider x && not (test x)) xs ≡ true → length (filter test xs) < length (filter wider xs)
 count-lt test wider [] wide some = absurd (cc)
-count-lt test wider (x ∷ xs) wide some = by_test (test x) (wider x) refl refl (count-le test wider xs wide) (count-lt test wider xs wide) some
-  where
-    by_test :
-        (one two : Bool) → test x ≡ one → wider x ≡ two → length (filter test xs) ≤ length (filter wider xs)
-        → (list_any (λ x. wider x && not (test x)) xs ≡ true → length (filter test xs) < length (filter wider xs))
-        → ((two && not one) || list_any (λ x. wider x && not (test x)) xs) ≡ true
-        → length (if one then x ∷ filter test xs else filter test xs) < length (if two then x ∷ filter wider xs else filter wider xs)
-    by_test one two e f le rest some = grind (arith, nat_tests, both_ways)
+count-lt test wider (x ∷ xs) wide some = grind (arith, nat_tests, count-le test wider xs wide, count-lt test wider xs wide)
 
 pub all-pass : (test : ℕ → Bool) (xs : List ℕ) → length xs ≤ length (filter test xs) → (x : ℕ) → has xs x ≡ true → test x ≡ true
 all-pass test [] full x inside = absurd (cc)
-all-pass test (y ∷ ys) full x inside = by_test (test y) refl full (all-pass test ys) inside
-  where
-    by_test :
-        (one : Bool) → test y ≡ one → suc (length ys) ≤ length (if one then y ∷ filter test ys else filter test ys)
-        → (length ys ≤ length (filter test ys) → (x : ℕ) → has ys x ≡ true → test x ≡ true)
-        → (y == x || has ys x) ≡ true → test x ≡ true
-    by_test one e full rest inside = grind (arith, nat_tests, or_cases, eqb-true, filter-short)
+all-pass test (y ∷ ys) full x inside = grind (arith, nat_tests, filter-short test ys, all-pass test ys)
 
 -- whether so many steps lead to a number
 abbrev reach : (ℕ → ℕ → Bool) → List ℕ → ℕ → ℕ → ℕ → Bool
@@ -194,28 +165,16 @@ stable-stays : (waits : ℕ → ℕ → Bool) (all : List ℕ) (to steps : ℕ) 
 stable-stays waits all to steps stable zero x inside walk = absurd (cc)
 stable-stays waits all to steps stable (suc more) x inside walk =
     let first = first-step waits all more x to walk in
-    stable x inside
-    (one-step waits all steps x to first.next first.there first.step
-    (elim first.rest [
-      | inl same ↦ inl same
-      | inr later ↦ inr (stable-stays waits all to steps stable more first.next first.there later)
-    ]))
+    grind (arith, first.there, first.step, first.rest, stable x inside, one-step waits all steps x to first.next, stable-stays waits all to steps stable more first.next)
 
 -- so many steps are stable, or more numbers lead there than with fewer
 stable-or-more : (waits : ℕ → ℕ → Bool) (all : List ℕ) (to steps : ℕ)
     → Stable waits all to steps ⊎ (length (filter (reach waits all to steps) all) < length (filter (reach waits all to (suc steps)) all))
 stable-or-more waits all to steps =
-    elim (cases_Bool (list_any (λ x. reach waits all to (suc steps) x && not (reach waits all to steps x)) all)) [
-      | inl some ↦ inr (count-lt (reach waits all to steps) (reach waits all to (suc steps)) all (λ x walk. leads-more waits all steps (suc steps) x to (omega arith) walk) some)
-      | inr none ↦ inl (λ x inside walk.
-          elim (cases_Bool (leads waits all steps x to)) [
-            | inl fine ↦ fine
-            | inr not_yet ↦
-                absurd (both_ways (list_any (λ x. reach waits all to (suc steps) x && not (reach waits all to steps x)) all) none
-                (any-at (λ x. reach waits all to (suc steps) x && not (reach waits all to steps x)) all x inside
-                (and_from (leads waits all (suc steps) x to) (not (leads waits all steps x to)) walk (not_from_false (leads waits all steps x to) not_yet))))
-          ])
-    ]
+    let more = leads-more waits all steps (suc steps) in
+    let count = count-lt (reach waits all to steps) (reach waits all to (suc steps)) all in
+    let any = any-at (λ x. reach waits all to (suc steps) x && not (reach waits all to steps x)) all in
+    grind (arith, more, count, any)
 
 -- some number of steps is stable, or each brought one number more
 record StableBy (waits : ℕ → ℕ → Bool) (all : List ℕ) (to most : ℕ) : Type 0 where
