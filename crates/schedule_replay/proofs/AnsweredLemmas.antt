@@ -1,5 +1,5 @@
 -- Events, one after another.
-use Rattle.schedule_replay.proofs.Common.{◌≡◌, ℕ, ◌+◌, ◌<◌, ◌≤◌, List, [], ◌∷◌, ◌++◌, length, get_or, take, drop, cond, sym, ◌∙◌, ap, subst, arith, rules, false, Result, Ok, Err, IsErr, unwrap_or, take_all, take_more, take-append-drop, sum_by-append, Failed, Ghosts, FailsOnlyCounted, cause_since, FewerLater, elapses-trans, Header, bank_of, chosen, Event, HoldsStore, Line, Going, is_begin, is_turn, begins_in, turns_in, IsReady, Answered, GoesBy, GoesShut, Puts, nat_tests}
+use Rattle.schedule_replay.proofs.Common.{◌≡◌, ℕ, ◌+◌, ◌<◌, ◌≤◌, List, [], ◌∷◌, ◌++◌, length, get_or, take, drop, cond, sym, ◌∙◌, ap, subst, arith, false, Result, Ok, IsErr, take_all, take_more, take-append-drop, sum_by-append, Failed, Ghosts, FailsOnlyCounted, cause_since, FewerLater, elapses-trans, Event, HoldsStore, Line, Going, is_begin, is_turn, begins_in, turns_in, IsReady, Answered, GoesBy, GoesShut, Puts, nat_tests}
 use Rattle.desk.specs.declared.supervisor.Supervisor as desk
 use Rattle.schedule_replay.specs.declared.events.Going.TheVariants as going
 use Rattle.schedule_replay.proofs.PutsLemmas.{done}
@@ -17,15 +17,7 @@ parted events i event lt = ap (λ (front : List Event). front ++ drop (i + 1) ev
 module _ {D W : Type 0} (S : desk.Ghosts D) (G : Ghosts W) (fewer_later : FewerLater G) where
   -- some events were answered, and then some more
   pub answered_on : {T U : Type 0} (xs ys : List Event) (old mid new : D) (before between after : W) (value : T) (result : Result U Failed) → Answered S G xs old mid before between (Ok value) → Answered S G ys mid new between after result → Answered S G (xs ++ ys) old new before after result
-  answered_on xs ys old mid new before between after value result one two =
-      grind (
-        arith,
-        nat_tests,
-        begins_split xs ys,
-        turns_split xs ys,
-        elapses-trans G fewer_later before between after one.time two.time,
-        cause_since (G.put_faults before) (G.put_faults between) (G.put_faults after) value result one.cause two.cause,
-      )
+  answered_on xs ys old mid new before between after value result one two = grind (arith, begins_split xs ys, turns_split xs ys, (elapses-trans G fewer_later before between after one.time two.time), cause_since (G.put_faults before) (G.put_faults between) (G.put_faults after) value result one.cause two.cause)
 
   -- nothing was answered yet
   pub answered_none : (desk : D) (w : W) → S.sound desk → HoldsStore G (S.fixed desk).header w → Answered S G [] desk desk w w done
@@ -38,19 +30,7 @@ module _ {D W : Type 0} (S : desk.Ghosts D) (G : Ghosts W) (fewer_later : FewerL
   module _ (events : List Event) (i : ℕ) (event : Event) (lt : i < length events) (old mid : D) (before between : W) where
     -- the next event may be asked
     pub ready_next : IsReady S G events old before → Answered S G (take i events) old mid before between done → IsReady S G (get_or events i event ∷ []) mid between
-    ready_next ready so_far =
-        grind (
-          arith,
-          nat_tests,
-          take i events,
-          get_or events i event,
-          drop (i + 1) events,
-          parted events i event lt,
-          begins_split (take i events ++ get_or events i event ∷ []) (drop (i + 1) events),
-          begins_split (take i events) (get_or events i event ∷ []),
-          turns_split (take i events ++ get_or events i event ∷ []) (drop (i + 1) events),
-          turns_split (take i events) (get_or events i event ∷ []),
-        )
+    ready_next ready so_far = grind (arith, (parted events i event lt), begins_split, turns_split)
 
     pub answered_more : {T : Type 0} (new : D) (after : W) (result : Result T Failed) → Answered S G (take i events) old mid before between done → Answered S G (get_or events i event ∷ []) mid new between after result → Answered S G (take (i + 1) events) old new before after result
     answered_more new after result one two = grind (arith, nat_tests, take_more events i event lt, answered_on (take i events) (get_or events i event ∷ []) old mid new before between after 0 result one two, take i events, get_or events i event)
@@ -64,18 +44,14 @@ module _ {D W : Type 0} (S : desk.Ghosts D) (G : Ghosts W) (fewer_later : FewerL
   answered_well events old new before after value other is = answered_as events old new before after (Ok value) (Ok other) (λ cause. record { later = cause.later; failed = tt; done = cause.done }) is
 
   broken_cause : {T U : Type 0} (before after : ℕ) (result : Result T Failed) (other : Result U Failed) → IsErr result → IsErr other → FailsOnlyCounted before after result → FailsOnlyCounted before after other
-  broken_cause before after (Ok value) other one two cause = absurd (search (rules, one))
-  broken_cause before after (Err failed) (Ok other) one two cause = absurd (search (rules, two))
-  broken_cause before after (Err failed) (Err other) one two cause = record { later = cause.later; failed = cause.failed; done = tt }
+  broken_cause before after result other one two cause = grind arith
 
   pub answered_broken : {T U : Type 0} (events : List Event) (old new : D) (before after : W) (result : Result T Failed) (other : Result U Failed) → IsErr result → IsErr other → Answered S G events old new before after result → Answered S G events old new before after other
   answered_broken events old new before after result other one two is = answered_as events old new before after result other (broken_cause (G.put_faults before) (G.put_faults after) result other one two) is
 
 -- it goes on so from an earlier moment, and a supervisor that was open before
 pub goes_since : {D W : Type 0} (S : desk.Ghosts D) (G : Ghosts W) (going : Going) (old mid new : D) (before between after : W) → (S.fixed mid).header ≡ (S.fixed old).header → (S.closed old ≡ false → S.closed mid ≡ false) → G.disk_faults before ≤ G.disk_faults between → GoesBy S G mid new between after going → GoesBy S G old new before after going
-goes_since S G going.On old mid new before between after header still disk goes = λ was_open. goes (still was_open)
-goes_since S G going.Closed old mid new before between after header still disk goes = (goes.0, λ was_open. let rose = goes.1 (still was_open) in omega (arith, rose, disk))
-goes_since S G (going.Damaged offset) old mid new before between after header still disk goes = (goes.0, λ told. ap (λ (these : Header). bank_of (unwrap_or (G.held after) []) these (chosen (unwrap_or (G.held after) []))) (sym header) ∙ goes.1 told)
+goes_since S G going old mid new before between after header still disk goes = grind (arith, header)
 
 -- a supervisor that was closed before: an event was asked of it
 pub shut_asked : (events : List Event) (i : ℕ) (how : Going) → i < length events → how ≡ going.Closed → GoesShut events how

@@ -1,5 +1,5 @@
 -- What lines tell of the journal and of faults of the disk, and how many puts they are.
-use Rattle.schedule_replay.proofs.Common.{◌≡◌, ℕ, ◌+◌, List, [], ◌∷◌, ◌++◌, map, cond, refl, subst, arith, rules, false, count_by, Some, None, Result, Ok, Err, IsErr, OnOk, flat_map, sum_by-append, Failed, Begun, Turn, TurnEnd, Stored, Reopened, begun_told, turn_told, counts_told, stored_told, reopened_told, Counts, Ending, Journal, JournalAfter, KeepsJournal, journal_emptied, journal_with, tells_fault, turn_fails, stored_fails, reopened_fails, Line, cycle_lines, turn_lines, happening_lines, ending_lines, nat_tests, Happening, Turned, Crashed, CrashFailed}
+use Rattle.schedule_replay.proofs.Common.{◌≡◌, ℕ, ◌+◌, List, [], ◌∷◌, ◌++◌, map, cond, refl, subst, arith, false, count_by, Result, IsErr, OnOk, flat_map, sum_by-append, Failed, Begun, Turn, TurnEnd, Stored, Reopened, begun_told, turn_told, counts_told, stored_told, reopened_told, Counts, Ending, Journal, JournalAfter, KeepsJournal, journal_emptied, journal_with, tells_fault, turn_fails, stored_fails, reopened_fails, Line, cycle_lines, turn_lines, happening_lines, ending_lines, nat_tests, Happening, Turned, Crashed, CrashFailed}
 use Rattle.desk.specs.declared.answers.TurnEnd.TheVariants as end
 use Rattle.desk.specs.declared.answers.Reopened.TheVariants as reopened
 use Rattle.desk.specs.Instruction as turn
@@ -61,10 +61,7 @@ module _ (names : List (List ℕ)) (number : ℕ) where
 
   -- a turn whose lines tell of no fault didn't fail
   pub turn_calm : (activation : ℕ) (answer : Turn) (ends : TurnEnd) (printed : List ℕ) → faults_in (happening_lines names number (turn_told activation (record answer { end = ends }) printed)) ≡ 0 → turn_fails ends ≡ false
-  turn_calm activation answer end.Disk printed none = absurd (let some = counted_faults activation (counts_told answer) (line.Disk activation ∷ []) in omega (arith, some, none))
-  turn_calm activation answer (end.Closed None told) printed none = absurd (let some = counted_faults activation (counts_told answer) (line.Closed ∷ []) in omega (arith, some, none))
-  turn_calm activation answer (end.Closed (Some doubt) told) printed none = absurd (let some = counted_faults activation (counts_told answer) (line.Doubt activation number ∷ line.Closed ∷ []) in omega (arith, some, none))
-  turn_calm activation answer _ printed none = refl
+  turn_calm activation answer ends printed none = grind (arith, nat_tests, counted_faults activation (counts_told answer))
 
   -- nor a checkpoint
   pub stored_calm : (answer : Stored) → faults_in (happening_lines names number (stored_told answer)) ≡ 0 → stored_fails answer ≡ false
@@ -72,8 +69,7 @@ module _ (names : List (List ℕ)) (number : ℕ) where
 
   -- nor a crash
   pub reopened_calm : (lost : List ℕ) (answer : Reopened) → faults_in (happening_lines names number (reopened_told lost answer)) ≡ 0 → reopened_fails answer ≡ false
-  reopened_calm lost reopened.DiskFault none = absurd (let split = faults_on (map line.Lost lost) (line.Closed ∷ []) in omega (arith, split, none))
-  reopened_calm lost _ none = refl
+  reopened_calm lost answer none = grind (arith, nat_tests, faults_on (map line.Lost lost) (line.Closed ∷ []))
 
 -- a begin leaves the journal
 pub begun_keep : (program : ℕ) (answer : Begun) (journal : Journal) → JournalAfter (begun_told program answer) journal journal
@@ -81,6 +77,4 @@ begun_keep program answer journal = grind arith
 
 -- what is said of success is said of another result, which fails where this one does
 pub on_ok_as : {T U : Type 0} (P : Type 0) (result : Result T Failed) (other : Result U Failed) → (IsErr result → IsErr other) → OnOk result P → OnOk other P
-on_ok_as P (Ok value) (Ok other) so on = on
-on_ok_as P (Err failed) (Ok other) so on = absurd (let no = so refl in search (rules, no))
-on_ok_as P _ _ so on = tt
+on_ok_as P result other so on = grind arith

@@ -1,5 +1,5 @@
 -- What one event keeps, how it goes on, and the numbers in its lines.
-use Rattle.schedule_replay.proofs.Common.{◌≡◌, ℕ, ◌+◌, ◌*◌, ◌≤◌, List, [], ◌∷◌, refl, sym, ap, ◌∙◌, subst, arith, true, false, Bool, Option, Result, Ok, Err, IfOk, Failed, Ghosts, IsSure, OnlyAsks, FewerLater, held_of, leaves_held, Program, stands, Event, Begun, Turn, TurnEnd, Stored, Reopened, begun_told, turn_told, stored_told, reopened_told, turn_closes, turn_fails, stored_closes, stored_fails, reopened_closes, reopened_fails, HasNumbers, StoredNumber, IsReopened, Did, standing_of, Desk, numbers, Fine, CallsStore, FailsCounted, Fixed, StaysShut, HoldsStore, IsDamage, WritesMore, writes_due, Line, happening_lines, number_after, step, AreNames, Answered, GoesBy, Going, begins_in, turns_in, Puts, number_told, stored_number, reopened_number, WasStep, WentBy, going_if, going_begun, going_by, is_closed, is_damaged, nat_tests, result_and}
+use Rattle.schedule_replay.proofs.Common.{◌≡◌, ℕ, ◌+◌, ◌*◌, ◌≤◌, List, [], ◌∷◌, sym, ap, ◌∙◌, subst, arith, true, false, Bool, Option, Result, Ok, IfOk, Failed, Ghosts, IsSure, OnlyAsks, FewerLater, held_of, leaves_held, Program, stands, Event, Begun, Turn, TurnEnd, Stored, Reopened, begun_told, turn_told, stored_told, reopened_told, turn_closes, turn_fails, stored_closes, stored_fails, reopened_closes, reopened_fails, HasNumbers, StoredNumber, IsReopened, Did, standing_of, Desk, numbers, Fine, CallsStore, FailsCounted, Fixed, StaysShut, HoldsStore, IsDamage, WritesMore, writes_due, Line, happening_lines, number_after, step, AreNames, Answered, GoesBy, Going, begins_in, turns_in, Puts, number_told, stored_number, reopened_number, WasStep, WentBy, going_if, going_begun, going_by, is_closed, is_damaged, nat_tests, result_and}
 use Rattle.desk.specs.declared.event.Event.TheVariants as event
 use Rattle.desk.specs.declared.answers.Begun.TheVariants as begun
 use Rattle.desk.specs.declared.answers.TurnEnd.TheVariants as end
@@ -43,9 +43,7 @@ undamaged_if shut = grind arith
 
 -- a supervisor is closed where it doesn't go on
 pub begun_closes : (answer : Begun) (old new : Bool) {same : Type 0} → new ≡ old → StaysShut old (answer ≡ begun.Shut) same → new ≡ is_closed (going_begun answer)
-begun_closes answer true new is stays = is ∙ sym (ap (λ (these : Begun). is_closed (going_begun these)) (stays.shut.1 refl))
-begun_closes begun.Shut false new is stays = is ∙ stays.shut.0 refl
-begun_closes _ false new is stays = is
+begun_closes answer old new is stays = grind arith
 
 pub if_closes : (shut : Bool) → shut ≡ is_closed (going_if shut)
 if_closes shut = grind (arith, nat_tests)
@@ -64,21 +62,15 @@ module _ {D W : Type 0} (S : desk.Ghosts D) (G : Ghosts W) where
 
   pub goes_if : (shut fails : Bool) {told same : Type 0} (old new : D) (before between after : W) → S.closed new ≡ shut → StaysShut (S.closed old) told same → (shut ≡ true → fails ≡ false → told) → FailsCounted fails (G.disk_faults before) (G.disk_faults between)
       → G.disk_faults after ≡ G.disk_faults between → GoesBy S G old new before after (going_if shut)
-  goes_if true true old new before between after closed stays told rose disk = (closed, λ was_open. omega (arith, rose, disk))
-  goes_if true false old new before between after closed stays told rose disk = (closed, λ was_open. absurd (let is : S.closed old ≡ true = stays.shut.0 (told refl refl) in let no : ⊥ = cc in no))
-  goes_if false fails old new before between after closed stays told rose disk = λ was_open. closed
+  goes_if shut fails old new before between after closed stays told rose disk = grind (arith, stays.shut)
 
   pub goes_crash : (answer : Reopened) (old new : D) (before between after : W) → S.closed new ≡ reopened_closes answer → StaysShut (S.closed old) (answer ≡ reopened.Shut) ((new ≡ old) × (between ≡ before)) → FailsCounted (reopened_fails answer) (G.disk_faults before) (G.disk_faults between) → IsDamage G (S.fixed old).header before answer
       → G.disk_faults after ≡ G.disk_faults between → G.held after ≡ G.held before → GoesBy S G old new before after (going_by answer)
-  goes_crash (reopened.Number told) old new before between after closed stays rose damage disk held = λ was_open. closed
-  goes_crash (reopened.Damaged offset) old new before between after closed stays rose damage disk held = grind (arith, nat_tests)
-  goes_crash reopened.DiskFault old new before between after closed stays rose damage disk held = (closed, λ was_open. omega (arith, rose, disk))
-  goes_crash reopened.Shut old new before between after closed stays rose damage disk held = (closed, λ was_open. absurd (let is : S.closed old ≡ true = stays.shut.0 refl in let no : ⊥ = cc in no))
+  goes_crash answer old new before between after closed stays rose damage disk held = grind (arith, nat_tests)
 
   -- a supervisor that closed at a begin was closed before
   pub goes_begin : (answer : Begun) {same : Type 0} (old new : D) (before after : W) → S.closed new ≡ S.closed old → StaysShut (S.closed old) (answer ≡ begun.Shut) same → GoesBy S G old new before after (going_begun answer)
-  goes_begin begun.Shut old new before after closed stays = grind (arith, nat_tests)
-  goes_begin _ old new before after closed stays = λ was_open. closed ∙ was_open
+  goes_begin answer old new before after closed stays = grind (arith, nat_tests)
 
   module _ (names : List (List ℕ)) (programs : List Program) where
     -- a begin asks no disk
@@ -150,5 +142,4 @@ module _ {D W : Type 0} (S : desk.Ghosts D) (G : Ghosts W) where
       all = puts_and G between after lines put way puts
 
       if_ok_and : (P : Going → Type 0) → P told → (how : Result T Failed) → IfOk (result_and how (Ok way)) P
-      if_ok_and P holds (Ok value) = subst P (sym is) holds
-      if_ok_and P holds (Err why) = tt
+      if_ok_and P holds how = grind (arith, is)

@@ -1,5 +1,5 @@
 -- Puts of lines, one after another.
-use Rattle.schedule_replay.proofs.Common.{◌≡◌, ⊎_elim, ℕ, ◌+◌, ◌<◌, List, [], ◌∷◌, ◌++◌, length, map, get_or, take, drop, min, refl, sym, ◌∙◌, ap, subst, append_assoc, append-nil, length-append, arith, rules, IsSome, Option, None, Some, Result, Ok, Err, IsErr, unwrap_or, map-append, take_more, take-append-drop, take_min, take-append-le, flat_map-append, flat_map, Failed, Ghosts, Prints, AreTold, Elapses, Shows, OnlyPuts, FewerLater, prints_on, prints_stop, prints_same, prints_well, only_on, leaves_on, told_is, Cycle, Line, line_text, cycle_lines, Puts, PutsTimes, shown_of, BeginsWith, nat_tests, result_and}
+use Rattle.schedule_replay.proofs.Common.{◌≡◌, ℕ, ◌+◌, ◌<◌, List, [], ◌∷◌, ◌++◌, length, map, get_or, take, drop, min, refl, sym, ◌∙◌, ap, subst, append_assoc, append-nil, length-append, arith, rules, IsSome, Option, None, Some, Result, Ok, Err, IsErr, unwrap_or, map-append, take_more, take-append-drop, take_min, take-append-le, flat_map-append, flat_map, Failed, Ghosts, Prints, AreTold, Elapses, Shows, OnlyPuts, FewerLater, prints_on, prints_stop, prints_same, prints_well, only_on, leaves_on, told_is, Cycle, Line, line_text, cycle_lines, Puts, PutsTimes, shown_of, BeginsWith, nat_tests, result_and}
 use Rattle.std.proofs.Math.Seq.{take-append-add}
 
 -- a put that went well
@@ -19,8 +19,7 @@ cut_more count one two = take-append-le (min count (length one)) one two (omega 
 
 -- what is printed after lines were put
 pub shown_after : (old new : Option (List ℕ)) (bytes : List ℕ) {T : Type 0} (value : T) → IsSome old → Prints old new bytes (Ok value) → (IsSome new) × (unwrap_or new [] ≡ unwrap_or old [] ++ bytes)
-shown_after None new bytes value told prints = cc
-shown_after (Some old) new bytes value told prints = (subst (λ (those : Option (List ℕ)). IsSome those) (sym prints) refl, ap (λ (those : Option (List ℕ)). unwrap_or those []) prints)
+shown_after old new bytes value told prints = grind arith
 
 module _ {W : Type 0} (G : Ghosts W) where
   -- the same lines
@@ -32,15 +31,7 @@ module _ {W : Type 0} (G : Ghosts W) where
   puts_stop old new first second (Ok value) later one two puts = absurd (search (rules, one))
   puts_stop old new first second (Err why) (Ok value) one two puts = absurd (search (rules, two))
   puts_stop {T} {U} old new first second (Err why) (Err failed) one two puts = record {
-    only = record {
-      held = puts.only.held;
-      writes = puts.only.writes;
-      honest = puts.only.honest;
-      time = puts.only.time;
-      cause = record { later = puts.only.cause.later; failed = puts.only.cause.failed; done = tt };
-      calls = puts.only.calls;
-      disk = puts.only.disk;
-    };
+    only = grind (arith, puts.only);
     printed = prints_same {T = U} (G.printed old) (G.printed new) (text_of first ++ text_of second) (text_of (first ++ second)) (Err failed) (sym (flat_map-append line_text first second))
         (prints_stop (G.printed old) (G.printed new) (text_of first) (text_of second) (Err why) (Err failed) one two puts.printed);
     times = tt;
@@ -64,14 +55,13 @@ module _ {W : Type 0} (G : Ghosts W) where
 
   -- the puts of lines, and then of lines
   pub times_on : {T U : Type 0} (old mid new : W) (first second : List Line) (value : T) (result : Result U Failed) → Prints (G.printed old) (G.printed mid) (text_of first) (Ok value) → PutsTimes {T = T} G (length first) old mid (Ok value) → PutsTimes G (length second) mid new result → PutsTimes G (length (first ++ second)) old new result
-  times_on old mid new first second value (Err failed) prints one two = tt
-  times_on old mid new first second value (Ok other) prints one two = grind (arith, nat_tests, shown_after, length-append)
+  times_on old mid new first second value result prints one two = grind (arith, nat_tests, shown_after, length-append)
 
   -- no time goes by
   pub no_time : (w : W) → Elapses G.moment G.left_since w w
   no_time w = grind (arith, nat_tests)
 
-  printed_none : {T : Type 0} (told : Option (List ℕ)) (value : T) → Prints told told [] (Ok value)
+  pub printed_none : {T : Type 0} (told : Option (List ℕ)) (value : T) → Prints told told [] (Ok value)
   printed_none None value = refl
   printed_none (Some bytes) value = ap (λ (these : List ℕ). Some these) (sym (append-nil bytes))
 
@@ -94,12 +84,7 @@ module _ {W : Type 0} (G : Ghosts W) where
             printed = prints_same (G.printed old) (G.printed new) (text_of first ++ text_of second) (text_of (first ++ second)) result (sym whole)
                 (prints_on (G.printed old) (G.printed mid) (G.printed new) (text_of first) (text_of second) value result one.printed two.printed);
             times = times_on old mid new first second value result one.printed one.times two.times;
-            images = λ image seen left.
-                ⊎_elim (one.images image seen)
-                (λ since.
-                let from = two.images image seen since in
-                one.images image from.0 (fewer_later mid (G.moment old) (G.moment mid) image from.0 one.only.time.later from.1))
-                (two.only.time.nothing_else (G.moment old) image seen one.only.time.later left);
+            images = λ image seen left. grind (arith, one.images image, two.images image seen, two.only.time.nothing_else (G.moment old) image seen one.only.time.later left, fewer_later mid (G.moment old) (G.moment mid) image);
             crash = λ told.
                 let after = shown_after (G.printed old) (G.printed mid) (text_of first) value told one.printed in
                 leaves_on G fewer_later old mid new one.only.time two.only.time
@@ -113,8 +98,7 @@ module _ {W : Type 0} (G : Ghosts W) where
                   start.0,
                   (
                     length (text_of first) + from.1.0,
-                    from.1.1 ∙ ap (λ (these : List ℕ). these ++ take from.1.0 (text_of second)) after.1 ∙ append_assoc (shown_of G old) (text_of first) (take from.1.0 (text_of second))
-                        ∙ ap (λ (bytes : List ℕ). shown_of G old ++ bytes) (sym (take-append-add (text_of first) (text_of second) from.1.0) ∙ ap (λ (bytes : List ℕ). take (length (text_of first) + from.1.0) bytes) (sym whole)),
+                    cc (from.1.1, after.1, append_assoc (shown_of G old) (text_of first) (take from.1.0 (text_of second)), take-append-add (text_of first) (text_of second) from.1.0, whole),
                   ),
                 ));
           }
@@ -140,21 +124,16 @@ cycles_split xs ys = grind (arith, nat_tests, map-append, flat_map-append)
 
 -- bytes that were put begin with none
 pub begins_none : {T : Type 0} (old new : Option (List ℕ)) (bytes : List ℕ) (result : Result T Failed) → Prints old new bytes result → BeginsWith old new []
-begins_none None new bytes result prints = tt
-begins_none (Some old) new bytes (Ok value) prints = (bytes, prints)
-begins_none (Some old) new bytes (Err failed) prints = (take prints.0 bytes, prints.1)
+begins_none old new bytes result prints = grind (arith, nat_tests)
 
 -- nothing was put
 pub begins_same : (old new : Option (List ℕ)) → new ≡ old → BeginsWith old new []
-begins_same None new same = tt
-begins_same (Some old) new same = ([], same ∙ ap (λ (all : List ℕ). Some all) (sym (append-nil old)))
+begins_same old new same = grind (arith, append-nil)
 
 -- they still begin so with more behind them
 pub begins_on : (old mid new : Option (List ℕ)) (bytes : List ℕ) → BeginsWith old mid bytes → BeginsWith mid new [] → BeginsWith old new bytes
-begins_on None mid new bytes one two = tt
-begins_on (Some old) mid new bytes one two = grind (arith, nat_tests, append_assoc)
+begins_on old mid new bytes one two = grind (arith, nat_tests, append_assoc)
 
 -- bytes in front of those that begin so
 pub begins_behind : {T : Type 0} (old mid new : Option (List ℕ)) (first second : List ℕ) (value : T) → Prints old mid first (Ok value) → BeginsWith mid new second → BeginsWith old new (first ++ second)
-begins_behind None mid new first second value one two = tt
-begins_behind (Some old) mid new first second value one two = grind (arith, nat_tests, append_assoc)
+begins_behind old mid new first second value one two = grind (arith, nat_tests, append_assoc)

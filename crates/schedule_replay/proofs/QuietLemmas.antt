@@ -1,5 +1,5 @@
 -- Events without a report, one after another.
-use Rattle.schedule_replay.proofs.Common.{◌≡◌, ℕ, ◌+◌, ◌<◌, List, [], ◌∷◌, ◌++◌, length, cond, take, get_or, refl, sym, ap, ◌∙◌, subst, arith, false, not, count_by, Option, None, Some, IfSome, flat_map, fold, map-append, length-map, take_more, fold-append, sum_by-append, Ghosts, IsSure, CallsDisk, FewerLater, held_of, leaves_held, Program, stands, Turn, TurnEnd, Event, Begun, begun_told, turn_told, stored_told, counts_told, Stored, is_commit, standing_of, IsEitherOf, Desk, Word, Doubt, Line, cycle_lines, event_lines, happening_lines, Step, run, step, faulted, stage_either, stage_none, run_on, open_on, lines_on, faulted_on, Stepped, counted_quiet, step_by, RanQuietly, Tells, WentQuietly, is_rollback, last_by, out_after, tally_begun, tally_by, tally_stored, InDoubt, RanTo, WasStep, nat_tests}
+use Rattle.schedule_replay.proofs.Common.{◌≡◌, ℕ, ◌+◌, ◌<◌, List, [], ◌∷◌, ◌++◌, length, cond, take, get_or, refl, sym, ap, ◌∙◌, subst, arith, false, not, count_by, Option, IfSome, flat_map, fold, map-append, length-map, take_more, fold-append, sum_by-append, Ghosts, IsSure, CallsDisk, FewerLater, held_of, leaves_held, Program, stands, Turn, TurnEnd, Event, Begun, begun_told, turn_told, stored_told, counts_told, Stored, is_commit, standing_of, IsEitherOf, Desk, Word, Doubt, Line, cycle_lines, event_lines, happening_lines, Step, run, step, faulted, stage_either, stage_none, run_on, open_on, lines_on, faulted_on, Stepped, counted_quiet, step_by, RanQuietly, Tells, WentQuietly, is_rollback, last_by, out_after, tally_begun, tally_by, tally_stored, InDoubt, RanTo, WasStep, nat_tests}
 use Rattle.schedule_replay.specs.declared.quietly.Tally.{Tally}
 use Rattle.desk.specs.declared.answers.TurnEnd.TheVariants as end
 use Rattle.desk.specs.declared.supervisor.Supervisor as desk
@@ -25,34 +25,20 @@ rolled activation answer ends = grind (arith, nat_tests, cycles_roll, length-map
 
 -- the tally of a begin is that of its line
 pub begin_tells : (number program : ℕ) (answer : Begun) (last : List ℕ) → IfSome (tally_begun answer) (λ tally. Tells tally last last (happening_lines [] number (begun_told program answer)))
-begin_tells number program begun.Shut last = tt
-begin_tells number program _ last = record { commits = refl; rollbacks = refl; last = refl }
+begin_tells number program answer last = grind arith
 
 -- and that of a checkpoint
 pub stored_tells : (number : ℕ) (answer : Stored) (last : List ℕ) → IfSome (tally_stored answer) (λ tally. Tells tally last last (happening_lines [] number (stored_told answer)))
-stored_tells number (stored.Number told) last = record { commits = refl; rollbacks = refl; last = refl }
-stored_tells number _ last = tt
+stored_tells number answer last = grind arith
 
 -- the tally of a turn's counts, its cycles and the lines of its end
 counted_tells : (activation commits rollbacks : ℕ) (answer : Turn) (ends : List Line) (old new : List ℕ) → commits ≡ count_by is_commit ends → rollbacks ≡ length answer.cycles.items + count_by is_rollback ends → new ≡ fold out_after old ends
     → Tells (record { commits = commits; rollbacks = rollbacks }) old new (line.Turn activation answer.ran answer.pages answer.locks ∷ (flat_map cycle_lines (counts_told answer).cycles ++ ends))
-counted_tells activation commits rollbacks answer ends old new one two last = record {
-  commits = one ∙ sym (counted_quiet activation (counts_told answer) ends);
-  rollbacks = let all = rolled activation answer ends in omega (arith, all, two);
-  last = last ∙ sym (cycles_last old (counts_told answer).cycles ends);
-}
+counted_tells activation commits rollbacks answer ends old new one two last = grind (arith, counted_quiet activation (counts_told answer) ends, rolled activation answer ends, cycles_last old (counts_told answer).cycles ends)
 
 -- the tally of a turn is that of its lines
 pub turn_tells : (number activation : ℕ) (answer : Turn) (ends : TurnEnd) (printed last : List ℕ) → IfSome (tally_by ends (length answer.cycles.items)) (λ tally. Tells tally last (last_by ends printed last) (happening_lines [] number (turn_told activation (record answer { end = ends }) printed)))
-turn_tells number activation answer end.Idle printed last = record { commits = refl; rollbacks = refl; last = refl }
-turn_tells number activation answer (end.Committed told steps) printed last = counted_tells activation 1 (length answer.cycles.items) answer (line.Commit activation number steps printed ∷ []) last printed refl (omega arith) refl
-turn_tells number activation answer (end.Checked code address) printed last = counted_tells activation 0 (length answer.cycles.items + 1) answer (line.Check activation code address ∷ []) last last refl (omega arith) refl
-turn_tells number activation answer (end.Waits told holders) printed last = counted_tells activation 0 (length answer.cycles.items) answer (line.Wait activation holders.items ∷ []) last last refl (omega arith) refl
-turn_tells number activation answer (end.Journal lines limit) printed last = counted_tells activation 0 (length answer.cycles.items + 1) answer (line.Journal activation lines limit ∷ []) last last refl (omega arith) refl
-turn_tells number activation answer end.Disk printed last = counted_tells activation 0 (length answer.cycles.items + 1) answer (line.Disk activation ∷ []) last last refl (omega arith) refl
-turn_tells number activation answer (end.Closed doubt told) printed last = tt
-turn_tells number activation answer end.Shut printed last = tt
-turn_tells number activation answer _ printed last = counted_tells activation 0 (length answer.cycles.items) answer [] last last refl (omega arith) refl
+turn_tells number activation answer ends printed last = grind (arith, rolled activation answer, counted_quiet activation (counts_told answer), cycles_last last (counts_told answer).cycles)
 
 -- a tally and then another
 pub tells_on : (one two both : Tally) (old mid new : List ℕ) (xs ys lines : List Line) → lines ≡ xs ++ ys → both.commits ≡ one.commits + two.commits → both.rollbacks ≡ one.rollbacks + two.rollbacks → Tells one old mid xs → Tells two mid new ys → Tells both old new lines
@@ -63,8 +49,7 @@ tells_nothing last lines none is = grind (arith, nat_tests)
 
 -- of a tally that is there
 if_some : {A : Type 0} (P Q : A → Type 0) (told : Option A) → ((one : A) → P one → Q one) → IfSome told P → IfSome told Q
-if_some P Q None turns is = tt
-if_some P Q (Some one) turns is = turns one is
+if_some P Q told turns is = grind (arith, turns)
 
 module _ {D W : Type 0} (S : desk.Ghosts D) (G : Ghosts W) (fewer_later : FewerLater G) (programs : List Program) (number : ℕ) where
   -- an event went quietly whose step and tally are told

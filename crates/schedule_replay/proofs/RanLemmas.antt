@@ -1,8 +1,8 @@
 -- The runs of a supervisor, one event after another.
-use Rattle.schedule_replay.proofs.Common.{◌≡◌, ℕ, ◌+◌, ◌<◌, List, [], ◌∷◌, ◌++◌, length, map, get_or, take, drop, refl, sym, ap, ◌∙◌, subst, arith, length-append, append-nil, append_assoc, inl, inr, true, false, Option, None, Some, Result, Ok, IsErr, IfOk, flat_map, map-append, take_more, take-append-drop, flat_map-append, Failed, Ghosts, Prints, Elapses, IsSure, FewerLater, Leaves, held_of, told_is, leaves_held, stands, standing_of, elapses-trans, leaves_on, prints_same, prints_on, Program, Event, Desk, Word, Doubt, run, faulted, OpenBeforeEach, Line, line_text, event_lines, commits_seen, IsLeft, IsStage, ArePlain, seen_lines, seen_all, AreNames, Grew, run_grew, run_plain, run_on, open_on, lines_on, faulted_on, left_none, left_more, left_behind, stage_behind, stage_more, stage_none, PutsTimes, shown_of, Ran, PrintsEarlier, InDoubt, text_of, Fixed, Going, RanSome, RanTo, is_closed, is_damaged, nat_tests}
+use Rattle.schedule_replay.proofs.Common.{◌≡◌, ℕ, ◌+◌, ◌<◌, List, [], ◌∷◌, ◌++◌, length, map, get_or, take, drop, refl, sym, ap, ◌∙◌, subst, arith, length-append, append-nil, append_assoc, inl, inr, true, false, Option, Result, Ok, IsErr, IfOk, flat_map, map-append, take_more, take-append-drop, flat_map-append, Failed, Ghosts, Prints, Elapses, IsSure, FewerLater, Leaves, held_of, told_is, leaves_held, stands, standing_of, elapses-trans, leaves_on, prints_same, prints_on, Program, Event, Desk, Word, Doubt, run, faulted, OpenBeforeEach, Line, line_text, event_lines, commits_seen, IsLeft, IsStage, ArePlain, seen_lines, seen_all, AreNames, Grew, run_grew, run_plain, run_on, open_on, lines_on, faulted_on, left_none, left_more, left_behind, stage_behind, stage_more, stage_none, PutsTimes, shown_of, Ran, PrintsEarlier, InDoubt, text_of, Fixed, Going, RanSome, RanTo, is_closed, is_damaged, nat_tests}
 use Rattle.desk.specs.declared.supervisor.Supervisor as desk
 use Rattle.schedule_replay.proofs.CountLemmas.{on_ok_as}
-use Rattle.schedule_replay.proofs.PutsLemmas.{PrintedNow, done, no_time, times_on, shown_after, begins_none, begins_on, begins_behind}
+use Rattle.schedule_replay.proofs.PutsLemmas.{PrintedNow, done, no_time, times_on, shown_after, begins_none, begins_on, begins_behind, printed_none}
 use Rattle.schedule_replay.proofs.WentLemmas.{last_is}
 use Rattle.schedule_replay.proofs.RanToLemmas.{to_none, to_on}
 
@@ -10,9 +10,7 @@ use Rattle.schedule_replay.proofs.RanToLemmas.{to_none, to_on}
 earlier_on : {T U : Type 0} (old mid new : Option (List ℕ)) (text other : List (Event × Word) → List ℕ) (one two : List (Event × Word)) (value : T) (bytes : List ℕ) (result : Result U Failed)
     → ((front : List (Event × Word)) → text (one ++ front) ≡ text one ++ other front)
     → Prints old mid (text one) (Ok value) → Prints mid new bytes result → PrintsEarlier old mid text one → PrintsEarlier mid new other two → PrintsEarlier old new text (one ++ two)
-earlier_on old mid new text other one two value bytes result behind first second (inl no_one) (inl no_two) = inl (ap (λ (back : List (Event × Word)). one ++ back) no_two ∙ append-nil one ∙ no_one)
-earlier_on old mid new text other one two value bytes result behind first second (inr (front, last, is, begins)) (inl no_two) =
-    inr (front, last, ap (λ (back : List (Event × Word)). one ++ back) no_two ∙ append-nil one ∙ is, begins_on old mid new (text front) begins (begins_none mid new bytes result second))
+earlier_on old mid new text other one two value bytes result behind first second before (inl no_two) = grind (arith, no_two, append-nil one, begins_on old mid new, begins_none mid new bytes result second)
 earlier_on old mid new text other one two value bytes result behind first second before (inr (front, last, is, begins)) = grind (arith, nat_tests, append_assoc one front (last ∷ []), begins_behind old mid new (text one) (other front) value first begins)
 
 -- a list with the events of one is a list of one
@@ -47,9 +45,7 @@ seen_behind lines are rest = grind (arith, nat_tests, seen_lines, seen_all)
 
 -- a run that is open at its end makes the commits that its text tells
 pub seen_each : (names : List (List ℕ)) → AreNames names → (programs : List Program) (number : ℕ) (taken : List (Event × Word)) (start : Desk) → OpenBeforeEach programs taken start → (run programs taken start).closed ≡ false → length (run programs taken start).order ≡ length start.order + commits_seen (text_of names programs number taken start)
-seen_each names are programs number taken start each_open still =
-    let grew : Grew programs names number taken start = run_grew programs names number taken start each_open in
-    omega (arith, grew.few, grew.settled (inl still), seen_all (event_lines names programs number taken start) (run_plain programs names number are taken start), ap (λ (order : List (ℕ × ℕ)). length order) grew.order_is, length-append start.order grew.more)
+seen_each names are programs number taken start each_open still = grind (arith, (run_grew programs names number taken start each_open).few, (run_grew programs names number taken start each_open).settled (inl still), seen_all (event_lines names programs number taken start) (run_plain programs names number are taken start), (run_grew programs names number taken start each_open).order_is, length-append start.order (run_grew programs names number taken start each_open).more)
 
 module _ {D W : Type 0} (S : desk.Ghosts D) (G : Ghosts W) (fewer_later : FewerLater G) (names : List (List ℕ)) (are : AreNames names) (programs : List Program) (number : ℕ) where
   pub ran_as : {T U : Type 0} (events : List Event) (start : Desk) (new : D) (before after : W) (result : Result T Failed) (other : Result U Failed) → ((one two : Option (List ℕ)) (bytes : List ℕ) → Prints one two bytes result → Prints one two bytes other) → (IsErr result → IsErr other) → Ran S G names programs number events start new before after result → Ran S G names programs number events start new before after other
@@ -60,9 +56,7 @@ module _ {D W : Type 0} (S : desk.Ghosts D) (G : Ghosts W) (fewer_later : FewerL
       let middle : Desk = run programs one.taken start in
       let bytes : List (Event × Word) → List ℕ = λ taken. text_of names programs number taken start in
       let later : List (Event × Word) → List ℕ = λ taken. text_of names programs number taken middle in
-      let behind : (front : List (Event × Word)) → bytes one.taken ++ later front ≡ bytes (one.taken ++ front) = λ front.
-      sym (flat_map-append line_text (event_lines names programs number one.taken start) (event_lines names programs number front middle))
-      ∙ ap (flat_map line_text) (sym (lines_on programs names number one.taken front start)) in
+      let behind : (front : List (Event × Word)) → bytes one.taken ++ later front ≡ bytes (one.taken ++ front) = λ front. cc (flat_map-append line_text (event_lines names programs number one.taken start) (event_lines names programs number front middle), lines_on programs names number one.taken front start) in
       let same : run programs (one.taken ++ two.taken) start ≡ run programs two.taken middle = run_on programs one.taken two.taken start in
       let grew : Grew programs names number two.taken middle = run_grew programs names number two.taken middle two.each_open in
       record {
@@ -100,15 +94,7 @@ module _ {D W : Type 0} (S : desk.Ghosts D) (G : Ghosts W) (fewer_later : FewerL
       }
 
   pub ran_more : {U : Type 0} (events : List Event) (i : ℕ) (event : Event) → i < length events → (start : Desk) (mid new : D) (before between after : W) (result : Result U Failed) → S.closed mid ≡ false → (one : Ran S G names programs number (take i events) start mid before between done) → Ran S G names programs number (get_or events i event ∷ []) (run programs one.taken start) new between after result → Ran S G names programs number (take (i + 1) events) start new before after result
-  ran_more events i event lt start mid new before between after result was_open one two =
-      grind (
-        arith,
-        nat_tests,
-        take_more events i event lt,
-        ran_on (take i events) (get_or events i event) start mid new before between after 0 result was_open one two,
-        take i events,
-        get_or events i event,
-      )
+  ran_more events i event lt start mid new before between after result was_open one two = grind (arith, take_more events i event lt, ran_on (take i events) (get_or events i event) start mid new before between after 0 result was_open one two)
 
   -- the next event is run from where the run is
   ran_next : {U : Type 0} (events : List Event) (i : ℕ) (event : Event) → i < length events → (start : Desk) (mid new : D) (before between after : W) (result : Result U Failed) → S.closed mid ≡ false → (S.fixed mid).programs ≡ programs → (S.fixed mid).opened ≡ number → Ran S G names programs number (take i events) start mid before between done
@@ -134,10 +120,6 @@ pub none_last : (front : List (Event × Word)) (last : Event × Word) → [] ≡
 none_last [] last is = cc
 none_last (first ∷ front) last is = cc
 
-printed_same : (told : Option (List ℕ)) → Prints told told [] done
-printed_same None = refl
-printed_same (Some bytes) = ap (λ (these : List ℕ). Some these) (sym (append-nil bytes))
-
 pub ran_none : {D W : Type 0} (S : desk.Ghosts D) (G : Ghosts W) (printed_now : PrintedNow G) (stands_law : (s : D) (held : List ℕ) (desk : Desk) → S.shows s held desk → stands held ≡ standing_of (S.fixed s).opened desk) (open_law : (s : D) (held : List ℕ) (desk : Desk) → S.shows s held desk → desk.closed ≡ false) (closed_law : (s : D) (held : List ℕ) (desk : Desk) → S.shows s held desk → S.closed s ≡ false) (order_law : (s : D) (held : List ℕ) (desk : Desk) → S.shows s held desk → S.order s ≡ desk.order)
     (names : List (List ℕ)) (programs : List Program) (start : Desk) (new : D) (w : W) → IsSure G w → S.shows new (held_of G w) start → Ran S G names programs (S.fixed new).opened [] start new w w done
 ran_none S G printed_now stands_law open_law closed_law order_law names programs start new w sure shows = record {
@@ -145,7 +127,7 @@ ran_none S G printed_now stands_law open_law closed_law order_law names programs
   events_taken = refl;
   each_open = tt;
   to = to_none S G start new w (closed_law new (held_of G w) start shows) (open_law new (held_of G w) start shows) (order_law new (held_of G w) start shows) sure shows;
-  printed = printed_same (G.printed w);
+  printed = printed_none G (G.printed w) 0;
   times = λ told. omega arith;
   earlier = inl refl;
   time = no_time G w;

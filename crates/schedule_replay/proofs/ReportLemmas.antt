@@ -1,5 +1,5 @@
 -- The report of a run, from its parts.
-use Rattle.schedule_replay.proofs.Common.{◌≡◌, ℕ, List, [], ◌∷◌, ◌++◌, length, map, refl, sym, ap, ◌∙◌, subst, inl, inr, arith, rules, append-nil, IsSome, Option, Bool, true, false, Result, Ok, Err, IsErr, IfOk, OnOk, flat_map, Failed, Ghosts, Prints, IsSure, Elapses, Leaves, held_of, prints_broken, prints_same, prints_well, prints_on, prints_stop, leaves_held, elapses-trans, leaves_on, Program, stands, Event, standing_of, Desk, Word, Line, Open, Left, line_text, number_after, closing_lines, report, event_lines, run, faulted, commits_seen, IsLeft, IsStage, ArePlain, plain_on, commits_in, commits_on, seen_all, AreNames, Grew, run_grew, run_plain, report_parts, lines_end, left_none, left_more, stage_more, stage_none, Going, Puts, PutsTimes, BeginsWith, shown_of, Ran, HasOpened, PrintsEarlier, text_of, RanSome, Reports, Fixed, is_closed, nat_tests}
+use Rattle.schedule_replay.proofs.Common.{◌≡◌, ℕ, List, [], ◌∷◌, ◌++◌, length, map, refl, sym, ap, ◌∙◌, subst, inl, inr, arith, append-nil, IsSome, Option, Bool, true, false, Result, Ok, Err, IsErr, IfOk, OnOk, flat_map, Failed, Ghosts, Prints, IsSure, Elapses, Leaves, held_of, prints_broken, prints_same, prints_well, prints_on, prints_stop, leaves_held, elapses-trans, leaves_on, Program, stands, Event, standing_of, Desk, Word, Line, Open, Left, line_text, number_after, closing_lines, report, event_lines, run, faulted, commits_seen, IsLeft, IsStage, ArePlain, plain_on, commits_in, commits_on, seen_all, AreNames, Grew, run_grew, run_plain, report_parts, lines_end, left_none, left_more, stage_more, stage_none, Going, Puts, PutsTimes, BeginsWith, shown_of, Ran, HasOpened, PrintsEarlier, text_of, RanSome, Reports, Fixed, is_closed, nat_tests}
 use Rattle.desk.specs.declared.supervisor.Supervisor as desk
 use Rattle.std.proofs.lemmas.Result.{IfOk-weaker}
 use Rattle.schedule_replay.specs.declared.events.Going.TheVariants as going
@@ -10,13 +10,11 @@ use Rattle.schedule_replay.proofs.RanToLemmas.{to_later, to_none, to_since}
 
 -- nothing is said of success where it failed
 times_failed : {T : Type 0} (P : Type 0) (result : Result T Failed) → IsErr result → OnOk result P
-times_failed P (Ok value) is = absurd (search (rules, is))
-times_failed P (Err failed) is = tt
+times_failed P result is = grind arith
 
 -- nothing is said of the value of a failure
 pub if_ok_broken : {T : Type 0} (result : Result T Failed) (P : T → Type 0) → IsErr result → IfOk result P
-if_ok_broken (Ok value) P is = absurd (search (rules, is))
-if_ok_broken (Err failed) P is = tt
+if_ok_broken result P is = grind arith
 
 -- what isn't to go on is closed
 pub not_on_closed : (how : Going) → (how ≡ going.On → ⊥) → is_closed how ≡ true
@@ -24,8 +22,7 @@ not_on_closed how h1 = grind (arith, nat_tests)
 
 -- a closed desk has no lines of the end
 pub no_closing : (number : ℕ) (rest : List Event) (desk : Desk) → desk.closed ≡ true → closing_lines number rest desk ≡ []
-no_closing number (event ∷ rest) desk shut = refl
-no_closing number [] desk shut = grind (arith, nat_tests)
+no_closing number rest desk shut = grind arith
 
 -- the lines of the end have no commit
 left_plain : (activations : List ℕ) → ArePlain (map Left activations)
@@ -34,7 +31,7 @@ left_plain (activation ∷ activations) = (tt, left_plain activations)
 
 left_quiet : (activations : List ℕ) → commits_in (map Left activations) ≡ 0
 left_quiet [] = refl
-left_quiet (activation ∷ activations) = let split = commits_on (Left activation ∷ []) (map Left activations) in let rest = left_quiet activations in omega (arith, split, rest)
+left_quiet (activation ∷ activations) = omega (arith, commits_on (Left activation ∷ []) (map Left activations), left_quiet activations)
 
 closing_plain : (number : ℕ) (rest : List Event) (desk : Desk) → ArePlain (closing_lines number rest desk) × (commits_in (closing_lines number rest desk) ≡ 0)
 closing_plain number (event ∷ rest) desk = (tt, refl)
@@ -125,11 +122,7 @@ module _ {D W : Type 0} (S : desk.Ghosts D) (G : Ghosts W) (laws : Laws S G) (na
         let all : Tail start ran.taken [] between after later = record {
           printed = prints_on (G.printed between) (G.printed middle) (G.printed after) put ends value later ran.printed puts.printed;
           times = times_on G between middle after (event_lines names programs number ran.taken start) (closing_lines number [] last) value later ran.printed ran.times puts.times;
-          images =
-              leaves_on G laws.later between middle after ran.time puts.only.time (λ (image seen : List ℕ). IsStage programs number start ran.taken image) ran.images
-              (λ image seen left.
-              let from = puts.images image seen left in
-              ran.images image from.0 (laws.later middle (G.moment between) (G.moment middle) image from.0 ran.time.later from.1));
+          images = λ image seen left. grind (arith, ran.images image, puts.images image seen, puts.only.time.nothing_else (G.moment between) image seen ran.time.later left, laws.later middle (G.moment between) (G.moment middle) image);
           left = λ told.
               let shown = shown_after (G.printed between) (G.printed middle) put value told ran.printed in
               subst (λ (these : List (Event × Word)). Leaves G (IsLeft programs number start these (put ++ ends) (shown_of G between)) between after) (append-nil ran.taken)
@@ -188,9 +181,7 @@ module _ {D W : Type 0} (S : desk.Ghosts D) (G : Ghosts W) (laws : Laws S G) (na
                 to_since S G end lines (faulted ran.taken) new before between after puts.only.held puts.only.disk puts.only.writes (to_later S G end lines (faulted ran.taken) new between middle after same_held disk same_writes sure ran.to);
             printed = prints_same (G.printed before) (G.printed after) (first ++ (put ++ ends)) (report names programs number ran.taken rest start) later parts
                 (prints_on (G.printed before) (G.printed between) (G.printed after) first (put ++ ends) value later puts.printed tail.printed);
-            times =
-                subst (λ (lines : List Line). PutsTimes G (length (Open number ∷ lines)) before after later) (sym (lines_end programs names number ran.taken rest start))
-                (times_on G before between after (Open number ∷ []) (event_lines names programs number ran.taken start ++ closing_lines number rest (run programs ran.taken start)) value later puts.printed puts.times tail.times);
+            times = grind (arith, lines_end programs names number ran.taken rest start, times_on G before between after (Open number ∷ []) (event_lines names programs number ran.taken start ++ closing_lines number rest (run programs ran.taken start)) value later puts.printed puts.times tail.times);
             earlier = earlier_behind (G.printed before) (G.printed between) (G.printed middle) (G.printed after) (line_text (Open number)) (λ front. text_of names programs number front start) ran.taken value
                 (prints_same (G.printed before) (G.printed between) first (line_text (Open number)) (Ok value) (open_text number) puts.printed) ran.earlier more;
             closed = closed;
@@ -206,9 +197,7 @@ module _ {D W : Type 0} (S : desk.Ghosts D) (G : Ghosts W) (laws : Laws S G) (na
                 (seen_behind (Open number ∷ []) (tt, tt)) grew.order_is
                 (left_puts (Open number ∷ []) start old before between (Ok value) opened_at (seen_all (Open number ∷ []) (tt, tt)) opened.sure opened.shows puts told)
                 (tail.left shown.0));
-            doubt = λ shut front last is.
-                let place = ran.doubt shut front last is in
-                (place.0, (place.1.0, λ image seen left. let from = images image seen left in place.1.1 image from.0 from.1));
+            doubt = λ shut front last is. grind (arith, (ran.doubt shut front last is).0, (ran.doubt shut front last is).1.0, ran.doubt);
           }
 
       -- and the lines of the end are put
@@ -278,20 +267,7 @@ module _ {D W : Type 0} (S : desk.Ghosts D) (G : Ghosts W) (laws : Laws S G) (na
 pub reports_as : {D W T U : Type 0} (S : desk.Ghosts D) (G : Ghosts W) (names : List (List ℕ)) (programs : List Program) (number : ℕ) (events : List Event) (start : Desk) (new : D) (before after : W) (shut : T → Bool) (other : U → Bool) (result : Result T Failed) (later : Result U Failed)
     → ((old now : Option (List ℕ)) (bytes : List ℕ) → Prints old now bytes result → Prints old now bytes later) → ((P : Type 0) → OnOk result P → OnOk later P) → (IfOk result (λ value. S.closed new ≡ shut value) → IfOk later (λ value. S.closed new ≡ other value)) → ((P : Type 0) → IfOk result (λ value. shut value ≡ false → P) → IfOk later (λ value. other value ≡ false → P))
     → Reports S G names programs number events start new before after shut result → Reports S G names programs number events start new before after other later
-reports_as S G names programs number events start new before after shut other result later prints times closes all reports = record {
-  taken = reports.taken;
-  rest = reports.rest;
-  is_run = reports.is_run;
-  to = reports.to;
-  printed = prints (G.printed before) (G.printed after) (report names programs number reports.taken reports.rest start) reports.printed;
-  times = times _ reports.times;
-  earlier = reports.earlier;
-  closed = closes reports.closed;
-  all = all _ reports.all;
-  images = reports.images;
-  left = reports.left;
-  doubt = reports.doubt;
-}
+reports_as S G names programs number events start new before after shut other result later prints times closes all reports = grind (arith, (prints (G.printed before) (G.printed after) (report names programs number reports.taken reports.rest start) reports.printed), times _ reports.times, closes reports.closed, all _ reports.all)
 
 -- what is told of how it goes on, as whether the desk is closed
 pub reports_told : {D W : Type 0} (S : desk.Ghosts D) (G : Ghosts W) (names : List (List ℕ)) (programs : List Program) (number : ℕ) (events : List Event) (start : Desk) (new : D) (before after : W) (how : Going) (shut : Bool) → is_closed how ≡ shut → Reports S G names programs number events start new before after is_closed (Ok how) → Reports S G names programs number events start new before after (λ closed. closed) (Ok shut)

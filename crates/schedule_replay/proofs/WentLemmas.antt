@@ -1,5 +1,5 @@
 -- One event of a run, and its lines.
-use Rattle.schedule_replay.proofs.Common.{◌≡◌, ℕ, zero, suc, ◌+◌, ◌≤◌, List, [], ◌∷◌, ◌++◌, length, map, take, refl, sym, ap, ◌∙◌, subst, arith, length-append, ⊎_elim, append-nil, inr, IsSome, true, false, not, Bool, Option, unwrap_or, Result, Ok, Err, All, flat_map, Failed, Ghosts, Prints, IsSure, CallsDisk, Leaves, FewerLater, held_of, elapses-trans, leaves_on, told_is, Program, stands, Event, Did, IsEitherOf, standing_of, Desk, Word, Doubt, Step, step, faulted, Line, line_text, number_after, happening_lines, event_lines, commits_seen, IsUnbroken, IsLeft, IsStage, seen_cut, seen_all, commits_in, AreNames, Stepped, step_by, run_plain, left_quiet, left_open, stage_either, Puts, PutsTimes, shown_of, Ran, InDoubt, WasStep, text_of, RanTo, nat_tests}
+use Rattle.schedule_replay.proofs.Common.{◌≡◌, ℕ, zero, suc, ◌+◌, ◌≤◌, List, [], ◌∷◌, ◌++◌, length, map, take, refl, sym, ap, ◌∙◌, subst, arith, length-append, ⊎_elim, append-nil, inr, IsSome, true, false, not, Bool, Option, unwrap_or, Result, All, flat_map, Failed, Ghosts, Prints, IsSure, CallsDisk, Leaves, FewerLater, held_of, elapses-trans, leaves_on, told_is, Program, stands, Event, Did, IsEitherOf, standing_of, Desk, Word, Doubt, Step, step, faulted, Line, line_text, number_after, happening_lines, event_lines, commits_seen, IsUnbroken, IsLeft, IsStage, seen_cut, seen_all, commits_in, AreNames, Stepped, step_by, run_plain, left_quiet, left_open, stage_either, Puts, PutsTimes, shown_of, Ran, InDoubt, WasStep, text_of, RanTo, nat_tests}
 use Rattle.desk.specs.declared.supervisor.Supervisor as desk
 use Rattle.schedule_replay.proofs.PutsLemmas.{PrintedNow, puts_same, begins_none}
 use Rattle.schedule_replay.proofs.RanToLemmas.{to_did, to_later}
@@ -45,9 +45,7 @@ module _ {D W : Type 0} (S : desk.Ghosts D) (G : Ghosts W) (fewer_later : FewerL
   -- a crash in a put leaves the bytes that were sure
   pub image_is : {T : Type 0} (lines : List Line) (before after : W) (result : Result T Failed) → Puts G lines before after result → IsSure G before → IsSome (G.printed before)
       → Leaves G (λ image seen. (image ≡ held_of G before) × ((count : ℕ) × (seen ≡ shown_of G before ++ take count (flat_map line_text lines)))) before after
-  image_is lines before after result puts sure told image seen left =
-      let from = puts.crash told image seen left in
-      (told_is (G.held before) image sure.told (sure.durable image (shown_of G before) from.0), from.1)
+  image_is lines before after result puts sure told image seen left = grind (arith, told_is (G.held before) image sure.told (sure.durable image (shown_of G before) (puts.crash told image seen left).0), (puts.crash told image seen left).1)
 
   -- what a call of the disk leaves printed
   pub quiet_is : (before between : W) → CallsDisk G before between → IsSome (G.printed before) → Leaves G (λ image seen. seen ≡ shown_of G before) before between
@@ -82,14 +80,10 @@ module _ {D W : Type 0} (S : desk.Ghosts D) (G : Ghosts W) (fewer_later : FewerL
 
       -- the commits seen in its text are those of its lines
       seen_is : commits_seen text ≡ commits_in (happening_lines names (number_after number went.desk) went.happening)
-      seen_is =
-          seen_all (event_lines names programs number ((event, word) ∷ []) start) (run_plain programs names number are ((event, word) ∷ []) start)
-          ∙ ap commits_in (append-nil (happening_lines names (number_after number went.desk) went.happening))
+      seen_is = cc (seen_all (event_lines names programs number ((event, word) ∷ []) start) (run_plain programs names number are ((event, word) ∷ []) start), append-nil (happening_lines names (number_after number went.desk) went.happening))
 
       few : length start.order + commits_seen text ≤ length went.desk.order
-      few =
-          let some = steps.few (number_after number went.desk) in
-          omega (arith, ap (λ (order : List (ℕ × ℕ)). length order) steps.order_is, some, seen_is, length-append start.order steps.more)
+      few = grind (arith, steps.order_is, (steps.few (number_after number went.desk)), seen_is, length-append start.order steps.more)
 
       none : went.desk.closed ≡ true → (count : ℕ) → commits_seen (take count text) ≡ 0
       none shut count = omega (arith, steps.quiet shut (number_after number went.desk), seen_cut count text, seen_is)
@@ -105,11 +99,7 @@ module _ {D W : Type 0} (S : desk.Ghosts D) (G : Ghosts W) (fewer_later : FewerL
       images_disk image seen left = stage_either programs number event word names start was_open image (either image seen left)
 
       images_all : Leaves G (λ image seen. IsStage programs number start ((event, word) ∷ []) image) before after
-      images_all =
-          leaves_on G fewer_later before between after calls.time lines_put.only.time (λ (image seen : List ℕ). IsStage programs number start ((event, word) ∷ []) image) images_disk
-          (λ image seen left.
-          let from = lines_put.images image seen left in
-          images_disk image from.0 (fewer_later between (G.moment before) (G.moment between) image from.0 calls.time.later from.1))
+      images_all image seen left = grind (arith, images_disk image, lines_put.images image seen, lines_put.only.time.nothing_else (G.moment before) image seen calls.time.later left, fewer_later between (G.moment before) (G.moment between) image)
 
       in_disk : IsSome (G.printed before) → Leaves G Left before between
       in_disk told image seen left =
@@ -121,9 +111,7 @@ module _ {D W : Type 0} (S : desk.Ghosts D) (G : Ghosts W) (fewer_later : FewerL
           let from = lines_put.crash (subst (λ (those : Option (List ℕ)). IsSome those) (sym same) told) image seen left in
           let shown : shown_of G between ≡ shown_of G before = ap (λ (those : Option (List ℕ)). unwrap_or those []) same in
           left_quiet programs number event word names start was_open image text (shown_of G before) seen from.1.0
-          (either image (shown_of G between) (fewer_later between (G.moment before) (G.moment between) image (shown_of G between) calls.time.later from.0))
-          (from.1.1 ∙ ap (λ (these : List ℕ). these ++ take from.1.0 text) shown)
-          (none shut from.1.0)
+          (either image (shown_of G between) (fewer_later between (G.moment before) (G.moment between) image (shown_of G between) calls.time.later from.0)) (cc (from.1.1, shown)) (none shut from.1.0)
       in_puts false still told image seen left =
           let same : G.printed between ≡ G.printed before = calls.quiet.same in
           let shown : shown_of G between ≡ shown_of G before = ap (λ (those : Option (List ℕ)). unwrap_or those []) same in
@@ -146,18 +134,10 @@ module _ {D W : Type 0} (S : desk.Ghosts D) (G : Ghosts W) (fewer_later : FewerL
       in_doubt shut front one is =
           let last = last_is [] front (event, word) (one, Doubt) is in
           let doubted : word ≡ Doubt = ap (λ (pair : Event × Word). pair.1) last.1 in
-          let same : event ≡ one = ap (λ (pair : Event × Word). pair.0) last.1 in
           let place = did.doubt doubted (ap (λ (desk : Desk). desk.closed) (sym next_is) ∙ shut) in
-          let here : InDoubt G programs number start [] event after = (
-            place.0 ∙ ap (λ (desk : Desk). desk.order) (sym next_is) ∙ ap (λ (w : Word). (step programs event w start).desk.order) doubted,
-            (
-              place.1.0,
-              λ image seen left.
-                  let from = lines_put.images image seen (fewer_later after (G.moment between) (G.moment after) image seen lines_put.only.time.later left) in
-                  place.1.1 image from.0 from.1,
-            ),
-          ) in
-          subst (λ (these : List (Event × Word)). InDoubt G programs number start these one after) last.0 (subst (λ (that : Event). InDoubt G programs number start [] that after) same here)
+          let images = λ (image seen : List ℕ). lines_put.images image seen in
+          let later = λ (image seen : List ℕ). fewer_later after (G.moment between) (G.moment after) image seen lines_put.only.time.later in
+          grind (arith, last, doubted, place, next_is, images, later)
 
       pub ran_event : Ran S G names programs number (event ∷ []) start new before after result
       ran_event = record {
@@ -175,10 +155,7 @@ module _ {D W : Type 0} (S : desk.Ghosts D) (G : Ghosts W) (fewer_later : FewerL
       }
         where
           times_since : (how : Result T Failed) → PutsTimes G (length (event_lines names programs number ((event, word) ∷ []) start)) between after how → PutsTimes G (length (event_lines names programs number ((event, word) ∷ []) start)) before after how
-          times_since (Err failed) times = tt
-          times_since (Ok value) times = λ told.
-              let same : G.printed between ≡ G.printed before = calls.quiet.same in
-              omega (arith, times (subst (λ (those : Option (List ℕ)). IsSome those) (sym same) told), calls.puts)
+          times_since how times = grind (arith, calls.quiet.same, calls.puts)
 
           printed_since : Prints (G.printed before) (G.printed after) text result
           printed_since = subst (λ (those : Option (List ℕ)). Prints those (G.printed after) text result) calls.quiet.same lines_put.printed

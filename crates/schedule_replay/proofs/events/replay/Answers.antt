@@ -6,10 +6,7 @@ returns-in-Ok-On-clause-replays g c = λ start opened.
     reports_told g.S.Supervisor g.W.Outside (map (λ name. name.items) c.args.names.now) (g.S.Supervisor.fixed c.args.desk.now).programs (g.S.Supervisor.fixed c.args.desk.now).opened c.args.events.now start c.put_report.new.desk c.args.outside.now c.put_report.new.outside c.in-Ok-On.field-0 false (ap is_closed c.in-Ok-On.field-0-is) (c.in-Ok-On.ensures.reports start opened)
 
 pub returns-in-Err-clause-replays : goal.returns-in-Err-clause-replays
-returns-in-Err-clause-replays g c = λ start opened. (
-  c.in-Err.field-0,
-  reports_broken g.S.Supervisor g.W.Outside (map (λ name. name.items) c.args.names.now) (g.S.Supervisor.fixed c.args.desk.now).programs (g.S.Supervisor.fixed c.args.desk.now).opened c.args.events.now start c.put_report.new.desk c.args.outside.now c.put_report.new.outside c.in-Err.field-0 (c.in-Err.ensures.reports start opened),
-)
+returns-in-Err-clause-replays g c = λ start opened. grind (arith, c.in-Err.field-0, reports_broken, (g.S.Supervisor.fixed c.args.desk.now).programs, (g.S.Supervisor.fixed c.args.desk.now).opened, c.in-Err.ensures.reports)
 
 pub returns-in-Ok-Damaged-clause-turns : goal.returns-in-Ok-Damaged-clause-turns
 returns-in-Ok-Damaged-clause-turns g c = grind (arith, common_steps)
