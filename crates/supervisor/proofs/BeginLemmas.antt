@@ -1,5 +1,5 @@
 -- What a begin leaves of a session.
-use Rattle.supervisor.proofs.Common.{◌≡◌, ℕ, ◌+◌, ◌-◌, ◌*◌, ◌<◌, ◌≤◌, List, [], ◌∷◌, length, refl, sym, ◌∙◌, ap, subst, arith, Option, Some, None, length-append, newcomer, next_seat, Begun, begun_told, Desk, Fine, Step, absent_segment, step, Activations, Activity, program_at, desk_over, IsBegin, begins, begins_by, KeepsDesk, AreRowsWithin, activity_of, Session, IsSound, activity, session_desk, order_of, ShowsDesk, nat_tests}
+use Rattle.supervisor.proofs.Common.{◌≡◌, ℕ, ◌+◌, ◌-◌, ◌*◌, ◌<◌, ◌≤◌, List, [], ◌∷◌, length, refl, sym, ◌∙◌, ap, subst, arith, Option, Some, None, length-append, newcomer, next_seat, Begun, begun_told, Desk, Fine, Step, absent_segment, step, Activations, Activity, program_at, desk_over, IsBegin, begins, begins_by, KeepsDesk, AreRowsWithin, activity_of, Session, IsSound, activity, session_desk, order_of, ShowsDesk}
 use Rattle.activations.proofs.SittingLemmas.{sitter-there, sitter-other}
 use Rattle.desk.specs.declared.event.Event.TheVariants as event
 use Rattle.activations.specs.Follows as running
@@ -15,23 +15,11 @@ pub record HasGiven (old new : Activity) : Type 0 where
 
 module _ (a : Activity) (program : ℕ) (args : List ℕ) (sixteen : length a.seating.sitters ≡ 16) where
   rows-begun : (seat rows : ℕ) → AreRowsWithin a rows → AreRowsWithin (begins_by (Some seat) None a program args).1 rows
-  rows-begun seat rows within at below =
-      let there = sitter-there a.seating seat (newcomer a.next program args) sixteen in
-      let other = sitter-other a.seating seat (newcomer a.next program args) at in
-      let few = within at below in
-      grind (arith, nat_tests, there, other, few)
+  rows-begun seat rows within at below = grind (arith, sitter-there a.seating seat (newcomer a.next program args) sixteen, sitter-other a.seating seat (newcomer a.next program args) at, within at below)
 
   given-by : (free absent : Option ℕ) → HasGiven a (begins_by free absent a program args).1
-  given-by None absent = record { programs = refl; most_lines = refl; directory = refl; next = refl; more = omega arith; rows = λ rows within. within }
-  given-by (Some seat) (Some segment) = record { programs = refl; most_lines = refl; directory = refl; next = refl; more = omega arith; rows = λ rows within. within }
-  given-by (Some seat) None = record {
-    programs = refl;
-    most_lines = refl;
-    directory = refl;
-    next = refl;
-    more = let long = length-append a.seating.taken (seat ∷ []) in omega (arith, long);
-    rows = rows-begun seat;
-  }
+  given-by (Some seat) None = let long = length-append a.seating.taken (seat ∷ []) in grind (arith, rows-begun seat, long)
+  given-by _ _ = record { programs = refl; most_lines = refl; directory = refl; next = refl; more = omega arith; rows = λ rows within. within }
 
   -- a begin gives the next number
   pub begins-given : HasGiven a (begins a program args).1
@@ -47,22 +35,7 @@ module _ (s : Session) (new : Activations) (program : ℕ) (args : List ℕ) (so
   given = subst (HasGiven (activity s)) (sym left) (begins-given (activity s) program args sound.running.seating.sixteen)
 
   pub session-begun : (activity s).next - 1 < s.begins → running.IsSound (activity_of new) → IsSound (with_activations s new)
-  session-begun room now = record {
-    ranges = sound.ranges;
-    running = now;
-    directory = sound.directory ∙ sym given.directory;
-    most = sound.most ∙ sym given.most_lines;
-    room = record {
-      begun = let next = given.next in omega (arith, room, next);
-      begin_numbers = sound.room.begin_numbers;
-      turned = sound.room.turned;
-      rows = given.rows (s.turns * 1000000) sound.room.rows;
-      places = λ still. let was = sound.room.places still in let more = given.more in let next = given.next in omega (arith, was, more, next);
-      order = sound.room.order;
-      commits = sound.room.commits;
-    };
-    usable = sound.usable;
-  }
+  session-begun room now = grind (arith, sound, sound.room, given, given.rows (s.turns * 1000000) sound.room.rows, room, now)
 
   pub shown-begun : (answer : Begun) → ((committed : List ℕ) → KeepsDesk (activity s) committed → IsBegin (activity s) (activity_of new) program args answer committed)
       → (held : List ℕ) (desk : Desk) → ShowsDesk s held desk
@@ -77,14 +50,7 @@ module _ (s : Session) (new : Activations) (program : ℕ) (args : List ℕ) (so
             ∙ goes.is_step (order_of s)
             ∙ ap (λ (that : Desk). let comes : Step = record { desk = that; happening = begun_told program answer } in comes) next_desk,
         record {
-          over = record {
-            still_open = over.still_open;
-            committed = over.committed;
-            shows = over.shows;
-            stood = over.stood;
-            follows = goes.follows;
-            number = over.number;
-          };
+          over = grind (arith, over, goes.follows);
           directory = shown.directory ∙ sym given.directory;
           is = refl;
         },

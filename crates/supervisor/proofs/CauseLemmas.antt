@@ -1,5 +1,5 @@
 -- Why a begin is answered so, and where a turn closes.
-use Rattle.supervisor.proofs.Common.{◌≡◌, ◌≤◌, ℕ, length, arith, sym, ap, ◌∙◌, subst, List, Option, Some, None, refl, true, has, Ghosts, FewerLater, OnlyAsks, asks_none, asks_on, Kept, begun_of, KeptStore, with_begun, next_seat, number_in, few-taken, Header, total, OnlyWrites, HoldsStore, Begun, TurnEnd, CallsStore, FailsCounted, turn_fails, Activity, begins, begins_by, Tally, IsEndOfRows, IfJournal, Session, activity, IsFull, HasPlace, lacking, TellsNumber, IsTurnEnd, answer_of, IsFailedCommit, ClosesInCommit, ClosesAsCommit, IsCommitEnd}
+use Rattle.supervisor.proofs.Common.{◌≡◌, ◌≤◌, ℕ, length, arith, sym, subst, List, Option, Some, None, refl, true, has, Ghosts, FewerLater, OnlyAsks, asks_none, asks_on, Kept, begun_of, KeptStore, with_begun, next_seat, number_in, few-taken, Header, total, OnlyWrites, HoldsStore, Begun, TurnEnd, CallsStore, FailsCounted, turn_fails, Activity, begins, begins_by, Tally, IsEndOfRows, IfJournal, Session, activity, IsFull, HasPlace, lacking, TellsNumber, IsTurnEnd, answer_of, IsFailedCommit, ClosesInCommit, ClosesAsCommit, IsCommitEnd}
 use Rattle.seats.proofs.Ascending.{none-free}
 use Rattle.activations.specs.Recorded.{IsRecordOf}
 use Rattle.activations.proofs.BeginLemmas.{some-next}
@@ -25,14 +25,7 @@ module _ (a : Activity) (program : ℕ) (args : List ℕ) (sound : running.IsSou
       let full = none-next a sound in
       let few = few-taken a.seating sound.seating in
       let room = λ (seat : ℕ) (found : next_seat a.seating ≡ Some seat). (some-next a seat sound found).2 in
-      record {
-        busy = λ number e. grind (arith, full, few, room);
-        busy_back = λ number there same. grind (arith, full, few, room);
-        no_segment = λ number segment e. grind (arith, full, few, room);
-        no_segment_back = λ number segment place there same. grind (arith, full, few, room);
-        started = λ number e. grind (arith, full, few, room);
-        started_back = λ number place there same. grind (arith, full, few, room);
-      }
+      grind (arith, full, few, room)
 
   pub answered : (answer : Begun) → answer ≡ (begins a program args).0 → IsAnswered a program answer
   answered answer is = subst (IsAnswered a program) (sym is) (answered-by (next_seat a.seating) (lacking a program) refl refl)
@@ -57,32 +50,12 @@ commit-told activation limit most number tally ends few is journal numbered = gr
 pub closes-now : {W : Type 0} (G : Ghosts W) (s n : Session) (seat : ℕ) (answer : Kept) (store : KeptStore) (before after : W) → has (activity s).seating.taken seat ≡ true → activity n ≡ activity s
     → store ≡ with_begun s.store (begun_of store.bank) → IsRecordOf (activity s) seat (begun_of store.bank) → IsFailedCommit G answer store n.store before after
     → ClosesInCommit G (number_in (activity s).seating seat) answer s.store n before after
-closes-now G s n seat answer store before after taken same begun recorded failed = record {
-  seat = seat;
-  taken = ap (λ (a : Activity). has a.seating.taken seat) same ∙ taken;
-  number = ap (λ (a : Activity). number_in a.seating seat) same;
-  lines = begun_of store.bank;
-  recorded = subst (λ (a : Activity). IsRecordOf a seat (begun_of store.bank)) (sym same) recorded;
-  begun = before;
-  asks = asks_none G before;
-  calm = refl;
-  failed = subst (λ (that : KeptStore). IsFailedCommit G answer that n.store before after) begun failed;
-}
+closes-now G s n seat answer store before after taken same begun recorded failed = grind (arith, same, taken, asks_none G before, recorded, begun, failed)
 
 -- and the disk was only asked before it
 module _ {W : Type 0} (G : Ghosts W) (fewer_later : FewerLater G) (activation : ℕ) (store : KeptStore) (new : Session) (before between after : W) (asks : OnlyAsks G before between) (calm : G.disk_faults between ≡ G.disk_faults before) where
   closes-later : (answer : Kept) → ClosesInCommit G activation answer store new between after → ClosesInCommit G activation answer store new before after
-  closes-later answer closes = record {
-    seat = closes.seat;
-    taken = closes.taken;
-    number = closes.number;
-    lines = closes.lines;
-    recorded = closes.recorded;
-    begun = closes.begun;
-    asks = asks_on G fewer_later before between closes.begun asks closes.asks;
-    calm = closes.calm ∙ calm;
-    failed = closes.failed;
-  }
+  closes-later answer closes = grind (arith, asks_on G fewer_later before between closes.begun asks closes.asks, closes, calm)
 
   pub closes-since : (ends : TurnEnd) → ClosesAsCommit G activation ends store new between after → ClosesAsCommit G activation ends store new before after
   closes-since ends closes = grind (arith, closes-later)

@@ -1,16 +1,16 @@
 -- The commit of a session is one of the desk, and what the disk holds in it.
-use Rattle.supervisor.proofs.Common.{◌≡◌, ◌⊎◌, inl, inr, ⊎_elim, ℕ, ◌+◌, ◌*◌, ◌%◌, ◌^◌, ◌<◌, ◌≤◌, List, [], ◌∷◌, ◌++◌, length, refl, sym, ◌∙◌, ap, subst, arith, Option, Some, length-append, map-append, Layout, FlatStore, has, Plain, after, Ghosts, Rose, IsSure, Leaves, held_of, Header, HasRanges, most_lines, RecordLine, Standing, Stands, stands, one_more, laid, IsMoreBy, journal_in, journal_with, KeptStore, number_of, with_begun, TracksStore, Committed, order_told, standing_of, Desk, Fine, Doubt, Unwritten, Over, ordered, WritesMore, number_after, IsState, over_all, committed_at, sitter, number_in, Activity, live_in, program_in, entry_in, store_over, desk_over, state_in, Live, KeepsDesk, AreRowsWithin, rolled, tally_counts, commit_call, Tally, Session, IsSound, activity, order_of, session_desk, IsOpenOver, HasCommitted, IsEitherSide, fine_desk, shows_begun, nat_tests, ◌==◌, not, filter, None, true, false, vec_len, vec_capacity, slice_set, IsEither}
+use Rattle.supervisor.proofs.Common.{◌≡◌, ◌⊎◌, inl, inr, ⊎_elim, ℕ, ◌+◌, ◌%◌, ◌^◌, ◌<◌, ◌≤◌, List, [], ◌∷◌, ◌++◌, refl, sym, ◌∙◌, ap, arith, Option, Some, length-append, map-append, FlatStore, has, Plain, after, Ghosts, Rose, IsSure, Leaves, held_of, RecordLine, Stands, stands, one_more, laid, IsMoreBy, journal_in, journal_with, KeptStore, number_of, with_begun, TracksStore, Committed, order_told, standing_of, Desk, Fine, Doubt, Unwritten, Over, ordered, WritesMore, number_after, committed_at, sitter, number_in, Activity, live_in, program_in, entry_in, store_over, desk_over, Live, KeepsDesk, rolled, tally_counts, commit_call, Tally, Session, IsSound, activity, order_of, session_desk, IsOpenOver, HasCommitted, IsEitherSide, fine_desk, shows_begun, nat_tests, ◌==◌, not, filter, None, true, false, vec_len, vec_capacity, slice_set, IsEither}
 use Rattle.lock_rules.proofs.Sets.{has-filter}
 use Rattle.frame_pool.specs.declared.model.Pool.{Pool}
 use Rattle.activations.proofs.ContendLemmas.{fewer}
+use Rattle.supervisor.proofs.DesertedLemmas.{sound-same}
 use Rattle.desk.specs.declared.answers.TurnEnd.TheVariants as end
 use Rattle.desk.specs.Instruction as turn
 use Rattle.activations.specs.Follows as running
 
 -- a number that rises where it is told
 pub writes-more : (old new : Option ℕ) (more : ℕ) → IsMoreBy more old new → WritesMore old new more
-writes-more None new more rises = tt
-writes-more (Some count) new more rises = rises count refl
+writes-more old new more rises = grind arith
 
 -- one commit more in the order
 pub order-more : (old new : List Committed) (told : Committed) (number steps : ℕ) → new ≡ old ++ told ∷ [] → told.activation ≡ number → told.steps ≡ steps
@@ -22,9 +22,7 @@ order-more old new told number steps is activation rows =
 
 -- and the number after it
 number-more : (opened number : ℕ) (one other : Desk) (commit : ℕ × ℕ) → number ≡ number_after opened one → other.order ≡ one.order ++ commit ∷ [] → (number + 1) % 2 ^ 64 ≡ number_after opened other
-number-more opened number one other commit is more =
-    let long : length other.order ≡ length one.order + 1 = ap length more ∙ length-append one.order (commit ∷ []) in
-    omega arith
+number-more opened number one other commit is more = grind (arith, length-append one.order (commit ∷ []))
 
 -- who has left isn't among those that are left
 pub gone : (taken : List ℕ) (seat : ℕ) → has (filter (λ other. not (other == seat)) taken) seat ≡ false
@@ -60,57 +58,21 @@ module _ (s : Session) (seat : ℕ) (sound : IsSound s) (taken : has (activity s
 
   -- he has left, whether with a commit or not
   pub sound-left : (n : Session) (pool : Pool) (commits : ℕ) → s.closed ≡ false → HasLeft s n seat pool commits → IsSound n
-  sound-left n pool commits open_before left = record {
-    ranges = subst HasRanges (sym left.header) sound.ranges;
-    running = left.running;
-    directory = ap (λ (h : Header). h.directory) left.header ∙ sound.directory ∙ sym (ap (λ (a : Activity). a.reach.directory) left.is);
-    most = ap most_lines left.header ∙ sound.most ∙ sym (ap (λ (a : Activity). a.most_lines) left.is);
-    room = record {
-      begun = omega (arith, next, left.begins, sound.room.begun);
-      begin_numbers = omega (arith, left.begins, sound.room.begin_numbers);
-      turned = omega (arith, left.turns, sound.room.turned);
-      rows = subst (λ (turns : ℕ). AreRowsWithin (activity n) (turns * 1000000)) (sym left.turns) (subst (λ (a : Activity). AreRowsWithin a (s.turns * 1000000)) (sym left.is) sound.room.rows);
-      places = λ still.
-          let places = sound.room.places (sym left.closed ∙ still) in
-          let some = fewer (activity s).seating.taken seat taken in
-          let rest = ap (λ (a : Activity). length a.seating.taken) left.is in
-          omega (arith, places, some, rest, next, left.few, left.longer);
-      order = omega (arith, left.begins, left.room, sound.room.order);
-      commits = let some = fewer-commits open_before in omega (arith, some, left.begins, left.few, left.longer);
-    };
-    usable = λ still. left.usable;
-  }
-    where
-      next : (activity n).next ≡ (activity s).next
-      next = ap (λ (a : Activity). a.next) left.is
+  sound-left n pool commits open_before left =
+      let some = fewer-commits open_before in
+      let others = fewer (activity s).seating.taken seat taken in
+      grind (arith, sound, sound.room, left, some, others)
 
   -- it closes, and all else that runs is as before
   pub sound-closed : (n : Session) → n.store.header ≡ s.store.header → activity n ≡ activity s → n.begins ≡ s.begins → n.turns ≡ s.turns → n.closed ≡ true → vec_capacity s.order ≤ vec_capacity n.order → s.closed ≡ false → vec_len n.order ≤ vec_len s.order + 1 → IsSound n
-  sound-closed n header is begins turns closed room open_before longer = record {
-    ranges = subst HasRanges (sym header) sound.ranges;
-    running = subst running.IsSound (sym is) sound.running;
-    directory = ap (λ (h : Header). h.directory) header ∙ sound.directory ∙ sym (ap (λ (a : Activity). a.reach.directory) is);
-    most = ap most_lines header ∙ sound.most ∙ sym (ap (λ (a : Activity). a.most_lines) is);
-    room = record {
-      begun = let next = ap (λ (a : Activity). a.next) is in omega (arith, next, begins, sound.room.begun);
-      begin_numbers = omega (arith, begins, sound.room.begin_numbers);
-      turned = omega (arith, turns, sound.room.turned);
-      rows = subst (λ (turns : ℕ). AreRowsWithin (activity n) (turns * 1000000)) (sym turns) (subst (λ (a : Activity). AreRowsWithin a (s.turns * 1000000)) (sym is) sound.room.rows);
-      places = λ still. absurd (let no : true ≡ false = sym closed ∙ still in cc (no));
-      order = omega (arith, begins, room, sound.room.order);
-      commits = let some = fewer-commits open_before in omega (arith, some, begins, longer);
-    };
-    usable = λ still. absurd (let no : true ≡ false = sym closed ∙ still in cc (no));
-  }
+  sound-closed n header is begins turns closed room open_before longer =
+      let some = fewer-commits open_before in
+      sound-same s n sound header is begins turns room (omega (arith, some, longer)) (λ still. absurd (cc (closed, still)))
 
 -- what was printed in a taken seat is what the state of who sits there says
 pub out-is : (a : Activity) (seat : ℕ) (committed : List ℕ) (now : Plain) → has a.seating.taken seat ≡ true → KeepsDesk a committed
     → after (program_in a seat) (entry_in a seat).runs.args (store_over a committed) (entry_in a seat).rows ≡ Some now → (live_in a seat).out ≡ now.out
-out-is a seat committed now taken follows at =
-    let stand : IsState (store_over a committed) (entry_in a seat) (state_in a seat) = follows.kept.stand seat taken in
-    let both : Some (over_all (state_in a seat) stand.bytes) ≡ Some now = sym stand.at ∙ at in
-    let same : over_all (state_in a seat) stand.bytes ≡ now = cc in
-    ap (λ (p : Plain). p.out) same
+out-is a seat committed now taken follows at = grind (arith, (follows.kept.stand seat taken).at)
 
 -- a commit over committed bytes, at a state, whose record gives what it commits
 module _ {W : Type 0} (G : Ghosts W) (s : Session) (seat : ℕ) (sound : IsSound s) (before after : W) (over : IsOpenOver s (held_of G before)) (now : Plain)
@@ -131,10 +93,7 @@ module _ {W : Type 0} (G : Ghosts W) (s : Session) (seat : ℕ) (sound : IsSound
 
   -- what stands with the record
   pub stands-more : one_more lines (stands (held_of G before)) ≡ Stands ((number_of s.store + 1) % 2 ^ 64) (keeps now.store)
-  stands-more =
-      ap (one_more lines) over.stood
-      ∙ ap (λ (bytes : List ℕ). let that : Standing = Stands ((number_of s.store + 1) % 2 ^ 64) (keeps bytes) in that)
-      (ap (λ (d : Layout). laid d.page over.committed lines) sound.directory ∙ gives)
+  stands-more = grind (arith, over.stood)
 
   number-now : (number : ℕ) (next : Desk) → number ≡ number_of s.store → next.order ≡ order_of s ++ (number_in (activity s).seating seat, (sitter (activity s).seating seat).rows + 1) ∷ []
       → (number + 1) % 2 ^ 64 ≡ number_after s.opened next
@@ -152,8 +111,7 @@ module _ {W : Type 0} (G : Ghosts W) (s : Session) (seat : ℕ) (sound : IsSound
 
   -- the store with the record begun is tracked
   pub tracked : IsSure G before → (store : KeptStore) → store ≡ with_begun s.store lines → TracksStore G store before
-  tracked sure store is =
-      subst (λ (that : KeptStore). TracksStore G that before) (sym is) (record { sure = sure; shows = shows_begun s.store lines (held_of G before) over.shows })
+  tracked sure store is = grind (arith, is, shows_begun s.store lines (held_of G before) over.shows)
 
   module _ (number : ℕ) (number_is : number ≡ number_of s.store) (n : Session) (told : Committed) (activation : told.activation ≡ number_in (activity s).seating seat)
       (steps : told.steps ≡ (sitter (activity s).seating seat).rows + 1) where

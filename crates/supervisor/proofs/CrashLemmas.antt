@@ -1,5 +1,6 @@
 -- What a crash of a session did.
-use Rattle.supervisor.proofs.Common.{◌≡◌, inl, inr, ℕ, List, [], refl, sym, ◌∙◌, ap, Option, true, unwrap_or, Ghosts, Rose, IsSure, OnlyAsks, held_of, Header, Holds, Faulty, bank_of, Stands, stands, chosen, KeptStore, number_of, TracksStore, shown_stands, shown_store, journal_in, Did, standing_of, Desk, numbers, Fine, Failed, number_after, Step, Crashed, CrashFailed, shut, restarted, stepped, Activations, IsRestarted, activity_of, Session, IsSound, activity, session_desk, order_of, IsOpenOver, ShowsDesk}
+use Rattle.std.proofs.Common.{arith}
+use Rattle.supervisor.proofs.Common.{◌≡◌, inl, inr, ℕ, List, [], refl, sym, ◌∙◌, ap, Option, true, unwrap_or, Ghosts, Rose, IsSure, OnlyAsks, held_of, Header, Faulty, bank_of, Stands, stands, chosen, KeptStore, number_of, TracksStore, shown_stands, shown_store, journal_in, Did, standing_of, Desk, numbers, Fine, Failed, number_after, Step, Crashed, CrashFailed, shut, restarted, stepped, Activations, IsRestarted, activity_of, Session, IsSound, activity, session_desk, order_of, IsOpenOver, ShowsDesk}
 use Rattle.outside.proofs.Durable.{leaves_held}
 use Rattle.desk.specs.declared.event.Event.TheVariants as event
 use Rattle.supervisor.proofs.DidLemmas.{stood-over, fine-sure, failed-sure, open-shut}
@@ -16,16 +17,11 @@ module _ {W : Type 0} (G : Ghosts W) (s : Session) (store : KeptStore) (header :
   same_bytes = ap (λ (those : Option (List ℕ)). unwrap_or those []) asks.held
 
   pub crash-leaves : (image seen : List ℕ) → G.left_since after (G.moment before) image seen → stands image ≡ standing_of s.opened (session_desk s over.committed)
-  crash-leaves image seen there =
-      ap stands (leaves_held G before sure image seen (asks.crash sure.told image seen there)) ∙ stood-over s (held_of G before) sound over
+  crash-leaves image seen there = cc (leaves_held G before sure image seen (asks.crash sure.told image seen there), stood-over s (held_of G before) sound over)
 
   module _ (tracks : TracksStore G store after) where
     pub number-same : number_of store ≡ number_of s.store
-    number-same =
-        let shown = shown_stands (held_of G after) store tracks.shows in
-        let both : Stands (number_of store) shown.0 ≡ Stands (number_of s.store) (record { directory = s.store.header.directory; bytes = over.committed }) =
-        sym shown.1 ∙ ap stands same_bytes ∙ over.stood in
-        cc
+    number-same = grind (arith, (shown_stands (held_of G after) store tracks.shows).1, same_bytes, over.stood)
 
     abbrev pub over-forgotten : IsOpenOver forgotten (held_of G after)
     over-forgotten = record {
@@ -79,8 +75,4 @@ module _ {W : Type 0} (G : Ghosts W) (s : Session) (store : KeptStore) (header :
 
 -- bytes that were its store's have no fault
 pub undamaged : (s : Session) (held : List ℕ) → IsOpenOver s held → (offset : ℕ) → bank_of held s.store.header (chosen held) ≡ Faulty offset → ⊥
-undamaged s held over offset faulty =
-    let holds : bank_of held s.store.header (chosen held) ≡ Holds s.store.bank.gate over.shows.read.records =
-    ap (bank_of held s.store.header) over.shows.chosen_is ∙ (shown_store held s.store over.shows).holds in
-    let both = sym holds ∙ faulty in
-    cc
+undamaged s held over offset faulty = grind (arith, over.shows.chosen_is, (shown_store held s.store over.shows).holds)

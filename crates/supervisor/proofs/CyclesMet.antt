@@ -1,5 +1,5 @@
 -- The cycles that a turn records, and the desks at which they were met.
-use Rattle.supervisor.proofs.Common.{Bool, true, Plain, Outcome, row, after, Desk, Entry, with_entry, wanted, conflicts_of, numbers, waits_for, Word, Counts, Limit, Turning, Going, Over, Attempt, Contest, Contested, Settled, Lost, Fetching, Fetched, Broken, commits, takes_effect, goes_on, gets, with_grants, fetches_touched, breaks_cycle, breaks_cycles, waits_or_gets, contest_ends, asks, refused_pages, fetched_first, limited, attempts, attempts_at, instruction, turns, turn, turn_of, no_counts, WasMet, WereMet, CyclesWereMet, ◌≡◌, ℕ, zero, suc, ◌+◌, ◌<◌, ◌==◌, List, [], ◌∷◌, ◌++◌, length, find, refl, sym, ◌∙◌, ap, subst, arith, Option, Some, None}
+use Rattle.supervisor.proofs.Common.{Bool, true, Plain, Outcome, row, after, Desk, Entry, with_entry, wanted, numbers, waits_for, Word, Counts, Limit, Turning, Going, Over, Attempt, Contest, Contested, Fetching, commits, takes_effect, goes_on, gets, with_grants, fetches_touched, breaks_cycle, breaks_cycles, waits_or_gets, contest_ends, asks, fetched_first, limited, attempts, attempts_at, instruction, turns, turn, turn_of, no_counts, WasMet, WereMet, CyclesWereMet, ◌≡◌, ℕ, zero, suc, ◌+◌, ◌<◌, ◌==◌, List, [], ◌∷◌, ◌++◌, length, find, refl, sym, ◌∙◌, ap, subst, arith, Option, Some, None}
 use Rattle.lock_rules.specs.Waits.{shown_cycle}
 use Rattle.desk_law.specs.Causes.{turn_counts}
 use Rattle.desk_law.specs.Laws.{contest_counts}
@@ -33,9 +33,8 @@ round number contest = breaks_cycles 1 number contest
 rounds-more : (number rounds : ℕ) (contest : Contest) (met : Desk) (counts : Counts) → breaks_cycles rounds number contest ≡ Contested met counts
     → breaks_cycles (suc rounds) number contest ≡ breaks_cycle number (shown_cycle (waits_for met) (numbers met) number) met counts
 rounds-more number zero contest met counts is = ap (round number) is
-rounds-more number (suc rounds) (Settled desk more) met counts is = absurd (cc)
-rounds-more number (suc rounds) (Lost desk more) met counts is = absurd (cc)
 rounds-more number (suc rounds) (Contested desk more) met counts is = rounds-more number rounds (breaks_cycle number (shown_cycle (waits_for desk) (numbers desk) number) desk more) met counts is
+rounds-more number (suc rounds) _ met counts is = absurd (cc)
 
 module _ (word : Word) (number limit : ℕ) (start : Desk) where
   abbrev Met : Counts → Type 0
@@ -98,13 +97,11 @@ module _ (word : Word) (number limit : ℕ) (start : Desk) where
           }))
 
       rounds-met : (left rounds : ℕ) (contest : Contest) → breaks_cycles rounds entry.number first ≡ contest → Met (contest_counts contest) → Met (contest_counts (breaks_cycles left entry.number contest))
-      rounds-met zero rounds contest is met = met
-      rounds-met (suc left) rounds (Settled desk counts) is met = met
-      rounds-met (suc left) rounds (Lost desk counts) is met = met
       rounds-met (suc left) rounds (Contested desk counts) is met =
           rounds-met left (suc rounds) (breaks_cycle entry.number (shown_cycle (waits_for desk) (numbers desk) entry.number) desk counts)
           (rounds-more entry.number rounds first desk counts is)
           (broken-met rounds desk counts is met (shown_cycle (waits_for desk) (numbers desk) entry.number) refl)
+      rounds-met _ rounds _ is met = met
 
     module _ (attempt : Attempt) (its : attempt.entry ≡ entry) where
       asks-met : (refused holders : List ℕ) (resident : List ℕ) (counts : Counts) → Met counts → IsMet (asks word attempt refused holders (record at { resident = resident }) counts)
@@ -115,11 +112,7 @@ module _ (word : Word) (number limit : ℕ) (start : Desk) where
           (rounds-met resident counts (length at.active) 0 (first resident counts) refl met))
 
       first-met : (counts : Counts) (fetching : Fetching) → Met counts → IsMet (fetched_first word attempt at counts fetching)
-      first-met counts (Fetched resident paged) met =
-          let there : Desk = record at { resident = resident } in
-          let paged_so : Counts = record counts { pages = paged } in
-          asks-met (refused_pages attempt there) (conflicts_of there attempt.entry) resident (record paged_so { locks = paged_so.locks + length (refused_pages attempt there) }) met
-      first-met counts (Broken paged) met = met
+      first-met counts fetching met = grind (arith, asks-met)
 
       limited-met : (over : Bool) (counts : Counts) → Met counts → IsMet (limited over word attempt at counts)
       limited-met over counts met = grind (arith, first-met)

@@ -1,9 +1,8 @@
 -- The journal of the bytes that a store shows, and what a commit and a checkpoint make of it.
-use Rattle.supervisor.proofs.Common.{◌≡◌, ℕ, ◌+◌, ◌%◌, ◌^◌, List, [], ◌∷◌, ◌++◌, length, refl, sym, ◌∙◌, ap, arith, Option, Some, None, inl, inr, Bool, true, false, not, unwrap_or, ◌==◌, Header, Holds, RecordLine, bank_of, KeptStore, Shows, shown_store, begun_of, Journal, journal_emptied, journal_in, journal_under, journal_with, records_of, suc, zero, nat_tests, drop, slice_index, nat_lt, if◌then◌else◌, option_map, nil_from_length, entry_bytes, number_at, Area, Bank, Closed, Gate, Sound, Wrong, count_of, gate_at, record_bytes, HoldsRecords, HoldsCommitted, emptied, roomy, bytes_taken}
+use Rattle.supervisor.proofs.Common.{◌≡◌, ℕ, ◌+◌, ◌%◌, ◌^◌, List, [], ◌∷◌, ◌++◌, length, refl, sym, ◌∙◌, ap, arith, Option, inl, inr, Bool, true, false, not, unwrap_or, ◌==◌, Holds, RecordLine, KeptStore, Shows, shown_store, begun_of, Journal, journal_emptied, journal_in, journal_with, suc, zero, nat_tests, drop, slice_index, nat_lt, if◌then◌else◌, option_map, nil_from_length, entry_bytes, number_at, Area, Closed, Gate, Sound, Wrong, count_of, gate_at, record_bytes, HoldsRecords, HoldsCommitted, emptied, roomy, bytes_taken}
 use Rattle.std.proofs.lemmas.List.Sums.{sum_by-append, sum_by-cons}
 use Rattle.line_geometry.specs.declared.directory.PageSize.{PageSize}
 use Rattle.store_format.specs.declared.header.Which.{Which}
-use Rattle.store_format.specs.declared.header.Which.TheVariants.{A, B}
 unfoldable use Rattle.store_format.specs.Bank.{holds_from}
 use Rattle.store_format.proofs.Walk.{closed_is, preceded_is, sound_is}
 use Rattle.redo_journal.specs.Kept.{KeptBank, area_end, end_of, needed_end, number_of, place_of, with_record}
@@ -17,9 +16,7 @@ gate_behind : (image : List ℕ) (area : Area) (most number from gate : ℕ) (re
 unfolding holds_from
 gate_behind image area most number from gate records (Closed closed) is holds =
     let at = closed_is area.page (slice_index image from == 0xA5) area.bound area.end ((number + 1) % 2 ^ 64) from (drop from image) closed is in
-    let here : closed ≡ gate = cc in
-    let none : records ≡ [] = cc in
-    omega (arith, at.1, here, ap (bytes_taken area.page) none)
+    grind (arith, at.1, holds)
 gate_behind image area most number from gate records (Wrong offset) is holds = cc
 gate_behind image area zero number from gate records (Sound lines next) is holds = cc
 gate_behind image area (suc most) number from gate records (Sound lines next) is holds =
@@ -27,24 +24,18 @@ gate_behind image area (suc most) number from gate records (Sound lines next) is
     let parts = preceded_is lines (holds_from image area most (number + 1) (gate_at image area (number + 1) next)) gate records holds in
     let later = gate_behind image area most (number + 1) next gate parts.0 (gate_at image area (number + 1) next) refl parts.1 in
     let many : length lines ≡ count_of (drop from image) = ap length sound.lines_are ∙ length-lines_from area.page (count_of (drop from image)) (from + 11) (drop 11 (drop from image)) in
-    let taken : bytes_taken area.page records ≡ record_bytes area.page (length lines) + bytes_taken area.page parts.0 =
-    ap (bytes_taken area.page) parts.2 ∙ sum_by-cons (λ (these : List RecordLine). record_bytes area.page (length these)) lines parts.0 in
-    omega (arith, later, sound.is_next, ap (record_bytes area.page) many, taken)
+    omega (arith, later, sound.is_next, ap (record_bytes area.page) many, ap (bytes_taken area.page) parts.2 ∙ sum_by-cons (λ (these : List RecordLine). record_bytes area.page (length these)) lines parts.0)
 
 -- the journal of bytes that a store shows
 abbrev journal-of : (held : List ℕ) (store : KeptStore) → Shows held store → Journal
 journal-of held store shows = record { page = store.header.directory.page; area = store.header.bank_bytes; records = shows.read.records }
 
 journal-shown : (held : List ℕ) (store : KeptStore) (shows : Shows held store) → journal_in held ≡ journal-of held store shows
-journal-shown held store shows =
-    let whole = shown_store held store shows in
-    ap (journal_under held) whole.said
-    ∙ ap (λ (bank : Bank). let that : Journal = record { page = store.header.directory.page; area = store.header.bank_bytes; records = records_of bank } in that) (ap (bank_of held store.header) whole.chooses ∙ whole.holds)
+journal-shown held store shows = grind (arith, (shown_store held store shows).said, (shown_store held store shows).chooses, (shown_store held store shows).holds)
 
 -- no bank is the other one
 not-other : (which : Which) → which ≡ other which → ⊥
-not-other A same = cc
-not-other B same = cc
+not-other which same = grind arith
 
 -- lines that are placed anew are as many
 length-placed : (page : PageSize) (at : ℕ) (lines : List RecordLine) → length (placed page at lines) ≡ length lines
@@ -52,13 +43,11 @@ length-placed page at [] = refl
 length-placed page at (line ∷ lines) = let rest = length-placed page (at + entry_bytes page) lines in omega (arith, rest)
 
 same-begun : (page : PageSize) (at : ℕ) (begun : Option (List RecordLine)) → length (unwrap_or (option_map (placed page at) begun) []) ≡ length (unwrap_or begun [])
-same-begun page at None = refl
-same-begun page at (Some lines) = length-placed page at lines
+same-begun page at begun = grind (arith, length-placed)
 
 -- where an area ends
 end-is : (which : Which) (bytes : ℕ) → end_of which bytes ≡ place_of which bytes + 8 + bytes
-end-is A bytes = omega arith
-end-is B bytes = omega arith
+end-is which bytes = grind arith
 
 room-by : (taken more area gate end need place : ℕ) → gate ≡ place + taken → end ≡ place + area → need ≡ gate + more + 1 → nat_lt (taken + more) area ≡ not (nat_lt end need)
 room-by taken more area gate end need place gate_is end_is need_is = grind (arith, nat_tests)
@@ -68,9 +57,7 @@ module _ (old new : KeptStore) (held after : List ℕ) (was : Shows held old) (n
   pub checkpoint-empties : new.bank.count ≡ 0 → journal_in after ≡ journal_emptied (journal_in held)
   checkpoint-empties none =
       let nothing : now.read.records ≡ [] = nil_from_length now.read.records (now.read.count ∙ none) in
-      journal-shown after new now
-      ∙ (λ i. let that : Journal = record { page = (header i).directory.page; area = (header i).bank_bytes; records = nothing i } in that)
-      ∙ ap journal_emptied (sym (journal-shown held old was))
+      grind (arith, journal-shown after new now, nothing, journal-shown held old was)
 
   abbrev page : PageSize
   page = old.header.directory.page
@@ -80,11 +67,7 @@ module _ (old new : KeptStore) (held after : List ℕ) (was : Shows held old) (n
   chooses which base records holds = sym now.chosen_is ∙ holds.store.chooses
 
   these : (which : Which) (base : ℕ) (records : List (List RecordLine)) → HoldsRecords old.header which base records after → now.read.records ≡ records
-  these which base records holds =
-      let one : bank_of after old.header which ≡ Holds new.bank.gate now.read.records =
-      ap (λ (said : Header). bank_of after said which) (sym header) ∙ ap (bank_of after new.header) (sym (chooses which base records holds)) ∙ (shown_store after new now).holds in
-      let both : Holds new.bank.gate now.read.records ≡ Holds holds.gate records = sym one ∙ holds.store.holds in
-      cc
+  these which base records holds = grind (arith, chooses which base records holds, (shown_store after new now).holds, holds.store.holds)
 
   -- whether a record of as many lines as are begun has room behind the others
   room : (lines : List RecordLine) → length lines ≡ length (begun_of old.bank) → nat_lt (bytes_taken page (was.read.records ++ lines ∷ [])) old.header.bank_bytes ≡ not (nat_lt (area_end old.bank) (needed_end old.bank))
@@ -93,9 +76,7 @@ module _ (old new : KeptStore) (held after : List ℕ) (was : Shows held old) (n
       let area : Area = record { page = old.bank.page; bound = length old.bank.newest; end = place + old.bank.bank_bytes } in
       let number = number_at held (place_of old.bank.which old.bank.bank_bytes) 8 in
       let behind : old.bank.gate ≡ place + bytes_taken old.bank.page was.read.records = gate_behind held area old.bank.bank_bytes number place old.bank.gate was.read.records (gate_at held area number place) refl was.read.holds in
-      let more : bytes_taken page (was.read.records ++ lines ∷ []) ≡ bytes_taken page was.read.records + record_bytes page (length lines) =
-      let split = sum_by-append (λ (these : List RecordLine). record_bytes page (length these)) was.read.records (lines ∷ []) in
-      omega (arith, split) in
+      let more : bytes_taken page (was.read.records ++ lines ∷ []) ≡ bytes_taken page was.read.records + record_bytes page (length lines) = omega (arith, sum_by-append (λ (these : List RecordLine). record_bytes page (length these)) was.read.records (lines ∷ [])) in
       ap (λ (n : ℕ). nat_lt n old.header.bank_bytes) more
       ∙ room-by (bytes_taken page was.read.records) (record_bytes page (length lines)) old.header.bank_bytes old.bank.gate (area_end old.bank) (needed_end old.bank) place
       (behind ∙ ap (λ (size : PageSize). place + bytes_taken size was.read.records) (sym was.fits.page))

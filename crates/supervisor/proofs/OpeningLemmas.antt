@@ -1,19 +1,11 @@
 -- A session that has just opened.
-use Rattle.supervisor.proofs.Common.{◌≡◌, ℕ, ◌+◌, ◌%◌, ◌^◌, List, [], length, take, sym, ◌∙◌, ap, arith, Option, false, unwrap_or, Layout, byte_count, Ghosts, OnlyAsks, held_of, header_of, most_lines, Stands, stands, KeptStore, number_of, Shows, TracksStore, Committed, order_told, opened, Live, Activity, desk_over, Begins, idle, Session, activity, session_desk}
+use Rattle.supervisor.proofs.Common.{◌≡◌, ℕ, ◌+◌, ◌^◌, List, [], length, take, sym, ◌∙◌, ap, arith, Option, false, unwrap_or, byte_count, Ghosts, OnlyAsks, held_of, header_of, most_lines, Stands, stands, KeptStore, number_of, Shows, TracksStore, order_told, opened, desk_over, Begins, Session, activity, session_desk}
 use Rattle.std.proofs.Math.Nat.{mod-mod}
-use Rattle.flat_machine.specs.declared.machine.Program.{Program}
 use Rattle.restart.proofs.StoodLemmas.{committed_in, committed-long, stood-store}
 use Rattle.supervisor.specs.Opened.{HasStood, IsSessionOpened}
 
 pub has-stood : (held : List ℕ) (store : KeptStore) → Shows held store → HasStood store.header held
-has-stood held store shows = (
-  shows.header.said,
-  (number_of store, record { directory = store.header.directory; bytes = committed_in held store shows }, stood-store held store shows),
-)
-
--- where nobody runs yet, all is over the directory given
-pub idle-directory : (a : Activity) (programs : List Program) (most_lines frames : ℕ) (directory : Layout) (live : List Live) → a ≡ idle programs most_lines frames directory live → a.reach.directory ≡ directory
-idle-directory a programs most_lines frames directory live is = ap (λ (those : Activity). those.reach.directory) is
+has-stood held store shows = grind (arith, shows.header.said, committed_in held store shows, stood-store held store shows)
 
 -- What is made anew, of a store: nothing was committed through it, and over committed bytes it is the desk that opens on them.
 pub record IsMade (frames : ℕ) (s : Session) : Type 0 where
@@ -40,10 +32,7 @@ module _ (frames : ℕ) (s : Session) (made : IsMade frames s) where
       record {
         sure = tracks.sure;
         store = record { directory = s.store.header.directory; bytes = committed };
-        stood =
-            ap (λ (held : List ℕ). stands held) (sym same)
-            ∙ stood
-            ∙ ap (λ (n : ℕ). Stands n (record { directory = s.store.header.directory; bytes = committed })) (sym made.number);
+        stood = cc (same, stood, made.number);
         header = ap (λ (held : List ℕ). header_of (take 128 held)) (sym same) ∙ tracks.shows.header.said;
         shows = record {
           over = record {
@@ -52,11 +41,7 @@ module _ (frames : ℕ) (s : Session) (made : IsMade frames s) where
             shows = tracks.shows;
             stood = stood;
             follows = (made.first committed long).follows;
-            number =
-                sym (ap (λ (order : List Committed). (s.opened + length (order_told order)) % 2 ^ 64) made.no_order
-                ∙ ap (λ (n : ℕ). n % 2 ^ 64) (let none : s.opened + 0 ≡ s.opened = omega arith in none)
-                ∙ ap (λ (n : ℕ). n % 2 ^ 64) made.number
-                ∙ mod-mod (s.store.bank.base + s.store.bank.count) (2 ^ 64));
+            number = grind (arith, made.no_order, made.number, mod-mod (s.store.bank.base + s.store.bank.count) (2 ^ 64));
           };
           directory = made.directory;
           is = made-desk committed long;

@@ -1,5 +1,5 @@
 -- What holds of the desk that a session shows.
-use Rattle.supervisor.proofs.Common.{not, IsFalse, is_some, get_or_past, page_count, FlatStore, Plain, after, Desk, Entry, opened, run, over_all, seat-told, Session, activity, session_desk, ShownIsConsistent, ShownIsIsolated, ◌≡◌, ℕ, ◌+◌, ◌<◌, ◌≤◌, Bool, true, false, List, [], ◌∷◌, length, refl, sym, ◌∙◌, ap, subst, arith, Option, Some, None, get_or}
+use Rattle.supervisor.proofs.Common.{is_some, get_or_past, page_count, FlatStore, Plain, after, Desk, Entry, opened, run, over_all, seat-told, Session, activity, session_desk, ShownIsConsistent, ShownIsIsolated, ◌≡◌, ℕ, ◌<◌, true, List, [], ◌∷◌, length, sym, ◌∙◌, ap, subst, arith, Option, Some, None, get_or}
 use Rattle.frame_pool.specs.Sound.{is_apart}
 use Rattle.desk_law.specs.Consistent.{IsAmong, AreDistinct, AreResident, IsConsistent}
 use Rattle.desk_law.specs.Current.{IsCurrent}
@@ -9,13 +9,10 @@ use Rattle.desk_law.proofs.MemoryLaw.{runs-are-isolated}
 use Rattle.activations.specs.Activity.{entry_in, entries, store_over, state_in, shown as bytes_shown}
 
 -- each stands once where none stands twice
-not-there : (there : Bool) → not there ≡ true → IsFalse there
-not-there true is = absurd (cc)
-not-there false is = refl
 
 distinct : (xs : List ℕ) → is_apart xs ≡ true → AreDistinct xs
 distinct [] is = tt
-distinct (x ∷ xs) is = grind (arith, not-there, distinct xs)
+distinct (x ∷ xs) is = grind (arith, distinct xs)
 
 -- what has a place is within the places
 within-places : (places : List (Option ℕ)) (page : ℕ) → is_some (get_or places page None) ≡ true → page < length places
@@ -23,21 +20,7 @@ within-places places page is = let past = get_or_past places page None in grind 
 
 -- the pages of a session's frames
 pages-fit : (s : Session) (committed : List ℕ) → AreResident (session_desk s committed).frames (page_count (session_desk s committed).committed.directory) (session_desk s committed).resident
-pages-fit s committed =
-    let unit = s.activations.unit in
-    let places = unit.pool.places in
-    let placed = places.sound.placed in
-    let used : length places.resident.items + length places.free.items ≡ places.frames = placed.used in
-    let few : length places.resident.items ≤ places.frames = omega (arith, used) in
-    let pages : length places.frame_of.items ≡ page_count (activity s).reach.directory = unit.pages in
-    record {
-      few = few;
-      once = distinct places.resident.items placed.pages_apart;
-      within = λ page there.
-          let inside : page < length places.frame_of.items = within-places places.frame_of.items page (sym (placed.resident page) ∙ there) in
-          let within : page < page_count (activity s).reach.directory = omega (arith, inside, pages) in
-          within;
-    }
+pages-fit s committed = grind (arith, within-places, s.activations.unit.pool.places.sound.placed.used, s.activations.unit.pages, distinct s.activations.unit.pool.places.resident.items s.activations.unit.pool.places.sound.placed.pages_apart, s.activations.unit.pool.places.sound.placed.resident)
 
 pub consistent : ShownIsConsistent
 consistent s held desk shown =

@@ -1,5 +1,5 @@
 -- How a turn of a session ends: over what ran, and then its commit.
-use Rattle.supervisor.proofs.Common.{arith, ap, sym, ◌∙◌, subst, inl, inr, ⊎_elim, has, Ghosts, Rose, IsSure, FewerLater, Leaves, OnlyAsks, held_of, leaves_on, Stands, stands, sure_on, Shows, Cycle, TurnEnd, ending_told, HasNumbers, OnlyWrites, IsEitherOf, fine_step, standing_of, JournalAfter, journal_in, Turned, Desk, Entry, Word, Fine, ReadFailed, Doubt, Counts, Going, Over, no_counts, commits, turn, turn_of, turns, number_after, Step, turned, Reads, seat-told, told-found, stepped, number_in, seat_of, seat-found, Activations, Tally, entries, entry_in, desk_over, KeepsDesk, IsEndOfRows, IfWaits, HasEnded, tally_counts, IsAtCommit, commit_call, turn_in, activity_of, Session, IsSound, activity, order_of, session_desk, IsOpenOver, HasCommitted, TurnHasRun, IsCommitEnd, fine_desk, ◌≡◌, refl, ℕ, ◌+◌, ◌-◌, ◌*◌, ◌<◌, ◌≤◌, ◌⊎◌, true, false, List, [], map, Option, Some, None, IsSome, unwrap_or, option_map}
+use Rattle.supervisor.proofs.Common.{arith, ap, sym, ◌∙◌, subst, inl, inr, ⊎_elim, has, Ghosts, Rose, IsSure, FewerLater, Leaves, OnlyAsks, held_of, leaves_on, Stands, stands, sure_on, Shows, TurnEnd, ending_told, HasNumbers, OnlyWrites, IsEitherOf, fine_step, standing_of, JournalAfter, journal_in, Turned, Desk, Entry, Word, Fine, ReadFailed, Doubt, Going, Over, no_counts, commits, turn, turn_of, turns, number_after, turned, Reads, seat-told, told-found, number_in, seat_of, seat-found, Activations, Tally, entries, entry_in, desk_over, KeepsDesk, IsEndOfRows, IfWaits, HasEnded, tally_counts, IsAtCommit, commit_call, turn_in, activity_of, Session, IsSound, activity, order_of, session_desk, IsOpenOver, HasCommitted, TurnHasRun, IsCommitEnd, fine_desk, ◌≡◌, refl, ℕ, ◌+◌, ◌-◌, ◌*◌, ◌<◌, ◌≤◌, ◌⊎◌, true, false, List, [], Option, Some, None, IsSome, unwrap_or}
 use Rattle.outside.specs.Bytes.{AreTold}
 use Rattle.desk_law.proofs.Entries.{found-among}
 use Rattle.desk_law.proofs.InstructionStages.{reads-all}
@@ -13,22 +13,7 @@ use Rattle.activations.specs.Kept as kept
 -- what ran leaves a session sound
 pub sound-ran : (s : Session) (ran : Activations) (limit : ℕ) → IsSound s → limit ≤ 1000000 → 0 < s.turns → kept.AreRowsWithin (activity s) ((s.turns - 1) * 1000000)
     → running.IsSound (activity_of ran) → kept.KeepsParts (activity s) (activity_of ran) limit → IsSound (record s { activations = ran })
-sound-ran s ran limit sound few turned rows is parts = record {
-  ranges = sound.ranges;
-  running = is;
-  directory = sound.directory ∙ sym parts.directory;
-  most = sound.most ∙ sym parts.most_lines;
-  room = record {
-    begun = let begun = sound.room.begun in let next = parts.next in omega (arith, begun, next);
-    begin_numbers = sound.room.begin_numbers;
-    turned = sound.room.turned;
-    rows = λ seat below. let here = parts.rows ((s.turns - 1) * 1000000) rows seat below in omega (arith, here, few, turned);
-    places = λ still. let places = sound.room.places still in let fewer = parts.fewer in let next = parts.next in omega (arith, places, fewer, next);
-    order = sound.room.order;
-    commits = sound.room.commits;
-  };
-  usable = sound.usable;
-}
+sound-ran s ran limit sound few turned rows is parts = grind (arith, sound, sound.room, is, parts, parts.rows ((s.turns - 1) * 1000000) rows)
 
 -- the desk of an open session is that over what runs
 pub open-desk : (s : Session) (committed : List ℕ) → s.closed ≡ false → session_desk s committed ≡ desk_over (activity s) committed (order_of s)
@@ -36,15 +21,12 @@ open-desk s committed still i = record (desk_over (activity s) committed (order_
 
 -- bytes that are told are those that are held
 pub told-held : (told : Option (List ℕ)) (image : List ℕ) → IsSome told → AreTold told image → image ≡ unwrap_or told []
-told-held None image some is = absurd (cc (some))
-told-held (Some those) image some is = is
+told-held told image some is = grind arith
 
 module _ {W : Type 0} (G : Ghosts W) (s : Session) (sound : IsSound s) (before : W) (over : IsOpenOver s (held_of G before)) where
   -- what the session is over stands
   pub stood-before : stands (held_of G before) ≡ standing_of s.opened (session_desk s over.committed)
-  stood-before =
-      over.stood
-      ∙ (λ i. Stands (over.number i) (record { directory = sound.directory i; bytes = over.committed }))
+  stood-before = cc (over.stood, over.number, sound.directory)
 
   -- a store of which activations read
   pub store-over : IsSure G before → IsStoreOf G s.store before over.committed
@@ -54,9 +36,7 @@ module _ {W : Type 0} (G : Ghosts W) (fewer_later : FewerLater G) (s : Session) 
     (over : IsOpenOver s (held_of G before)) (asks : OnlyAsks G before mid) where
   -- while the disk was only asked, a crash left what stood
   asked : Leaves G (λ image seen. stands image ≡ standing_of s.opened (session_desk s over.committed)) before mid
-  asked image seen left =
-      ap stands (told-held (G.held before) image sure.told (sure.durable image seen (asks.crash sure.told image seen left)))
-      ∙ stood-before G s sound before over
+  asked image seen left = cc (told-held (G.held before) image sure.told (sure.durable image seen (asks.crash sure.told image seen left)), stood-before G s sound before over)
 
   -- other activities over the same bytes
   abbrev pub over-ran : (ran : Activations) → KeepsDesk (activity_of ran) over.committed → IsOpenOver (record s { activations = ran }) (held_of G mid)
@@ -77,10 +57,7 @@ module _ {W : Type 0} (G : Ghosts W) (fewer_later : FewerLater G) (s : Session) 
   idle tally nothing nobody = record {
     word = Fine;
     next = session_desk s over.committed;
-    step =
-        ap (λ (one : Option Entry). turn_of one Fine activation limit (session_desk s over.committed))
-        (told-found (activity s).seating.taken (entry_in (activity s)) activation ∙ ap (option_map (entry_in (activity s))) nobody)
-        ∙ ap (λ (counts : Counts). Over (session_desk s over.committed) counts (ending_told end.Idle s.printed)) (sym nothing);
+    step = grind (arith, told-found (activity s).seating.taken (entry_in (activity s)) activation);
     closes = refl;
     ordered = refl;
     why = inl refl;
@@ -133,15 +110,12 @@ module _ {W : Type 0} (G : Ghosts W) (fewer_later : FewerLater G) (s : Session) 
         → HasEnded how (turn_in (activity s) seat limit over.committed (order_of s) (tally_counts tally)) (activity_of ran) over.committed (order_of s) (tally_counts told)
         → TurnHasRun G activation limit how s now told before mid over.committed
     ended end.Disk rows waits has = run-by (ReadFailed told.pages) end.Disk (λ doubted. let no : ⊥ = cc in no) (inr rows.0) has.comes has.follows tt kept-journal
-    ended end.Idle rows waits has = absurd rows
-    ended (end.Committed number steps) rows waits has = absurd rows
-    ended (end.Closed doubt number) rows waits has = absurd rows
-    ended end.Shut rows waits has = absurd rows
     ended end.Limit rows waits has = fine end.Limit (has s.printed) tt kept-journal
     ended (end.Checked code address) rows waits has = fine (end.Checked code address) (has s.printed) tt kept-journal
     ended (end.Waits waiter holders) rows waits has = fine (end.Waits waiter holders) (has s.printed) (waits.0 ∙ found.1) kept-journal
     ended end.Victim rows waits has = fine end.Victim (has s.printed) tt kept-journal
     ended (end.Journal lines most) rows waits has = fine (end.Journal lines most) (has s.printed) tt kept-journal
+    ended _ rows waits has = absurd rows
 
     -- it came to its commit call
     module _ (parts : kept.KeepsParts (activity s) (activity_of ran) limit) (after : W) (new : Session) (how : TurnEnd) (counted : Tally)
@@ -150,15 +124,10 @@ module _ {W : Type 0} (G : Ghosts W) (fewer_later : FewerLater G) (s : Session) 
         (went : HasCommitted G seat at.now how now new told counted mid after over.committed) where
       goes : (word : Word) → ((counted : ℕ) → Reads word counted)
           → turn word activation limit (session_desk s over.committed) ≡ commits word (commit_call (activity_of ran) seat over.committed (order_of s) at.now) (session_desk now over.committed) (tally_counts told)
-      goes word reads =
-          turn-is word ∙ at.comes word (reads told.pages)
-          ∙ ap (λ (desk : Desk). commits word (commit_call (activity_of ran) seat over.committed (order_of s) at.now) desk (tally_counts told)) (sym (open-desk now over.committed over.still_open))
+      goes word reads = cc (turn-is word, at.comes word (reads told.pages), open-desk now over.committed over.still_open)
 
       fine-is : fine_step (activity s).programs (event.Turn activation limit) (session_desk s over.committed) ≡ fine_desk now over.committed seat at.now
-      fine-is =
-          ap (λ (left : Step). left.desk)
-          (stepped (activity s).programs (event.Turn activation limit) Fine (session_desk s over.committed) over.still_open
-          ∙ ap (turned activation) (goes Fine reads-all))
+      fine-is = cc (goes Fine reads-all)
 
       order-fine : (fine_desk now over.committed seat at.now).order ≡ went.next.order → (fine_step (activity s).programs (event.Turn activation limit) (session_desk s over.committed)).order ≡ went.next.order
       order-fine same = ap (λ (left : Desk). left.order) fine-is ∙ same
@@ -178,9 +147,7 @@ module _ {W : Type 0} (G : Ghosts W) (fewer_later : FewerLater G) (s : Session) 
         ordered = went.ordered;
         why = ⊎_elim (λ fine. inl fine) (λ rose. inr (subst (λ (n : ℕ). Rose n (G.disk_faults after)) calm rose)) went.why;
         numbers = subst (λ (n : ℕ). HasNumbers how n (number_after s.opened went.next)) (number ∙ found.1) went.numbers;
-        journal = λ still.
-            subst (λ (n : ℕ). JournalAfter (Turned n (tally_counts counted) (ending_told how new.printed)) (journal_in (held_of G before)) (journal_in (held_of G after))) (number ∙ found.1)
-            (subst (λ (told : Option (List ℕ)). JournalAfter (Turned (number_in (activity_of ran).seating seat) (tally_counts counted) (ending_told how new.printed)) (journal_in (unwrap_or told [])) (journal_in (held_of G after))) asks.held (went.journal still));
+        journal = λ still. grind (arith, found.1, asks.held, went.journal);
         still = went.still;
         crash =
             leaves_on G fewer_later before mid after asks.calls.time writes.calls.time
@@ -188,15 +155,9 @@ module _ {W : Type 0} (G : Ghosts W) (fewer_later : FewerLater G) (s : Session) 
             (λ image seen left. inl (asked image seen left))
             (λ image seen left.
             ⊎_elim (λ stood. inl (stood ∙ standing-ran)) (λ done. inr (order-fine done.0, done.1 ∙ stands-fine)) (went.crash image seen left));
-        doubt = λ doubted shut.
-            let there = went.doubt doubted in
-            (order-fine there.0, (there.1.0, λ image seen left. there.1.1 image seen left ∙ stands-fine));
+        doubt = λ doubted shut. grind (arith, order-fine (went.doubt doubted).0, (went.doubt doubted).1.0, went.doubt, stands-fine);
       }
 
 -- nothing was counted
 pub nothing-counted : (tally : Tally) → tally.ran + tally.pages + tally.locks ≡ 0 → tally.cycles.items ≡ [] → tally_counts tally ≡ no_counts
-nothing-counted tally none empty =
-    let ran : tally.ran ≡ 0 = omega (arith, none) in
-    let pages : tally.pages ≡ 0 = omega (arith, none) in
-    let locks : tally.locks ≡ 0 = omega (arith, none) in
-    λ i. record { ran = ran i; pages = pages i; locks = locks i; cycles = map (λ (cycle : Cycle). cycle.members.items) (empty i) }
+nothing-counted tally none empty = grind arith

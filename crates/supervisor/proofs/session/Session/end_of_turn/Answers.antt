@@ -1,4 +1,4 @@
-use Rattle.supervisor.proofs.Lemmas.{ℕ, List, length, ap, arith, sym, ◌∙◌, subst, sure_on, Cycle, few-taken, seat-found, TurnEnd, FailsCounted, turn_fails, activity, order_of, IfWaits, IfJournal, IfVictim, IsEndOfRows, number_of, TellsNumber, EntersOrder, ClosesAsCommit, asks_none, total, closes-since, commit-told, rows-counted, rows-number}
+use Rattle.supervisor.proofs.Lemmas.{ℕ, arith, sym, ◌∙◌, subst, sure_on, few-taken, seat-found, TurnEnd, FailsCounted, turn_fails, activity, order_of, IfWaits, IfJournal, IfVictim, IsEndOfRows, number_of, TellsNumber, ClosesAsCommit, asks_none, total, closes-since, commit-told, rows-counted, rows-number}
 use Rattle.redo_journal.proofs.WriteLemmas.{asks_only, writes_on}
 use Rattle.supervisor.proofs.TurnLemmas.{idle, ended, committed, nothing-counted, sound-ran, over-ran, store-over}
 use Rattle.supervisor.proofs.session.Session.end_of_turn.Goals as goal
@@ -15,10 +15,7 @@ pub run-requires-clause-taken : goal.run-requires-clause-taken
 run-requires-clause-taken g c = (seat-found (activity c.args.self.now).seating c.requires.sound.running.seating c.args.activation c.in-Some.seat (sym c.seat_of.ensures ∙ c.in-Some.is)).0
 
 pub run-requires-clause-cycles : goal.run-requires-clause-cycles
-run-requires-clause-cycles g c =
-    let none = ap (λ (cycles : List Cycle). length cycles) c.requires.cycles in
-    let few = few-taken (activity c.args.self.now).seating c.requires.sound.running.seating in
-    omega (arith, none, few)
+run-requires-clause-cycles g c = grind (arith, c.requires.cycles, (few-taken (activity c.args.self.now).seating c.requires.sound.running.seating))
 
 pub commit-requires-clause-sound : goal.commit-requires-clause-sound
 commit-requires-clause-sound g c = sound-ran c.args.self.now c.run.new.self c.args.limit c.requires.sound c.requires.limit c.requires.turns c.requires.rows c.run.ensures.keeps.sound c.run.ensures.keeps.parts
@@ -49,9 +46,7 @@ returns-in-Ok-clause-went g c sure over =
     (over-ran G g.met.W.Outside.fewer_later s c.requires.sound c.args.activation c.args.limit before c.run.new.outside sure over asks c.run.new.self at.follows) at)
 
 pub returns-in-Ok-clause-ordered : goal.returns-in-Ok-clause-ordered
-returns-in-Ok-clause-ordered g c =
-    let found = (seat-found (activity c.args.self.now).seating c.requires.sound.running.seating c.args.activation c.in-Some.seat (sym c.seat_of.ensures ∙ c.in-Some.is)).1 in
-    subst (λ (n : ℕ). EntersOrder n c.commit.result (order_of c.args.self.now) (order_of c.commit.new.self)) (c.in-Ok.ensures.on.stays.number ∙ found) c.commit.ensures.ordered
+returns-in-Ok-clause-ordered g c = grind (arith, (seat-found (activity c.args.self.now).seating c.requires.sound.running.seating c.args.activation c.in-Some.seat (sym c.seat_of.ensures ∙ c.in-Some.is)).1, c.in-Ok.ensures.on.stays.number, c.commit.ensures.ordered)
 
 pub returns-in-Ok-clause-committing : goal.returns-in-Ok-clause-committing
 returns-in-Ok-clause-committing g c =

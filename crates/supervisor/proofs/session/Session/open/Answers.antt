@@ -1,5 +1,5 @@
-use Rattle.supervisor.proofs.Common.{held_of, byte_count, FlatStore, Header, most_lines, opened, Begins, activity, Session, length, false, ◌≡◌, refl, sym, ◌∙◌, ap, subst}
-use Rattle.supervisor.proofs.OpeningLemmas.{IsMade, idle-directory, made-opened, has-stood}
+use Rattle.supervisor.proofs.Common.{held_of, byte_count, FlatStore, Header, most_lines, opened, Activity, Begins, activity, Session, length, false, ◌≡◌, refl, sym, ◌∙◌, ap, subst}
+use Rattle.supervisor.proofs.OpeningLemmas.{IsMade, made-opened, has-stood}
 use Rattle.supervisor.proofs.session.Session.open.Given as given
 use Rattle.supervisor.proofs.session.Session.open.Goals as goal
 
@@ -21,8 +21,7 @@ is-made : (g : given.Over) (c : goal.After-number-opened g) → IsMade c.args.fr
 is-made g c =
     let header : c.header.result.now ≡ c.in_ok-store.store.header = c.header.ensures in
     let a = activity (made_session g c) in
-    let directory : a.reach.directory ≡ c.header.result.now.directory =
-    idle-directory a c.args.programs.items (most_lines c.header.result.now) c.args.frames c.header.result.now.directory a.live c.in_ok-activations.ensures.idle in
+    let directory : a.reach.directory ≡ c.header.result.now.directory = ap (λ (those : Activity). those.reach.directory) c.in_ok-activations.ensures.idle in
     record {
       still_open = refl;
       number = c.number-opened.ensures;
