@@ -1,5 +1,5 @@
 -- What one asks for, and waits for.
-use Rattle.activations.proofs.Common.{◌≡◌, refl, ℕ, ◌<◌, ◌==◌, true, false, List, [], ◌∷◌, length, map, Some, IsSome, arith, sym, subst, Layout, has, AreWithin, Request, Want, Seat, sitter, number_in, waiting_for, taken-below, AreOfPage, Activity, IsSound, KeepsParts, StaysSeated, asking, with_whole_page, AreWanted, nat_tests}
+use Rattle.activations.proofs.Common.{◌≡◌, refl, ℕ, ◌<◌, ◌==◌, true, false, List, [], ◌∷◌, length, map, Some, IsSome, arith, sym, subst, Layout, has, AreWithin, Request, Want, Seat, sitter, number_in, waiting_for, taken-below, AreOfPage, Activity, IsSound, KeepsParts, StandsStill, asking, ap, program_at, with_whole_page, AreWanted, nat_tests}
 use Rattle.activations.proofs.GrantingLemmas.{within-whole}
 use Rattle.activations.proofs.RequestLemmas.{whole-of-page}
 use Rattle.activations.proofs.SoundLemmas.{sound-reseated}
@@ -42,8 +42,14 @@ module _ (a : Activity) (seat : ℕ) (request : Request) (sound : IsSound a) (ta
         grind (arith, nat_tests, there, own, here, other);
   }
 
-  pub stays-asking : StaysSeated a (asking a seat request) seat
-  stays-asking = record { taken = taken; number = numbers seat; selected = λ is. record { runner = is.runner; registers = is.registers } }
+  pub still-asking : StandsStill a (asking a seat request) seat
+  still-asking = record {
+    seated = record { taken = taken; number = numbers seat; selected = λ is. record { runner = is.runner; registers = is.registers } };
+    program = ap (λ (s : Seat). program_at a.programs s.program) there;
+    live = refl;
+    private = refl;
+    own = λ page its. refl;
+  }
 
 -- a request for whole pages
 pub asked-within : (a : Activity) (wants asked : List Want) → IsSound a → AreWanted a.reach.directory wants → asked ≡ map (with_whole_page a.reach.directory) wants → AreWithin a.seating.holding.pages asked

@@ -127,19 +127,19 @@ pub use Rattle.store_format.specs.Header.{Header, entry_bytes, most_lines, total
 pub use Rattle.store_format.specs.Stands.{Damaged, NotAStore, Standing, Stands, laid}
 unfoldable pub use Rattle.store_format.specs.Stands.{stands}
 pub use Rattle.activations.specs.Activity.{Activity, authority_at, authority_of, authority_told, authority_under, desk_over, entries, entry_for, entry_in, lines_held, live_in, locks_in, no_program, nothing_runs, number_under, program_at, program_in, request_for, request_in, shown, state_for, state_in, store_over}
-pub use Rattle.activations.specs.Attempted.{CameTo, IsSelected, IsShut, IsStopped, Strode, TookEffect, WasAttempted, attempted, plain_in, printed_after}
+pub use Rattle.activations.specs.Attempted.{CameTo, IsSelected, IsShut, IsStopped, Strode, TookEffect, WasAttempted, WillTouch, attempted, plain_in, printed_after}
 pub use Rattle.activations.specs.Begins.{Begins, IsBegin, begun_in, given, idle, started, begins}
 pub use Rattle.activations.specs.Ends.{HasSettled, HasUndone, IsDeserted, IsRestarted, WereRolled, reprinted}
 pub use Rattle.activations.specs.Fetching.{HasBrokenOff, IsBrokenOff, IsIn, IsStoreOf, IsUnread, KeepsStore}
 pub use Rattle.activations.specs.Follows.{AreOfPages, KeepsDesk, IsIdentified, IsKept, IsSetUp, IsSound}
 pub use Rattle.activations.specs.Instructed.{GoesUncounted, IsAsked, IsEndOfRows, IsInstruction, IsPrepared, IsServed, Prepares, Serves}
-pub use Rattle.activations.specs.Kept.{AreRowsWithin, KeepsParts, StaysSeated}
+pub use Rattle.activations.specs.Kept.{AreRowsWithin, KeepsParts, StandsStill, StaysSeated}
 pub use Rattle.activations.specs.Recorded.{HasWritten, IsRecordOf, LeavesCommitted, line_told, recorded, with_lines, written_of}
 pub use Rattle.activations.specs.Serves.{AreTouched, IsFetched, IsToServe, attempt_in, counted_with, lines_with}
 pub use Rattle.activations.specs.Serving.{AreGranted, AreLowered, AreSet, Goes, IsContested, IsFree, ComesToEnd, WereRefused, asking, entry_given, entry_to_read, instruction_in, is_lowered, locked, pages_lowered, with_entries}
 pub use Rattle.activations.specs.Steps.{AreAsCommitted, AreWritten, Commits, GoesOn, HasExecuted, IsMoved, RollsBack, Strides, WereSettled, WereUndone, counted, executed, is_of, rolled, vacated, with_pool, wrote}
 pub use Rattle.activations.specs.Striding.{RunsAt, StrodeTo, with_live}
-pub use Rattle.activations.specs.Touched.{AreWanted, IsApart, each_refused, is_granted, lines_between, page_if, pages_picked, pages_refused, pages_wanted, refuses_want, stores_into, wants_of, with_whole_page}
+pub use Rattle.activations.specs.Touched.{AreLetBut, AreWanted, IsApart, each_refused, is_granted, lines_between, page_if, pages_picked, pages_refused, pages_wanted, refuses_want, stores_into, wants_of, with_whole_page}
 pub use Rattle.activations.specs.Turning.{Contests, HasBroken, HasEnded, IsContestEnd, tally_counts}
 pub use Rattle.activations.specs.Turns.{AreTurns, ComesBack, IsAtCommit, IsStep, IsTurning, MayBeShut, commit_call, selected_in, turn_in}
 pub use Rattle.activations.specs.View.{activity_of}

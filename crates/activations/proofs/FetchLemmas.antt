@@ -128,6 +128,7 @@ module _ {W : Type 0} (G : Ghosts W) (store : KeptStore) (outside : W) (a : Acti
 
   one-fetched : IsIn a.reach.pool new only.page None before after → HasFetched G store outside a (pages_wanted (wants_of touch)) before new after
   one-fetched came = record {
+    moved = moved;
     resident = λ page inside. one-there a.reach.pool new only.page None before after came page (ap (λ (these : List ℕ). has these page) (sym pages-one) ∙ inside);
     fetched =
         is-fetched G store outside a (pages_wanted (wants_of touch)) before after new moved keeps
@@ -169,6 +170,7 @@ module _ {W : Type 0} (G : Ghosts W) (store : KeptStore) (outside : W) (a : Acti
 
     two-fetched : IsIn mid new second.page (Some first.page) between after → HasFetched G store outside a (pages_wanted (wants_of touch)) before new after
     two-fetched came_then = record {
+      moved = both-moved;
       resident = λ page inside. both-there a.reach.pool mid first.page second.page before between came moved.frames new after came_then page (ap (λ (these : List ℕ). has these page) (sym pages-two) ∙ inside);
       fetched =
           is-fetched G store outside a (pages_wanted (wants_of touch)) before after new both-moved both-keep

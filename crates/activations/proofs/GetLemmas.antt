@@ -6,7 +6,7 @@ use Rattle.desk.specs.Desk as desk
 use Rattle.activations.proofs.ContestLemmas.{orderly-other}
 use Rattle.activations.proofs.EndLemmas.{sound-pool}
 use Rattle.activations.proofs.KeptLemmas.{keeps-locked, keeps-rolled}
-use Rattle.activations.proofs.GrantedLemmas.{granted-free, lowered-free, goes-shown, refused-not, under-locked}
+use Rattle.activations.proofs.GrantedLemmas.{granted-free, lowered-free, under-locked}
 use Rattle.activations.proofs.PoolLemmas.{moved-kept}
 use Rattle.activations.proofs.RollbackLemmas.{WereForgotten, were-forgotten, forgotten-fewer, of-held, kept-left}
 use Rattle.activations.proofs.ServedLemmas.{served}
@@ -79,7 +79,6 @@ module _ (begins : Word → Turning) (attempt : Attempt) (refused : List ℕ) (a
 
   -- The pages came in: it is served.
   module _ (pool : Pool) (counted : ℕ) (runner : a.reach.runner ≡ seat + 1)
-      (resident : (page : ℕ) → has (pages_wanted wants) page ≡ true → has pool.resident page ≡ true)
       (came : IsFetched (locked a seat wants owned) committed order (pages_wanted wants) counts.pages pool counted) where
     fetched-here : IsFetched a committed order (touched_pages attempt) counts.pages pool counted
     fetched-here = record {
@@ -96,12 +95,6 @@ module _ (begins : Word → Turning) (attempt : Attempt) (refused : List ℕ) (a
           served begins attempt refused a seat committed order counts wants owned eased pool live bytes marked counted next sound taken runner number free goes
           fetched-here.moved fetched-here.keeps fetched-here.fetched got-free.0
           (lowered-free begins attempt refused a seat committed order counts wants owned sound taken later wanted_here number free lines below_pages grants eased lowers) went;
-      row_goes =
-          goes-shown begins attempt refused a seat committed order counts wants owned sound taken later wanted_here number free lines below_pages grants
-          pool runner resident next counted fetched-here goes;
-      is_open =
-          refused-not begins attempt refused a seat committed order counts wants owned sound taken later wanted_here number free lines below_pages grants
-          pool runner resident next counted fetched-here goes;
     }
 
   -- One couldn't be read, and it was rolled back: the turn is over.
@@ -225,7 +218,7 @@ module _ (begins : Word → Turning) (attempt : Attempt) (refused : List ℕ) (a
         → IsServed begins new seat wants committed order (record counts { pages = counted })
     served-so runner shape came =
         subst (λ (x : Activity). IsServed begins x seat wants committed order (record counts { pages = counted })) (sym (shape ∙ ap (λ (x : Activity). with_pool x new.reach.pool) is))
-        (got-served new.reach.pool counted runner came.resident
+        (got-served new.reach.pool counted runner
         (subst (λ (x : Activity). IsFetched x committed order (pages_wanted wants) counts.pages new.reach.pool counted) is (came.fetched committed order is_store clean-mid)))
 
     pub broken-so : HasBrokenOff G kept_store outside mid seat (pages_wanted wants) counts.pages new counted → HasBroken begins new committed order (record counts { pages = counted })

@@ -1,5 +1,5 @@
 -- The row whose access was served: it takes effect.
-use Rattle.activations.proofs.Common.{◌≡◌, refl, ℕ, ◌+◌, ◌<◌, ◌⊎◌, true, List, None, arith, sym, subst, inl, inr, has, Commit, Check, Word, Counts, Turning, Want, Authority, Seat, sitter, taken-below, Activity, live_in, TookEffect, WasAttempted, CameTo, IsSound, GoesUncounted, IsServed, KeepsParts, AreLowered, pages_lowered, with_entries, counted, nat_tests}
+use Rattle.activations.proofs.Common.{◌≡◌, refl, ℕ, ◌+◌, ◌<◌, ◌⊎◌, true, List, None, arith, sym, subst, inl, inr, has, Word, Counts, Turning, Want, Authority, Seat, sitter, taken-below, Activity, live_in, program_in, registers_of_program, private_segment, StaysSeated, ap, ◌∙◌, TookEffect, WasAttempted, IsSound, GoesUncounted, IsServed, KeepsParts, AreLowered, pages_lowered, with_entries, counted, nat_tests}
 use Rattle.romp_cpu.specs.declared.cpu.Attempt.{Attempt}
 use Rattle.activations.proofs.SittingLemmas.{sitter-there, sitter-other}
 
@@ -35,12 +35,21 @@ module _ (begins : Word → Turning) (a after : Activity) (seat : ℕ) (wants : 
       (served.goes (live_in after seat) after.reach.pool.bytes after.reach.pool.marked eased (took.went committed served.long served.clean)
       (subst (λ (x : Activity). AreLowered x seat (pages_lowered x seat wants) x.reach.entries eased) took.shape lowers))
 
-  -- it comes to nothing else
-  pub not-check : (code : ℕ) → CameTo (Check code) a seat after → ⊥
-  not-check code came = let goes = served.row_goes.1 in let check = came.1 committed served.long in cc (goes, check)
-
-  pub not-commit : CameTo Commit a seat after → ⊥
-  not-commit came = let goes = served.row_goes.1 in let commit = came.1 committed served.long in cc (goes, commit)
+-- who sits there stays, and is selected still
+pub took-stays : (a ran : Activity) (seat : ℕ) (owned : List Authority) → IsSound a → IsSound ran → has a.seating.taken seat ≡ true → TookEffect a seat ran → StaysSeated a (with_entries ran owned) seat
+took-stays a ran seat owned sound later taken took = record {
+  taken = taken_there;
+  number = ap (λ (x : Activity). (sitter x.seating seat).number) took.shape;
+  selected = λ is. record {
+    runner = ap (λ (x : Activity). x.reach.runner) took.shape ∙ is.runner;
+    registers =
+        ap (λ (x : Activity). x.reach.registers) took.shape ∙ is.registers ∙ (sound.set_up seat taken).registers
+        ∙ sym ((later.set_up seat taken_there).registers ∙ ap (λ (x : Activity). registers_of_program (program_in x seat) x.reach.directory (private_segment seat)) took.shape);
+  };
+}
+  where
+    taken_there : has ran.seating.taken seat ≡ true
+    taken_there = ap (λ (x : Activity). has x.seating.taken seat) took.shape ∙ taken
 
 -- whether it printed or not
 pub took-either : (attempt : Attempt) (a after : Activity) (seat : ℕ) → (attempt ≡ Attempt.Went) ⊎ ((byte : ℕ) × (attempt ≡ Attempt.Print byte)) → WasAttempted attempt a seat after → TookEffect a seat after

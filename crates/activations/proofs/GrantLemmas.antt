@@ -1,10 +1,9 @@
 -- Pages that are granted, and lines that are open.
-use Rattle.activations.proofs.Common.{length-map, ◌≡◌, refl, ℕ, zero, suc, ◌+◌, ◌*◌, ◌%◌, ◌<◌, ◌≤◌, ◌==◌, not, if◌then◌else◌, Bool, true, false, List, [], ◌∷◌, filter, length, map, slice_index_or, slice_set, range_with_len, arith, ap, sym, ◌∙◌, get_or-set_same, get_or-set_other, eqb-false, nat_tests, length-set, is_fine_page, passing, IsOfPage, has, page_of_line, within_page, is_whole_page, flat_lines, IsFlat, of_seat, held_at, Authority, unowned, authority_by, fine_authority_by, entry_given, entry_to_read, IsThere, Ascend, permitted-told, sitter, IsOpenLine, Activity, authority_of, authority_at, authority_under, number_under, entries, desk_over, locks_in, IsSound}
+use Rattle.activations.proofs.Common.{length-map, ◌≡◌, refl, ℕ, zero, suc, ◌+◌, ◌*◌, ◌<◌, ◌≤◌, ◌==◌, if◌then◌else◌, Bool, true, false, List, [], ◌∷◌, filter, length, map, slice_set, range_with_len, arith, ap, sym, ◌∙◌, get_or-set_same, get_or-set_other, eqb-false, nat_tests, length-set, is_fine_page, passing, IsOfPage, has, within_page, is_whole_page, flat_lines, IsFlat, of_seat, held_at, Authority, unowned, authority_by, fine_authority_by, entry_given, entry_to_read, Activity, authority_of, authority_at, authority_under, locks_in, IsSound}
 use Rattle.lockbit_rules.specs.Entries.{Entry, entry_of, lets}
 use Rattle.lockbit_rules.specs.Entries as bits
 use Rattle.desk.specs.Desk as desk
 use Rattle.activations.proofs.HoldingLemmas.{held-flat}
-use Rattle.activations.proofs.TableLemmas.{stands-for, permits-flat}
 use Rattle.activations.proofs.VacateLemmas.{map-range}
 
 -- the lines of a page that pass a test, as flat lines
@@ -102,17 +101,3 @@ under-set owned page one within =
   where
     whole : 0 + page ≡ page
     whole = omega arith
-
-module _ (a : Activity) (sound : IsSound a) (committed : List ℕ) (ascend : Ascend 0 (entries a) a.next) where
-  -- a line that is there for an activation is open to its seat, which is selected
-  pub opened : (seat : ℕ) (order : List (ℕ × ℕ)) (line : ℕ) (store : Bool) → has a.seating.taken seat ≡ true → a.reach.runner ≡ seat + 1
-      → IsThere (desk_over a committed order) (sitter a.seating seat).number line store → IsOpenLine a.reach line store
-  opened seat order line store taken runner is = record {
-    resident = is.resident;
-    permits =
-        ap not
-        (ap (λ (tid : ℕ). lets (entry_of (slice_index_or a.reach.entries (page_of_line line) unowned)) tid (line % 16) store) runner
-        ∙ sym (permits-flat a.reach.entries line (seat + 1) store)
-        ∙ sym (permitted-told (number_under a) refl (seat + 1) (sitter a.seating seat).number (authority_under a.reach.entries) (page_of_line line) line store (stands-for a sound committed ascend seat taken))
-        ∙ is.permits);
-  }

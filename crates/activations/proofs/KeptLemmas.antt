@@ -1,5 +1,5 @@
 -- What stays while those that run are served: of a rollback of another, and one after another.
-use Rattle.activations.proofs.Common.{◌≡◌, refl, ℕ, ◌+◌, ◌≤◌, ◌==◌, not, if◌then◌else◌, Bool, true, false, List, [], ◌∷◌, filter, length, None, replicate, Result, Ok, Err, OnOk, arith, ap, sym, ◌∙◌, subst, has, has-filter, ArrayVec, Cycle, Pool, Tally, Activity, sitter, IsSelected, TookEffect, KeepsParts, StaysSeated, Want, Authority, locked, rolled, with_pool, Ghosts, FewerLater, asks_on, nat_tests, KeepsAll, KeepsSound}
+use Rattle.activations.proofs.Common.{◌≡◌, refl, ℕ, ◌+◌, ◌≤◌, ◌==◌, not, if◌then◌else◌, Bool, true, false, List, [], ◌∷◌, filter, length, None, replicate, Result, Ok, Err, OnOk, arith, ap, sym, ◌∙◌, subst, has, has-filter, ArrayVec, Cycle, Pool, Tally, Activity, sitter, IsSelected, TookEffect, HasUndone, KeepsParts, StandsStill, StaysSeated, Want, Authority, cleared_entry, unowned, map, slice_index_or, slice_range, zero, suc, ◌*◌, locked, rolled, with_pool, Ghosts, FewerLater, asks_on, nat_tests, KeepsAll, KeepsSound}
 
 -- none more are left of those but one
 pub no-more : (taken : List ℕ) (seat : ℕ) → length (filter (λ other. not (other == seat)) taken) ≤ length taken
@@ -29,7 +29,7 @@ pub stays-on : (a b c : Activity) (seat : ℕ) → StaysSeated a b seat → Stay
 stays-on a b c seat first second = record { taken = second.taken; number = second.number ∙ first.number; selected = λ is. second.selected (first.selected is) }
 
 -- another is rolled back
-pub stays-rolled : (first a : Activity) (seat loser : ℕ) (pool : Pool) → StaysSeated first a seat → has (rolled a loser pool).seating.taken seat ≡ true → StaysSeated first (rolled a loser pool) seat
+stays-rolled : (first a : Activity) (seat loser : ℕ) (pool : Pool) → StaysSeated first a seat → has (rolled a loser pool).seating.taken seat ≡ true → StaysSeated first (rolled a loser pool) seat
 stays-rolled first a seat loser pool stays inside = record {
   taken = inside;
   number = stays.number;
@@ -45,6 +45,40 @@ stays-rolled first a seat loser pool stays inside = record {
     apart : a.reach.runner ≡ seat + 1 → (a.reach.runner == loser + 1) ≡ false
     apart runner = let left = has-filter (λ other. not (other == loser)) a.seating.taken seat in grind (arith, nat_tests, left, inside, runner)
 
+-- who stands still
+pub still-itself : (a : Activity) (seat : ℕ) → has a.seating.taken seat ≡ true → StandsStill a a seat
+still-itself a seat taken = record { seated = stays-itself a seat taken; program = refl; live = refl; private = refl; own = λ page its. refl }
+
+pub still-on : (a b c : Activity) (seat : ℕ) → StandsStill a b seat → StandsStill b c seat → StandsStill a c seat
+still-on a b c seat first second = record {
+  seated = stays-on a b c seat first.seated second.seated;
+  program = second.program ∙ first.program;
+  live = second.live ∙ first.live;
+  private = second.private ∙ first.private;
+  own = λ page its. second.own page (ap (λ (one : Authority). one.tid) (first.own page its) ∙ its) ∙ first.own page its;
+}
+
+-- an entry that is cleared
+cleared-at : (tid : ℕ) (owned : List Authority) (page : ℕ) → slice_index_or (map (cleared_entry tid) owned) page unowned ≡ cleared_entry tid (slice_index_or owned page unowned)
+cleared-at tid [] page = grind arith
+cleared-at tid (one ∷ owned) zero = refl
+cleared-at tid (one ∷ owned) (suc page) = cleared-at tid owned page
+
+pub still-rolled : (first a : Activity) (seat loser : ℕ) (pool : Pool) → HasUndone a.seating.holding loser a.reach (record a.reach { pool = pool }) → StandsStill first a seat → has (rolled a loser pool).seating.taken seat ≡ true → StandsStill first (rolled a loser pool) seat
+still-rolled first a seat loser pool undone still inside = record {
+  seated = stays-rolled first a seat loser pool still.seated inside;
+  program = still.program;
+  live = still.live;
+  private = ap (λ (bytes : List ℕ). slice_range bytes (seat * 16384) (seat * 16384 + 16384)) undone.were.bytes ∙ still.private;
+  own = λ page its.
+      let same = still.own page its in
+      let left = has-filter (λ other. not (other == loser)) a.seating.taken seat in
+      let other : ((slice_index_or a.reach.entries page unowned).tid == loser + 1) ≡ false =
+      ap (λ (one : Authority). one.tid == loser + 1) same ∙ ap (λ (tid : ℕ). tid == loser + 1) its ∙ grind (arith, nat_tests, left, inside) in
+      cleared-at (loser + 1) a.reach.entries page
+      ∙ ap (λ (gone : Bool). if gone then unowned else slice_index_or a.reach.entries page unowned) other ∙ same;
+}
+
 -- and of a tally only its cycles are others
 pub tally-on : (first before : Tally) (cycles : ArrayVec Cycle) → before ≡ record first { cycles = before.cycles } → record before { cycles = cycles } ≡ record first { cycles = cycles }
 tally-on first before cycles same = ap (λ (t : Tally). let that : Tally = record t { cycles = cycles } in that) same
@@ -53,6 +87,10 @@ tally-on first before cycles same = ap (λ (t : Tally). let that : Tally = recor
 pub ok-then : {T E P Q : Type 0} (result : Result T E) → (P → Q) → OnOk result P → OnOk result Q
 ok-then (Ok it) follows is = follows is
 ok-then (Err fault) follows is = is
+
+pub ok-both : {T E P Q R : Type 0} (result : Result T E) → (P → Q → R) → OnOk result P → OnOk result Q → OnOk result R
+ok-both (Ok it) follows one other = follows one other
+ok-both (Err fault) follows one other = one
 
 -- a row that took effect
 pub keeps-took : (a after : Activity) (seat : ℕ) → TookEffect a seat after → KeepsParts a after 0

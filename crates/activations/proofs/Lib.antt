@@ -11,6 +11,8 @@ pub mod EndingLemmas
 pub mod ExecuteLemmas
 pub mod GetLemmas
 pub mod GoOnLemmas
+pub mod CheckCodes
+pub mod OpenLemmas
 pub mod GrantLemmas
 pub mod GrantedLemmas
 pub mod GrantingLemmas

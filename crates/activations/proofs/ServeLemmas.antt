@@ -13,4 +13,4 @@ ended-by-disk {U} G number a before mid after old between new result how told ca
     let less = off.counted in
     handed (λ (r : Result U TurnEnd). IfErr r (EndsRows G number a before after old new)) result how told
     (subst (EndsRows G number a before after old new) (sym off.is)
-    (record { disk = (subst (λ (n : ℕ). Rose n (G.disk_faults after)) calm off.rose, omega (arith, more, less)); waits = tt; journal = tt; victim = tt }))
+    (record { disk = (subst (λ (n : ℕ). Rose n (G.disk_faults after)) calm off.rose, omega (arith, more, less)); waits = tt; checked = tt; journal = tt; victim = tt }))

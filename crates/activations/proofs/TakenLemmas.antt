@@ -38,7 +38,20 @@ whole-both fine one other = record {
   writes = λ line. refl;
 }
 
--- what is taken is held beside what was held, with the whole pages that are written into
+-- what is taken is held beside what was held,
+pub taken-both : (a : Activity) (seat : ℕ) (wants : List Want) (entries : List Authority) → IsSound a → seat < 16
+    → AreOfPage wants → AreWithin (length (of_seat a.seating.holding seat)) (map (with_whole_page a.reach.directory) wants)
+    → AreOfPages (of_seat (locked a seat wants entries).seating.holding seat)
+    → AreAlike (locks_in (locked a seat wants entries) seat) (both (locks_in a seat) (lines_wanted (map (with_whole_page a.reach.directory) wants)))
+taken-both a seat wants entries sound below sets inside of =
+    flat-alike (with_wants (of_seat a.seating.holding seat) (map (with_whole_page a.reach.directory) wants)) (locks_in (locked a seat wants entries) seat) (both (locks_in a seat) (lines_wanted (map (with_whole_page a.reach.directory) wants)))
+    (subst (λ (pages : List (List ℕ × List ℕ)). IsFlat pages (locks_in (locked a seat wants entries) seat)) holds (held-flat (of_seat (locked a seat wants entries).seating.holding seat) of))
+    (flat-taken (of_seat a.seating.holding seat) (locks_in a seat) (map (with_whole_page a.reach.directory) wants) (held-flat (of_seat a.seating.holding seat) (sound.lines seat)) inside (whole-of-page a.reach.directory wants sets).reads (whole-of-page a.reach.directory wants sets).writes)
+  where
+    holds : of_seat (locked a seat wants entries).seating.holding seat ≡ with_wants (of_seat a.seating.holding seat) (map (with_whole_page a.reach.directory) wants)
+    holds = same-with a.seating.holding seat (with_wants (of_seat a.seating.holding seat) (map (with_whole_page a.reach.directory) wants)) sound.seating.whole below
+
+-- with the whole pages that are written into
 pub taken-alike : (a : Activity) (seat : ℕ) (wants : List Want) (entries : List Authority) (within : Lines) → IsSound a → seat < 16
     → AreOfPage wants → AreWithin (length (of_seat a.seating.holding seat)) (map (with_whole_page a.reach.directory) wants)
     → AreOfPages (of_seat (locked a seat wants entries).seating.holding seat)
@@ -46,15 +59,10 @@ pub taken-alike : (a : Activity) (seat : ℕ) (wants : List Want) (entries : Lis
     → AreAlike (locks_in (locked a seat wants entries) seat) (with_whole_pages (is_fine_page a.reach.directory) (both within (lines_wanted wants)))
 taken-alike a seat wants entries within sound below sets inside of alike =
     alike-then (locks_in (locked a seat wants entries) seat) (both (locks_in a seat) (lines_wanted (map (with_whole_page a.reach.directory) wants))) (with_whole_pages (is_fine_page a.reach.directory) (both within (lines_wanted wants)))
-    (flat-alike (with_wants (of_seat a.seating.holding seat) (map (with_whole_page a.reach.directory) wants)) (locks_in (locked a seat wants entries) seat) (both (locks_in a seat) (lines_wanted (map (with_whole_page a.reach.directory) wants)))
-    (subst (λ (pages : List (List ℕ × List ℕ)). IsFlat pages (locks_in (locked a seat wants entries) seat)) holds (held-flat (of_seat (locked a seat wants entries).seating.holding seat) of))
-    (flat-taken (of_seat a.seating.holding seat) (locks_in a seat) (map (with_whole_page a.reach.directory) wants) (held-flat (of_seat a.seating.holding seat) (sound.lines seat)) inside (whole-of-page a.reach.directory wants sets).reads (whole-of-page a.reach.directory wants sets).writes))
+    (taken-both a seat wants entries sound below sets inside of)
     (alike-then (both (locks_in a seat) (lines_wanted (map (with_whole_page a.reach.directory) wants))) (both (with_whole_pages (is_fine_page a.reach.directory) within) (with_whole_pages (is_fine_page a.reach.directory) (lines_wanted wants))) (with_whole_pages (is_fine_page a.reach.directory) (both within (lines_wanted wants)))
     (both-alike (locks_in a seat) (with_whole_pages (is_fine_page a.reach.directory) within) (lines_wanted (map (with_whole_page a.reach.directory) wants)) (with_whole_pages (is_fine_page a.reach.directory) (lines_wanted wants)) alike (asked-alike a.reach.directory wants sets))
     (whole-both (is_fine_page a.reach.directory) within (lines_wanted wants)))
-  where
-    holds : of_seat (locked a seat wants entries).seating.holding seat ≡ with_wants (of_seat a.seating.holding seat) (map (with_whole_page a.reach.directory) wants)
-    holds = same-with a.seating.holding seat (with_wants (of_seat a.seating.holding seat) (map (with_whole_page a.reach.directory) wants)) sound.seating.whole below
 
 -- Entries that are set are authorities that are set, under the seat's identifier.
 set-under : (of : ℕ → Entry) (told : ℕ → desk.Authority) (pages : List ℕ) (old new : List Authority) → ((page : ℕ) → has pages page ≡ true → page < length old)

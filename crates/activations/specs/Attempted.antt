@@ -2,7 +2,10 @@
 use Rattle.std.specs.Prelude.{◌≡◌, ◌⊎◌, ℕ, ◌+◌, ◌<◌, ◌≤◌, List, [], ◌∷◌, ◌++◌, length, slice_set}
 use Rattle.line_geometry.specs.Directory.{byte_count}
 use Rattle.flat_machine.specs.declared.machine.Plain.{Plain}
-use Rattle.flat_machine.specs.Row.{Outcome, Commit, Check, row}
+use Rattle.flat_machine.specs.Row.{Outcome, On, Commit, Check, row}
+use Rattle.flat_machine.specs.Touched.{touched}
+use Rattle.line_locks.specs.declared.request.Want.{Want}
+use Rattle.line_locks.specs.Flat.{lines_wanted}
 use Rattle.romp_cpu.specs.declared.cpu.Attempt.{Attempt}
 use Rattle.romp_cpu.specs.declared.cpu.Cpu.{Cpu}
 use Rattle.storage_unit.specs.declared.model.Reach.{Reach}
@@ -40,6 +43,11 @@ pub record IsShut (a : Activity) (seat : ℕ) (access : Access) : Type 0 where
   pub some : 0 < access.bytes
   pub few : access.bytes ≤ 64
   pub shut : (committed : List ℕ) → length committed ≡ byte_count a.reach.directory → IsShutOut (program_in a seat) a.reach (plain_in a seat committed) access
+
+-- the next row goes on, whatever is committed, and touches these lines
+pub record WillTouch (a : Activity) (seat : ℕ) (wants : List Want) : Type 0 where
+  pub goes : (committed : List ℕ) → length committed ≡ byte_count a.reach.directory → (next : Plain) × (row (program_in a seat) a.reach.directory (plain_in a seat committed) ≡ On next)
+  pub touches : (committed : List ℕ) → length committed ≡ byte_count a.reach.directory → touched (program_in a seat) a.reach.directory (plain_in a seat committed) ≡ lines_wanted wants
 
 -- the next row is the commit call or a check
 abbrev pub IsStopped : Activity → (seat : ℕ) → Type 0

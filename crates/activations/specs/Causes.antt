@@ -1,9 +1,18 @@
 -- Why a turn ended before its commit call, where no count of the disk shows it.
-use Rattle.std.specs.Prelude.{◌≡◌, ℕ, ◌<◌, ◌++◌, ◌∷◌, [], List}
+use Rattle.std.specs.Prelude.{◌≡◌, ℕ, ◌<◌, ◌≤◌, ◌++◌, ◌∷◌, [], List}
 use Rattle.lock_rules.specs.Waits.{victim_of}
 use Rattle.desk.specs.declared.answers.Cycle.{Cycle}
 use Rattle.desk.specs.declared.answers.TurnEnd.{TurnEnd}
 use Rattle.desk.specs.declared.answers.TurnEnd.TheVariants as end
+
+-- a code of a program check
+abbrev pub IsCheckCode : ℕ → Type 0
+IsCheckCode code = (1 ≤ code) × (code ≤ 8)
+
+-- where it met a program check, that has such a code
+abbrev pub IfChecked : TurnEnd → Type 0
+IfChecked (end.Checked code address) = IsCheckCode code
+IfChecked _ = Unit {0}
 
 -- where it wrote too many lines, the most that is told is that of a record, and they are more
 abbrev pub IfJournal : (most : ℕ) → TurnEnd → Type 0

@@ -3,13 +3,12 @@ use Rattle.std.specs.Prelude.{◌≡◌, ◌≢◌, ℕ, ◌+◌, ◌<◌, ◌�
 use Rattle.outside.specs.declared.world.Outside.{Ghosts}
 use Rattle.outside.specs.Causes.{Rose}
 use Rattle.flat_machine.specs.declared.machine.Plain.{Plain}
-use Rattle.flat_machine.specs.Row.{On, row}
+use Rattle.flat_machine.specs.Row.{On}
 use Rattle.line_geometry.specs.Directory.{byte_count}
 use Rattle.line_locks.specs.Flat.{lines_wanted}
 use Rattle.line_locks.specs.declared.request.Request.{Request}
 use Rattle.line_locks.specs.declared.request.Want.{Want}
 use Rattle.lockbit_rules.specs.declared.Authority.{Authority}
-use Rattle.romp_cpu.specs.declared.storage.Access.{Access}
 use Rattle.desk.specs.declared.answers.TurnEnd.{TurnEnd}
 use Rattle.desk.specs.declared.answers.TurnEnd.TheVariants as end
 use Rattle.desk.specs.Instruction.{Word, Counts, Attempt, Turning}
@@ -19,8 +18,7 @@ use Rattle.storage_unit.specs.Bytes.{IsClean}
 use Rattle.activations.specs.declared.live.Live.{Live}
 use Rattle.activations.specs.declared.tally.Tally.{Tally}
 use Rattle.activations.specs.declared.touch.Touch.{Touch}
-use Rattle.activations.specs.Activity.{Activity, program_in, desk_over}
-use Rattle.activations.specs.Attempted.{IsShut, plain_in}
+use Rattle.activations.specs.Activity.{Activity, desk_over}
 use Rattle.activations.specs.Serving.{IsFree, IsContested, Goes, asking, AreLowered, pages_lowered, with_entries}
 use Rattle.activations.specs.Steps.{counted, executed, HasExecuted}
 use Rattle.activations.specs.Touched.{wants_of, pages_picked, with_whole_page}
@@ -47,11 +45,6 @@ IsEndOfRows G before after old new _ = G.disk_faults after ≡ G.disk_faults bef
 abbrev pub IfWaits : (number : ℕ) → TurnEnd → Type 0
 IfWaits number (end.Waits waiter holders) = (waiter ≡ number) × (holders.items ≢ [])
 IfWaits number _ = Unit {0}
-
--- a program check
-abbrev pub IsCheck : TurnEnd → Type 0
-IsCheck (end.Checked code address) = Unit {0}
-IsCheck _ = ⊥
 
 -- wherever an instruction began, the row of who sits in a seat took effect, and is still to be counted
 abbrev pub GoesUncounted : (begins : Word → Turning) → Activity → (seat : ℕ) → (committed : List ℕ) → (order : List (ℕ × ℕ)) → Counts → Type 0
@@ -82,16 +75,14 @@ abbrev pub Prepares : Result (Touch × (Bool × Bool)) TurnEnd → (begins : Wor
 Prepares (Ok got) begins a seat committed order counts = IsPrepared begins a seat got.0 got.1 committed order counts
 Prepares (Err end) begins a seat committed order counts = HasEnded end begins a committed order counts
 
--- What it asked for was got: it can't be refused any more, and once it has taken effect, and the write bits of the fine pages that it wrote into
--- went off, that is the desk's instruction.
+-- What it asked for was got: once it has taken effect, and the write bits of the fine pages that it wrote into went off, that is the
+-- desk's instruction.
 pub record IsServed (begins : Word → Turning) (a : Activity) (seat : ℕ) (wants : List Want) (committed : List ℕ) (order : List (ℕ × ℕ)) (counts : Counts) : Type 0 where
   pub goes : (live : Live) (bytes : List ℕ) (marked : List (List ℕ)) (eased : List Authority) → HasExecuted a seat live bytes marked committed
       → AreLowered a seat (pages_lowered a seat wants) a.reach.entries eased
       → GoesUncounted begins (with_entries (executed a seat live bytes marked) eased) seat committed order counts
   pub long : length committed ≡ byte_count a.reach.directory
   pub clean : IsClean a.reach.directory a.reach.pool committed
-  pub row_goes : (next : Plain) × (row (program_in a seat) a.reach.directory (plain_in a seat committed) ≡ On next)
-  pub is_open : (access : Access) → IsShut a seat access → ⊥
 
 -- that, or its turn came to this end
 abbrev pub Serves : {U : Type 0} → Result U TurnEnd → (begins : Word → Turning) → Activity → (seat : ℕ) → (wants : List Want) → (committed : List ℕ) → (order : List (ℕ × ℕ)) → Counts → Type 0

@@ -1,8 +1,10 @@
 -- What stays while those that run are served.
-use Rattle.std.specs.Prelude.{◌≡◌, ℕ, ◌+◌, ◌≤◌, ◌<◌, true, length}
+use Rattle.std.specs.Prelude.{◌≡◌, ℕ, ◌+◌, ◌≤◌, ◌<◌, true, length, slice_index_or}
 use Rattle.lock_rules.specs.Sets.{has}
 use Rattle.seats.specs.Seating.{sitter, number_in}
-use Rattle.activations.specs.Activity.{Activity}
+use Rattle.inverted_table.specs.Placed.{unowned}
+use Rattle.storage_unit.specs.Bytes.{private_bytes}
+use Rattle.activations.specs.Activity.{Activity, live_in, program_in}
 use Rattle.activations.specs.Attempted.{IsSelected}
 
 -- in each seat at most so many rows were done
@@ -23,3 +25,12 @@ pub record StaysSeated (old new : Activity) (seat : ℕ) : Type 0 where
   pub taken : has new.seating.taken seat ≡ true
   pub number : number_in new.seating seat ≡ number_in old.seating seat
   pub selected : IsSelected old seat → IsSelected new seat
+
+-- and he stands where he stood: the same runs there, with the same private bytes, and each entry that was his is as it was
+pub record StandsStill (old new : Activity) (seat : ℕ) : Type 0 where
+  pub seated : StaysSeated old new seat
+  pub program : program_in new seat ≡ program_in old seat
+  pub live : live_in new seat ≡ live_in old seat
+  pub private : private_bytes new.reach.pool seat ≡ private_bytes old.reach.pool seat
+  pub own : (page : ℕ) → (slice_index_or old.reach.entries page unowned).tid ≡ seat + 1
+      → slice_index_or new.reach.entries page unowned ≡ slice_index_or old.reach.entries page unowned

@@ -15,12 +15,13 @@ use Rattle.storage_unit.specs.Bytes.{IsClean}
 use Rattle.activations.specs.declared.tally.Tally.{Tally}
 use Rattle.activations.specs.Activity.{Activity}
 use Rattle.activations.specs.Attempted.{IsSelected}
-use Rattle.activations.specs.Causes.{IfJournal, IfVictim}
+use Rattle.activations.specs.Causes.{IfChecked, IfJournal, IfVictim}
 use Rattle.activations.specs.Fetching.{IsStoreOf, IsBrokenOff}
 use Rattle.activations.specs.Follows.{IsSound}
 use Rattle.activations.specs.Instructed.{TalliesMore, IsEndOfRows, IfWaits}
 use Rattle.activations.specs.Kept.{KeepsParts, StaysSeated}
 use Rattle.activations.specs.Serves.{IsFetched}
+use Rattle.activations.specs.Steps.{IsMoved}
 use Rattle.activations.specs.Turning.{IsContestEnd}
 
 -- pages may be fetched from this store
@@ -62,6 +63,7 @@ pub record StaysCalm {W : Type 0} (G : Ghosts W) (old new : Activity) (seat : �
 pub record EndsRows {W : Type 0} (G : Ghosts W) (number : ℕ) (a : Activity) (before after : W) (old new : Tally) (how : TurnEnd) : Type 0 where
   pub disk : IsEndOfRows G before after old new how
   pub waits : IfWaits number how
+  pub checked : IfChecked how
   pub journal : IfJournal a.most_lines how
   pub victim : IfVictim number new.cycles.items how
 
@@ -79,6 +81,7 @@ pub record CountsPages (old new : Tally) : Type 0 where
 
 -- pages have come in, and over whatever is committed in the store, of what all see nothing changed
 pub record HasFetched {W : Type 0} (G : Ghosts W) (store : KeptStore) (outside : W) (a : Activity) (pages : List ℕ) (before : ℕ) (pool : Pool) (after : ℕ) : Type 0 where
+  pub moved : IsMoved a.reach.pool pool
   pub resident : (page : ℕ) → has pages page ≡ true → has pool.resident page ≡ true
   pub fetched : (committed : List ℕ) (order : List (ℕ × ℕ)) → IsStoreOf G store outside committed → IsClean a.reach.directory a.reach.pool committed → IsFetched a committed order pages before pool after
 

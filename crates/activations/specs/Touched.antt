@@ -63,6 +63,10 @@ is_granted owned tid touch = false
 abbrev pub pages_refused : List Authority → (tid : ℕ) → List Want → List ℕ
 pages_refused owned tid wants = pages_wanted (filter (refuses_want owned tid) wants)
 
+-- an entry refuses an identifier none of the lines that are wanted of its page, unless this is one of these pages
+abbrev pub AreLetBut : List Authority → (tid : ℕ) → (pages : List ℕ) → List Want → Type 0
+AreLetBut owned tid pages wants = All (λ want. has pages want.page ≡ false → refuses_want owned tid want ≡ false) wants
+
 -- a page, where it is picked
 abbrev pub page_if : Bool → (page : ℕ) → List ℕ
 page_if picked page = if picked then page ∷ [] else []

@@ -14,7 +14,7 @@ use desk::{Cycle, TurnEnd};
 impl Activations {
     ghost use Rattle.activations.specs.Activity.{Activity};
     ghost use Rattle.activations.specs.Follows.{IsSound};
-    ghost use Rattle.activations.specs.Kept.{StaysSeated};
+    ghost use Rattle.activations.specs.Kept.{StandsStill};
     ghost use Rattle.activations.specs.Serving.{IsContested};
     ghost use Rattle.activations.specs.Stages.{CountsCycles, EndsContest, KeepsSound};
     ghost use Rattle.activations.specs.Turning.{tally_counts, IsSettled};
@@ -32,7 +32,7 @@ impl Activations {
         requires room { array_vec_len tally.old.cycles + length (activity_of self.old).seating.taken ≤ 16 }
         ensures keeps { KeepsSound (activity_of self.old) (activity_of self.new) 0 }
         ensures counts { CountsCycles (activity_of self.new) tally.old tally.new }
-        ensures stays { OnOk result (StaysSeated (activity_of self.old) (activity_of self.new) seat) }
+        ensures stays { OnOk result (StandsStill (activity_of self.old) (activity_of self.new) seat) }
         ensures ends { IfErr result (EndsContest (number_in (activity_of self.old).seating seat) tally.new) }
         ensures settled { (begins : Word → Turning) (attempt : Attempt) (refused : List ℕ) (first : Desk) (committed : List ℕ) (order : List (ℕ × ℕ)) → attempt.entry.number ≡ number_in (activity_of self.old).seating seat → IsContested begins attempt refused first (activity_of self.old) committed order (tally_counts tally.old) → IsSettled result begins attempt refused (activity_of self.new) committed order (tally_counts tally.new) }
     {

@@ -9,7 +9,8 @@ ghost use Rattle.desk.specs.declared.answers.TurnEnd.TheVariants as end;
 ghost use Rattle.flat_machine.specs.Row as row;
 ghost use Rattle.flat_machine.specs.declared.machine.Plain.{Plain};
 ghost use Rattle.line_locks.specs.Flat.{lines_wanted};
-ghost use Rattle.activations.specs.Touched.{wants_of, pages_picked, pages_wanted, AreWanted};
+ghost use Rattle.storage_unit.specs.Rows.{IsOpen};
+ghost use Rattle.activations.specs.Touched.{wants_of, pages_picked, pages_wanted, AreLetBut, AreWanted};
 
 use super::activations::Activations;
 use super::tally::Tally;
@@ -31,11 +32,11 @@ pub enum Went {
 impl Activations {
     ghost use Rattle.activations.specs.Activity.{live_in, program_in};
     ghost use Rattle.activations.specs.Causes.{IsNoLimit};
-    ghost use Rattle.activations.specs.Attempted.{IsSelected, IsShut, plain_in};
+    ghost use Rattle.activations.specs.Attempted.{IsSelected, IsShut, WillTouch, plain_in};
     ghost use Rattle.activations.specs.Fetching.{IsStoreOf, HasBrokenOff};
     ghost use Rattle.activations.specs.Follows.{IsSound, KeepsDesk};
-    ghost use Rattle.activations.specs.Instructed.{IsCheck, IsInstruction, IsAsked, IsServed, Prepares, Serves};
-    ghost use Rattle.activations.specs.Kept.{KeepsParts, StaysSeated};
+    ghost use Rattle.activations.specs.Instructed.{GoesUncounted, IsInstruction, IsAsked, IsServed, Prepares, Serves};
+    ghost use Rattle.activations.specs.Kept.{KeepsParts, StandsStill, StaysSeated};
     ghost use Rattle.activations.specs.Stages.{CanFetch, CanServe, CountsCycles, CountsOne, CountsPages, EndsByDisk, EndsContest, EndsRows, HasFetched, HasRoom, KeepsAll, KeepsSound, StaysCalm};
     ghost use Rattle.activations.specs.Serving.{IsFree, instruction_in};
     ghost use Rattle.activations.specs.Steps.{rolled, with_pool};
@@ -110,7 +111,8 @@ impl Activations {
         let (touch, refused) = self.prepare(store, outside, seat, access, tally)?;
         self.ask(seat, &touch, tally)?;
         self.get(store, outside, seat, &touch, refused, tally)?;
-        self.go_on(seat, &touch)
+        self.go_on(seat, &touch);
+        Ok(())
     }
 
     /// The lines of an access, whose pages come in and are counted where their entries refuse one of them.
@@ -131,6 +133,8 @@ impl Activations {
         requires shut { IsShut (activity_of self.old) seat access }
         requires tally { (tally.old.pages < 6000000) × (tally.old.locks < 2000000) }
         ensures wanted { IfOk result (λ got. AreWanted (activity_of self.new).reach.directory (wants_of got.0)) }
+        ensures touches { IfOk result (λ got. WillTouch (activity_of self.new) seat (wants_of got.0)) }
+        ensures refused { IfOk result (λ got. AreLetBut (activity_of self.new).reach.entries (seat + 1) (pages_picked got.0 got.1) (wants_of got.0)) }
         ensures keeps { KeepsAll W.Outside (activity_of self.old) (activity_of self.new) 0 outside.old outside.new }
         ensures tally { tally.new ≡ record tally.old { pages = tally.new.pages; locks = tally.new.locks } }
         ensures few { (tally.old.pages ≤ tally.new.pages) × (tally.new.pages ≤ tally.old.pages + 2) × (tally.new.locks ≤ tally.old.locks + 2) }
@@ -196,7 +200,7 @@ impl Activations {
         requires cycles { array_vec_len tally.old.cycles + length (activity_of self.old).seating.taken ≤ 16 }
         ensures keeps { KeepsSound (activity_of self.old) (activity_of self.new) 0 }
         ensures counts { CountsCycles (activity_of self.new) tally.old tally.new }
-        ensures stays { OnOk result (StaysSeated (activity_of self.old) (activity_of self.new) seat) }
+        ensures stays { OnOk result (StandsStill (activity_of self.old) (activity_of self.new) seat) }
         ensures ends { IfErr result (EndsContest (number_in (activity_of self.old).seating seat) tally.new) }
         ensures settled { (begins : Word → Turning) (attempt : desk.Attempt) (refused : List ℕ) (committed : List ℕ) (order : List (ℕ × ℕ)) → IsAsked begins attempt refused (activity_of self.old) seat (wants_of touch.now) committed order (tally_counts tally.old) → IsSettled result begins attempt refused (activity_of self.new) committed order (tally_counts tally.new) }
     {
@@ -226,7 +230,11 @@ impl Activations {
     ) -> Result<(), TurnEnd>
         requires can { CanServe W.Outside (activity_of self.old) seat store.now outside.old }
         requires wanted { AreWanted (activity_of self.old).reach.directory (wants_of touch.now) }
+        requires touches { WillTouch (activity_of self.old) seat (wants_of touch.now) }
+        requires refused { AreLetBut (activity_of self.old).reach.entries (seat + 1) (pages_picked touch.now refused) (wants_of touch.now) }
         requires few { tally.old.pages + 2 < 2 ^ 32 }
+        ensures touches { OnOk result (WillTouch (activity_of self.new) seat (wants_of touch.now)) }
+        ensures opened { OnOk result (IsOpen (activity_of self.new).reach (lines_wanted (wants_of touch.now))) }
         ensures keeps { KeepsAll W.Outside (activity_of self.old) (activity_of self.new) 0 outside.old outside.new }
         ensures counts { CountsPages tally.old tally.new }
         ensures on { OnOk result (StaysCalm W.Outside (activity_of self.old) (activity_of self.new) seat outside.old outside.new) }
@@ -240,25 +248,20 @@ impl Activations {
     /// The row of who sits in a seat, whose access was served, takes effect, and the write bits of the fine pages that it wrote
     /// into go off. It isn't counted yet.
     #[inline(always)]
-    fn go_on(&mut self, seat: u8, touch: &Touch) -> Result<(), TurnEnd>
+    fn go_on(&mut self, seat: u8, touch: &Touch)
         requires sound { IsSound (activity_of self.old) }
         requires taken { has (activity_of self.old).seating.taken seat ≡ true }
         requires selected { IsSelected (activity_of self.old) seat }
         requires wanted { AreWanted (activity_of self.old).reach.directory (wants_of touch.now) }
+        requires touches { WillTouch (activity_of self.old) seat (wants_of touch.now) }
+        requires opened { IsOpen (activity_of self.old).reach (lines_wanted (wants_of touch.now)) }
         ensures sound { IsSound (activity_of self.new) }
         ensures parts { KeepsParts (activity_of self.old) (activity_of self.new) 0 }
-        ensures stays { OnOk result (StaysSeated (activity_of self.old) (activity_of self.new) seat) }
-        ensures ends { IfErr result IsCheck }
-        ensures went { (begins : Word → Turning) (committed : List ℕ) (order : List (ℕ × ℕ)) (counts : Counts) → IsServed begins (activity_of self.old) seat (wants_of touch.now) committed order counts → IsInstruction result begins (activity_of self.new) seat committed order counts }
+        ensures stays { StaysSeated (activity_of self.old) (activity_of self.new) seat }
+        ensures went { (begins : Word → Turning) (committed : List ℕ) (order : List (ℕ × ℕ)) (counts : Counts) → IsServed begins (activity_of self.old) seat (wants_of touch.now) committed order counts → GoesUncounted begins (activity_of self.new) seat committed order counts }
     {
-        match self.execute(seat) {
-            Attempt::Went | Attempt::Print(_) => {
-                self.lower(seat, touch);
-                Ok(())
-            }
-            Attempt::Check(code) => Err(self.check(seat, code)),
-            Attempt::Fault(..) | Attempt::Commit => Err(self.check(seat, 0)),
-        }
+        self.execute(seat);
+        self.lower(seat, touch);
     }
 
     /// A program check: who sits in a seat is rolled back.

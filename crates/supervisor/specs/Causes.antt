@@ -23,7 +23,7 @@ use Rattle.desk.specs.Run.{absent_segment}
 use Rattle.seats.specs.Seating.{number_in}
 use Rattle.activations.specs.declared.tally.Tally.{Tally}
 use Rattle.activations.specs.Activity.{Activity, program_at}
-use Rattle.activations.specs.Causes.{IfJournal, IfLimit, IfVictim}
+use Rattle.activations.specs.Causes.{IfChecked, IfJournal, IfLimit, IfVictim}
 use Rattle.activations.specs.Instructed.{IfWaits}
 use Rattle.activations.specs.Recorded.{IsRecordOf}
 use Rattle.supervisor.specs.declared.session.Session.{Session}
@@ -53,10 +53,12 @@ abbrev pub answer_of : Tally → TurnEnd → Turn
 answer_of tally end = record { ran = tally.ran; pages = tally.pages; locks = tally.locks; cycles = tally.cycles; end = end }
 
 -- The answer to a turn of an activation gives the true cause of its end, where a record has at most so many lines and the store had this number: it
--- waits for some, its record has too many lines, it ran to its limit, it was the victim of a cycle, or a page that was counted couldn't be read.
+-- waits for some, its record has too many lines, it ran to its limit, it was the victim of a cycle, it met a check with one of the codes of checks, or
+-- a page that was counted couldn't be read.
 pub record IsTurnEnd (activation limit most number : ℕ) (answer : Turn) : Type 0 where
   pub ran : answer.ran ≤ limit
   pub waits : IfWaits activation answer.end
+  pub checked : IfChecked answer.end
   pub journal : IfJournal most answer.end
   pub limited : IfLimit limit answer.ran answer.end
   pub victim : IfVictim activation answer.cycles.items answer.end

@@ -1,6 +1,6 @@
-use Rattle.activations.proofs.Lemmas.{Seating, sitter, number_in, holders, desk_over, IsSound, KeepsParts, StaysSeated, IsContested, tally_counts, activity_of, wants_of, taken-below, ◌≡◌, ℕ, IsSome, ap, sym, ◌∙◌, subst, EndsContest, keeps-two, stays-on, ok-then}
+use Rattle.activations.proofs.Lemmas.{Seating, sitter, number_in, holders, desk_over, IsSound, KeepsParts, StandsStill, IsContested, tally_counts, activity_of, wants_of, taken-below, ◌≡◌, ℕ, IsSome, ap, sym, ◌∙◌, subst, EndsContest, keeps-two, still-on, ok-then}
 use Rattle.std.specs.Result.{IfErr}
-use Rattle.activations.proofs.AskLemmas.{asked-within, some-holders, sound-asking, asks-now, keeps-asking, stays-asking, asked-whole}
+use Rattle.activations.proofs.AskLemmas.{asked-within, some-holders, sound-asking, asks-now, keeps-asking, still-asking, asked-whole}
 use Rattle.activations.proofs.activations.Activations.ask.Goals as goal
 
 pub holders-requires : goal.holders-requires
@@ -40,20 +40,20 @@ pub returns-clause-stays : goal.returns-clause-stays
 returns-clause-stays c =
     let a = activity_of c.args.self.now in
     ok-then c.contend.result
-    (stays-on a (record a { seating = c.wait.new.self }) (activity_of c.contend.new.self) c.args.seat
-    (subst (λ (s : Seating). StaysSeated a (record a { seating = s }) c.args.seat) (sym c.wait.ensures) (stays-asking a c.args.seat c.request-request.result c.requires.sound c.requires.taken)))
+    (still-on a (record a { seating = c.wait.new.self }) (activity_of c.contend.new.self) c.args.seat
+    (subst (λ (s : Seating). StandsStill a (record a { seating = s }) c.args.seat) (sym c.wait.ensures) (still-asking a c.args.seat c.request-request.result c.requires.sound c.requires.taken)))
     c.contend.ensures.stays
 
 pub returns-clause-ends : goal.returns-clause-ends
 returns-clause-ends c =
     subst (λ (n : ℕ). IfErr c.contend.result (EndsContest n c.contend.new.tally))
-    (subst (λ (s : Seating). number_in s c.args.seat ≡ number_in c.args.self.now.seats c.args.seat) (sym c.wait.ensures) (stays-asking (activity_of c.args.self.now) c.args.seat c.request-request.result c.requires.sound c.requires.taken).number)
+    (subst (λ (s : Seating). number_in s c.args.seat ≡ number_in c.args.self.now.seats c.args.seat) (sym c.wait.ensures) (still-asking (activity_of c.args.self.now) c.args.seat c.request-request.result c.requires.sound c.requires.taken).seated.number)
     c.contend.ensures.ends
 
 pub returns-clause-settled : goal.returns-clause-settled
 returns-clause-settled c begins attempt refused committed order asked =
     let a = activity_of c.args.self.now in
-    let here = stays-asking a c.args.seat c.request-request.result c.requires.sound c.requires.taken in
+    let here = (still-asking a c.args.seat c.request-request.result c.requires.sound c.requires.taken).seated in
     let others = some-holders c.holders.result.items (sym c.is_empty.ensures ∙ c.if-is_empty.false) in
     c.contend.ensures.settled begins attempt refused (desk_over a committed order) committed order
     (asked.number ∙ sym (subst (λ (s : Seating). number_in s c.args.seat ≡ number_in c.args.self.now.seats c.args.seat) (sym c.wait.ensures) here.number))

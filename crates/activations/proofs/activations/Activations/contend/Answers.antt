@@ -1,4 +1,4 @@
-use Rattle.activations.proofs.Lemmas.{eq-eqb, ne_eqb, option_map, victim_of, number_in, seat_of, sitter, Seat, cycle_of, seat-found, Victim, Activity, activity_of, Cycle, has, rolled, ComesToEnd, Contests, tally_counts, KeepsParts, StaysSeated, ◌≡◌, ◌<◌, ◌==◌, true, false, ℕ, List, length, map, IsSome, refl, Some, sym, ◌∙◌, ap, arith, subst, common_steps, keeps-itself, keeps-rolled, stays-itself, stays-rolled, tally-on}
+use Rattle.activations.proofs.Lemmas.{eq-eqb, ne_eqb, option_map, victim_of, number_in, seat_of, sitter, Seat, cycle_of, seat-found, Victim, Activity, activity_of, Cycle, has, rolled, ComesToEnd, Contests, tally_counts, KeepsParts, StandsStill, ◌≡◌, ◌<◌, ◌==◌, true, false, ℕ, List, length, map, IsSome, refl, Some, sym, ◌∙◌, ap, arith, subst, common_steps, keeps-itself, keeps-rolled, still-itself, still-rolled, tally-on}
 use Rattle.activations.proofs.ContendLemmas.{fewer, contests-on, contests-lost, stays-taken, recorded, victim-sits, told-settles, told-stays}
 use Rattle.activations.proofs.activations.Activations.contend.Goals.{in-Some+in_default-seat_of, in_default}
 use Rattle.activations.proofs.activations.Activations.contend.Goals as goal
@@ -67,8 +67,8 @@ loop-members-preserved c =
           (subst (λ (these : List (List ℕ)). Contests c.args.seat (activity_of c.args.self.now) (tally_counts c.args.tally.now) (rolled (activity_of c.loop-members.self) c.in-Some-seat_of.loser (activity_of c.roll_back.new.self).reach.pool) (record (tally_counts c.loop-members.tally) { cycles = these })) (sym cycles) on),
       subst (λ (a : Activity). KeepsParts (activity_of c.args.self.now) a 0) (sym c.roll_back.ensures.shape)
           (keeps-rolled (activity_of c.args.self.now) (activity_of c.loop-members.self) c.in-Some-seat_of.loser 0 (activity_of c.roll_back.new.self).reach.pool c.loop-members.invariant.6),
-      subst (λ (a : Activity). StaysSeated (activity_of c.args.self.now) a c.args.seat) (sym c.roll_back.ensures.shape)
-          (stays-rolled (activity_of c.args.self.now) (activity_of c.loop-members.self) c.args.seat c.in-Some-seat_of.loser (activity_of c.roll_back.new.self).reach.pool c.loop-members.invariant.7 stays),
+      subst (λ (a : Activity). StandsStill (activity_of c.args.self.now) a c.args.seat) (sym c.roll_back.ensures.shape)
+          (still-rolled (activity_of c.args.self.now) (activity_of c.loop-members.self) c.args.seat c.in-Some-seat_of.loser (activity_of c.roll_back.new.self).reach.pool c.roll_back.ensures.undone c.loop-members.invariant.7 stays),
       tally-on c.args.tally.now c.loop-members.tally _ c.loop-members.invariant.8,
     )
 
@@ -81,7 +81,7 @@ loop-members-init c = (
   c.requires.room,
   λ begins attempt refused first committed order number contested. contested,
   keeps-itself (activity_of c.args.self.now),
-  stays-itself (activity_of c.args.self.now) c.args.seat c.requires.taken,
+  still-itself (activity_of c.args.self.now) c.args.seat c.requires.taken,
   refl,
 )
 

@@ -1,4 +1,4 @@
-use Rattle.activations.proofs.Common.{array_vec_len, has, number_in, sitter, IsSound, tally_counts, Contests, KeepsParts, StaysSeated, activity_of, ◌≡◌, ◌≤◌, ◌+◌, true, length, IsSome}
+use Rattle.activations.proofs.Common.{array_vec_len, has, number_in, sitter, IsSound, tally_counts, Contests, KeepsParts, StandsStill, activity_of, ◌≡◌, ◌≤◌, ◌+◌, true, length, IsSome}
 use Rattle.activations.proofs.activations.Activations.contend.Given as goal
 
 abbrev pub invariant-loop-members : goal.invariant-loop-members
@@ -10,7 +10,7 @@ invariant-loop-members l =
     × (array_vec_len l.tally.cycles + length (activity_of l.self).seating.taken ≤ 16)
     × Contests l.seat (activity_of l.initial.self) (tally_counts l.initial.tally) (activity_of l.self) (tally_counts l.tally)
     × KeepsParts (activity_of l.initial.self) (activity_of l.self) 0
-    × StaysSeated (activity_of l.initial.self) (activity_of l.self) l.seat
+    × StandsStill (activity_of l.initial.self) (activity_of l.self) l.seat
     × (l.tally ≡ record l.initial.tally { cycles = l.tally.cycles })
 
 abbrev pub decreases-loop-members : goal.decreases-loop-members

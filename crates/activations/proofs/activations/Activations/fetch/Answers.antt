@@ -1,8 +1,9 @@
-use Rattle.activations.proofs.Lemmas.{Layout, page_count, AreWithin, has, asks_on, pool_of, Touch, Activity, IsSound, pages_wanted, wants_of, activity_of, ◌≡◌, ◌∙◌, true, false, ◌<◌, [], ◌∷◌, sym, ap, subst, arith, sound-pool, none-fetched, one-fetches, first-broken, two-fetch, fetch-fails}
+use Rattle.activations.proofs.Lemmas.{Layout, page_count, AreWithin, has, asks_on, pool_of, Touch, Activity, IsSound, pages_wanted, wants_of, activity_of, ◌≡◌, ◌∙◌, refl, true, false, ◌<◌, [], ◌∷◌, sym, ap, subst, arith, sound-pool, none-fetched, one-fetches, first-broken, two-fetch, fetch-fails}
 use Rattle.activations.proofs.activations.Activations.fetch.Goals as goal
 
 pub returns-in-Nothing-clause-fetched : goal.returns-in-Nothing-clause-fetched
 returns-in-Nothing-clause-fetched g c = record {
+  moved = record { marked = refl; private = λ seat few. refl; size = refl; frames = refl };
   resident = λ page inside. let none : false ≡ true = ap (λ (touch : Touch). has (pages_wanted (wants_of touch)) page) (sym c.in-Nothing.is) ∙ inside in absurd (cc);
   fetched = λ committed order is clean.
       none-fetched (activity_of c.args.self.now) (pages_wanted (wants_of c.args.touch.now)) c.args.tally.now.pages (ap (λ (touch : Touch). pages_wanted (wants_of touch)) c.in-Nothing.is) committed order clean;

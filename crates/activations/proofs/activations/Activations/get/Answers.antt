@@ -1,4 +1,4 @@
-use Rattle.activations.proofs.Lemmas.{has, page_count, Counts, Activity, IsSound, Serves, locked, pages_picked, pages_wanted, wants_of, tally_counts, activity_of, ◌≡◌, ◌<◌, ℕ, true, length, sym, ap, subst, EndsByDisk, granted-same}
+use Rattle.activations.proofs.Lemmas.{◌∙◌, IsMoved, IsOpen, WillTouch, lines_wanted, with_pool, got-open, got-touch, ok-both, has, page_count, Counts, Activity, IsSound, Serves, locked, pages_picked, pages_wanted, wants_of, tally_counts, activity_of, ◌≡◌, ◌<◌, ℕ, true, length, sym, ap, subst, EndsByDisk, granted-same}
 use Rattle.activations.proofs.GetLemmas.{picked-below, served-so, broken-so, serves-by, parts-by}
 use Rattle.activations.proofs.activations.Activations.get.Goals as goal
 
@@ -10,6 +10,40 @@ returns-clause-keeps g c = record {
       parts-by c.bring.result g.W.Outside c.args.store.now c.args.outside.now (activity_of c.args.self.now) (activity_of c.take.new.self) (activity_of c.bring.new.self) c.args.seat
       (wants_of c.args.touch.now) (pages_wanted (wants_of c.args.touch.now)) c.args.tally.now.pages c.bring.new.tally.pages c.take.ensures.shape c.bring.ensures.shape c.bring.ensures.broke;
 }
+
+pub returns-clause-touches : goal.returns-clause-touches
+returns-clause-touches g c =
+    let a = activity_of c.args.self.now in
+    let pool = (activity_of c.bring.new.self).reach.pool in
+    let wants = wants_of c.args.touch.now in
+    let owned = (activity_of c.take.new.self).reach.entries in
+    ok-both c.bring.result
+    (λ shape fetched.
+    subst (λ (x : Activity). WillTouch x c.args.seat wants) (sym (shape ∙ ap (λ (x : Activity). with_pool x pool) c.take.ensures.shape))
+    (got-touch a c.args.seat wants owned (pages_picked c.args.touch.now c.args.refused) pool c.requires.can.fetch.sound c.requires.can.taken c.requires.can.selected.runner
+    (subst (λ (x : Activity). IsMoved x.reach.pool pool) c.take.ensures.shape fetched.moved) c.requires.touches))
+    c.bring.ensures.shape c.bring.ensures.fetched
+
+pub returns-clause-opened : goal.returns-clause-opened
+returns-clause-opened g c =
+    let a = activity_of c.args.self.now in
+    let mid = activity_of c.take.new.self in
+    let pool = (activity_of c.bring.new.self).reach.pool in
+    let seat = c.args.seat in
+    let wants = wants_of c.args.touch.now in
+    let refused = pages_picked c.args.touch.now c.args.refused in
+    let owned = mid.reach.entries in
+    let sound = c.requires.can.fetch.sound in
+    ok-both c.bring.result
+    (λ shape fetched.
+    subst (λ (x : Activity). IsOpen x.reach (lines_wanted wants)) (sym (shape ∙ ap (λ (x : Activity). with_pool x pool) c.take.ensures.shape))
+    (got-open a seat wants owned refused pool sound c.requires.can.taken c.requires.can.selected.runner
+    (subst (λ (x : Activity). IsMoved x.reach.pool pool) c.take.ensures.shape fetched.moved)
+    (subst IsSound c.take.ensures.shape c.take.ensures.sound) c.requires.wanted
+    (λ page inside. subst (λ (n : ℕ). page < n) (sym sound.entries) (picked-below (page_count a.reach.directory) c.args.touch.now c.args.refused c.requires.wanted.within page inside))
+    (granted-same mid (locked a seat wants owned) seat wants refused a.reach.entries owned (ap (λ (x : Activity). x.seating) c.take.ensures.shape) (ap (λ (x : Activity). x.reach.directory) c.take.ensures.shape) c.take.ensures.granted)
+    c.requires.refused fetched.resident))
+    c.bring.ensures.shape c.bring.ensures.fetched
 
 pub returns-clause-served : goal.returns-clause-served
 returns-clause-served g c begins attempt next committed order is_store number goes lines free =

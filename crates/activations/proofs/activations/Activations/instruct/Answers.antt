@@ -1,4 +1,4 @@
-use Rattle.activations.proofs.Lemmas.{TurnEnd, Check, row, Activity, program_in, IsSelected, WasAttempted, plain_in, KeepsDesk, GoesUncounted, instruction_in, HasEnded, tally_counts, IsStep, activity_of, asks_none, refl, ◌≡◌, Result, arith, sym, subst, took-either, keeps-took, keeps-checked, handed}
+use Rattle.activations.proofs.Lemmas.{EndsRows, check-named, number_in, TurnEnd, Check, row, Activity, program_in, IsSelected, WasAttempted, plain_in, KeepsDesk, GoesUncounted, instruction_in, HasEnded, tally_counts, IsStep, activity_of, asks_none, refl, ◌≡◌, Result, arith, sym, subst, took-either, keeps-took, keeps-checked, handed}
 use Rattle.romp_cpu.specs.declared.cpu.Attempt.{Attempt}
 use Rattle.activations.proofs.InstructLemmas.{row-goes, at-commit}
 use Rattle.activations.proofs.activations.Activations.instruct.Goals as goal
@@ -56,6 +56,19 @@ returns-in-Check-clause-counts g c =
     let came = subst (λ (attempt : Attempt). WasAttempted attempt (activity_of c.args.self.now) c.args.seat (activity_of c.execute.new.self)) c.in-Check.is c.execute.ensures.went in
     let fewer = (keeps-checked (activity_of c.args.self.now) (activity_of c.execute.new.self) (activity_of c.check.new.self) c.args.seat _ came.0 c.check.ensures.shape).fewer in
     record { cycles = omega (arith, fewer, c.requires.room.cycles); tally = record { ran = refl; pages_before = omega arith; pages = omega arith; locks = omega arith } }
+
+pub returns-in-Check-clause-over : goal.returns-in-Check-clause-over
+returns-in-Check-clause-over g c =
+    subst (EndsRows g.W.Outside (number_in c.args.self.now.seats c.args.seat) (activity_of c.check.new.self) c.args.outside.now c.args.outside.now c.args.tally.now c.args.tally.now) (sym c.check.ensures.end)
+    (record {
+      disk = refl;
+      waits = tt;
+      checked =
+          check-named (activity_of c.args.self.now) (activity_of c.execute.new.self) c.args.seat c.in-Check.code
+          (subst (λ (attempt : Attempt). WasAttempted attempt (activity_of c.args.self.now) c.args.seat (activity_of c.execute.new.self)) c.in-Check.is c.execute.ensures.went);
+      journal = tt;
+      victim = tt;
+    })
 
 pub returns-in-Check-clause-step : goal.returns-in-Check-clause-step
 returns-in-Check-clause-step g c committed order store follows =

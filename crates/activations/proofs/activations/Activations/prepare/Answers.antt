@@ -1,4 +1,4 @@
-use Rattle.activations.proofs.Lemmas.{TurnEnd, IsClean, Tally, Activity, HasBrokenOff, IsPrepared, Prepares, IsFetched, instruction_in, with_pool, wants_of, pages_wanted, HasEnded, HasBroken, tally_counts, activity_of, asks_none, ◌+◌, Result, sym, ◌∙◌, ap, subst, keeps-left, keeps-broke, is-to-serve, prepare-broke, prepared-so, handed}
+use Rattle.activations.proofs.Lemmas.{refl, Bool, List, ℕ, AreLetBut, WillTouch, IsMoved, pages_picked, picked-refused, taken-below, let-refused, shut-touches, touch-on, TurnEnd, IsClean, Tally, Activity, HasBrokenOff, IsPrepared, Prepares, IsFetched, instruction_in, with_pool, wants_of, pages_wanted, HasEnded, HasBroken, tally_counts, activity_of, asks_none, ◌+◌, Result, sym, ◌∙◌, ap, subst, keeps-left, keeps-broke, is-to-serve, prepare-broke, prepared-so, handed}
 use Rattle.activations.proofs.activations.Activations.prepare.Goals as goal
 
 pub returns-in_err-keep_limit-clause-keeps : goal.returns-in_err-keep_limit-clause-keeps
@@ -44,6 +44,26 @@ returns-in_err-bring-clause-prepared g c committed order is follows =
     c.from_residual-in_err-bring.result c.in_err-bring.field-0.0 c.from_residual-in_err-bring.ensures.1
     (subst (λ (how : TurnEnd). HasEnded how begins (activity_of c.bring.new.self) committed order (tally_counts c.bring.new.tally)) (sym c.in_err-bring.ensures.ends.is)
     (subst (λ (t : Tally). HasBroken begins (activity_of c.bring.new.self) committed order (tally_counts t)) (sym c.bring.ensures.counts.rest) broke))
+
+pub returns-clause-touches : goal.returns-clause-touches
+returns-clause-touches g c =
+    let a = activity_of c.args.self.now in
+    let new = activity_of c.bring.new.self in
+    let wants = wants_of c.touch_of-touch.result in
+    let same = c.in_ok-keep_limit.ensures.kept.0 in
+    let runner = c.requires.can.selected.runner in
+    let moved : IsMoved a.reach.pool new.reach.pool = subst (λ (x : Activity). IsMoved x.reach.pool new.reach.pool) same c.in_ok-bring.ensures.fetched.moved in
+    subst (λ (x : Activity). WillTouch x c.args.seat wants) (sym (c.in_ok-bring.ensures.shape ∙ ap (λ (x : Activity). with_pool x new.reach.pool) same))
+    (touch-on a (with_pool a new.reach.pool) c.args.seat wants refl runner runner refl refl (moved.private c.args.seat (taken-below a.seating c.requires.can.fetch.sound.seating c.args.seat c.requires.can.taken))
+    (shut-touches a c.args.seat c.args.access wants c.requires.shut c.touch_of-touch.ensures.lines))
+
+pub returns-clause-refused : goal.returns-clause-refused
+returns-clause-refused g c =
+    let new = activity_of c.bring.new.self in
+    let touch = c.touch_of-touch.result in
+    subst (λ (picked : Bool × Bool). AreLetBut new.reach.entries (c.args.seat + 1) (pages_picked touch picked) (wants_of touch)) (sym c.refused-refused.ensures)
+    (subst (λ (pages : List ℕ). AreLetBut new.reach.entries (c.args.seat + 1) pages (wants_of touch)) (sym (picked-refused new.reach.entries (c.args.seat + 1) touch))
+    (let-refused new.reach.entries (c.args.seat + 1) (wants_of touch)))
 
 pub returns-clause-prepared : goal.returns-clause-prepared
 returns-clause-prepared g c committed order is follows =

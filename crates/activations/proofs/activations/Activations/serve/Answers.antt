@@ -1,4 +1,4 @@
-use Rattle.activations.proofs.Lemmas.{number_in, TurnEnd, Tally, IsInstruction, instruction_in, tally_counts, activity_of, Result, ap, arith, sym, ◌∙◌, total, asks_only, store-on, keeps-all-on, keeps-all-then, handed, ended-by-disk}
+use Rattle.activations.proofs.Lemmas.{◌+◌, let-on, touch-on, number_in, TurnEnd, Tally, IsInstruction, instruction_in, tally_counts, activity_of, Result, ap, arith, sym, ◌∙◌, total, asks_only, store-on, keeps-all-on, keeps-all-then, handed, ended-by-disk}
 use Rattle.activations.proofs.activations.Activations.serve.Goals as goal
 
 pub returns-in_err-touch-clause-served : goal.returns-in_err-touch-clause-served
@@ -35,7 +35,7 @@ returns-in_err-get-clause-served g c committed order store follows =
     handed (λ (r : Result _ TurnEnd). IsInstruction r begins (activity_of c.get.new.self) c.args.seat committed order (tally_counts c.get.new.tally))
     c.from_residual-in_err-get.result c.in_err-get.field-0.0 c.from_residual-in_err-get.ensures.1
     (c.in_err-get.ensures.served begins prepared.attempt prepared.next committed order (store-on g.W.Outside g.met.W.Outside.fewer_later c.args.store.now c.args.outside.now c.prepare.new.outside committed c.prepare.ensures.keeps.asks store)
-    (prepared.asked.number ∙ sym c.in_ok-ask.ensures.stays.number) prepared.goes prepared.lines (c.in_ok-ask.ensures.settled begins prepared.attempt _ committed order prepared.asked))
+    (prepared.asked.number ∙ sym c.in_ok-ask.ensures.stays.seated.number) prepared.goes prepared.lines (c.in_ok-ask.ensures.settled begins prepared.attempt _ committed order prepared.asked))
 
 pub returns-clause-keeps : goal.returns-clause-keeps
 returns-clause-keeps g c =
@@ -49,7 +49,7 @@ returns-clause-served g c committed order store follows =
     let prepared = c.in_ok-touch.ensures.prepared committed order store follows in
     c.go_on.ensures.went _ committed order (tally_counts c.get.new.tally)
     (c.in_ok-get.ensures.served _ prepared.attempt prepared.next committed order (store-on g.W.Outside g.met.W.Outside.fewer_later c.args.store.now c.args.outside.now c.prepare.new.outside committed c.prepare.ensures.keeps.asks store)
-    (prepared.asked.number ∙ sym c.in_ok-ask.ensures.stays.number) prepared.goes prepared.lines (c.in_ok-ask.ensures.settled _ prepared.attempt _ committed order prepared.asked))
+    (prepared.asked.number ∙ sym c.in_ok-ask.ensures.stays.seated.number) prepared.goes prepared.lines (c.in_ok-ask.ensures.settled _ prepared.attempt _ committed order prepared.asked))
 
 pub get-requires-clause-can : goal.get-requires-clause-can
 get-requires-clause-can g c = record {
@@ -59,6 +59,17 @@ get-requires-clause-can g c = record {
     usable = c.requires.can.fetch.usable;
     room = (asks_only g.W.Outside c.args.outside.now c.prepare.new.outside c.prepare.ensures.keeps.asks).longer (total c.args.store.now.header) c.requires.can.fetch.room;
   };
-  taken = c.in_ok-ask.ensures.stays.taken;
-  selected = c.in_ok-ask.ensures.stays.selected (c.in_ok-touch.ensures.on.stays.selected c.requires.can.selected);
+  taken = c.in_ok-ask.ensures.stays.seated.taken;
+  selected = c.in_ok-ask.ensures.stays.seated.selected (c.in_ok-touch.ensures.on.stays.selected c.requires.can.selected);
 }
+
+pub get-requires-clause-touches : goal.get-requires-clause-touches
+get-requires-clause-touches g c =
+    let still = c.in_ok-ask.ensures.stays in
+    let selected = c.in_ok-touch.ensures.on.stays.selected c.requires.can.selected in
+    touch-on (activity_of c.prepare.new.self) (activity_of c.ask.new.self) c.args.seat _ c.ask.ensures.keeps.parts.directory selected.runner (still.seated.selected selected).runner
+    still.program still.live still.private c.in_ok-touch.ensures.touches
+
+pub get-requires-clause-refused : goal.get-requires-clause-refused
+get-requires-clause-refused g c =
+    let-on (activity_of c.prepare.new.self).reach.entries (activity_of c.ask.new.self).reach.entries (c.args.seat + 1) _ _ c.in_ok-ask.ensures.stays.own c.in_ok-touch.ensures.refused

@@ -64,6 +64,7 @@ returns-in-Err-clause-end g c =
     record {
       ran = c.run.ensures.ran;
       waits = subst (λ (n : ℕ). IfWaits n c.in-Err.end) found c.in-Err.ensures.over.waits;
+      checked = c.in-Err.ensures.over.checked;
       journal = subst (λ (n : ℕ). IfJournal n c.in-Err.end) (c.run.ensures.keeps.parts.most_lines ∙ sym c.requires.sound.most) c.in-Err.ensures.over.journal;
       limited = c.in-Err.ensures.limit;
       victim = subst (λ (n : ℕ). IfVictim n c.run.new.tally.cycles.items c.in-Err.end) found c.in-Err.ensures.over.victim;
