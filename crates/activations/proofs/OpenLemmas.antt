@@ -1,11 +1,11 @@
 -- A row that goes on, and whose access was served: it goes on still, and its lines are open.
-use Rattle.activations.proofs.Common.{◌≡◌, refl, ℕ, ◌+◌, ◌-◌, ◌*◌, ◌%◌, ◌<◌, ◌==◌, ◌&&◌, ◌||◌, not, Bool, true, false, List, [], ◌∷◌, All, length, replicate, list_any, map, slice_index_or, slice_set, if◌then◌else◌, arith, ap, sym, ◌∙◌, subst, inl, inr, eqb-true, eqb-false, eq-eqb, and_parts, or_cases, or_left, or_parts, or_right, nat_tests, get_or-set_other, get_or-set_same, length-replicate, length-set, All-cons, All-head, All-nil, All-tail, cases_Bool, Layout, byte_count, is_fine_page, has, both, page_of_line, has_left, has_right, Want, AreWithin, lines_wanted, held_at, of_seat, of_page-below, AreAlike, AreOfPage, IsFlat, IsOfPage, Authority, unowned, entry_of, lets, Plain, Program, Outcome, On, Commit, Check, row, touched, Reach, IsOpen, IsOpenLine, bytes_over, private_bytes, lines_of_access, Access, Activity, live_in, locks_in, program_in, Pool, IsMoved, with_pool, taken-below, long-seat, plain_in, IsShut, TookEffect, WasAttempted, WillTouch, CameTo, IsSound, AreGranted, AreSet, entry_given, locked, AreWanted, IsApart, AreLetBut, pages_refused, pages_wanted, refuses_want, stores_into, with_whole_page}
+use Rattle.activations.proofs.Common.{◌≡◌, refl, ℕ, ◌+◌, ◌-◌, ◌*◌, ◌%◌, ◌<◌, ◌==◌, ◌&&◌, ◌||◌, not, Bool, true, false, List, [], ◌∷◌, All, length, replicate, list_any, map, slice_index_or, slice_set, arith, ap, sym, ◌∙◌, subst, inl, inr, eqb-true, eqb-false, eq-eqb, and_parts, or_cases, or_left, or_parts, or_right, nat_tests, get_or-set_other, get_or-set_same, length-replicate, length-set, All-cons, All-head, All-nil, All-tail, cases_Bool, Layout, byte_count, has, both, page_of_line, has_left, has_right, Want, AreWithin, lines_wanted, held_at, of_seat, of_page-below, AreAlike, AreOfPage, IsFlat, IsOfPage, Authority, unowned, entry_of, lets, Plain, Program, Outcome, On, Commit, Check, row, touched, Reach, IsOpen, IsOpenLine, bytes_over, private_bytes, lines_of_access, Access, Activity, live_in, locks_in, program_in, Pool, IsMoved, with_pool, taken-below, long-seat, plain_in, IsShut, TookEffect, WasAttempted, WillTouch, CameTo, IsSound, AreGranted, AreSet, entry_given, locked, AreWanted, IsApart, AreLetBut, pages_refused, pages_wanted, refuses_want, stores_into, with_whole_page}
 use Rattle.flat_machine.specs.Agreement.{SameWay}
 use Rattle.flat_machine.specs.Plans.{Plan, Does, Fails}
 use Rattle.flat_machine.specs.Row.{plan_at}
 use Rattle.flat_machine.specs.Touched.{touched_by}
 use Rattle.flat_machine.proofs.SameWay.{on, row-way}
-use Rattle.lockbit_rules.specs.Entries.{Entry, granted, granted_fine}
+use Rattle.lockbit_rules.specs.Entries.{Entry, granted}
 use Rattle.desk_law.proofs.Permitted.{any-none}
 use Rattle.romp_cpu.specs.declared.cpu.Attempt.{Attempt}
 use Rattle.activations.specs.Causes.{IsCheckCode}
@@ -148,31 +148,12 @@ granted-stores : (tid : ℕ) (reads writes : List ℕ) (line : ℕ) → has writ
 granted-stores tid reads [] line inside = absurd (cc (inside))
 granted-stores tid reads (x ∷ writes) line inside = grind (arith, nat_tests, inside)
 
-fine-loads : (tid : ℕ) (reads writes : List ℕ) (storing : Bool) (line : ℕ) → has reads line ≡ true → lets (granted_fine tid reads writes storing) tid line false ≡ true
-fine-loads tid reads writes true line inside = grind (arith, nat_tests)
-fine-loads tid reads writes false line inside = granted-loads tid reads _ line inside
-
-fine-stores : (tid : ℕ) (reads writes : List ℕ) (line : ℕ) → has writes line ≡ true → lets (granted_fine tid reads writes true) tid line true ≡ true
-fine-stores tid reads writes line inside = grind (arith, nat_tests, inside)
-
 module _ (a : Activity) (seat page : ℕ) (storing : Bool) where
   given-loads : (line : ℕ) → has (held_at a.seating.holding seat page).0 line ≡ true → lets (entry_given a seat storing page) (seat + 1) line false ≡ true
-  given-loads line inside = by_fine (is_fine_page a.reach.directory page)
-    where
-      by_fine : (fine : Bool)
-          → lets (if fine then granted_fine (seat + 1) (held_at a.seating.holding seat page).0 (held_at a.seating.holding seat page).1 storing else granted (seat + 1) (held_at a.seating.holding seat page).0 (held_at a.seating.holding seat page).1)
-          (seat + 1) line false ≡ true
-      by_fine true = fine-loads (seat + 1) _ _ storing line inside
-      by_fine false = granted-loads (seat + 1) _ _ line inside
+  given-loads line inside = let granted = λ (writes : List ℕ). granted-loads (seat + 1) (held_at a.seating.holding seat page).0 writes line inside in grind (arith, nat_tests, granted)
 
   given-stores : (line : ℕ) → storing ≡ true → has (held_at a.seating.holding seat page).1 line ≡ true → lets (entry_given a seat storing page) (seat + 1) line true ≡ true
-  given-stores line is inside = subst (λ (s : Bool). lets (entry_given a seat s page) (seat + 1) line true ≡ true) (sym is) (by_fine (is_fine_page a.reach.directory page))
-    where
-      by_fine : (fine : Bool)
-          → lets (if fine then granted_fine (seat + 1) (held_at a.seating.holding seat page).0 (held_at a.seating.holding seat page).1 true else granted (seat + 1) (held_at a.seating.holding seat page).0 (held_at a.seating.holding seat page).1)
-          (seat + 1) line true ≡ true
-      by_fine true = fine-stores (seat + 1) (held_at a.seating.holding seat page).0 (held_at a.seating.holding seat page).1 line inside
-      by_fine false = granted-stores (seat + 1) (held_at a.seating.holding seat page).0 (held_at a.seating.holding seat page).1 line inside
+  given-stores line is inside = let granted = granted-stores (seat + 1) (held_at a.seating.holding seat page).0 (held_at a.seating.holding seat page).1 line inside in grind (arith, nat_tests, granted, is, inside)
 
 -- Entries that are set are those that are told of these pages, and the others are as they were.
 set-there : (of : ℕ → Entry) (pages : List ℕ) (old new : List Authority) (page : ℕ) → ((at : ℕ) → has pages at ≡ true → at < length old) → AreSet of pages old new
@@ -269,43 +250,29 @@ module _ (a : Activity) (seat : ℕ) (wants : List Want) (owned : List Authority
 opens : (state : Reach) (wants : List Want) → AreOfPage wants → All (λ want. refuses_want state.entries state.runner want ≡ false) wants
     → ((page : ℕ) → has (pages_wanted wants) page ≡ true → has state.pool.resident page ≡ true) → IsOpen state (lines_wanted wants)
 opens state wants sets free there = record {
-  reads = λ line inside. reads wants free there line (sym (has-wanted (λ want. want.reads) wants line sets.reads) ∙ inside);
-  writes = λ line inside. writes wants free there line (sym (has-wanted (λ want. want.writes) wants line sets.writes) ∙ inside);
+  reads = λ line inside. each (λ want. want.reads) false (λ want none. (or_parts _ _ none).0) wants free there line (sym (has-wanted (λ want. want.reads) wants line sets.reads) ∙ inside);
+  writes = λ line inside. each (λ want. want.writes) true (λ want none. (or_parts _ _ none).1) wants free there line (sym (has-wanted (λ want. want.writes) wants line sets.writes) ∙ inside);
 }
   where
-    line_open : (want : Want) (line : ℕ) (store : Bool) (set : List ℕ) → list_any (λ x. not (lets (entry_of (slice_index_or state.entries want.page unowned)) state.runner x store)) set ≡ false
-        → has state.pool.resident want.page ≡ true → ((want.page == page_of_line line) && has set (line % 16)) ≡ true → IsOpenLine state line store
-    line_open want line store set none resident is =
-        let parts = and_parts (want.page == page_of_line line) (has set (line % 16)) is in
-        let same = eqb-true want.page (page_of_line line) parts.0 in record {
-          resident = subst (λ (page : ℕ). has state.pool.resident page ≡ true) same resident;
-          permits = subst (λ (page : ℕ). not (lets (entry_of (slice_index_or state.entries page unowned)) state.runner (line % 16) store) ≡ false) same
-              (none-at (λ x. not (lets (entry_of (slice_index_or state.entries want.page unowned)) state.runner x store)) set (line % 16) none parts.1);
-        }
-
-    reads : (some : List Want) → All (λ want. refuses_want state.entries state.runner want ≡ false) some → ((page : ℕ) → has (pages_wanted some) page ≡ true → has state.pool.resident page ≡ true)
-        → (line : ℕ) → list_any (λ want. (want.page == page_of_line line) && has want.reads (line % 16)) some ≡ true → IsOpenLine state line false
-    reads [] free there line is = absurd (cc (is))
-    reads (want ∷ some) free there line is = elim (or_cases ((want.page == page_of_line line) && has want.reads (line % 16)) (list_any (λ want. (want.page == page_of_line line) && has want.reads (line % 16)) some) is) [
-      | inl here ↦
-          let none : refuses_want state.entries state.runner want ≡ false = All-head (λ (w : Want). refuses_want state.entries state.runner w ≡ false) want some free in
-          line_open want line false want.reads (or_parts _ _ none).0 (there want.page (or_left (want.page == want.page) (has (pages_wanted some) want.page) (eq-eqb want.page want.page refl))) here
-      | inr rest ↦
-          reads some (All-tail (λ (w : Want). refuses_want state.entries state.runner w ≡ false) want some free)
-          (λ page inside. there page (or_right (want.page == page) (has (pages_wanted some) page) inside)) line rest
-    ]
-
-    writes : (some : List Want) → All (λ want. refuses_want state.entries state.runner want ≡ false) some → ((page : ℕ) → has (pages_wanted some) page ≡ true → has state.pool.resident page ≡ true)
-        → (line : ℕ) → list_any (λ want. (want.page == page_of_line line) && has want.writes (line % 16)) some ≡ true → IsOpenLine state line true
-    writes [] free there line is = absurd (cc (is))
-    writes (want ∷ some) free there line is = elim (or_cases ((want.page == page_of_line line) && has want.writes (line % 16)) (list_any (λ want. (want.page == page_of_line line) && has want.writes (line % 16)) some) is) [
-      | inl here ↦
-          let none : refuses_want state.entries state.runner want ≡ false = All-head (λ (w : Want). refuses_want state.entries state.runner w ≡ false) want some free in
-          line_open want line true want.writes (or_parts _ _ none).1 (there want.page (or_left (want.page == want.page) (has (pages_wanted some) want.page) (eq-eqb want.page want.page refl))) here
-      | inr rest ↦
-          writes some (All-tail (λ (w : Want). refuses_want state.entries state.runner w ≡ false) want some free)
-          (λ page inside. there page (or_right (want.page == page) (has (pages_wanted some) page) inside)) line rest
-    ]
+    each : (part : Want → List ℕ) (store : Bool)
+        → ((want : Want) → refuses_want state.entries state.runner want ≡ false → list_any (λ line. not (lets (entry_of (slice_index_or state.entries want.page unowned)) state.runner line store)) (part want) ≡ false)
+        → (some : List Want) → All (λ want. refuses_want state.entries state.runner want ≡ false) some → ((page : ℕ) → has (pages_wanted some) page ≡ true → has state.pool.resident page ≡ true)
+        → (line : ℕ) → list_any (λ want. (want.page == page_of_line line) && has (part want) (line % 16)) some ≡ true → IsOpenLine state line store
+    each part store let_part [] free there line is = absurd (cc (is))
+    each part store let_part (want ∷ some) free there line is =
+        elim (or_cases ((want.page == page_of_line line) && has (part want) (line % 16)) (list_any (λ want. (want.page == page_of_line line) && has (part want) (line % 16)) some) is) [
+          | inl here ↦
+              let parts = and_parts (want.page == page_of_line line) (has (part want) (line % 16)) here in
+              let same = eqb-true want.page (page_of_line line) parts.0 in record {
+                resident = ap (has state.pool.resident) (sym same) ∙ there want.page (or_left (want.page == want.page) (has (pages_wanted some) want.page) (eq-eqb want.page want.page refl));
+                permits = subst (λ (page : ℕ). not (lets (entry_of (slice_index_or state.entries page unowned)) state.runner (line % 16) store) ≡ false) same
+                    (none-at (λ x. not (lets (entry_of (slice_index_or state.entries want.page unowned)) state.runner x store)) (part want) (line % 16)
+                    (let_part want (All-head (λ (w : Want). refuses_want state.entries state.runner w ≡ false) want some free)) parts.1);
+              }
+          | inr rest ↦
+              each part store let_part some (All-tail (λ (w : Want). refuses_want state.entries state.runner w ≡ false) want some free)
+              (λ page inside. there page (or_right (want.page == page) (has (pages_wanted some) page) inside)) line rest
+        ]
 
 -- Who got what he wanted goes on still, and his lines are open.
 module _ (a : Activity) (seat : ℕ) (wants : List Want) (owned : List Authority) (pages : List ℕ) (pool : Pool) (sound : IsSound a) (taken : has a.seating.taken seat ≡ true) (runner : a.reach.runner ≡ seat + 1)
