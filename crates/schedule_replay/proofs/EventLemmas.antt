@@ -9,6 +9,8 @@ use Rattle.desk.specs.declared.supervisor.Supervisor as desk
 use Rattle.schedule_replay.specs.declared.events.Going.TheVariants as going
 use Rattle.schedule_replay.proofs.CountLemmas.{begun_keep, turn_calm, stored_calm, reopened_calm}
 use Rattle.schedule_replay.proofs.PutsLemmas.{PrintedNow, puts_and}
+use Rattle.schedule_replay.specs.Told.{AreLinesOf}
+use Rattle.schedule_replay.proofs.ToldLemmas.{tells_event}
 use Rattle.schedule_replay.proofs.WentLemmas.{ran_event}
 use Rattle.schedule_replay.proofs.WriteLemmas.{writes_same, writes_fewer, begin_writes, turn_writes, reopened_writes, stored_writes}
 
@@ -124,8 +126,8 @@ module _ {D W : Type 0} (S : desk.Ghosts D) (G : Ghosts W) where
       → S.sound new → S.fixed new ≡ S.fixed old → S.given new ≤ S.given old + begins_in (one ∷ []) → S.turns new ≤ S.turns old + turns_in (one ∷ []) → CallsStore G (S.fixed new).header before between
       → (S.closed old ≡ true → told ≡ going.Closed) → S.closed new ≡ is_closed told → (G.disk_faults after ≡ G.disk_faults between → G.held after ≡ G.held between → GoesBy S G old new before after told)
       → ((start : Desk) → IsSure G before → S.shows old (held_of G before) start → WasStep S G names (S.fixed old).programs (S.fixed old).opened one lines start new before between × (is_damaged told ≡ false))
-      → WentBy S G names event old new before after result
-  went_event fewer_later printed_now stands_law open_law {T} names are event one lines old new before between after put way told result is_one is is_and puts sound fixed given turns store shut closed goes went =
+      → AreLinesOf names (one ∷ []) lines (S.order old) (S.order new) → WentBy S G names event old new before after result
+  went_event fewer_later printed_now stands_law open_law {T} names are event one lines old new before between after put way told result is_one is is_and puts sound fixed given turns store shut closed goes went told_of =
       subst (λ (e : Event). WentBy S G names e old new before after result) (sym is_one)
       (subst (λ (how : Result Going Failed). WentBy S G names one old new before after how) (sym is_and) (record {
         answered = answered_event fewer_later (one ∷ []) lines old new before between after _ sound fixed given turns store all;
@@ -136,6 +138,7 @@ module _ {D W : Type 0} (S : desk.Ghosts D) (G : Ghosts W) where
             (open_law old (held_of G before) start shows) (ap (λ (fixed : Fixed). fixed.opened) fixed) store.calls (went start sure shows).0 all;
         closed = if_ok_and (λ how. S.closed new ≡ is_closed how) closed put;
         undamaged = λ start sure shows. if_ok_and (λ how. is_damaged how ≡ false) (went start sure shows).1 put;
+        tells = tells_event G names one lines (S.order old) (S.order new) (S.fixed new).header before between after _ told_of store all;
       }))
     where
       all : Puts G lines between after (result_and put (Ok way))

@@ -8,5 +8,6 @@ pub mod EventLemmas
 pub mod AnsweredLemmas
 pub mod RanLemmas
 pub mod ReportLemmas
+pub mod ToldLemmas
 pub mod QuietLemmas
 pub mod Lemmas

@@ -16,7 +16,7 @@ use Rattle.desk.specs.declared.answers.Reopened.TheVariants as reopened
 use Rattle.desk.specs.declared.event.Event.{Event}
 use Rattle.desk.specs.declared.supervisor.Supervisor as desk
 use Rattle.desk.specs.Desk.{Desk}
-use Rattle.desk.specs.Instruction.{Word, Doubt}
+use Rattle.desk.specs.Instruction.{Word}
 use Rattle.desk.specs.Run.{run, faulted, IsRunOf}
 use Rattle.desk.specs.Lines.{line_text, Open}
 use Rattle.desk.specs.Report.{report, report_lines, event_lines}
@@ -29,6 +29,7 @@ use Rattle.schedule_replay.specs.Answered.{Answered, GoesBy}
 use Rattle.schedule_replay.specs.Puts.{PutsTimes, shown_of}
 use Rattle.schedule_replay.specs.Ran.{Ran, PrintsEarlier, IfInDoubt, InDoubt, text_of}
 use Rattle.schedule_replay.specs.RanTo.{RanTo}
+use Rattle.schedule_replay.specs.Told.{Tells}
 
 -- whether the desk goes on
 abbrev pub is_closed : Going → Bool
@@ -57,8 +58,8 @@ going_by (reopened.Damaged offset) = going.Damaged offset
 going_by reopened.DiskFault = going.Closed
 going_by reopened.Shut = going.Closed
 
--- One event was asked and its lines put: what that keeps, how it goes on, and the run of this event alone, from bytes that are sure and show a desk,
--- which are never found damaged.
+-- One event was asked and its lines put: what that keeps, how it goes on, which lines they are, and the run of this event alone, from bytes that are
+-- sure and show a desk, which are never found damaged.
 pub record WentBy {D W : Type 0} (S : desk.Ghosts D) (G : Ghosts W) (names : List (List ℕ)) (event : Event) (old new : D) (before after : W) (result : Result Going Failed) : Type 0 where
   pub answered : Answered S G (event ∷ []) old new before after result
   pub goes : IfOk result (λ going. GoesBy S G old new before after going)
@@ -66,6 +67,7 @@ pub record WentBy {D W : Type 0} (S : desk.Ghosts D) (G : Ghosts W) (names : Lis
   pub ran : (start : Desk) → IsSure G before → S.shows old (held_of G before) start → Ran S G names (S.fixed old).programs (S.fixed old).opened (event ∷ []) start new before after result
   pub closed : IfOk result (λ going. S.closed new ≡ is_closed going)
   pub undamaged : (start : Desk) → IsSure G before → S.shows old (held_of G before) start → IfOk result (λ going. is_damaged going ≡ false)
+  pub tells : Tells G names (event ∷ []) (S.order old) (S.order new) before after result
 
 -- The first of the events were run, and their lines put. All events were run where the desk goes on.
 pub record RanSome {D W : Type 0} (S : desk.Ghosts D) (G : Ghosts W) (names : List (List ℕ)) (programs : List Program) (number : ℕ) (events : List Event) (start : Desk) (new : D) (before after : W) (result : Result Going Failed) : Type 0 where

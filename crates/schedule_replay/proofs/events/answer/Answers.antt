@@ -1,4 +1,5 @@
-use Rattle.schedule_replay.proofs.Lemmas.{ℕ, List, map, ap, ◌∙◌, arith, asks_none, TurnEnd, Stored, begun_told, turn_told, stored_told, reopened_told, turn_closes, turn_fails, stored_closes, stored_fails, happening_lines, number_told, stored_number, reopened_number, going_begun, going_if, going_by, common_steps, puts_same, names_are, begun_closes, if_closes, crash_closes, turn_shut, stored_shut, undamaged, undamaged_begun, undamaged_if, store_asked, goes_begin, goes_if, goes_crash, begin_step, turn_step, checkpoint_step, crash_step, went_event}
+use Rattle.schedule_replay.proofs.ToldLemmas.{enters_begun, enters_reopened, enters_stored, enters_turn, lines_one}
+use Rattle.schedule_replay.proofs.Lemmas.{refl, ℕ, List, map, ap, ◌∙◌, arith, asks_none, TurnEnd, Stored, begun_told, turn_told, stored_told, reopened_told, turn_closes, turn_fails, stored_closes, stored_fails, happening_lines, number_told, stored_number, reopened_number, going_begun, going_if, going_by, common_steps, puts_same, names_are, begun_closes, if_closes, crash_closes, turn_shut, stored_shut, undamaged, undamaged_begun, undamaged_if, store_asked, goes_begin, goes_if, goes_crash, begin_step, turn_step, checkpoint_step, crash_step, went_event}
 use Rattle.desk.specs.declared.event.Event.TheVariants as event
 use Rattle.schedule_replay.proofs.events.answer.Goals as goal
 
@@ -15,6 +16,7 @@ returns-in-Begin g c =
     begun.ensures.sound begun.ensures.fixed (omega (arith, begun.ensures.given)) (omega (arith, begun.ensures.turns)) (store_asked S g.W.Outside old begun.new.self w w begun.ensures.fixed (asks_none g.W.Outside w) c.requires.ready.bytes)
     (λ was. ap going_begun (begun.ensures.shut.shut.1 was)) (begun_closes begun.result _ _ begun.ensures.closed begun.ensures.shut) (λ disk held. goes_begin S g.W.Outside begun.result old begun.new.self w c.put_begun-put.new.outside begun.ensures.closed begun.ensures.shut)
     (λ start sure shows. (begin_step S g.W.Outside names (S.fixed old).programs L.shown_stands L.shown_open L.open_shown L.order_shown c.in-Begin.program c.in-Begin.args begun.result start old begun.new.self w sure shows (begun.ensures.did _ start shows), undamaged_begun begun.result))
+    (lines_one names (event.Begin c.in-Begin.program c.in-Begin.args) (begun_told c.in-Begin.program begun.result) 0 (S.order old) (S.order begun.new.self) (begun.result, refl) (enters_begun c.in-Begin.program begun.result _ _ begun.ensures.order))
 
 pub returns-in-Turn : goal.returns-in-Turn
 returns-in-Turn g c =
@@ -31,6 +33,7 @@ returns-in-Turn g c =
     (λ was. ap (λ (ends : TurnEnd). going_if (turn_closes ends)) (turn.ensures.shut.shut.1 was)) (turn.ensures.closed ∙ if_closes (turn_closes turn.result.end))
     (λ disk held. goes_if S G (turn_closes turn.result.end) (turn_fails turn.result.end) old turn.new.self c.args.outside.now turn.new.outside c.put_turn-put.new.outside turn.ensures.closed turn.ensures.shut (turn_shut turn.result.end) turn.ensures.failed disk)
     (λ start sure shows. (turn_step S G names (S.fixed old).programs (S.fixed old).opened start turn.new.self c.args.outside.now turn.new.outside c.in-Turn.activation c.in-Turn.limit turn.result (S.printed turn.new.self) (turn.ensures.did start sure shows) turn.ensures.writes turn.ensures.failed, undamaged_if (turn_closes turn.result.end)))
+    (lines_one names (event.Turn c.in-Turn.activation c.in-Turn.limit) (told (S.printed turn.new.self)) (number_told turn.result.end) (S.order old) (S.order turn.new.self) (turn.result, S.printed turn.new.self, refl) (enters_turn c.in-Turn.activation turn.result turn.result.end (S.printed turn.new.self) _ _ turn.ensures.ordered))
 
 pub returns-in-Checkpoint : goal.returns-in-Checkpoint
 returns-in-Checkpoint g c =
@@ -45,6 +48,7 @@ returns-in-Checkpoint g c =
     (λ was. ap (λ (answer : Stored). going_if (stored_closes answer)) (stored.ensures.shut.shut.1 was)) (stored.ensures.closed ∙ if_closes (stored_closes stored.result))
     (λ disk held. goes_if S G (stored_closes stored.result) (stored_fails stored.result) old stored.new.self c.args.outside.now stored.new.outside c.put_stored-put.new.outside stored.ensures.closed stored.ensures.shut (stored_shut stored.result) stored.ensures.failed disk)
     (λ start sure shows. (checkpoint_step S G names (S.fixed old).programs (S.fixed old).opened start stored.new.self c.args.outside.now stored.new.outside stored.result (stored.ensures.did start sure shows) stored.ensures.writes stored.ensures.failed, undamaged_if (stored_closes stored.result)))
+    (lines_one names event.Checkpoint (stored_told stored.result) (stored_number stored.result) (S.order old) (S.order stored.new.self) (stored.result, refl) (enters_stored stored.result _ _ stored.ensures.order))
 
 pub returns-in-Crash : goal.returns-in-Crash
 returns-in-Crash g c =
@@ -63,6 +67,7 @@ returns-in-Crash g c =
     (λ start sure shows.
     let did = reopened.ensures.did start sure shows in
     (crash_step S G names (S.fixed old).programs (S.fixed old).opened start reopened.new.self w reopened.new.outside lost reopened.result (c.as_slice.ensures.value ∙ c.active-lost.ensures _ start shows) did reopened.ensures.asks reopened.ensures.failed, undamaged reopened.result _ did.1))
+    (lines_one names event.Crash (reopened_told lost reopened.result) (reopened_number reopened.result) (S.order old) (S.order reopened.new.self) (lost, reopened.result, refl) (enters_reopened lost reopened.result _ _ reopened.ensures.order))
 
 pub put_begun-put-requires : goal.put_begun-put-requires
 put_begun-put-requires g c = grind (arith, common_steps)

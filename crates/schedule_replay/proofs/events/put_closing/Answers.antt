@@ -10,3 +10,6 @@ closing_open number desk was_open =
 
 pub returns-clause-puts : goal.returns-clause-puts
 returns-clause-puts g c = λ held start shows. grind (arith, puts_same, c.as_slice.ensures.value, c.active-left.ensures, c.number.ensures, closing_open, g.met.S.Supervisor.shown_open)
+
+pub returns-clause-some : goal.returns-clause-some
+returns-clause-some g c = (c.as_slice.result.now, c.number.result, c.put_each_and.ensures)

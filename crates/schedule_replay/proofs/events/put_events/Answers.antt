@@ -1,5 +1,7 @@
+use Rattle.std.proofs.lemmas.Bool.{both_ways}
 use Rattle.schedule_replay.proofs.Lemmas.{◌≡◌, [], ◌+◌, length, map, take, refl, sym, ap, ◌∙◌, arith, rules, append-nil, Ok, take_all, Fixed, Begin, is_closed, prints_broken, prints_well, answered_none, ready_next, answered_more, answered_well, answered_broken, goes_since, shut_asked, shut_unasked, names_are, if_ok_broken, not_on_closed}
 use Rattle.schedule_replay.specs.declared.events.Going.TheVariants as going
+use Rattle.schedule_replay.proofs.ToldLemmas.{tells_broken, tells_more, tells_none, tells_well}
 use Rattle.schedule_replay.proofs.RanLemmas.{ran_as, ran_further, ran_last, ran_none}
 use Rattle.schedule_replay.proofs.events.put_events.Goals as goal
 
@@ -8,6 +10,7 @@ loop-event-init g c =
     let S = g.S.Supervisor in
     let L = g.met.S.Supervisor in
     record {
+      tells = tells_none g.W.Outside (map (λ name. name.items) c.args.names.now) (S.order c.args.desk.now) c.args.outside.now 0;
       answered = answered_none S g.W.Outside g.met.W.Outside.fewer_later c.args.desk.now c.args.outside.now c.requires.ready.sound c.requires.ready.bytes;
       still = λ was_open. was_open;
       shut = λ was. (refl, was);
@@ -28,6 +31,17 @@ returns-in_err-going-clause-answered g c = (
       (answered_more g.S.Supervisor g.W.Outside g.met.W.Outside.fewer_later c.args.events.now c.loop-event.event-index (Begin 0 []) c.loop-event-test.true c.args.desk.now c.loop-event.desk c.args.outside.now c.loop-event.outside c.answer.new.desk c.answer.new.outside c.answer.result c.loop-event.invariant.answered c.answer.ensures.answered),
 )
 
+pub returns-in_err-going-clause-tells : goal.returns-in_err-going-clause-tells
+returns-in_err-going-clause-tells g c =
+    let S = g.S.Supervisor in
+    let names = map (λ name. name.items) c.args.names.now in
+    record {
+      count = c.loop-event.event-index + 1;
+      tells = tells_broken g.W.Outside names (take (c.loop-event.event-index + 1) c.args.events.now) (S.order c.args.desk.now) (S.order c.answer.new.desk) c.args.outside.now c.answer.new.outside c.answer.result c.from_residual.result (search rules) c.from_residual.ensures.0
+          (tells_more g.W.Outside names c.args.events.now c.loop-event.event-index (Begin 0 []) c.loop-event-test.true (S.order c.args.desk.now) (S.order c.loop-event.desk) (S.order c.answer.new.desk) c.args.outside.now c.loop-event.outside c.answer.new.outside c.answer.result c.loop-event.invariant.tells c.answer.ensures.tells);
+      all = if_ok_broken c.from_residual.result _ c.from_residual.ensures.0;
+    }
+
 pub returns-in_err-going-clause-ran : goal.returns-in_err-going-clause-ran
 returns-in_err-going-clause-ran g c = λ start sure shows.
     let now = c.loop-event.invariant in
@@ -43,6 +57,11 @@ returns-in_default g c =
     let now = c.loop-event.invariant in
     let how = c.in_ok-going.going in
     record {
+      tells = record {
+        count = c.loop-event.event-index + 1;
+        tells = tells_more G (map (λ name. name.items) c.args.names.now) c.args.events.now c.loop-event.event-index (Begin 0 []) c.loop-event-test.true (S.order c.args.desk.now) (S.order c.loop-event.desk) (S.order c.answer.new.desk) c.args.outside.now c.loop-event.outside c.answer.new.outside (Ok how) now.tells c.in_ok-going.ensures.tells;
+        all = λ goes_on. absurd (both_ways (is_closed how) goes_on (not_on_closed how c.in_default.not-On));
+      };
       answered = (
         c.loop-event.event-index + 1,
         answered_well S G g.met.W.Outside.fewer_later _ c.args.desk.now c.answer.new.desk c.args.outside.now c.answer.new.outside how _
@@ -64,6 +83,8 @@ loop-event-preserved g c =
     let now = c.loop-event.invariant in
     let how = c.in_ok-going.going in
     record {
+      tells = tells_well G (map (λ name. name.items) c.args.names.now) (take (c.loop-event.event-index + 1) c.args.events.now) (S.order c.args.desk.now) (S.order c.answer.new.desk) c.args.outside.now c.answer.new.outside how 0
+          (tells_more G (map (λ name. name.items) c.args.names.now) c.args.events.now c.loop-event.event-index (Begin 0 []) c.loop-event-test.true (S.order c.args.desk.now) (S.order c.loop-event.desk) (S.order c.answer.new.desk) c.args.outside.now c.loop-event.outside c.answer.new.outside (Ok how) now.tells c.in_ok-going.ensures.tells);
       answered = answered_well S G g.met.W.Outside.fewer_later _ c.args.desk.now c.answer.new.desk c.args.outside.now c.answer.new.outside how 0
           (answered_more S G g.met.W.Outside.fewer_later c.args.events.now c.loop-event.event-index (Begin 0 []) c.loop-event-test.true c.args.desk.now c.loop-event.desk c.args.outside.now c.loop-event.outside c.answer.new.desk c.answer.new.outside (Ok how) now.answered c.in_ok-going.ensures.answered);
       still = λ was_open. c.in_ok-going.ensures.closed ∙ ap is_closed c.in-On.is;
@@ -71,6 +92,15 @@ loop-event-preserved g c =
       ran = λ start sure shows.
           ran_further S G g.met.W.Outside.fewer_later (map (λ name. name.items) c.args.names.now) (names_are (λ name. name.items) c.args.names.now c.requires.unbroken) c.args.events.now c.loop-event.event-index (Begin 0 []) c.loop-event-test.true start c.args.desk.now c.loop-event.desk c.answer.new.desk c.args.outside.now c.loop-event.outside c.answer.new.outside
           (now.still (g.met.S.Supervisor.open_shown c.args.desk.now _ start shows)) now.answered.fixed (Ok how) (now.ran start sure shows) c.in_ok-going.ensures.ran (Ok 0) (λ one two bytes prints. prints_well one two bytes how 0 prints) (λ is. is);
+    }
+
+pub returns-clause-tells : goal.returns-clause-tells
+returns-clause-tells g c =
+    let S = g.S.Supervisor in
+    record {
+      count = c.loop-event.event-index;
+      tells = tells_well g.W.Outside (map (λ name. name.items) c.args.names.now) (take c.loop-event.event-index c.args.events.now) (S.order c.args.desk.now) (S.order c.loop-event.desk) c.args.outside.now c.loop-event.outside 0 going.On c.loop-event.invariant.tells;
+      all = λ goes_on. take_all c.loop-event.event-index c.args.events.now c.loop-event-test.false;
     }
 
 pub returns-clause-ran : goal.returns-clause-ran
