@@ -148,7 +148,6 @@ pub fn start_wanting(row: &Ready, regs: &[u32; 16], iar: u32) -> Option<Pending>
 }
 
 /// The value of register B.
-#[inline(always)]
 fn x_of(row: &Ready, regs: &[u32; 16]) -> u32
     ensures { result ≡ slice_index regs.now row.now.b }
 {
@@ -156,7 +155,6 @@ fn x_of(row: &Ready, regs: &[u32; 16]) -> u32
 }
 
 /// The value of register C.
-#[inline(always)]
 fn y_of(row: &Ready, regs: &[u32; 16]) -> u32
     ensures { result ≡ slice_index regs.now row.now.c }
 {

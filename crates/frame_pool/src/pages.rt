@@ -1,5 +1,5 @@
 // Which pages of a store are resident, and in which frames.
-ghost use Rattle.std.specs.Prelude.{◌≡◌, ◌+◌, ◌<◌, ◌≤◌, ◌^◌, ◌==◌, false, not, length, position, option_to_list, vec_len, vec_capacity, IfOk, None, replicate};
+ghost use Rattle.std.specs.Prelude.{◌≡◌, ◌+◌, ◌<◌, ◌≤◌, ◌^◌, ◌==◌, false, not, length, position, option_to_list, vec_len, vec_capacity, remove, slice_index_or, IfOk, None, replicate};
 ghost use Rattle.std.specs.List.{range_with_len};
 ghost use Rattle.lock_rules.specs.Sets.{has};
 ghost use Rattle.frame_pool.specs.Sound.{IsSound};
@@ -99,7 +99,7 @@ impl StorePages {
         requires { index < vec_len self.old.resident }
         ensures { places_of self.new ≡ left (places_of self.old) index (resident_at (places_of self.old) index) (frame_of_index (places_of self.old) index) }
     {
-        let page = self.resident.remove(index);
+        let page = take_out(&mut self.resident, index);
         let place = usize::from(page);
         let frame = self.frame_of[place].unwrap_or(0);
         self.frame_of[place] = None;
@@ -128,6 +128,23 @@ impl StorePages {
     {
         self.resident.iter().position(|other| *other == page)
     }
+}
+
+/// Takes the page at an index out of a list, as `remove` does. The pages behind it are few mostly, and move here one by one.
+#[inline(always)]
+fn take_out(pages: &mut Vec<u16>, index: usize) -> u16
+    requires { index < vec_len pages.old }
+    ensures value { result ≡ slice_index_or pages.old.items index result }
+    ensures items { pages.new.items ≡ remove pages.old.items index }
+    ensures len { vec_len pages.new + 1 ≡ vec_len pages.old }
+    ensures capacity { vec_capacity pages.new ≡ vec_capacity pages.old }
+{
+    let page = pages[index];
+    for place in index + 1..pages.len() {
+        pages[place - 1] = pages[place];
+    }
+    let _ = pages.pop();
+    page
 }
 
 /// The index of the first page that isn't to stay.

@@ -116,7 +116,7 @@ impl FramePool {
 
     /// Brings in a page that isn't resident. It comes last; where no frame is free, the first page that isn't to stay goes
     /// out, and its marked lines are kept. What its frame held is still there: it is to be filled.
-    #[inline]
+    #[inline(always)]
     pub fn bring(&mut self, page: u16, keep: Option<u16>) -> Slot
         requires page { page < length (pool_of self.old).frame_of }
         requires absent { has (pool_of self.old).resident page ≡ false }
@@ -131,7 +131,7 @@ impl FramePool {
     }
 
     /// The page that isn't to stay goes out, if no frame is free.
-    #[inline]
+    #[inline(always)]
     fn make_room(&mut self, keep: Option<u16>) -> Option<u16>
         ensures out { result ≡ page_out (pool_of self.old) keep }
         ensures value { pool_of self.new ≡ with_room (pool_of self.old) keep }
@@ -144,6 +144,7 @@ impl FramePool {
     }
 
     /// The page at an index of the resident ones leaves its frame.
+    #[inline(always)]
     fn leave(&mut self, index: usize) -> u16
         requires { index < length (pool_of self.old).resident }
         ensures page { result ≡ slice_index (pool_of self.old).resident index }
@@ -196,6 +197,7 @@ impl FramePool {
     }
 
     /// The marked lines of a page, as they are kept, lie over those of its frame.
+    #[inline(always)]
     pub fn lay_kept(&mut self, page: u16)
         requires { page < length (pool_of self.old).frame_of }
         ensures { pool_of self.new ≡ laid (pool_of self.old) page }

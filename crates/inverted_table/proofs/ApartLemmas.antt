@@ -1,5 +1,5 @@
 -- Lists in which no number stands twice.
-use Rattle.inverted_table.proofs.Common.{range_with_len, ◌⊎◌, arith, refl, ap, sym, ◌∙◌, inl, inr, has, distinct, size, has-filter, in_range, before_in, nat_tests, cases_Bool, ◌≡◌, ◌≢◌, ℕ, ◌<◌, ◌≤◌, ◌==◌, not, Bool, true, false, List, [], ◌∷◌, length, filter, Some, None}
+use Rattle.inverted_table.proofs.Common.{range_with_len, ◌⊎◌, arith, refl, ap, sym, ◌∙◌, inl, inr, has, distinct, size, has-filter, in_range, before_in, nat_tests, cases_Bool, ◌≡◌, ◌≢◌, ℕ, ◌<◌, ◌≤◌, ◌==◌, not, Bool, true, false, List, [], ◌∷◌, length, filter, Some, None, Option}
 use Rattle.lock_rules.proofs.Sizes.{size-part, size-range}
 
 pub equal : (n : ℕ) → (n == n) ≡ true
@@ -75,3 +75,20 @@ before-in (x ∷ y ∷ rest) frame other before = grind (arith, nat_tests, befor
 pub before-none : (x frame : ℕ) (rest : List ℕ) → has (x ∷ rest) frame ≡ true → before_in (x ∷ rest) frame ≡ None → x ≡ frame
 before-none x frame [] inside none = grind (arith, nat_tests)
 before-none x frame (y ∷ rest) inside none = grind (arith, nat_tests, before-none y frame rest)
+
+has-own : (x : ℕ) (tail : List ℕ) → has (x ∷ tail) x ≡ true
+has-own x tail = grind (arith, nat_tests)
+
+-- a list that has no number twice has none in front of its first
+pub before-first : (frame : ℕ) (rest : List ℕ) → distinct (frame ∷ rest) ≡ frame ∷ rest → before_in (frame ∷ rest) frame ≡ None
+before-first frame rest apart = by_answer (before_in (frame ∷ rest) frame) refl
+  where
+    absent : has rest frame ≡ false
+    absent = (apart-parts frame rest apart).0
+
+    by_answer : (o : Option ℕ) → before_in (frame ∷ rest) frame ≡ o → o ≡ None
+    by_answer None is = refl
+    by_answer (Some other) is = elim (before-cases frame frame other rest is) [
+      | inl next ↦ absurd (let clash : true ≡ false = sym (ap (λ (list : List ℕ). has list frame) next.1 ∙ has-own frame next.0) ∙ absent in cc)
+      | inr behind ↦ absurd (let clash : true ≡ false = sym (before-in rest frame other behind).0 ∙ absent in cc)
+    ]

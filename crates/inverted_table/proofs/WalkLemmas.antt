@@ -1,6 +1,7 @@
 -- Walks along a chain, frame by frame.
+use Rattle.std.proofs.Common.{subst}
 use Rattle.inverted_table.proofs.Common.{◌≡◌, ℕ, zero, suc, ◌+◌, ◌-◌, ◌<◌, ◌≤◌, ◌≢◌, ◌⊎◌, inl, inr, Bool, true, false, List, [], ◌∷◌, length, refl, sym, ◌∙◌, ap, arith, Some, None, Option, ◌==◌, ◌||◌, ◌&&◌, nat_eq, filter, slice_set, option_eq, get_or-set_same, get_or-set_other, eqb-true, eqb-false, has, distinct, has-filter, following, chain_from, chain_end, before_in, nat_tests}
-use Rattle.inverted_table.proofs.ApartLemmas.{equal, is_other, apart-parts, filter-absent, filter-same, filter-other, other-than, before-cases, before-in}
+use Rattle.inverted_table.proofs.ApartLemmas.{equal, is_other, apart-parts, filter-absent, filter-same, filter-other, other-than, before-cases, before-in, before-first}
 
 -- nothing follows on nothing
 pub chain-none : (next : List (Option ℕ)) (count : ℕ) → chain_from next count None ≡ []
@@ -29,6 +30,15 @@ pub ends-one :
     (next : List (Option ℕ)) (end counter frame : ℕ) (place after : Option ℕ) → place ≡ Some frame → counter < end → after ≡ following next frame
     → chain_end next (end - counter) place ≡ chain_end next (end - (counter + 1)) after
 ends-one next end counter frame place after at more is = grind (arith, nat_tests, left_one)
+
+-- nothing is in front of the frame that leads a chain
+pub before-lead :
+    (next : List (Option ℕ)) (count frame : ℕ) (first : Option ℕ) → first ≡ Some frame → distinct (chain_from next count first) ≡ chain_from next count first
+    → before_in (chain_from next count first) frame ≡ None
+before-lead next zero frame first is apart = refl
+before-lead next (suc count) frame first is apart =
+    subst (λ (o : Option ℕ). distinct (chain_from next (suc count) o) ≡ chain_from next (suc count) o → before_in (chain_from next (suc count) o) frame ≡ None) (sym is)
+    (before-first frame (chain_from next count (following next frame))) apart
 
 -- what follows on a frame along a chain that ends is behind it
 pub before-here :

@@ -1,6 +1,7 @@
 // Chains through the frames: each frame leads to the one after it.
 ghost use Rattle.std.specs.Prelude.{◌≡◌, ◌==◌, ◌<◌, find, length, None};
 ghost use Rattle.std.specs.Int.{IsPowerOfTwo};
+ghost use Rattle.lock_rules.specs.Sets.{distinct};
 ghost use Rattle.inverted_table.specs.Placed.{key_in, holds};
 ghost use Rattle.inverted_table.specs.Chains.{hash_of, following, chain_from, chain_end, before_in};
 
@@ -64,12 +65,17 @@ pub fn find_along(
     None
 }
 
-/// The frame in front of another along a chain that ends. None where the chain begins with the other, or doesn't have it.
+/// The frame in front of another along a chain that ends and has none twice. None where the chain begins with the other, or
+/// doesn't have it.
 #[inline]
 pub fn before(next: &[Option<u16>], first: Option<u16>, frame: u16) -> Option<u16>
-    requires { chain_end next.now (length next.now) first ≡ None }
+    requires ends { chain_end next.now (length next.now) first ≡ None }
+    requires apart { distinct (chain_from next.now (length next.now) first) ≡ chain_from next.now (length next.now) first }
     ensures { result ≡ before_in (chain_from next.now (length next.now) first) frame }
 {
+    if first == Some(frame) {
+        return None;
+    }
     let mut place = first;
     for _ in 0..next.len() {
         let at = place?;

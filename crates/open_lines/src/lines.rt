@@ -52,7 +52,7 @@ impl OpenLines {
 
     /// The line that is known at an address.
     #[tactic(auto, unfolding(crate::specs::Known::known))]
-    #[inline(always)]
+    #[inline]
     pub fn at(&self, address: u32) -> Option<OpenLine>
         ensures { result ≡ known self.now (address / 128) }
     {

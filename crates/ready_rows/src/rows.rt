@@ -1,4 +1,4 @@
-ghost use Rattle.std.specs.Prelude.{◌≡◌, ℕ, ◌+◌, ◌≤◌, ◌<◌, slice_index, vec_len, IfOk};
+ghost use Rattle.std.specs.Prelude.{◌≡◌, ℕ, ◌+◌, ◌≤◌, ◌<◌, option_map, slice_index, vec_len, IfOk};
 ghost use Rattle.ready_rows.specs.Tags.{is_tag_met};
 
 use flat_machine::{Doing, Ready};
@@ -45,12 +45,12 @@ impl ReadyRows {
     /// The row that is known at an address.
     #[tactic(auto, unfolding(crate::specs::Known::known))]
     #[inline(always)]
-    pub fn at(&self, address: u32) -> Option<Ready>
-        ensures { result ≡ known self.now address }
+    pub fn at(&self, address: u32) -> Option<&Ready>
+        ensures { option_map (λ row. row.now) result ≡ known self.now address }
     {
         let place = (address / 2 % 512) as usize;
         if usize::from(self.tags[place]) == address as usize + 1 {
-            Some(self.rows[place])
+            Some(&self.rows[place])
         } else {
             None
         }

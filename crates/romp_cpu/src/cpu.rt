@@ -1,16 +1,17 @@
 ghost use Rattle.std.specs.Prelude.{◌≡◌, ◌<◌};
 ghost use Rattle.std.specs.Option.{ForSome};
-ghost use Rattle.flat_machine.specs.Access.{IsAccess};
+ghost use Rattle.flat_machine.specs.Access.{FitsFrom, IsAccess};
 ghost use Rattle.flat_machine.specs.Pending.{planned, IsSoundPending};
-ghost use Rattle.flat_machine.specs.Ready.{IsReadyAt};
+ghost use Rattle.flat_machine.specs.Plans.{Does};
+ghost use Rattle.flat_machine.specs.declared.machine.Act.{Act};
 ghost use Rattle.flat_machine.specs.Row.{plan};
 ghost use Rattle.romp_cpu.specs.Shown.{halfword_of};
 ghost use Rattle.romp_cpu.specs.Answers.{answer_in};
-ghost use Rattle.romp_cpu.specs.Tried.{linked, seen_in, tried, tried_act};
+ghost use Rattle.romp_cpu.specs.Tried.{linked, seen_in, tried, tried_act, IsDoneIf};
 ghost use Rattle.romp_cpu.specs.Attempts.{GivesEveryRow, UndoesUnlessWent, IsOfFewBytes, StoresAll};
 
 use super::storage::{Access, Fault, Probe, Storage};
-use flat_machine::{Act, Cs, Fetch, Pending, Ready, do_alone, start_row, start_wanting};
+use flat_machine::{Act, Cs, Fetch, Pending, do_alone, start_row, start_wanting};
 
 /// A processor: sixteen registers, the condition status, the address of the next instruction, and how many bytes were
 /// printed.
@@ -76,35 +77,145 @@ impl Cpu {
         ensures few { IsOfFewBytes result }
         ensures whole { StoresAll (plan (halfword_of (S.byte_at (S.state storage.old))) self.old.regs self.old.cs self.old.iar) }
     {
-        match storage.ready(self.iar) {
-            Some(row) => match do_alone(&row, &mut self.regs, &mut self.cs, self.iar) {
-                Some(next) => {
-                    self.iar = next;
-                    Attempt::Went
-                }
-                None => self.carry_out_wanting(storage, &row),
-            },
-            None => {
-                let attempt = self.carry_out_anew(storage);
-                attempt
+        if let Some(row) = storage.ready(self.iar) {
+            if let Some(next) = do_alone(row, &mut self.regs, &mut self.cs, self.iar) {
+                self.iar = next;
+                return Attempt::Went;
             }
+            if let Some(Pending::Does { act, next, link }) = start_wanting(
+                row, &self.regs, self.iar,
+            ) {
+                if self.act_at_once(storage, act, next, link) {
+                    return Attempt::Went;
+                }
+                match (act, link) {
+                    (
+                        Act::Load {
+                            address,
+                            bytes,
+                            to,
+                            sign,
+                        },
+                        None,
+                    ) => return self.load(storage, address, bytes, to, sign, next, None),
+                    (
+                        Act::Store {
+                            address,
+                            bytes,
+                            from,
+                        },
+                        None,
+                    ) => return self.store(storage, address, bytes, from, next, None),
+                    _ => {}
+                }
+            }
+        }
+        self.carry_out_anew(storage)
+    }
+
+    /// What is left of an instruction, where it is known at once that its access is permitted. Else nothing changes.
+    #[inline(always)]
+    fn act_at_once<S: Storage>(
+        &mut self,
+        storage: &mut S,
+        act: Act,
+        next: u32,
+        link: Option<(u8, u32)>,
+    ) -> bool
+        requires access { IsAccess act }
+        requires link { ForSome link (λ written. written.0 < 16) }
+        ensures { IsDoneIf result (seen_in S.byte_at (answer_in S.registers S.is_in_frame S.refuses) S.stored (S.state storage.old)) self.old (Does self.old.regs self.old.cs act next link) self.new (S.state storage.new) }
+    {
+        let did = match act {
+            Act::Nothing => true,
+            Act::Load {
+                address,
+                bytes,
+                to,
+                sign,
+            } => {
+                let access = Access {
+                    address,
+                    bytes,
+                    store: false,
+                };
+                storage.read_known(&access, to, sign, &mut self.regs)
+            }
+            Act::Store {
+                address,
+                bytes,
+                from,
+            } => {
+                let access = Access {
+                    address,
+                    bytes,
+                    store: true,
+                };
+                storage.write_known(&access, from, &self.regs)
+            }
+            _ => false,
+        };
+        if did {
+            let _ = self.go_on(next, link);
+        }
+        did
+    }
+
+    /// A load, as far as the storage permits. It is told in numbers, so that none of them lies in memory for a row that goes on
+    /// at once.
+    #[inline(never)]
+    fn load<S: Storage>(
+        &mut self,
+        storage: &mut S,
+        address: u32,
+        bytes: u8,
+        to: u8,
+        sign: bool,
+        next: u32,
+        link: Option<(u8, u32)>,
+    ) -> Attempt
+        requires fits { FitsFrom bytes to }
+        requires link { ForSome link (λ written. written.0 < 16) }
+        ensures tried { record { attempt = result; cpu = self.new; state = S.state storage.new } ≡ tried_act (seen_in S.byte_at (answer_in S.registers S.is_in_frame S.refuses) S.stored (S.state storage.old)) self.old (Act.Load address bytes to sign) self.old.regs self.old.cs next link }
+        ensures few { IsOfFewBytes result }
+    {
+        let access = Access {
+            address,
+            bytes,
+            store: false,
+        };
+        match storage.read(&access, to, sign, &mut self.regs) {
+            Probe::Permitted => self.go_on(next, link),
+            Probe::Check(code) => Attempt::Check(code),
+            Probe::Fault(fault) => Attempt::Fault(fault, access),
         }
     }
 
-    /// The same of a row made ready that wants something beside registers and status, or leaves a link.
-    #[inline(always)]
-    fn carry_out_wanting<S: Storage>(&mut self, storage: &mut S, row: &Ready) -> Attempt
-        requires { IsReadyAt row.now (halfword_of (S.byte_at (S.state storage.old))) self.old.iar }
-        ensures tried { record { attempt = result; cpu = self.new; state = S.state storage.new } ≡ tried (seen_in S.byte_at (answer_in S.registers S.is_in_frame S.refuses) S.stored (S.state storage.old)) self.old (plan (halfword_of (S.byte_at (S.state storage.old))) self.old.regs self.old.cs self.old.iar) }
+    /// A store, as far as the storage permits, told in numbers too.
+    #[inline(never)]
+    fn store<S: Storage>(
+        &mut self,
+        storage: &mut S,
+        address: u32,
+        bytes: u8,
+        from: u8,
+        next: u32,
+        link: Option<(u8, u32)>,
+    ) -> Attempt
+        requires fits { FitsFrom bytes from }
+        requires link { ForSome link (λ written. written.0 < 16) }
+        ensures tried { record { attempt = result; cpu = self.new; state = S.state storage.new } ≡ tried_act (seen_in S.byte_at (answer_in S.registers S.is_in_frame S.refuses) S.stored (S.state storage.old)) self.old (Act.Store address bytes from) self.old.regs self.old.cs next link }
         ensures few { IsOfFewBytes result }
-        ensures whole { StoresAll (plan (halfword_of (S.byte_at (S.state storage.old))) self.old.regs self.old.cs self.old.iar) }
     {
-        match start_wanting(row, &self.regs, self.iar) {
-            Some(pending) => self.finish(storage, pending),
-            None => {
-                let attempt = self.carry_out_anew(storage);
-                attempt
-            }
+        let access = Access {
+            address,
+            bytes,
+            store: true,
+        };
+        match storage.write(&access, from, &self.regs) {
+            Probe::Permitted => self.go_on(next, link),
+            Probe::Check(number) => Attempt::Check(number),
+            Probe::Fault(why) => Attempt::Fault(why, access),
         }
     }
 
@@ -164,34 +275,12 @@ impl Cpu {
                 bytes,
                 to,
                 sign,
-            } => {
-                let access = Access {
-                    address,
-                    bytes,
-                    store: false,
-                };
-                match storage.read(&access, to, sign, &mut self.regs) {
-                    Probe::Permitted => self.go_on(next, link),
-                    Probe::Check(code) => Attempt::Check(code),
-                    Probe::Fault(fault) => Attempt::Fault(fault, access),
-                }
-            }
+            } => self.load(storage, address, bytes, to, sign, next, link),
             Act::Store {
                 address,
                 bytes,
                 from,
-            } => {
-                let access = Access {
-                    address,
-                    bytes,
-                    store: true,
-                };
-                match storage.write(&access, from, &self.regs) {
-                    Probe::Permitted => self.go_on(next, link),
-                    Probe::Check(number) => Attempt::Check(number),
-                    Probe::Fault(why) => Attempt::Fault(why, access),
-                }
-            }
+            } => self.store(storage, address, bytes, from, next, link),
             Act::Print(byte) => {
                 if self.printed >= 4096 {
                     return Attempt::Check(5);

@@ -1,4 +1,4 @@
-ghost use Rattle.std.specs.Prelude.{◌≡◌, ℕ, Bool, true, false, List, Option, IfSome, length};
+ghost use Rattle.std.specs.Prelude.{◌≡◌, if◌then◌else◌, ℕ, Bool, true, false, List, Option, IfSome, length};
 ghost use Rattle.flat_machine.specs.Access.{FitsFrom};
 ghost use Rattle.flat_machine.specs.Effect.{filled};
 ghost use Rattle.flat_machine.specs.Ready.{IsReadyAt};
@@ -67,8 +67,8 @@ pub trait Storage {
         ensures { result ≡ halfword_of (byte_at (state self.now)) address };
 
     /// The row made ready at an address, if one is known there.
-    fn ready(&self, address: u32) -> Option<Ready>
-        ensures { IfSome result (λ row. IsReadyAt row (halfword_of (byte_at (state self.now))) address) }
+    fn ready(&self, address: u32) -> Option<&Ready>
+        ensures { IfSome result (λ row. IsReadyAt row.now (halfword_of (byte_at (state self.now))) address) }
     {
         None
     }
@@ -114,6 +114,26 @@ pub trait Storage {
             fill(to, sign, part, regs);
         }
         probe
+    }
+
+    /// Does what `read` does, where it is known at once that the access is permitted. Else it does nothing.
+    fn read_known(&self, wants: &Access, to: u8, sign: bool, regs: &mut [u32; 16]) -> bool
+        requires loads { wants.now.store ≡ false }
+        requires fits { FitsFrom wants.now.bytes to }
+        ensures permitted { result ≡ true → answer_in registers is_in_frame refuses (state self.now) wants.now ≡ Probe.Permitted }
+        ensures registers { regs.new ≡ (if result then filled to sign (bytes_from (byte_at (state self.now)) wants.now.address wants.now.bytes) regs.old else regs.old) }
+    {
+        false
+    }
+
+    /// Does what `write` does, where it is known at once that the access is permitted. Else it does nothing.
+    fn write_known(&mut self, wants: &Access, from: u8, regs: &[u32; 16]) -> bool
+        requires stores { wants.now.store ≡ true }
+        requires fits { FitsFrom wants.now.bytes from }
+        ensures permitted { result ≡ true → answer_in registers is_in_frame refuses (state self.old) wants.now ≡ Probe.Permitted }
+        ensures state { state self.new ≡ (if result then stored (state self.old) wants.now.address (stored_bytes regs.now wants.now.bytes from) else state self.old) }
+    {
+        false
     }
 
     /// Stores the bytes of registers from one upwards, as `store` does, if `probe` permits the access.

@@ -1,5 +1,5 @@
 -- The rows that a unit knows stay ready where none of their bytes changes.
-use Rattle.storage_unit.proofs.Common.{◌≡◌, ℕ, ◌+◌, ◌-◌, ◌*◌, ◌/◌, ◌%◌, ◌<◌, ◌≤◌, ◌⊎◌, ◌==◌, Bool, true, false, List, length, refl, sym, ◌∙◌, ap, subst, arith, inl, inr, Option, Some, None, IfSome, cond, nat_le, if◌then◌else◌, slice_index, nat_tests, page_bytes, bytes_from, halfword_of, Located, Private, Shared, Refused, Virtual, Reach, is_private, offset_of, place_at, place_of, seat_of, byte_of, byte_at, put_at, put_in_store, IsSound, Lies, eqb-true, leb-true, big_number, ReadyRows, AreReady, after_store, private_byte, private_half}
+use Rattle.storage_unit.proofs.Common.{◌≡◌, ℕ, ◌+◌, ◌-◌, ◌*◌, ◌/◌, ◌%◌, ◌<◌, ◌≤◌, ◌⊎◌, ◌==◌, Bool, true, false, List, length, refl, sym, ◌∙◌, ap, subst, arith, inl, inr, Option, Some, None, IfSome, cond, option_map, nat_le, if◌then◌else◌, slice_index, nat_tests, page_bytes, bytes_from, halfword_of, Located, Private, Shared, Refused, Virtual, Reach, is_private, offset_of, place_at, place_of, seat_of, byte_of, byte_at, put_at, put_in_store, IsSound, Lies, eqb-true, leb-true, big_number, ReadyRows, AreReady, after_store, private_byte, private_half}
 use Rattle.flat_machine.specs.declared.ready.Ready.{Ready}
 use Rattle.flat_machine.specs.Ready.{has_second, IsRowOf, IsReadyAt}
 use Rattle.ready_rows.specs.Known.{known, KnowsNothing, is_met, unless_met, with_row, place_of as row_place}
@@ -178,6 +178,11 @@ is-ready state sound rows ready address (Some row) is =
       at_second = λ long. own-half state sound (address + 2) some (omega (arith, fits));
       of_row = ready.of_row address row (sym is);
     }
+
+-- what holds of the value of a loan holds of the loan
+pub is-lent : {R : Type 0} (lent : Option R) (now : R → Ready) (P : Ready → Type 0) → IfSome (option_map now lent) P → IfSome lent (λ row. P (now row))
+is-lent None now P holds = tt
+is-lent (Some row) now P holds = holds
 
 -- a row that is made of the halfwords that are shown is one of private ones
 pub row-found :

@@ -1,5 +1,5 @@
 -- What an access does that is probed and made in one go.
-use Rattle.std.specs.Prelude.{◌≡◌, ℕ, Bool, List}
+use Rattle.std.specs.Prelude.{◌≡◌, ℕ, Bool, true, if◌then◌else◌, List}
 use Rattle.flat_machine.specs.Effect.{filled}
 use Rattle.flat_machine.specs.Row.{stored_bytes}
 use Rattle.romp_cpu.specs.Answers.{answer_in, if_permitted}
@@ -19,3 +19,13 @@ pub record IsRead (old new : Reach) (wants : Access) (to : ℕ) (sign : Bool) (r
 pub record IsWritten (old new : Reach) (wants : Access) (from : ℕ) (registers : List ℕ) (told : Probe) : Type 0 where
   pub answer : told ≡ answer_in (λ state. state.registers) is_in_frame refuses old wants
   pub state : new ≡ if_permitted told (stored old wants.address (stored_bytes registers wants.bytes from)) old
+
+-- registers are filled with bytes, which may be accessed, where that is answered; else they stay
+pub record IsReadIf (did : Bool) (state : Reach) (wants : Access) (to : ℕ) (sign : Bool) (registers after : List ℕ) : Type 0 where
+  pub permitted : did ≡ true → answer_in (λ s. s.registers) is_in_frame refuses state wants ≡ Probe.Permitted
+  pub filled : after ≡ (if did then filled to sign (bytes_from (byte_at state) wants.address wants.bytes) registers else registers)
+
+-- the bytes of registers are stored, which may be accessed, where that is answered; else all stays
+pub record IsWrittenIf (did : Bool) (old new : Reach) (wants : Access) (from : ℕ) (registers : List ℕ) : Type 0 where
+  pub permitted : did ≡ true → answer_in (λ s. s.registers) is_in_frame refuses old wants ≡ Probe.Permitted
+  pub state : new ≡ (if did then stored old wants.address (stored_bytes registers wants.bytes from) else old)

@@ -26,7 +26,7 @@ impl Unit {
 
     /// Brings in a page that isn't resident, as the pool does. What its frame held is still there: it is to be filled, and
     /// then its kept lines laid over it.
-    #[inline]
+    #[inline(always)]
     pub(crate) fn bring(&mut self, page: u16, keep: Option<u16>) -> Slot
         requires page { page < page_count (reach_of self.old).directory }
         requires absent { has (reach_of self.old).pool.resident page ≡ false }
@@ -45,6 +45,7 @@ impl Unit {
         let slot = self.pool.bring(page, keep);
         let key = key_among(self.directory.segments(), page);
         self.table.enter(slot.frame, key.segment, key.page);
+        self.buffer.remember(key.segment, key.page, slot.frame);
         slot
     }
 

@@ -6,7 +6,7 @@ ghost use Rattle.line_geometry.specs.Segments.{page_bytes, line_bytes};
 ghost use Rattle.line_geometry.specs.Directory.{byte_count, start_of};
 ghost use Rattle.line_geometry.specs.Lines.{line_of};
 ghost use Rattle.romp_cpu.specs.Answers.{answer_in, answered_at, answer_of, if_permitted, IsRefusal};
-ghost use Rattle.romp_cpu.specs.Shown.{bytes_from};
+ghost use Rattle.romp_cpu.specs.Shown.{access_to, bytes_from};
 ghost use Rattle.flat_machine.specs.Ready.{IsRowOf};
 ghost use Rattle.storage_unit.specs.ReadyRows.{private_half};
 ghost use Rattle.flat_machine.specs.Access.{FitsFrom};
@@ -20,7 +20,7 @@ ghost use Rattle.storage_unit.specs.Reach.{is_there, is_kept_from, is_in_frame, 
 ghost use Rattle.storage_unit.specs.Rows.{tried_over, GivesRows, ChangesBytes, StaysClean, LeavesSeats};
 ghost use Rattle.storage_unit.specs.Reached.{Lies, AreThere, bytes_shown, is_absent};
 ghost use Rattle.storage_unit.specs.Held.{table_of};
-ghost use Rattle.storage_unit.specs.Accesses.{IsRead, IsWritten};
+ghost use Rattle.storage_unit.specs.Accesses.{IsRead, IsReadIf, IsWritten, IsWrittenIf};
 ghost use Rattle.storage_unit.specs.OpenLines.{is_marked_at, IsOpenAt, IsOpenFrom};
 ghost use Rattle.inverted_table.specs.Keys.{key_of};
 ghost use Rattle.inverted_table.specs.Placed.{look_up};
@@ -39,6 +39,7 @@ use romp_cpu::{Access, Attempt, Cpu, Fault, Probe, Storage};
 use segment_regs::{Check, Virtual};
 
 impl Unit {
+    ghost use Rattle.storage_unit.specs.Reach.{byte_at, stored};
     ghost use Rattle.storage_unit.specs.View.{reach_of};
 
     /// The byte so many past another in its segment.
@@ -262,7 +263,7 @@ impl Unit {
 
     /// The lines of an access that may be made are known from now on, of the one or two blocks of 128 addresses in which it
     /// lies.
-    #[inline]
+    #[inline(always)]
     fn keep_line(&mut self, wants: &Access, first: Virtual, frame: u16)
         requires some { 0 < wants.now.bytes }
         requires open { IsOpenAt (reach_of self.old) wants.now first frame }
@@ -484,33 +485,25 @@ impl Unit {
 
     /// Fills registers with the bytes of an access from where a line that is known has them.
     #[inline(always)]
-    fn fill_from(
-        &self,
-        line: OpenLine,
-        wants: &Access,
-        to: u8,
-        sign: bool,
-        regs: &mut [u32; 16],
-    ) -> Probe
+    fn fill_from(&self, line: OpenLine, wants: &Access, to: u8, sign: bool, regs: &mut [u32; 16])
         requires fits { FitsFrom wants.now.bytes to }
         requires open { IsOpenFrom (reach_of self.now) wants.now line }
-        ensures { IsRead (reach_of self.now) (reach_of self.now) wants.now to sign regs.old regs.new result }
+        ensures { regs.new ≡ filled to sign (bytes_from (byte_at (reach_of self.now)) wants.now.address wants.now.bytes) regs.old }
     {
         let part = self
             .pool
             .spot_part(line.spot as usize, usize::from(wants.bytes));
         fill(to, sign, part, regs);
-        Probe::Permitted
     }
 
     /// Writes the bytes of registers over those of a line that is known, which are marked.
     #[inline(always)]
-    fn gather_over(&mut self, line: OpenLine, wants: &Access, from: u8, regs: &[u32; 16]) -> Probe
+    fn gather_over(&mut self, line: OpenLine, wants: &Access, from: u8, regs: &[u32; 16])
         requires stores { wants.now.store ≡ true }
         requires fits { FitsFrom wants.now.bytes from }
         requires lies { Lies (reach_of self.old) line.first wants.now.bytes }
         requires open { IsOpenFrom (reach_of self.old) wants.now line }
-        ensures { IsWritten (reach_of self.old) (reach_of self.new) wants.now from regs.now result }
+        ensures { reach_of self.new ≡ stored (reach_of self.old) wants.now.address (stored_bytes regs.now wants.now.bytes from) }
     {
         let page = self.directory.page();
         let count = u32::from(wants.bytes);
@@ -522,7 +515,6 @@ impl Unit {
             self.pool
                 .spot_mut(line.spot as usize, usize::from(wants.bytes)),
         );
-        Probe::Permitted
     }
 
     /// The frame of an access that begins at a byte and lies in one page, or why it can't be made now. Where it may be made, its
@@ -638,7 +630,7 @@ impl Storage for Unit {
     }
 
     #[inline(always)]
-    fn ready(&self, address: u32) -> Option<Ready> {
+    fn ready(&self, address: u32) -> Option<&Ready> {
         self.rows.at(address)
     }
 
@@ -663,18 +655,32 @@ impl Storage for Unit {
 
     #[inline(always)]
     fn read(&mut self, wants: &Access, to: u8, sign: bool, regs: &mut [u32; 16]) -> Probe {
-        if let Some(line) = self.known_line(wants) {
-            return self.fill_from(line, wants, to, sign, regs);
+        self.read_any(wants, to, sign, regs)
+    }
+
+    #[inline(always)]
+    fn read_known(&self, wants: &Access, to: u8, sign: bool, regs: &mut [u32; 16]) -> bool {
+        match wants.bytes {
+            1 => self.fill_known(wants, 1, to, sign, regs),
+            2 => self.fill_known(wants, 2, to, sign, regs),
+            4 => self.fill_known(wants, 4, to, sign, regs),
+            _ => self.fill_far(wants, to, sign, regs),
         }
-        self.read_far(*wants, to, sign, regs)
+    }
+
+    #[inline(always)]
+    fn write_known(&mut self, wants: &Access, from: u8, regs: &[u32; 16]) -> bool {
+        match wants.bytes {
+            1 => self.gather_known(wants, 1, from, regs),
+            2 => self.gather_known(wants, 2, from, regs),
+            4 => self.gather_known(wants, 4, from, regs),
+            _ => self.gather_far(wants, from, regs),
+        }
     }
 
     #[inline(always)]
     fn write(&mut self, wants: &Access, from: u8, regs: &[u32; 16]) -> Probe {
-        if let Some(line) = self.known_line(wants) {
-            return self.gather_over(line, wants, from, regs);
-        }
-        self.write_far(*wants, from, regs)
+        self.write_any(wants, from, regs)
     }
 
     #[inline(always)]
@@ -702,6 +708,159 @@ impl Unit {
     ghost use Rattle.storage_unit.specs.Reach.{byte_at, stored};
     ghost use Rattle.storage_unit.specs.View.{reach_of};
 
+    /// Fills registers with the bytes of an access, so many, if they lie in a line that is known.
+    #[inline(always)]
+    fn fill_known(
+        &self,
+        wants: &Access,
+        bytes: u8,
+        to: u8,
+        sign: bool,
+        regs: &mut [u32; 16],
+    ) -> bool
+        requires loads { wants.now.store ≡ false }
+        requires many { bytes ≡ wants.now.bytes }
+        requires fits { FitsFrom bytes to }
+        ensures { IsReadIf result (reach_of self.now) wants.now to sign regs.old regs.new }
+    {
+        let exact = Access {
+            address: wants.address,
+            bytes,
+            store: false,
+        };
+        let line = self.known_line(&exact);
+        self.fill_if(line, &exact, to, sign, regs)
+    }
+
+    /// Writes the bytes of registers over those of an access, so many, if they lie in a line that is known to be stored.
+    #[inline(always)]
+    fn gather_known(&mut self, wants: &Access, bytes: u8, from: u8, regs: &[u32; 16]) -> bool
+        requires stores { wants.now.store ≡ true }
+        requires many { bytes ≡ wants.now.bytes }
+        requires fits { FitsFrom bytes from }
+        ensures { IsWrittenIf result (reach_of self.old) (reach_of self.new) wants.now from regs.now }
+    {
+        let exact = Access {
+            address: wants.address,
+            bytes,
+            store: true,
+        };
+        let line = self.known_line(&exact);
+        self.gather_if(line, &exact, from, regs)
+    }
+
+    /// Fills registers with the bytes of an access, if they lie in one or two lines that are known, by a call.
+    #[inline(always)]
+    fn fill_far(&self, wants: &Access, to: u8, sign: bool, regs: &mut [u32; 16]) -> bool
+        requires loads { wants.now.store ≡ false }
+        requires fits { FitsFrom wants.now.bytes to }
+        ensures { IsReadIf result (reach_of self.now) wants.now to sign regs.old regs.new }
+    {
+        self.fill_words(wants.address, wants.bytes, to, sign, regs)
+    }
+
+    /// Writes the bytes of registers over those of an access, if they lie in one or two lines that are known to be stored, by a
+    /// call.
+    #[inline(always)]
+    fn gather_far(&mut self, wants: &Access, from: u8, regs: &[u32; 16]) -> bool
+        requires stores { wants.now.store ≡ true }
+        requires fits { FitsFrom wants.now.bytes from }
+        ensures { IsWrittenIf result (reach_of self.old) (reach_of self.new) wants.now from regs.now }
+    {
+        self.gather_words(wants.address, wants.bytes, from, regs)
+    }
+
+    /// Fills registers with so many bytes from an address on, if they lie in one or two lines that are known.
+    #[inline(never)]
+    fn fill_words(&self, address: u32, bytes: u8, to: u8, sign: bool, regs: &mut [u32; 16]) -> bool
+        requires fits { FitsFrom bytes to }
+        ensures { IsReadIf result (reach_of self.now) (access_to address bytes false) to sign regs.old regs.new }
+    {
+        let wants = Access {
+            address,
+            bytes,
+            store: false,
+        };
+        let line = self.known_lines(&wants);
+        self.fill_if(line, &wants, to, sign, regs)
+    }
+
+    /// Writes the bytes of registers over so many from an address on, if they lie in one or two lines that are known to be
+    /// stored.
+    #[inline(never)]
+    fn gather_words(&mut self, address: u32, bytes: u8, from: u8, regs: &[u32; 16]) -> bool
+        requires fits { FitsFrom bytes from }
+        ensures { IsWrittenIf result (reach_of self.old) (reach_of self.new) (access_to address bytes true) from regs.now }
+    {
+        let wants = Access {
+            address,
+            bytes,
+            store: true,
+        };
+        let line = self.known_lines(&wants);
+        self.gather_if(line, &wants, from, regs)
+    }
+
+    /// The known line of an access from where that begins, or its known lines.
+    #[inline(always)]
+    fn known_lines(&self, wants: &Access) -> Option<OpenLine>
+        requires some { 0 < wants.now.bytes }
+        requires few { wants.now.bytes ≤ 64 }
+        ensures { IfSome result (IsOpenFrom (reach_of self.now) wants.now) }
+    {
+        let line = self.known_line(wants);
+        if line.is_some() {
+            return line;
+        }
+        self.known_pair(wants)
+    }
+
+    /// Fills registers with the bytes of an access from where a line has them, if one is given.
+    #[inline(always)]
+    fn fill_if(
+        &self,
+        line: Option<OpenLine>,
+        wants: &Access,
+        to: u8,
+        sign: bool,
+        regs: &mut [u32; 16],
+    ) -> bool
+        requires fits { FitsFrom wants.now.bytes to }
+        requires open { IfSome line (IsOpenFrom (reach_of self.now) wants.now) }
+        ensures { IsReadIf result (reach_of self.now) wants.now to sign regs.old regs.new }
+    {
+        match line {
+            None => false,
+            Some(line) => {
+                self.fill_from(line, wants, to, sign, regs);
+                true
+            }
+        }
+    }
+
+    /// Writes the bytes of registers over those of an access in a line, if one is given.
+    #[inline(always)]
+    fn gather_if(
+        &mut self,
+        line: Option<OpenLine>,
+        wants: &Access,
+        from: u8,
+        regs: &[u32; 16],
+    ) -> bool
+        requires stores { wants.now.store ≡ true }
+        requires fits { FitsFrom wants.now.bytes from }
+        requires open { IfSome line (IsOpenFrom (reach_of self.old) wants.now) }
+        ensures { IsWrittenIf result (reach_of self.old) (reach_of self.new) wants.now from regs.now }
+    {
+        match line {
+            None => false,
+            Some(line) => {
+                self.gather_over(line, wants, from, regs);
+                true
+            }
+        }
+    }
+
     /// The row at an address made ready, if it is one that can be. A row of the last halfword alone isn't.
     fn row_at(&self, address: u32) -> Option<Ready>
         requires { 1 ≤ (reach_of self.now).runner }
@@ -713,38 +872,13 @@ impl Unit {
         ready_of(first, second, address)
     }
 
-    /// Fills registers with bytes, as they are probed and loaded, by a call.
-    #[inline(always)]
-    fn read_far(&mut self, wants: Access, to: u8, sign: bool, regs: &mut [u32; 16]) -> Probe
-        requires loads { wants.store ≡ false }
-        requires fits { FitsFrom wants.bytes to }
-        ensures { IsRead (reach_of self.old) (reach_of self.new) wants to sign regs.old regs.new result }
-    {
-        let probe = self.read_any(&wants, to, sign, regs);
-        probe
-    }
-
-    /// Writes the bytes of registers, as they are probed and stored, by a call.
-    #[inline(always)]
-    fn write_far(&mut self, wants: Access, from: u8, regs: &[u32; 16]) -> Probe
-        requires stores { wants.store ≡ true }
-        requires fits { FitsFrom wants.bytes from }
-        ensures { IsWritten (reach_of self.old) (reach_of self.new) wants from regs.now result }
-    {
-        let probe = self.write_any(&wants, from, regs);
-        probe
-    }
-
     /// Fills registers with bytes, as they are probed and loaded.
-    #[inline(never)]
+    #[inline(always)]
     fn read_any(&mut self, wants: &Access, to: u8, sign: bool, regs: &mut [u32; 16]) -> Probe
         requires loads { wants.now.store ≡ false }
         requires fits { FitsFrom wants.now.bytes to }
         ensures { IsRead (reach_of self.old) (reach_of self.new) wants.now to sign regs.old regs.new result }
     {
-        if let Some(line) = self.known_pair(wants) {
-            return self.fill_from(line, wants, to, sign, regs);
-        }
         let bytes = u32::from(wants.bytes);
         match self.registers.locate(wants.address, bytes, wants.store) {
             Err(Check(code)) => Probe::Check(code),
@@ -758,15 +892,12 @@ impl Unit {
     }
 
     /// Writes the bytes of registers, as they are probed and stored.
-    #[inline(never)]
+    #[inline(always)]
     fn write_any(&mut self, wants: &Access, from: u8, regs: &[u32; 16]) -> Probe
         requires stores { wants.now.store ≡ true }
         requires fits { FitsFrom wants.now.bytes from }
         ensures { IsWritten (reach_of self.old) (reach_of self.new) wants.now from regs.now result }
     {
-        if let Some(line) = self.known_pair(wants) {
-            return self.gather_over(line, wants, from, regs);
-        }
         let bytes = u32::from(wants.bytes);
         match self.registers.locate(wants.address, bytes, wants.store) {
             Err(Check(code)) => Probe::Check(code),

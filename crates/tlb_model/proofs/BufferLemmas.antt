@@ -84,6 +84,16 @@ remembered-of classes keys wanted pair all is =
       class-all (λ p. look_up keys (page_of p) ≡ Some p.frame) classes (class_of wanted) all,
     )
 
+-- of a page that the table lacks the buffer has no pair
+pub unremembered :
+    (classes : List (List Pair)) (keys : List (Option Key)) (wanted : Key) → IsOfTable classes keys → look_up keys wanted ≡ None
+    → find (is_pair_of wanted) (pairs_in classes (class_of wanted)) ≡ None
+unremembered classes keys wanted all none = by_pair (find (is_pair_of wanted) (pairs_in classes (class_of wanted))) refl
+  where
+    by_pair : (o : Option Pair) → find (is_pair_of wanted) (pairs_in classes (class_of wanted)) ≡ o → o ≡ None
+    by_pair None is = refl
+    by_pair (Some pair) is = absurd (let clash : None ≡ Some pair.frame = sym none ∙ remembered-of classes keys wanted pair all is in cc)
+
 -- the pairs of a class with a new one: what holds of all before and of the new one holds of all
 newest-all : (P : Pair → Type 0) (pairs : List Pair) (pair : Pair) → All P pairs → P pair → All P (with_newest pairs pair)
 newest-all P pairs pair all new = by_test (length pairs == 2)

@@ -154,14 +154,23 @@ impl Tlb {
             byte: 0,
         };
         let frame = table.find(at)?;
-        let class = (at.page % 16) as usize;
-        let ways = &mut self.classes[class];
+        self.remember(segment, page, frame);
+        Some(frame)
+    }
+
+    /// The pair of a page of which the buffer has none comes in, as where the table answers with its frame.
+    #[inline(always)]
+    pub fn remember(&mut self, segment: u16, page: u32, frame: u16)
+        requires { find (is_pair_of (key_to segment page)) (pairs_in self.old (class_of (key_to segment page))) ≡ None }
+        ensures { self.new ≡ after_found self.old (Some frame) (key_to segment page) }
+    {
+        let place = (page % 16) as usize;
+        let ways = &mut self.classes[place];
         ways.add(Pair {
-            segment: at.segment,
-            page: at.page,
+            segment,
+            page,
             frame,
         });
-        Some(frame)
     }
 
     /// The pairs of a frame go, and no others.

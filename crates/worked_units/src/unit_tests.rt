@@ -116,9 +116,8 @@ fn asks_the_buffer(rt: &impl Abort, alloc: Global, page: PageSize) -> Result<(),
     assert!(rt; pairs(&unit) == (None, None));
     let first = LineSet::from_bits(1);
     let frame = bring(rt, &mut unit, 0, first, LineSet::none());
-    assert!(rt; pairs(&unit) == (None, None));
-    assert!(rt; unit.probe(&word(0, false)) == Probe::Permitted);
     assert!(rt; pairs(&unit) == (Some((1, 0, frame)), None));
+    assert!(rt; unit.probe(&word(0, false)) == Probe::Permitted);
     assert!(rt; unit.probe(&word(0, true)) == Probe::Fault(Fault::Lock(at(0, 0))));
     let line = page.line_bytes();
     let refused = Probe::Fault(Fault::Lock(at(0, line)));

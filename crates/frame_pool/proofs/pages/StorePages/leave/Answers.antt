@@ -12,15 +12,15 @@ index_mut-requires-2 c = grind (arith, nat_tests, leaves, read_frame)
 
 pub invariant_of-self-clause-sound : goal.invariant_of-self-clause-sound
 invariant_of-self-clause-sound c =
-    let facts : Leaves c.args.self.now c.args.index c.remove-page.result = leaves c.args.self.now c.args.index c.remove-page.result c.requires c.remove-page.ensures.value in
-    let frame : c.from.result ≡ unwrap_or (place_of (places_of c.args.self.now) c.remove-page.result) 0 = c.from.ensures ∙ read_frame c.args.self.now c.from-place.result c.remove-page.result c.unwrap_or-frame.result c.index.result.now c.from-place.ensures facts.inside c.index.ensures c.unwrap_or-frame.ensures in
-    let free : c.push.new.self.items ≡ c.args.self.now.free.items ++ unwrap_or (place_of (places_of c.args.self.now) c.remove-page.result) 0 ∷ [] =
+    let facts : Leaves c.args.self.now c.args.index c.take_out-page.result = leaves c.args.self.now c.args.index c.take_out-page.result c.requires c.take_out-page.ensures.value in
+    let frame : c.from.result ≡ unwrap_or (place_of (places_of c.args.self.now) c.take_out-page.result) 0 = c.from.ensures ∙ read_frame c.args.self.now c.from-place.result c.take_out-page.result c.unwrap_or-frame.result c.index.result.now c.from-place.ensures facts.inside c.index.ensures c.unwrap_or-frame.ensures in
+    let free : c.push.new.self.items ≡ c.args.self.now.free.items ++ unwrap_or (place_of (places_of c.args.self.now) c.take_out-page.result) 0 ∷ [] =
     pushed _ _ c.push.result c.push.new.self.items c.args.self.now.free.items c.unwrap_or-frame.result c.push.ensures.items (c.push.ensures.succeeds facts.free)
     ∙ ap (λ (x : ℕ). c.args.self.now.free.items ++ x ∷ []) (sym c.from.ensures ∙ frame) in
-    sound-left_by (places_of c.args.self.now) c.args.index c.remove-page.result (unwrap_or (place_of (places_of c.args.self.now) c.remove-page.result) 0)
-    c.remove-page.new.self.items c.push.new.self.items
+    sound-left_by (places_of c.args.self.now) c.args.index c.take_out-page.result (unwrap_or (place_of (places_of c.args.self.now) c.take_out-page.result) 0)
+    c.take_out-page.new.pages.items c.push.new.self.items
     (slice_set c.args.self.now.frame_of.items c.from-place.result None) (slice_set c.args.self.now.page_in.items c.from.result None)
-    c.args.self.now.sound facts.below facts.at facts.in_frame c.remove-page.ensures.items
+    c.args.self.now.sound facts.below facts.at facts.in_frame c.take_out-page.ensures.items
     (ap (λ (i : ℕ). slice_set c.args.self.now.frame_of.items i None) c.from-place.ensures) (ap (λ (i : ℕ). slice_set c.args.self.now.page_in.items i None) frame) free
 
 pub returns : goal.returns

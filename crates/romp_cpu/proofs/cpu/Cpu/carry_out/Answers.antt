@@ -1,12 +1,129 @@
-use Rattle.romp_cpu.proofs.Common.{◌≡◌, subst, Cpu, answer_in, plan, seen_in, tried, halfword_of}
-use Rattle.romp_cpu.proofs.PendingLemmas.{whole}
+use Rattle.romp_cpu.proofs.Common.{◌≡◌, sym, subst, ap, ◌∙◌, Bool, false, List, length, ℕ, Cpu, Attempt, Plan, Does, StoresAll, Seen, Tried, Act, Cs, Pending, Option, IsSoundPending, answer_in, seen_in, plan, planned, tried, tried_act, halfword_of}
+use Rattle.flat_machine.specs.Ready.{IsReadyAt, done}
+use Rattle.flat_machine.specs.declared.ready.Ready.{Ready}
+use Rattle.romp_cpu.specs.Tried.{IsDoneIf}
+use Rattle.romp_cpu.proofs.WholeLemmas.{pending-stores}
+use Rattle.romp_cpu.proofs.PendingLemmas.{plan_of_ready, whole}
+use Rattle.romp_cpu.proofs.cpu.Cpu.carry_out.Goals.{in-Some+in_default-do_alone+in-Some-Does+else-act_at_once+in-Load+in-Some-link, in-Some+in_default-do_alone+in-Some-Does+else-act_at_once+in-Store+in-Some-this, in-Some+in_default-do_alone+in-Some-Does+else-act_at_once+in-Nothing-1, in-Some+in_default-do_alone+in-Some+in-Fails-1, in-Some+in_default-do_alone+in-None-1, in_default}
 use Rattle.romp_cpu.proofs.cpu.Cpu.carry_out.Goals as goal
 
-pub returns-in-None-do_alone-clause-tried : goal.returns-in-None-do_alone-clause-tried
-returns-in-None-do_alone-clause-tried g c =
+-- what a row made ready wants, which leaves the registers, is its plan
+module _
+    (row : Ready) (halfword_at : ℕ → Option ℕ) (old : Cpu) (regs : List ℕ) (pending : Pending) (ready : IsReadyAt row halfword_at old.iar) (stays : regs ≡ old.regs)
+    (value : (status : Cs) → done row regs status old.iar ≡ planned regs status pending)
+  where
+    wanted : plan halfword_at old.regs old.cs old.iar ≡ planned old.regs old.cs pending
+    wanted =
+        subst (λ (r : List ℕ). plan halfword_at r old.cs old.iar ≡ planned r old.cs pending) stays (plan_of_ready row halfword_at regs old.cs old.iar ready ∙ value old.cs)
+
+    stores : length regs ≡ 16 → IsSoundPending pending → StoresAll (plan halfword_at old.regs old.cs old.iar)
+    stores long sound =
+        subst StoresAll (sym wanted) (subst (λ (r : List ℕ). StoresAll (planned r old.cs pending)) stays (pending-stores pending regs old.cs long sound))
+
+-- what was done at once is what its plan says
+at_once :
+    {S : Type 0} (seen : Seen S) (old before new : Cpu) (after : S) (plan : Plan) (act : Act) (next : ℕ) (link : Option (ℕ × ℕ))
+    → before ≡ old → plan ≡ Does old.regs old.cs act next link
+    → record { attempt = Attempt.Went; cpu = new; state = after } ≡ tried seen before (Does before.regs before.cs act next link)
+    → record { attempt = Attempt.Went; cpu = new; state = after } ≡ tried seen old plan
+at_once seen old before new after plan act next link same value told =
+    told ∙ ap (λ (cpu : Cpu). tried seen cpu (Does cpu.regs cpu.cs act next link)) same ∙ ap (tried seen old) (sym value)
+
+-- where nothing was done at once, processor and storage are as before
+idle :
+    {S : Type 0} (did : Bool) (seen : Seen S) (before new : Cpu) (after : S) (plan : Plan) → did ≡ false → IsDoneIf did seen before plan new after
+    → (new ≡ before) × (after ≡ seen.state)
+idle did seen before new after plan is told = subst (λ (d : Bool). IsDoneIf d seen before plan new after) is told
+
+-- then what is asked of the storage is what the plan says
+asked :
+    {S : Type 0} (seen_of : S → Seen S) (state after : S) (old before new : Cpu) (plan : Plan) (act : Act) (next : ℕ) (link : Option (ℕ × ℕ)) (result : Tried S)
+    → before ≡ old → (new ≡ before) × (after ≡ state) → plan ≡ Does old.regs old.cs act next link
+    → result ≡ tried_act (seen_of after) new act new.regs new.cs next link → result ≡ tried (seen_of state) old plan
+asked {S = S} seen_of state after old before new plan act next link result same none value told =
+    told ∙ ap (λ (cpu : Cpu). tried_act (seen_of after) cpu act cpu.regs cpu.cs next link) (none.0 ∙ same)
+    ∙ ap (λ (s : S). tried_act (seen_of s) old act old.regs old.cs next link) none.1 ∙ ap (tried (seen_of state) old) (sym value)
+
+-- and so is the instruction that is decoded
+again :
+    {S : Type 0} (seen_of : S → Seen S) (plan_in : S → Cpu → Plan) (state after : S) (old new : Cpu) (result : Tried S)
+    → (new ≡ old) × (after ≡ state) → result ≡ tried (seen_of after) new (plan_in after new) → result ≡ tried (seen_of state) old (plan_in state old)
+again {S = S} seen_of plan_in state after old new result same told =
+    told ∙ ap (λ (cpu : Cpu). tried (seen_of after) cpu (plan_in after cpu)) same.0 ∙ ap (λ (s : S). tried (seen_of s) old (plan_in s old)) same.1
+
+pub returns-then-act_at_once-clause-tried : goal.returns-then-act_at_once-clause-tried
+returns-then-act_at_once-clause-tried g c =
     let s = g.S.Storage in
+    let cpu = c.args.self.now in
     let state = s.state c.args.storage.now in
+    let half = halfword_of (s.byte_at state) in
     let seen = seen_in s.byte_at (answer_in s.registers s.is_in_frame s.refuses) s.stored state in
-    let told = c.carry_out_wanting in
-    subst (λ (cpu : Cpu). record { attempt = told.result; cpu = told.new.self; state = s.state told.new.storage } ≡ tried seen cpu (plan (halfword_of (s.byte_at state)) cpu.regs cpu.cs cpu.iar))
-    (whole c.args.self.now c.do_alone.new.regs c.do_alone.new.cs c.in-None-do_alone.ensures.stays) told.ensures.tried
+    let told = c.act_at_once in
+    let before : Cpu = record cpu { regs = c.do_alone.new.regs; cs = c.do_alone.new.cs } in
+    let stays = c.in_default-do_alone.ensures.stays in
+    let value = wanted c.in-Some.row.now half cpu c.do_alone.new.regs c.in-Some-Does.field-0 c.in-Some.ensures stays.0 c.in-Some-Does.ensures.value ∙ ap (planned cpu.regs cpu.cs) c.in-Some-Does.field-0-is in
+    at_once seen cpu before told.new.self (s.state told.new.storage) (plan half cpu.regs cpu.cs cpu.iar) c.in-Some-Does.act c.in-Some-Does.next c.in-Some-Does.link
+    (whole cpu c.do_alone.new.regs c.do_alone.new.cs stays) value
+    (subst (λ (did : Bool). IsDoneIf did seen before (Does before.regs before.cs c.in-Some-Does.act c.in-Some-Does.next c.in-Some-Does.link) told.new.self (s.state told.new.storage)) c.if-act_at_once.true told.ensures)
+
+pub returns-then-act_at_once-clause-whole : goal.returns-then-act_at_once-clause-whole
+returns-then-act_at_once-clause-whole g c =
+    stores c.in-Some.row.now (halfword_of (g.S.Storage.byte_at (g.S.Storage.state c.args.storage.now))) c.args.self.now c.do_alone.new.regs c.in-Some-Does.field-0 c.in-Some.ensures
+    c.in_default-do_alone.ensures.stays.0 c.in-Some-Does.ensures.value c.start_wanting.ensures.long c.in-Some-Does.ensures.sound
+
+pub returns-in-Store-None-clause-whole : goal.returns-in-Store-None-clause-whole
+returns-in-Store-None-clause-whole g c =
+    stores c.in-Some.row.now (halfword_of (g.S.Storage.byte_at (g.S.Storage.state c.args.storage.now))) c.args.self.now c.do_alone.new.regs c.in-Some-Does.field-0 c.in-Some.ensures
+    c.in_default-do_alone.ensures.stays.0 c.in-Some-Does.ensures.value c.start_wanting.ensures.long c.in-Some-Does.ensures.sound
+
+pub returns-in-Load-None-clause-tried : goal.returns-in-Load-None-clause-tried
+returns-in-Load-None-clause-tried g c =
+    let s = g.S.Storage in
+    let cpu = c.args.self.now in
+    let state = s.state c.args.storage.now in
+    let half = halfword_of (s.byte_at state) in
+    let seen_of = seen_in s.byte_at (answer_in s.registers s.is_in_frame s.refuses) s.stored in
+    let told = c.act_at_once in
+    let before : Cpu = record cpu { regs = c.do_alone.new.regs; cs = c.do_alone.new.cs } in
+    let stays = c.in_default-do_alone.ensures.stays in
+    let value = wanted c.in-Some.row.now half cpu c.do_alone.new.regs c.in-Some-Does.field-0 c.in-Some.ensures stays.0 c.in-Some-Does.ensures.value ∙ ap (planned cpu.regs cpu.cs) c.in-Some-Does.field-0-is in
+    asked seen_of state (s.state told.new.storage) cpu before told.new.self (plan half cpu.regs cpu.cs cpu.iar) c.in-Some-Does.act c.in-Some-Does.next c.in-Some-Does.link _
+    (whole cpu c.do_alone.new.regs c.do_alone.new.cs stays) (idle told.result (seen_of state) before told.new.self (s.state told.new.storage) _ c.if-act_at_once.false told.ensures) value
+    (rw c.in-Load-None.is-0 (rw c.in-Load-None.is-1 c.load.ensures.tried))
+
+pub returns-in-Store-None-clause-tried : goal.returns-in-Store-None-clause-tried
+returns-in-Store-None-clause-tried g c =
+    let s = g.S.Storage in
+    let cpu = c.args.self.now in
+    let state = s.state c.args.storage.now in
+    let half = halfword_of (s.byte_at state) in
+    let seen_of = seen_in s.byte_at (answer_in s.registers s.is_in_frame s.refuses) s.stored in
+    let told = c.act_at_once in
+    let before : Cpu = record cpu { regs = c.do_alone.new.regs; cs = c.do_alone.new.cs } in
+    let stays = c.in_default-do_alone.ensures.stays in
+    let value = wanted c.in-Some.row.now half cpu c.do_alone.new.regs c.in-Some-Does.field-0 c.in-Some.ensures stays.0 c.in-Some-Does.ensures.value ∙ ap (planned cpu.regs cpu.cs) c.in-Some-Does.field-0-is in
+    asked seen_of state (s.state told.new.storage) cpu before told.new.self (plan half cpu.regs cpu.cs cpu.iar) c.in-Some-Does.act c.in-Some-Does.next c.in-Some-Does.link _
+    (whole cpu c.do_alone.new.regs c.do_alone.new.cs stays) (idle told.result (seen_of state) before told.new.self (s.state told.new.storage) _ c.if-act_at_once.false told.ensures) value
+    (rw c.in-Store-None.is-0 (rw c.in-Store-None.is-1 c.store.ensures.tried))
+
+pub returns-clause-tried : goal.returns-clause-tried
+returns-clause-tried g c =
+    let s = g.S.Storage in
+    let cpu = c.args.self.now in
+    let state = s.state c.args.storage.now in
+    let seen_of = seen_in s.byte_at (answer_in s.registers s.is_in_frame s.refuses) s.stored in
+    let same : (c.match-ready.self ≡ cpu) × (s.state c.match-ready.storage ≡ state) = elim c.match-ready.branch [
+      | in-Some+in_default-do_alone+in-Some-Does+else-act_at_once+in-Load+in-Some-link w ↦
+          let none = idle w.act_at_once.result (seen_of state) (record cpu { regs = w.do_alone.new.regs; cs = w.do_alone.new.cs }) w.act_at_once.new.self (s.state w.act_at_once.new.storage) _ w.if-act_at_once.false w.act_at_once.ensures in
+          (w.self-is ∙ none.0 ∙ whole cpu w.do_alone.new.regs w.do_alone.new.cs w.in_default-do_alone.ensures.stays, ap s.state w.storage-is ∙ none.1)
+      | in-Some+in_default-do_alone+in-Some-Does+else-act_at_once+in-Store+in-Some-this w ↦
+          let none = idle w.act_at_once.result (seen_of state) (record cpu { regs = w.do_alone.new.regs; cs = w.do_alone.new.cs }) w.act_at_once.new.self (s.state w.act_at_once.new.storage) _ w.if-act_at_once.false w.act_at_once.ensures in
+          (w.self-is ∙ none.0 ∙ whole cpu w.do_alone.new.regs w.do_alone.new.cs w.in_default-do_alone.ensures.stays, ap s.state w.storage-is ∙ none.1)
+      | in-Some+in_default-do_alone+in-Some-Does+else-act_at_once+in-Nothing-1 w ↦
+          let none = idle w.act_at_once.result (seen_of state) (record cpu { regs = w.do_alone.new.regs; cs = w.do_alone.new.cs }) w.act_at_once.new.self (s.state w.act_at_once.new.storage) _ w.if-act_at_once.false w.act_at_once.ensures in
+          (w.self-is ∙ none.0 ∙ whole cpu w.do_alone.new.regs w.do_alone.new.cs w.in_default-do_alone.ensures.stays, ap s.state w.storage-is ∙ none.1)
+      | in-Some+in_default-do_alone+in-Some+in-Fails-1 w ↦ (w.self-is ∙ whole cpu w.do_alone.new.regs w.do_alone.new.cs w.in_default-do_alone.ensures.stays, ap s.state w.storage-is)
+      | in-Some+in_default-do_alone+in-None-1 w ↦ (w.self-is ∙ whole cpu w.do_alone.new.regs w.do_alone.new.cs w.in_default-do_alone.ensures.stays, ap s.state w.storage-is)
+      | in_default w ↦ (w.self-is, ap s.state w.storage-is)
+    ] in
+    again seen_of (λ (at : g.row.S-State.Denot) (now : Cpu). plan (halfword_of (s.byte_at at)) now.regs now.cs now.iar) state (s.state c.match-ready.storage) cpu c.match-ready.self _ same c.carry_out_anew.ensures.tried

@@ -1,4 +1,6 @@
-use Rattle.storage_unit.proofs.Lemmas.{◌≡◌, ℕ, ◌<◌, ◌≤◌, false, List, length, sym, ◌∙◌, ap, subst, arith, Option, Some, None, slice_set, option_and_then, option_map_or, Key, Placed, key_in, look_up, without_frame, IsOfTable, of_table-entered, Pool, private_frames, frame_count, frame_at, page_out, with_room, Brought, IsSeen, has, page_count, length-set, pool_of, pool-seen, Stays, Unit, key_among, key_of_page, keys_of, pages_begun, AreOfPages, nat_tests, AreReady, AreClear, key-at, keys-long, held-store, finds-page, keys-store, frames-held, room-stays, room-none, absent-frame, keys-room, without-keys, without-entries, opened-none}
+use Rattle.storage_unit.proofs.Lemmas.{◌≡◌, ℕ, ◌<◌, ◌≤◌, false, List, length, sym, ◌∙◌, ap, subst, arith, Option, Some, None, slice_set, option_and_then, option_map_or, Key, Placed, key_in, look_up, without_frame, IsOfTable, of_table-entered, Pool, private_frames, frame_count, frame_at, page_out, with_room, Brought, IsSeen, has, page_count, length-set, pool_of, pool-seen, Stays, Unit, key_among, key_of_page, keys_of, pages_begun, AreOfPages, nat_tests, AreReady, AreClear, key-at, keys-long, held-store, finds-page, keys-store, frames-held, room-stays, room-none, absent-frame, keys-room, without-keys, without-entries, opened-none, Pair, get_or-set_same}
+use Rattle.tlb_model.proofs.BufferLemmas.{after-of, unremembered}
+use Rattle.storage_unit.proofs.Common.{after_found}
 use Rattle.storage_unit.proofs.unit.Unit.bring.Goals as goal
 
 module _ (unit : Unit) (page : ℕ) (keep : Option ℕ) where
@@ -47,6 +49,13 @@ module _ (unit : Unit) (page : ℕ) (keep : Option ℕ) where
         (omega (arith, below, subst (λ s. length room.page_in ≡ frame_count s room.frames) size seen.page_in))
         ∙ ap (λ (p : Pool). keys_of unit.directory unit.begun p.frames p.page_in) (sym came.rest)
 
+    -- the table finds the page in its frame
+    found : IsSeen new → look_up (keys_of unit.directory unit.begun new.frames new.page_in) (key_of_page unit.directory page) ≡ Some frame
+    found seen_now =
+        finds-page unit.directory unit.legal new seen_now (ap (λ (p : Pool). p.page) came.rest ∙ size)
+        (ap (λ (p : Pool). length p.frame_of) came.rest ∙ length-set room.frame_of page (Some frame) ∙ pages) (pages_begun unit.directory.page unit.begun) page within
+        ∙ ap (λ (p : Pool). frame_at p page) came.rest ∙ get_or-set_same room.frame_of page (Some frame) None (omega (arith, within, pages))
+
 pub leave_frame-requires-clause-room : goal.leave_frame-requires-clause-room
 leave_frame-requires-clause-room c = frames-held c.args.self.now
 
@@ -81,6 +90,16 @@ enter-requires-clause-absent c =
     (key-is unit c.args.page c.key_among-key.result c.segments.result.now c.key_among-key.ensures c.segments.ensures.value)
     ∙ unfound unit c.args.page c.args.keep (pool_of c.bring-slot.new.self) c.bring-slot.result.frame c.bring-slot.ensures.brought c.requires.page c.requires.absent
 
+pub remember-requires : goal.remember-requires
+remember-requires c =
+    let unit = c.args.self.now in
+    let keys = keys-between unit c.args.page c.args.keep c.leave_frame.new.table (c.leave_frame.ensures.table ∙ ap (λ (o : Option ℕ). option_map_or (without_frame unit.table) (option_and_then (frame_at (pool_of unit.pool)) o) unit.table) c.page_out-out.ensures) in
+    unremembered c.leave_frame.new.buffer c.leave_frame.new.table.keys c.key_among-key.result c.leave_frame.ensures.of_table
+    (ap (λ (list : List (Option Key)). look_up list c.key_among-key.result) keys
+    ∙ ap (λ (key : Key). look_up (keys_of unit.directory unit.begun (with_room (pool_of unit.pool) c.args.keep).frames (with_room (pool_of unit.pool) c.args.keep).page_in) key)
+    (key-is unit c.args.page c.key_among-key.result c.segments.result.now c.key_among-key.ensures c.segments.ensures.value)
+    ∙ unfound unit c.args.page c.args.keep (pool_of c.bring-slot.new.self) c.bring-slot.result.frame c.bring-slot.ensures.brought c.requires.page c.requires.absent)
+
 pub invariant_of-self : goal.invariant_of-self
 invariant_of-self c =
     let unit = c.args.self.now in
@@ -96,6 +115,21 @@ invariant_of-self c =
     ∙ ap (λ (k : Key). slice_set c.leave_frame.new.table.keys frame (Some k)) key
     ∙ ap (λ (list : List (Option Key)). slice_set list frame (Some (key_of_page unit.directory c.args.page))) keys in
     let old = stays unit c.args.page c.args.keep new frame came c.requires.page c.requires.absent in
+    let held = now ∙ entered-keys unit c.args.page c.args.keep new frame came c.requires.page c.requires.absent in
+    let there : look_up c.enter.new.self.keys c.key_among-key.result ≡ Some frame =
+    ap (λ (list : List (Option Key)). look_up list c.key_among-key.result) held ∙ ap (look_up (keys_of unit.directory unit.begun new.frames new.page_in)) key
+    ∙ found unit c.args.page c.args.keep new frame came c.requires.page c.requires.absent (pool-seen c.bring-slot.new.self) in
+    let before : IsOfTable c.leave_frame.new.buffer c.enter.new.self.keys =
+    subst (λ (list : List (Option Key)). IsOfTable c.leave_frame.new.buffer list) (sym now)
+    (of_table-entered c.leave_frame.new.buffer left_keys frame (key_of_page unit.directory c.args.page)
+    (omega (
+      arith,
+      keys-long unit.directory (pages_begun unit.directory.page unit.begun) room.frames room.page_in,
+      below unit c.args.page c.args.keep new frame came c.requires.page c.requires.absent,
+    ))
+    (free unit c.args.page c.args.keep new frame came c.requires.page c.requires.absent)
+    (unfound unit c.args.page c.args.keep new frame came c.requires.page c.requires.absent)
+    (subst (λ (list : List (Option Key)). IsOfTable c.leave_frame.new.buffer list) keys c.leave_frame.ensures.of_table)) in
     record {
       sixteen = unit.sixteen;
       legal = unit.legal;
@@ -106,18 +140,10 @@ invariant_of-self c =
           ∙ ap (λ (t : Placed). length t.entries) c.leave_frame.ensures.table
           ∙ ap length (without-entries unit.table (option_and_then (frame_at (pool_of unit.pool)) c.page_out-out.result)) ∙ unit.entries;
       marks = subst (λ (list : List (List ℕ)). AreOfPages list) (sym (ap (λ (p : Pool). p.marked) came.rest ∙ old.marked)) unit.marks;
-      held = now ∙ entered-keys unit c.args.page c.args.keep new frame came c.requires.page c.requires.absent;
+      held = held;
       remembered =
-          subst (λ (list : List (Option Key)). IsOfTable c.leave_frame.new.buffer list) (sym now)
-          (of_table-entered c.leave_frame.new.buffer left_keys frame (key_of_page unit.directory c.args.page)
-          (omega (
-            arith,
-            keys-long unit.directory (pages_begun unit.directory.page unit.begun) room.frames room.page_in,
-            below unit c.args.page c.args.keep new frame came c.requires.page c.requires.absent,
-          ))
-          (free unit c.args.page c.args.keep new frame came c.requires.page c.requires.absent)
-          (unfound unit c.args.page c.args.keep new frame came c.requires.page c.requires.absent)
-          (subst (λ (list : List (Option Key)). IsOfTable c.leave_frame.new.buffer list) keys c.leave_frame.ensures.of_table));
+          subst (λ (list : List (List Pair)). IsOfTable list c.enter.new.self.keys) (sym (c.remember.ensures ∙ ap (λ (o : Option ℕ). after_found c.leave_frame.new.buffer o c.key_among-key.result) (sym there)))
+          (after-of c.leave_frame.new.buffer c.enter.new.self.keys c.key_among-key.result before);
       selected = unit.selected;
       ready = subst (λ (list : List ℕ). AreReady unit.rows list unit.runner) (sym (ap (λ (p : Pool). p.bytes) came.rest ∙ old.bytes)) unit.ready;
       opened = opened-none c.leave_frame.new.lines unit.directory c.enter.new.self unit.registers unit.runner c.leave_frame.ensures.lines;

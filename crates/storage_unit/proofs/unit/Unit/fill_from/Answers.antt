@@ -1,4 +1,4 @@
-use Rattle.storage_unit.proofs.Lemmas.{List, ℕ, length, refl, sym, ◌∙◌, ap, subst, FitsFrom, open-long, open-part, open-room}
+use Rattle.storage_unit.proofs.Lemmas.{List, ℕ, length, sym, ◌∙◌, ap, subst, FitsFrom, open-long, open-part, open-room}
 use Rattle.flat_machine.specs.Effect.{filled}
 use Rattle.storage_unit.proofs.unit.Unit.fill_from.Goals as goal
 
@@ -12,11 +12,7 @@ fill-requires c =
     c.requires.fits
 
 pub returns : goal.returns
-returns c = record {
-  answer = sym c.requires.open.opens.permitted;
-  state = refl;
-  filled =
-      c.fill.ensures
-      ∙ ap (λ (list : List ℕ). filled c.args.to c.args.sign list c.args.regs.now)
-      (c.spot_part-part.ensures ∙ open-part c.args.self.now c.args.wants.now c.args.line c.requires.fits.some c.requires.open c.from.result c.from.ensures);
-}
+returns c =
+    c.fill.ensures
+    ∙ ap (λ (list : List ℕ). filled c.args.to c.args.sign list c.args.regs.now)
+    (c.spot_part-part.ensures ∙ open-part c.args.self.now c.args.wants.now c.args.line c.requires.fits.some c.requires.open c.from.result c.from.ensures)

@@ -51,10 +51,6 @@ returns c =
     let wants = c.args.wants.now in
     let after = (goal.at.returns c).After-gather in
     let lent = lent (goal.at.returns c).After-spot_mut in
-    record {
-      answer = sym c.requires.open.opens.permitted;
-      state =
-          stored-over unit wants c.args.line c.requires.fits.some c.requires.stores c.requires.open c.gather.new.into (long after lent)
-          ∙ ap (put_at (reach_of unit) (place_of unit.directory c.args.line.first)) (written after lent)
-          ∙ gathered-at (reach_of unit) (unit-sound unit) wants.address wants.bytes wants.store c.args.line.first c.requires.open.opens.located c.args.regs.now c.args.from c.told-regs c.requires.fits;
-    }
+    stored-over unit wants c.args.line c.requires.fits.some c.requires.stores c.requires.open c.gather.new.into (long after lent)
+    ∙ ap (put_at (reach_of unit) (place_of unit.directory c.args.line.first)) (written after lent)
+    ∙ gathered-at (reach_of unit) (unit-sound unit) wants.address wants.bytes wants.store c.args.line.first c.requires.open.opens.located c.args.regs.now c.args.from c.told-regs c.requires.fits
