@@ -133,26 +133,12 @@ impl Cpu {
                 bytes,
                 to,
                 sign,
-            } => {
-                let access = Access {
-                    address,
-                    bytes,
-                    store: false,
-                };
-                storage.read_known(&access, to, sign, &mut self.regs)
-            }
+            } => storage.read_known(address, bytes, to, sign, &mut self.regs),
             Act::Store {
                 address,
                 bytes,
                 from,
-            } => {
-                let access = Access {
-                    address,
-                    bytes,
-                    store: true,
-                };
-                storage.write_known(&access, from, &self.regs)
-            }
+            } => storage.write_known(address, bytes, from, &self.regs),
             _ => false,
         };
         if did {

@@ -116,22 +116,22 @@ pub trait Storage {
         probe
     }
 
-    /// Does what `read` does, where it is known at once that the access is permitted. Else it does nothing.
-    fn read_known(&self, wants: &Access, to: u8, sign: bool, regs: &mut [u32; 16]) -> bool
-        requires loads { wants.now.store ≡ false }
-        requires fits { FitsFrom wants.now.bytes to }
-        ensures permitted { result ≡ true → answer_in registers is_in_frame refuses (state self.now) wants.now ≡ Probe.Permitted }
-        ensures registers { regs.new ≡ (if result then filled to sign (bytes_from (byte_at (state self.now)) wants.now.address wants.now.bytes) regs.old else regs.old) }
+    /// Does what `read` does for so many bytes from an address on, where it is known at once that this is permitted. Else it
+    /// does nothing.
+    fn read_known(&self, address: u32, bytes: u8, to: u8, sign: bool, regs: &mut [u32; 16]) -> bool
+        requires { FitsFrom bytes to }
+        ensures permitted { result ≡ true → answer_in registers is_in_frame refuses (state self.now) (access_to address bytes false) ≡ Probe.Permitted }
+        ensures registers { regs.new ≡ (if result then filled to sign (bytes_from (byte_at (state self.now)) address bytes) regs.old else regs.old) }
     {
         false
     }
 
-    /// Does what `write` does, where it is known at once that the access is permitted. Else it does nothing.
-    fn write_known(&mut self, wants: &Access, from: u8, regs: &[u32; 16]) -> bool
-        requires stores { wants.now.store ≡ true }
-        requires fits { FitsFrom wants.now.bytes from }
-        ensures permitted { result ≡ true → answer_in registers is_in_frame refuses (state self.old) wants.now ≡ Probe.Permitted }
-        ensures state { state self.new ≡ (if result then stored (state self.old) wants.now.address (stored_bytes regs.now wants.now.bytes from) else state self.old) }
+    /// Does what `write` does for so many bytes from an address on, where it is known at once that this is permitted. Else it
+    /// does nothing.
+    fn write_known(&mut self, address: u32, bytes: u8, from: u8, regs: &[u32; 16]) -> bool
+        requires { FitsFrom bytes from }
+        ensures permitted { result ≡ true → answer_in registers is_in_frame refuses (state self.old) (access_to address bytes true) ≡ Probe.Permitted }
+        ensures state { state self.new ≡ (if result then stored (state self.old) address (stored_bytes regs.now bytes from) else state self.old) }
     {
         false
     }

@@ -659,22 +659,29 @@ impl Storage for Unit {
     }
 
     #[inline(always)]
-    fn read_known(&self, wants: &Access, to: u8, sign: bool, regs: &mut [u32; 16]) -> bool {
-        match wants.bytes {
-            1 => self.fill_known(wants, 1, to, sign, regs),
-            2 => self.fill_known(wants, 2, to, sign, regs),
-            4 => self.fill_known(wants, 4, to, sign, regs),
-            _ => self.fill_far(wants, to, sign, regs),
+    fn read_known(
+        &self,
+        address: u32,
+        bytes: u8,
+        to: u8,
+        sign: bool,
+        regs: &mut [u32; 16],
+    ) -> bool {
+        match bytes {
+            1 => self.fill_known(address, 1, to, sign, regs),
+            2 => self.fill_known(address, 2, to, sign, regs),
+            4 => self.fill_known(address, 4, to, sign, regs),
+            _ => self.fill_words(address, bytes, to, sign, regs),
         }
     }
 
     #[inline(always)]
-    fn write_known(&mut self, wants: &Access, from: u8, regs: &[u32; 16]) -> bool {
-        match wants.bytes {
-            1 => self.gather_known(wants, 1, from, regs),
-            2 => self.gather_known(wants, 2, from, regs),
-            4 => self.gather_known(wants, 4, from, regs),
-            _ => self.gather_far(wants, from, regs),
+    fn write_known(&mut self, address: u32, bytes: u8, from: u8, regs: &[u32; 16]) -> bool {
+        match bytes {
+            1 => self.gather_known(address, 1, from, regs),
+            2 => self.gather_known(address, 2, from, regs),
+            4 => self.gather_known(address, 4, from, regs),
+            _ => self.gather_words(address, bytes, from, regs),
         }
     }
 
@@ -708,69 +715,37 @@ impl Unit {
     ghost use Rattle.storage_unit.specs.Reach.{byte_at, stored};
     ghost use Rattle.storage_unit.specs.View.{reach_of};
 
-    /// Fills registers with the bytes of an access, so many, if they lie in a line that is known.
+    /// Fills registers with so many bytes from an address on, if they lie in a line that is known.
     #[inline(always)]
-    fn fill_known(
-        &self,
-        wants: &Access,
-        bytes: u8,
-        to: u8,
-        sign: bool,
-        regs: &mut [u32; 16],
-    ) -> bool
-        requires loads { wants.now.store ≡ false }
-        requires many { bytes ≡ wants.now.bytes }
+    fn fill_known(&self, address: u32, bytes: u8, to: u8, sign: bool, regs: &mut [u32; 16]) -> bool
         requires fits { FitsFrom bytes to }
-        ensures { IsReadIf result (reach_of self.now) wants.now to sign regs.old regs.new }
+        ensures { IsReadIf result (reach_of self.now) (access_to address bytes false) to sign regs.old regs.new }
     {
-        let exact = Access {
-            address: wants.address,
+        let wants = Access {
+            address,
             bytes,
             store: false,
         };
-        let line = self.known_line(&exact);
-        self.fill_if(line, &exact, to, sign, regs)
+        let line = self.known_line(&wants);
+        self.fill_if(line, &wants, to, sign, regs)
     }
 
-    /// Writes the bytes of registers over those of an access, so many, if they lie in a line that is known to be stored.
+    /// Writes the bytes of registers over so many from an address on, if they lie in a line that is known to be stored.
     #[inline(always)]
-    fn gather_known(&mut self, wants: &Access, bytes: u8, from: u8, regs: &[u32; 16]) -> bool
-        requires stores { wants.now.store ≡ true }
-        requires many { bytes ≡ wants.now.bytes }
+    fn gather_known(&mut self, address: u32, bytes: u8, from: u8, regs: &[u32; 16]) -> bool
         requires fits { FitsFrom bytes from }
-        ensures { IsWrittenIf result (reach_of self.old) (reach_of self.new) wants.now from regs.now }
+        ensures { IsWrittenIf result (reach_of self.old) (reach_of self.new) (access_to address bytes true) from regs.now }
     {
-        let exact = Access {
-            address: wants.address,
+        let wants = Access {
+            address,
             bytes,
             store: true,
         };
-        let line = self.known_line(&exact);
-        self.gather_if(line, &exact, from, regs)
+        let line = self.known_line(&wants);
+        self.gather_if(line, &wants, from, regs)
     }
 
-    /// Fills registers with the bytes of an access, if they lie in one or two lines that are known, by a call.
-    #[inline(always)]
-    fn fill_far(&self, wants: &Access, to: u8, sign: bool, regs: &mut [u32; 16]) -> bool
-        requires loads { wants.now.store ≡ false }
-        requires fits { FitsFrom wants.now.bytes to }
-        ensures { IsReadIf result (reach_of self.now) wants.now to sign regs.old regs.new }
-    {
-        self.fill_words(wants.address, wants.bytes, to, sign, regs)
-    }
-
-    /// Writes the bytes of registers over those of an access, if they lie in one or two lines that are known to be stored, by a
-    /// call.
-    #[inline(always)]
-    fn gather_far(&mut self, wants: &Access, from: u8, regs: &[u32; 16]) -> bool
-        requires stores { wants.now.store ≡ true }
-        requires fits { FitsFrom wants.now.bytes from }
-        ensures { IsWrittenIf result (reach_of self.old) (reach_of self.new) wants.now from regs.now }
-    {
-        self.gather_words(wants.address, wants.bytes, from, regs)
-    }
-
-    /// Fills registers with so many bytes from an address on, if they lie in one or two lines that are known.
+    /// The same of bytes that lie in one or two lines that are known.
     #[inline(never)]
     fn fill_words(&self, address: u32, bytes: u8, to: u8, sign: bool, regs: &mut [u32; 16]) -> bool
         requires fits { FitsFrom bytes to }
@@ -785,8 +760,7 @@ impl Unit {
         self.fill_if(line, &wants, to, sign, regs)
     }
 
-    /// Writes the bytes of registers over so many from an address on, if they lie in one or two lines that are known to be
-    /// stored.
+    /// The same of bytes that lie in one or two lines that are known to be stored.
     #[inline(never)]
     fn gather_words(&mut self, address: u32, bytes: u8, from: u8, regs: &[u32; 16]) -> bool
         requires fits { FitsFrom bytes from }
