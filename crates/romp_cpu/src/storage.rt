@@ -10,7 +10,7 @@ ghost use Rattle.romp_cpu.specs.declared.storage.Probe.{Probe};
 ghost use Rattle.romp_cpu.specs.Shown.{bytes_from, halfword_of, access_to};
 ghost use Rattle.romp_cpu.specs.Answers.{answer_in, if_permitted, IsOutside};
 
-use flat_machine::{Ready, fill, gather};
+use flat_machine::Ready;
 use segment_regs::Virtual;
 
 /// What an instruction or its subject accesses: so many bytes from an effective address on, to load or to store.
@@ -68,15 +68,11 @@ pub trait Storage {
 
     /// The row made ready at an address, if one is known there.
     fn ready(&self, address: u32) -> Option<&Ready>
-        ensures { IfSome result (λ row. IsReadyAt row.now (halfword_of (byte_at (state self.now))) address) }
-    {
-        None
-    }
+        ensures { IfSome result (λ row. IsReadyAt row.now (halfword_of (byte_at (state self.now))) address) };
 
     /// Makes the row at an address ready, where it is one that can be. The state stays.
     fn prepare(&mut self, address: u32)
-        ensures { state self.new ≡ state self.old }
-    {}
+        ensures { state self.new ≡ state self.old };
 
     /// Whether an access may be made: a check as it is located; else the first page by address that is in no frame; else the
     /// first whose entry refuses. It may arrange things for itself, but the state stays.
@@ -104,52 +100,26 @@ pub trait Storage {
         requires fits { FitsFrom wants.now.bytes to }
         ensures answer { result ≡ answer_in registers is_in_frame refuses (state self.old) wants.now }
         ensures state { state self.new ≡ state self.old }
-        ensures registers { regs.new ≡ if_permitted result (filled to sign (bytes_from (byte_at (state self.old)) wants.now.address wants.now.bytes) regs.old) regs.old }
-    {
-        let probe = self.probe(wants);
-        if let Probe::Permitted = probe {
-            let mut room = [0; 64];
-            let part = &mut room[..usize::from(wants.bytes)];
-            self.load(wants.address, part);
-            fill(to, sign, part, regs);
-        }
-        probe
-    }
+        ensures registers { regs.new ≡ if_permitted result (filled to sign (bytes_from (byte_at (state self.old)) wants.now.address wants.now.bytes) regs.old) regs.old };
 
     /// Does what `read` does for so many bytes from an address on, where it is known at once that this is permitted. Else it
     /// does nothing.
     fn read_known(&self, address: u32, bytes: u8, to: u8, sign: bool, regs: &mut [u32; 16]) -> bool
         requires { FitsFrom bytes to }
         ensures permitted { result ≡ true → answer_in registers is_in_frame refuses (state self.now) (access_to address bytes false) ≡ Probe.Permitted }
-        ensures registers { regs.new ≡ (if result then filled to sign (bytes_from (byte_at (state self.now)) address bytes) regs.old else regs.old) }
-    {
-        false
-    }
+        ensures registers { regs.new ≡ (if result then filled to sign (bytes_from (byte_at (state self.now)) address bytes) regs.old else regs.old) };
 
     /// Does what `write` does for so many bytes from an address on, where it is known at once that this is permitted. Else it
     /// does nothing.
     fn write_known(&mut self, address: u32, bytes: u8, from: u8, regs: &[u32; 16]) -> bool
         requires { FitsFrom bytes from }
         ensures permitted { result ≡ true → answer_in registers is_in_frame refuses (state self.old) (access_to address bytes true) ≡ Probe.Permitted }
-        ensures state { state self.new ≡ (if result then stored (state self.old) address (stored_bytes regs.now bytes from) else state self.old) }
-    {
-        false
-    }
+        ensures state { state self.new ≡ (if result then stored (state self.old) address (stored_bytes regs.now bytes from) else state self.old) };
 
     /// Stores the bytes of registers from one upwards, as `store` does, if `probe` permits the access.
     fn write(&mut self, wants: &Access, from: u8, regs: &[u32; 16]) -> Probe
         requires stores { wants.now.store ≡ true }
         requires fits { FitsFrom wants.now.bytes from }
         ensures answer { result ≡ answer_in registers is_in_frame refuses (state self.old) wants.now }
-        ensures state { state self.new ≡ if_permitted result (stored (state self.old) wants.now.address (stored_bytes regs.now wants.now.bytes from)) (state self.old) }
-    {
-        let probe = self.probe(wants);
-        if let Probe::Permitted = probe {
-            let mut room = [0; 64];
-            let part = &mut room[..usize::from(wants.bytes)];
-            gather(from, regs, part);
-            self.store(wants.address, part);
-        }
-        probe
-    }
+        ensures state { state self.new ≡ if_permitted result (stored (state self.old) wants.now.address (stored_bytes regs.now wants.now.bytes from)) (state self.old) };
 }

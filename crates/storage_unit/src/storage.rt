@@ -726,8 +726,11 @@ impl Unit {
             bytes,
             store: false,
         };
-        let line = self.known_line(&wants);
-        self.fill_if(line, &wants, to, sign, regs)
+        let Some(line) = self.known_line(&wants) else {
+            return false;
+        };
+        self.fill_from(line, &wants, to, sign, regs);
+        true
     }
 
     /// Writes the bytes of registers over so many from an address on, if they lie in a line that is known to be stored.
@@ -756,8 +759,11 @@ impl Unit {
             bytes,
             store: false,
         };
-        let line = self.known_lines(&wants);
-        self.fill_if(line, &wants, to, sign, regs)
+        let Some(line) = self.known_lines(&wants) else {
+            return false;
+        };
+        self.fill_from(line, &wants, to, sign, regs);
+        true
     }
 
     /// The same of bytes that lie in one or two lines that are known to be stored.
@@ -787,29 +793,6 @@ impl Unit {
             return line;
         }
         self.known_pair(wants)
-    }
-
-    /// Fills registers with the bytes of an access from where a line has them, if one is given.
-    #[inline(always)]
-    fn fill_if(
-        &self,
-        line: Option<OpenLine>,
-        wants: &Access,
-        to: u8,
-        sign: bool,
-        regs: &mut [u32; 16],
-    ) -> bool
-        requires fits { FitsFrom wants.now.bytes to }
-        requires open { IfSome line (IsOpenFrom (reach_of self.now) wants.now) }
-        ensures { IsReadIf result (reach_of self.now) wants.now to sign regs.old regs.new }
-    {
-        match line {
-            None => false,
-            Some(line) => {
-                self.fill_from(line, wants, to, sign, regs);
-                true
-            }
-        }
     }
 
     /// Writes the bytes of registers over those of an access in a line, if one is given.
