@@ -1,5 +1,5 @@
 -- The newest place of a line has its bytes of the store.
-use Rattle.redo_journal.proofs.Common.{◌≡◌, inl, inr, ℕ, zero, suc, ◌+◌, ◌*◌, ◌-◌, ◌<◌, ◌≤◌, List, [], ◌∷◌, ◌++◌, length, take, drop, refl, sym, ◌∙◌, ap, subst, arith, option_or, nat_tests, cases_lt, cases_eq, take_at, drop-drop, take-append-drop, length-drop, length-take-le, overlaid, big_number, line_count, PageSize, Which, line_bytes, Header, home_at, bank_at, number_at, entry_bytes, RecordLine, lines_from, wrong_line, lines_of, count_of, Area, Gate, Closed, Wrong, Sound, Holds, gate_at, holds_from, bank_held, area_within, laid, home_of, IsStore, shorter_front, rest_front, sound_is, preceded_is, length-overlaid, lines-below, place_in, newest_place, Option, None, Some, fold, Bool, true, false, if◌then◌else◌, ◌%◌, ◌^◌, ◌==◌, slice_index}
+use Rattle.redo_journal.proofs.Common.{◌≡◌, inl, inr, ℕ, zero, suc, ◌+◌, ◌*◌, ◌-◌, ◌<◌, ◌≤◌, List, [], ◌∷◌, ◌++◌, length, take, drop, refl, sym, ◌∙◌, ap, subst, arith, option_or, nat_tests, cases_lt, cases_eq, take_at, drop-drop, take-append-drop, length-drop, length-take-le, overlaid, big_number, line_count, PageSize, Which, line_bytes, Header, home_at, bank_at, number_at, entry_bytes, RecordLine, lines_from, wrong_line, lines_of, count_of, Area, Gate, Closed, Wrong, Sound, Holds, gate_at, holds_from, bank_held, area_within, laid, home_of, IsStore, shorter_front, rest_front, sound_is, preceded_is, length-overlaid, lines-below, place_in, newest_place, Option, None, Some, fold, if◌then◌else◌, ◌%◌, ◌^◌, ◌==◌, slice_index}
 use Rattle.redo_journal.proofs.Overlaid.{take-overlaid, drop-overlaid, behind-overlaid}
 use Rattle.redo_journal.proofs.NoteLemmas.{first_in_order}
 use Rattle.redo_journal.proofs.Places.{or_assoc, or_none, last_of, if_some, AreBelow, AllBelow}
@@ -52,23 +52,7 @@ newer lines newest k = option_or (place_in k lines) (newest k)
 
 agree_line : (page : PageSize) (bound end : ℕ) (image home bytes : List ℕ) (newest : ℕ → Option ℕ) (line : RecordLine) → IsLine page bound end image line → Agree page bound image home bytes newest
     → Agree page bound image home (overlaid bytes (line.line * line_bytes page) line.bytes) (newer (line ∷ []) newest)
-agree_line page bound end image home bytes newest line is agree =
-    let room : line.line * line_bytes page + line_bytes page ≤ bound * line_bytes page = lines-below page line.line bound is.below in record {
-      long = length-overlaid bytes (line.line * line_bytes page) line.bytes (omega (arith, room, is.whole, agree.long)) ∙ agree.long;
-      each = λ k within. elim (cases_eq k line.line) [
-        | inl same ↦
-            let here : (line.line == k) ≡ true = grind (arith, nat_tests) in
-            ap (λ (n : ℕ). bytes_of_line page n (overlaid bytes (line.line * line_bytes page) line.bytes)) same
-            ∙ same_line page bytes line.bytes line.line is.whole (omega (arith, room, agree.long))
-            ∙ is.has
-            ∙ ap (λ (b : Bool). newest_bytes page image home k (option_or (if b then Some (line.at + 4) else None) (newest k))) (sym here)
-        | inr other ↦
-            let here : (line.line == k) ≡ false = grind (arith, nat_tests) in
-            other_line page bytes line.bytes line.line k is.whole (omega (arith, room, agree.long)) other
-            ∙ agree.each k within
-            ∙ ap (λ (b : Bool). newest_bytes page image home k (option_or (if b then Some (line.at + 4) else None) (newest k))) (sym here)
-      ];
-    }
+agree_line page bound end image home bytes newest line is agree = grind (arith, nat_tests, lines-below, length-overlaid, cases_eq, same_line, other_line, newest, agree.each)
 
 abbrev pub AreLines : (page : PageSize) (bound end : ℕ) → List ℕ → List RecordLine → Type 0
 AreLines page bound end image [] = Unit {0}
@@ -81,22 +65,12 @@ AreRecords page bound end image (lines ∷ records) = AreLines page bound end im
 agree_lines : (page : PageSize) (bound end : ℕ) (image home bytes : List ℕ) (newest : ℕ → Option ℕ) (lines : List RecordLine) → AreLines page bound end image lines → Agree page bound image home bytes newest
     → Agree page bound image home (laid page bytes lines) (newer lines newest)
 agree_lines page bound end image home bytes newest [] are agree = agree
-agree_lines page bound end image home bytes newest (line ∷ lines) are agree =
-    let rest = agree_lines page bound end image home (overlaid bytes (line.line * line_bytes page) line.bytes) (newer (line ∷ []) newest) lines are.1 (agree_line page bound end image home bytes newest line are.0 agree) in
-    record {
-      long = rest.long;
-      each = λ k within. rest.each k within ∙ ap (newest_bytes page image home k) (or_assoc (place_in k lines) (if line.line == k then Some (line.at + 4) else None) (newest k));
-    }
+agree_lines page bound end image home bytes newest (line ∷ lines) are agree = grind (arith, nat_tests, agree_line, or_assoc, newest, agree_lines page bound end image home (overlaid bytes (line.line * line_bytes page) line.bytes) (newer (line ∷ []) newest) lines are.1 (agree_line page bound end image home bytes newest line are.0 agree))
 
 agree_records : (page : PageSize) (bound end : ℕ) (image home bytes : List ℕ) (newest : ℕ → Option ℕ) (records : List (List RecordLine)) → AreRecords page bound end image records → Agree page bound image home bytes newest
     → Agree page bound image home (fold (laid page) bytes records) (λ k. option_or (newest_place k records) (newest k))
 agree_records page bound end image home bytes newest [] are agree = agree
-agree_records page bound end image home bytes newest (lines ∷ records) are agree =
-    let rest = agree_records page bound end image home (laid page bytes lines) (newer lines newest) records are.1 (agree_lines page bound end image home bytes newest lines are.0 agree) in
-    record {
-      long = rest.long;
-      each = λ k within. rest.each k within ∙ ap (newest_bytes page image home k) (or_assoc (newest_place k records) (place_in k lines) (newest k));
-    }
+agree_records page bound end image home bytes newest (lines ∷ records) are agree = grind (arith, nat_tests, agree_lines, or_assoc, newest, agree_records page bound end image home (laid page bytes lines) (newer lines newest) records are.1 (agree_lines page bound end image home bytes newest lines are.0 agree))
 
 -- lines of an image are below its bound
 lines_below : (page : PageSize) (bound end : ℕ) (image : List ℕ) (lines : List RecordLine) → AreLines page bound end image lines → AreBelow bound lines

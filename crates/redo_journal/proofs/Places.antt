@@ -71,14 +71,7 @@ noted_place newest (line ∷ lines) k below within =
     cc (noted_place (overlaid newest line.line (Some (line.at + 4) ∷ [])) lines k (subst (λ (n : ℕ). AreBelow n lines) (sym long) below.1) (omega (arith, long)), here, or_assoc (place_in k lines) (if line.line == k then Some (line.at + 4) else None) (get_or newest k None))
   where
     here : get_or (overlaid newest line.line (Some (line.at + 4) ∷ [])) k None ≡ option_or (if line.line == k then Some (line.at + 4) else None) (get_or newest k None)
-    here = elim (cases_eq k line.line) [
-      | inl same ↦
-          let is : (line.line == k) ≡ true = grind (arith, nat_tests) in
-          ap (λ (n : ℕ). get_or (overlaid newest line.line (Some (line.at + 4) ∷ [])) n None) same ∙ same_place newest line.line (line.at + 4) below.0 ∙ rw is refl
-      | inr other ↦
-          let no : (line.line == k) ≡ false = grind (arith, nat_tests) in
-          other_place newest line.line (line.at + 4) k below.0 other ∙ rw no refl
-    ]
+    here = grind (arith, nat_tests, cases_eq, same_place, other_place)
 
 pub noted_places : (newest : List (Option ℕ)) (records : List (List RecordLine)) (k : ℕ) → AllBelow (length newest) records → k < length newest → get_or (fold noted newest records) k None ≡ option_or (newest_place k records) (get_or newest k None)
 noted_places newest [] k below within = refl

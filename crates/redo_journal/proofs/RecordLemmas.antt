@@ -10,9 +10,7 @@ pub record StandsAt (page : PageSize) (image : List ℕ) (bound end at : ℕ) (l
   pub in_order : wrong_line bound 0 lines ≡ None
 
 of_sound : (page : PageSize) (image : List ℕ) (bound end at : ℕ) (lines : List RecordLine) (next : ℕ) → IsSound page bound end at (drop at image) lines next → StandsAt page image bound end at lines
-of_sound page image bound end at lines next is =
-    let many : length lines ≡ count_of (drop at image) = ap length is.lines_are ∙ length-lines_from page (count_of (drop at image)) (at + 11) (drop 11 (drop at image)) in
-    record { lines_are = is.lines_are; count = sym many; fits = omega (arith, is.fits, is.is_next, ap (λ (n : ℕ). entry_bytes page * n) many); in_order = ap (wrong_line bound 0) is.lines_are ∙ is.in_order }
+of_sound page image bound end at lines next is = grind (arith, nat_tests, length-lines_from)
 
 -- a walk finds each record behind those before it
 pub found_at : (image : List ℕ) (area : Area) (most number from gate : ℕ) (before : List (List RecordLine)) (lines : List RecordLine) (after : List (List RecordLine)) (at : Gate)

@@ -1,5 +1,5 @@
 -- Calls that write, one after another.
-use Rattle.redo_journal.proofs.Common.{◌≡◌, ℕ, ◌+◌, ◌≤◌, List, length, refl, sym, ◌∙◌, ap, subst, arith, length-append, ForSome, option_map, length-take, length-drop, Ghosts, Failed, Torn, Writes, CountsWrite, written, OnlyAsks, FewerLater, held_of, told_some, calls_none, calls_on, still_told, Option, Some, IsSome, IsTrue, Result, Ok, Err, nat_tests}
+use Rattle.redo_journal.proofs.Common.{◌≡◌, ℕ, ◌+◌, ◌≤◌, List, length, ◌∙◌, ap, arith, length-append, ForSome, option_map, length-take, length-drop, Ghosts, Failed, Torn, Writes, CountsWrite, written, OnlyAsks, FewerLater, held_of, told_some, calls_none, calls_on, still_told, Option, Some, IsSome, IsTrue, Result, Ok, Err, nat_tests}
 use Rattle.outside.specs.Causes.{FailsOnlyCounted}
 use Rattle.outside.specs.Moments.{IsOneCall, Elapses, PrintsNothing, LeavesStep}
 use Rattle.redo_journal.specs.Held.{IsMoreBy, OnlyWrites, WritesOnce}
@@ -30,12 +30,7 @@ module _ {W : Type 0} (G : Ghosts W) (fewer_later : FewerLater G) (old mid new :
 
 -- calls that only ask
 pub asks_only : {W : Type 0} (G : Ghosts W) (old new : W) → OnlyAsks G old new → OnlyWrites G old new
-asks_only G old new asks = record {
-  calls = asks.calls;
-  told = λ told. subst (λ (those : Option (List ℕ)). IsSome those) (sym asks.held) told;
-  longer = λ count room. subst (λ (those : Option (List ℕ)). ForSome those (λ bytes. count ≤ length bytes)) (sym asks.held) room;
-  writes = same_fewer (G.writes old) (G.writes new) asks.writes;
-}
+asks_only G old new asks = grind (arith, nat_tests, same_fewer)
 
 -- a call that writes
 pub once : {W : Type 0} (G : Ghosts W) {T : Type 0} (at : ℕ) (bytes : List ℕ) (old new : W) (result : Result T Failed) → Writes (G.held old) (G.held new) at bytes result → CountsWrite (G.writes old) (G.writes new) result → G.is_honest new ≡ G.is_honest old
@@ -61,9 +56,4 @@ held_left G held_now now told = held_now now (held_of G now) (told_some (G.held 
 
 -- no call at all
 pub wrote_nothing : {W : Type 0} (G : Ghosts W) (now : W) → OnlyWrites G now now
-wrote_nothing G now = record {
-  calls = calls_none G now;
-  told = λ told. told;
-  longer = λ count room. room;
-  writes = same_fewer (G.writes now) (G.writes now) refl;
-}
+wrote_nothing G now = grind (arith, nat_tests, calls_none, same_fewer)

@@ -1,4 +1,4 @@
-use Rattle.redo_journal.proofs.Lemmas.{◌≡◌, ℕ, ◌+◌, ◌%◌, ◌^◌, List, [], length, drop, sym, subst, ◌∙◌, ap, arith, refl, IsSome, Option, unwrap_or, big_number, big_from-take, number_at, gate_at, bank_held, held_of, AreWithin, read_is, asks_one, asks_on, reads_within, read_gate, starts, read_closed, read_wrong, read_sound, area_to}
+use Rattle.redo_journal.proofs.Lemmas.{nat_tests, ◌≡◌, ℕ, ◌+◌, ◌%◌, ◌^◌, List, length, drop, sym, subst, ◌∙◌, ap, arith, refl, IsSome, Option, big_number, big_from-take, number_at, gate_at, bank_held, held_of, AreWithin, read_is, asks_one, asks_on, reads_within, read_gate, starts, read_closed, read_wrong, read_sound, area_to}
 use Rattle.store_format.specs.Bank as format
 use Rattle.redo_journal.proofs.read.read_bank.Given.{Over}
 use Rattle.redo_journal.proofs.read.read_bank.Goals as goal
@@ -14,10 +14,7 @@ due_is g c = omega (arith, c.from-in-loop-count.ensures)
 same_gate : (g : Over) (c : goal.After-read_gate g)
     → read_gate c.args.page (held_of g.W.Outside c.loop-count.outside) (length c.loop-count.newest) (c.args.at + 8 + c.from.result) (due g c) c.loop-count.gate
     ≡ read_gate c.args.page (held_of g.W.Outside c.args.outside.now) (length c.args.newest.now) (c.args.at + 8 + c.args.bank_bytes) (due g c) c.loop-count.gate
-same_gate g c =
-    ap (λ (those : Option (List ℕ)). read_gate c.args.page (unwrap_or those []) (length c.loop-count.newest) (c.args.at + 8 + c.from.result) (due g c) c.loop-count.gate) c.loop-count.invariant.asks.held
-    ∙ ap (λ (n : ℕ). read_gate c.args.page (held_of g.W.Outside c.args.outside.now) n (c.args.at + 8 + c.from.result) (due g c) c.loop-count.gate) c.loop-count.invariant.len
-    ∙ ap (λ (n : ℕ). read_gate c.args.page (held_of g.W.Outside c.args.outside.now) (length c.args.newest.now) (c.args.at + 8 + n) (due g c) c.loop-count.gate) c.from.ensures
+same_gate g c = grind (arith, nat_tests)
 
 base_is : (g : Over) (c : goal.After-read_gate g) → IsSome (g.W.Outside.held c.args.outside.now) → c.read_u64-base.result ≡ number_at (held_of g.W.Outside c.args.outside.now) c.args.at 8
 base_is g c some =

@@ -1,15 +1,10 @@
-use Rattle.redo_journal.proofs.Lemmas.{◌≡◌, ℕ, ◌+◌, ◌*◌, ◌≤◌, List, [], ◌∷◌, length, sym, subst, ◌∙◌, ap, arith, IsSome, false, ForSome, Option, Some, unwrap_or, nat_le, nat_lt, ◌&&◌, overlaid, entry_bytes, wrong_line, bytes_at, OnlyAsks, held_of, noted, AreWithin, read_is, asks_on, asks_one, in_order, entries-below, within-overlaid, lines_after, wrong_here, right_here, noted_here, is_low, is_high, reads_within}
+use Rattle.redo_journal.proofs.Lemmas.{nat_tests, ◌≡◌, ℕ, ◌+◌, ◌*◌, List, [], ◌∷◌, length, sym, subst, ◌∙◌, ap, arith, IsSome, Option, Some, overlaid, entry_bytes, wrong_line, bytes_at, OnlyAsks, held_of, noted, AreWithin, read_is, asks_on, asks_one, in_order, entries-below, within-overlaid, lines_after, wrong_here, right_here, noted_here, is_low, reads_within}
 use Rattle.redo_journal.proofs.read.read_lines.Given.{Over}
 use Rattle.redo_journal.proofs.read.read_lines.Goals as goal
 use Rattle.redo_journal.proofs.read.read_lines.Goals.{After-read_u32-line, then-from-least-via-then-from-least, then-from-least-via-else-from-least+then-len-line}
 
 read : (g : Over) (c : goal.After-read_u32-line g) → IsSome (g.W.Outside.held c.args.outside.now) → c.read_at.new.into ≡ bytes_at (held_of g.W.Outside c.args.outside.now) (c.args.at + entry_bytes c.args.page * c.loop-i.i) 4
-read g c some =
-    let same = c.loop-i.invariant.asks.held in
-    let told = subst (λ (those : Option (List ℕ)). IsSome those) (sym same) some in
-    read_is (g.W.Outside.held c.loop-i.outside) c.read_at.new.into _ 4 told c.in_ok-read_at.ensures.read
-    ∙ ap (λ (those : Option (List ℕ)). bytes_at (unwrap_or those []) (c.args.at + c.from.result) 4) same
-    ∙ ap (λ (n : ℕ). bytes_at (held_of g.W.Outside c.args.outside.now) (c.args.at + n) 4) (c.from.ensures ∙ c.entries_bytes.ensures.value)
+read g c some = grind (arith, nat_tests, read_is, c.loop-i.invariant.asks.held, g.W.Outside.held)
 
 -- the reads so far and this one
 asked : (g : Over) (c : goal.After-read_u32-line g) → OnlyAsks g.W.Outside c.args.outside.now c.read_at.new.self
@@ -20,18 +15,7 @@ pub returns-then-from-least-clause-asks : goal.returns-then-from-least-clause-as
 returns-then-from-least-clause-asks g c = asked g (goal.at.returns-then-from-least-clause-asks g c).After-read_u32-line
 
 pub returns-then-from-least-clause-fault : goal.returns-then-from-least-clause-fault
-returns-then-from-least-clause-fault g c some =
-    let at = (goal.at.returns-then-from-least-clause-fault g c).After-read_u32-line in
-    let held = held_of g.W.Outside c.args.outside.now in
-    let bound = length c.loop-i.newest in
-    let place : Some (c.args.at + c.from.result) ≡ Some (c.args.at + entry_bytes c.args.page * c.loop-i.i) = ap (λ (n : ℕ). Some (c.args.at + n)) (c.from.ensures ∙ c.entries_bytes.ensures.value) in
-    let wrong : nat_le c.loop-i.least c.read_u32-line.result && nat_lt c.read_u32-line.result bound ≡ false = elim c.then-from-least.branch [
-      | then-from-least-via-then-from-least w ↦ is_low bound c.loop-i.least c.read_u32-line.result (omega (arith, w.if-from-least.true, c.from-in-loop-i.ensures))
-      | then-from-least-via-else-from-least+then-len-line w ↦ is_high bound c.loop-i.least c.read_u32-line.result (omega (arith, w.if-len-line.true, w.len.ensures))
-    ] in
-    place
-    ∙ sym (wrong_here c.args.page c.args.count c.loop-i.i c.args.at held c.read_at.new.into c.read_u32-line.result c.loop-i-test.true (read g at some) c.read_u32-line.ensures bound c.loop-i.least wrong)
-    ∙ c.loop-i.invariant.fault some
+returns-then-from-least-clause-fault g c some = grind (arith, nat_tests, is_low, wrong_here, c.loop-i.invariant.fault)
 
 pub loop-i-preserved : goal.loop-i-preserved
 loop-i-preserved g c =
@@ -61,9 +45,7 @@ loop-i-preserved g c =
     }
 
 pub read_at-requires : goal.read_at-requires
-read_at-requires g c =
-    reads_within (g.W.Outside.held c.loop-i.outside) (c.args.at + c.from.result + 4) (c.args.at + entry_bytes c.args.page * c.args.count) (omega (arith, c.from.ensures, c.entries_bytes.ensures.value, entries-below c.args.page c.loop-i.i c.args.count c.loop-i-test.true))
-    (subst (λ (those : Option (List ℕ)). ForSome those (λ bytes. c.args.at + entry_bytes c.args.page * c.args.count ≤ length bytes)) (sym c.loop-i.invariant.asks.held) c.requires.room)
+read_at-requires g c = grind (arith, nat_tests, reads_within, entries-below, g.W.Outside.held)
 
 pub returns-in_err-read_at-clause-asks : goal.returns-in_err-read_at-clause-asks
 returns-in_err-read_at-clause-asks g c =

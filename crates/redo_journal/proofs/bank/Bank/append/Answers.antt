@@ -1,5 +1,5 @@
-use Rattle.redo_journal.proofs.Lemmas.{◌≡◌, inl, ℕ, ◌+◌, ◌*◌, List, [], ◌∷◌, ◌++◌, length, drop, slice_set, refl, sym, subst, ◌∙◌, ap, arith, rules, length-append, Option, None, Some, IfSome, SameShape, IsAppended, entry_bytes, RecordLine, lines_from, wrong_line, record_bytes, length-take-le, leaves_held, IsStore, stands, one_more, held_of, noted, AreNewest, KeptBank, end_of, begun_of, spoilt, begun_count, begun_lines, kept_of, TracksBank, IsEither, HoldsOneOf, IsSafe, IsShut, needed_end, take, IsReadied, make_ready, shut, either, one_of, same, more, after, doubted, filled_lines, says_room, begun_is, fields_tracked, with_record_is, is_begun, unwrapped, below_in_order, newest_more, held_left}
-use Rattle.redo_journal.specs.Appended.{Appends, CountsKept, FailedLeaves, IsApart, bank_appended, kept_in}
+use Rattle.redo_journal.proofs.Lemmas.{nat_tests, ◌≡◌, ℕ, ◌+◌, ◌*◌, List, [], ◌∷◌, ◌++◌, length, drop, slice_set, refl, sym, subst, ◌∙◌, ap, arith, rules, length-append, Option, None, Some, IfSome, SameShape, IsAppended, entry_bytes, RecordLine, lines_from, wrong_line, record_bytes, length-take-le, leaves_held, IsStore, stands, one_more, held_of, noted, AreNewest, KeptBank, end_of, begun_of, spoilt, begun_count, begun_lines, kept_of, TracksBank, IsEither, HoldsOneOf, IsSafe, IsShut, needed_end, take, IsReadied, make_ready, shut, either, one_of, same, more, after, doubted, filled_lines, says_room, begun_is, fields_tracked, with_record_is, is_begun, unwrapped, below_in_order, newest_more, held_left}
+use Rattle.redo_journal.specs.Appended.{Appends, CountsKept, FailedLeaves, bank_appended, kept_in}
 use Rattle.redo_journal.specs.declared.keep.Appended.{Appended}
 use Rattle.redo_journal.specs.declared.keep.Appended.TheVariants as appending
 use Rattle.redo_journal.specs.declared.keep.Kept.{Kept}
@@ -16,9 +16,7 @@ count : (g : Over) (c : goal.After-keep_body g) → begun_count c.self.inside �
 count g c = unwrapped c.self.inside.begun c.unwrap-begun.result c.unwrap-begun.ensures
 
 pub fill-requires : goal.fill-requires
-fill-requires g c =
-    let n = unwrapped c.self.inside.begun c.unwrap-begun.result c.unwrap-begun.ensures in
-    omega (arith, ap (λ (k : ℕ). entry_bytes c.self.inside.page * k) n, c.self.invariant.buffer, c.self.invariant.fits)
+fill-requires g c = grind (arith, nat_tests, unwrapped)
 
 -- the bytes of the lines that are begun
 sized : (g : Over) (c : goal.After-keep_body g) → c.from-bytes.result ≡ entry_bytes c.self.inside.page * begun_count c.self.inside
@@ -41,23 +39,7 @@ begun : (g : Over) (c : goal.After-keep_body g) → begun_lines c.self.inside �
 begun g c = begun_is c.self.inside c.args.self.now c.self.view_is
 
 pub returns-then-end_of-self : goal.returns-then-end_of-self
-returns-then-end_of-self g c =
-    let says = says_room c.self.inside c.args.self.now c.self.view_is in
-    let n = unwrapped c.self.inside.begun c.unwrap-begun.result c.unwrap-begun.ensures in
-    record {
-      only = search rules;
-      shape = search rules;
-      kept = refl;
-      full = (λ is. omega (arith, ap (λ (k : ℕ). entry_bytes c.self.inside.page * k) n, says.end, says.need, c.end_of.ensures.value, c.from-bytes.ensures, c.entries_bytes.ensures.value, c.if-end_of-self.true), λ is. refl);
-      nothing = λ is. refl;
-      counted = tt;
-      writes = λ is. cc;
-      crash = λ tracks image seen left. inl (ap stands (leaves_held g.W.Outside c.args.outside.now tracks.sure image seen left));
-      apart = λ tracks image seen left. subst (λ (those : List ℕ). IsApart c.args.self.now.gate (needed_end c.args.self.now) (held_of g.W.Outside c.args.outside.now) those) (sym (leaves_held g.W.Outside c.args.outside.now tracks.sure image seen left)) (record { front = refl; behind = refl; long = refl });
-      left = λ tracks. tt;
-      records = search rules;
-      done = λ is. cc;
-    }
+returns-then-end_of-self g c = grind (arith, nat_tests, says_room, unwrapped, leaves_held)
 
 pub note-requires-clause-ordered : goal.note-requires-clause-ordered
 note-requires-clause-ordered g c =

@@ -1,4 +1,4 @@
-use Rattle.redo_journal.proofs.Lemmas.{◌≡◌, ℕ, ◌+◌, ◌*◌, ◌<◌, ◌≤◌, List, [], ◌∷◌, ◌++◌, length, drop, refl, sym, ◌∙◌, ap, subst, arith, All, Some, big_bytes, overlaid, entry_bytes, RecordLine, lines_from, wrong_line, record_bytes, wrong_line-push, KeptBank, begun_of, with_line, record_bytes_of, line_bytes_of, Inside, begun_count, begun_lines, kept_of, nat_tests, begun_is, length-begun, is_begun, unwrapped}
+use Rattle.redo_journal.proofs.Lemmas.{◌≡◌, ℕ, ◌+◌, ◌*◌, ◌<◌, ◌≤◌, List, [], ◌∷◌, ◌++◌, length, drop, refl, sym, ◌∙◌, ap, subst, arith, All, Some, entry_bytes, RecordLine, lines_from, wrong_line, record_bytes, wrong_line-push, KeptBank, begun_of, with_line, record_bytes_of, line_bytes_of, Inside, begun_count, begun_lines, kept_of, nat_tests, begun_is, length-begun, is_begun, unwrapped}
 use Rattle.redo_journal.proofs.LineLemmas.{line_added, least_low}
 use Rattle.redo_journal.proofs.bank.Bank.record_line.Goals as goal
 use Rattle.redo_journal.proofs.bank.Bank.record_line.Goals.{After-write-2}
@@ -31,17 +31,7 @@ room c = has_room c.self.inside c.args.self.now c.unwrap-begun.result c.self.vie
 lines : (c : goal.After-write-2) → 12 + entry_bytes c.self.inside.page * (c.unwrap-begun.result + 1) ≤ c.self.inside.bank_bytes → begun_count c.self.inside ≡ c.unwrap-begun.result
     → lines_from c.self.inside.page (c.unwrap-begun.result + 1) (c.self.inside.gate + 11) (drop 10 c.write-2.new.self)
     ≡ begun_lines c.self.inside ++ record { line = c.args.line; at = c.self.inside.gate + record_bytes c.self.inside.page c.unwrap-begun.result; bytes = c.args.bytes.now } ∷ []
-lines c fits n =
-    let bank = c.self.inside in
-    let count = c.unwrap-begun.result in
-    let at : 10 + c.entries_bytes.result ≡ 10 + entry_bytes c.self.inside.page * count = omega (arith, c.entries_bytes.ensures.value) in
-    let body : c.write-2.new.self ≡ overlaid (overlaid bank.body (10 + entry_bytes c.self.inside.page * count) (big_bytes 4 c.args.line)) (10 + entry_bytes c.self.inside.page * count + 4) c.args.bytes.now =
-    c.write-2.ensures.value
-    ∙ ap (λ (these : List ℕ). overlaid these (10 + c.entries_bytes.result + 4) c.args.bytes.now) (c.write.ensures.value ∙ ap (overlaid bank.body (10 + c.entries_bytes.result)) c.word.ensures)
-    ∙ ap (λ (n : ℕ). overlaid (overlaid bank.body n (big_bytes 4 c.args.line)) (n + 4) c.args.bytes.now) at in
-    ap (λ (these : List ℕ). lines_from c.self.inside.page (count + 1) (bank.gate + 11) (drop 10 these)) body
-    ∙ line_added c.self.inside.page bank.body c.args.bytes.now count bank.gate c.args.line (c.requires.whole ∙ sym (ap (λ (kept : KeptBank). line_bytes_of kept) c.self.view_is)) c.ranges.line.fits (omega (arith, c.self.invariant.buffer, fits))
-    ∙ ap (λ (n : ℕ). lines_from c.self.inside.page n (bank.gate + 11) (drop 10 bank.body) ++ record { line = c.args.line; at = bank.gate + record_bytes c.self.inside.page count; bytes = c.args.bytes.now } ∷ []) (sym n)
+lines c fits n = grind (arith, nat_tests, line_added, c.self.inside, c.unwrap-begun.result)
 
 pub invariant_of-self : goal.invariant_of-self
 invariant_of-self c =

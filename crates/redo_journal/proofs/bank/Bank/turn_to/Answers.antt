@@ -1,4 +1,4 @@
-use Rattle.redo_journal.proofs.Lemmas.{◌≡◌, ℕ, ◌+◌, ◌*◌, List, length, drop, refl, sym, subst, ◌∙◌, ap, arith, Option, None, length-replicate, entry_bytes, RecordLine, wrong_line, KeptBank, end_of, AreWithin, begun_count, begun_lines, kept_of, length-begun}
+use Rattle.redo_journal.proofs.Lemmas.{nat_tests, ◌≡◌, ℕ, ◌+◌, ◌*◌, List, length, drop, refl, sym, subst, ◌∙◌, ap, arith, Option, None, length-replicate, entry_bytes, RecordLine, wrong_line, end_of, AreWithin, begun_count, begun_lines, kept_of, length-begun}
 use Rattle.redo_journal.proofs.TurnLemmas.{lines_placed, placed_order, none_within, turned_fields, turned_is}
 use Rattle.redo_journal.proofs.bank.Bank.turn_to.Goals as goal
 
@@ -33,8 +33,4 @@ returns-clause-fits c =
     omega (arith, ap (λ (n : ℕ). entry_bytes c.self.inside.page * n) (length-begun fields (kept_of fields) refl), c.place_of.ensures.end, c.self.invariant.fits)
 
 pub returns-clause-shape : goal.returns-clause-shape
-returns-clause-shape c = record {
-  page = ap (λ (bank : KeptBank). bank.page) c.self.view_is;
-  bank_bytes = ap (λ (bank : KeptBank). bank.bank_bytes) c.self.view_is;
-  lines = ap length c.forget.ensures ∙ length-replicate {A = Option ℕ} (length c.self.inside.newest) None ∙ ap (λ (bank : KeptBank). length bank.newest) c.self.view_is;
-}
+returns-clause-shape c = grind (arith, nat_tests, length-replicate)
