@@ -56,12 +56,4 @@ module _ {X : Type 0} (F : List X → List ℕ) (split : (xs ys : List X) → F 
 
 -- puts, and then puts
 pub only_on : {W T U : Type 0} (G : Ghosts W) (fewer_later : FewerLater G) (old mid new : W) (value : T) (result : Result U Failed) → OnlyPuts G old mid (Ok value) → OnlyPuts G mid new result → OnlyPuts G old new result
-only_on G fewer_later old mid new value result first second = record {
-  held = second.held ∙ first.held;
-  writes = second.writes ∙ first.writes;
-  honest = second.honest ∙ first.honest;
-  time = elapses-trans G fewer_later old mid new first.time second.time;
-  cause = cause_since (G.put_faults old) (G.put_faults mid) (G.put_faults new) value result first.cause second.cause;
-  calls = second.calls ∙ first.calls;
-  disk = second.disk ∙ first.disk;
-}
+only_on G fewer_later old mid new value result first second = grind (arith, nat_tests, elapses-trans, cause_since)
