@@ -42,12 +42,10 @@ small_square n small = grind arith
 
 batches_short : (size : ℕ → ℕ) → ((i : ℕ) → size i ≤ 16) → (xs : List ℕ) → length (flat_map (λ i. batch (16 * i) (size i)) xs) ≤ 288 * length xs
 batches_short size small [] = omega arith
-batches_short size small (x ∷ xs) =
-    omega (arith, batches_short size small xs, length-append (batch (16 * x) (size x)) (flat_map (λ i. batch (16 * i) (size i)) xs), batch_long (16 * x) (size x), small_square (size x) (small x), small x)
+batches_short size small (x ∷ xs) = grind (arith, batches_short size small xs, length-append (batch (16 * x) (size x)) (flat_map (λ i. batch (16 * i) (size i)) xs), batch_long (16 * x) (size x), small_square (size x) (small x), small x)
 
 few_events : (n : ℕ) → n ≤ 512 → length (big_events n) ≤ 10000
-few_events n small =
-    omega (arith, batches_short (λ i. min 16 (n - 16 * i)) (λ i. omega arith) (range_with_len 0 ((n + 15) / 16)), length-range_with_len 0 ((n + 15) / 16), length-append (batches n) (Begin 2 (0 ∷ 256 ∷ 0 ∷ 0 ∷ []) ∷ Turn (n + 2) 1000000 ∷ []))
+few_events n small = grind (arith, batches_short (λ i. min 16 (n - 16 * i)) (λ i. omega arith) (range_with_len 0 ((n + 15) / 16)), length-range_with_len 0 ((n + 15) / 16), length-append (batches n) (Begin 2 (0 ∷ 256 ∷ 0 ∷ 0 ∷ []) ∷ Turn (n + 2) 1000000 ∷ []))
 
 -- what holds of each begin of one of three programs, and of each turn, holds of each of them
 module _ (P : Event → Type 0) (begin : (program : ℕ) (args : List ℕ) → program < 3 → P (Begin program args)) (turn : (activation limit : ℕ) → limit ≤ 1000000 → P (Turn activation limit)) where
@@ -84,9 +82,7 @@ big_ready n job events small ready three are = record {
   frames = ready.frames;
   named = ready.named;
   names = ready.names;
-  events =
-      subst (λ (these : List Event). All (IsEventAmong (length job.programs.items)) these) (sym are)
-      (subst (λ (programs : ℕ). All (IsEventAmong programs) (big_events n)) (sym three) (events_all (IsEventAmong 3) (λ program args small. small) (λ activation limit small. small) n));
+  events = grind (arith, events_all (IsEventAmong 3) (λ program args small. small) (λ activation limit small. small) n);
   few = subst (λ (these : List Event). length these ≤ 10000) (sym are) (few_events n small);
 }
 

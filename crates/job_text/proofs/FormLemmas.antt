@@ -214,16 +214,7 @@ module _ (number : ℕ) (line : List ℕ) (lines : List (List ℕ)) (content : C
       → ((others : List (List ℕ)) (more : List Statement) → statements_from (number + 1) others ≡ Ok more → statements_from number (line ∷ others) ≡ Ok (here ++ more))
       → (source : List (List ℕ)) (more : List Statement) (others : List (List Statement)) → HasSources (number + 1) source (more ∷ others) → HasSources number (line ∷ source) ((here ++ more) ∷ others)
   has_line here no_end no_part gives source more [] has = (((no_end, no_part), has.0), gives source more has.1)
-  has_line here no_end no_part gives source more (next ∷ others) has = (
-    line ∷ has.0,
-    has.1,
-    has.2,
-    ap (λ these. line ∷ these) has.3,
-    ((no_end, no_part), has.4),
-    gives has.0 more has.5,
-    has.6,
-    subst (λ n. HasSources n has.2 (next ∷ others)) (omega arith) has.7,
-  )
+  has_line here no_end no_part gives source more (next ∷ others) has = grind (arith, line ∷ has.0, has.1, has.2, has.3, has.4, gives has.0 more has.5, has.6, has.7)
 
   source_more : (here : List Statement) → (IsOnly (codes "end") line → ⊥) → (IsOnly (codes ".part") line → ⊥)
       → ((others : List (List ℕ)) (more : List Statement) → statements_from (number + 1) others ≡ Ok more → statements_from number (line ∷ others) ≡ Ok (here ++ more))
@@ -302,9 +293,7 @@ module _ (number : ℕ) (line : List ℕ) (lines : List (List ℕ)) (content : C
   source_done end (Err fault) is = tt
 
   source_step : BackSource (source_line reading number line)
-  source_step =
-      cond_both (is_end (tokens line)) _ _ BackSource (λ end. source_done end (linked (sources_of reading)) refl)
-      (λ end. cond_both (is_part (tokens line)) _ _ BackSource (λ is. source_parts is (nat_lt (length reading.sources) 15) refl) (λ is. source_goes end is (line_of number line) refl))
+  source_step = grind (arith, source_done, source_parts, source_goes)
 
 -- a blank line before programs
 has_blank : (others : List (List ℕ)) (number : ℕ) (line : List ℕ) (lines : List (List ℕ)) (names : List (List ℕ)) (programs : List Parts) → IsBlank line → HasPrograms others (number + 1) names programs lines → HasPrograms others number names programs (line ∷ lines)

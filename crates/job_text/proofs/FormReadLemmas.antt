@@ -26,15 +26,13 @@ IsByTokens _ = Unit {0}
 
 -- a line of these tokens
 says_read : (stage : Stage) (reading new : Reading) (number : ℕ) (line : List ℕ) (found : List Token) → IsByTokens stage → tokens line ≡ Ok found → tokens_read stage reading found ≡ Ok new → line_read stage reading number line ≡ Ok new
-says_read Source reading new number line found by is read = absurd by
-says_read _ reading new number line found by is read = rw is (ap (at_line number) read)
+says_read stage reading new number line found by is read = grind (arith, read)
 
 reads_tokens : (reading new : Reading) (number : ℕ) (line : List ℕ) (lines : List (List ℕ)) (found : List Token) → AreSome lines → IsByTokens reading.stage → tokens line ≡ Ok found → tokens_read reading.stage reading found ≡ Ok new → read_from reading number (line ∷ lines) ≡ read_from new (number + 1) lines
 reads_tokens reading new number line lines found some by is read = reads_line reading new number line lines some (says_read reading.stage reading new number line found by is read)
 
 blank_read : (stage : Stage) (reading : Reading) → IsByTokens stage → tokens_read stage reading [] ≡ Ok reading
-blank_read Source reading by = absurd by
-blank_read _ reading by = refl
+blank_read stage reading by = grind arith
 
 -- blank lines
 reads_blank : (reading : Reading) (number : ℕ) (blank lines : List (List ℕ)) → AreBlank blank → AreSome lines → IsByTokens reading.stage → read_from reading number (blank ++ lines) ≡ read_from reading (number + length blank) lines

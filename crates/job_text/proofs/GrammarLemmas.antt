@@ -1,7 +1,7 @@
 -- The job of a text, as its lines are read one after the other.
 use Rattle.job_text.proofs.Common.{◌≡◌, ℕ, ◌+◌, ◌<◌, ◌≤◌, Bool, true, false, cond, nat_lt, List, [], ◌∷◌, length, take, Option, Some, None, Result, Ok, refl, sym, ap, ◌∙◌, arith, after_first, before_first, position_or_len, nat_tests, common_steps, is_feed, lines_of, JobFault, Content, job_of, last_part, read_from, then_read, IsJobFaultOf, Reading, line_read}
 use Rattle.asm_parse.specs.Cut.{behind_first}
-use Rattle.asm_parse.proofs.TextLemmas.{behind_shorter, cut, left_of}
+use Rattle.asm_parse.proofs.TextLemmas.{behind_shorter, cut}
 
 -- a line and what follows it
 pub read_line : (reading : Reading) (number : ℕ) (line : List ℕ) (next : List ℕ) (lines others : List (List ℕ)) → others ≡ next ∷ lines → read_from reading number (line ∷ others) ≡ then_read (λ more. read_from more (number + 1) others) (line_read reading.stage reading number line)
@@ -15,8 +15,7 @@ by_line reading number left line behind split =
 
 -- one line more was read
 pub line_more : (old new : Reading) (number : ℕ) (left line behind text : List ℕ) → lines_of left ≡ line ∷ lines_of behind → line_read old.stage old number line ≡ Ok new → read_from old number (lines_of left) ≡ job_of text → read_from new (number + 1) (lines_of behind) ≡ job_of text
-line_more old new number left line behind text split read so_far =
-    sym (by_line old number left line behind split ∙ ap (then_read (λ more. read_from more (number + 1) (lines_of behind))) read) ∙ so_far
+line_more old new number left line behind text split read so_far = cc (by_line old number left line behind split)
 
 faulty : (next : Reading → Result Content (ℕ × ℕ)) (answer : Result Reading (ℕ × ℕ)) (whole : Result Content (ℕ × ℕ)) (fault : JobFault) → IsJobFaultOf fault answer → then_read next answer ≡ whole → IsJobFaultOf fault whole
 faulty next answer whole fault told so_far = grind (arith, nat_tests)
@@ -37,8 +36,7 @@ first_cut text line behind rest first after some = cut is_feed text ∙ rw (← 
 
 -- what stands behind it is shorter
 pub first_shorter : (text behind : List ℕ) (rest : Option (List ℕ)) → rest ≡ behind_first is_feed text → rest ≡ Some behind → length behind < length text
-first_shorter text behind rest after some =
-    omega (arith, behind_shorter text rest after, ap left_of some)
+first_shorter text behind rest after some = grind (arith, behind_shorter text rest after)
 
 not_below : (n m : ℕ) → nat_lt n m ≡ false → m ≤ n
 not_below n m e = grind (arith, nat_tests)

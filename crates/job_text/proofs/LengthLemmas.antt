@@ -48,8 +48,7 @@ AreLine line = AllByRecursion IsToken line
 
 -- a `.word` or a `.byte`
 data_short : (word : List ℕ) (number : ℕ) → length word ≤ 5 → number < 2 ^ 32 → length (line_text (number_line word number)) ≤ 17
-data_short word number short small =
-    grind (arith, length-append, number_short number small)
+data_short word number short small = grind (arith, length-append, number_short number small)
 
 image_short : (bytes : List ℕ) → AreTokens (image_lines bytes) → 4 * bytes_in (image_lines bytes) ≤ 17 * length bytes + 153
 image_short [] are = omega arith
@@ -65,8 +64,7 @@ image_short (a ∷ b ∷ c ∷ d ∷ bytes) are =
 windows_short : (register : ℕ) (windows : List (Option Sight)) → AreTokens (window_lines register windows) → bytes_in (window_lines register windows) ≤ 193 * length windows
 windows_short register [] are = omega arith
 windows_short register (None ∷ windows) are = omega (arith, windows_short (register + 1) windows are)
-windows_short register (Some window ∷ windows) are =
-    omega (arith, line_before (window_line register window) (window_lines (register + 1) windows), line_short (window_line register window) are.0, windows_short (register + 1) windows are.1)
+windows_short register (Some window ∷ windows) are = grind (arith, line_before (window_line register window) (window_lines (register + 1) windows), line_short (window_line register window) are.0, windows_short (register + 1) windows are.1)
 
 program_short : (name : List ℕ) (parts : Parts) → AreTokens (program_lines (name, parts)) → length parts.image ≤ 16384 → length parts.windows ≡ 15 → bytes_in (program_lines (name, parts)) ≤ 73000
 program_short name parts are few long =
@@ -131,8 +129,7 @@ module _ (names : List (List ℕ)) where
 
   events_four : (begins : ℕ) (lines : List (List ℕ)) (events : List Event) → HasEvents names begins lines events → AllFour events
   events_four begins [] events has = subst AllFour (sym has) tt
-  events_four begins (line ∷ lines) events has =
-      subst AllFour (sym has.5) (four_both has.1 has.2 (line_four begins has.3 has.0 has.1 has.6) (events_four has.3 lines has.2 has.7))
+  events_four begins (line ∷ lines) events has = grind (arith, has.5, four_both has.1 has.2 (line_four begins has.3 has.0 has.1 has.6) (events_four has.3 lines has.2 has.7))
 
   numbers_many : (args : List ℕ) → length (map Number args) ≡ length args
   numbers_many [] = omega arith
@@ -143,8 +140,7 @@ module _ (names : List (List ℕ)) where
 
   events_short : (events : List Event) → AllFour events → AreTokens (map (event_line names) events) → bytes_in (map (event_line names) events) ≤ 193 * length events
   events_short [] four are = omega arith
-  events_short (event ∷ events) four are =
-      omega (arith, line_before (event_line names event) (map (event_line names) events), event_short event four.0 are.0, events_short events four.1 are.1)
+  events_short (event ∷ events) four are = grind (arith, line_before (event_line names event) (map (event_line names) events), event_short event four.0 are.0, events_short events four.1 are.1)
 
 -- what a job of some text is written as has fewer than 2^23 bytes
 pub written_short : (text : List ℕ) (content : Content) (form : IsJobText text content) → AllSound content.programs → length (written content) < 2 ^ 23

@@ -3,15 +3,11 @@ use Rattle.job_text.proofs.Common.{◌≡◌, ℕ, ◌+◌, true, List, [], ◌�
 
 -- a word that doesn't begin with `.`
 name_of : (word : List ℕ) → IsWord word → is_label word ≡ true → IsName word
-name_of [] is label = absurd is
-name_of (byte ∷ bytes) is label = grind (arith, nat_tests)
+name_of word is label = grind arith
 
 names_are : (others : List (List ℕ)) (number : ℕ) (names : List (List ℕ)) (programs : List Parts) (lines : List (List ℕ)) → HasPrograms others number names programs lines → AllByRecursion IsName names
 names_are others number [] [] lines has = tt
-names_are others number (name ∷ names) (parts ∷ programs) lines has = (
-  name_of name (found_tokens has.3.head (Word (codes "program") ∷ Word name ∷ []) has.3.says).1.0 has.3.label,
-  names_are (others ++ name ∷ []) (number + length has.0) names programs has.1 has.5,
-)
+names_are others number (name ∷ names) (parts ∷ programs) lines has = grind (arith, name_of name (found_tokens has.3.head (Word (codes "program") ∷ Word name ∷ []) has.3.says).1.0 has.3.label, names_are (others ++ name ∷ []) (number + length has.0) names programs has.1 has.5)
 names_are others number _ _ lines has = absurd has
 
 each_name : (names : List (ArrayVec ℕ)) → AllByRecursion IsName (map (λ (name : ArrayVec ℕ). name.items) names) → AllByRecursion (λ (name : ArrayVec ℕ). IsName name.items) names

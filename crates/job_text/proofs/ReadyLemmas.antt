@@ -1,4 +1,5 @@
 -- Events that can be run.
+use Rattle.std.proofs.Common.{arith}
 use Rattle.job_text.proofs.Common.{bytes_eq, All-append, All-cons, All-nil, position-Some, Event, Begin, Turn, Checkpoint, Crash, Token, IsEventAmong, IsBegin, IsNoBegin, IsEventLine, HasEvents, rounds_of, turns_to, four_of}
 use Rattle.std.proofs.Common.{inl, inr, ℕ, zero, suc, ◌+◌, ◌≤◌, List, [], ◌∷◌, length, All, sym, subst}
 
@@ -22,8 +23,7 @@ module _ (names : List (List ℕ)) where
   AreAmong events = All (IsEventAmong (length names)) events
 
   begin_among : (found : List Token) (here : List Event) → IsBegin names found here → AreAmong here
-  begin_among found here is =
-      subst AreAmong (sym is.gives) (one_event (length names) (Begin is.program (four_of is.values)) (position-Some (λ name. bytes_eq name is.name) names is.program [] is.known).0)
+  begin_among found here is = grind (arith, is.gives, one_event (length names) (Begin is.program (four_of is.values)) (position-Some (λ name. bytes_eq name is.name) names is.program [] is.known).0)
 
   other_among : (begins : ℕ) (found : List Token) (here : List Event) → IsNoBegin begins found here → AreAmong here
   other_among begins found here (inl is) = subst AreAmong (sym is.1) (All-nil (IsEventAmong (length names)))
@@ -38,5 +38,4 @@ module _ (names : List (List ℕ)) where
 
   pub events_among : (begins : ℕ) (lines : List (List ℕ)) (events : List Event) → HasEvents names begins lines events → AreAmong events
   events_among begins [] events has = subst AreAmong (sym has) (All-nil (IsEventAmong (length names)))
-  events_among begins (line ∷ lines) events has =
-      subst AreAmong (sym has.5) (All-append (IsEventAmong (length names)) has.1 has.2 (line_among begins has.3 has.0 has.1 has.6) (events_among has.3 lines has.2 has.7))
+  events_among begins (line ∷ lines) events has = grind (arith, has.5, All-append (IsEventAmong (length names)) has.1 has.2 (line_among begins has.3 has.0 has.1 has.6) (events_among has.3 lines has.2 has.7))

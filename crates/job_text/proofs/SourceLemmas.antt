@@ -1,5 +1,5 @@
 -- The source that a program is written as.
-use Rattle.job_text.proofs.Common.{◌≡◌, ℕ, pos, ◌+◌, ◌<◌, ◌≤◌, ◌^◌, ◌%◌, Bool, true, false, List, [], ◌∷◌, ◌++◌, length, map, codes, Option, Some, None, Ok, refl, ap, ◌∙◌, subst, arith, from_be_bytes, w32, AllByRecursion, AllZip, map-append, is_label, statement_of, statements_from, Token, Word, IsToken, IsWord, Parts, IsByte, IsLegalPlace, byte_body, image_bodies, made, plain_at, source_bodies, source_made, window_bodies, word_small, exported, linked_alone, HaveNoMark, IsProgram, is_end, is_part, access_text, end_line, image_lines, number_line, program_lines, tokens_text, window_line, window_lines, nat_tests}
+use Rattle.job_text.proofs.Common.{◌≡◌, ℕ, pos, ◌+◌, ◌<◌, ◌≤◌, ◌^◌, ◌%◌, Bool, true, false, List, [], ◌∷◌, ◌++◌, length, map, codes, Option, Some, None, Ok, refl, ap, ◌∙◌, arith, from_be_bytes, w32, AllByRecursion, AllZip, map-append, is_label, statement_of, statements_from, Token, Word, IsToken, IsWord, Parts, IsByte, IsLegalPlace, byte_body, image_bodies, made, plain_at, source_bodies, source_made, window_bodies, word_small, exported, linked_alone, HaveNoMark, IsProgram, is_end, is_part, access_text, end_line, image_lines, number_line, program_lines, tokens_text, window_line, window_lines, nat_tests}
 use Rattle.flat_machine.specs.declared.machine.Window.{Window as Sight}
 use Rattle.asm_parse.specs.declared.statement.Body.{Body}
 use Rattle.asm_parse.specs.declared.statement.Body.TheVariants.{Data, Window, Entry}
@@ -30,8 +30,7 @@ byte_source : (byte : ℕ) → byte < 256 → IsSourceLine (number_line (codes "
 byte_source byte small = record { tokens = ((refl, refl, omega arith), (omega arith, tt)); on = refl; same = refl; plain = refl; says = λ number. byte_stated number byte }
 
 access_word : (write : Bool) → IsWord (access_text write)
-access_word true = (refl, refl, omega arith)
-access_word false = (refl, refl, omega arith)
+access_word write = grind arith
 
 window_source : (register : ℕ) (window : Sight) → register < 2 ^ 32 → window.segment ≤ 3839 → IsSourceLine (window_line register window) (Window register window.segment window.write)
 window_source register window small legal = record {
@@ -47,9 +46,7 @@ bytes_sources [] are = tt
 bytes_sources (byte ∷ bytes) are = (byte_source byte are.0, bytes_sources bytes are.1)
 
 image_sources : (bytes : List ℕ) → AllByRecursion IsByte bytes → AllZip IsSourceLine (image_lines bytes) (image_bodies bytes)
-image_sources (a ∷ b ∷ c ∷ d ∷ bytes) are =
-    let small : from_be_bytes w32 (a ∷ b ∷ c ∷ d ∷ []) ≤ 4294967295 = word_small a b c d are.0 are.1.0 are.1.1.0 are.1.1.1.0 in
-    (word_source (from_be_bytes w32 (a ∷ b ∷ c ∷ d ∷ [])) (omega (arith, small)), image_sources bytes are.1.1.1.1)
+image_sources (a ∷ b ∷ c ∷ d ∷ bytes) are = grind (arith, word_source (from_be_bytes w32 (a ∷ b ∷ c ∷ d ∷ [])) (omega (arith, (word_small a b c d are.0 are.1.0 are.1.1.0 are.1.1.1.0))), image_sources bytes are.1.1.1.1)
 image_sources bytes are = bytes_sources bytes are
 
 -- windows, and an image behind them
@@ -57,8 +54,7 @@ windows_sources : (register : ℕ) (windows : List (Option Sight)) (bytes : List
     → AllZip IsSourceLine (window_lines register windows ++ image_lines bytes) (window_bodies register windows ++ image_bodies bytes)
 windows_sources register [] bytes small legal are = image_sources bytes are
 windows_sources register (None ∷ windows) bytes small legal are = windows_sources (register + 1) windows bytes (omega arith) legal.1 are
-windows_sources register (Some window ∷ windows) bytes small legal are =
-    (window_source register window (omega arith) legal.0.1, windows_sources (register + 1) windows bytes (omega arith) legal.1 are)
+windows_sources register (Some window ∷ windows) bytes small legal are = grind (arith, window_source register window (omega arith) legal.0.1, windows_sources (register + 1) windows bytes (omega arith) legal.1 are)
 
 -- source lines that were written have the tokens of theirs
 lines_tokens : (lines : List (List Token)) (bodies : List Body) → AllZip IsSourceLine lines bodies → AllByRecursion (AllByRecursion IsToken) lines
@@ -123,10 +119,7 @@ module _ (number : ℕ) (name : List ℕ) (parts : Parts) (is_word : IsWord name
     says = written_tokens head head_tokens;
     label = label;
     sources = made (number + 1) (source_bodies parts) ∷ [];
-    parted = (
-      lines_go_on source (source_bodies parts) sources,
-      subst (λ n. statements_from n (map tokens_text source) ≡ Ok (made (number + 1) (source_bodies parts))) (omega arith) (lines_state (number + 1) source (source_bodies parts) sources),
-    );
+    parted = grind (arith, lines_go_on source (source_bodies parts) sources, lines_state (number + 1) source (source_bodies parts) sources);
     few_sources = omega arith;
     makes = linked_alone (made (number + 1) (source_bodies parts)) (lines_plain (number + 1) source (source_bodies parts) sources) ∙ source_made (number + 1) parts sound.bytes sound.few sound.entry sound.even legal long;
     ends = written_tokens end_line end_tokens;

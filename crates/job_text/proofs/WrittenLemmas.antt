@@ -53,8 +53,7 @@ token_plain _ is = refl
 behind_plain : (others : List Token) → AllByRecursion IsToken others → list_all plain (flat_map behind_text others) ≡ true
 behind_plain [] are = refl
 behind_plain (Comma ∷ others) are = behind_plain others are.1
-behind_plain (token ∷ others) are =
-    rw (list_all-append plain (token_text token) (flat_map behind_text others), token_plain token are.0) (behind_plain others are.1)
+behind_plain (token ∷ others) are = grind (arith, list_all-append plain (token_text token) (flat_map behind_text others), token_plain token are.0, behind_plain others are.1)
 
 -- a line that was written has no line feed but its own
 pub written_plain : (found : List Token) → AllByRecursion IsToken found → list_all plain (tokens_text found) ≡ true

@@ -1,13 +1,10 @@
+use Rattle.std.proofs.Common.{arith}
 use Rattle.job_text.proofs.Lemmas.{List, ℕ, Bor, ap, first_cut, first_shorter, only_part}
 use Rattle.std.specs.Option.{option_map}
 use Rattle.job_text.proofs.grammar.next_line.Goals as goal
 
 pub returns-in-Some : goal.returns-in-Some
-returns-in-Some c =
-    let some = ap (option_map (λ (behind : Bor (List ℕ)). behind.now)) c.in-Some.is in (
-      first_cut c.args.left.now c.first_line.result.0.now c.in-Some.behind.now _ c.first_line.ensures.line c.first_line.ensures.behind some,
-      first_shorter c.args.left.now c.in-Some.behind.now _ c.first_line.ensures.behind some,
-    )
+returns-in-Some c = grind (arith, c.in-Some.is, first_cut, first_shorter)
 
 pub returns-in-None : goal.returns-in-None
 returns-in-None c =

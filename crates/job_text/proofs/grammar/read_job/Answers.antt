@@ -20,8 +20,7 @@ returns-in-Err-clause-answer c =
     line_faulty (reading_of c.loop-line.reader) c.loop-line.number c.loop-line.left.now c.in-Some.line.now c.in-Some.behind.now c.args.text.now c.in-Err.fault c.in-Some.ensures.0 c.in-Err.ensures.read c.loop-line.invariant.so_far
 
 pub returns-clause-answer : goal.returns-clause-answer
-returns-clause-answer c =
-    rw (last_left (reading_of c.loop-line.reader) c.loop-line.number c.loop-line.left.now c.args.text.now c.in_default.ensures c.loop-line.invariant.so_far) at c.finish.ensures
+returns-clause-answer c = grind (arith, last_left (reading_of c.loop-line.reader) c.loop-line.number c.loop-line.left.now c.args.text.now c.in_default.ensures c.loop-line.invariant.so_far, c.finish.ensures)
 
 pub returns-clause-ready : goal.returns-clause-ready
 returns-clause-ready c =
