@@ -1,5 +1,5 @@
 -- What runs leave, one after another.
-use Rattle.schedule_replay.proofs.Common.{◌≡◌, ℕ, ◌+◌, ◌*◌, ◌≤◌, ◌⊎◌, List, [], ◌∷◌, ◌++◌, sym, ◌∙◌, subst, arith, false, Ghosts, Rose, RoseBy, IsSure, held_of, Program, Event, Desk, KeepsJournal, journal_in, Line, number_after, faulted, commits_in, commits_on, RanTo, WasStep, nat_tests, Word, Fine}
+use Rattle.schedule_replay.proofs.Common.{◌≡◌, ℕ, ◌+◌, ◌*◌, ◌≤◌, ◌⊎◌, List, [], ◌∷◌, ◌++◌, sym, ◌∙◌, subst, arith, false, Option, unwrap_or, Ghosts, Rose, RoseBy, IsSure, held_of, Program, Event, Desk, KeepsJournal, WritesMore, journal_in, Line, number_after, faulted, commits_in, commits_on, RanTo, WasStep, nat_tests, Word, Fine}
 use Rattle.desk.specs.declared.supervisor.Supervisor as desk
 use Rattle.schedule_replay.proofs.CountLemmas.{faults_front, faults_behind, happened_keep, journal_on}
 use Rattle.schedule_replay.proofs.WriteLemmas.{writes_on}
@@ -28,11 +28,29 @@ module _ {D W : Type 0} (S : desk.Ghosts D) (G : Ghosts W) where
   module _ (end : Desk) (lines : List Line) (unfine : ℕ) (new : D) where
     -- a run as it stands later, where nothing of it changed
     pub to_later : (before between after : W) → G.held after ≡ G.held between → G.disk_faults after ≡ G.disk_faults between → G.writes after ≡ G.writes between → (IsSure G between → IsSure G after) → RanTo S G end lines unfine new before between → RanTo S G end lines unfine new before after
-    to_later before between after held disk writes sure ran = grind (arith, held, disk, writes, sure, ran)
+    to_later before between after held disk writes sure ran = record {
+      closes = ran.closes;
+      ordered = ran.ordered;
+      still = λ still.
+          let kept = ran.still still in
+          (sure kept.0, subst (λ (those : Option (List ℕ)). S.shows new (unwrap_or those []) end) (sym held) kept.1);
+      journal = λ still. subst (λ (those : Option (List ℕ)). KeepsJournal lines (journal_in (held_of G before)) (journal_in (unwrap_or those []))) (sym held) (ran.journal still);
+      faults = subst (λ (n : ℕ). RoseBy unfine (G.disk_faults before) n) (sym disk) ran.faults;
+      calm = λ none. disk ∙ ran.calm none;
+      writes = subst (λ (told : Option ℕ). WritesMore (G.writes before) told (2 * commits_in lines)) (sym writes) ran.writes;
+    }
 
     -- and as it is told from an earlier moment on, since which nothing had changed
     pub to_since : (before start after : W) → G.held start ≡ G.held before → G.disk_faults start ≡ G.disk_faults before → G.writes start ≡ G.writes before → RanTo S G end lines unfine new start after → RanTo S G end lines unfine new before after
-    to_since before start after held disk writes ran = grind (arith, held, disk, writes, ran)
+    to_since before start after held disk writes ran = record {
+      closes = ran.closes;
+      ordered = ran.ordered;
+      still = ran.still;
+      journal = λ still. subst (λ (those : Option (List ℕ)). KeepsJournal lines (journal_in (unwrap_or those [])) (journal_in (held_of G after))) held (ran.journal still);
+      faults = subst (λ (n : ℕ). RoseBy unfine n (G.disk_faults after)) disk ran.faults;
+      calm = λ none. ran.calm none ∙ disk;
+      writes = subst (λ (told : Option ℕ). WritesMore told (G.writes after) (2 * commits_in lines)) writes ran.writes;
+    }
 
   -- one run and then another
   pub to_on : (middle end : Desk) (first second lines : List Line) (one two both : ℕ) (mid new : D) (before between after : W) → S.closed mid ≡ false → lines ≡ first ++ second → both ≡ one + two → RanTo S G middle first one mid before between → RanTo S G end second two new between after → RanTo S G end lines both new before after
