@@ -1,5 +1,5 @@
 -- Records that are kept and told, one after another.
-use Rattle.standby.proofs.Common.{⊎_elim, ◌≡◌, ℕ, suc, ◌+◌, ◌-◌, ◌<◌, List, [], ◌++◌, length, take, get_or, refl, sym, ◌∙◌, ap, subst, arith, append-nil, IfSome_then, Option, Result, Ok, Err, OnErr, take_all, FlatStore, Stands, stands, Failed, Ghosts, Prints, FewerLater, Leaves, held_of, told_is, prints_none, prints_on, prints_same, prints_stop, leaves_on, KeptStore, TracksStore, BreaksAt, EndsWith, IsAtNumber, IsStopped, Follows, Keeps, SoFar, broken, followed_text, kept_text, well, Puts, laid_by, Steps, followed_of, put_of, ShipLine, end_line, kept_line, later, next, Followed, Done, DiskFault, PutFault}
+use Rattle.standby.proofs.Common.{⊎_elim, ◌≡◌, ℕ, suc, ◌+◌, ◌-◌, ◌<◌, List, [], ◌++◌, length, take, get_or, refl, sym, ◌∙◌, ap, subst, arith, append-nil, IfSome_then, Option, Result, Ok, Err, OnErr, take_all, FlatStore, Stands, stands, Failed, Ghosts, Prints, FewerLater, Leaves, held_of, told_is, prints_none, prints_on, prints_same, prints_stop, leaves_on, KeptStore, Shows, TracksStore, BreaksAt, EndsWith, IsAtNumber, IsStopped, Follows, Keeps, SoFar, broken, followed_text, kept_text, well, Puts, laid_by, Steps, followed_of, put_of, ShipLine, end_line, kept_line, later, next, Followed, Done, DiskFault, PutFault}
 use Rattle.outside.specs.Moments.{Elapses}
 use Rattle.standby.proofs.PutLemmas.{PrintedNow, image_is, sure_puts, told_on}
 use Rattle.standby.proofs.TellLemmas.{at_end, at_some, at_step, kept_front, stood_more}
@@ -93,14 +93,23 @@ module _ {W : Type 0} (G : Ghosts W) (fewer_later : FewerLater G) (printed_now :
         let printed = prints_on (G.printed before) (G.printed mid) (G.printed after) (kept_text number (length records)) last tt well keeps.ends.1 put.printed in
         let told = told_on (G.printed before) (G.printed mid) (kept_text number (length records)) keeps.ends.1 in
         grind (arith, end_crash well put, sure, keeps.ends.0.tracks.shows, keeps.ends.0.stood, printed, keeps.ends.2, put.once, told)
-    ended line (Err PutFault) is only puts =
+    ended line (Err why) is only puts =
         let put = subst (λ (these : List ℕ). Puts {T = Unit {0}} G these mid after broken) is puts in
         let sure = sure_puts G printed_now fewer_later last mid after broken put keeps.ends.0.tracks.sure in
-        record {
+        let put_is : why ≡ PutFault = cc in
+        let stopped : Follows G bytes number store records durable before after PutFault = record {
           crash = end_crash broken put;
-          ends = grind (arith, sure.0, sure.1, keeps.ends.0.tracks.shows, keeps.ends.0.stood, take_all (length records) records (omega arith), prints_on (G.printed before) (G.printed mid) (G.printed after) (kept_text number (length records)) last tt broken keeps.ends.1 put.printed);
-        }
-    ended line (Err _) is only puts = absurd (cc only)
+          ends = (
+            record {
+              count = length records;
+              few = omega arith;
+              tracks = record { sure = sure.0; shows = subst (λ (held : List ℕ). Shows held durable) (sym sure.1) keeps.ends.0.tracks.shows };
+              stood = ap stands sure.1 ∙ keeps.ends.0.stood ∙ ap (λ (these : List (List ShipLine)). Stands (later number (length records)) (laid_by bytes store these)) (sym (take_all (length records) records (omega arith)));
+            },
+            prints_on (G.printed before) (G.printed mid) (G.printed after) (kept_text number (length records)) last tt broken keeps.ends.1 put.printed,
+          );
+        } in
+        subst (λ (how : Followed). Follows G bytes number store records durable before after how) (sym put_is) stopped
 
   -- what stopped in a record stops there
   pub stopped_early : (durable : KeptStore) (before after : W) (why : Followed) → (why ≡ Done → ⊥) → Keeps G bytes number store records durable before after why → Follows G bytes number store records durable before after why

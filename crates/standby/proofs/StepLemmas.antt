@@ -65,19 +65,20 @@ module _ {W : Type 0} (G : Ghosts W) (fewer_later : FewerLater G) (printed_now :
           λ some. kept.once.done (subst (λ (those : Option (List ℕ)). IsSome those) (sym calls.quiet.same) some) ∙ ap (λ (n : ℕ). n + 1) calls.puts,
         );
       }
-  step_kept durable after line (Err PutFault) tracks more is only puts =
+  step_kept durable after line (Err why) tracks more is only puts =
       let kept = subst (λ (these : List ℕ). Puts {T = Unit {0}} G these mid after broken) is puts in
       let stands_more = more ∙ one_over begun lines (stands (held_of G before)) number bytes store sized same stood in
       let sure = sure_puts G printed_now fewer_later (kept_line (next number)) mid after broken kept tracks.sure in
-      record {
+      let put_is : why ≡ PutFault = cc in
+      let stopped : Steps G bytes number store lines durable before after (Err PutFault) = record {
         crash = in_put after broken tracks.sure stands_more kept;
         ends = (
           record { sure = sure.0; shows = subst (λ (held : List ℕ). Shows held durable) (sym sure.1) tracks.shows },
           ap stands sure.1 ∙ stands_more,
           subst (λ (those : Option (List ℕ)). Prints those (G.printed after) (kept_line (next number)) broken) calls.quiet.same kept.printed,
         );
-      }
-  step_kept durable after line (Err _) tracks more is only puts = absurd (cc only)
+      } in
+      subst (λ (how : Followed). Steps G bytes number store lines durable before after (Err how)) (sym put_is) stopped
 
 -- what a commit may leave, by the record that is begun
 pub either_begun : {W : Type 0} (G : Ghosts W) (store now : KeptStore) (begun : List RecordLine) (held : List ℕ) (before mid : W) → now ≡ with_begun store begun → Leaves G (IsEither (begun_of now.bank) held) before mid → Leaves G (IsEither begun held) before mid
