@@ -1,5 +1,5 @@
 -- The desk that asks where it is refused does what the desk does.
-use Rattle.desk_law.proofs.Common.{◌≡◌, refl, ℕ, zero, suc, ◌+◌, ◌==◌, not, if◌then◌else◌, Bool, true, false, List, [], ◌∷◌, ◌++◌, length, map, find, Some, option_map_or, arith, ap, sym, ◌∙◌, subst, and_parts, Plain, Outcome, Check, after, Program, Event, Begin, Turn, Checkpoint, Crash, Desk, Entry, opened, Word, Counts, Turning, Going, Over, Fetching, Fetched, Broken, no_counts, attempts, limited, is_over_limit, fetched_first, fetches_touched, asks, refused_pages, conflicts_of, instruction, turns, step, IsAmong, IsConsistent, IsOrderly, Memory, after_event, after_turns, after_instruction, memory_of, IsMemory, FindTheirOwn, nat_tests, Turned, Committed, Machine, next_attempt, begun, IsSerial, counts_refused, happening_lines, number_after, Step, asks_for, asks_refused, comes_to_ask, attempts_by, own_event, event_by, step_by, before, run_by, InstructionsAskAlike, IsRunOfDesk, RunsAskAlike, RunsStayConsistentBy, RunsAreIsolatedBy, SideBySideIsSerialBy, CommitsTellTheMachineBy}
+use Rattle.desk_law.proofs.Common.{◌≡◌, refl, ℕ, zero, suc, ◌+◌, ◌==◌, not, if◌then◌else◌, List, [], ◌∷◌, ◌++◌, length, map, find, Some, arith, ap, sym, ◌∙◌, subst, and_parts, Plain, after, Program, Event, Begin, Turn, Checkpoint, Crash, Desk, Entry, opened, Word, Counts, Turning, Going, Over, no_counts, attempts, asks, refused_pages, conflicts_of, instruction, turns, step, IsAmong, IsConsistent, IsOrderly, Memory, after_event, after_turns, after_instruction, memory_of, IsMemory, FindTheirOwn, nat_tests, Turned, Committed, Machine, next_attempt, begun, IsSerial, counts_refused, happening_lines, number_after, Step, asks_for, asks_refused, attempts_by, own_event, event_by, step_by, before, run_by, InstructionsAskAlike, IsRunOfDesk, RunsAskAlike, RunsStayConsistentBy, RunsAreIsolatedBy, SideBySideIsSerialBy, CommitsTellTheMachineBy}
 use Rattle.desk.specs.Lines.{Line}
 unfoldable use Rattle.desk_law.specs.Asking.{instruction_by, turns_by}
 use Rattle.desk_law.proofs.Orderly.{orderly}
@@ -23,17 +23,8 @@ module _ (word : Word) (entry : Entry) (now : Plain) where
   row-alike : (desk : Desk) (counts : Counts) → IsOrderly desk → IsAmong desk.active entry → after entry.runs.program entry.runs.args desk.committed entry.rows ≡ Some now
       → attempts_by asks_refused word (next_attempt desk entry now) desk counts ≡ attempts word (next_attempt desk entry now) (next_attempt desk entry now).outcome desk counts
   row-alike desk counts is here at =
-      by_parts (next_attempt desk entry now).outcome (is_over_limit (next_attempt desk entry now) desk) (fetches_touched word (next_attempt desk entry now) desk counts) refl refl
-    where
-      by_parts : (outcome : Outcome) (over : Bool) (fetching : Fetching) → is_over_limit (next_attempt desk entry now) desk ≡ over → fetches_touched word (next_attempt desk entry now) desk counts ≡ fetching
-          → option_map_or (λ there. asks_refused word (next_attempt desk entry now) there.0 there.1) (comes_to_ask desk counts outcome over fetching) (attempts word (next_attempt desk entry now) outcome desk counts)
-          ≡ attempts word (next_attempt desk entry now) outcome desk counts
-      by_parts (Check code) over fetching limit fetches = refl
-      by_parts outcome true fetching limit fetches = refl
-      by_parts outcome false (Broken counted) limit fetches = refl
-      by_parts outcome false (Fetched resident counted) limit fetches =
-          asks-alike (record desk { resident = resident }) (record counts { pages = counted }) (resident-consistent desk resident is) here at
-          ∙ sym (ap (λ (over : Bool). limited over word (next_attempt desk entry now) desk counts) limit ∙ ap (fetched_first word (next_attempt desk entry now) desk counts) fetches)
+      let asks = λ (resident : List ℕ) (counted : ℕ). asks-alike (record desk { resident = resident }) (record counts { pages = counted }) (resident-consistent desk resident is) here at in
+      grind (arith, nat_tests, asks)
 
 pub instructions_alike : InstructionsAskAlike
 unfolding instruction instruction_by

@@ -1,5 +1,5 @@
 -- A consistent desk stays so.
-use Rattle.desk_law.proofs.Common.{◌≡◌, refl, ℕ, ◌+◌, ◌<◌, ◌==◌, true, List, [], ◌∷◌, length, find, Option, Some, None, slice_get, arith, eqb-true, eq-eqb, both_ways, ltb-true, page_count, Program, Event, Begin, Turn, Checkpoint, Crash, Desk, Entry, opened, Word, Failed, Counts, Turning, Going, instruction, turns, turn, turn_of, no_counts, turned, begin_if, restarted, event_of, step, run, IsAmong, Ascend, IsConsistent, turn_desk, StaysConsistent, IsActive, IsNotIdle, IdleWhereInactive, RunsStayConsistent, IsOrderly, nat_tests}
+use Rattle.desk_law.proofs.Common.{◌≡◌, refl, ℕ, ◌+◌, ◌<◌, ◌==◌, true, List, [], ◌∷◌, length, find, Option, Some, None, slice_get, arith, eqb-true, eq-eqb, both_ways, ltb-true, page_count, Program, Event, Begin, Turn, Checkpoint, Crash, Desk, Entry, opened, Word, Failed, Counts, Turning, Going, instruction, turns, turn, no_counts, turned, begin_if, restarted, event_of, step, run, IsAmong, Ascend, IsConsistent, turn_desk, StaysConsistent, IsActive, IsNotIdle, IdleWhereInactive, RunsStayConsistent, IsOrderly, nat_tests}
 use Rattle.desk_law.proofs.Orderly.{orderly}
 use Rattle.desk_law.proofs.Entries.{among-found, none-found, found-among}
 use Rattle.desk_law.proofs.Endings.{begins-consistent, refused-consistent, quiet-consistent, opened-consistent}
@@ -16,13 +16,10 @@ consistent desk is fit = grind (arith, nat_tests)
 
 -- a number has no entry where it isn't active
 pub inactive-none : (desk : Desk) (number : ℕ) → (IsActive desk number → ⊥) → find (λ (entry : Entry). entry.number == number) desk.active ≡ None
-inactive-none desk number inactive = by_entry (find (λ (entry : Entry). entry.number == number) desk.active) refl
-  where
-    by_entry : (one : Option Entry) → find (λ (entry : Entry). entry.number == number) desk.active ≡ one → one ≡ None
-    by_entry None found = refl
-    by_entry (Some entry) found =
-        let (here, passes) = among-found (λ (entry : Entry). entry.number == number) desk.active entry found in
-        absurd (inactive (entry, here, eqb-true entry.number number passes))
+inactive-none desk number inactive =
+    let among = among-found (λ (entry : Entry). entry.number == number) desk.active in
+    let none = λ (entry : Entry) (found : find (λ (entry : Entry). entry.number == number) desk.active ≡ Some entry). inactive (entry, (among entry found).0, eqb-true entry.number number (among entry found).1) in
+    grind (arith, none)
 
 -- a turn of an active number
 turn-stays : (word : Word) (number limit : ℕ) (desk : Desk) → IsOrderly desk → IsActive desk number → Stays number (length desk.active) (turns word number limit (Going desk no_counts))
@@ -38,15 +35,10 @@ stays-turned : (activation most : ℕ) (turning : Turning) → Stays activation 
 stays-turned activation most turning is fit = grind (arith, nat_tests, consistent)
 
 stays-turn : (word : Word) (activation limit : ℕ) (desk : Desk) → IsConsistent desk → IsConsistent (turned activation (turn word activation limit desk)).desk
-stays-turn word activation limit desk is = by_entry (find (λ (entry : Entry). entry.number == activation) desk.active) refl
-  where
-    by_entry : (one : Option Entry) → find (λ (entry : Entry). entry.number == activation) desk.active ≡ one → IsConsistent (turned activation (turn_of one word activation limit desk)).desk
-    by_entry None found = is
-    by_entry (Some entry) found =
-        let (here, passes) = among-found (λ (entry : Entry). entry.number == activation) desk.active entry found in
-        stays-turned activation (length desk.active) (turns word activation limit (Going desk no_counts))
-        (turn-stays word activation limit desk (orderly desk is) (entry, here, eqb-true entry.number activation passes))
-        (fits-turns word activation limit (Going desk no_counts) (fits desk is))
+stays-turn word activation limit desk is =
+    let among = among-found (λ (entry : Entry). entry.number == activation) desk.active in
+    let stays = λ (entry : Entry) (found : find (λ (entry : Entry). entry.number == activation) desk.active ≡ Some entry). stays-turned activation (length desk.active) (turns word activation limit (Going desk no_counts)) (turn-stays word activation limit desk (orderly desk is) (entry, (among entry found).0, eqb-true entry.number activation (among entry found).1)) (fits-turns word activation limit (Going desk no_counts) (fits desk is)) in
+    grind (arith, is, stays)
 
 -- an instruction of an active entry leaves a consistent desk, whatever it comes to
 pub instruction-consistent : (word : Word) (desk : Desk) (counts : Counts) (entry : Entry) → IsConsistent desk → IsAmong desk.active entry → IsConsistent (turn_desk (instruction word (Some entry) desk counts))
