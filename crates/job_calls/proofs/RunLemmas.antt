@@ -11,6 +11,9 @@ use Rattle.run_law.proofs.HeadlineLemmas.{left_is_prefix, doubt_is_whole, stage_
 use Rattle.supervisor.specs.ShownLaws.{shown-stands}
 use Rattle.schedule_replay.specs.Puts.{PutsTimes, shown_of}
 use Rattle.schedule_replay.specs.RanTo.{RanTo}
+use Rattle.schedule_replay.specs.Told.{TellsBy}
+use Rattle.schedule_replay.proofs.ToldLemmas.{told_since}
+use Rattle.job_calls.specs.Headline.{ByOpening, PutJob, TellsJob}
 use Rattle.schedule_replay.proofs.CountLemmas.{on_ok_as}
 use Rattle.job_text.specs.Grammar.{job_of, content_of}
 use Rattle.call_status.specs.SourceText.{IsWhole}
@@ -265,13 +268,14 @@ module _ {W : Type 0} (G : Ghosts W) (fewer_later : FewerLater G) (printed_now :
       has_run G fewer_later printed_now job before start after desk new number store standing (opens standing.honest standing.told) asks programs_are same_opened same_honest time asks-calm
       (Err failed) (Err failed) status.PutFault reports (failed, refl) (λ one two bytes prints. prints_broken {T = Bool} {U = ℕ} (Err failed) (Err failed) refl refl one two bytes prints) (λ is. is) (λ is. absurd (cc)) (λ is. absurd (cc))
 
-  pub happened-by : (that : Replayed) → result ≡ that → EndsBy ghosts G desk new start after that → HappenedTo G job (call before after (order_of new) (status_of_replay that)) (Some new)
-  happened-by that is ends = record {
+  pub happened-by : order_of desk ≡ [] → (that : Replayed) → result ≡ that → EndsBy ghosts G desk new start after that → TellsBy G (names_of job) job.events.items (order_of desk) (order_of new) start after that → HappenedTo G job (call before after (order_of new) (status_of_replay that)) (Some new)
+  happened-by none that is ends tells = record {
     honest = same_honest ∙ asks.calls.honest;
     time = elapses-trans G fewer_later before start after asks.calls.time time;
     told = λ told. still (told-since G before start asks told);
     put = λ un. put-same G start after desk new that ends un ∙ asks.calls.put;
     by_status = did-by that is;
+    put_lines = (that, refl, told_since G (names_of job) job.events.items [] (order_of new) before start after asks.calls.quiet.same asks.calls.puts that (subst (λ (order : List (ℕ × ℕ)). TellsBy G (names_of job) job.events.items order (order_of new) start after that) none tells));
   }
 
 -- what running did, as something else that it did
@@ -283,6 +287,11 @@ did-as G ran other c None status.DiskFault turns did = did
 did-as G ran other c session (status.Store offset) turns did = did
 did-as G ran other c session _ turns did = did
 
+-- what follows where a session was opened
+opening-as : (session : Option Session) (one other none : Type 0) → (one → other) → ByOpening session one none → ByOpening session other none
+opening-as (Some session) one other none turns is = turns is
+opening-as None one other none turns is = is
+
 -- what happened to the job of a text
 pub happens : {W : Type 0} (G : Ghosts W) (text : List ℕ) (job : Job) (from : Given) (c : Call W) (session : Option Session) → IsWhole from.left from.left_now text → job_of text ≡ Ok (content_of job) → HappenedTo G job c session → HandedRuns job.programs.items session → Happened G from c session
 happens G text job from c session whole means did runs =
@@ -292,4 +301,5 @@ happens G text job from c session whole means did runs =
       told = did.told;
       put = did.put;
       by_status = did-as G (HasRunFrom G job c session) (RanJob G from c session) c session c.status (λ ran. record { text = text; whole = whole; job = job; means = means; has_run = ran; runs = runs }) did.by_status;
+      put_lines = opening-as session (TellsJob G job c) (PutJob G from c) (Unit {0}) (λ tells. record { text = text; whole = whole; job = job; means = means; tells = tells }) did.put_lines;
     }

@@ -1,5 +1,5 @@
 -- What a call of the console did: the run of the desk that its report tells of and what a crash leaves of it, or nothing.
-use Rattle.std.specs.Prelude.{◌≡◌, ◌≢◌, ◌⊎◌, ℕ, ◌+◌, ◌%◌, ◌^◌, true, false, List, [], ◌∷◌, ◌++◌, length, map, take, slice_set, Option, None, Some, IsSome, Result, Ok, Err}
+use Rattle.std.specs.Prelude.{◌≡◌, ◌≢◌, ◌⊎◌, ℕ, ◌+◌, ◌%◌, ◌^◌, true, false, List, [], ◌++◌, length, map, take, slice_set, Option, None, Some, IsSome, Result, Ok, Err}
 use Rattle.outside.specs.declared.world.Outside.{Ghosts}
 use Rattle.outside.specs.declared.failed.Failed.{Failed}
 use Rattle.outside.specs.Bytes.{Prints}
@@ -22,6 +22,8 @@ use Rattle.run_law.specs.Headline.{IsFirst, IsPrefix}
 use Rattle.schedule_replay.specs.Puts.{PutsTimes, shown_of}
 use Rattle.schedule_replay.specs.Ran.{IfInDoubt, PrintsEarlier, text_of}
 use Rattle.schedule_replay.specs.RanTo.{RanTo}
+use Rattle.schedule_replay.specs.Told.{TellsBy}
+use Rattle.schedule_replay.specs.declared.events.Replayed.{Replayed}
 use Rattle.supervisor.specs.declared.session.Session.{Session}
 use Rattle.supervisor.specs.contracts.supervisor.SessionSupervisor.TheImpl.{ghosts}
 use Rattle.job_text.specs.declared.job.Job.{Job}
@@ -31,6 +33,7 @@ use Rattle.call_status.specs.declared.status.Status.{Status}
 use Rattle.call_status.specs.declared.status.Status.TheVariants as status
 use Rattle.call_status.specs.SourceText.{IsWhole}
 use Rattle.call_status.specs.Opening.{IsFaultAt, IsOfStart, TellsStore}
+use Rattle.job_calls.specs.Causes.{status_of_replay}
 use Rattle.job_calls.specs.Handed.{HandedRuns}
 
 -- the names of a job's programs
@@ -115,6 +118,18 @@ pub record RanJob {W : Type 0} (G : Ghosts W) (given : Given) (call : Call W) (s
   pub has_run : HasRunFrom G job call session
   pub runs : HandedRuns job.programs.items session
 
+-- whatever stands on the disk, what was printed are the lines of the answers to the job's events, and the order is the one that they tell of
+abbrev pub TellsJob : {W : Type 0} → Ghosts W → Job → Call W → Type 0
+TellsJob G job call = (how : Replayed) × (call.status ≡ status_of_replay how) × TellsBy G (names_of job) job.events.items [] call.order call.before call.after how
+
+-- the text was had whole, and means a job of which that is so
+pub record PutJob {W : Type 0} (G : Ghosts W) (given : Given) (call : Call W) : Type 0 where
+  pub text : List ℕ
+  pub whole : IsWhole given.left given.left_now text
+  pub job : Job
+  pub means : job_of text ≡ Ok (content_of job)
+  pub tells : TellsJob G job call
+
 -- no event was run: nothing was printed, and the disk was only asked
 pub record Untouched {W : Type 0} (G : Ghosts W) (call : Call W) : Type 0 where
   pub no_order : call.order ≡ []
@@ -143,19 +158,21 @@ DidBy G ran call session status.DiskFault = ByOpening session ran (Untouched G c
 DidBy G ran call session (status.Store offset) = ByOpening session (StoodForNone G call.before) (FoundNoStore G call offset)
 DidBy G ran call session _ = Refused G call
 
--- What a call did on an outside, whatever stands on it, where this is what running its events did: the disk is as honest as it was and time elapsed, bytes
--- that were told are told, the screen's count of faults rises with PutFault alone, also behind the event that closed the desk, and the rest is by its status.
-pub record DidOn {W : Type 0} (G : Ghosts W) (ran : Type 0) (call : Call W) (session : Option Session) : Type 0 where
+-- What a call did on an outside, whatever stands on it, where this is what running its events did, and this what is told of them: the disk is as honest as
+-- it was and time elapsed, bytes that were told are told, the screen's count of faults rises with PutFault alone, also behind the event that closed the desk,
+-- and the rest is by its status.
+pub record DidOn {W : Type 0} (G : Ghosts W) (ran tells : Type 0) (call : Call W) (session : Option Session) : Type 0 where
   pub honest : G.is_honest call.after ≡ G.is_honest call.before
   pub time : Elapses G.moment G.left_since call.before call.after
   pub told : StillTold G call.before call.after
   pub put : call.status ≢ Status.PutFault → G.put_faults call.after ≡ G.put_faults call.before
   pub by_status : DidBy G ran call session call.status
+  pub put_lines : ByOpening session tells (Unit {0})
 
 -- what a call did with the job of its source
 abbrev pub Happened : {W : Type 0} → Ghosts W → Given → Call W → Option Session → Type 0
-Happened G given call session = DidOn G (RanJob G given call session) call session
+Happened G given call session = DidOn G (RanJob G given call session) (PutJob G given call) call session
 
 -- the same for a job that is given
 abbrev pub HappenedTo : {W : Type 0} → Ghosts W → Job → Call W → Option Session → Type 0
-HappenedTo G job call session = DidOn G (HasRunFrom G job call session) call session
+HappenedTo G job call session = DidOn G (HasRunFrom G job call session) (TellsJob G job call) call session

@@ -1,5 +1,7 @@
 use Rattle.job_calls.proofs.Common.{◌≡◌, ◌∙◌, ap, sym, ◌≤◌, subst, arith, length, vec_len, get_or, All, List, ℕ, refl, Some, map, length-map, count_by-le-length, Ghosts, Fixed, Program, order_told, Desk, IsUnbroken, Event, IsEventAmong, Job, activity, Session, ghosts, is_turn, begins_in, turns_in, HasOpened, Replays, Replayed, call, Status, status_of_replay, OpensBy, HappenedTo, names_of}
 use Rattle.arrayvec.specs.ArrayVec.{ArrayVec}
+use Rattle.supervisor.specs.Session.{order_of}
+use Rattle.schedule_replay.specs.Told.{TellsBy}
 use Rattle.job_calls.proofs.CauseLemmas.{opens-by, put-rose, put-same, disk-rose}
 use Rattle.job_calls.proofs.NameLemmas.{name-unbroken, asked-among}
 use Rattle.job_calls.proofs.RunLemmas.{happened-by, has-opened, first_desk}
@@ -84,7 +86,9 @@ returns-clause-happened g c =
     subst (λ (now : Status). HappenedTo G job (call before after (order_told c.filled.result.items) now) (Some new)) (sym c.status_of_replay.ensures)
     (subst (λ (order : List (ℕ × ℕ)). HappenedTo G job (call before after order (status_of_replay result)) (Some new)) (sym (ap order_told c.filled.ensures ∙ c.order.ensures))
     (happened-by G g.met.W.Outside.fewer_later g.met.W.Outside.printed_now job before start after desk new c.in-Ok.ensures.opened c.in-Ok.ensures.asks c.in-Ok.ensures.new.programs_are (ap (λ (fixed : Fixed). fixed.opened) c.replay-replayed.ensures.fixed)
-    c.replay-replayed.ensures.honest c.replay-replayed.ensures.time c.replay-replayed.ensures.told c.in-Ok.ensures.unfailed result did result refl c.replay-replayed.ensures.ends))
+    c.replay-replayed.ensures.honest c.replay-replayed.ensures.time c.replay-replayed.ensures.told c.in-Ok.ensures.unfailed result did c.in-Ok.ensures.new.none_committed result refl c.replay-replayed.ensures.ends
+    (subst (λ (names : List (List ℕ)). TellsBy G names job.events.items (order_of desk) (order_of new) start after result) (ap (map (λ name. name.items)) c.deref.ensures.value)
+    (subst (λ (events : List Event). TellsBy G (map (λ name. name.items) c.deref.result.now) events (order_of desk) (order_of new) start after result) c.deref-2.ensures.value c.replay-replayed.ensures.tells))))
 
 pub returns-clause-disk : goal.returns-clause-disk
 returns-clause-disk g c = λ is.
