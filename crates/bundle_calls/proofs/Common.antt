@@ -11,9 +11,10 @@ pub use Rattle.desk.specs.Lines.{Line, line_text}
 pub use Rattle.job_text.specs.Grammar.{Content, content_of, job_of}
 pub use Rattle.listing.proofs.PutsLemmas.{done, puts_no_more, puts_on, puts_same, puts_stop}
 pub use Rattle.listing.specs.Puts.{Puts, PutsTimes}
-pub use Rattle.report_text.specs.ReadLines.{AreCommitsOf, IsFirstBad, owned_told}
-pub use Rattle.report_text.specs.declared.owned.OwnedLine.{OwnedLine}
-pub use Rattle.serial_audit.specs.Audit.{IsVerdict, Told, report_told, told_before}
+pub use Rattle.report_text.specs.Line.{commit_told}
+pub use Rattle.report_text.specs.ReadLines.{AreCommitsOf, IsFirstBad}
+pub use Rattle.report_text.specs.declared.line.CommitLine.{CommitLine}
+pub use Rattle.serial_audit.specs.Audit.{IsVerdict, Told, report_told, told_of}
 pub use Rattle.serial_audit.specs.Bundle.{IsBundle}
 pub use Rattle.serial_audit.specs.declared.bundle.Bundle.{Bundle}
 pub use Rattle.touch_trace.specs.declared.touch.Touch.{Touch}

@@ -3,7 +3,7 @@ use Rattle.std.specs.Prelude.{◌≡◌, ◌≢◌, ℕ, ◌⊎◌, List, [], �
 use Rattle.job_text.specs.declared.job.Job.{Job}
 use Rattle.listing.specs.Puts.{Puts, PutsTimes}
 use Rattle.outside.specs.declared.world.Outside.{Ghosts}
-use Rattle.report_text.specs.declared.owned.OwnedLine.{OwnedLine}
+use Rattle.report_text.specs.declared.line.CommitLine.{CommitLine}
 use Rattle.serial_audit.specs.Audit.{IsVerdict, report_told}
 use Rattle.serial_audit.specs.declared.auditing.KeptStore.{KeptStore}
 use Rattle.serial_audit.specs.declared.auditing.Verdict.{Verdict}
@@ -27,7 +27,7 @@ verdict_line commits (NotSerial place) = codes "audit no " ++ decimal place ++ c
 pub record IsChecked (bytes : List ℕ) (commits : ℕ) (verdict : Verdict) : Type 0 where
   pub bundle : Bundle
   pub job : Job
-  pub report : List OwnedLine
+  pub report : List CommitLine
   pub opening : KeptStore
   pub closing : KeptStore
   pub opened : AreBundleParts bytes bundle job report opening

@@ -5,7 +5,7 @@ use Rattle.outside.specs.Causes.{Rose}
 use Rattle.job_text.specs.Grammar.{Content, content_of, job_of}
 use Rattle.job_text.specs.declared.job.Job.{Job}
 use Rattle.report_text.specs.ReadLines.{AreCommitsOf, IsFirstBad}
-use Rattle.report_text.specs.declared.owned.OwnedLine.{OwnedLine}
+use Rattle.report_text.specs.declared.line.CommitLine.{CommitLine}
 use Rattle.serial_audit.specs.Bundle.{IsBundle, IsWrongAt}
 use Rattle.serial_audit.specs.declared.auditing.KeptStore.{KeptStore}
 use Rattle.serial_audit.specs.declared.bundle.Bundle.{Bundle}
@@ -23,7 +23,7 @@ abbrev pub part_of : List ℕ → Span → List ℕ
 part_of bytes span = bytes_at bytes span.from (span.to - span.from)
 
 -- A bundle's text, its parts in their places: its job means this one, its report has these commit lines, and its opening store is this one.
-pub record AreBundleParts (bytes : List ℕ) (bundle : Bundle) (job : Job) (report : List OwnedLine) (opening : KeptStore) : Type 0 where
+pub record AreBundleParts (bytes : List ℕ) (bundle : Bundle) (job : Job) (report : List CommitLine) (opening : KeptStore) : Type 0 where
   pub parts : IsBundle bytes bundle
   pub job_is : job_of (part_of bytes bundle.job) ≡ Ok (content_of job)
   pub report_is : AreCommitsOf (part_of bytes bundle.report) report
@@ -49,7 +49,7 @@ pub record IsBadOpening (bytes : List ℕ) (offset : ℕ) : Type 0 where
   pub parts : IsBundle bytes bundle
   pub content : Content
   pub job_is : job_of (part_of bytes bundle.job) ≡ Ok content
-  pub report : List OwnedLine
+  pub report : List CommitLine
   pub report_is : AreCommitsOf (part_of bytes bundle.report) report
   pub fault : IsFaultAt (part_of bytes bundle.opening) offset
 
@@ -57,7 +57,7 @@ pub record IsBadOpening (bytes : List ℕ) (offset : ℕ) : Type 0 where
 pub record IsBadClosing (bytes : List ℕ) (offset : ℕ) : Type 0 where
   pub bundle : Bundle
   pub job : Job
-  pub report : List OwnedLine
+  pub report : List CommitLine
   pub opening : KeptStore
   pub opened : AreBundleParts bytes bundle job report opening
   pub fault : IsFaultAt (part_of bytes bundle.closing) offset

@@ -4,7 +4,7 @@ use Rattle.std.specs.List.{flat_map}
 use Rattle.job_text.specs.declared.job.Job.{Job}
 use Rattle.listing.specs.Puts.{Puts, PutsTimes}
 use Rattle.outside.specs.declared.world.Outside.{Ghosts}
-use Rattle.report_text.specs.declared.owned.OwnedLine.{OwnedLine}
+use Rattle.report_text.specs.declared.line.CommitLine.{CommitLine}
 use Rattle.serial_audit.specs.Audit.{report_told}
 use Rattle.serial_audit.specs.declared.auditing.KeptStore.{KeptStore}
 use Rattle.serial_audit.specs.declared.bundle.Bundle.{Bundle}
@@ -41,7 +41,7 @@ trace_lines activation trace = flat_map touch_line trace.touches.items ++ steps_
 pub record IsFound (bytes : List ℕ) (activation : ℕ) (found : Result Trace TraceFault) : Type 0 where
   pub bundle : Bundle
   pub job : Job
-  pub report : List OwnedLine
+  pub report : List CommitLine
   pub opening : KeptStore
   pub opened : AreBundleParts bytes bundle job report opening
   pub told : IsAnswer job opening (report_told report) activation found

@@ -1,16 +1,13 @@
 // The audit of a finished run.
-ghost use Rattle.std.specs.Prelude.{◌≡◌, ◌⊎◌, ◌≤◌, ◌<◌, ◌^◌, ℕ, [], count_by, length, MatchResult};
+ghost use Rattle.std.specs.Prelude.{◌≡◌, ◌⊎◌, ◌≤◌, ◌<◌, ◌^◌, ℕ, [], length, MatchResult};
 ghost use Rattle.outside.specs.Causes.{Rose};
 ghost use Rattle.listing.specs.Puts.{Puts, PutsTimes};
-ghost use Rattle.desk.specs.Commits.{is_commit};
-ghost use Rattle.report_text.specs.ReadLines.{owned_told};
 ghost use Rattle.call_status.specs.Call.{call, given};
 ghost use Rattle.bundle_calls.specs.Audited.{Audited, AuditedBy, CanAudit, IsChecked, IsOfAudit, IsUnchecked, verdict_line};
 
 use super::bundle::{open_bundle, part, store_in};
 use call_status::{MOST_OF_BUNDLE, Status, read_text};
 use outside::{Failed, Outside, Source};
-use report_text::OwnedLine;
 use serial_audit::{Verdict, audit};
 use std::alloc::Global;
 use text_line::TextLine;
@@ -71,17 +68,9 @@ fn checked(alloc: Global, bytes: &[u8]) -> Result<Audit, Status>
         &closing,
     )?;
     Ok(Audit {
-        commits: commit_lines(&opened.report),
+        commits: opened.report.as_slice().len() as u32,
         verdict,
     })
-}
-
-/// How many lines are those of commits.
-fn commit_lines(report: &[OwnedLine]) -> u32
-    requires { length report.now < 2 ^ 32 }
-    ensures { result ≡ count_by (λ line. is_commit (owned_told line)) report.now }
-{
-    report.iter().filter(|line| line.is_commit()).count() as u32
 }
 
 /// Puts the line of a verdict.

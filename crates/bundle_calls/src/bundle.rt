@@ -7,7 +7,7 @@ ghost use Rattle.call_status.specs.Opening.{IsFaultAt};
 
 use call_status::Status;
 use job_text::{Job, read_job};
-use report_text::{LinesFault, OwnedLine, read_commits};
+use report_text::{CommitLine, LinesFault, read_commits};
 use serial_audit::{Bundle, KeptStore, Span, split_bundle};
 use std::alloc::Global;
 use store_calls::{KeptFault, kept_store};
@@ -22,7 +22,7 @@ const OPENING: u8 = 3;
 pub struct Opened {
     pub bundle: Bundle,
     pub job: Job,
-    pub report: Vec<OwnedLine>,
+    pub report: Vec<CommitLine>,
     pub opening: KeptStore,
 }
 
@@ -61,7 +61,7 @@ pub fn part(bytes: &[u8], span: Span) -> &[u8]
 }
 
 /// The commit lines of a report.
-fn report_in(alloc: Global, text: &[u8]) -> Result<Vec<OwnedLine>, Status>
+fn report_in(alloc: Global, text: &[u8]) -> Result<Vec<CommitLine>, Status>
     requires { length text.now ≤ 33554432 }
     ensures read { MatchResult result (λ commits. AreCommitsOf text.now commits.items)
         (λ status. ((number : ℕ) × (status ≡ Status.Bundle 2 number) × IsFirstBad text.now number) ⊎ (status ≡ Status.NoMemory)) }

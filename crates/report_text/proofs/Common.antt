@@ -2,8 +2,9 @@
 pub use Rattle.std.proofs.Common.{Bool, Err, List, MatchResult, None, Ok, Some, [], ap, append-nil, append_assoc, arith, codes, decimal, drop, false, filter, get_or, inl, inr, length, length-append, map, nat_lt, not, position, refl, sym, take, true, ℕ, ◌%◌, ◌*◌, ◌++◌, ◌+◌, ◌-◌, ◌/◌, ◌<◌, ◌==◌, ◌^◌, ◌||◌, ◌∙◌, ◌∷◌, ◌≡◌, ◌≢◌, ◌≤◌}
 pub use Rattle.std.proofs.lemmas.Bool.{lt-ltb}
 pub use Rattle.std.proofs.lemmas.Bool.Decides.{nat_tests}
-pub use Rattle.std.proofs.lemmas.List.{drop_at, take_at}
+pub use Rattle.std.proofs.lemmas.List.{drop_at, map-append, take_at}
 pub use Rattle.std.proofs.lemmas.List.Elements.{All-get_or, All-push, filter-append, recursion_from_All}
+pub use Rattle.std.specs.Option.{option_to_list}
 pub use Rattle.std.specs.List.{All, AllByRecursion, flat_map, join_with_byte, list_all, prefix_len}
 pub use Rattle.asm_parse.proofs.RunLemmas.{each_also, run_length}
 pub use Rattle.byteorder.specs.Endian.{big_bytes, big_number}
@@ -11,7 +12,6 @@ pub use Rattle.desk.specs.Commits.{is_commit}
 pub use Rattle.desk.specs.Lines.{Begin, Busy, Check, Closed, Commit, Cycle, Disk, Doubt, End, Idle, Journal, Left, Line, Lost, NoSegment, Open, Stored, Turn, Victim, Wait, line_text, printed}
 pub use Rattle.hex.specs.Hex.{IsBytes, decode_of, decode_sized, encode_lower}
 pub use Rattle.text_line.proofs.Bytes.{each_byte, empty_is, some_is}
-pub use Rattle.report_text.specs.Line.{line_told}
-pub use Rattle.report_text.specs.ReadLines.{IsLine, IsWhole, owned_told}
+pub use Rattle.report_text.specs.Line.{commit_told, line_told}
+pub use Rattle.report_text.specs.ReadLines.{IsLine, IsWhole, Tells}
 pub use Rattle.report_text.specs.Words.{IsOneWord, is_feed, is_space, kind_of, parts_of}
-pub use Rattle.report_text.specs.declared.owned.OwnedLine.{OwnedLine}

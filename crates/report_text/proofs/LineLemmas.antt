@@ -1,5 +1,5 @@
 -- The bytes of a line are its words, and its only line feed is its last byte.
-use Rattle.report_text.proofs.Common.{◌≡◌, ◌≢◌, ℕ, ◌+◌, ◌-◌, ◌/◌, ◌%◌, ◌^◌, ◌<◌, ◌≤◌, ◌==◌, nat_lt, not, Bool, true, false, List, [], ◌∷◌, ◌++◌, length, map, take, decimal, position, get_or, Some, None, refl, sym, ◌∙◌, ap, append_assoc, append-nil, length-append, arith, AllByRecursion, flat_map, list_all, join_with_byte, prefix_len, lt-ltb, nat_tests, take_at, All-get_or, recursion_from_All, each_also, run_length, big_bytes, Line, Open, Begin, Busy, NoSegment, Idle, Turn, Cycle, Victim, Commit, Check, Wait, Journal, Disk, Doubt, Closed, Stored, Lost, Left, End, printed, line_text, IsLine, owned_told, IsOneWord, is_feed, kind_of, parts_of, OwnedLine}
+use Rattle.report_text.proofs.Common.{◌≡◌, ◌≢◌, ℕ, ◌+◌, ◌-◌, ◌/◌, ◌%◌, ◌^◌, ◌<◌, ◌≤◌, ◌==◌, nat_lt, not, Bool, true, false, List, [], ◌∷◌, ◌++◌, length, map, take, decimal, position, get_or, Some, None, refl, sym, ◌∙◌, ap, append_assoc, append-nil, length-append, arith, AllByRecursion, flat_map, list_all, join_with_byte, prefix_len, lt-ltb, nat_tests, take_at, All-get_or, recursion_from_All, each_also, run_length, big_bytes, Line, Open, Begin, Busy, NoSegment, Idle, Turn, Cycle, Victim, Commit, Check, Wait, Journal, Disk, Doubt, Closed, Stored, Lost, Left, End, printed, line_text, IsLine, IsOneWord, is_feed, kind_of, parts_of}
 use Rattle.std.proofs.lemmas.List.Concat.{flat_map-append}
 use Rattle.std.proofs.lemmas.List.Folds.{list_all-append}
 use Rattle.std.proofs.lemmas.List.Sums.{AllPass-from_list_all}
@@ -147,12 +147,11 @@ pub some_bytes : (line : Line) → 0 < length (line_text line)
 some_bytes line = rw (line_words line) (simp length-append (omega arith))
 
 -- one line more
-pub bytes_more : (text left rest : List ℕ) (lines : List OwnedLine) (line : OwnedLine)
-    → text ≡ flat_map (λ line. line_text (owned_told line)) lines ++ left → left ≡ line_text (owned_told line) ++ rest
-    → text ≡ flat_map (λ line. line_text (owned_told line)) (lines ++ line ∷ []) ++ rest
+pub bytes_more : (text left rest : List ℕ) (lines : List Line) (line : Line)
+    → text ≡ flat_map line_text lines ++ left → left ≡ line_text line ++ rest → text ≡ flat_map line_text (lines ++ line ∷ []) ++ rest
 bytes_more text left rest lines line before is =
-    rw (flat_map-append (λ line. line_text (owned_told line)) lines (line ∷ []), append-nil (line_text (owned_told line)))
-    (before ∙ rw is (sym (append_assoc (flat_map (λ line. line_text (owned_told line)) lines) (line_text (owned_told line)) rest)))
+    rw (flat_map-append line_text lines (line ∷ []), append-nil (line_text line))
+    (before ∙ rw is (sym (append_assoc (flat_map line_text lines) (line_text line) rest)))
 
 -- fewer bytes are left
 pub fewer : (text left rest : List ℕ) (line : Line) (number : ℕ) → left ≡ line_text line ++ rest → number + length left ≤ length text + 1

@@ -1,6 +1,7 @@
 -- The line of the report that a value of the code is.
 use Rattle.std.specs.Prelude.{◌≤◌, length}
 use Rattle.desk.specs.Lines as report
+use Rattle.report_text.specs.declared.line.CommitLine.{CommitLine}
 use Rattle.report_text.specs.declared.line.Line.{Line}
 use Rattle.report_text.specs.declared.line.Line.TheVariants as line
 
@@ -35,3 +36,7 @@ IsShort (line.Cycle members) = length members.now ≤ 17
 IsShort (line.Commit activation number steps out) = length out.now ≤ 4096
 IsShort (line.Wait activation holders) = length holders.now ≤ 16
 IsShort _ = Unit {0}
+
+-- the commit line that a value is
+abbrev pub commit_told : CommitLine → report.Line
+commit_told line = report.Commit line.activation line.number line.steps line.out.items

@@ -1,34 +1,13 @@
 -- The lines whose bytes make up a text, and the first that is none.
-use Rattle.std.specs.Prelude.{◌≡◌, ◌≢◌, ℕ, ◌+◌, ◌^◌, ◌<◌, ◌≤◌, List, [], ◌++◌, length, filter, All}
+use Rattle.std.specs.Prelude.{◌≡◌, ◌≢◌, ℕ, ◌+◌, ◌^◌, ◌<◌, ◌≤◌, List, [], ◌++◌, ◌∷◌, length, map, filter, All, Option}
 use Rattle.std.specs.List.{flat_map}
+use Rattle.std.specs.Option.{option_to_list}
 use Rattle.desk.specs.Commits.{is_commit}
 use Rattle.desk.specs.Lines as report
 use Rattle.desk.specs.Lines.{line_text}
 use Rattle.job_text.specs.Ready.{IsName}
-use Rattle.report_text.specs.declared.owned.OwnedLine.{OwnedLine}
-use Rattle.report_text.specs.declared.owned.OwnedLine.TheVariants as owned
-
--- the line that a value is which owns its parts
-abbrev pub owned_told : OwnedLine → report.Line
-owned_told (owned.Open number) = report.Open number
-owned_told (owned.Begin activation name) = report.Begin activation name.items
-owned_told (owned.Busy activation name) = report.Busy activation name.items
-owned_told (owned.NoSegment activation name segment) = report.NoSegment activation name.items segment
-owned_told (owned.Idle activation) = report.Idle activation
-owned_told (owned.Turn activation ran pages locks) = report.Turn activation ran pages locks
-owned_told (owned.Cycle members) = report.Cycle members.items
-owned_told (owned.Victim activation) = report.Victim activation
-owned_told (owned.Commit activation number steps out) = report.Commit activation number steps out.items
-owned_told (owned.Check activation code address) = report.Check activation code address
-owned_told (owned.Wait activation holders) = report.Wait activation holders.items
-owned_told (owned.Journal activation lines limit) = report.Journal activation lines limit
-owned_told (owned.Disk activation) = report.Disk activation
-owned_told (owned.Doubt activation number) = report.Doubt activation number
-owned_told owned.Closed = report.Closed
-owned_told (owned.Stored number) = report.Stored number
-owned_told (owned.Lost activation) = report.Lost activation
-owned_told (owned.Left activation) = report.Left activation
-owned_told (owned.End number) = report.End number
+use Rattle.report_text.specs.Line.{commit_told}
+use Rattle.report_text.specs.declared.line.CommitLine.{CommitLine}
 
 -- the numbers of a line are of the widths of their types
 abbrev pub HasWidths : report.Line → Type 0
@@ -67,16 +46,20 @@ IsWhole _ = Unit {0}
 abbrev pub IsLine : report.Line → Type 0
 IsLine line = HasWidths line × IsWhole line
 
--- a text is made up of the bytes of these lines, and each may be put, since its numbers are of their types
-pub record AreLinesOf (text : List ℕ) (lines : List OwnedLine) : Type 0 where
-  pub bytes : text ≡ flat_map (λ line. line_text (owned_told line)) lines
-  pub are : All (λ line. IsWhole (owned_told line)) lines
+-- a text is made up of the bytes of these lines, and each may be put
+pub record AreLinesOf (text : List ℕ) (lines : List report.Line) : Type 0 where
+  pub bytes : text ≡ flat_map line_text lines
+  pub are : All IsWhole lines
 
 -- these are the commit lines among those whose bytes make up a text, in their order
-pub record AreCommitsOf (text : List ℕ) (commits : List OwnedLine) : Type 0 where
-  pub lines : List OwnedLine
+pub record AreCommitsOf (text : List ℕ) (commits : List CommitLine) : Type 0 where
+  pub lines : List report.Line
   pub are : AreLinesOf text lines
-  pub only : commits ≡ filter (λ line. is_commit (owned_told line)) lines
+  pub only : map commit_told commits ≡ filter is_commit lines
+
+-- what is told of a line: its parts, where it is that of a commit, and else nothing
+abbrev pub Tells : Option CommitLine → report.Line → Type 0
+Tells told line = map commit_told (option_to_list told) ≡ filter is_commit (line ∷ [])
 
 -- a text begins with no line
 abbrev pub BeginsWithNone : List ℕ → Type 0
@@ -84,10 +67,10 @@ BeginsWithNone text = (line : report.Line) (behind : List ℕ) → IsLine line �
 
 -- the first line of a text that is none has this number, counted from 1: behind the lines before it more stands, and begins with no line
 pub record IsFirstBad (text : List ℕ) (number : ℕ) : Type 0 where
-  pub before : List OwnedLine
+  pub before : List report.Line
   pub rest : List ℕ
-  pub lines : AreLinesOf (flat_map (λ line. line_text (owned_told line)) before) before
+  pub lines : AreLinesOf (flat_map line_text before) before
   pub place : number ≡ length before + 1
-  pub bytes : text ≡ flat_map (λ line. line_text (owned_told line)) before ++ rest
+  pub bytes : text ≡ flat_map line_text before ++ rest
   pub more : rest ≢ []
   pub none : BeginsWithNone rest

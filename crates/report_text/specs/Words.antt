@@ -64,3 +64,14 @@ parts_of (Stored number) = decimal number ∷ []
 parts_of (Lost activation) = decimal activation ∷ []
 parts_of (Left activation) = decimal activation ∷ []
 parts_of (End number) = decimal number ∷ []
+
+-- the list of numbers that a line has: the members of a cycle, or the holders of a wait
+abbrev pub numbers_in : Line → List ℕ
+numbers_in (Cycle members) = members
+numbers_in (Wait activation holders) = holders
+numbers_in _ = []
+
+-- the bytes that a line tells were printed
+abbrev pub bytes_in : Line → List ℕ
+bytes_in (Commit activation number steps out) = out
+bytes_in _ = []

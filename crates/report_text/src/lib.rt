@@ -3,13 +3,11 @@
 
 mod guess;
 mod line;
-mod owned;
 mod put;
 mod read;
 mod word;
 
-pub use line::Line;
-pub use owned::OwnedLine;
+pub use line::{CommitLine, Line};
 pub use put::Reporter;
 pub use read::{LinesFault, read_commits};
 pub use text_line::place_of;

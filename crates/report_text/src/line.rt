@@ -1,3 +1,9 @@
+ghost use Rattle.std.specs.Prelude.{IfOk};
+ghost use Rattle.report_text.specs.Line.{line_told};
+ghost use Rattle.report_text.specs.ReadLines.{Tells};
+
+use std::alloc::{AllocError, Global};
+
 /// A line of a report, by its parts in their order. A name is that of a program; a cycle that a run breaks has its first
 /// member again at its end. Activations are numbered from 1 by the begins.
 #[derive(Clone, Copy)]
@@ -58,4 +64,35 @@ pub enum Line<'a> {
     Left(u32),
     /// The store's number at the end.
     End(u64),
+}
+
+/// What a commit line tells: the activation, the store's number after it, the rows in all and the printed bytes.
+#[derive(Drop)]
+pub struct CommitLine {
+    pub activation: u32,
+    pub number: u64,
+    pub steps: u64,
+    pub out: Vec<u8>,
+}
+
+impl CommitLine {
+    /// What a line tells, if it is that of a commit.
+    pub(crate) fn of(alloc: Global, line: &Line) -> Result<Option<Self>, AllocError>
+        ensures { IfOk result (λ found. Tells found (line_told line.now)) }
+    {
+        match *line {
+            Line::Commit {
+                activation,
+                number,
+                steps,
+                out,
+            } => Ok(Some(CommitLine {
+                activation,
+                number,
+                steps,
+                out: out.to_vec(alloc)?,
+            })),
+            _ => Ok(None),
+        }
+    }
 }

@@ -1,18 +1,18 @@
 ghost use Rattle.std.specs.Prelude.{◌≡◌, ◌≢◌, ◌<◌, ◌≤◌, ◌^◌, ◌↔◌, ◌==◌, ◌||◌, ◌⊎◌, IsTrue, ℕ, List, [], ◌∷◌, ◌++◌, length, filter, Some, None, Ok, IfOk, OnOk, MatchOption, MatchResult, All};
 ghost use Rattle.std.specs.Char.{is_ascii_alphabetic};
 ghost use Rattle.std.specs.List.{list_all};
+ghost use Rattle.std.specs.Option.{option_to_list};
 ghost use Rattle.asm_parse.specs.Token.{continues_word};
-ghost use Rattle.desk.specs.Commits.{is_commit};
 ghost use Rattle.desk.specs.Lines.{line_text};
 ghost use Rattle.desk.specs.Lines as report;
 ghost use Rattle.job_text.specs.Ready.{IsName};
 ghost use Rattle.report_text.specs.declared.read.LinesFault.TheVariants as lines;
-ghost use Rattle.report_text.specs.Line.{IsShort, line_told};
-ghost use Rattle.report_text.specs.ReadLines.{AreCommitsOf, BeginsWithNone, IsFirstBad, IsLine, IsWhole, owned_told};
+ghost use Rattle.report_text.specs.Line.{IsShort, commit_told, line_told};
+ghost use Rattle.report_text.specs.Words.{bytes_in, numbers_in};
+ghost use Rattle.report_text.specs.ReadLines.{Tells, AreCommitsOf, BeginsWithNone, IsFirstBad, IsLine, IsWhole};
 
-use super::guess::guess;
-use super::line::Line;
-use super::owned::OwnedLine;
+use super::guess::{Lists, guess};
+use super::line::{CommitLine, Line};
 use super::put::fill;
 use std::alloc::{AllocError, AllocFailed, Global};
 use text_line::{TextLine, place_of};
@@ -49,7 +49,7 @@ impl<T: Drop> From<AllocFailed<T>> for LinesFault {
 ///
 /// [`LinesFault::Bad`] with the number of the first line that is none; a last line without its line feed is none.
 /// [`LinesFault::Memory`] where there is no memory.
-pub fn read_commits(alloc: Global, text: &[u8]) -> Result<Vec<OwnedLine>, LinesFault>
+pub fn read_commits(alloc: Global, text: &[u8]) -> Result<Vec<CommitLine>, LinesFault>
     requires { length text.now < 2 ^ 32 }
     ensures { MatchResult result (λ read. AreCommitsOf text.now read.items)
         (λ told. ((number : ℕ) × (told ≡ lines.Bad number) × IsFirstBad text.now number) ⊎ (told ≡ lines.Memory)) }
@@ -60,8 +60,8 @@ pub fn read_commits(alloc: Global, text: &[u8]) -> Result<Vec<OwnedLine>, LinesF
     let mut left = text;
     while !left.is_empty() {
         match next_line(alloc, &mut room, left)? {
-            Some((line, rest)) => {
-                keep_commit(&mut commits, line)?;
+            Some((told, rest)) => {
+                keep(&mut commits, told)?;
                 number += 1;
                 left = rest;
             }
@@ -71,51 +71,75 @@ pub fn read_commits(alloc: Global, text: &[u8]) -> Result<Vec<OwnedLine>, LinesF
     Ok(commits)
 }
 
-/// Keeps a line, if it is that of a commit.
-fn keep_commit(commits: &mut Vec<OwnedLine>, line: OwnedLine) -> Result<(), AllocError>
-    ensures { OnOk result (commits.new.items ≡ commits.old.items ++ filter (λ line. is_commit (owned_told line)) (line ∷ [])) }
+/// Keeps what a line tells, if it is that of a commit.
+fn keep(commits: &mut Vec<CommitLine>, told: Option<CommitLine>) -> Result<(), AllocError>
+    ensures { OnOk result (commits.new.items ≡ commits.old.items ++ option_to_list told) }
 {
-    if line.is_commit() {
-        commits.push(line)?;
+    if let Some(commit) = told {
+        commits.push(commit)?;
     }
     Ok(())
 }
 
-/// The line that a text begins with, and what comes after it; none where it begins with no line.
+/// What the line that a text begins with tells, if it is that of a commit, and what comes after it; none where it begins with
+/// no line.
 fn next_line<'a>(
     alloc: Global,
     room: &mut TextLine,
     text: &'a [u8],
-) -> Result<Option<(OwnedLine, &'a [u8])>, AllocError>
+) -> Result<Option<(Option<CommitLine>, &'a [u8])>, AllocError>
     ensures { IfOk result (λ found. MatchOption found (BeginsWithNone text.now)
-        (λ line. IsWhole (owned_told line.0) × (text.now ≡ line_text (owned_told line.0) ++ line.1.now))) }
+        (λ told. (line : report.Line) × IsWhole line × Tells told.0 line × (text.now ≡ line_text line ++ told.1.now))) }
 {
     match place_of(b'\n', text) {
         Some(at) => match whole_line(alloc, room, &text[..at + 1])? {
-            Some(line) => Ok(Some((line, &text[at + 1..]))),
+            Some(told) => Ok(Some((told, &text[at + 1..]))),
             None => Ok(None),
         },
         None => Ok(None),
     }
 }
 
-/// The line that a text is, whose last byte is a line feed; none where it is none.
+/// What the line that a text is tells, if it is that of a commit; the text's last byte is a line feed. None where it is no line.
 fn whole_line(
     alloc: Global,
     room: &mut TextLine,
     text: &[u8],
-) -> Result<Option<OwnedLine>, AllocError>
+) -> Result<Option<Option<CommitLine>>, AllocError>
     requires { 0 < length text.now }
     ensures { IfOk result (λ found. MatchOption found
         ((line : report.Line) → IsLine line → text.now ≢ line_text line)
-        (λ line. IsWhole (owned_told line) × (text.now ≡ line_text (owned_told line)))) }
+        (λ told. (line : report.Line) × IsWhole line × Tells told line × (text.now ≡ line_text line))) }
 {
-    let line = guess(alloc, &text[..text.len() - 1])?;
-    if is_line(&line.as_line()) && is_written(room, &line.as_line(), text) {
-        Ok(Some(line))
+    let lists = Lists::of(alloc, &text[..text.len() - 1])?;
+    line_with(alloc, room, &lists, text)
+}
+
+/// The same where the line has these lists.
+fn line_with(
+    alloc: Global,
+    room: &mut TextLine,
+    lists: &Lists,
+    text: &[u8],
+) -> Result<Option<Option<CommitLine>>, AllocError>
+    requires { 0 < length text.now }
+    ensures { IfOk result (λ found. MatchOption found
+        ((line : report.Line) → IsLine line → lists.now.numbers.items ≡ numbers_in line → lists.now.bytes.items ≡ bytes_in line → text.now ≢ line_text line)
+        (λ told. (line : report.Line) × IsWhole line × Tells told line × (text.now ≡ line_text line))) }
+{
+    let line = guess(lists, &text[..text.len() - 1]);
+    if are_bytes_of(room, &line, text) {
+        Ok(Some(CommitLine::of(alloc, &line)?))
     } else {
         Ok(None)
     }
+}
+
+/// Whether a line may be put, and its bytes are these.
+fn are_bytes_of(room: &mut TextLine, line: &Line, text: &[u8]) -> bool
+    ensures { IsTrue result ↔ (IsWhole (line_told line.now) × (text.now ≡ line_text (line_told line.now))) }
+{
+    is_line(line) && is_written(room, line, text)
 }
 
 /// Whether a line may be put.

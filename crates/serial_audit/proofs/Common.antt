@@ -18,9 +18,8 @@ pub use Rattle.job_text.specs.declared.job.Job.{Job}
 pub use Rattle.line_geometry.specs.Directory.{Layout, byte_count}
 pub use Rattle.line_geometry.specs.FlatStore.{FlatStore}
 pub use Rattle.report_text.proofs.LineLemmas.{feed_of_words, not_both}
-pub use Rattle.serial_audit.specs.Audit.{AreSound, IsSound, Told, activations_of, commits_told, flat_of, limit_of, pair_of, report_told, steps_allowed, told_before}
+pub use Rattle.serial_audit.specs.Audit.{AreSound, IsSound, Told, activations_of, flat_of, limit_of, pair_of, report_told, steps_allowed, told_of}
 pub use Rattle.serial_audit.specs.Bundle.{AreAllowed, HasHead, HasOneSplitting, IsBundle, IsWrongAt, Sizes, bundle_from, head_text, head_words, size_of}
-pub use Rattle.serial_audit.specs.Commit.{told_of}
 pub use Rattle.serial_audit.specs.Index.{IsEntry, IsFresh, IsIndex, activation_in, marked, with_turns}
 pub use Rattle.serial_audit.specs.Lengths.{sizes_of}
 pub use Rattle.serial_audit.specs.Progress.{IsTaken, MayFollow, Replays, Stands}

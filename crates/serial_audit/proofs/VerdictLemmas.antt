@@ -1,16 +1,9 @@
 -- Commit lines one after another, and whether they are sound.
-use Rattle.serial_audit.proofs.Common.{◌≡◌, ℕ, ◌+◌, ◌%◌, ◌^◌, ◌<◌, ◌≤◌, Bool, true, false, List, [], ◌∷◌, ◌++◌, length, map, take, drop, get_or, slice_get, Option, Some, None, option_and_then, ◌⊎◌, inl, inr, refl, sym, ◌∙◌, ap, length-append, add-one, drop-cons, arith, map-append, take-append-drop, take_more, option_and_then_some, Layout, FlatStore, Plain, Activation, before_commit, committing, numbered, serial, Job, Entry, AreSound, IsSound, Told, activations_of, commits_told, flat_of, pair_of, report_told, steps_allowed, told_before, IsIndex, activation_in, IsTaken, MayFollow, Replays, Stands, nat_tests}
-use Rattle.desk.specs.Lines.{Line}
-use Rattle.report_text.specs.declared.owned.OwnedLine.{OwnedLine}
-use Rattle.report_text.specs.ReadLines.{owned_told}
+use Rattle.serial_audit.proofs.Common.{◌≡◌, ℕ, ◌+◌, ◌%◌, ◌^◌, ◌<◌, ◌≤◌, Bool, true, false, List, [], ◌∷◌, ◌++◌, length, map, take, drop, get_or, slice_get, Option, Some, None, option_and_then, ◌⊎◌, inl, inr, refl, sym, ◌∙◌, ap, length-append, add-one, drop-cons, arith, map-append, take-append-drop, take_more, option_and_then_some, Layout, FlatStore, Plain, Activation, before_commit, committing, numbered, serial, Job, Entry, AreSound, IsSound, Told, activations_of, flat_of, pair_of, report_told, steps_allowed, IsIndex, activation_in, IsTaken, MayFollow, Replays, Stands, nat_tests, told_of}
+use Rattle.report_text.specs.declared.line.CommitLine.{CommitLine}
 use Rattle.serial_audit.specs.declared.auditing.KeptStore.{KeptStore}
 use Rattle.serial_audit.specs.declared.auditing.Progress.{Progress}
 use Rattle.serial_audit.proofs.IndexLemmas.{begun_at, entry_at}
-
--- the commits of lines behind others come behind theirs
-pub told-append : (lines others : List Line) → commits_told (lines ++ others) ≡ commits_told lines ++ commits_told others
-told-append [] others = refl
-told-append (line ∷ lines) others = grind (arith, nat_tests, told-append lines others)
 
 -- one commit more leaves its state's store
 pub serial_more : (activations : List Activation) (commits : List (ℕ × ℕ)) (commit : ℕ × ℕ) (store left : FlatStore)
@@ -162,16 +155,15 @@ none_sound job opening [] told behind is = absurd (cc is)
 none_sound job opening (other ∷ first) told behind is = absurd (cc is)
 
 -- what the first lines tell, one more
-pub told_more : (report : List OwnedLine) (i : ℕ) (line : OwnedLine) → i < length report → line ≡ get_or report i line
-    → report_told (take (i + 1) report) ≡ report_told (take i report) ++ told_before (owned_told line) []
-told_more report i line within is = grind (arith, nat_tests, take_more report i line within, map-append owned_told (take i report) (line ∷ []), take i report, told-append (map owned_told (take i report)) (owned_told line ∷ []))
+pub told_more : (report : List CommitLine) (i : ℕ) (line : CommitLine) → i < length report → line ≡ get_or report i line
+    → report_told (take (i + 1) report) ≡ report_told (take i report) ++ told_of line ∷ []
+told_more report i line within is =
+    ap report_told (take_more report i line within ∙ ap (λ (last : CommitLine). take i report ++ last ∷ []) (sym is)) ∙ map-append told_of (take i report) (line ∷ [])
 
 -- what all lines tell, by the first, the next and the others
-pub told_all : (report : List OwnedLine) (i : ℕ) (line : OwnedLine) → i < length report → line ≡ get_or report i line
-    → report_told report ≡ report_told (take i report) ++ told_before (owned_told line) (report_told (drop (i + 1) report))
+pub told_all : (report : List CommitLine) (i : ℕ) (line : CommitLine) → i < length report → line ≡ get_or report i line
+    → report_told report ≡ report_told (take i report) ++ told_of line ∷ report_told (drop (i + 1) report)
 told_all report i line within is =
     let whole : take i report ++ line ∷ drop (i + 1) report ≡ report =
     rw (add-one) (ap (λ rest. take i report ++ rest) (sym (drop-cons report i line within ∙ rw (← is) refl)) ∙ take-append-drop i report) in
-    ap report_told (sym whole)
-    ∙ rw (map-append owned_told (take i report) (line ∷ drop (i + 1) report))
-    (told-append (map owned_told (take i report)) (owned_told line ∷ map owned_told (drop (i + 1) report)))
+    ap report_told (sym whole) ∙ map-append told_of (take i report) (line ∷ drop (i + 1) report)

@@ -1,5 +1,5 @@
 -- A report whose commits are those of the programs run one after another.
-use Rattle.std.specs.Prelude.{◌≡◌, ℕ, ◌+◌, ◌≤◌, ◌%◌, ◌^◌, ◌==◌, ◌⊎◌, if◌then◌else◌, List, [], ◌∷◌, ◌++◌, length, map, sum, Some}
+use Rattle.std.specs.Prelude.{◌≡◌, ℕ, ◌+◌, ◌≤◌, ◌%◌, ◌^◌, ◌==◌, ◌⊎◌, if◌then◌else◌, List, ◌∷◌, ◌++◌, length, map, sum, Some}
 use Rattle.std.specs.List.{Contains}
 use Rattle.line_geometry.specs.FlatStore.{FlatStore}
 use Rattle.flat_machine.specs.declared.machine.Plain.{Plain}
@@ -7,11 +7,8 @@ use Rattle.flat_machine.specs.Serial.{Activation, committing, serial}
 use Rattle.desk.specs.declared.event.Event.{Event}
 use Rattle.desk.specs.declared.event.Event.TheVariants.{Turn}
 use Rattle.desk.specs.Commits.{begun}
-use Rattle.desk.specs.Lines as line
-use Rattle.desk.specs.Lines.{Line}
 use Rattle.job_text.specs.declared.job.Job.{Job}
-use Rattle.report_text.specs.declared.owned.OwnedLine.{OwnedLine}
-use Rattle.report_text.specs.ReadLines.{owned_told}
+use Rattle.report_text.specs.declared.line.CommitLine.{CommitLine}
 use Rattle.serial_audit.specs.declared.auditing.KeptStore.{KeptStore}
 use Rattle.serial_audit.specs.declared.auditing.Verdict.{Verdict}
 use Rattle.serial_audit.specs.declared.auditing.Verdict.TheVariants.{Serial, NotSerial}
@@ -23,16 +20,13 @@ pub record Told : Type 0 where
   pub steps : ℕ
   pub out : List ℕ
 
--- what a line tells, if it is that of a commit, before others
-abbrev pub told_before : Line → List Told → List Told
-told_before (line.Commit activation number steps out) others =
-    record { activation = activation; number = number; steps = steps; out = out } ∷ others
-told_before _ others = others
+-- what a value of the code tells
+abbrev pub told_of : CommitLine → Told
+told_of line = record { activation = line.activation; number = line.number; steps = line.steps; out = line.out.items }
 
--- what the commit lines among lines tell, in their order
-abbrev pub commits_told : List Line → List Told
-commits_told [] = []
-commits_told (line ∷ lines) = told_before line (commits_told lines)
+-- what commit lines tell, in their order
+abbrev pub report_told : List CommitLine → List Told
+report_told lines = map told_of lines
 
 -- the activations that a job's begins make
 abbrev pub activations_of : Job → List Activation
@@ -97,7 +91,3 @@ IsVerdict job opening closing lines Serial = IsSerial job opening closing lines
 IsVerdict job opening closing lines (NotSerial number) =
     IsFirstUnsound job opening lines number
     ⊎ ((number ≡ length lines + 1) × AreSound job opening lines × (¬ (IsSerial job opening closing lines)))
-
--- what the commit lines of owned lines tell
-abbrev pub report_told : List OwnedLine → List Told
-report_told lines = commits_told (map owned_told lines)

@@ -1,6 +1,5 @@
 pub mod Audit
 pub mod Bundle
-pub mod Commit
 pub mod Index
 pub mod Lengths
 pub mod Progress

@@ -3,17 +3,16 @@ ghost use Rattle.line_geometry.specs.Directory.{byte_count};
 ghost use Rattle.flat_machine.specs.Serial.{Activation};
 ghost use Rattle.job_text.specs.declared.job.Job.{Job};
 ghost use Rattle.serial_audit.specs.declared.auditing.KeptStore.{KeptStore};
-ghost use Rattle.serial_audit.specs.Audit.{AreSound, IsFirstUnsound, IsVerdict, Told, report_told};
-ghost use Rattle.serial_audit.specs.Commit.{told_of};
+ghost use Rattle.serial_audit.specs.Audit.{AreSound, IsFirstUnsound, IsVerdict, Told, report_told, told_of};
 ghost use Rattle.serial_audit.specs.Index.{IsEntryOf, activation_in};
 ghost use Rattle.serial_audit.specs.Progress.{IsTaken, MayFollow, Stands};
 
 use super::index::{Entry, index_of, mark, place_among};
-use super::replay::Commit;
+use super::replay::replayed;
 use job_text::Job;
 use line_geometry::Directory;
 use owned_list::OwnedList;
-use report_text::OwnedLine;
+use report_text::CommitLine;
 use std::alloc::{AllocError, Global};
 
 /// A store as it is kept: its segments, its number and its bytes.
@@ -44,7 +43,7 @@ pub enum Verdict {
 pub fn audit(
     alloc: Global,
     job: &Job,
-    report: &[OwnedLine],
+    report: &[CommitLine],
     opening: &KeptStore,
     closing: &KeptStore,
 ) -> Result<Verdict, AllocError>
@@ -64,7 +63,7 @@ pub fn audit(
     }
 }
 
-/// How far a check comes on an opening store where all commit lines among these are sound, or else the number of the first
+/// How far a check comes on an opening store where all these commit lines are sound, or else the number of the first
 /// that isn't, counted from 1 (docs/MODEL.md, "An audit").
 ///
 /// # Errors
@@ -73,7 +72,7 @@ pub fn audit(
 pub fn audit_lines<'j>(
     alloc: Global,
     job: &'j Job,
-    lines: &[OwnedLine],
+    lines: &[CommitLine],
     opening: &KeptStore,
 ) -> Result<Result<Progress<'j>, u32>, AllocError>
     requires store { length opening.now.store.items ≡ byte_count opening.now.directory }
@@ -85,16 +84,11 @@ pub fn audit_lines<'j>(
     ensures whole { IfOk result (λ found. IfOk found (λ progress. length progress.store ≡ byte_count opening.now.directory)) }
 {
     let mut progress = Progress::new(alloc, job, opening)?;
-    for line in lines {
-        match Commit::of(line) {
-            Some(commit) => {
-                let place = progress.next_place();
-                match progress.take(alloc, &opening.directory, &commit)? {
-                    Some(next) => progress = next,
-                    None => return Ok(Err(place)),
-                }
-            }
-            None => {}
+    for commit in lines {
+        let place = progress.next_place();
+        match progress.take(alloc, &opening.directory, commit)? {
+            Some(next) => progress = next,
+            None => return Ok(Err(place)),
         }
     }
     Ok(Ok(progress))
@@ -132,7 +126,7 @@ impl<'j> Progress<'j> {
         self,
         alloc: Global,
         directory: &Directory,
-        commit: &Commit,
+        commit: &CommitLine,
     ) -> Result<Option<Self>, AllocError>
         requires whole { length self.store ≡ byte_count directory.now }
         requires few { self.commits < 2 ^ 32 - 1 }
@@ -151,7 +145,7 @@ impl<'j> Progress<'j> {
             mut entries,
             store,
         } = self;
-        match commit.replayed(alloc, entry.program, entry.args, directory, store)? {
+        match replayed(alloc, commit, entry.program, entry.args, directory, store)? {
             Some(store) => {
                 mark(&mut entries, commit.activation);
                 Ok(Some(Progress {
@@ -168,7 +162,7 @@ impl<'j> Progress<'j> {
     /// The entry of a commit line's activation, if the line may be the next one: it has the number that follows, is the first of
     /// its activation, and tells no more steps than the activation's turns allow; none too where the job begins no such
     /// activation (docs/MODEL.md, "An audit").
-    pub fn entry_for(&self, commit: &Commit) -> Option<Entry<'j>>
+    pub fn entry_for(&self, commit: &CommitLine) -> Option<Entry<'j>>
         ensures { (job : Job) (opening : KeptStore) (before : List Told) → Stands job opening before self.now
             → MatchOption result ((activation : Activation) → ¬ (MayFollow job opening before (told_of commit.now) activation))
             (λ entry. MayFollow job opening before (told_of commit.now) (activation_in entry) × IsEntryOf job before commit.now.activation entry) }

@@ -12,4 +12,3 @@ pub use auditing::{KeptStore, Progress, Verdict, audit, audit_lines};
 pub use bundle::{Bundle, Span, split_bundle};
 pub use index::Entry;
 pub use law::a_bundle_has_one_splitting;
-pub use replay::Commit;

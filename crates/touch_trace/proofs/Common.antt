@@ -11,7 +11,6 @@ pub use Rattle.line_geometry.specs.Directory.{Layout, byte_count}
 pub use Rattle.line_geometry.specs.FlatStore.{FlatStore}
 pub use Rattle.lock_rules.specs.Lines.{Lines, both, no_lines}
 pub use Rattle.serial_audit.proofs.VerdictLemmas.{refused, sound_here, sound_more, told_all, told_more}
-pub use Rattle.serial_audit.specs.Audit.{IsFirstUnsound, IsSound, Told, report_told}
-pub use Rattle.serial_audit.specs.Commit.{told_of}
+pub use Rattle.serial_audit.specs.Audit.{IsFirstUnsound, IsSound, Told, report_told, told_of}
 pub use Rattle.touch_trace.specs.Trace.{AreTouches, touch_at, touches, touches_of_step}
 pub use Rattle.touch_trace.specs.declared.touch.Touch.{Touch}

@@ -1,7 +1,6 @@
 -- The lines of a trace are those that the agreement law asks for.
 use Rattle.std.proofs.lemmas.Bool.Decides.{nat_tests}
-use Rattle.touch_trace.proofs.Common.{◌≡◌, ℕ, zero, suc, ◌+◌, ◌<◌, ◌||◌, Bool, true, false, List, [], ◌∷◌, ◌++◌, map, Some, refl, sym, ◌∙◌, ap, arith, map-append, FlatStore, Lines, both, Plain, after, touched_next, touched_within, Outcome, On, Commit, Check, row, Activation, if_commit, Touch, touch_at, touches, touches_of_step}
-use Rattle.std.proofs.lemmas.Bool.{true≢false}
+use Rattle.touch_trace.proofs.Common.{◌≡◌, ℕ, zero, suc, ◌<◌, ◌||◌, Bool, true, false, List, [], ◌∷◌, map, Some, refl, sym, ◌∙◌, ap, arith, map-append, FlatStore, Lines, both, Plain, after, touched_next, touched_within, Outcome, Commit, row, Activation, if_commit, touch_at, touches, touches_of_step}
 use Rattle.std.proofs.lemmas.Option.{same_Some, option_and_then_some, none-some}
 use Rattle.lock_rules.specs.Sets.{has}
 use Rattle.lock_rules.proofs.Sets.{has-append}

@@ -1,6 +1,6 @@
 -- Commit lines up to one of them, and that one.
 use Rattle.std.proofs.lemmas.Bool.Decides.{nat_tests}
-use Rattle.touch_trace.proofs.Common.{◌≡◌, ◌≢◌, ℕ, zero, suc, List, [], ◌∷◌, ◌++◌, map, Some, inl, inr, ◌∙◌, ap, append_assoc, arith, Contains, map-append, Layout, Plain, Activation, before_commit, IsFirstUnsound, IsSound, Told, sound_here, Touch, AreTouches, touches}
+use Rattle.touch_trace.proofs.Common.{◌≡◌, ◌≢◌, ℕ, zero, suc, List, [], ◌∷◌, ◌++◌, map, Some, inl, inr, append_assoc, arith, Contains, map-append, Layout, Plain, Activation, before_commit, IsFirstUnsound, IsSound, Told, sound_here, Touch, AreTouches, touches}
 use Rattle.std.proofs.lemmas.List.Elements.{Contains-append_cases}
 use Rattle.job_text.specs.declared.job.Job.{Job}
 use Rattle.serial_audit.specs.declared.auditing.KeptStore.{KeptStore}

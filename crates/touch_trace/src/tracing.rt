@@ -3,8 +3,7 @@ ghost use Rattle.std.specs.List.{Contains};
 ghost use Rattle.line_geometry.specs.Directory.{byte_count};
 ghost use Rattle.job_text.specs.declared.job.Job.{Job};
 ghost use Rattle.serial_audit.specs.declared.auditing.KeptStore.{KeptStore};
-ghost use Rattle.serial_audit.specs.Audit.{IsSound, Told, report_told};
-ghost use Rattle.serial_audit.specs.Commit.{told_of};
+ghost use Rattle.serial_audit.specs.Audit.{IsSound, Told, report_told, told_of};
 ghost use Rattle.serial_audit.specs.Progress.{Stands};
 ghost use Rattle.touch_trace.specs.Trace.{AreTouches, IsAnswer, IsFirstOf};
 
@@ -13,8 +12,8 @@ use super::running::run_traced;
 use super::touch::Touch;
 use job_text::Job;
 use line_geometry::Directory;
-use report_text::OwnedLine;
-use serial_audit::{Commit, KeptStore, Progress, audit_lines};
+use report_text::CommitLine;
+use serial_audit::{KeptStore, Progress, audit_lines};
 use std::alloc::{AllocError, Global};
 
 /// The lines that an activation touches up to its first commit line, as it runs after the commits before it (docs/MODEL.md,
@@ -28,7 +27,7 @@ use std::alloc::{AllocError, Global};
 pub fn trace(
     alloc: Global,
     job: &Job,
-    report: &[OwnedLine],
+    report: &[CommitLine],
     opening: &KeptStore,
     activation: u32,
 ) -> Result<Trace, TraceFault>
@@ -45,7 +44,7 @@ pub fn trace(
         Err(place) => return Err(TraceFault::NotSerial(place)),
     };
     let place = progress.next_place();
-    match touches_of(alloc, &opening.directory, progress, &commit)? {
+    match touches_of(alloc, &opening.directory, progress, commit)? {
         Some(touches) => Ok(Trace {
             steps: commit.steps,
             touches,
@@ -55,18 +54,13 @@ pub fn trace(
 }
 
 /// The first commit line of an activation, and how many lines are before it.
-fn first_commit<'a>(report: &'a [OwnedLine], activation: u32) -> Option<(usize, Commit<'a>)>
+fn first_commit(report: &[CommitLine], activation: u32) -> Option<(usize, &CommitLine)>
     ensures { MatchOption result (¬ (Contains (map (λ (line : Told). line.activation) (report_told report.now)) activation))
-        (λ found. (found.0 < length report.now) × IsFirstOf (report_told report.now) activation (report_told (take found.0 report.now)) (told_of found.1)) }
+        (λ found. (found.0 < length report.now) × IsFirstOf (report_told report.now) activation (report_told (take found.0 report.now)) (told_of found.1.now)) }
 {
-    for (place, line) in report.iter().enumerate() {
-        match Commit::of(line) {
-            Some(commit) => {
-                if commit.activation == activation {
-                    return Some((place, commit));
-                }
-            }
-            None => {}
+    for (place, commit) in report.iter().enumerate() {
+        if commit.activation == activation {
+            return Some((place, commit));
         }
     }
     None
@@ -77,7 +71,7 @@ fn touches_of(
     alloc: Global,
     directory: &Directory,
     progress: Progress,
-    commit: &Commit,
+    commit: &CommitLine,
 ) -> Result<Option<Vec<Touch>>, AllocError>
     requires { length progress.store ≡ byte_count directory.now }
     ensures { IfOk result (λ found. (job : Job) (opening : KeptStore) (before : List Told) → opening.directory ≡ directory.now
@@ -99,7 +93,7 @@ fn touches_of(
         commit.steps,
     )? {
         Some((state, touches)) => {
-            if state.out.as_slice() == commit.out {
+            if state.out.as_slice() == commit.out.as_slice() {
                 Ok(Some(touches))
             } else {
                 Ok(None)

@@ -1,12 +1,13 @@
-use Rattle.bundle_calls.proofs.Common.{◌≡◌, ◌⊎◌, ℕ, List, inl, inr, refl, sym, ap, subst, ◌∙◌, count_by, is_commit, owned_told, OwnedLine, IsVerdict, report_told, Bundle, Status, IsUnchecked, AreBundleParts, part_of, IsFaultAt}
+use Rattle.bundle_calls.proofs.Common.{◌≡◌, ◌⊎◌, ℕ, List, inl, inr, refl, sym, ap, subst, ◌∙◌, length, told_of, CommitLine, IsVerdict, report_told, Bundle, Status, IsUnchecked, AreBundleParts, part_of, IsFaultAt}
+use Rattle.std.proofs.lemmas.List.{length-map}
 use Rattle.job_text.specs.declared.job.Job.{Job}
 use Rattle.serial_audit.specs.declared.auditing.KeptStore.{KeptStore}
 use Rattle.store_calls.specs.Kept.{Keeps}
-use Rattle.bundle_calls.proofs.BundleLemmas.{counted, handed_on}
+use Rattle.bundle_calls.proofs.BundleLemmas.{handed_on}
 use Rattle.bundle_calls.proofs.audit.checked.Goals as goal
 
 -- a closing store that stands for nothing
-by_closing : (bytes : List ℕ) (bundle : Bundle) (job : Job) (report : List OwnedLine) (opening : KeptStore) → AreBundleParts bytes bundle job report opening → (status : Status)
+by_closing : (bytes : List ℕ) (bundle : Bundle) (job : Job) (report : List CommitLine) (opening : KeptStore) → AreBundleParts bytes bundle job report opening → (status : Status)
     → ((offset : ℕ) × (status ≡ Status.Bundle 4 offset) × IsFaultAt (part_of bytes bundle.closing) offset) ⊎ (status ≡ Status.NoMemory) → IsUnchecked bytes status
 by_closing bytes bundle job report opening opened status (inl (offset, is, fault)) =
     subst (IsUnchecked bytes) (sym is) (inr (refl, record { bundle = bundle; job = job; report = report; opening = opening; opened = opened; fault = fault }))
@@ -32,6 +33,6 @@ returns c =
       closing = c.in_ok-closing.closing;
       opened = c.in_ok-opened.ensures.opened;
       closing_is = subst (λ (text : List ℕ). Keeps text c.in_ok-closing.closing) c.part.ensures c.in_ok-closing.ensures;
-      counted = c.commit_lines.ensures ∙ ap (λ (lines : List OwnedLine). count_by (λ line. is_commit (owned_told line)) lines) c.deref-2.ensures.value ∙ counted parts.report.items;
-      told = subst (λ (lines : List OwnedLine). IsVerdict parts.job parts.opening c.in_ok-closing.closing (report_told lines) c.in_ok-verdict.verdict) c.deref.ensures.value c.in_ok-verdict.ensures;
+      counted = ap length c.as_slice.ensures.value ∙ sym (length-map parts.report.items told_of);
+      told = subst (λ (lines : List CommitLine). IsVerdict parts.job parts.opening c.in_ok-closing.closing (report_told lines) c.in_ok-verdict.verdict) c.deref.ensures.value c.in_ok-verdict.ensures;
     }

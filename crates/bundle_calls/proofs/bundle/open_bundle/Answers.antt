@@ -1,4 +1,4 @@
-use Rattle.bundle_calls.proofs.Common.{◌≡◌, ◌⊎◌, ℕ, List, inl, inr, refl, sym, ap, subst, ◌∙◌, Ok, Content, content_of, job_of, AreCommitsOf, IsFirstBad, OwnedLine, IsBundle, Bundle, Status, IsShut, part_of, IsFaultAt}
+use Rattle.bundle_calls.proofs.Common.{◌≡◌, ◌⊎◌, ℕ, List, inl, inr, refl, sym, ap, subst, ◌∙◌, Ok, Content, content_of, job_of, AreCommitsOf, IsFirstBad, CommitLine, IsBundle, Bundle, Status, IsShut, part_of, IsFaultAt}
 use Rattle.bundle_calls.proofs.BundleLemmas.{handed_on}
 use Rattle.bundle_calls.proofs.bundle.open_bundle.Goals as goal
 
@@ -9,7 +9,7 @@ module _ (bytes : List ℕ) (bundle : Bundle) (parts : IsBundle bytes bundle) (c
   shut_by_report status (inr is) = subst (IsShut bytes) (sym is) tt
 
   -- an opening store that stands for nothing
-  shut_by_opening : (report : List OwnedLine) → AreCommitsOf (part_of bytes bundle.report) report → (status : Status)
+  shut_by_opening : (report : List CommitLine) → AreCommitsOf (part_of bytes bundle.report) report → (status : Status)
       → ((offset : ℕ) × (status ≡ Status.Bundle 3 offset) × IsFaultAt (part_of bytes bundle.opening) offset) ⊎ (status ≡ Status.NoMemory) → IsShut bytes status
   shut_by_opening report report_is status (inl (offset, is, fault)) =
       subst (IsShut bytes) (sym is) (inr (inr (refl, record { bundle = bundle; parts = parts; content = content; job_is = job_is; report = report; report_is = report_is; fault = fault })))

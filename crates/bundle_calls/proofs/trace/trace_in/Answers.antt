@@ -1,4 +1,4 @@
-use Rattle.bundle_calls.proofs.Common.{ℕ, List, sym, subst, Ok, Err, OwnedLine, report_told, status_of_trace, IsFound, IsUntraced}
+use Rattle.bundle_calls.proofs.Common.{ℕ, List, sym, subst, Ok, Err, CommitLine, report_told, status_of_trace, IsFound, IsUntraced}
 use Rattle.touch_trace.specs.declared.answer.TraceFault.{TraceFault}
 use Rattle.touch_trace.specs.Trace.{IsAnswer}
 use Rattle.touch_trace.specs.declared.answer.TraceFault.TheVariants as fault
@@ -13,7 +13,7 @@ returns-in-Ok c =
       report = parts.report.items;
       opening = parts.opening;
       opened = c.in_ok-opened.ensures.opened;
-      told = subst (λ (lines : List OwnedLine). IsAnswer parts.job parts.opening (report_told lines) c.args.activation (Ok c.in-Ok.trace)) c.deref.ensures.value c.in-Ok.ensures;
+      told = subst (λ (lines : List CommitLine). IsAnswer parts.job parts.opening (report_told lines) c.args.activation (Ok c.in-Ok.trace)) c.deref.ensures.value c.in-Ok.ensures;
     }
 
 -- why there is none, as a status
@@ -32,5 +32,5 @@ returns c =
       report = parts.report.items;
       opening = parts.opening;
       opened = c.in_ok-opened.ensures.opened;
-      told = subst (λ (lines : List OwnedLine). IsAnswer parts.job parts.opening (report_told lines) c.args.activation (Err c.in-Err.fault)) c.deref.ensures.value c.in-Err.ensures;
+      told = subst (λ (lines : List CommitLine). IsAnswer parts.job parts.opening (report_told lines) c.args.activation (Err c.in-Err.fault)) c.deref.ensures.value c.in-Err.ensures;
     }))

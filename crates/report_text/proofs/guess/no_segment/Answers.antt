@@ -6,4 +6,4 @@ returns c = λ a name s small_a is_name small_s is.
     let one = c.first_small-activation.ensures.parts a (name ∷ decimal s ∷ []) small_a is in
     let two = c.split.ensures.parts name (decimal s ∷ []) (name_word name is_name) one.1 in
     let three = c.first_small-segment.ensures.parts s [] small_s two.1 in
-    rw (one.0, (c.in_ok-to_vec.ensures.items_if_clones_equal (λ x y e. e)), two.0, three.0) refl
+    rw (one.0, two.0, three.0) refl

@@ -1,16 +1,18 @@
-use Rattle.report_text.proofs.Lemmas.{◌∙◌, line_told, IsWhole, not_both, without_feed}
+use Rattle.report_text.proofs.Lemmas.{◌≡◌, ◌≢◌, ℕ, List, Line, line_text, IsLine, without_feed}
+use Rattle.std.specs.Prelude.{Option, Some, None, Result, Ok, Err, IfOk, MatchOption}
+use Rattle.report_text.specs.Words.{bytes_in, numbers_in}
 use Rattle.report_text.proofs.read.whole_line.Goals as goal
-use Rattle.report_text.proofs.read.whole_line.Goals.{else-is_line-via-then-is_line+else-is_written, else-is_line-via-else-is_line}
 
-pub returns-else-is_line : goal.returns-else-is_line
-returns-else-is_line c = λ line is text.
-    let guessed = c.in_ok-line.ensures line is (without_feed line c.args.text.now text) in
-    elim c.else-is_line.branch [
-      | else-is_line-via-then-is_line+else-is_written w ↦
-          let told = w.as_line-then-is_line.ensures ∙ guessed in
-          not_both w.is_written.result w.if-is_written.false (w.is_written.ensures.1 (rw told text))
-      | else-is_line-via-else-is_line w ↦
-          let told = c.as_line.ensures ∙ guessed in
-          let whole : IsWhole (line_told c.as_line.result) = rw told is.1 in
-          not_both c.is_line.result w.if-is_line.false (c.is_line.ensures.whole.1 whole)
-    ]
+-- with the lists that a line of this text has to have, none is none
+by_lists : {A E : Type 0} (text numbers bytes : List ℕ) (P : A → Type 0) (found : Result (Option A) E)
+    → ((line : Line) → IsLine line → text ≡ line_text line → (numbers ≡ numbers_in line) × (bytes ≡ bytes_in line))
+    → IfOk found (λ one. MatchOption one ((line : Line) → IsLine line → numbers ≡ numbers_in line → bytes ≡ bytes_in line → text ≢ line_text line) P)
+    → IfOk found (λ one. MatchOption one ((line : Line) → IsLine line → text ≢ line_text line) P)
+by_lists text numbers bytes P (Ok None) lists none = λ line is text_is. let (first, second) = lists line is text_is in none line is first second text_is
+by_lists text numbers bytes P (Ok (Some one)) lists told = told
+by_lists text numbers bytes P (Err why) lists told = told
+
+pub returns : goal.returns
+returns c =
+    by_lists c.args.text.now c.in_ok-lists.lists.numbers.items c.in_ok-lists.lists.bytes.items _ c.line_with.result
+    (λ line is text. c.in_ok-lists.ensures line is (without_feed line c.args.text.now text)) c.line_with.ensures

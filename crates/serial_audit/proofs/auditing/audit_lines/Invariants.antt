@@ -1,10 +1,10 @@
 use Rattle.serial_audit.proofs.Common.{◌≡◌, ◌≤◌, length, take, byte_count, AreSound, report_told, Stands}
 use Rattle.serial_audit.proofs.auditing.audit_lines.Given as goal
 
-abbrev pub invariant-loop-line : goal.invariant-loop-line
-invariant-loop-line l = record {
-  sound : AreSound l.job l.opening (report_told (take l.line-index l.lines));
-  stands : Stands l.job l.opening (report_told (take l.line-index l.lines)) l.progress;
-  few : l.progress.commits ≤ l.line-index;
+abbrev pub invariant-loop-commit : goal.invariant-loop-commit
+invariant-loop-commit l = record {
+  sound : AreSound l.job l.opening (report_told (take l.commit-index l.lines));
+  stands : Stands l.job l.opening (report_told (take l.commit-index l.lines)) l.progress;
+  few : l.progress.commits ≤ l.commit-index;
   whole : length l.progress.store ≡ byte_count l.opening.directory;
 }

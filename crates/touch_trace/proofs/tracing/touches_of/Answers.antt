@@ -6,7 +6,7 @@ use Rattle.touch_trace.proofs.tracing.touches_of.Goals as goal
 pub returns-then-eq : goal.returns-then-eq
 returns-then-eq c = λ job opening before same stands.
     let traced = rw c.in-Some-2.is at c.in_ok-state.ensures in
-    let prints : c.args.commit.now.out.now ≡ c.in-Some-2.state.out = search rules in
+    let prints : c.args.commit.now.out.items ≡ c.in-Some-2.state.out = search rules in
     traced_sound job opening before (told_of c.args.commit.now) (activation_in c.in-Some.entry) c.args.progress c.args.directory.now
     c.in-Some-2.state c.in-Some-2.touches.items same stands (c.in-Some.ensures job opening before stands).0 traced prints
 
