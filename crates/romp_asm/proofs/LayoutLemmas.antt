@@ -1,5 +1,5 @@
 -- A program, as its statements are laid one after the other.
-use Rattle.romp_asm.proofs.Common.{◌≡◌, ℕ, ℤ, pos, suc, zero, ◌+◌, ◌<◌, ◌≤◌, nat_lt, Bool, true, false, is_some, List, [], ◌∷◌, ◌++◌, length, take, drop, get_or, Option, Some, None, Result, Ok, Err, refl, sym, ap, subst, ◌∙◌, arith, append_assoc, append-nil, add-one, length-append, replicate, unwrap_or, option_map, option_or, fun_ext, drop-cons, nat_tests, drop_all, get_or_default, take_all, take_more, sum_by_push, fold_push, Statement, Body, Place, BTreeMap, addresses_in, found_in, place_from, place_of, repeated_in, stands_before, AreReadAs, IsLaid, IsReadAs, LaidTo, image_joined, Scope, Table, option_and_then, slice_get, Parts, assembled, entry_of, has_label_of, image_behind, parts_of, piece_before, piece_of, windows_of, with_entry, with_image, with_window, size_of, total, address_from, addresses_of, LabelKey}
+use Rattle.romp_asm.proofs.Common.{◌≡◌, ℕ, ℤ, pos, suc, zero, ◌+◌, ◌<◌, ◌≤◌, nat_lt, Bool, true, false, is_some, List, [], ◌∷◌, ◌++◌, length, take, drop, get_or, Option, None, Result, Ok, Err, refl, sym, ap, subst, ◌∙◌, arith, append_assoc, append-nil, add-one, length-append, replicate, unwrap_or, option_map, drop-cons, nat_tests, drop_all, get_or_default, take_all, take_more, sum_by_push, fold_push, Statement, Body, Place, BTreeMap, addresses_in, found_in, place_from, place_of, repeated_in, stands_before, AreReadAs, IsLaid, IsReadAs, LaidTo, image_joined, Scope, Parts, assembled, entry_of, has_label_of, image_behind, parts_of, piece_before, piece_of, windows_of, with_entry, with_image, with_window, size_of, total, address_from, addresses_of, LabelKey}
 use Rattle.asm_parse.specs.declared.fault.AsmFault.{AsmFault}
 use Rattle.flat_machine.specs.declared.machine.Program.{Program}
 use Rattle.flat_machine.specs.declared.machine.Window.{Window as Sight}
@@ -35,16 +35,7 @@ among_first bound index at (x ∷ statements) (suc n) word h = grind (arith, nat
 
 -- where no source gives a word, the table tells the addresses of all labels
 pub all_addresses : (scope : Scope) (statements : List Statement) → ((word : List ℕ) → found_in scope.own.now.labels word ≡ place_of statements word) → ((word : List ℕ) → found_in scope.givers.now word ≡ None) → addresses_in scope ≡ addresses_of statements
-all_addresses scope statements table none =
-    fun_ext (λ word.
-    ap (λ (given : Option ℕ). option_map (λ (place : Place). place.address) (option_or (found_in scope.own.now.labels word) (option_and_then (λ source. option_and_then (λ (those : Table). found_in those.labels word) (slice_get scope.tables.now source)) given))) (none word)
-    ∙ alone (found_in scope.own.now.labels word)
-    ∙ ap (option_map (λ (place : Place). place.address)) (table word)
-    ∙ address_same 0 0 statements word)
-  where
-    alone : (found : Option Place) → option_map (λ (place : Place). place.address) (option_or found None) ≡ option_map (λ (place : Place). place.address) found
-    alone None = refl
-    alone (Some place) = refl
+all_addresses scope statements table none = grind (arith, nat_tests, address_same, none, table)
 
 -- the table tells whether a statement's label stands before it
 pub repeated_told : (labels : BTreeMap LabelKey Place) (statements : List Statement) (i : ℕ) (statement : Statement) → ((word : List ℕ) → found_in labels word ≡ place_of statements word) → repeated_in labels i statement ≡ has_label_of (take i statements) statement
@@ -118,9 +109,7 @@ read_as_itself scope all i statement table none =
     let same = all_addresses scope all table none in
     record {
       line = refl;
-      piece = λ at entry windows.
-          ap (λ addresses. piece_of addresses (repeated_in scope.own.now.labels i statement) at entry windows statement.body) same
-          ∙ ap (λ repeated. piece_of (addresses_of all) repeated at entry windows statement.body) (repeated_told scope.own.now.labels all i statement table);
+      piece = λ at entry windows. grind (arith, nat_tests, repeated_told);
       size = refl;
       entry = λ entry. ap (λ addresses. with_entry addresses entry statement.body) same;
       windows = λ windows. refl;

@@ -83,9 +83,7 @@ byte_encoded addresses at byte small = rw (le-leb byte 255 (omega arith)) refl
 bytes_made : (all before : List Statement) (number : ℕ) (bytes : List ℕ) → AllByRecursion IsByte bytes → total before + length bytes ≤ 16384 → image_behind all before (made number (map byte_body bytes)) ≡ Ok bytes
 unfolding image_behind
 bytes_made all before number [] are fits = refl
-bytes_made all before number (byte ∷ bytes) are fits =
-    one_more all before (made (number + 1) (map byte_body bytes)) number (byte_body byte) (byte ∷ []) bytes (byte_encoded (addresses_of all) (total before) byte are.0) refl (omega arith) refl
-    (bytes_made all (before ++ plain_at number (byte_body byte) ∷ []) (number + 1) bytes are.1 (omega (arith, total_push before (plain_at number (byte_body byte)))))
+bytes_made all before number (byte ∷ bytes) are fits = grind (arith, nat_tests, byte_encoded, total_push, bytes_made all (before ++ plain_at number (byte_body byte) ∷ []) (number + 1) bytes are.1 (omega (arith, total_push before (plain_at number (byte_body byte)))))
 
 -- an image
 image_made : (all before : List Statement) (number : ℕ) (bytes : List ℕ) → AllByRecursion IsByte bytes → total before + length bytes ≤ 16384 → image_behind all before (made number (image_bodies bytes)) ≡ Ok bytes

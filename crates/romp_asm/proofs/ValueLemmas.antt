@@ -1,5 +1,5 @@
 -- Labels and values, as they are collected one after the other.
-use Rattle.romp_asm.proofs.Common.{ints, take_more, sum_by-cons, sum_by_push, Statement, Place, noted, place_from, size_of, total, is_labelled, ◌≡◌, ℕ, pos, suc, ◌+◌, ◌^◌, ◌<◌, Bool, true, false, cond, List, [], ◌∷◌, ◌++◌, length, take, get_or, Option, Some, None, Result, Ok, Err, min, refl, arith, length-take-le, to_z, w64}
+use Rattle.romp_asm.proofs.Common.{ints, take_more, sum_by-cons, sum_by_push, Statement, Place, noted, place_from, size_of, total, is_labelled, ◌≡◌, ℕ, pos, suc, ◌+◌, ◌^◌, ◌<◌, Bool, true, false, cond, List, [], ◌∷◌, ◌++◌, length, take, get_or, Option, Some, None, Result, Ok, Err, min, refl, arith, length-take-le, to_z, w64, nat_tests}
 use Rattle.romp_asm.specs.declared.value.Known.{Known}
 
 -- operands behind those that were read, of which some may have had no value
@@ -16,10 +16,7 @@ noted_first false labelled place later others after e = e
 -- where a label stands after one statement more
 pub place_push : (index at : ℕ) (xs : List Statement) (x : Statement) (word : List ℕ) → place_from index at (xs ++ x ∷ []) word ≡ noted (place_from index at xs word) (is_labelled word x) (record { statement = index + length xs; address = pos (at + total xs) })
 unfolding place_from
-place_push index at [] x word =
-    let same_index : index + 0 ≡ index = omega arith in
-    let same_address : at + 0 ≡ at = omega arith in
-    rw (same_index, same_address) refl
+place_push index at [] x word = grind (arith, nat_tests)
 place_push index at (y ∷ xs) x word =
     let same_index : index + suc (length xs) ≡ index + 1 + length xs = omega arith in
     let same_address : at + total (y ∷ xs) ≡ at + size_of y.body + total xs = omega (arith, sum_by-cons (λ (statement : Statement). size_of statement.body) y xs) in

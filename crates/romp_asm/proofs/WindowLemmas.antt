@@ -1,5 +1,5 @@
 -- The windows of a program that was assembled.
-use Rattle.romp_asm.proofs.Common.{AllByRecursion, fold, nat_tests, Statement, Body, encoding_of, Parts, assembled, entry_of, fitted, has_label_of, image_behind, is_entry, piece_before, piece_of, takes_window, windows_of, with_window, size_of, total, addresses_of, ◌≡◌, ℕ, zero, suc, ◌+◌, ◌&&◌, ◌||◌, nat_lt, if◌then◌else◌, Bool, true, false, is_some, List, [], ◌∷◌, ◌++◌, length, replicate, slice_set, Option, None, Result, Ok, Err, refl, arith, append_assoc, append-nil, length-set}
+use Rattle.romp_asm.proofs.Common.{AllByRecursion, fold, nat_tests, Statement, Body, encoding_of, Parts, assembled, entry_of, fitted, has_label_of, image_behind, is_entry, piece_before, piece_of, takes_window, windows_of, with_window, total, addresses_of, ◌≡◌, ℕ, zero, suc, ◌&&◌, ◌||◌, if◌then◌else◌, Bool, true, false, is_some, List, [], ◌∷◌, ◌++◌, length, replicate, slice_set, Option, None, Result, Ok, Err, refl, arith, append_assoc, append-nil, length-set}
 use Rattle.flat_machine.specs.declared.machine.Window.{Window as Sight}
 use Rattle.romp_asm.proofs.MadeLemmas.{IsLegalPlace, windows_push}
 
@@ -21,13 +21,7 @@ abbrev refused_by : Bool → Result (List ℕ) ℕ → Result (List ℕ) ℕ
 refused_by refused reading = if refused then Err 5 else reading
 
 takes_by : (at : ℕ) (windows : List (Option Sight)) (body : Body) (encoding : Result (List ℕ) ℕ) (bytes : List ℕ) → fitted at windows body encoding ≡ Ok bytes → takes_window windows body ≡ true
-takes_by at windows body (Ok laid) bytes e = by_tests (nat_lt 16384 (at + size_of body)) (takes_window windows body) e
-  where
-    by_tests : (past takes : Bool) → fitted_by past takes laid ≡ Ok bytes → takes ≡ true
-    by_tests true takes e = absurd (cc e)
-    by_tests false true e = refl
-    by_tests false false e = absurd (cc e)
-takes_by at windows body (Err kind) bytes e = absurd (cc e)
+takes_by at windows body case_4 bytes e = grind (arith, nat_tests)
 
 takes_told : (refused : Bool) (at : ℕ) (windows : List (Option Sight)) (body : Body) (encoding : Result (List ℕ) ℕ) (bytes : List ℕ) → refused_by refused (fitted at windows body encoding) ≡ Ok bytes → takes_window windows body ≡ true
 takes_told true at windows body encoding bytes e = absurd (cc e)

@@ -1,4 +1,4 @@
-use Rattle.romp_asm.proofs.Lemmas.{◌≡◌, ℕ, ◌+◌, List, length, take, arith, sym, ap, subst, ◌∙◌, take_all, Statement, place_from, AreAlone, total, stated, or_none, alone_more, no_place, place_more, signed_same, total_more}
+use Rattle.romp_asm.proofs.Lemmas.{nat_tests, arith, sym, ◌∙◌, take_all, stated, or_none, alone_more, no_place, place_more, signed_same, total_more}
 use Rattle.romp_asm.proofs.value.labels_kept.Goals as goal
 
 pub loop-index-init : goal.loop-index-init
@@ -19,17 +19,7 @@ loop-index-preserved c =
     }
 
 pub returns-clause-table : goal.returns-clause-table
-returns-clause-table c =
-    let all : take c.loop-index.index c.args.statements.now ≡ c.args.statements.now = take_all c.loop-index.index c.args.statements.now (omega arith) in
-    let last : c.loop-index.index ≡ length c.args.statements.now = omega arith in
-    record {
-      found = λ word. c.loop-index.invariant.table word ∙ ap (λ (these : List Statement). place_from 0 c.args.start these word) all;
-      alone = λ none. subst (λ (n : ℕ). AreAlone c.loop-index.labels c.args.statements.now n) last (c.loop-index.invariant.alone none);
-      end = c.loop-index.invariant.address ∙ ap (λ (these : List Statement). c.args.start + total these) all;
-    }
+returns-clause-table c = grind (arith, nat_tests, take_all, c.loop-index.invariant.table, c.loop-index.invariant.alone)
 
 pub returns-clause-small : goal.returns-clause-small
-returns-clause-small c =
-    let all : take c.loop-index.index c.args.statements.now ≡ c.args.statements.now = take_all c.loop-index.index c.args.statements.now (omega arith) in
-    let last : c.loop-index.index ≡ length c.args.statements.now = omega arith in
-    omega (arith, ap total all, c.loop-index.invariant.small)
+returns-clause-small c = grind (arith, nat_tests, take_all)
