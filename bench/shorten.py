@@ -5,8 +5,8 @@ usage: bench/shorten.py CRATE_FOLDER [PART OF A FILE'S PATH..]
 
 A piece is an equation of three lines or more, all equations of a declaration, or a field of a record. In its place comes a call of
 grind with the lemmas that it names, its recursive calls, and what it applies of its arguments. What the check refuses is put back,
-and then what stands inside it is tried; so is what costs more steps than its lines are worth. `rt tidy` drops the imports that
-nothing uses any more. Nothing else may be changed in the crate meanwhile.
+and so is what costs more steps than its lines are worth; then what stands inside it is tried, as long as there is enough of that.
+`rt tidy` drops the imports that nothing uses any more. Nothing else may be changed in the crate meanwhile.
 """
 import collections
 import glob
@@ -24,7 +24,7 @@ WORD = re.compile(r"[^\s(){}\[\];,]+")
 STD = "/opt/rattle/rattle"
 SCOPE = {"arith": "use Rattle.std.proofs.Common.{arith}", "nat_tests": "use Rattle.std.proofs.lemmas.Bool.Decides.{nat_tests}"}
 NO_LEMMA = set("arith nat_tests common_steps rules refl ap sym subst absurd cc tt inl inr has length map filter take drop find".split())
-STEPS_A_LINE, FEW_STEPS, MOST_STEPS = 40_000, 120_000, 1_200_000
+STEPS_A_LINE, FEW_STEPS, MOST_STEPS, FEW_LINES = 40_000, 120_000, 1_200_000, 8
 
 Piece = collections.namedtuple("Piece", "name first last left right is_field")
 
@@ -133,7 +133,7 @@ def pieces(lines):
     return sorted((it for it in found if it.last - it.first >= 3), key=lambda it: (it.first, -it.last))
 
 
-def call_of(piece, lemmas, with_arguments):
+def call_of(piece, lemmas):
     """The call of grind in the place of a piece."""
     words = dict.fromkeys(WORD.findall(piece.right))
     inside = {it[2] for it in map(SIGNATURE.match, piece.right.split("\n")) if it}
@@ -142,7 +142,7 @@ def call_of(piece, lemmas, with_arguments):
     applied = []
     for it in re.finditer(r"(?<![^\s(\[{,])([a-z_][\w\-]*(?:\.[\w\-]+)*)(?=\s+[(\w])", piece.right):
         head = re.search(r"(^|[(=\[,;]|∙|(?<=\s)in|↦|\.)\s*$", piece.right[: it.start()])
-        if with_arguments and head and it[1].split(".")[0] in bound and it[1] not in applied + named:
+        if head and it[1].split(".")[0] in bound and it[1] not in applied + named:
             applied.append(it[1])
     many = len(atoms(piece.left.strip()[len(piece.name) :]))
     again = r"(?<![^\s(\[{,])" + re.escape(piece.name) + r"(?=\s)"
@@ -264,7 +264,7 @@ def main():
     folder = os.path.abspath(sys.argv[1])
     files = [it for it in glob.glob(f"{folder}/proofs/**/*.antt", recursive=True) if os.path.basename(it) not in ("Lib.antt", "Common.antt")]
     files = [it for it in files if not sys.argv[2:] or any(part in it for part in sys.argv[2:])]
-    lemmas, tried, gone = lemmas_of(folder), collections.Counter(), 0
+    lemmas, tried, gone = lemmas_of(folder), set(), 0
     while True:
         texts, chosen = {}, {}
         for file in files:
@@ -275,10 +275,10 @@ def main():
             near = in_scope(lines, lemmas)
             for piece in pieces(lines):
                 key = (file, piece.left, piece.right)
-                if tried[key] < 2 and not (calls and piece.first < calls[-1][0].last):
-                    calls.append((piece, call_of(piece, near, tried[key] == 0)))
-                    tried[key] += 1
-        if not any(chosen.values()):
+                if key not in tried and not (calls and piece.first < calls[-1][0].last):
+                    calls.append((piece, call_of(piece, near)))
+                    tried.add(key)
+        if sum(it.last - it.first - 1 for calls in chosen.values() for it, _ in calls) < FEW_LINES:
             print(f"{os.path.basename(folder)}: {gone} lines less")
             return 0
         gone += settle(folder, texts, chosen)
