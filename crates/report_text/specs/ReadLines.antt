@@ -49,7 +49,7 @@ IsLine line = HasWidths line × IsWhole line
 -- a text is made up of the bytes of these lines, and each may be put
 pub record AreLinesOf (text : List ℕ) (lines : List report.Line) : Type 0 where
   pub bytes : text ≡ flat_map line_text lines
-  pub are : All IsWhole lines
+  pub are : All IsLine lines
 
 -- these are the commit lines among those whose bytes make up a text, in their order
 pub record AreCommitsOf (text : List ℕ) (commits : List CommitLine) : Type 0 where

@@ -5,7 +5,7 @@ ghost use Rattle.desk.specs.Lines as report;
 ghost use Rattle.desk.specs.Lines.{printed};
 ghost use Rattle.job_text.specs.Ready.{IsName};
 ghost use Rattle.report_text.specs.Line.{line_told};
-ghost use Rattle.report_text.specs.ReadLines.{IsLine};
+ghost use Rattle.report_text.specs.ReadLines.{HasWidths, IsLine};
 ghost use Rattle.report_text.specs.Words.{bytes_in, kind_of, numbers_in, parts_of};
 
 use super::line::Line;
@@ -62,8 +62,9 @@ fn bytes_of(alloc: Global, kind: &[u8], rest: &[u8]) -> Result<Vec<u8>, AllocErr
 
 /// The line that a text without its line feed can only be, whose lists are these.
 pub(crate) fn guess<'a>(lists: &'a Lists, text: &'a [u8]) -> Line<'a>
-    ensures { (line : report.Line) → IsLine line → text.now ≡ join_with_byte 32 (kind_of line ∷ parts_of line)
+    ensures is { (line : report.Line) → IsLine line → text.now ≡ join_with_byte 32 (kind_of line ∷ parts_of line)
         → lists.now.numbers.items ≡ numbers_in line → lists.now.bytes.items ≡ bytes_in line → line_told result ≡ line }
+    ensures widths { HasWidths (line_told result) }
 {
     let (kind, rest) = split(text);
     of_kind(&lists.numbers, &lists.bytes, kind, rest)
@@ -71,8 +72,9 @@ pub(crate) fn guess<'a>(lists: &'a Lists, text: &'a [u8]) -> Line<'a>
 
 /// The line that begins with this word and has these lists.
 fn of_kind<'a>(numbers: &'a [u32], bytes: &'a [u8], kind: &[u8], rest: &'a [u8]) -> Line<'a>
-    ensures { (line : report.Line) → IsLine line → kind.now ≡ kind_of line → rest.now ≡ join_with_byte 32 (parts_of line)
+    ensures is { (line : report.Line) → IsLine line → kind.now ≡ kind_of line → rest.now ≡ join_with_byte 32 (parts_of line)
         → numbers.now ≡ numbers_in line → bytes.now ≡ bytes_in line → line_told result ≡ line }
+    ensures widths { HasWidths (line_told result) }
 {
     if kind == b"open".as_slice() {
         Line::Open(number(rest))
@@ -132,8 +134,9 @@ fn named(rest: &[u8]) -> (u32, &[u8])
 
 /// `nosegment A NAME S`.
 fn no_segment<'a>(rest: &'a [u8]) -> Line<'a>
-    ensures { (a : ℕ) (name : List ℕ) (s : ℕ) → a < 2 ^ 32 → IsName name → s < 2 ^ 32
+    ensures is { (a : ℕ) (name : List ℕ) (s : ℕ) → a < 2 ^ 32 → IsName name → s < 2 ^ 32
         → rest.now ≡ join_with_byte 32 (decimal a ∷ name ∷ decimal s ∷ []) → line_told result ≡ report.NoSegment a name s }
+    ensures widths { HasWidths (line_told result) }
 {
     let (activation, rest) = first_small(rest);
     let (name, rest) = split(rest);
@@ -143,8 +146,9 @@ fn no_segment<'a>(rest: &'a [u8]) -> Line<'a>
 
 /// `turn A ran E page P lock L`.
 fn turn<'a>(rest: &[u8]) -> Line<'a>
-    ensures { (a r p l : ℕ) → a < 2 ^ 32 → r < 2 ^ 32 → p < 2 ^ 32 → l < 2 ^ 32
+    ensures is { (a r p l : ℕ) → a < 2 ^ 32 → r < 2 ^ 32 → p < 2 ^ 32 → l < 2 ^ 32
         → rest.now ≡ join_with_byte 32 (parts_of (report.Turn a r p l)) → line_told result ≡ report.Turn a r p l }
+    ensures widths { HasWidths (line_told result) }
 {
     let (activation, rest) = first_small(rest);
     let (ran, rest) = first_small(behind(rest));
@@ -171,8 +175,9 @@ fn commit(rest: &[u8]) -> (u32, u64, u64, &[u8])
 
 /// `check A code C at H`.
 fn check<'a>(rest: &[u8]) -> Line<'a>
-    ensures { (a c h : ℕ) → a < 2 ^ 32 → c < 2 ^ 32 → h < 2 ^ 32
+    ensures is { (a c h : ℕ) → a < 2 ^ 32 → c < 2 ^ 32 → h < 2 ^ 32
         → rest.now ≡ join_with_byte 32 (parts_of (report.Check a c h)) → line_told result ≡ report.Check a c h }
+    ensures widths { HasWidths (line_told result) }
 {
     let (activation, rest) = first_small(rest);
     let (code, rest) = first_small(behind(rest));
@@ -194,8 +199,9 @@ fn wait(rest: &[u8]) -> (u32, &[u8])
 
 /// `journal A lines L limit M`.
 fn journal<'a>(rest: &[u8]) -> Line<'a>
-    ensures { (a l m : ℕ) → a < 2 ^ 32 → l < 2 ^ 32 → m < 2 ^ 32
+    ensures is { (a l m : ℕ) → a < 2 ^ 32 → l < 2 ^ 32 → m < 2 ^ 32
         → rest.now ≡ join_with_byte 32 (parts_of (report.Journal a l m)) → line_told result ≡ report.Journal a l m }
+    ensures widths { HasWidths (line_told result) }
 {
     let (activation, rest) = first_small(rest);
     let (lines, rest) = first_small(behind(rest));
@@ -209,8 +215,9 @@ fn journal<'a>(rest: &[u8]) -> Line<'a>
 
 /// `doubt A number N`.
 fn doubt<'a>(rest: &[u8]) -> Line<'a>
-    ensures { (a n : ℕ) → a < 2 ^ 32 → n < 2 ^ 64
+    ensures is { (a n : ℕ) → a < 2 ^ 32 → n < 2 ^ 64
         → rest.now ≡ join_with_byte 32 (parts_of (report.Doubt a n)) → line_told result ≡ report.Doubt a n }
+    ensures widths { HasWidths (line_told result) }
 {
     let (activation, rest) = first_small(rest);
     let (number, _) = first_number(behind(rest));

@@ -89,7 +89,7 @@ fn next_line<'a>(
     text: &'a [u8],
 ) -> Result<Option<(Option<CommitLine>, &'a [u8])>, AllocError>
     ensures { IfOk result (λ found. MatchOption found (BeginsWithNone text.now)
-        (λ told. (line : report.Line) × IsWhole line × Tells told.0 line × (text.now ≡ line_text line ++ told.1.now))) }
+        (λ told. (line : report.Line) × IsLine line × Tells told.0 line × (text.now ≡ line_text line ++ told.1.now))) }
 {
     match place_of(b'\n', text) {
         Some(at) => match whole_line(alloc, room, &text[..at + 1])? {
@@ -109,7 +109,7 @@ fn whole_line(
     requires { 0 < length text.now }
     ensures { IfOk result (λ found. MatchOption found
         ((line : report.Line) → IsLine line → text.now ≢ line_text line)
-        (λ told. (line : report.Line) × IsWhole line × Tells told line × (text.now ≡ line_text line))) }
+        (λ told. (line : report.Line) × IsLine line × Tells told line × (text.now ≡ line_text line))) }
 {
     let lists = Lists::of(alloc, &text[..text.len() - 1])?;
     line_with(alloc, room, &lists, text)
@@ -125,7 +125,7 @@ fn line_with(
     requires { 0 < length text.now }
     ensures { IfOk result (λ found. MatchOption found
         ((line : report.Line) → IsLine line → lists.now.numbers.items ≡ numbers_in line → lists.now.bytes.items ≡ bytes_in line → text.now ≢ line_text line)
-        (λ told. (line : report.Line) × IsWhole line × Tells told line × (text.now ≡ line_text line))) }
+        (λ told. (line : report.Line) × IsLine line × Tells told line × (text.now ≡ line_text line))) }
 {
     let line = guess(lists, &text[..text.len() - 1]);
     if are_bytes_of(room, &line, text) {

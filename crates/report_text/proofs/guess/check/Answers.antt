@@ -1,8 +1,8 @@
 use Rattle.report_text.proofs.Common.{ℕ, List, [], ◌∷◌, codes, decimal, refl, big_bytes, encode_lower}
 use Rattle.report_text.proofs.guess.check.Goals as goal
 
-pub returns : goal.returns
-returns c = λ a code h small_a small_code small_h is.
+pub returns-clause-is : goal.returns-clause-is
+returns-clause-is c = λ a code h small_a small_code small_h is.
     let at : List (List ℕ) = encode_lower (big_bytes 4 h) ∷ [] in
     let one = c.first_small-activation.ensures.parts a (codes "code" ∷ decimal code ∷ codes "at" ∷ at) small_a is in
     let two = c.first_small-code.ensures.parts code (codes "at" ∷ at) small_code

@@ -1,8 +1,8 @@
 use Rattle.report_text.proofs.Common.{ℕ, List, [], ◌∷◌, codes, decimal, refl}
 use Rattle.report_text.proofs.guess.journal.Goals as goal
 
-pub returns : goal.returns
-returns c = λ a l m small_a small_l small_m is.
+pub returns-clause-is : goal.returns-clause-is
+returns-clause-is c = λ a l m small_a small_l small_m is.
     let limit : List (List ℕ) = codes "limit" ∷ decimal m ∷ [] in
     let one = c.first_small-activation.ensures.parts a (codes "lines" ∷ decimal l ∷ limit) small_a is in
     let two = c.first_small-lines.ensures.parts l limit small_l (c.behind.ensures.parts (codes "lines") (decimal l ∷ limit) refl one.1) in

@@ -1,8 +1,8 @@
 use Rattle.report_text.proofs.Lemmas.{[], ◌∷◌, decimal, refl, name_word}
 use Rattle.report_text.proofs.guess.no_segment.Goals as goal
 
-pub returns : goal.returns
-returns c = λ a name s small_a is_name small_s is.
+pub returns-clause-is : goal.returns-clause-is
+returns-clause-is c = λ a name s small_a is_name small_s is.
     let one = c.first_small-activation.ensures.parts a (name ∷ decimal s ∷ []) small_a is in
     let two = c.split.ensures.parts name (decimal s ∷ []) (name_word name is_name) one.1 in
     let three = c.first_small-segment.ensures.parts s [] small_s two.1 in

@@ -1,8 +1,8 @@
 use Rattle.report_text.proofs.Common.{ℕ, List, [], ◌∷◌, codes, decimal, refl}
 use Rattle.report_text.proofs.guess.turn.Goals as goal
 
-pub returns : goal.returns
-returns c = λ a r p l small_a small_r small_p small_l is.
+pub returns-clause-is : goal.returns-clause-is
+returns-clause-is c = λ a r p l small_a small_r small_p small_l is.
     let locks : List (List ℕ) = codes "lock" ∷ decimal l ∷ [] in
     let pages : List (List ℕ) = codes "page" ∷ decimal p ∷ locks in
     let one = c.first_small-activation.ensures.parts a (codes "ran" ∷ decimal r ∷ pages) small_a is in

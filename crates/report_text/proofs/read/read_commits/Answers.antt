@@ -1,4 +1,4 @@
-use Rattle.report_text.proofs.Lemmas.{[], refl, ◌++◌, ◌∷◌, ap, sym, ◌∙◌, append-nil, length-append, arith, map, filter-append, map-append, flat_map, is_commit, All-push, line_text, IsWhole, commit_told, option_to_list, empty_is, bytes_more, fewer}
+use Rattle.report_text.proofs.Lemmas.{[], refl, ◌++◌, ◌∷◌, ap, sym, ◌∙◌, append-nil, length-append, arith, map, filter-append, map-append, flat_map, is_commit, All-push, line_text, IsLine, commit_told, option_to_list, empty_is, bytes_more, fewer}
 use Rattle.report_text.proofs.read.read_commits.Goals as goal
 
 pub loop-left-init : goal.loop-left-init
@@ -11,7 +11,7 @@ loop-left-preserved c =
     record {
       lines = inv.lines ++ line ∷ [];
       text = bytes_more c.args.text.now c.loop-left.left.now c.in-Some.rest.now inv.lines line inv.text bytes;
-      are = All-push IsWhole inv.lines line inv.are whole;
+      are = All-push IsLine inv.lines line inv.are whole;
       only =
           ap (map commit_told) c.in_ok-keep-in-Some.ensures
           ∙ map-append commit_told c.loop-left.commits.items (option_to_list c.in-Some.told)

@@ -1,11 +1,11 @@
-use Rattle.report_text.proofs.Common.{◌≡◌, ◌+◌, ◌≤◌, ◌++◌, List, length, map, filter, All, flat_map, is_commit, line_text, IsWhole, commit_told, Line}
+use Rattle.report_text.proofs.Common.{◌≡◌, ◌+◌, ◌≤◌, ◌++◌, List, length, map, filter, All, flat_map, is_commit, line_text, IsLine, commit_told, Line}
 use Rattle.report_text.proofs.read.read_commits.Given as goal
 
 abbrev pub invariant-loop-left : goal.invariant-loop-left
 invariant-loop-left l = record {
   lines : List Line;
   text : l.text ≡ flat_map line_text lines ++ l.left;
-  are : All IsWhole lines;
+  are : All IsLine lines;
   only : map commit_told l.commits.items ≡ filter is_commit lines;
   place : l.number ≡ length lines + 1;
   few : l.number + length l.left ≤ length l.text + 1;
