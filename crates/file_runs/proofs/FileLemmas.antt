@@ -5,7 +5,7 @@ use Rattle.std.proofs.lemmas.List.Elements.{All-nil, All-cons}
 use Rattle.outside.proofs.Torn.{torn_by_written, untouched}
 use Rattle.std.proofs.lemmas.List.Sums.{sum_by-cons}
 use Rattle.std.proofs.lemmas.Bool.Decides.{nat_tests}
-use Rattle.outside.specs.Clock.{printed_before}
+use Rattle.outside.specs.Clock.{shown_by, start_of}
 use Rattle.outside.specs.Moments.{Moment}
 use Rattle.run_law.specs.Headline.{IsPrefix}
 use Rattle.run_law.proofs.HeadlineLemmas.{start_is_prefix}
@@ -15,9 +15,9 @@ use Rattle.desk.specs.Kept.{KeepsJournal, journal_in}
 use Rattle.outside.specs.Bytes.{AreTold, Prints}
 
 -- nothing was printed before the first put
-none_before : (puts : List Deed) → printed_before (marks_of 0 puts) (length (printed_of puts)) 0 ≡ 0
+none_before : (puts : List Deed) → start_of (marks_of 0 puts) (length (printed_of puts)) 0 ≡ 0
 none_before [] = refl
-none_before (put ∷ puts) = grind (arith, nat_tests)
+none_before (put ∷ puts) = refl
 
 -- bytes that are told are the ones
 told_is : (those : Option (List ℕ)) (left : List ℕ) → IsSome those → AreTold those left → left ≡ unwrap_or those []
@@ -75,7 +75,7 @@ keeps_file : (first : List ℕ) (deeds : List Deed) → count_by is_write deeds 
 keeps_file first deeds none kept = record { quiet = quiet_by first first (λ image. image ≡ first) deeds refl none kept; kept = kept }
 
 -- no fewer bytes stood before a put than before the first
-from_first : (before : ℕ) (puts : List Deed) (count at : ℕ) → before + length (printed_of puts) ≤ count → before ≤ printed_before (marks_of before puts) count at
+from_first : (before : ℕ) (puts : List Deed) (count at : ℕ) → before + length (printed_of puts) ≤ count → before ≤ shown_by (marks_of before puts) count at
 from_first before [] count at few = omega (arith, few)
 from_first before (put ∷ puts) count at few =
     let all = length-append (bytes_of put) (printed_of puts) in
@@ -83,7 +83,7 @@ from_first before (put ∷ puts) count at few =
     grind (arith, nat_tests)
 
 -- nor before the first put at one deed more
-later_more : (before : ℕ) (puts : List Deed) (count at : ℕ) → before + length (printed_of puts) ≤ count → printed_before (marks_of before puts) count at ≤ printed_before (marks_of before puts) count (at + 1)
+later_more : (before : ℕ) (puts : List Deed) (count at : ℕ) → before + length (printed_of puts) ≤ count → shown_by (marks_of before puts) count at ≤ shown_by (marks_of before puts) count (at + 1)
 later_more before [] count at few = omega arith
 later_more before (put ∷ puts) count at few =
     let all = length-append (bytes_of put) (printed_of puts) in
@@ -95,7 +95,7 @@ later_more before (put ∷ puts) count at few =
 -- so at each number of deeds something may have been seen
 seen_at : (puts : List Deed) (done : ℕ) → (seen : List ℕ) × IsSeenAt puts done seen
 seen_at puts done =
-    let count = printed_before (marks_of 0 puts) (length (printed_of puts)) done in
+    let count = shown_by (marks_of 0 puts) (length (printed_of puts)) done in
     (take count (printed_of puts), record { count = count; is_seen = refl; ended = omega arith; not_begun = later_more 0 puts (length (printed_of puts)) done (omega arith) })
 
 module _ {W : Type 0} (G : Ghosts W) (before after : W) (first : List ℕ) (puts : List Deed) (behind : IsBehind G before after first puts) where
@@ -173,9 +173,7 @@ module _ {W : Type 0} (G : Ghosts W) (before after : W) (first : List ℕ) (deed
         by_now = within;
         is_image = is_image;
         is_seen = seen_at.is_seen;
-        begun = λ i le.
-            let none_yet : i ≡ 0 = omega (arith, le) in
-            subst (λ (n : ℕ). printed_before (drop n (marks_of 0 puts)) (length (printed_of puts)) 0 ≤ seen_at.count) (sym none_yet) (omega (arith, none_before puts));
+        recorded = omega (arith, none_before puts);
         ended = seen_at.ended;
         not_begun = seen_at.not_begun;
       }))

@@ -3,7 +3,7 @@ use Rattle.std.specs.Prelude.{◌≡◌, ℕ, ◌+◌, ◌≤◌, false, List, [
 use Rattle.outside.specs.declared.failed.Failed.{Failed}
 use Rattle.outside.specs.Bytes.{Prints}
 use Rattle.outside.specs.declared.world.Outside.{Ghosts}
-use Rattle.outside.specs.Clock.{printed_before, LeftAt}
+use Rattle.outside.specs.Clock.{shown_by, LeftAt}
 use Rattle.outside.specs.Moments.{Moment}
 use Rattle.outside.specs.Runs.{Leaves}
 use Rattle.store_format.specs.Stands.{Stands, stands}
@@ -32,8 +32,8 @@ use Rattle.real_files.specs.Shown.{printed_of, marks_of}
 pub record IsSeenAt (puts : List Deed) (deeds : ℕ) (seen : List ℕ) : Type 0 where
   pub count : ℕ
   pub is_seen : seen ≡ take count (printed_of puts)
-  pub ended : printed_before (marks_of 0 puts) (length (printed_of puts)) deeds ≤ count
-  pub not_begun : count ≤ printed_before (marks_of 0 puts) (length (printed_of puts)) (deeds + 1)
+  pub ended : shown_by (marks_of 0 puts) (length (printed_of puts)) deeds ≤ count
+  pub not_begun : count ≤ shown_by (marks_of 0 puts) (length (printed_of puts)) (deeds + 1)
 
 -- The machine may stop after any number of the deeds: each image that these may leave, with what may have been seen by then, has this.
 abbrev pub LeavesAt : (first : List ℕ) (deeds puts : List Deed) → (List ℕ → List ℕ → Type 0) → Type 0

@@ -4,8 +4,8 @@ pub use Rattle.std.proofs.lemmas.List.{drop-drop, drop_all, drop_at, length-drop
 pub use Rattle.std.specs.Prelude.{Err, IsErr, IsOk, IsSome, None, Ok, OnErr, OnOk, Option, Result, Some, cond, count_by, if◌then◌else◌, is_ok, not, replicate, true, unwrap_or}
 pub use Rattle.outside.specs.Bytes.{AreTold, Prints, Torn, Writes, written}
 pub use Rattle.outside.specs.Calls.{made_of}
-pub use Rattle.outside.specs.Clock.{AreMadeBy, AreWithin, LeftAt, Records, printed_before, shown_of}
-pub use Rattle.outside.specs.ClockLaws.{all_drop, head_of, printed_before-past, printed_before-within, tail_of, told_seen}
+pub use Rattle.outside.specs.Clock.{AreInOrder, AreMadeBy, LeftAt, Records, shown_by, shown_of, start_of}
+pub use Rattle.outside.specs.ClockLaws.{shown_by-past, shown_by-within, start_of-past, start_of-within, told_seen}
 pub use Rattle.outside.specs.Images.{AddsNoImage, Images, ImagesFollow, Passes}
 pub use Rattle.outside.specs.Origin.{Origin}
 pub use Rattle.outside.specs.Moments.{AddsNone, Elapses, LeavesStep, IsNotAfter, IsOneCall, Moment, Pairs, PrintsNothing, Shows}

@@ -1,6 +1,6 @@
 -- What one deed more adds to the crash images of a file.
 use Rattle.real_files.proofs.Common.{◌≡◌, ◌⊎◌, inl, inr, ⊎_elim, ℕ, zero, suc, ◌+◌, ◌≤◌, List, [], ◌∷◌, ◌++◌, length, refl, sym, ◌∙◌, ap, subst, arith, length-append, written, Torn, Passes, ImagesFollow, AddsNoImage, Failed, Deed, Wrote, Tore, Synced, Unsynced, held_by, images_by, held_after, images_at, is_failed, StopsAtFailure}
-use Rattle.std.specs.Prelude.{◌-◌, count_by, take, Bool, true, false, cond, Result, Ok, Err, OnOk, IsErr, is_err, Some}
+use Rattle.std.specs.Prelude.{◌-◌, count_by, take, Bool, false, cond, Result, Ok, Err, OnOk, IsErr, is_err, Some}
 use Rattle.outside.specs.Bytes.{Writes}
 use Rattle.std.proofs.lemmas.List.Sums.{sum_by-append}
 use Rattle.std.proofs.Math.Seq.{take-append_seam}

@@ -1,6 +1,5 @@
 -- What one put more prints.
-use Rattle.real_files.proofs.Common.{◌≡◌, inl, ℕ, ◌+◌, List, [], ◌∷◌, ◌++◌, length, take, refl, sym, ◌∙◌, ap, arith, length-append, Some, IsErr, Result, Ok, Err, Prints, Failed, Deed, Wrote}
-use Rattle.outside.specs.declared.screen.PutMark.{PutMark}
+use Rattle.real_files.proofs.Common.{◌≡◌, ℕ, ◌+◌, List, [], ◌∷◌, ◌++◌, length, take, ◌∙◌, ap, arith, length-append, Some, IsErr, Result, Ok, Err, Prints, Failed, Deed, Wrote}
 use Rattle.real_files.specs.Shown.{printed_of, marks_of}
 use Rattle.real_files.specs.ShownLaws.{printed_of-more, marks_of-more}
 

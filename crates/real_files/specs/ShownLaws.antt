@@ -1,8 +1,7 @@
 -- What holds of what a list of puts printed.
-use Rattle.std.proofs.Common.{◌≡◌, ℕ, ◌+◌, ◌≤◌, List, [], ◌∷◌, ◌++◌, length, refl, sym, ◌∙◌, ap, arith, length-append, append_assoc, append-nil}
-use Rattle.std.specs.Prelude.{All, Some}
-use Rattle.std.proofs.lemmas.List.Elements.{All-nil, All-cons}
-use Rattle.outside.specs.Clock.{AreWithin, shown_of}
+use Rattle.std.proofs.Common.{◌≡◌, ℕ, zero, suc, ◌+◌, ◌≤◌, List, [], ◌∷◌, ◌++◌, length, sym, ◌∙◌, ap, arith, length-append, append_assoc, append-nil}
+use Rattle.std.specs.Prelude.{Some}
+use Rattle.outside.specs.Clock.{AreInOrder, shown_of, start_of}
 use Rattle.outside.specs.declared.screen.PutMark.{PutMark}
 use Rattle.real_files.specs.Deeds.{Deed}
 use Rattle.real_files.specs.Shown.{bytes_of, number_of, printed_of, marks_of}
@@ -21,12 +20,13 @@ marks_of-more before (first ∷ puts) put =
     ap (λ (rest : List PutMark). record { at = number_of first; before = before } ∷ rest) (marks_of-more (before + length (bytes_of first)) puts put)
     ∙ ap (λ (n : ℕ). record { at = number_of first; before = before } ∷ (marks_of (before + length (bytes_of first)) puts ++ record { at = number_of put; before = n } ∷ [])) same
 
--- each began with no more bytes than there are
-within_of : (total before : ℕ) (puts : List Deed) → before + length (printed_of puts) ≤ total → All (λ mark. mark.before ≤ total) (marks_of before puts)
-within_of total before [] few = All-nil (λ mark. mark.before ≤ total)
-within_of total before (first ∷ puts) few =
-    let all = length-append (bytes_of first) (printed_of puts) in
-    All-cons (λ mark. mark.before ≤ total) (record { at = number_of first; before = before }) (marks_of (before + length (bytes_of first)) puts) (omega (arith, few)) (within_of total (before + length (bytes_of first)) puts (omega (arith, few, all)))
+-- each began where the one before it did or later
+in_order_of : (total before : ℕ) (puts : List Deed) (i : ℕ) → before + length (printed_of puts) ≤ total → start_of (marks_of before puts) total i ≤ start_of (marks_of before puts) total (suc i)
+in_order_of total before [] i few = omega arith
+in_order_of total before (first ∷ []) zero few = omega (arith, few)
+in_order_of total before (first ∷ (second ∷ puts)) zero few = omega arith
+in_order_of total before (first ∷ puts) (suc i) few =
+    in_order_of total (before + length (bytes_of first)) puts i (omega (arith, few, length-append (bytes_of first) (printed_of puts)))
 
-pub marks_within : (puts : List Deed) → AreWithin (shown_of (Some (printed_of puts))) (marks_of 0 puts)
-marks_within puts = within_of (length (printed_of puts)) 0 puts (omega arith)
+pub marks_in_order : (puts : List Deed) → AreInOrder (shown_of (Some (printed_of puts))) (marks_of 0 puts)
+marks_in_order puts i = in_order_of (length (printed_of puts)) 0 puts i (omega arith)

@@ -38,9 +38,9 @@ impl<R: RawScreen> Screen for NotedScreen<R> {
 
     ghost faults = { λ screen. screen.faults };
 
-    ghost use Rattle.real_files.specs.ShownLaws.{marks_within};
+    ghost use Rattle.real_files.specs.ShownLaws.{marks_in_order};
 
-    ghost puts_within = { λ screen. marks_within (R.puts screen.screen) };
+    ghost puts_in_order = { λ screen. marks_in_order (R.puts screen.screen) };
 
     fn put(&mut self, bytes: &[u8], at: u64) -> Result<(), Failed> {
         match self.screen.put(bytes, at) {

@@ -1,7 +1,7 @@
 use Rattle.file_runs.proofs.Common.{◌≡◌, ℕ, List, length, sym, ◌∙◌, ap, subst, refl, Some, LeftAt, Moment, Deed, images_at, is_write, printed_of, marks_of, count_by, given, DidOnFile}
 use Rattle.outside.specs.ClockLaws.{left_now}
 use Rattle.outside.specs.Origin.{Origin}
-use Rattle.real_files.specs.ShownLaws.{marks_within}
+use Rattle.real_files.specs.ShownLaws.{marks_in_order}
 use Rattle.file_runs.proofs.FileLemmas.{marks_counted}
 use Rattle.file_runs.proofs.command.console_on_file.Goals as goal
 
@@ -27,7 +27,7 @@ returns-clause-did g c form is on_file =
       unwritten = ap (λ (these : List Deed). Some (count_by is_write these)) (ap g.F.RawFile.deeds made.ensures.file ∙ c.requires.deeds);
       writes = refl;
       since = λ t image seen left. subst (λ (these : List ℕ). LeftAt (length deeds) (images_at these deeds) (marks_of 0 puts) (printed_of puts) t image seen) (sym first) left;
-      now = λ image left. left_now (length deeds) (images_at (g.F.RawFile.first out.disk.file) deeds) (marks_of 0 puts) _ (printed_of puts) image out.in_step (marks_within puts) (subst (λ (these : List ℕ). images_at these deeds (length deeds) image) (sym first) left);
+      now = λ image left. left_now (length deeds) (images_at (g.F.RawFile.first out.disk.file) deeds) (marks_of 0 puts) _ (printed_of puts) image out.in_step (marks_in_order puts) (subst (λ (these : List ℕ). images_at these deeds (length deeds) image) (sym first) left);
     }) in
     subst (λ (these : List Deed). this (g.F.RawFile.deeds parts.result.0) these) (ap g.R.RawScreen.puts (sym parts.ensures.screen))
     (subst (λ (these : List Deed). this these puts) (ap g.F.RawFile.deeds (sym parts.ensures.file)) did)

@@ -1,5 +1,5 @@
 use Rattle.real_files.proofs.Common.{inl, inr, refl, arith, Synced, Unsynced}
-use Rattle.real_files.proofs.DeedSteps.{still_replayed, counted, still_unfailed, still_stops, passes, sync_adds, synced_leaves}
+use Rattle.real_files.proofs.DeedSteps.{still_replayed, counted, still_unfailed, still_stops, sync_adds, synced_leaves}
 use Rattle.real_files.proofs.kept_disk.KeptDiskDisk.sync.Goals as goal
 
 pub invariant_of-self-in-Ok : goal.invariant_of-self-in-Ok
