@@ -1,4 +1,4 @@
-use Rattle.store_format.proofs.Lemmas.{◌≡◌, ℕ, ◌∙◌, sym, ap, length, List, take, refl, Option, None, Some, IsSome, min, held_of, fields, first_fault, header_of, padded_fault, padded_header, faulty_header, faulty_length}
+use Rattle.store_format.proofs.Lemmas.{◌≡◌, ℕ, ◌∙◌, sym, ap, length, List, take, refl, Option, None, Some, IsSome, held_of, fields, first_fault, header_of, padded_fault, padded_header, faulty_header, faulty_length}
 use Rattle.store_format.proofs.read.read_header.Given.{Over}
 use Rattle.store_format.proofs.read.read_header.Goals as goal
 use Rattle.store_format.proofs.read.read_header.Goals.{After-header_fault, After-total-total}

@@ -1,4 +1,4 @@
-use Rattle.store_format.proofs.Lemmas.{◌≡◌, ℕ, ◌+◌, ◌*◌, ◌-◌, replicate, ◌∙◌, arith, vec_len, length-replicate, byte_count, byte_count-lines, total, stands, front_zeros}
+use Rattle.store_format.proofs.Lemmas.{◌≡◌, ℕ, ◌+◌, ◌*◌, ◌-◌, replicate, ◌∙◌, arith, vec_len, length-replicate, byte_count, byte_count-lines, total, front_zeros}
 use Rattle.store_format.proofs.header.Header.fresh.Goals as goal
 
 pub returns-clause-bytes : goal.returns-clause-bytes

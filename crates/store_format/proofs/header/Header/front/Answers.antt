@@ -1,4 +1,4 @@
-use Rattle.store_format.proofs.Lemmas.{◌≡◌, ℕ, ◌-◌, ◌+◌, ◌*◌, List, ◌++◌, replicate, arith, big_bytes, Header, header_bytes, front, nat_tests, stored_stands}
+use Rattle.store_format.proofs.Lemmas.{◌≡◌, ℕ, ◌+◌, ◌*◌, List, ◌++◌, replicate, arith, big_bytes, Header, header_bytes, front, nat_tests, stored_stands}
 use Rattle.store_format.proofs.header.Header.front.Goals as goal
 
 -- the header, zeros up to the bank, its base and zeros up to the home lines
