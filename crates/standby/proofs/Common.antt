@@ -40,7 +40,7 @@ unfoldable pub use Rattle.store_format.specs.Stands.{stands}
 pub use Rattle.text_line.proofs.Bytes.{each_byte, empty_is, some_is}
 pub use Rattle.text_line.proofs.Words.{IsWord, number_word, same_number, word_cut}
 pub use Rattle.standby.specs.Bank.{bank_begun, bank_behind, bank_with}
-pub use Rattle.standby.specs.Followed.{BreaksAt, EndsWith, Follows, IsAlike, IsAtNumber, IsStopped, Keeps, OnlyGoesOn, SoFar, StopsAt, broken, followed_text, kept_text, well}
+pub use Rattle.standby.specs.Followed.{StandWhole, BreaksAt, EndsWith, Follows, IsAlike, IsAtNumber, IsStopped, Keeps, OnlyGoesOn, SoFar, StopsAt, broken, followed_text, kept_text, well}
 pub use Rattle.standby.specs.Puts.{Puts, SeesPart}
 pub use Rattle.standby.specs.Read.{AreWhole, GoesOn, IsFirstBad, IsRead, IsReadFault, Tail, feeds}
 pub use Rattle.standby.specs.Shipped.{HasBytes, PrintsBy, shipped}

@@ -1,5 +1,5 @@
 -- The lines that tell of records, and what a crash leaves of them.
-use Rattle.standby.proofs.Common.{◌≡◌, inl, inr, ℕ, zero, suc, ◌+◌, ◌-◌, ◌<◌, ◌≤◌, List, [], ◌∷◌, ◌++◌, length, take, get_or, min, sym, ◌∙◌, ap, arith, append_assoc, append-nil, length-append, IfSome_then, take_more, take-append-le, take_min, fold-append, FlatStore, Stands, stands, Prints, kept_text, followed_text, IsAtNumber, well, SeesPart, laid, laid_by, IsStep, over, ShipLine, next, later, end_line, kept_line, codes, decimal, Option, IfSome}
+use Rattle.standby.proofs.Common.{nat_tests, ◌≡◌, inl, inr, ℕ, zero, suc, ◌+◌, ◌-◌, ◌<◌, ◌≤◌, List, [], ◌∷◌, ◌++◌, length, take, get_or, min, Bool, nat_le, refl, if◌then◌else◌, sym, ◌∙◌, ap, arith, append_assoc, append-nil, length-append, IfSome_then, take_more, take-append-le, take_min, fold-append, FlatStore, Stands, stands, Prints, kept_text, followed_text, StandWhole, IsAtNumber, well, SeesPart, laid, laid_by, IsStep, over, ShipLine, next, later, end_line, kept_line, codes, decimal, Option, IfSome}
 use Rattle.std.proofs.lemmas.List.{take_all}
 use Rattle.std.proofs.Math.Seq.{take-append-add, take-append_seam}
 use Rattle.standby.proofs.PutLemmas.{on_printed}
@@ -18,9 +18,12 @@ kept_longer number i (suc more) =
 kept_grows : (number i j : ℕ) → i ≤ j → length (kept_text number i) + (j - i) ≤ length (kept_text number j)
 kept_grows number i j le = grind (arith, kept_longer number i (j - i))
 
--- so a text of at most these lines tells of no more
-pub kept_few : (number i j count : ℕ) → count ≤ length (kept_text number j) → length (kept_text number i) ≤ count → i ≤ j
-kept_few number i j count few many = grind (arith, kept_grows number j i)
+-- so the lines that stand whole are those whose text ends within the bytes
+stand_some : (number i all count : ℕ) → length (kept_text number i) ≤ count → count < length (kept_text number (suc i)) → StandWhole number all count i
+stand_some number i all count many few k le = grind (arith, kept_grows number k i, kept_grows number (suc i) k)
+
+stand_all : (number all count : ℕ) → length (kept_text number all) ≤ count → StandWhole number all count all
+stand_all number all count many k le = grind (arith, kept_grows number k all)
 
 -- the lines of the first records are in front of all that is told
 pub kept_front : (number i more : ℕ) → (rest : List ℕ) × (kept_text number (i + more) ≡ kept_text number i ++ rest)
@@ -51,6 +54,11 @@ told_into number i all count lt =
     let front = told_front number (suc i) all (omega (arith, lt)) in
     cc (front.1, append_assoc (kept_text number i) line front.0, take-append-add (kept_text number i) (line ++ front.0) (min count (length line)), cut_more count line front.0)
 
+-- and of the next one the line stands whole where all its bytes are there
+stand_into : (number i all count : ℕ) (b : Bool) → nat_le (length (kept_line (later number (suc i)))) count ≡ b
+    → StandWhole number all (length (kept_text number i) + min count (length (kept_line (later number (suc i))))) (if b then suc i else i)
+stand_into number i all count b is k le = grind (arith, nat_tests, b, length-append (kept_text number i) (kept_line (later number (suc i))), kept_grows number k i, kept_grows number (suc i) k, kept_grows number k (suc i), kept_grows number (suc (suc i)) k)
+
 -- one number more
 pub later_more : (number i : ℕ) → next (later number i) ≡ later number (i + 1)
 later_more number i = omega arith
@@ -73,8 +81,10 @@ module _ (bytes number : ℕ) (store : FlatStore) (records : List (List ShipLine
     told = IfSome_then printed is (λ shown same. record {
       count = length (kept_text number i);
       seen_is = same ∙ ap (λ (these : List ℕ). shown ++ these) (sym (told_whole number i (length records) le));
-      no_more = λ k few many. kept_few number k i (length (kept_text number i)) (omega arith) many;
-      no_fewer = λ k few. omega (arith, kept_grows number k i (omega (arith, few)));
+      whole = i;
+      stand = stand_some number i (length records) (length (kept_text number i)) (omega arith) (omega (arith, kept_grows number i (suc i)));
+      no_more = omega arith;
+      no_fewer = omega arith;
     });
   }
 
@@ -98,10 +108,10 @@ module _ (bytes number : ℕ) (store : FlatStore) (records : List (List ShipLine
               ∙ append_assoc shown (kept_text number i) (take sees.0 (kept_line (next (later number i))))
               ∙ ap (λ (n : ℕ). shown ++ (kept_text number i ++ take sees.0 (kept_line n))) number_is
               ∙ ap (λ (these : List ℕ). shown ++ these) (sym (told_into number i (length records) sees.0 lt));
-          no_more = λ k few many.
-              let up : k ≤ suc i = kept_few number k (suc i) (length (kept_text number i) + min sees.0 (length line)) (omega (arith, length-append (kept_text number i) line)) many in
-              omega (arith, up);
-          no_fewer = λ k few. omega (arith, kept_grows number k i (omega (arith, few)));
+          whole = if nat_le (length line) sees.0 then suc i else i;
+          stand = stand_into number i (length records) sees.0 (nat_le (length line) sees.0) refl;
+          no_more = grind arith;
+          no_fewer = grind arith;
         });
       }
 
@@ -120,7 +130,9 @@ module _ (bytes number : ℕ) (store : FlatStore) (records : List (List ShipLine
               part.1
               ∙ append_assoc shown (kept_text number all) (take part.0 (end_line (later number all)))
               ∙ ap (λ (these : List ℕ). shown ++ these) (sym (take-append-add (kept_text number all) (end_line (later number all)) part.0));
-          no_more = λ k few many. few;
-          no_fewer = λ k few. omega (arith, kept_grows number k all (omega (arith, few)));
+          whole = all;
+          stand = stand_all number all (length (kept_text number all) + part.0) (omega arith);
+          no_more = omega arith;
+          no_fewer = omega arith;
         });
       }

@@ -1,5 +1,5 @@
 -- What following a text does.
-use Rattle.std.specs.Prelude.{◌≡◌, ℕ, zero, suc, ◌+◌, ◌<◌, ◌≤◌, List, [], ◌++◌, length, take, Option, Result, Ok, Err, IsSome, IfSome}
+use Rattle.std.specs.Prelude.{◌≡◌, ℕ, zero, suc, ◌+◌, ◌<◌, ◌≤◌, ◌↔◌, List, [], ◌++◌, length, take, Option, Result, Ok, Err, IsSome, IfSome}
 use Rattle.line_geometry.specs.FlatStore.{FlatStore}
 use Rattle.line_geometry.specs.Lines.{line_count}
 use Rattle.store_format.specs.Header.{Header}
@@ -34,13 +34,19 @@ pub record IsAlike (header : Header) (content : Content) : Type 0 where
   pub bytes : content.line_bytes ≡ line_bytes header.directory.page
   pub lines : content.lines ≡ line_count header.directory
 
--- Seen is what was printed before with a first part of what is told of so many records behind a number: of no record behind the first few a whole
--- line, and of each but the last of these.
+-- just so many of the lines behind a number stand whole in so many bytes of all that is told
+abbrev pub StandWhole : (number all count whole : ℕ) → Type 0
+StandWhole number all count whole = (i : ℕ) → i ≤ all → (length (kept_text number i) ≤ count) ↔ (i ≤ whole)
+
+-- Seen is what was printed before with a first part of what is told of so many records behind a number, in which the lines of the first few stand
+-- whole, or of all of these but the last.
 pub record TellsUpTo (number all few : ℕ) (seen printed : List ℕ) : Type 0 where
   pub count : ℕ
   pub seen_is : seen ≡ printed ++ take count (followed_text number all)
-  pub no_more : (i : ℕ) → i ≤ all → length (kept_text number i) ≤ count → i ≤ few
-  pub no_fewer : (i : ℕ) → i + 1 ≤ few → length (kept_text number i) ≤ count
+  pub whole : ℕ
+  pub stand : StandWhole number all count whole
+  pub no_more : whole ≤ few
+  pub no_fewer : few ≤ whole + 1
 
 -- A crash left an image that stands for the store at a number, or at one of the records behind it; and where the bytes printed are told, the whole
 -- line of none behind that was seen, and that of each before it.
