@@ -1,5 +1,5 @@
 -- Rows of bits over the sixteen places.
-use Rattle.wait_cycles.proofs.Common.{◌≡◌, ℕ, zero, suc, ◌+◌, ◌*◌, ◌%◌, ◌^◌, ◌<◌, ◌≤◌, ◌==◌, ◌&&◌, ◌||◌, min, cond, Bool, true, false, refl, sym, ap, ◌∙◌, arith, inl, inr, bit_and, bit_or, w16, Option, Some, find, range_with_len, list_any, eq-eqb, ne_eqb, cases_eq, cases_lt, is_on, places}
+use Rattle.wait_cycles.proofs.Common.{◌≡◌, ℕ, zero, suc, ◌+◌, ◌*◌, ◌%◌, ◌^◌, ◌<◌, ◌≤◌, ◌==◌, ◌&&◌, ◌||◌, min, cond, Bool, true, false, refl, sym, ap, ◌∙◌, arith, inl, inr, bit_and, bit_or, w16, Option, Some, find, range_with_len, list_any, cases_eq, cases_lt, is_on, places}
 use Rattle.std.proofs.lemmas.Bool.Decides.{nat_tests}
 use Rattle.std.specs.Int.{bit_at, trailing_zeros}
 use Rattle.std.proofs.lemmas.Nat.Bits.{bit_at-lt, bit_at-zero, bit_at_and, bit_at-trailing_zeros, bit_at_set_same, bit_at_set_other}

@@ -1,5 +1,5 @@
 -- The steps of a walk back to where it began, and the places that are marked on the way.
-use Rattle.wait_cycles.proofs.Common.{◌≡◌, ℕ, length, suc, ◌+◌, ◌-◌, ◌*◌, ◌%◌, ◌^◌, ◌<◌, ◌≤◌, ◌==◌, ◌&&◌, ◌||◌, nat_lt, Bool, true, false, List, [], ◌∷◌, refl, sym, ap, ◌∙◌, arith, inl, inr, ◌⊎◌, bit_and, bit_or, Option, Some, None, find, if◌then◌else◌, range_with_len, list_any, eq-eqb, ne_eqb, lt-ltb, le-ltb, cases_eq, cases_lt, and_right, leads, next_shown, shown_after, shown_cycle, is_on, places}
+use Rattle.wait_cycles.proofs.Common.{zero, ◌≡◌, ℕ, length, suc, ◌+◌, ◌-◌, ◌*◌, ◌%◌, ◌^◌, ◌<◌, ◌≤◌, ◌==◌, ◌&&◌, ◌||◌, nat_lt, Bool, true, false, List, [], ◌∷◌, refl, sym, ap, ◌∙◌, arith, bit_and, bit_or, Option, Some, None, find, if◌then◌else◌, range_with_len, list_any, ne_eqb, lt-ltb, le-ltb, and_right, leads, next_shown, shown_after, shown_cycle, is_on, places}
 use Rattle.std.proofs.lemmas.Bool.Decides.{nat_tests}
 use Rattle.std.specs.Option.{option_map_or}
 use Rattle.std.proofs.lemmas.List.FromFn.{length-range_with_len}
@@ -51,6 +51,24 @@ module _ (waits : ℕ → ℕ → Bool) (n : ℕ) (few : n ≤ 16) (first : ℕ)
     where
       goal_at : (i : ℕ) → is_on goals i ≡ ((i == first) || is_on now i)
       goal_at i = ap (λ (bits : ℕ). is_on bits i) is ∙ on-set now first i (omega (arith, small, few))
+
+  -- where one step more marks the same places, so do all
+  module _ (now step : ℕ) (so_far : Leading now step) (one_more : Leading now (step + 1)) where
+    still : (more p : ℕ) → p < n → leads waits all (step + more) p first ≡ leads waits all step p first
+    still zero p below = let same : step + 0 ≡ step = omega arith in ap (λ (steps : ℕ). leads waits all steps p first) same
+    still (suc more) p below =
+        let shift : step + suc more ≡ suc (step + more) = omega arith in
+        let one : step + 1 ≡ suc step = omega arith in
+        ap (λ (steps : ℕ). leads waits all steps p first) shift
+        ∙ any-cut (λ next. waits p next && ((next == first) || leads waits all (step + more) next first)) (λ next. waits p next && ((next == first) || leads waits all step next first)) 0 n n (omega arith)
+        (λ i from below. ap (λ (there : Bool). waits p i && ((i == first) || there)) (still more i (omega (arith, below))))
+        (λ i above below. absurd (omega (arith, above, below)))
+        ∙ ap (λ (steps : ℕ). leads waits all steps p first) (sym one)
+        ∙ sym (some-on now (step + 1) one_more p below)
+        ∙ some-on now step so_far p below
+
+    pub leads-still : (more : ℕ) → Leading now (step + more)
+    leads-still more p below = let was = so_far p below in let same = still more p in grind (arith, nat_tests, was, same)
 
   -- the next member
   pub next-is : (row leading last : ℕ) → ((p : ℕ) → is_on row p ≡ waits last p) → Leading leading n

@@ -46,7 +46,11 @@ fn leading_to(to: u8, waits: &[u16]) -> u16
 {
     let mut leading = 0;
     for _step in 0..waits.len() {
-        leading = waiting_for(leading | 1 << to, waits);
+        let next = waiting_for(leading | 1 << to, waits);
+        if next == leading {
+            return leading;
+        }
+        leading = next;
     }
     leading
 }
