@@ -23,9 +23,9 @@ pub use Rattle.store_format.proofs.Fronts.{later_front, rest_front, same_byte, s
 pub use Rattle.store_format.proofs.Lines.{in_order, least_after, line_at, lines_more, wrong_line-push}
 pub use Rattle.store_format.proofs.Padded.{read_is}
 pub use Rattle.store_format.proofs.Stores.{Around, area_within, fault_none, not_less, stands_more, stands_same, store_more, store_same}
-pub use Rattle.store_format.proofs.Walk.{IsSound, all_preceded, all_preceded_faulty, all_preceded_holds, all_preceded_more, all_preceded_none, preceded_is, sound_is}
+pub use Rattle.store_format.proofs.Walk.{IsSound, follows, has_bank, sound_is}
 pub use Rattle.store_format.proofs.Widths.{entries-below, lines-below}
-pub use Rattle.store_format.specs.Bank.{Area, Bank, Closed, Faulty, Gate, Holds, RecordLine, Sound, Wrong, area_at, area_of, bank_held, base_of, count_of, gate_at, gate_if, head_fault, headed_gate, lined_gate, lines_from, lines_of, number_of, record_bytes, wrong_line}
+pub use Rattle.store_format.specs.Bank.{Area, Bank, Closed, Faulty, Gate, Holds, HoldsFrom, RecordLine, Sound, Wrong, area_at, area_behind, area_of, bank_held, base_of, count_of, gate_at, gate_if, head_fault, headed_gate, lined_gate, lines_from, lines_of, number_of, preceded, record_bytes, wrong_line}
 unfoldable pub use Rattle.store_format.specs.Bank.{holds_from}
 pub use Rattle.store_format.specs.Header.{Header, bank_at, entry_bytes, home_at, number_at}
 pub use Rattle.store_format.specs.Stands.{Damaged, IsStore, NotAStore, Standing, Stands, home_of, laid, one_more}

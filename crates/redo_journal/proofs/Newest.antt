@@ -1,5 +1,5 @@
 -- The newest place of a line has its bytes of the store.
-use Rattle.redo_journal.proofs.Common.{◌≡◌, inl, inr, ℕ, zero, suc, ◌+◌, ◌*◌, ◌-◌, ◌<◌, ◌≤◌, List, [], ◌∷◌, ◌++◌, length, take, drop, refl, sym, ◌∙◌, ap, subst, arith, option_or, nat_tests, cases_lt, cases_eq, take_at, drop-drop, take-append-drop, length-drop, length-take-le, overlaid, big_number, line_count, PageSize, Which, line_bytes, Header, home_at, bank_at, number_at, entry_bytes, RecordLine, lines_from, wrong_line, lines_of, count_of, Area, Gate, Closed, Wrong, Sound, Holds, gate_at, holds_from, bank_held, area_within, laid, home_of, IsStore, shorter_front, rest_front, sound_is, preceded_is, length-overlaid, lines-below, place_in, newest_place, Option, None, Some, fold, if◌then◌else◌, ◌%◌, ◌^◌, ◌==◌, slice_index}
+use Rattle.redo_journal.proofs.Common.{◌≡◌, inl, inr, ℕ, zero, suc, ◌+◌, ◌*◌, ◌-◌, ◌<◌, ◌≤◌, List, [], ◌∷◌, ◌++◌, length, take, drop, refl, sym, ◌∙◌, ap, subst, arith, option_or, nat_tests, cases_lt, cases_eq, take_at, drop-drop, take-append-drop, length-drop, length-take-le, overlaid, big_number, line_count, PageSize, Which, line_bytes, Header, home_at, bank_at, number_at, entry_bytes, RecordLine, lines_from, wrong_line, lines_of, count_of, Area, Holds, HoldsFrom, gate_at, area_behind, bank_held, follows, has_bank, area_within, laid, home_of, IsStore, shorter_front, rest_front, length-overlaid, lines-below, place_in, newest_place, Option, None, Some, fold, if◌then◌else◌, ◌==◌}
 use Rattle.redo_journal.proofs.Overlaid.{take-overlaid, drop-overlaid, behind-overlaid}
 use Rattle.redo_journal.proofs.NoteLemmas.{first_in_order}
 use Rattle.redo_journal.proofs.Places.{or_assoc, or_none, last_of, if_some, AreBelow, AllBelow}
@@ -98,21 +98,14 @@ lines_are page bound least (suc count) at end image fits whole none =
       subst (λ (these : List RecordLine). AreLines page bound end image these) (sym rest) others,
     )
 
-records_are : (image : List ℕ) (area : Area) (most number from gate : ℕ) (records : List (List RecordLine)) (at : Gate) → area.end ≤ length image → gate_at image area number from ≡ at
-    → holds_from image area most number at ≡ Holds gate records → AreRecords area.page area.bound area.end image records
-unfolding holds_from
-records_are image area most number from gate records (Closed closed) whole is holds = let none : records ≡ [] = cc in subst (λ (these : List (List RecordLine)). AreRecords area.page area.bound area.end image these) (sym none) tt
-records_are image area most number from gate records (Wrong offset) whole is holds = cc
-records_are image area zero number from gate records (Sound lines next) whole is holds = cc
-records_are image area (suc most) number from gate records (Sound lines next) whole is holds =
-    let sound = sound_is area.page (slice_index image from == 0xA5) area.bound area.end ((number + 1) % 2 ^ 64) from (drop from image) lines next is in
-    let parts = preceded_is lines (holds_from image area most (number + 1) (gate_at image area (number + 1) next)) gate records holds in
-    let rest = records_are image area most (number + 1) next gate parts.0 (gate_at image area (number + 1) next) whole refl parts.1 in
+records_are : (image : List ℕ) (area : Area) (number from gate : ℕ) (records : List (List RecordLine)) → area.end ≤ length image → HoldsFrom image area number (gate_at image area number from) (Holds gate records) → AreRecords area.page area.bound area.end image records
+records_are image area number from gate [] whole holds = tt
+records_are image area number from gate (lines ∷ records) whole holds =
+    let next = follows image area holds from gate lines records refl refl in
     let count = count_of (drop from image) in
     let place : lines_of area.page from (drop from image) ≡ lines_from area.page count (from + 11) (drop (from + 11) image) = ap (λ (these : List ℕ). lines_from area.page count (from + 11) these) (drop-drop 11 from image) in
-    let first = lines_are area.page area.bound 0 count (from + 11) area.end image (omega (arith, sound.is_next, sound.fits)) whole (ap (wrong_line area.bound 0) (sym place) ∙ sound.in_order) in
-    let here : AreLines area.page area.bound area.end image lines = subst (λ (these : List RecordLine). AreLines area.page area.bound area.end image these) (sym (sound.lines_are ∙ place)) first in
-    subst (λ (these : List (List RecordLine)). AreRecords area.page area.bound area.end image these) (sym parts.2) (here, rest)
+    let first = lines_are area.page area.bound 0 count (from + 11) area.end image (omega (arith, next.sound.is_next, next.sound.fits)) whole (ap (wrong_line area.bound 0) (sym place) ∙ next.sound.in_order) in
+    (subst (λ (these : List RecordLine). AreLines area.page area.bound area.end image these) (sym (next.sound.lines_are ∙ place)) first, records_are image area (number + 1) next.next gate records whole next.rest)
 
 -- where a line has its newest bytes there are as many before the end
 place_within : (page : PageSize) (bound end : ℕ) (image : List ℕ) (k place : ℕ) (lines : List RecordLine) → AreLines page bound end image lines → place_in k lines ≡ Some place → place + line_bytes page ≤ end
@@ -132,7 +125,7 @@ newest_within page bound end image k place (lines ∷ records) are is = elim (la
 -- the records that a bank holds lie in the image
 pub held_records : (page : PageSize) (image : List ℕ) (bound at bank_bytes gate : ℕ) (records : List (List RecordLine)) → at + 8 + bank_bytes ≤ length image → bank_held image page bound at bank_bytes ≡ Holds gate records → AreRecords page bound (at + 8 + bank_bytes) image records
 held_records page image bound at bank_bytes gate records whole holds =
-    records_are image (record { page = page; bound = bound; end = at + 8 + bank_bytes }) bank_bytes (number_at image at 8) (at + 8) gate records (gate_at image (record { page = page; bound = bound; end = at + 8 + bank_bytes }) (number_at image at 8) (at + 8)) whole refl holds
+    records_are image (area_behind page bound at bank_bytes) (number_at image at 8) (at + 8) gate records whole (has_bank image page bound at bank_bytes (Holds gate records) holds)
 
 -- each line of the store that an image stands for is where its newest place says, or at home
 pub store_agrees : (image : List ℕ) (header : Header) (which : Which) (base gate : ℕ) (records : List (List RecordLine)) → IsStore image header which base gate records

@@ -1,5 +1,5 @@
 -- The records of a bank, each at its place.
-use Rattle.redo_journal.proofs.Common.{drop-drop, big_number, line_bytes, PageSize, entry_bytes, number_at, RecordLine, lines_from, lines_of, count_of, record_bytes, wrong_line, Area, Gate, Closed, Wrong, Sound, Holds, gate_at, holds_from, IsSound, sound_is, preceded_is, KeptBank, place_of, area_bytes, IsRecordAt, IsCounted, IsLine, IsLineOf, Record, None, ◌≡◌, ℕ, zero, suc, ◌+◌, ◌*◌, ◌<◌, List, [], ◌∷◌, ◌++◌, length, take, drop, refl, sym, subst, ◌∙◌, ap, arith, slice_index, ◌%◌, ◌^◌, ◌==◌, Some, slice_get, Result, Ok, Err, IfOk, nat_tests}
+use Rattle.redo_journal.proofs.Common.{drop-drop, big_number, line_bytes, PageSize, entry_bytes, number_at, RecordLine, lines_from, lines_of, count_of, record_bytes, wrong_line, Area, Holds, HoldsFrom, gate_at, IsSound, follows, has_bank, KeptBank, place_of, area_bytes, IsRecordAt, IsCounted, IsLine, IsLineOf, Record, None, ◌≡◌, ℕ, zero, suc, ◌+◌, ◌*◌, ◌<◌, List, [], ◌∷◌, ◌++◌, length, take, drop, refl, sym, subst, ◌∙◌, ap, arith, Some, slice_get, Result, Ok, Err, IfOk, nat_tests}
 use Rattle.redo_journal.proofs.AppendLemmas.{length-lines_from}
 
 -- where a record with these lines stands, in an area with this end, of a store with so many lines
@@ -12,30 +12,18 @@ pub record StandsAt (page : PageSize) (image : List ℕ) (bound end at : ℕ) (l
 of_sound : (page : PageSize) (image : List ℕ) (bound end at : ℕ) (lines : List RecordLine) (next : ℕ) → IsSound page bound end at (drop at image) lines next → StandsAt page image bound end at lines
 of_sound page image bound end at lines next is = grind (arith, nat_tests, length-lines_from)
 
--- a walk finds each record behind those before it
-pub found_at : (image : List ℕ) (area : Area) (most number from gate : ℕ) (before : List (List RecordLine)) (lines : List RecordLine) (after : List (List RecordLine)) (at : Gate)
-    → gate_at image area number from ≡ at → holds_from image area most number at ≡ Holds gate (before ++ lines ∷ after) → StandsAt area.page image area.bound area.end (from + area_bytes area.page before) lines
-unfolding holds_from
-found_at image area most number from gate [] lines after (Closed closed) is holds = cc
-found_at image area most number from gate (first ∷ before) lines after (Closed closed) is holds = cc
-found_at image area most number from gate before lines after (Wrong offset) is holds = cc
-found_at image area zero number from gate before lines after (Sound those next) is holds = cc
-found_at image area (suc most) number from gate [] lines after (Sound those next) is holds =
-    let sound = sound_is area.page (slice_index image from == 0xA5) area.bound area.end ((number + 1) % 2 ^ 64) from (drop from image) those next is in
-    let parts = preceded_is those (holds_from image area most (number + 1) (gate_at image area (number + 1) next)) gate (lines ∷ after) holds in
-    let same : those ≡ lines = cc in
+-- each record stands behind those before it
+found_at : (image : List ℕ) (area : Area) (number from gate : ℕ) (before : List (List RecordLine)) (lines : List RecordLine) (after : List (List RecordLine))
+    → HoldsFrom image area number (gate_at image area number from) (Holds gate (before ++ lines ∷ after)) → StandsAt area.page image area.bound area.end (from + area_bytes area.page before) lines
+found_at image area number from gate [] lines after holds =
+    let here = follows image area holds from gate lines after refl refl in
     let place : from ≡ from + area_bytes area.page [] = omega arith in
-    let here = of_sound area.page image area.bound area.end from those next sound in
-    subst (λ (n : ℕ). StandsAt area.page image area.bound area.end n lines) place (subst (λ (these : List RecordLine). StandsAt area.page image area.bound area.end from these) same here)
-found_at image area (suc most) number from gate (first ∷ before) lines after (Sound those next) is holds =
-    let sound = sound_is area.page (slice_index image from == 0xA5) area.bound area.end ((number + 1) % 2 ^ 64) from (drop from image) those next is in
-    let parts = preceded_is those (holds_from image area most (number + 1) (gate_at image area (number + 1) next)) gate (first ∷ (before ++ lines ∷ after)) holds in
-    let same : those ≡ first = cc in
-    let rest : parts.0 ≡ before ++ lines ∷ after = cc in
-    let here = of_sound area.page image area.bound area.end from those next sound in
-    let place : next + area_bytes area.page before ≡ from + area_bytes area.page (first ∷ before) = omega (arith, sound.is_next, ap (λ (n : ℕ). entry_bytes area.page * n) here.count, ap (λ (these : List RecordLine). entry_bytes area.page * length these) same) in
-    let later = found_at image area most (number + 1) next gate before lines after (gate_at image area (number + 1) next) refl (parts.1 ∙ ap (Holds gate) rest) in
-    subst (λ (n : ℕ). StandsAt area.page image area.bound area.end n lines) place later
+    subst (λ (n : ℕ). StandsAt area.page image area.bound area.end n lines) place (of_sound area.page image area.bound area.end from lines here.next here.sound)
+found_at image area number from gate (first ∷ before) lines after holds =
+    let here = follows image area holds from gate first (before ++ lines ∷ after) refl refl in
+    let count = (of_sound area.page image area.bound area.end from first here.next here.sound).count in
+    let place : here.next + area_bytes area.page before ≡ from + area_bytes area.page (first ∷ before) = omega (arith, here.sound.is_next, ap (λ (n : ℕ). entry_bytes area.page * n) count) in
+    subst (λ (n : ℕ). StandsAt area.page image area.bound area.end n lines) place (found_at image area (number + 1) here.next gate before lines after here.rest)
 
 -- a record of a bank that was read
 pub stands_there : (held : List ℕ) (bank : KeptBank) (place : ℕ) (at : IsRecordAt held bank place) → StandsAt bank.page held (length bank.newest) (place_of bank.which bank.bank_bytes + 8 + bank.bank_bytes) (place_of bank.which bank.bank_bytes + 8 + place) at.lines
@@ -43,7 +31,7 @@ stands_there held bank place at =
     let start = place_of bank.which bank.bank_bytes in
     let number = number_at held start 8 in
     let area : Area = record { page = bank.page; bound = length bank.newest; end = start + 8 + bank.bank_bytes } in
-    let found = found_at held area bank.bank_bytes number (start + 8) bank.gate at.before at.lines at.after (gate_at held area number (start + 8)) refl (at.read.holds ∙ ap (Holds bank.gate) at.are) in
+    let found = found_at held area number (start + 8) bank.gate at.before at.lines at.after (has_bank held bank.page (length bank.newest) start bank.bank_bytes _ (at.read.holds ∙ ap (Holds bank.gate) at.are)) in
     let place_is : start + 8 + area_bytes bank.page at.before ≡ start + 8 + place = omega (arith, at.place_is) in
     subst (λ (n : ℕ). StandsAt bank.page held (length bank.newest) (start + 8 + bank.bank_bytes) n at.lines) place_is found
 

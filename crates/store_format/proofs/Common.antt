@@ -20,7 +20,7 @@ pub use Rattle.line_geometry.specs.Segments.{line_bytes}
 pub use Rattle.line_geometry.specs.declared.directory.PageSize.{PageSize}
 pub use Rattle.line_geometry.specs.declared.directory.PageSize.TheVariants.{Four, Two}
 pub use Rattle.outside.specs.Runs.{held_of}
-pub use Rattle.store_format.specs.Bank.{Area, Bank, Closed, Faulty, Gate, Holds, HoldsFrom, NoMore, NoRecord, OneMore, RecordLine, Sound, Wrong, area_at, area_of, bank_of, base_of, count_of, gate_at, gate_if, head_fault, headed_gate, lined_gate, lines_from, lines_of, number_of, preceded, record_bytes, wrong_line}
+pub use Rattle.store_format.specs.Bank.{Area, Bank, Closed, Faulty, Gate, HasBank, Holds, HoldsFrom, NoMore, NoRecord, OneMore, RecordLine, Sound, Wrong, area_at, area_of, bank_held, bank_of, base_of, count_of, gate_at, gate_if, head_fault, headed_gate, lined_gate, lines_from, lines_of, number_of, preceded, record_bytes, wrong_line}
 unfoldable pub use Rattle.store_format.specs.Bank.{holds_from}
 pub use Rattle.store_format.specs.Header.{Field, HasRanges, Header, bank_at, entry_bytes, fields, first_fault, fresh, front, header_bytes, header_of, home_at, most_lines, name_field, number_at, page_of, segment_bytes, segment_fields, segments_at, segments_of, spare_fields, total, version_of, within, zeros}
 unfoldable pub use Rattle.store_format.specs.Header.{last_zeros}
