@@ -1,5 +1,5 @@
 -- What an attempt over the bytes of all says of the entry's own row, and what follows where its lines were there.
-use Rattle.desk_law.proofs.Common.{◌≡◌, refl, ℕ, ◌+◌, List, length, Option, Some, arith, ap, sym, ◌∙◌, subst, Layout, ArePart, Plain, Program, Outcome, On, Commit, Check, plan_at, row, touched, after, SameWay, row-way, lines_of_plan, Desk, Entry, with_entry, wanted, request, Word, Fine, Counts, Going, Over, instruction, AreThere, over_all, gone_on, IsAmong, due_to, IsCurrent, IsOrderly, nat_tests}
+use Rattle.desk_law.proofs.Common.{◌≡◌, refl, ℕ, ◌+◌, List, length, Option, Some, arith, ap, sym, ◌∙◌, subst, Layout, ArePart, Plain, Program, Outcome, On, Commit, Check, plan_at, row, touched, after, SameWay, row-way, lines_of_plan, Desk, Entry, with_entry, wanted, requested, Word, Fine, Counts, Going, Over, instruction, AreThere, over_all, gone_on, IsAmong, due_to, IsCurrent, IsOrderly, nat_tests}
 use Rattle.desk_law.proofs.Entries.{replaced, found-among}
 use Rattle.desk_law.proofs.LinesThere.{there-held}
 use Rattle.desk_law.proofs.Permitted.{held-free}
@@ -61,7 +61,7 @@ pub record HasGone (desk : Desk) (counts : Counts) (entry : Entry) (shown : Plai
   pub shows : shown ≡ over_all next shown.store
   pub is_instruction : (word : Word) → instruction word (Some entry) desk counts ≡ Going (with_entry desk (gone_on entry)) (record counts { ran = counts.ran + 1 })
   pub at : after entry.runs.program entry.runs.args desk.committed (entry.rows + 1) ≡ Some next
-  pub held : ArePart (request desk entry) (due_to desk.committed entry)
+  pub held : ArePart (requested desk.committed entry) (due_to desk.committed entry)
   pub consistent : IsOrderly (with_entry desk (gone_on entry))
   pub is_current : IsCurrent desk.committed (replaced (gone_on entry) desk.active) shown.store
 
@@ -96,7 +96,7 @@ attempt-goes desk counts entry now shown bytes is here at current_now went there
     wanted_there : AreThere desk entry.number (wanted desk entry)
     wanted_there = subst (AreThere desk entry.number) (sym (wanted-is desk entry now shown bytes at went)) there
 
-    held : ArePart (request desk entry) (due_to desk.committed entry)
+    held : ArePart (requested desk.committed entry) (due_to desk.committed entry)
     held = there-held desk entry is here wanted_there
 
     goes : (word : Word) (some : Counts) → instruction word (Some entry) desk some ≡ Going (with_entry desk (gone_on entry)) (record some { ran = some.ran + 1 })

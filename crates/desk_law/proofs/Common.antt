@@ -9,9 +9,9 @@ pub use Rattle.std.proofs.lemmas.Option.{none-some, same_Some}
 pub use Rattle.std.specs.List.{flat_map, list_any, position_or_len, range_with_len}
 pub use Rattle.std.specs.Option.{option_map, option_map_or}
 pub use Rattle.std.specs.Prelude.{Bool, List, None, Option, Some, [], cond, drop, false, filter, find, fold, if◌then◌else◌, length, map, max, min, nat_lt, not, option_and_then, position, refl, remove, replicate, slice_get, slice_index, slice_index_or, slice_range, slice_set, suc, take, true, unwrap_or, zero, ℕ, ◌&&◌, ◌*◌, ◌++◌, ◌+◌, ◌-◌, ◌/◌, ◌<◌, ◌==◌, ◌||◌, ◌∷◌, ◌≡◌, ◌≤◌, ◌⊎◌}
-pub use Rattle.desk.specs.Desk.{Authority, Desk, Entry, ended, nobody, opened, rolled_back, with_entry}
-pub use Rattle.desk.specs.Holdings.{conflicts_of, conflicts_with, held, numbers, request, waits_for, wanted}
-pub use Rattle.desk.specs.Instruction.{Attempt, Broken, Checked, CommitDoubted, CommitUnwritten, Committed, Contest, Contested, Counts, Disk, Doubt, Ending, Failed, Fetched, Fetching, Fine, Going, Idle, Journal, Limit, Lost, Over, ReadFailed, Settled, Turning, Unwritten, Victim, Waits, Word, asks, attempts, attempts_at, authority_by, breaks, breaks_cycle, breaks_cycles, can't_be_read, commits, contest_ends, fetched_first, fetches, fetches_touched, fine_authority_by, gets, given, goes_on, granted, is_over_limit, limited, lines_within, lines_written, locks_with, lowered, lowered_pages, no_counts, ordered, refused_pages, refuses, takes_effect, to_read, touched_pages, turn, turn_of, waits_or_gets, with_each, with_grants, with_lowered, counts_refused}
+pub use Rattle.desk.specs.Desk.{Desk, Entry, ended, opened, rolled_back, with_entry}
+pub use Rattle.desk.specs.Holdings.{conflicts_of, conflicts_with, numbers, waits_for, wanted, requested, due_to}
+pub use Rattle.desk.specs.Instruction.{Attempt, Broken, Checked, CommitDoubted, CommitUnwritten, Committed, Contest, Contested, Counts, Disk, Doubt, Ending, Failed, Fetched, Fetching, Fine, Going, Idle, Journal, Limit, Lost, Over, ReadFailed, Settled, Turning, Unwritten, Victim, Waits, Word, asks, attempts, attempts_at, breaks, breaks_cycle, breaks_cycles, can't_be_read, commits, contest_ends, fetched_first, fetches, fetches_touched, gets, given, goes_on, granted, is_over_limit, limited, lines_within, lines_written, locks_with, lowered, lowered_pages, no_counts, ordered, refused_pages, refuses, takes_effect, to_read, touched_pages, turn, turn_of, waits_or_gets, with_each, with_grants, with_lowered, counts_refused}
 unfoldable pub use Rattle.desk.specs.Instruction.{instruction, turns}
 pub use Rattle.desk.specs.Run.{Busy, Nothing, Turned, absent_segment, begin_if, begins, event_of, restarted, run, step, turned, Step}
 pub use Rattle.desk.specs.declared.event.Event.{Event}
@@ -37,15 +37,15 @@ pub use Rattle.lock_rules.proofs.Cycles.{after-among, any-named, find-named, fou
 pub use Rattle.lock_rules.proofs.Lines.{ArePart, any-or, has-pages_of, has-whole, has-whole_pages, has-within_page, meets-at, pages_of-line, part-both, part-whole_pages, reaches, reaches-coarse, whole-has, whole-reached}
 pub use Rattle.lock_rules.proofs.Sets.{any-at, any-some, has-append, has-filter, has_left, has_right}
 pub use Rattle.lock_rules.proofs.Sizes.{size-alike}
-pub use Rattle.lock_rules.specs.Access.{permits}
+pub use Rattle.lock_rules.specs.Access.{permits, Authority, nobody, authority_by, fine_authority_by, lets}
 pub use Rattle.lock_rules.specs.Lines.{Lines, both, conflicts, is_whole_page, lines_of_page, no_lines, page_of_line, pages_of, with_whole_pages, within_page}
 pub use Rattle.lock_rules.specs.Resident.{brought, first_out, taken_out}
 pub use Rattle.lock_rules.specs.Sets.{has, meets, size}
 pub use Rattle.lock_rules.specs.Waits.{leads, next_shown, shown_after, shown_cycle, victim_of}
-pub use Rattle.desk_law.specs.Beside.{AreAlike, AreKept, AreMarked, AreSeats, AreStates, AreStatesBut, AreThere, IsLaid, IsState, IsTableBut, IsTold, Reads, StandsFor, by_number, kept_conflict, kept_waits, over_all, owner_told, owners_told, requested}
+pub use Rattle.desk_law.specs.Beside.{AreAlike, AreKept, AreMarked, AreSeats, AreStates, AreStatesBut, AreThere, IsLaid, IsState, IsTableBut, IsTold, Reads, StandsFor, by_number, kept_conflict, kept_waits, over_all, owner_told, owners_told}
 pub use Rattle.desk_law.specs.Causes.{EndsHaveCauses, EndsForCause, IsAccounted, IsOverFor, RowIs, TurnsEndForCause, turn_desk, ends_own, lines_by, turn_counts, waiting_after}
 pub use Rattle.desk_law.specs.Changes.{committed_at, gone_on, left_by, row_done}
-pub use Rattle.desk_law.specs.Consistent.{AreApart, AreConsistent, AreDistinct, AreResident, Ascend, HasNoCycle, IsAmong, IsConsistent, IsCovered, IsHeld, IsLive, IsOwned, due_to, permitted}
+pub use Rattle.desk_law.specs.Consistent.{AreApart, AreConsistent, AreDistinct, AreResident, Ascend, HasNoCycle, IsAmong, IsConsistent, IsCovered, IsHeld, IsLive, IsOwned}
 pub use Rattle.desk_law.specs.Current.{IsCurrent, bytes_of, current, current_bytes, current_of, writer}
 pub use Rattle.desk_law.specs.Laws.{ArePermitted, BrokenCyclesWere, ContestedCyclesClose, EachWaits, EndsWith, FineRowsAskForTheirLines, IdleWhereInactive, IsActive, IsNotIdle, PermittedIsFree, RunsStayConsistent, SomebodyCanGoOn, StaysConsistent, WriteBitsHoldPages, contest_counts, next_attempt, UnrefusedAsksNothing}
 pub use Rattle.desk_law.specs.Memory.{CommitsTellTheMachine, FindTheirOwn, IsAlone, IsMemory, Machine, Memory, RunsAreIsolated, SideBySideIsSerial, after_event, after_instruction, after_turns, commit_of, does_row, first_machine, given_back, laid, memory_after, memory_of, row_of, went_on, with_machine, wrote_by}

@@ -1,5 +1,5 @@
 -- A commit, a begin and a crash leave the desk consistent.
-use Rattle.desk_law.proofs.Common.{Some, ◌≡◌, refl, ℕ, zero, suc, ◌+◌, ◌<◌, ◌==◌, not, Bool, true, false, List, [], ◌∷◌, ◌++◌, length, map, replicate, slice_index_or, None, arith, ap, sym, ◌∙◌, subst, inl, inr, eqb-true, both_ways, and_parts, and_from, or_from, and_right, not-true, false_from_ne_true, page_count, is_fine_page, FlatStore, IsWhole, has, meets, Lines, no_lines, conflicts, both, with_whole_pages, append-nil, leads, Plain, start, after, Commit, row, after-whole, Desk, Entry, Authority, nobody, opened, rolled_back, wanted, request, conflicts_with, numbers, waits_for, Attempt, lowered, locks_with, absent_segment, committed_at, gone_on, left_by, IsAmong, Ascend, due_to, IsLive, AreApart, AreConsistent, IsCovered, IsOwned, IsHeld, IsOrderly, except, touched_of, nat_tests}
+use Rattle.desk_law.proofs.Common.{Some, ◌≡◌, refl, ℕ, zero, suc, ◌+◌, ◌<◌, ◌==◌, not, Bool, true, false, List, [], ◌∷◌, ◌++◌, length, map, replicate, slice_index_or, None, arith, ap, sym, ◌∙◌, subst, inl, inr, eqb-true, both_ways, and_parts, and_from, or_from, and_right, not-true, false_from_ne_true, page_count, is_fine_page, FlatStore, IsWhole, has, meets, Lines, no_lines, conflicts, both, with_whole_pages, append-nil, leads, Plain, start, after, Commit, row, after-whole, Desk, Entry, Authority, nobody, opened, rolled_back, wanted, requested, conflicts_with, numbers, waits_for, Attempt, lowered, locks_with, absent_segment, committed_at, gone_on, left_by, IsAmong, Ascend, due_to, IsLive, AreApart, AreConsistent, IsCovered, IsOwned, IsHeld, IsOrderly, except, touched_of, nat_tests}
 use Rattle.flat_machine.specs.Serial.{Activation}
 use Rattle.desk_law.proofs.Entries.{among-filter, among-push, push-among, ascend-push, between, one-entry, among-replaced, replaced-among, new-among, replaced, filter-short}
 use Rattle.desk_law.proofs.Walks.{no-cycle-fewer, no-cycle-leaves, first-step, one-step}
@@ -144,8 +144,8 @@ begin-waits desk runs from to waits =
             | inr new ↦
                 absurd (both_ways (conflicts_with desk by.entry by.other)
                 (sym (ap (λ (x : Entry). conflicts_with desk by.entry x) new)
-                ∙ and_right (not (desk.next == by.entry.number)) (conflicts (request desk by.entry) no_lines)
-                (or_from (meets (request desk by.entry).writes []) (meets (request desk by.entry).reads []) (meets-nothing (request desk by.entry).writes) (meets-nothing (request desk by.entry).reads)))
+                ∙ and_right (not (desk.next == by.entry.number)) (conflicts (requested desk.committed by.entry) no_lines)
+                (or_from (meets (requested desk.committed by.entry).writes []) (meets (requested desk.committed by.entry).reads []) (meets-nothing (requested desk.committed by.entry).writes) (meets-nothing (requested desk.committed by.entry).reads)))
                 by.conflict)
             | inl also ↦
                 waits-from desk from to

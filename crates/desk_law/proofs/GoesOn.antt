@@ -1,5 +1,5 @@
 -- A row that goes on leaves the desk consistent.
-use Rattle.desk_law.proofs.Common.{◌≡◌, refl, ℕ, suc, ◌≤◌, ◌==◌, not, Bool, true, false, List, [], ◌∷◌, ◌++◌, length, filter, map, Some, slice_index_or, list_any, arith, ap, sym, ◌∙◌, subst, inl, inr, both_ways, or_cases, or_parts, and_cases, not_from_false, false_from_ne_true, is_fine_page, FlatStore, IsWhole, has, size, meets, Lines, both, conflicts, with_whole_pages, has-append, has_left, has_right, any-some, reaches, whole-reached, part-both, part-whole_pages, has-whole_pages, meets-at, Plain, On, row, after, touched_next, all_of, Desk, Entry, nobody, with_entry, wanted, held, request, conflicts_with, conflicts_of, numbers, waits_for, Attempt, with_grants, with_lowered, locks_with, gone_on, row_done, IsAmong, due_to, IsLive, AreApart, AreConsistent, IsCovered, IsHeld, HasNoCycle, IsOrderly, except, touched_of, IsContending, IsReady, nat_tests}
+use Rattle.desk_law.proofs.Common.{◌≡◌, refl, ℕ, suc, ◌≤◌, ◌==◌, not, Bool, true, false, List, [], ◌∷◌, ◌++◌, length, filter, map, Some, slice_index_or, list_any, arith, ap, sym, ◌∙◌, subst, inl, inr, both_ways, or_cases, or_parts, and_cases, not_from_false, false_from_ne_true, is_fine_page, FlatStore, IsWhole, has, size, meets, Lines, both, conflicts, with_whole_pages, has-append, has_left, has_right, any-some, reaches, whole-reached, part-both, part-whole_pages, has-whole_pages, meets-at, Plain, On, row, after, touched_next, all_of, Desk, Entry, nobody, with_entry, wanted, due_to, requested, conflicts_with, conflicts_of, numbers, waits_for, Attempt, with_grants, with_lowered, locks_with, gone_on, row_done, IsAmong, IsLive, AreApart, AreConsistent, IsCovered, IsHeld, HasNoCycle, IsOrderly, except, touched_of, IsContending, IsReady, nat_tests}
 use Rattle.desk_law.proofs.Entries.{replaced, among-replaced, new-among, ascend-replaced, numbers-replaced}
 use Rattle.desk_law.proofs.Walks.{no-cycle-fewer, no-cycle-leaves}
 use Rattle.desk_law.proofs.Others.{others, after-row}
@@ -179,9 +179,9 @@ gone-on-active desk most entry mark now next are here at went none short =
       present = (are.live (record entry { waiting = mark }) here).present;
     }
 
-    free : (other : Entry) → IsAmong desk.active other → (other.number == entry.number) ≡ false → conflicts (request desk entry) (held desk other) ≡ false
+    free : (other : Entry) → IsAmong desk.active other → (other.number == entry.number) ≡ false → conflicts (requested desk.committed entry) (due_to desk.committed other) ≡ false
     free other among differ =
-        elim (and_cases (not (other.number == entry.number)) (conflicts (request desk entry) (held desk other))
+        elim (and_cases (not (other.number == entry.number)) (conflicts (requested desk.committed entry) (due_to desk.committed other))
         (nobody-conflicts (conflicts_with desk entry) desk.active none other among)) [
           | inl same ↦ absurd (both_ways (not (other.number == entry.number)) same (not_from_false (other.number == entry.number) differ))
           | inr fine ↦ fine

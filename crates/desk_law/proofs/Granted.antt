@@ -1,5 +1,5 @@
 -- Once the refused pages are granted, every line of the row is permitted.
-use Rattle.desk_law.proofs.Common.{◌≡◌, refl, ℕ, ◌<◌, ◌==◌, not, if◌then◌else◌, Bool, true, false, List, [], ◌∷◌, length, filter, slice_index_or, list_any, ap, ◌∙◌, inl, inr, eq-eqb, both_ways, and_from, or_parts, cases_Bool, not-false, false_from_ne_true, has, permits, Lines, within_page, page_of_line, pages_of, any-at, has-filter, has_left, has_right, has-within_page, pages_of-line, all_of, Authority, nobody, Attempt, authority_by, fine_authority_by, given, granted, refuses, lines_within, touched_pages, permitted, ArePermitted, KeepsPages, nat_tests, arith}
+use Rattle.desk_law.proofs.Common.{◌≡◌, refl, ℕ, ◌<◌, ◌==◌, not, if◌then◌else◌, Bool, true, false, List, [], ◌∷◌, length, filter, slice_index_or, list_any, ap, ◌∙◌, inl, inr, eq-eqb, both_ways, and_from, or_parts, cases_Bool, not-false, false_from_ne_true, has, permits, Lines, within_page, page_of_line, pages_of, any-at, has-filter, has_left, has_right, has-within_page, pages_of-line, all_of, Authority, nobody, Attempt, authority_by, fine_authority_by, given, granted, refuses, lines_within, touched_pages, lets, ArePermitted, KeepsPages, nat_tests, arith}
 use Rattle.desk_law.proofs.EachPage.{each-is, each-not}
 
 read-here : (same bit : Bool) → same ≡ true → bit ≡ true → permits same false bit false ≡ true
@@ -15,22 +15,22 @@ inside-page : (lines : List ℕ) (line : ℕ) → has lines line ≡ true → ha
 inside-page lines line inside = has-within_page (page_of_line line) lines line ∙ and_from (page_of_line line == page_of_line line) (has lines line) (eq-eqb (page_of_line line) (page_of_line line) refl) inside
 
 by-reads : (attempt : Attempt) (locks : Lines) (line : ℕ) (writes : List ℕ) → has locks.reads line ≡ true
-    → permitted (authority_by attempt.entry.number (within_page (page_of_line line) locks.reads) writes) attempt.entry.number line false ≡ true
+    → lets (authority_by attempt.entry.number (within_page (page_of_line line) locks.reads) writes) attempt.entry.number line false ≡ true
 by-reads attempt locks line writes inside = grind (arith, nat_tests, read-here, eq-eqb, inside-page, read-there)
 
-given-reads : (fine : ℕ → Bool) (attempt : Attempt) (locks : Lines) (line : ℕ) → has locks.reads line ≡ true → permitted (given fine attempt locks (page_of_line line)) attempt.entry.number line false ≡ true
+given-reads : (fine : ℕ → Bool) (attempt : Attempt) (locks : Lines) (line : ℕ) → has locks.reads line ≡ true → lets (given fine attempt locks (page_of_line line)) attempt.entry.number line false ≡ true
 given-reads fine attempt locks line inside = grind (arith, nat_tests, read-there, by-reads)
 
 given-writes : (fine : ℕ → Bool) (attempt : Attempt) (locks : Lines) (line : ℕ) → has attempt.lines.writes line ≡ true → has locks.writes line ≡ true
-    → permitted (given fine attempt locks (page_of_line line)) attempt.entry.number line true ≡ true
+    → lets (given fine attempt locks (page_of_line line)) attempt.entry.number line true ≡ true
 given-writes fine attempt locks line writes inside = by_fine (fine (page_of_line line)) (has (pages_of attempt.lines.writes) (page_of_line line)) (pages_of-line attempt.lines.writes line writes)
   where
-    by_writes : (writes : List ℕ) → has writes line ≡ true → permitted (authority_by attempt.entry.number (within_page (page_of_line line) locks.reads) writes) attempt.entry.number line true ≡ true
+    by_writes : (writes : List ℕ) → has writes line ≡ true → lets (authority_by attempt.entry.number (within_page (page_of_line line) locks.reads) writes) attempt.entry.number line true ≡ true
     by_writes [] there = absurd (cc)
     by_writes (one ∷ more) there = write-here (attempt.entry.number == attempt.entry.number) (has (one ∷ more) line) (eq-eqb attempt.entry.number attempt.entry.number refl) there
 
     by_fine : (is_fine storing : Bool) → storing ≡ true
-        → permitted
+        → lets
         (if is_fine
         then fine_authority_by attempt.entry.number storing (within_page (page_of_line line) locks.reads) (within_page (page_of_line line) locks.writes)
         else authority_by attempt.entry.number (within_page (page_of_line line) locks.reads) (within_page (page_of_line line) locks.writes))
@@ -65,10 +65,10 @@ granted-permits fine attempt locks before later keeps reads writes below = recor
     refused = filter (λ page. refuses (slice_index_or before page nobody) attempt.entry.number (lines_within page attempt.lines)) (touched_pages attempt)
 
     reads_refused : ℕ → Bool
-    reads_refused line = list_any (λ l. not (permitted (slice_index_or before (page_of_line line) nobody) attempt.entry.number l false)) (within_page (page_of_line line) attempt.lines.reads)
+    reads_refused line = list_any (λ l. not (lets (slice_index_or before (page_of_line line) nobody) attempt.entry.number l false)) (within_page (page_of_line line) attempt.lines.reads)
 
     writes_refused : ℕ → Bool
-    writes_refused line = list_any (λ l. not (permitted (slice_index_or before (page_of_line line) nobody) attempt.entry.number l true)) (within_page (page_of_line line) attempt.lines.writes)
+    writes_refused line = list_any (λ l. not (lets (slice_index_or before (page_of_line line) nobody) attempt.entry.number l true)) (within_page (page_of_line line) attempt.lines.writes)
 
     not_refused : (line : ℕ) → has (all_of attempt.lines) line ≡ true
         → has (filter (λ page. refuses (slice_index_or before page nobody) attempt.entry.number (lines_within page attempt.lines)) (touched_pages attempt)) (page_of_line line) ≡ false
@@ -81,17 +81,17 @@ granted-permits fine attempt locks before later keeps reads writes below = recor
         ∙ and_from (has (touched_pages attempt) (page_of_line line)) (refuses (slice_index_or before (page_of_line line) nobody) attempt.entry.number (lines_within (page_of_line line) attempt.lines))
         (pages_of-line (all_of attempt.lines) line there) refuses_it))
 
-    one : (line : ℕ) (stores : Bool) (lines : List ℕ) → has (all_of attempt.lines) line ≡ true → has lines line ≡ true → permitted (given fine attempt locks (page_of_line line)) attempt.entry.number line stores ≡ true
-        → ((reads_refused line ≡ false) × (writes_refused line ≡ false) → list_any (λ l. not (permitted (slice_index_or before (page_of_line line) nobody) attempt.entry.number l stores)) (within_page (page_of_line line) lines) ≡ false)
-        → permitted (slice_index_or (granted fine attempt locks refused later) (page_of_line line) nobody) attempt.entry.number line stores ≡ true
+    one : (line : ℕ) (stores : Bool) (lines : List ℕ) → has (all_of attempt.lines) line ≡ true → has lines line ≡ true → lets (given fine attempt locks (page_of_line line)) attempt.entry.number line stores ≡ true
+        → ((reads_refused line ≡ false) × (writes_refused line ≡ false) → list_any (λ l. not (lets (slice_index_or before (page_of_line line) nobody) attempt.entry.number l stores)) (within_page (page_of_line line) lines) ≡ false)
+        → lets (slice_index_or (granted fine attempt locks refused later) (page_of_line line) nobody) attempt.entry.number line stores ≡ true
     one line stores lines there inside given_here quiet_of = elim (cases_Bool (has refused (page_of_line line))) [
-      | inl was ↦ ap (λ (a : Authority). permitted a attempt.entry.number line stores) (each-is (given fine attempt locks) refused later (page_of_line line) (below line there) was) ∙ given_here
+      | inl was ↦ ap (λ (a : Authority). lets a attempt.entry.number line stores) (each-is (given fine attempt locks) refused later (page_of_line line) (below line there) was) ∙ given_here
       | inr wasn't ↦
           let was_there = slice_index_or before (page_of_line line) nobody in
-          let may : permitted was_there attempt.entry.number line stores ≡ true =
-          not-false (permitted was_there attempt.entry.number line stores)
-          (none-there (λ l. not (permitted was_there attempt.entry.number l stores)) (within_page (page_of_line line) lines) line (quiet_of (or_parts (reads_refused line) (writes_refused line) (not_refused line there wasn't))) (inside-page lines line inside)) in
-          ap (λ (a : Authority). permitted a attempt.entry.number line stores)
+          let may : lets was_there attempt.entry.number line stores ≡ true =
+          not-false (lets was_there attempt.entry.number line stores)
+          (none-there (λ l. not (lets was_there attempt.entry.number l stores)) (within_page (page_of_line line) lines) line (quiet_of (or_parts (reads_refused line) (writes_refused line) (not_refused line there wasn't))) (inside-page lines line inside)) in
+          ap (λ (a : Authority). lets a attempt.entry.number line stores)
           (each-not (given fine attempt locks) refused later (page_of_line line) wasn't
           ∙ keeps (page_of_line line) (owns (was_there.owner == attempt.entry.number) was_there.write (has was_there.lines line) stores may))
           ∙ may

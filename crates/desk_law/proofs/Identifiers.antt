@@ -1,5 +1,5 @@
 -- Authority that is kept under identifiers of seats, and told under the numbers of the activations in them.
-use Rattle.desk_law.proofs.Common.{◌≡◌, refl, ℕ, zero, suc, ◌==◌, ◌||◌, not, if◌then◌else◌, Bool, true, false, List, [], ◌∷◌, map, filter, slice_set, slice_index_or, list_any, ap, sym, has, Lines, within_page, is_whole_page, pages_of, Authority, nobody, Attempt, authority_by, fine_authority_by, given, with_each, granted, lowered, refuses, lines_within, owner_told, owners_told, StandsFor, permitted, nat_tests, arith}
+use Rattle.desk_law.proofs.Common.{◌≡◌, refl, ℕ, zero, suc, ◌==◌, ◌||◌, not, if◌then◌else◌, Bool, true, false, List, [], ◌∷◌, map, filter, slice_set, slice_index_or, list_any, ap, sym, has, Lines, within_page, is_whole_page, pages_of, Authority, nobody, Attempt, authority_by, fine_authority_by, given, with_each, granted, lowered, refuses, lines_within, owner_told, owners_told, StandsFor, lets, nat_tests, arith}
 use Rattle.desk_law.proofs.AlikeSets.{filter-same}
 use Rattle.desk_law.proofs.Holding.{freed}
 
@@ -11,7 +11,7 @@ module _ (numbers : ℕ → ℕ) (none : numbers 0 ≡ 0) where
 
   -- what is permitted to an identifier is permitted to its number
   pub permitted-told : (identifier number : ℕ) (authority : List Authority) (page line : ℕ) (store : Bool) → StandsFor numbers identifier number authority
-      → permitted (slice_index_or (owners_told numbers authority) page nobody) number line store ≡ permitted (slice_index_or authority page nobody) identifier line store
+      → lets (slice_index_or (owners_told numbers authority) page nobody) number line store ≡ lets (slice_index_or authority page nobody) identifier line store
   permitted-told identifier number authority page line store stands = grind (arith, nat_tests, told-page)
 
   any-same : (p q : ℕ → Bool) (xs : List ℕ) → ((x : ℕ) → p x ≡ q x) → list_any p xs ≡ list_any q xs
@@ -26,7 +26,7 @@ module _ (numbers : ℕ → ℕ) (none : numbers 0 ≡ 0) where
       grind (
         arith,
         nat_tests,
-        filter-same (λ page. refuses (slice_index_or (owners_told numbers authority) page nobody) number (lines_within page lines)) (λ page. refuses (slice_index_or authority page nobody) identifier (lines_within page lines)) pages (λ page i. any-same (λ line. not (permitted (slice_index_or (owners_told numbers authority) page nobody) number line false)) (λ line. not (permitted (slice_index_or authority page nobody) identifier line false)) (within_page page lines.reads) (λ line. ap not (permitted-told identifier number authority page line false stands)) i || any-same (λ line. not (permitted (slice_index_or (owners_told numbers authority) page nobody) number line true)) (λ line. not (permitted (slice_index_or authority page nobody) identifier line true)) (within_page page lines.writes) (λ line. ap not (permitted-told identifier number authority page line true stands)) i),
+        filter-same (λ page. refuses (slice_index_or (owners_told numbers authority) page nobody) number (lines_within page lines)) (λ page. refuses (slice_index_or authority page nobody) identifier (lines_within page lines)) pages (λ page i. any-same (λ line. not (lets (slice_index_or (owners_told numbers authority) page nobody) number line false)) (λ line. not (lets (slice_index_or authority page nobody) identifier line false)) (within_page page lines.reads) (λ line. ap not (permitted-told identifier number authority page line false stands)) i || any-same (λ line. not (lets (slice_index_or (owners_told numbers authority) page nobody) number line true)) (λ line. not (lets (slice_index_or authority page nobody) identifier line true)) (within_page page lines.writes) (λ line. ap not (permitted-told identifier number authority page line true stands)) i),
       )
 
   -- an identifier that is cleared frees the pages of its number

@@ -1,5 +1,5 @@
 -- The locks and the requests of active entries as a supervisor keeps them, and what steps do to them.
-use Rattle.desk_law.proofs.Common.{◌≡◌, refl, ℕ, ◌==◌, ◌&&◌, ◌||◌, not, if◌then◌else◌, Bool, true, List, [], ◌∷◌, filter, map, Some, list_any, ap, sym, ◌∙◌, subst, inl, inr, not-true, is_fine_page, FlatStore, IsWhole, has, meets, Lines, conflicts, with_whole_pages, shown_cycle, has-append, any-some, meets-at, Plain, after, Desk, Entry, request, conflicts_with, conflicts_of, waits_for, numbers, AreAlike, requested, AreKept, IsTableBut, kept_conflict, kept_waits, left_by, gone_on, IsAmong, due_to, AreConsistent, nat_tests, arith}
+use Rattle.desk_law.proofs.Common.{◌≡◌, refl, ℕ, ◌==◌, ◌&&◌, ◌||◌, not, if◌then◌else◌, Bool, true, List, [], ◌∷◌, filter, map, Some, list_any, ap, sym, ◌∙◌, subst, inl, inr, not-true, is_fine_page, FlatStore, IsWhole, has, meets, Lines, conflicts, with_whole_pages, shown_cycle, has-append, any-some, meets-at, Plain, after, Desk, Entry, requested, conflicts_with, conflicts_of, waits_for, numbers, AreAlike, AreKept, IsTableBut, kept_conflict, kept_waits, left_by, gone_on, IsAmong, due_to, AreConsistent, nat_tests, arith}
 use Rattle.desk_law.proofs.Entries.{replaced, among-replaced, among-filter}
 use Rattle.desk_law.proofs.Others.{others, another-stays, StaysSame}
 
@@ -33,12 +33,12 @@ any-entries p q [] same = refl
 any-entries p q (one ∷ entries) same = λ i. same one (inl refl) i || any-entries p q entries (λ entry among. same entry (inr among)) i
 
 module _ (desk : Desk) (locks requests : ℕ → Lines) (are : AreKept desk.committed desk.active locks requests) where
-  conflict-kept : (asked : Lines) (entry other : Entry) → AreAlike asked (request desk entry) → IsAmong desk.active other
+  conflict-kept : (asked : Lines) (entry other : Entry) → AreAlike asked (requested desk.committed entry) → IsAmong desk.active other
       → kept_conflict asked locks entry.number other ≡ conflicts_with desk entry other
-  conflict-kept asked entry other alike among = grind (arith, nat_tests, conflicts-alike asked (request desk entry) (locks other.number) (due_to desk.committed other) alike (are.held other among))
+  conflict-kept asked entry other alike among = grind (arith, nat_tests, conflicts-alike asked (requested desk.committed entry) (locks other.number) (due_to desk.committed other) alike (are.held other among))
 
   -- the holders that a request conflicts with
-  pub conflicts-kept : (asked : Lines) (entry : Entry) → AreAlike asked (request desk entry)
+  pub conflicts-kept : (asked : Lines) (entry : Entry) → AreAlike asked (requested desk.committed entry)
       → map (λ (other : Entry). other.number) (filter (kept_conflict asked locks entry.number) desk.active) ≡ conflicts_of desk entry
   conflicts-kept asked entry alike = grind (arith, nat_tests, filter-alike (kept_conflict asked locks entry.number) (conflicts_with desk entry) desk.active (λ other among. conflict-kept asked entry other alike among))
 

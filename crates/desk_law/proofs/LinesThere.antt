@@ -1,5 +1,5 @@
 -- An instruction all of whose lines are on resident pages that permit them: it takes effect at once.
-use Rattle.desk_law.proofs.Common.{◌≡◌, refl, ℕ, ◌==◌, ◌&&◌, not, Bool, true, false, List, [], ◌∷◌, ◌++◌, filter, slice_index_or, list_any, ap, sym, ◌∙◌, subst, inl, inr, eqb-true, and_parts, and_right, or_cases, or_right, or_from, not_from_true, is_fine_page, has, permits, Lines, both, with_whole_pages, within_page, is_whole_page, page_of_line, pages_of, has-append, any-some, ArePart, part-both, part-whole_pages, has-within_page, has-pages_of, has-whole, Desk, Entry, nobody, wanted, request, Word, Fetched, fetches, refuses, lines_within, Attempt, locks_with, with_each, to_read, lowered_pages, with_lowered, AreThere, IsAmong, due_to, permitted, IsOrderly, touched_of, nat_tests, arith}
+use Rattle.desk_law.proofs.Common.{◌≡◌, refl, ℕ, ◌==◌, ◌&&◌, not, Bool, true, false, List, [], ◌∷◌, ◌++◌, filter, slice_index_or, list_any, ap, sym, ◌∙◌, subst, inl, inr, eqb-true, and_parts, and_right, or_cases, or_right, or_from, not_from_true, is_fine_page, has, permits, Lines, both, with_whole_pages, within_page, is_whole_page, page_of_line, pages_of, has-append, any-some, ArePart, part-both, part-whole_pages, has-within_page, has-pages_of, has-whole, Desk, Entry, nobody, wanted, requested, Word, Fetched, fetches, refuses, lines_within, Attempt, locks_with, with_each, to_read, lowered_pages, with_lowered, AreThere, IsAmong, due_to, lets, IsOrderly, touched_of, nat_tests, arith}
 use Rattle.desk_law.proofs.Permitted.{any-none, permitted-held}
 
 -- where none passes
@@ -26,22 +26,22 @@ module _ (desk : Desk) (number : ℕ) (lines : Lines) (are : AreThere desk numbe
 
   pub there-unrefused : (page : ℕ) → refuses (slice_index_or desk.authority page nobody) number (lines_within page lines) ≡ false
   there-unrefused page =
-      or_from (list_any (λ line. not (permitted (slice_index_or desk.authority page nobody) number line false)) (within_page page lines.reads))
-      (list_any (λ line. not (permitted (slice_index_or desk.authority page nobody) number line true)) (within_page page lines.writes))
-      (any-none (λ line. not (permitted (slice_index_or desk.authority page nobody) number line false)) (within_page page lines.reads)
+      or_from (list_any (λ line. not (lets (slice_index_or desk.authority page nobody) number line false)) (within_page page lines.reads))
+      (list_any (λ line. not (lets (slice_index_or desk.authority page nobody) number line true)) (within_page page lines.writes))
+      (any-none (λ line. not (lets (slice_index_or desk.authority page nobody) number line false)) (within_page page lines.reads)
       (λ line inside.
       let parts = and_parts (page == page_of_line line) (has lines.reads line) (sym (has-within_page page lines.reads line) ∙ inside) in
-      not_from_true (permitted (slice_index_or desk.authority page nobody) number line false)
-      (subst (λ (p : ℕ). permitted (slice_index_or desk.authority p nobody) number line false ≡ true) (sym (eqb-true page (page_of_line line) parts.0)) (are.reads line parts.1).permits)))
-      (any-none (λ line. not (permitted (slice_index_or desk.authority page nobody) number line true)) (within_page page lines.writes)
+      not_from_true (lets (slice_index_or desk.authority page nobody) number line false)
+      (subst (λ (p : ℕ). lets (slice_index_or desk.authority p nobody) number line false ≡ true) (sym (eqb-true page (page_of_line line) parts.0)) (are.reads line parts.1).permits)))
+      (any-none (λ line. not (lets (slice_index_or desk.authority page nobody) number line true)) (within_page page lines.writes)
       (λ line inside.
       let parts = and_parts (page == page_of_line line) (has lines.writes line) (sym (has-within_page page lines.writes line) ∙ inside) in
-      not_from_true (permitted (slice_index_or desk.authority page nobody) number line true)
-      (subst (λ (p : ℕ). permitted (slice_index_or desk.authority p nobody) number line true ≡ true) (sym (eqb-true page (page_of_line line) parts.0)) (are.writes line parts.1).permits)))
+      not_from_true (lets (slice_index_or desk.authority page nobody) number line true)
+      (subst (λ (p : ℕ). lets (slice_index_or desk.authority p nobody) number line true ≡ true) (sym (eqb-true page (page_of_line line) parts.0)) (are.writes line parts.1).permits)))
 
 -- what is permitted is held: the request of a row whose lines are there is among the locks due already
 pub there-held : (desk : Desk) (entry : Entry) → IsOrderly desk → IsAmong desk.active entry → AreThere desk entry.number (wanted desk entry)
-    → ArePart (request desk entry) (due_to desk.committed entry)
+    → ArePart (requested desk.committed entry) (due_to desk.committed entry)
 there-held desk entry is here are =
     permitted-held desk entry is here
     (record { reads = λ line inside. (are.reads line inside).permits; writes = λ line inside. (are.writes line inside).permits })
@@ -64,9 +64,9 @@ there-lowered desk entry attempt own lines is here are =
     held : (page line : ℕ) → has (wanted desk entry).writes line ≡ true → page_of_line line ≡ page → (other : ℕ) → page_of_line other ≡ page
         → has (locks_with attempt desk).reads other ≡ true
     held page line written at other here_too =
-        let may : permitted (slice_index_or desk.authority page nobody) entry.number line true ≡ true =
-        subst (λ (p : ℕ). permitted (slice_index_or desk.authority p nobody) entry.number line true ≡ true) at (are.writes line written).permits in
-        let loads : permitted (slice_index_or desk.authority page nobody) entry.number other false ≡ true =
+        let may : lets (slice_index_or desk.authority page nobody) entry.number line true ≡ true =
+        subst (λ (p : ℕ). lets (slice_index_or desk.authority p nobody) entry.number line true ≡ true) at (are.writes line written).permits in
+        let loads : lets (slice_index_or desk.authority page nobody) entry.number other false ≡ true =
         stores-loads ((slice_index_or desk.authority page nobody).owner == entry.number) (slice_index_or desk.authority page nobody).write (has (slice_index_or desk.authority page nobody).lines line) (has (slice_index_or desk.authority page nobody).lines other) may in
         subst (λ (e : Entry). has (with_whole_pages (is_fine_page desk.committed.directory) (both (touched_of desk.committed e) attempt.lines)).reads other ≡ true) (sym own)
         ((part-whole_pages (is_fine_page desk.committed.directory) (touched_of desk.committed entry) (both (touched_of desk.committed entry) attempt.lines)

@@ -1,5 +1,5 @@
 -- What is permitted is held, and what is held conflicts with nobody.
-use Rattle.desk_law.proofs.Common.{◌≡◌, refl, ℕ, ◌==◌, Bool, true, false, List, [], ◌∷◌, ◌++◌, map, filter, slice_index_or, list_any, sym, ◌∙◌, inl, inr, eqb-true, eq-eqb, or_cases, is_fine_page, has, size, Lines, conflicts, page_of_line, has-append, has_left, any-some, size-alike, permits, ArePart, reaches, any-or, whole-reached, has-whole_pages, Desk, Entry, nobody, wanted, request, held, conflicts_with, conflicts_of, IsAmong, due_to, AreApart, ArePermitted, PermittedIsFree, FineRowsAskForTheirLines, WriteBitsHoldPages, IsOrderly, touched_of, nat_tests, arith}
+use Rattle.desk_law.proofs.Common.{◌≡◌, refl, ℕ, ◌==◌, Bool, true, false, List, [], ◌∷◌, ◌++◌, map, filter, slice_index_or, list_any, sym, ◌∙◌, inl, inr, eqb-true, eq-eqb, or_cases, is_fine_page, has, size, Lines, conflicts, page_of_line, has-append, has_left, any-some, size-alike, permits, ArePart, reaches, any-or, whole-reached, has-whole_pages, Desk, Entry, nobody, wanted, requested, due_to, conflicts_with, conflicts_of, IsAmong, AreApart, ArePermitted, PermittedIsFree, FineRowsAskForTheirLines, WriteBitsHoldPages, IsOrderly, touched_of, nat_tests, arith}
 use Rattle.desk_law.proofs.Orderly.{orderly}
 
 -- where none passes
@@ -8,13 +8,13 @@ any-none test xs none = grind (arith, nat_tests, any-some)
 
 -- what is permitted is held: the request of a row whose lines are there is among the locks due already
 pub permitted-held : (desk : Desk) (entry : Entry) → IsOrderly desk → IsAmong desk.active entry → ArePermitted desk.authority entry.number (wanted desk entry)
-    → ArePart (request desk entry) (due_to desk.committed entry)
+    → ArePart (requested desk.committed entry) (due_to desk.committed entry)
 permitted-held desk entry is here are = record { reads = record { among = reads }; writes = record { among = writes } }
   where
     writes : (line : ℕ) → has (wanted desk entry).writes line ≡ true → has (due_to desk.committed entry).writes line ≡ true
     writes line inside = (is.held.covered (page_of_line line) entry here).stores line refl (are.writes line inside)
 
-    reads : (line : ℕ) → has (request desk entry).reads line ≡ true → has (due_to desk.committed entry).reads line ≡ true
+    reads : (line : ℕ) → has (requested desk.committed entry).reads line ≡ true → has (due_to desk.committed entry).reads line ≡ true
     reads line inside =
         elim (or_cases (has (wanted desk entry).reads line) (list_any (reaches (is_fine_page desk.committed.directory) line) (wanted desk entry).writes) (sym (has-whole_pages (is_fine_page desk.committed.directory) (wanted desk entry) line) ∙ inside)) [
           | inl read ↦ (is.held.covered (page_of_line line) entry here).loads line refl (are.reads line read)
@@ -33,14 +33,14 @@ nobody-else test [] none = refl
 nobody-else test (one ∷ entries) none = grind (arith, nat_tests, nobody-else test entries (λ other among. none other (inr among)))
 
 -- a request that is held already conflicts with nobody
-pub held-free : (desk : Desk) (entry : Entry) → IsOrderly desk → IsAmong desk.active entry → ArePart (request desk entry) (due_to desk.committed entry)
+pub held-free : (desk : Desk) (entry : Entry) → IsOrderly desk → IsAmong desk.active entry → ArePart (requested desk.committed entry) (due_to desk.committed entry)
     → conflicts_of desk entry ≡ []
 held-free desk entry is here part =
     nobody-else (conflicts_with desk entry) desk.active
-    (λ other among. grind (arith, nat_tests, part-free (request desk entry) (due_to desk.committed entry) (held desk other) part, is.active.apart other entry among here))
+    (λ other among. grind (arith, nat_tests, part-free (requested desk.committed entry) (due_to desk.committed entry) (due_to desk.committed other) part, is.active.apart other entry among here))
 
 -- the lines written stay so many
-pub held-written : (desk : Desk) (entry : Entry) → ArePart (request desk entry) (due_to desk.committed entry)
+pub held-written : (desk : Desk) (entry : Entry) → ArePart (requested desk.committed entry) (due_to desk.committed entry)
     → size ((touched_of desk.committed entry).writes ++ (wanted desk entry).writes) ≡ size (due_to desk.committed entry).writes
 held-written desk entry part =
     size-alike ((touched_of desk.committed entry).writes ++ (wanted desk entry).writes) (touched_of desk.committed entry).writes

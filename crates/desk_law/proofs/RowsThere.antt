@@ -1,5 +1,5 @@
 -- An instruction of a consistent desk whose lines are all there: nothing is counted but the row, and nothing else changes.
-use Rattle.desk_law.proofs.Common.{nat_lt, ◌≡◌, refl, ℕ, ◌+◌, Bool, true, false, List, [], ◌++◌, length, filter, Some, slice_index_or, arith, ap, sym, ◌∙◌, subst, inl, inr, list_any, or_cases, is_fine_page, has, size, Lines, both, with_whole_pages, pages_of, has-append, has_left, any-some, ArePart, reaches, whole-reached, part-both, part-whole_pages, has-whole_pages, Plain, On, Commit, Check, row, after, Desk, Entry, nobody, with_entry, rolled_back, wanted, request, conflicts_of, Word, Counts, Going, Over, Checked, Attempt, Fetched, fetches, instruction, lines_written, refuses, lines_within, gets, takes_effect, commits, nat_tests, AreThere, AreAlike, gone_on, IsAmong, due_to, IsOrderly, touched_of, next_attempt}
+use Rattle.desk_law.proofs.Common.{nat_lt, ◌≡◌, refl, ℕ, ◌+◌, Bool, true, false, List, [], ◌++◌, length, filter, Some, slice_index_or, arith, ap, sym, ◌∙◌, subst, inl, inr, list_any, or_cases, is_fine_page, has, size, Lines, both, with_whole_pages, pages_of, has-append, has_left, any-some, ArePart, reaches, whole-reached, part-both, part-whole_pages, has-whole_pages, Plain, On, Commit, Check, row, after, Desk, Entry, nobody, with_entry, rolled_back, wanted, requested, conflicts_of, Word, Counts, Going, Over, Checked, Attempt, Fetched, fetches, instruction, lines_written, refuses, lines_within, gets, takes_effect, commits, nat_tests, AreThere, AreAlike, gone_on, IsAmong, due_to, IsOrderly, touched_of, next_attempt}
 use Rattle.desk_law.proofs.GoesOn.{due-more}
 use Rattle.desk_law.proofs.InstructionStages.{GoesOn, instruction-at, stage-limit, stage-fetched, stage-gets, stage-on, stage-commit}
 use Rattle.desk_law.proofs.LinesThere.{filter-none, fetches-none, there-resident, there-unrefused, there-held, there-lowered}
@@ -51,11 +51,11 @@ open-row word desk counts entry now next is here at went there =
     ∙ stage-on word (next_attempt desk entry now) desk counts (next_attempt desk entry now).outcome next went
     ∙ ap (λ (d : Desk). Going (with_entry d (gone_on entry)) (record counts { ran = counts.ran + 1 })) (there-lowered desk entry (next_attempt desk entry now) refl refl is here there)
   where
-    held : ArePart (request desk entry) (due_to desk.committed entry)
+    held : ArePart (requested desk.committed entry) (due_to desk.committed entry)
     held = there-held desk entry is here there
 
 -- The locks that are due after it are those that were due before.
-pub open-due : (desk : Desk) (entry : Entry) → ArePart (request desk entry) (due_to desk.committed entry)
+pub open-due : (desk : Desk) (entry : Entry) → ArePart (requested desk.committed entry) (due_to desk.committed entry)
     → AreAlike (due_to desk.committed (gone_on entry)) (due_to desk.committed entry)
 open-due desk entry part = record { reads = reads; writes = writes }
   where
@@ -113,7 +113,7 @@ commit-row word desk counts entry now is here at went =
     there : AreThere desk entry.number (wanted desk entry)
     there = subst (AreThere desk entry.number) (sym (wanted-commit desk entry now at went)) (record { reads = λ line inside. absurd (cc); writes = λ line inside. absurd (cc) })
 
-    held : ArePart (request desk entry) (due_to desk.committed entry)
+    held : ArePart (requested desk.committed entry) (due_to desk.committed entry)
     held = there-held desk entry is here there
 
 -- A program check rolls back, whatever is there.

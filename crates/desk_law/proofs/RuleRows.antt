@@ -1,6 +1,6 @@
 -- For each rule of locks a run that breaks once it is taken away. The store has one page. The programs that run get an address in register 2 and a
 -- value in register 3, and what one reads is in its register 4.
-use Rattle.desk_law.proofs.Common.{◌≡◌, refl, ℕ, ◌≤◌, ◌==◌, true, false, List, [], ◌∷◌, length, replicate, slice_index, Option, Some, None, option_map_or, sym, ◌∙◌, ap, inl, inr, both_ways, eq-eqb, FlatStore, IsWhole, Program, Plain, after, conflicts, Begin, Turn, Event, Desk, Entry, opened, request, held, conflicts_of, Word, Fine, IsAmong, Machine, memory_of, lit<, lit≤, Asking, Ran, run_by, RunsAreIsolatedBy}
+use Rattle.desk_law.proofs.Common.{◌≡◌, refl, ℕ, ◌≤◌, ◌==◌, true, false, List, [], ◌∷◌, length, replicate, slice_index, Option, Some, None, option_map_or, sym, ◌∙◌, ap, inl, inr, both_ways, eq-eqb, FlatStore, IsWhole, Program, Plain, after, conflicts, Begin, Turn, Event, Desk, Entry, opened, requested, due_to, conflicts_of, Word, Fine, IsAmong, Machine, memory_of, lit<, lit≤, Asking, Ran, run_by, RunsAreIsolatedBy}
 unfoldable use Rattle.desk.proofs.Common.{row_numbered}
 use Rattle.line_geometry.specs.declared.directory.PageSize.TheVariants.{Four, Two}
 unfoldable use Rattle.desk_law.specs.Asking.{instruction_by, turns_by}
@@ -76,7 +76,7 @@ abbrev stores_beside : List (Event × Word)
 stores_beside = begins 0 9 ∷ begins 2 5 ∷ (Turn 1 1, Fine) ∷ (Turn 2 2, Fine) ∷ []
 
 -- The rules as they stand are the desk's.
-as-they-stand : (desk : Desk) (entry : Entry) → conflicting request held conflicts desk entry ≡ conflicts_of desk entry
+as-they-stand : (desk : Desk) (entry : Entry) → conflicting (λ (at : Desk). requested at.committed) (λ (at : Desk). due_to at.committed) conflicts desk entry ≡ conflicts_of desk entry
 as-they-stand desk entry = refl
 
 -- Without the whole page, as without the write bit that goes off, a write bit opens to the second a line that the first has stored: it loads the 9,

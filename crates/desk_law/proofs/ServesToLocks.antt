@@ -1,6 +1,6 @@
 -- The first half of serving a fault: the limit, the pages, the refused pages and the conflicts, from what an attempt over the
 -- bytes of all tells.
-use Rattle.desk_law.proofs.Common.{Bool, true, false, nat_lt, ◌≡◌, refl, ℕ, ◌+◌, ◌≤◌, List, [], ◌++◌, length, filter, map, Some, ltb-false, arith, ap, sym, ◌∙◌, subst, Layout, is_fine_page, size, Lines, with_whole_pages, Plain, On, row, touched, after, Desk, Entry, rolled_back, wanted, request, conflicts_of, Word, Fine, Counts, Turning, Going, Over, Journal, Disk, Attempt, Fetched, Broken, fetches, instruction, attempts, limited, is_over_limit, lines_written, touched_pages, refused_pages, asks, gets, AreAlike, over_all, AreKept, kept_conflict, Reads, row_done, IsAmong, due_to, IsReady, touched_of, served_attempt, IsOrderly, nat_tests}
+use Rattle.desk_law.proofs.Common.{Bool, true, false, nat_lt, ◌≡◌, refl, ℕ, ◌+◌, ◌≤◌, List, [], ◌++◌, length, filter, map, Some, ltb-false, arith, ap, sym, ◌∙◌, subst, Layout, is_fine_page, size, Lines, with_whole_pages, Plain, On, row, touched, after, Desk, Entry, rolled_back, wanted, requested, conflicts_of, Word, Fine, Counts, Turning, Going, Over, Journal, Disk, Attempt, Fetched, Broken, fetches, instruction, attempts, limited, is_over_limit, lines_written, touched_pages, refused_pages, asks, gets, AreAlike, over_all, AreKept, kept_conflict, Reads, row_done, IsAmong, due_to, IsReady, touched_of, served_attempt, IsOrderly, nat_tests}
 use Rattle.desk_law.proofs.AlikeSets.{written-alike}
 use Rattle.desk_law.proofs.AttemptsOnCurrent.{IsOwnRow, own-row, wanted-is}
 use Rattle.desk_law.proofs.Contest.{contending}
@@ -76,7 +76,7 @@ module _ (desk : Desk) (counts : Counts) (entry : Entry) (now shown : Plain) (by
             → map (λ (other : Entry). other.number) (filter (kept_conflict (with_whole_pages (is_fine_page desk.committed.directory) (touched entry.runs.program desk.committed.directory (over_all now bytes))) locks entry.number) desk.active) ≡ conflicts_of desk entry
         serve-holders locks requests kept =
             conflicts-kept desk locks requests kept (with_whole_pages (is_fine_page desk.committed.directory) (touched entry.runs.program desk.committed.directory (over_all now bytes))) entry
-            (subst (λ (l : Lines). AreAlike (with_whole_pages (is_fine_page desk.committed.directory) l) (request desk entry)) (wanted-is desk entry now shown bytes at went)
+            (subst (λ (l : Lines). AreAlike (with_whole_pages (is_fine_page desk.committed.directory) l) (requested desk.committed entry)) (wanted-is desk entry now shown bytes at went)
             (record { reads = λ line. refl; writes = λ line. refl }))
 
     -- and what follows may begin there

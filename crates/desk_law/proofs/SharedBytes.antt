@@ -1,5 +1,5 @@
 -- One store of bytes for all entries: it holds every line as it is now, and each row may run over it.
-use Rattle.desk_law.proofs.Common.{◌≡◌, ℕ, ◌+◌, ◌==◌, not, true, false, List, [], ◌++◌, length, Option, Some, option_map_or, ap, sym, ◌∙◌, subst, inl, inr, eqb-true, both_ways, or_cases, or_parts, and_cases, cases_Bool, not_from_false, false_from_ne_true, byte_count, FlatStore, IsWhole, has, meets, Lines, conflicts, has-append, has_left, has_right, meets-at, Plain, Plan, Outcome, On, plan_at, row, touched, touched_by, after, line_in, all_of, after-whole, after-kept, on, Keeps, Steps, lines_of_plan, row-steps, Desk, Entry, wanted, request, held, conflicts_with, conflicts_of, gone_on, IsAmong, AreConsistent, current_of, current, IsCurrent, touched_of, arith, nat_tests}
+use Rattle.desk_law.proofs.Common.{◌≡◌, ℕ, ◌+◌, ◌==◌, not, true, false, List, [], ◌++◌, length, Option, Some, option_map_or, ap, sym, ◌∙◌, subst, inl, inr, eqb-true, both_ways, or_cases, or_parts, and_cases, cases_Bool, not_from_false, false_from_ne_true, byte_count, FlatStore, IsWhole, has, meets, Lines, conflicts, has-append, has_left, has_right, meets-at, Plain, Plan, Outcome, On, plan_at, row, touched, touched_by, after, line_in, all_of, after-whole, after-kept, on, Keeps, Steps, lines_of_plan, row-steps, Desk, Entry, wanted, requested, due_to, conflicts_with, conflicts_of, gone_on, IsAmong, AreConsistent, current_of, current, IsCurrent, touched_of, arith, nat_tests}
 use Rattle.desk_law.proofs.Entries.{replaced, one-entry}
 use Rattle.desk_law.proofs.Others.{after-row}
 use Rattle.desk_law.proofs.GoesOn.{nobody-conflicts}
@@ -36,21 +36,21 @@ current-wanted desk most entry state line whole are here is none wants =
   where
     free : (other : Entry) → IsAmong desk.active other → (other.number == entry.number) ≡ false → has (touched_of desk.committed other).writes line ≡ false
     free other there differ =
-        elim (and_cases (not (other.number == entry.number)) (conflicts (request desk entry) (held desk other))
+        elim (and_cases (not (other.number == entry.number)) (conflicts (requested desk.committed entry) (due_to desk.committed other))
         (nobody-conflicts (conflicts_with desk entry) desk.active none other there)) [
           | inl same ↦ absurd (both_ways (not (other.number == entry.number)) same (not_from_false (other.number == entry.number) differ))
           | inr fine ↦
-              let parts = or_parts (meets (request desk entry).writes ((held desk other).reads ++ (held desk other).writes)) (meets (request desk entry).reads (held desk other).writes) fine in
+              let parts = or_parts (meets (requested desk.committed entry).writes ((due_to desk.committed other).reads ++ (due_to desk.committed other).writes)) (meets (requested desk.committed entry).reads (due_to desk.committed other).writes) fine in
               false_from_ne_true (has (touched_of desk.committed other).writes line)
               (λ wrote.
               elim (or_cases (has (wanted desk entry).reads line) (has (wanted desk entry).writes line) (sym (has-append (wanted desk entry).reads (wanted desk entry).writes line) ∙ wants)) [
                 | inl reads ↦
-                    both_ways (meets (request desk entry).reads (held desk other).writes) parts.1
-                    (meets-at (request desk entry).reads (held desk other).writes line
+                    both_ways (meets (requested desk.committed entry).reads (due_to desk.committed other).writes) parts.1
+                    (meets-at (requested desk.committed entry).reads (due_to desk.committed other).writes line
                     (has_left (wanted desk entry).reads _ line reads) wrote)
                 | inr writes ↦
-                    both_ways (meets (request desk entry).writes ((held desk other).reads ++ (held desk other).writes)) parts.0
-                    (meets-at (request desk entry).writes ((held desk other).reads ++ (held desk other).writes) line writes (has_right (held desk other).reads (held desk other).writes line wrote))
+                    both_ways (meets (requested desk.committed entry).writes ((due_to desk.committed other).reads ++ (due_to desk.committed other).writes)) parts.0
+                    (meets-at (requested desk.committed entry).writes ((due_to desk.committed other).reads ++ (due_to desk.committed other).writes) line writes (has_right (due_to desk.committed other).reads (due_to desk.committed other).writes line wrote))
               ])
         ]
 

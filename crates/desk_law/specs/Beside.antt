@@ -2,17 +2,17 @@
 use Rattle.std.specs.Prelude.{◌≡◌, ℕ, ◌≤◌, ◌==◌, ◌&&◌, not, Bool, true, false, List, map, find, length, slice_index_or, Some}
 use Rattle.std.specs.List.{list_any}
 use Rattle.std.specs.Option.{option_map_or}
-use Rattle.line_geometry.specs.Directory.{is_fine_page}
 use Rattle.line_geometry.specs.FlatStore.{FlatStore}
 use Rattle.lock_rules.specs.Sets.{has}
-use Rattle.lock_rules.specs.Lines.{Lines, conflicts, with_whole_pages, page_of_line}
+use Rattle.lock_rules.specs.Access.{Authority, nobody, lets}
+use Rattle.lock_rules.specs.Lines.{Lines, conflicts, page_of_line}
 use Rattle.flat_machine.specs.declared.machine.Plain.{Plain}
 use Rattle.flat_machine.specs.After.{after}
-use Rattle.flat_machine.specs.Due.{touched_next}
 use Rattle.flat_machine.specs.Agreement.{line_in}
-use Rattle.desk.specs.Desk.{Desk, Entry, Authority, nobody}
+use Rattle.desk.specs.Desk.{Desk, Entry}
+use Rattle.desk.specs.Holdings.{requested, due_to}
 use Rattle.desk.specs.Instruction.{Word, can't_be_read}
-use Rattle.desk_law.specs.Consistent.{IsAmong, due_to, permitted}
+use Rattle.desk_law.specs.Consistent.{IsAmong}
 use Rattle.desk_law.specs.Current.{IsCurrent}
 
 -- bytes with these lines from others
@@ -24,7 +24,7 @@ pub record IsLaid (store : FlatStore) (lines : List ℕ) (from old new : List �
 -- a line is on a resident page, whose authority permits a number the access
 pub record IsThere (desk : Desk) (number line : ℕ) (store : Bool) : Type 0 where
   pub resident : has desk.resident (page_of_line line) ≡ true
-  pub permits : permitted (slice_index_or desk.authority (page_of_line line) nobody) number line store ≡ true
+  pub permits : lets (slice_index_or desk.authority (page_of_line line) nobody) number line store ≡ true
 
 -- all these lines are
 pub record AreThere (desk : Desk) (number : ℕ) (lines : Lines) : Type 0 where
@@ -39,10 +39,6 @@ pub record AreAlike (one other : Lines) : Type 0 where
 -- the state of an entry over the bytes of all, as a storage shows it
 abbrev pub over_all : Plain → List ℕ → Plain
 over_all now bytes = record now { store = bytes }
-
--- what the next row of an entry asks for, over a store
-abbrev pub requested : FlatStore → Entry → Lines
-requested store entry = with_whole_pages (is_fine_page store.directory) (touched_next entry.runs.program entry.runs.args store entry.rows)
 
 -- tables by number keep the locks of each entry, and the request of each that is marked waiting, as sets
 pub record AreKept (store : FlatStore) (entries : List Entry) (locks requests : ℕ → Lines) : Type 0 where

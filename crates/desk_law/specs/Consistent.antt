@@ -4,14 +4,13 @@ use Rattle.line_geometry.specs.Directory.{page_count}
 use Rattle.line_geometry.specs.FlatStore.{FlatStore, IsWhole}
 use Rattle.lock_rules.specs.Sets.{has, size}
 use Rattle.lock_rules.specs.Lines.{Lines, page_of_line}
-use Rattle.lock_rules.specs.Access.{permits}
+use Rattle.lock_rules.specs.Access.{Authority, nobody, lets}
 use Rattle.lock_rules.specs.Waits.{leads}
 use Rattle.flat_machine.specs.declared.machine.Plain.{Plain}
 use Rattle.flat_machine.specs.After.{after}
-use Rattle.flat_machine.specs.Due.{due_locks}
 use Rattle.flat_machine.specs.Agreement.{all_of}
-use Rattle.desk.specs.Desk.{Desk, Entry, Authority, nobody}
-use Rattle.desk.specs.Holdings.{numbers, waits_for}
+use Rattle.desk.specs.Desk.{Desk, Entry}
+use Rattle.desk.specs.Holdings.{due_to, numbers, waits_for}
 use Rattle.desk.specs.Run.{absent_segment}
 
 -- an entry is one of these
@@ -23,10 +22,6 @@ IsAmong (one ∷ entries) entry = (one ≡ entry) ⊎ IsAmong entries entry
 abbrev pub Ascend : (above : ℕ) → List Entry → (below : ℕ) → Type 0
 Ascend above [] below = above < below
 Ascend above (entry ∷ entries) below = (above < entry.number) × Ascend entry.number entries below
-
--- the locks that are due to an entry over a committed store
-abbrev pub due_to : FlatStore → Entry → Lines
-due_to store entry = due_locks entry.runs.program entry.runs.args store entry.rows
 
 -- an entry has a state after its rows, has written no more lines than a record may have, and names segments that there are
 pub record IsLive (store : FlatStore) (most_lines : ℕ) (entry : Entry) : Type 0 where
@@ -40,14 +35,10 @@ pub record AreApart (first second : Lines) : Type 0 where
   pub first_writes : (line : ℕ) → IsTrue (has first.writes line) → IsFalse (has (all_of second) line)
   pub second_writes : (line : ℕ) → IsTrue (has second.writes line) → IsFalse (has (all_of first) line)
 
--- an authority permits a number an access to a line
-abbrev pub permitted : Authority → (number line : ℕ) → (store : Bool) → Bool
-permitted authority number line store = permits (authority.owner == number) authority.write (has authority.lines line) store
-
 -- what an authority over a page permits to a number is among these locks
 pub record IsCovered (authority : Authority) (page number : ℕ) (locks : Lines) : Type 0 where
-  pub loads : (line : ℕ) → page_of_line line ≡ page → IsTrue (permitted authority number line false) → IsTrue (has locks.reads line)
-  pub stores : (line : ℕ) → page_of_line line ≡ page → IsTrue (permitted authority number line true) → IsTrue (has locks.writes line)
+  pub loads : (line : ℕ) → page_of_line line ≡ page → IsTrue (lets authority number line false) → IsTrue (has locks.reads line)
+  pub stores : (line : ℕ) → page_of_line line ≡ page → IsTrue (lets authority number line true) → IsTrue (has locks.writes line)
 
 -- the owner of a page is nobody or an active entry
 abbrev pub IsOwned : List Entry → Authority → Type 0

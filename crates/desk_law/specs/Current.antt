@@ -10,7 +10,7 @@ use Rattle.flat_machine.specs.declared.machine.Plain.{Plain}
 use Rattle.flat_machine.specs.After.{after}
 use Rattle.flat_machine.specs.Agreement.{line_in}
 use Rattle.desk.specs.Desk.{Desk, Entry}
-use Rattle.desk_law.specs.Consistent.{due_to}
+use Rattle.desk.specs.Holdings.{due_to}
 
 -- the bytes that an entry has, or those that are committed where it has no state
 abbrev pub bytes_of : FlatStore → Entry → List ℕ

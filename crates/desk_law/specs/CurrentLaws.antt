@@ -6,7 +6,7 @@ use Rattle.flat_machine.specs.Row.{On, row}
 use Rattle.flat_machine.specs.After.{after}
 use Rattle.flat_machine.specs.Agreement.{line_in, all_of, DoesTheSame}
 use Rattle.desk.specs.Desk.{Desk, Entry, with_entry, rolled_back}
-use Rattle.desk.specs.Holdings.{wanted, held, conflicts_of}
+use Rattle.desk.specs.Holdings.{wanted, conflicts_of, due_to}
 use Rattle.desk_law.specs.Changes.{gone_on, left_by, committed_at}
 use Rattle.desk_law.specs.Consistent.{IsAmong, IsConsistent}
 use Rattle.desk_law.specs.Current.{current, current_bytes, IsCurrent}
@@ -23,7 +23,7 @@ abbrev pub HoldersSeeCurrent : Type 0
 HoldersSeeCurrent =
     (desk : Desk) (entry : Entry) (state : Plain) (line : ℕ) → IsConsistent desk → IsAmong desk.active entry
     → after entry.runs.program entry.runs.args desk.committed entry.rows ≡ Some state
-    → IsTrue (has (all_of (held desk entry)) line)
+    → IsTrue (has (all_of (due_to desk.committed entry)) line)
     → line_in desk.committed.directory state.store line ≡ current desk line
 
 -- The law: a row that goes on while nobody conflicts changes the lines that it writes alone, and those are as the row leaves them.
@@ -58,7 +58,7 @@ abbrev pub RollbacksGiveBack : Type 0
 RollbacksGiveBack =
     (desk : Desk) (entry : Entry) (line : ℕ) → IsConsistent desk → IsAmong desk.active entry
     → current (rolled_back desk entry) line
-    ≡ (if has (held desk entry).writes line then line_in desk.committed.directory desk.committed.bytes line else current desk line)
+    ≡ (if has (due_to desk.committed entry).writes line then line_in desk.committed.directory desk.committed.bytes line else current desk line)
 
 -- The law: over what a commit of one leaves, another that is active does the same. Its state is the same but for the store, its locks and its
 -- touched lines are the same and have the same bytes, and each line that it didn't write is as it is committed now.

@@ -5,16 +5,17 @@ use Rattle.line_geometry.specs.FlatStore.{FlatStore, IsWhole}
 use Rattle.lock_rules.specs.Sets.{has}
 use Rattle.lock_rules.specs.Lines.{Lines, page_of_line}
 use Rattle.lock_rules.specs.Waits.{shown_cycle}
+use Rattle.lock_rules.specs.Access.{Authority, nobody, lets}
 use Rattle.flat_machine.specs.declared.machine.Program.{Program}
 use Rattle.desk.specs.declared.event.Event.{Event}
-use Rattle.desk.specs.Desk.{Desk, Entry, Authority, nobody, opened, with_entry}
-use Rattle.desk.specs.Holdings.{wanted, request, held, conflicts_of, numbers, waits_for}
+use Rattle.desk.specs.Desk.{Desk, Entry, opened, with_entry}
+use Rattle.desk.specs.Holdings.{wanted, conflicts_of, numbers, waits_for, requested, due_to}
 use Rattle.flat_machine.specs.declared.machine.Plain.{Plain}
 use Rattle.flat_machine.specs.Row.{row}
 use Rattle.flat_machine.specs.After.{after}
 use Rattle.desk.specs.Instruction.{Word, Counts, Idle, Turning, Over, Attempt, turn, no_counts, refused_pages, counts_refused, gets, Contest, Contested, Settled, Lost, breaks_cycle, breaks_cycles}
 use Rattle.desk.specs.Run.{step, run}
-use Rattle.desk_law.specs.Consistent.{IsAmong, permitted, IsConsistent}
+use Rattle.desk_law.specs.Consistent.{IsAmong, IsConsistent}
 
 -- The law: a desk that is consistent is so after every event with every word.
 abbrev pub StaysConsistent : Type 0
@@ -47,8 +48,8 @@ IdleWhereInactive =
 
 -- an authority of each page permits a number all these lines
 pub record ArePermitted (authority : List Authority) (number : ℕ) (lines : Lines) : Type 0 where
-  pub reads : (line : ℕ) → IsTrue (has lines.reads line) → IsTrue (permitted (slice_index_or authority (page_of_line line) nobody) number line false)
-  pub writes : (line : ℕ) → IsTrue (has lines.writes line) → IsTrue (permitted (slice_index_or authority (page_of_line line) nobody) number line true)
+  pub reads : (line : ℕ) → IsTrue (has lines.reads line) → IsTrue (lets (slice_index_or authority (page_of_line line) nobody) number line false)
+  pub writes : (line : ℕ) → IsTrue (has lines.writes line) → IsTrue (lets (slice_index_or authority (page_of_line line) nobody) number line true)
 
 -- The law: an entry whose next row touches permitted lines alone conflicts with nobody.
 abbrev pub PermittedIsFree : Type 0
@@ -75,14 +76,14 @@ abbrev pub FineRowsAskForTheirLines : Type 0
 FineRowsAskForTheirLines =
     (desk : Desk) (entry : Entry)
     → ((line : ℕ) → IsTrue (has (wanted desk entry).writes line) → IsTrue (is_fine_page desk.committed.directory (page_of_line line)))
-    → (line : ℕ) → has (request desk entry).reads line ≡ (has (wanted desk entry).reads line || has (wanted desk entry).writes line)
+    → (line : ℕ) → has (requested desk.committed entry).reads line ≡ (has (wanted desk entry).reads line || has (wanted desk entry).writes line)
 
 -- The law: between two instructions all lines of a page whose write bit is on are held to read by its owner, if that is active.
 abbrev pub WriteBitsHoldPages : Type 0
 WriteBitsHoldPages =
     (desk : Desk) (entry : Entry) (page line : ℕ) → IsConsistent desk → IsAmong desk.active entry
     → (slice_index_or desk.authority page nobody).owner ≡ entry.number → (slice_index_or desk.authority page nobody).write ≡ true
-    → page_of_line line ≡ page → IsTrue (has (held desk entry).reads line)
+    → page_of_line line ≡ page → IsTrue (has (due_to desk.committed entry).reads line)
 
 -- The law: where somebody is active, somebody who is active waits for nobody.
 abbrev pub SomebodyCanGoOn : Type 0

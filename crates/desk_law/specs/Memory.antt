@@ -17,11 +17,11 @@ use Rattle.desk.specs.declared.event.Event.{Event}
 use Rattle.desk.specs.declared.event.Event.TheVariants.{Begin, Turn, Checkpoint, Crash}
 use Rattle.desk.specs.Commits.{begun, IsSerial}
 use Rattle.desk.specs.Desk.{Desk, Entry, opened}
-use Rattle.desk.specs.Holdings.{numbers}
+use Rattle.desk.specs.Holdings.{numbers, due_to}
 use Rattle.desk.specs.Instruction.{Word, Counts, Turning, Going, Over, Committed, no_counts, instruction}
 use Rattle.desk.specs.Report.{event_lines}
 use Rattle.desk.specs.Run.{Turned, step, run, IsRunOf}
-use Rattle.desk_law.specs.Consistent.{IsAmong, due_to}
+use Rattle.desk_law.specs.Consistent.{IsAmong}
 use Rattle.desk_law.specs.Current.{current_bytes}
 
 -- the machine of an activation: its state, and the lines of the store that it has written

@@ -2,13 +2,14 @@
 use Rattle.std.specs.Prelude.{ℕ, ◌==◌, ◌&&◌, ◌||◌, not, Bool, true, List, ◌++◌, map, filter, slice_index_or}
 use Rattle.lock_rules.specs.Sets.{meets}
 use Rattle.lock_rules.specs.Lines.{Lines, conflicts, with_whole_pages, page_of_line, pages_of}
-use Rattle.desk.specs.Desk.{Desk, Entry, nobody}
-use Rattle.desk.specs.Holdings.{wanted, request, held}
+use Rattle.lock_rules.specs.Access.{nobody}
+use Rattle.desk.specs.Desk.{Desk, Entry}
+use Rattle.desk.specs.Holdings.{wanted, requested, due_to}
 use Rattle.desk.specs.Instruction.{Turning, Going, Over, Committed, Attempt, with_grants}
 use Rattle.desk_law.specs.UnderWay.{touched_of}
 use Rattle.desk_law.specs.Asking.{Asking, asks_refused, asks_refused_by, RunsAreIsolatedBy, RunsStayConsistentBy}
 
--- whom an entry conflicts with, by what is asked, what others hold, and when these conflict; `conflicts_of` is that of `request`, `held` and `conflicts`
+-- whom an entry conflicts with, by what is asked, what others hold, and when these conflict; `conflicts_of` is that of `requested`, `due_to` and `conflicts`
 abbrev pub conflicting : (asked holds : Desk → Entry → Lines) → (Lines → Lines → Bool) → Desk → Entry → List ℕ
 conflicting asked holds conflict desk entry =
     map (λ other. other.number) (filter (λ other. not (other.number == entry.number) && conflict (asked desk entry) (holds desk other)) desk.active)
@@ -22,24 +23,24 @@ without_whole_pages =
 
 -- without the rule that a read meets a write
 abbrev pub without_read_meets_write : Asking
-without_read_meets_write = asks_refused_by (conflicting request held (λ asked holds. meets asked.writes (holds.reads ++ holds.writes)))
+without_read_meets_write = asks_refused_by (conflicting (λ desk. requested desk.committed) (λ desk. due_to desk.committed) (λ asked holds. meets asked.writes (holds.reads ++ holds.writes)))
 
 -- without the rule that a write meets a read
 abbrev pub without_write_meets_read : Asking
 without_write_meets_read =
-    asks_refused_by (conflicting request held (λ asked holds. meets asked.writes holds.writes || meets asked.reads holds.writes))
+    asks_refused_by (conflicting (λ desk. requested desk.committed) (λ desk. due_to desk.committed) (λ asked holds. meets asked.writes holds.writes || meets asked.reads holds.writes))
 
 -- the locks of an entry, those to read in pages alone of which it is the owner
 abbrev pub held_as_owner : Desk → Entry → Lines
 held_as_owner desk entry =
     record {
-      reads = filter (λ line. (slice_index_or desk.authority (page_of_line line) nobody).owner == entry.number) (held desk entry).reads;
-      writes = (held desk entry).writes;
+      reads = filter (λ line. (slice_index_or desk.authority (page_of_line line) nobody).owner == entry.number) (due_to desk.committed entry).reads;
+      writes = (due_to desk.committed entry).writes;
     }
 
 -- without read locks that stay to the end: they go where the page passes on
 abbrev pub without_kept_reads : Asking
-without_kept_reads = asks_refused_by (conflicting request held_as_owner conflicts)
+without_kept_reads = asks_refused_by (conflicting (λ desk. requested desk.committed) held_as_owner conflicts)
 
 -- the pages that a row that went on has written into are its entry's as it stored
 abbrev pub bits_on : Attempt → Turning → Turning

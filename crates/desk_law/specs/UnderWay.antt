@@ -3,12 +3,13 @@ use Rattle.std.specs.Prelude.{◌≡◌, ℕ, ◌≤◌, ◌==◌, ◌&&◌, not
 use Rattle.line_geometry.specs.FlatStore.{FlatStore, IsWhole}
 use Rattle.lock_rules.specs.Sets.{size}
 use Rattle.lock_rules.specs.Lines.{Lines}
+use Rattle.lock_rules.specs.Access.{Authority, nobody}
 use Rattle.flat_machine.specs.declared.machine.Plain.{Plain}
 use Rattle.flat_machine.specs.Row.{row}
 use Rattle.flat_machine.specs.Touched.{touched}
 use Rattle.flat_machine.specs.Due.{touched_within}
 use Rattle.flat_machine.specs.After.{after}
-use Rattle.desk.specs.Desk.{Desk, Entry, Authority, nobody}
+use Rattle.desk.specs.Desk.{Desk, Entry}
 use Rattle.desk.specs.Holdings.{numbers, waits_for, wanted}
 use Rattle.desk.specs.Instruction.{Counts, Attempt, Contest, Contested, breaks_cycles}
 use Rattle.desk_law.specs.Beside.{over_all}
