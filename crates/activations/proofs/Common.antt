@@ -15,9 +15,9 @@ pub use Rattle.std.specs.Option.{ForSome, option_map, option_map_or}
 pub use Rattle.std.specs.Prelude.{All, Bool, Err, IfErr, IsErrAnd, IsSome, List, None, Ok, OnErr, OnOk, Option, Result, Some, [], cond, drop, false, filter, find, fold, if◌then◌else◌, is_some, length, map, nat_le, nat_lt, not, option_to_list, position, refl, remove, replicate, slice_index, slice_index_or, slice_range, slice_set, suc, true, unwrap_or, zero, ℕ, ◌%◌, ◌&&◌, ◌^◌, ◌*◌, ◌++◌, ◌+◌, ◌-◌, ◌/◌, ◌<◌, ◌==◌, ◌||◌, ◌∷◌, ◌≡◌, ◌≢◌, ◌≤◌, ◌⊎◌}
 pub use Rattle.arrayvec.specs.ArrayVec.{ArrayVec, array_vec_len}
 pub use Rattle.desk.specs.Answers.{ending_told}
-pub use Rattle.desk.specs.Desk.{Desk, Entry, nobody, opened, rolled_back, with_entry, written_pages}
-pub use Rattle.desk.specs.Holdings.{conflicts_of, wanted}
-pub use Rattle.desk.specs.Instruction.{Attempt, Broken, Checked, Counts, Disk, Ending, Fetched, Fetching, Fine, Going, Journal, Limit, Over, ReadFailed, Turning, Victim, Waits, Word, authority_by, can't_be_read, contest_ends, fetches, fine_authority_by, gets, goes_on, granted, lines_within, lines_written, locks_with, lowered, no_counts, refused_pages, refuses, touched_pages, with_grants}
+pub use Rattle.desk.specs.Desk.{Desk, Entry, opened, rolled_back, with_entry, written_pages}
+pub use Rattle.desk.specs.Holdings.{conflicts_of, wanted, requested, due_to}
+pub use Rattle.desk.specs.Instruction.{Attempt, Broken, Checked, Counts, Disk, Ending, Fetched, Fetching, Fine, Going, Journal, Limit, Over, ReadFailed, Turning, Victim, Waits, Word, can't_be_read, contest_ends, fetches, gets, goes_on, granted, lines_within, lines_written, locks_with, lowered, no_counts, refused_pages, refuses, touched_pages, with_grants}
 unfoldable pub use Rattle.desk.specs.Instruction.{instruction, turns}
 pub use Rattle.desk.specs.Run.{absent_segment, restarted}
 pub use Rattle.desk.specs.declared.answers.Begun.{Begun}
@@ -44,9 +44,9 @@ pub use Rattle.desk_law.proofs.ServedRows.{WentOn, contest-begins, free-gets, fr
 pub use Rattle.desk_law.proofs.ServesConflicts.{IsContesting, contesting-consistent, contesting-gets, contesting-loses, contesting-ready, contesting-turn, contesting-victim, contesting-waits}
 pub use Rattle.desk_law.proofs.TurnsStay.{resident-consistent, resident-granted}
 pub use Rattle.desk_law.proofs.Waiting.{among-any, any-among}
-pub use Rattle.desk_law.specs.Beside.{AreAlike, AreMarked, AreThere, IsLaid, IsState, IsThere, IsTold, Reads, StandsFor, by_number, kept_conflict, kept_waits, over_all, owner_told, owners_told, requested}
+pub use Rattle.desk_law.specs.Beside.{AreAlike, AreMarked, AreThere, IsLaid, IsState, IsThere, IsTold, Reads, StandsFor, by_number, kept_conflict, kept_waits, over_all, owner_told, owners_told}
 pub use Rattle.desk_law.specs.Changes.{committed_at, gone_on, left_by, row_done}
-pub use Rattle.desk_law.specs.Consistent.{AreConsistent, AreDistinct, Ascend, IsAmong, due_to, permitted}
+pub use Rattle.desk_law.specs.Consistent.{AreConsistent, AreDistinct, Ascend, IsAmong}
 pub use Rattle.desk_law.specs.Current.{IsCurrent}
 pub use Rattle.desk_law.specs.Orderly.{IsOrderly}
 pub use Rattle.desk_law.specs.UnderWay.{IsReady, IsUnderWay, KeepsPages, contest, marked, served_attempt, touched_of}
@@ -83,13 +83,13 @@ pub use Rattle.line_locks.specs.declared.request.Want.{Want}
 pub use Rattle.lock_rules.proofs.Lines.{any-or, has-pages_of, has-whole_pages, reaches}
 pub use Rattle.lock_rules.proofs.Sets.{any-at, any-some, has-append, has-filter, has_left, has_right}
 pub use Rattle.lock_rules.proofs.Sizes.{size-alike, size-apart, size-append, size-counted}
-pub use Rattle.lock_rules.specs.Access.{permits}
+pub use Rattle.lock_rules.specs.Access.{Authority, authority_by, fine_authority_by, lets, nobody, permits}
 pub use Rattle.lock_rules.specs.Lines.{Lines, both, conflicts, is_whole_page, no_lines, page_of_line, pages_of, with_whole_pages, within_page}
 pub use Rattle.lock_rules.specs.Resident.{brought, taken_out}
 pub use Rattle.lock_rules.specs.Sets.{distinct, has, size}
 pub use Rattle.lock_rules.specs.Waits.{shown_cycle, victim_of}
-pub use Rattle.lockbit_rules.specs.Entries.{entry_of, lets}
-pub use Rattle.lockbit_rules.specs.declared.Authority.{Authority}
+pub use Rattle.lockbit_rules.specs.Entries.{authority_of}
+pub use Rattle.lockbit_rules.specs.declared.PageEntry.{PageEntry}
 pub use Rattle.outside.proofs.Runs.{asks_none, asks_on}
 pub use Rattle.outside.specs.Causes.{Rose}
 pub use Rattle.outside.specs.Runs.{FewerLater, OnlyAsks, held_of}
@@ -126,7 +126,7 @@ pub use Rattle.store_format.specs.Bank.{RecordLine, record_bytes}
 pub use Rattle.store_format.specs.Header.{Header, entry_bytes, most_lines, total}
 pub use Rattle.store_format.specs.Stands.{Damaged, NotAStore, Standing, Stands, laid}
 unfoldable pub use Rattle.store_format.specs.Stands.{stands}
-pub use Rattle.activations.specs.Activity.{Activity, authority_at, authority_of, authority_told, authority_under, desk_over, entries, entry_for, entry_in, lines_held, live_in, locks_in, no_program, nothing_runs, number_under, program_at, program_in, request_for, request_in, shown, state_for, state_in, store_over}
+pub use Rattle.activations.specs.Activity.{Activity, authority_at, flat_authority, authority_told, authority_under, desk_over, entries, entry_for, entry_in, lines_held, live_in, locks_in, no_program, nothing_runs, number_under, program_at, program_in, request_for, request_in, shown, state_for, state_in, store_over}
 pub use Rattle.activations.specs.Attempted.{CameTo, IsSelected, IsShut, IsStopped, Strode, TookEffect, WasAttempted, WillTouch, attempted, plain_in, printed_after}
 pub use Rattle.activations.specs.Begins.{Begins, IsBegin, begun_in, given, idle, started, begins}
 pub use Rattle.activations.specs.Ends.{HasSettled, HasUndone, IsDeserted, IsRestarted, WereRolled, reprinted}
@@ -136,7 +136,7 @@ pub use Rattle.activations.specs.Instructed.{GoesUncounted, IsAsked, IsEndOfRows
 pub use Rattle.activations.specs.Kept.{AreRowsWithin, KeepsParts, StandsStill, StaysSeated}
 pub use Rattle.activations.specs.Recorded.{HasWritten, IsRecordOf, LeavesCommitted, line_told, recorded, with_lines, written_of}
 pub use Rattle.activations.specs.Serves.{AreTouched, IsFetched, IsToServe, attempt_in, counted_with, lines_with}
-pub use Rattle.activations.specs.Serving.{AreGranted, AreLowered, AreSet, Goes, IsContested, IsFree, ComesToEnd, WereRefused, asking, entry_given, entry_to_read, instruction_in, is_lowered, locked, pages_lowered, with_entries}
+pub use Rattle.activations.specs.Serving.{AreGranted, AreLowered, AreSet, Goes, IsContested, IsFree, ComesToEnd, WereRefused, asking, authority_given, authority_to_read, instruction_in, is_lowered, locked, pages_lowered, with_entries}
 pub use Rattle.activations.specs.Steps.{AreAsCommitted, AreWritten, Commits, GoesOn, HasExecuted, IsMoved, RollsBack, Strides, WereSettled, WereUndone, counted, executed, is_of, rolled, vacated, with_pool, wrote}
 pub use Rattle.activations.specs.Striding.{RunsAt, StrodeTo, with_live}
 pub use Rattle.activations.specs.Touched.{AreLetBut, AreWanted, IsApart, each_refused, is_granted, lines_between, page_if, pages_picked, pages_refused, pages_wanted, refuses_want, stores_into, wants_of, with_whole_page}

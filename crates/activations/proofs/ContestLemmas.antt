@@ -1,6 +1,5 @@
 -- A contest, round by round: each cycle that a waiting seat closes is broken.
-use Rattle.activations.proofs.Common.{◌≡◌, ℕ, ◌==◌, true, false, List, [], ◌∷◌, filter, find, map, Option, Some, None, option_map, option_map_or, ap, sym, ◌∙◌, subst, has, Lines, no_lines, shown_cycle, victim_of, lines_wanted, Request, Plain, Pool, Word, Counts, Attempt, Turning, Over, Victim, Waits, contest_ends, AreAlike, by_number, kept_conflict, kept_waits, IsOrderly, KeepsPages, contest, IsUnderWay, marked, with_cycle, alike-same, told-found, at-number, IsContesting, contesting-victim, contesting-turn, contesting-loses, contesting-consistent, contesting-ready, contesting-waits, contesting-gets, number_in, seat_of, sitter, holders, cycle_of, Activity, entry_in, entries, desk_over, locks_in, request_in, state_in, shown, IsSound, KeepsDesk, IsContested, ComesToEnd, IsFree, WereRefused, rolled, RollsBack}
-use Rattle.desk.specs.Desk.{Desk, Entry, Authority}
+use Rattle.activations.proofs.Common.{◌≡◌, ℕ, ◌==◌, true, false, List, [], ◌∷◌, filter, find, map, Option, Some, None, option_map, option_map_or, ap, sym, ◌∙◌, subst, has, Lines, no_lines, shown_cycle, victim_of, lines_wanted, Request, Plain, Pool, Word, Counts, Attempt, Turning, Over, Victim, Waits, contest_ends, AreAlike, by_number, kept_conflict, kept_waits, IsOrderly, KeepsPages, contest, IsUnderWay, marked, with_cycle, alike-same, told-found, at-number, IsContesting, contesting-victim, contesting-turn, contesting-loses, contesting-consistent, contesting-ready, contesting-waits, contesting-gets, number_in, seat_of, sitter, holders, cycle_of, Activity, entry_in, entries, desk_over, locks_in, request_in, state_in, shown, IsSound, KeepsDesk, IsContested, ComesToEnd, IsFree, WereRefused, rolled, RollsBack, Authority, Desk, Entry}
 use Rattle.activations.proofs.CommitLemmas.{told-kept}
 use Rattle.activations.proofs.WaitLemmas.{holders-told, cycle-told}
 

@@ -1,8 +1,5 @@
 -- Pages that are granted, and lines that are open.
-use Rattle.activations.proofs.Common.{length-map, ◌≡◌, refl, ℕ, zero, suc, ◌+◌, ◌*◌, ◌<◌, ◌≤◌, ◌==◌, if◌then◌else◌, Bool, true, false, List, [], ◌∷◌, filter, length, map, slice_set, range_with_len, arith, ap, sym, ◌∙◌, get_or-set_same, get_or-set_other, eqb-false, nat_tests, length-set, is_fine_page, passing, IsOfPage, has, within_page, is_whole_page, flat_lines, IsFlat, of_seat, held_at, Authority, unowned, authority_by, fine_authority_by, entry_given, entry_to_read, Activity, authority_of, authority_at, authority_under, locks_in, IsSound}
-use Rattle.lockbit_rules.specs.Entries.{Entry, entry_of, lets}
-use Rattle.lockbit_rules.specs.Entries as bits
-use Rattle.desk.specs.Desk as desk
+use Rattle.activations.proofs.Common.{length-map, ◌≡◌, refl, ℕ, zero, suc, ◌+◌, ◌*◌, ◌<◌, ◌≤◌, ◌==◌, if◌then◌else◌, Bool, true, false, List, [], ◌∷◌, filter, length, map, slice_set, range_with_len, arith, ap, sym, ◌∙◌, get_or-set_same, get_or-set_other, eqb-false, nat_tests, length-set, is_fine_page, passing, IsOfPage, has, within_page, is_whole_page, flat_lines, IsFlat, of_seat, held_at, PageEntry, unowned, authority_by, fine_authority_by, authority_given, authority_to_read, Activity, authority_at, authority_under, locks_in, IsSound, flat_authority, Authority, authority_of}
 use Rattle.activations.proofs.HoldingLemmas.{held-flat}
 use Rattle.activations.proofs.VacateLemmas.{map-range}
 
@@ -27,11 +24,7 @@ flat-within page set lines of same =
     whole : page * 16 + 0 ≡ page * 16
     whole = omega arith
 
--- an entry of a page with flat lines
-abbrev flat_entry : (page : ℕ) → Entry → desk.Authority
-flat_entry page entry = record { owner = entry.owner; write = entry.write; lines = flat_lines page entry.lines }
-
-flat-granted : (page tid : ℕ) (reads writes : List ℕ) → flat_entry page (bits.granted tid reads writes) ≡ authority_by tid (flat_lines page reads) (flat_lines page writes)
+flat-granted : (page tid : ℕ) (reads writes : List ℕ) → flat_authority page (authority_by tid reads writes) ≡ authority_by tid (flat_lines page reads) (flat_lines page writes)
 flat-granted page tid reads [] = refl
 flat-granted page tid reads (line ∷ lines) = refl
 
@@ -39,7 +32,7 @@ flat-granted page tid reads (line ∷ lines) = refl
 flat-whole : (page : ℕ) (set : List ℕ) → is_whole_page (flat_lines page set) ≡ is_whole_page set
 flat-whole page set = ap (λ (n : ℕ). n == 16) (length-map set (λ line. page * 16 + line))
 
-flat-fine : (page tid : ℕ) (storing : Bool) (reads writes : List ℕ) → flat_entry page (bits.granted_fine tid reads writes storing) ≡ fine_authority_by tid storing (flat_lines page reads) (flat_lines page writes)
+flat-fine : (page tid : ℕ) (storing : Bool) (reads writes : List ℕ) → flat_authority page (fine_authority_by tid storing reads writes) ≡ fine_authority_by tid storing (flat_lines page reads) (flat_lines page writes)
 flat-fine page tid true reads writes = refl
 flat-fine page tid false reads writes = grind (arith, flat-whole, flat-granted)
 
@@ -54,17 +47,17 @@ module _ (a : Activity) (seat page : ℕ) (sound : IsSound a) where
   writes-are = flat-within page (held_at a.seating.holding seat page).1 (locks_in a seat).writes ((sound.lines seat).writes page) (λ x below. sym (flat.writes page x below))
 
   -- What a grant makes of the entry of a page: the authority by the locks that are held in it, and whether the row stores into it.
-  pub granted-page : (storing : Bool) → flat_entry page (entry_given a seat storing page)
+  pub granted-page : (storing : Bool) → flat_authority page (authority_given a seat storing page)
       ≡ (if is_fine_page a.reach.directory page
       then fine_authority_by (seat + 1) storing (within_page page (locks_in a seat).reads) (within_page page (locks_in a seat).writes)
       else authority_by (seat + 1) (within_page page (locks_in a seat).reads) (within_page page (locks_in a seat).writes))
   granted-page storing = by_fine (is_fine_page a.reach.directory page)
     where
       by_fine : (fine : Bool)
-          → flat_entry page
+          → flat_authority page
           (if fine
-          then bits.granted_fine (seat + 1) (held_at a.seating.holding seat page).0 (held_at a.seating.holding seat page).1 storing
-          else bits.granted (seat + 1) (held_at a.seating.holding seat page).0 (held_at a.seating.holding seat page).1)
+          then fine_authority_by (seat + 1) storing (held_at a.seating.holding seat page).0 (held_at a.seating.holding seat page).1
+          else authority_by (seat + 1) (held_at a.seating.holding seat page).0 (held_at a.seating.holding seat page).1)
           ≡ (if fine
           then fine_authority_by (seat + 1) storing (within_page page (locks_in a seat).reads) (within_page page (locks_in a seat).writes)
           else authority_by (seat + 1) (within_page page (locks_in a seat).reads) (within_page page (locks_in a seat).writes))
@@ -72,7 +65,7 @@ module _ (a : Activity) (seat page : ℕ) (sound : IsSound a) where
       by_fine false = flat-granted page (seat + 1) (held_at a.seating.holding seat page).0 (held_at a.seating.holding seat page).1 ∙ (λ i. authority_by (seat + 1) (reads-are i) (writes-are i))
 
   -- and with the write bit off
-  pub lowered-page : flat_entry page (entry_to_read a seat page) ≡ record { owner = seat + 1; write = false; lines = within_page page (locks_in a seat).reads }
+  pub lowered-page : flat_authority page (authority_to_read a seat page) ≡ record { owner = seat + 1; write = false; lines = within_page page (locks_in a seat).reads }
   lowered-page = ap (λ (lines : List ℕ). record { owner = seat + 1; write = false; lines = lines }) reads-are
 
   -- all its lines are held to read where so many are
@@ -80,7 +73,7 @@ module _ (a : Activity) (seat page : ℕ) (sound : IsSound a) where
   held-whole = sym (flat-whole page (held_at a.seating.holding seat page).0) ∙ ap is_whole_page reads-are
 
 -- one of a range set
-set-range : (f g : ℕ → desk.Authority) (from n k : ℕ) (value : desk.Authority) → g (from + k) ≡ value → ((x : ℕ) → (x == from + k) ≡ false → g x ≡ f x)
+set-range : (f g : ℕ → Authority) (from n k : ℕ) (value : Authority) → g (from + k) ≡ value → ((x : ℕ) → (x == from + k) ≡ false → g x ≡ f x)
     → map g (range_with_len from n) ≡ slice_set (map f (range_with_len from n)) k value
 set-range f g from zero k value at other = refl
 set-range f g from (suc n) zero value at other =
@@ -92,12 +85,12 @@ set-range f g from (suc n) (suc k) value at other =
     ∷ set-range f g (from + 1) n k value (ap g next ∙ at) (λ x differs. other x (ap (λ (y : ℕ). x == y) (sym next) ∙ differs)) i
 
 -- one entry set is one authority set
-pub under-set : (owned : List Authority) (page : ℕ) (one : Authority) → page < length owned → authority_under (slice_set owned page one) ≡ slice_set (authority_under owned) page (authority_of page one)
+pub under-set : (owned : List PageEntry) (page : ℕ) (one : PageEntry) → page < length owned → authority_under (slice_set owned page one) ≡ slice_set (authority_under owned) page (flat_authority page (authority_of one))
 under-set owned page one within =
     ap (λ (n : ℕ). map (authority_at (slice_set owned page one)) (range_with_len 0 n)) (length-set owned page one)
-    ∙ set-range (authority_at owned) (authority_at (slice_set owned page one)) 0 (length owned) page (authority_of page one)
-    (ap (authority_at (slice_set owned page one)) whole ∙ ap (authority_of page) (get_or-set_same owned page one unowned within))
-    (λ x differs. ap (authority_of x) (get_or-set_other owned page x one unowned (eqb-false x page (sym (ap (λ (y : ℕ). x == y) whole) ∙ differs))))
+    ∙ set-range (authority_at owned) (authority_at (slice_set owned page one)) 0 (length owned) page (flat_authority page (authority_of one))
+    (ap (authority_at (slice_set owned page one)) whole ∙ ap (λ (one : PageEntry). flat_authority page (authority_of one)) (get_or-set_same owned page one unowned within))
+    (λ x differs. ap (λ (one : PageEntry). flat_authority x (authority_of one)) (get_or-set_other owned page x one unowned (eqb-false x page (sym (ap (λ (y : ℕ). x == y) whole) ∙ differs))))
   where
     whole : 0 + page ≡ page
     whole = omega arith

@@ -1,9 +1,7 @@
 -- What a seat holds once it has taken what it asked for, and what it is granted then.
-use Rattle.activations.proofs.Common.{lowered-alike, granted-alike, ◌≡◌, refl, ℕ, suc, ◌+◌, ◌*◌, ◌/◌, ◌%◌, ◌<◌, ◌==◌, ◌&&◌, ◌||◌, not, if◌then◌else◌, Bool, true, List, [], ◌∷◌, length, filter, map, slice_set, arith, ap, sym, ◌∙◌, subst, eq-eqb, or_left, or_right, length-set, list_any-append, is_fine_page, has, Lines, both, pages_of, with_whole_pages, within_page, is_whole_page, has-append, has-filter, list_any, reaches, has-whole_pages, Want, AreWithin, with_wants, flat_lines, lines_wanted, IsFlat, of_seat, flat-taken, Authority, AreAlike, owners_told, granted-told, lowered-told, alike-then, sitter, same-with, AreOfPage, Activity, authority_under, number_under, locks_in, IsSound, AreOfPages, AreSet, AreGranted, AreLowered, entry_given, entry_to_read, is_lowered, pages_lowered, locked, with_whole_page, stores_into, pages_wanted, nat_tests}
-use Rattle.desk.specs.Instruction.{Attempt, authority_by, fine_authority_by, given, with_each, granted, to_read, lowered_pages, lowered}
-use Rattle.lockbit_rules.specs.Entries.{Entry}
+use Rattle.activations.proofs.Common.{lowered-alike, granted-alike, ◌≡◌, refl, ℕ, suc, ◌+◌, ◌*◌, ◌/◌, ◌%◌, ◌<◌, ◌==◌, ◌&&◌, ◌||◌, not, if◌then◌else◌, Bool, true, List, [], ◌∷◌, length, filter, map, slice_set, arith, ap, sym, ◌∙◌, subst, eq-eqb, or_left, or_right, length-set, list_any-append, is_fine_page, has, Lines, both, pages_of, with_whole_pages, within_page, is_whole_page, has-append, has-filter, list_any, reaches, has-whole_pages, Want, AreWithin, with_wants, lines_wanted, IsFlat, of_seat, flat-taken, PageEntry, AreAlike, owners_told, granted-told, lowered-told, alike-then, sitter, same-with, AreOfPage, Activity, authority_under, number_under, locks_in, IsSound, AreOfPages, AreSet, AreGranted, AreLowered, authority_given, authority_to_read, is_lowered, pages_lowered, locked, with_whole_page, stores_into, pages_wanted, nat_tests, flat_authority, authority_by, fine_authority_by, Authority}
+use Rattle.desk.specs.Instruction.{Attempt, given, with_each, granted, to_read, lowered_pages, lowered}
 use Rattle.desk_law.proofs.EachPage.{each-alike}
-use Rattle.desk.specs.Desk as desk
 use Rattle.activations.proofs.GrantLemmas.{granted-page, lowered-page, held-whole, under-set}
 use Rattle.activations.proofs.HoldingLemmas.{held-flat}
 use Rattle.activations.proofs.RequestLemmas.{asked-alike, has-pages_wanted, whole-of-page}
@@ -39,7 +37,7 @@ whole-both fine one other = record {
 }
 
 -- what is taken is held beside what was held,
-pub taken-both : (a : Activity) (seat : ℕ) (wants : List Want) (entries : List Authority) → IsSound a → seat < 16
+pub taken-both : (a : Activity) (seat : ℕ) (wants : List Want) (entries : List PageEntry) → IsSound a → seat < 16
     → AreOfPage wants → AreWithin (length (of_seat a.seating.holding seat)) (map (with_whole_page a.reach.directory) wants)
     → AreOfPages (of_seat (locked a seat wants entries).seating.holding seat)
     → AreAlike (locks_in (locked a seat wants entries) seat) (both (locks_in a seat) (lines_wanted (map (with_whole_page a.reach.directory) wants)))
@@ -52,7 +50,7 @@ taken-both a seat wants entries sound below sets inside of =
     holds = same-with a.seating.holding seat (with_wants (of_seat a.seating.holding seat) (map (with_whole_page a.reach.directory) wants)) sound.seating.whole below
 
 -- with the whole pages that are written into
-pub taken-alike : (a : Activity) (seat : ℕ) (wants : List Want) (entries : List Authority) (within : Lines) → IsSound a → seat < 16
+pub taken-alike : (a : Activity) (seat : ℕ) (wants : List Want) (entries : List PageEntry) (within : Lines) → IsSound a → seat < 16
     → AreOfPage wants → AreWithin (length (of_seat a.seating.holding seat)) (map (with_whole_page a.reach.directory) wants)
     → AreOfPages (of_seat (locked a seat wants entries).seating.holding seat)
     → AreAlike (locks_in a seat) (with_whole_pages (is_fine_page a.reach.directory) within)
@@ -64,9 +62,9 @@ taken-alike a seat wants entries within sound below sets inside of alike =
     (both-alike (locks_in a seat) (with_whole_pages (is_fine_page a.reach.directory) within) (lines_wanted (map (with_whole_page a.reach.directory) wants)) (with_whole_pages (is_fine_page a.reach.directory) (lines_wanted wants)) alike (asked-alike a.reach.directory wants sets))
     (whole-both (is_fine_page a.reach.directory) within (lines_wanted wants)))
 
--- Entries that are set are authorities that are set, under the seat's identifier.
-set-under : (of : ℕ → Entry) (told : ℕ → desk.Authority) (pages : List ℕ) (old new : List Authority) → ((page : ℕ) → has pages page ≡ true → page < length old)
-    → ((page : ℕ) → has pages page ≡ true → record { owner = (of page).owner; write = (of page).write; lines = flat_lines page (of page).lines } ≡ told page)
+-- Where entries are set, authorities in flat lines are set, under the seat's identifier.
+set-under : (of : ℕ → Authority) (told : ℕ → Authority) (pages : List ℕ) (old new : List PageEntry) → ((page : ℕ) → has pages page ≡ true → page < length old)
+    → ((page : ℕ) → has pages page ≡ true → flat_authority page (of page) ≡ told page)
     → AreSet of pages old new → authority_under new ≡ with_each told pages (authority_under old)
 set-under of told [] old new below same is = ap authority_under is
 set-under of told (page ∷ pages) old new below same (one, entry, rest) =
@@ -75,7 +73,7 @@ set-under of told (page ∷ pages) old new below same (one, entry, rest) =
     (λ other inside. same other (or_right (page == other) (has pages other) inside)) rest
     ∙ ap (with_each told pages)
     (under-set old page one (below page here)
-    ∙ ap (slice_set (authority_under old) page) (ap (λ (e : Entry). record { owner = e.owner; write = e.write; lines = flat_lines page e.lines }) entry ∙ same page here))
+    ∙ ap (slice_set (authority_under old) page) (ap (flat_authority page) entry ∙ same page here))
   where
     here : has (page ∷ pages) page ≡ true
     here = or_left (page == page) (has pages page) (eq-eqb page page refl)
@@ -99,11 +97,11 @@ module _ (a : Activity) (seat : ℕ) (attempt : Attempt) (locks : Lines) (wants 
   stores page = stored-into wants page sets ∙ ap (λ (l : Lines). has (pages_of l.writes) page) (sym lines)
 
   -- Grants of entries are grants of the desk.
-  pub granted-all : (pages : List ℕ) (old new : List Authority) → ((page : ℕ) → has pages page ≡ true → page < length old) → AreGranted a seat wants pages old new
+  pub granted-all : (pages : List ℕ) (old new : List PageEntry) → ((page : ℕ) → has pages page ≡ true → page < length old) → AreGranted a seat wants pages old new
       → owners_told (number_under a) (authority_under new) ≡ granted (is_fine_page a.reach.directory) attempt locks pages (owners_told (number_under a) (authority_under old))
   granted-all pages old new below is =
       ap (owners_told (number_under a))
-      (set-under (λ page. entry_given a seat (stores_into wants page) page) (given (is_fine_page a.reach.directory) (record attempt { entry = record attempt.entry { number = seat + 1 } }) (locks_in a seat)) pages old new below
+      (set-under (λ page. authority_given a seat (stores_into wants page) page) (given (is_fine_page a.reach.directory) (record attempt { entry = record attempt.entry { number = seat + 1 } }) (locks_in a seat)) pages old new below
       (λ page inside.
       granted-page a seat page sound (stores_into wants page)
       ∙ ap
@@ -128,11 +126,11 @@ module _ (a : Activity) (seat : ℕ) (attempt : Attempt) (locks : Lines) (wants 
       each (want ∷ wants) = grind (arith, nat_tests, each wants)
 
   -- and so are they.
-  pub lowered-all : (old new : List Authority) → ((page : ℕ) → has (pages_lowered a seat wants) page ≡ true → page < length old) → AreLowered a seat (pages_lowered a seat wants) old new
+  pub lowered-all : (old new : List PageEntry) → ((page : ℕ) → has (pages_lowered a seat wants) page ≡ true → page < length old) → AreLowered a seat (pages_lowered a seat wants) old new
       → owners_told (number_under a) (authority_under new) ≡ lowered (is_fine_page a.reach.directory) attempt locks (owners_told (number_under a) (authority_under old))
   lowered-all old new below is =
       ap (owners_told (number_under a))
-      (set-under (entry_to_read a seat) (to_read (record attempt { entry = record attempt.entry { number = seat + 1 } }) (locks_in a seat)) (pages_lowered a seat wants) old new below
+      (set-under (authority_to_read a seat) (to_read (record attempt { entry = record attempt.entry { number = seat + 1 } }) (locks_in a seat)) (pages_lowered a seat wants) old new below
       (λ page inside. lowered-page a seat page sound) is
       ∙ each-alike (to_read (record attempt { entry = record attempt.entry { number = seat + 1 } }) (locks_in a seat)) (pages_lowered a seat wants) (lowered_pages (is_fine_page a.reach.directory) attempt (locks_in a seat)) (authority_under old) lowered-pages)
       ∙ lowered-told (number_under a) refl (is_fine_page a.reach.directory) (seat + 1) attempt (locks_in a seat) (authority_under old) number-is

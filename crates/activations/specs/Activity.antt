@@ -6,19 +6,19 @@ use Rattle.std.specs.Option.{option_map_or}
 use Rattle.line_geometry.specs.FlatStore.{FlatStore}
 use Rattle.line_geometry.specs.declared.directory.PageSize.{PageSize}
 use Rattle.line_geometry.specs.declared.directory.PageSize.TheVariants.{Two}
+use Rattle.lock_rules.specs.Access.{Authority}
 use Rattle.lock_rules.specs.Lines.{Lines, no_lines}
 use Rattle.line_locks.specs.Held.{of_page}
 use Rattle.line_locks.specs.Flat.{flat_lines, lines_wanted}
 use Rattle.line_locks.specs.Holding.{of_seat}
-use Rattle.lockbit_rules.specs.declared.Authority.{Authority}
 use Rattle.inverted_table.specs.Placed.{unowned}
-use Rattle.lockbit_rules.specs.Entries.{entry_of}
+use Rattle.lockbit_rules.specs.Entries.{authority_of}
+use Rattle.lockbit_rules.specs.declared.PageEntry.{PageEntry}
 use Rattle.frame_pool.specs.declared.model.Pool.{Pool}
 use Rattle.flat_machine.specs.declared.machine.Plain.{Plain}
 use Rattle.flat_machine.specs.declared.machine.Program.{Program}
 use Rattle.flat_machine.specs.After.{clear}
 use Rattle.desk.specs.Desk.{Desk, Entry}
-use Rattle.desk.specs.Desk as desk
 use Rattle.desk_law.specs.Beside.{owners_told}
 use Rattle.seats.specs.declared.seat.Seat.{Seat}
 use Rattle.seats.specs.Seating.{Seating, sitter}
@@ -82,18 +82,19 @@ abbrev pub number_under : Activity → ℕ → ℕ
 number_under a zero = 0
 number_under a (suc seat) = (sitter a.seating seat).number
 
--- an entry as that of a page, with the flat lines of the page, under the identifier that owns it
-abbrev pub authority_of : (page : ℕ) → Authority → desk.Authority
-authority_of page entry = record { owner = (entry_of entry).owner; write = (entry_of entry).write; lines = flat_lines page (entry_of entry).lines }
+-- an authority over lines of a page from 0 to 15, over these as flat lines
+abbrev pub flat_authority : (page : ℕ) → Authority → Authority
+flat_authority page authority = record authority { lines = flat_lines page authority.lines }
 
-abbrev pub authority_at : List Authority → (page : ℕ) → desk.Authority
-authority_at owned page = authority_of page (slice_index_or owned page unowned)
+-- what the entry of a page grants, in flat lines, under the identifier that owns it
+abbrev pub authority_at : List PageEntry → (page : ℕ) → Authority
+authority_at owned page = flat_authority page (authority_of (slice_index_or owned page unowned))
 
 -- the authority of each page, under the identifiers of seats, and under the numbers of those who sit there
-abbrev pub authority_under : List Authority → List desk.Authority
+abbrev pub authority_under : List PageEntry → List Authority
 authority_under owned = map (authority_at owned) (range_with_len 0 (length owned))
 
-abbrev pub authority_told : Activity → List desk.Authority
+abbrev pub authority_told : Activity → List Authority
 authority_told a = owners_told (number_under a) (authority_under a.reach.entries)
 
 -- the committed store

@@ -2,15 +2,15 @@
 use Rattle.std.specs.Prelude.{◌≡◌, ℕ, ◌+◌, ◌==◌, ◌&&◌, not, if◌then◌else◌, Bool, length, Some, List, [], ◌∷◌, filter, map, slice_index_or, slice_set}
 use Rattle.line_locks.specs.declared.request.Want.{Want}
 use Rattle.line_locks.specs.Holding.{held_at}
-use Rattle.lockbit_rules.specs.declared.Authority.{Authority}
-use Rattle.lockbit_rules.specs.Entries.{Entry, entry_of, granted, granted_fine}
+use Rattle.lockbit_rules.specs.Entries.{authority_of}
+use Rattle.lockbit_rules.specs.declared.PageEntry.{PageEntry}
 use Rattle.line_geometry.specs.Directory.{is_fine_page}
 use Rattle.lock_rules.specs.Lines.{is_whole_page}
+use Rattle.lock_rules.specs.Access.{nobody, Authority, authority_by, fine_authority_by}
 use Rattle.line_locks.specs.declared.request.Request.{Request}
 use Rattle.seats.specs.Seating.{took, waiting_for}
 use Rattle.activations.specs.Touched.{with_whole_page, stores_into, pages_wanted}
-use Rattle.desk.specs.Desk.{Desk, nobody}
-use Rattle.desk.specs.Desk as desk
+use Rattle.desk.specs.Desk.{Desk}
 use Rattle.desk.specs.Holdings.{conflicts_of}
 use Rattle.desk.specs.Instruction.{Word, Counts, Attempt, Turning, Over, Going, Ending, instruction, contest_ends, gets, refuses, lines_within, touched_pages}
 use Rattle.desk_law.specs.Beside.{Reads}
@@ -20,7 +20,7 @@ use Rattle.activations.specs.Follows.{IsKept, KeepsDesk}
 
 -- These are the pages of an attempt whose authority refused it once, and of those that it owned then the authority is as it was.
 pub record WereRefused (attempt : Attempt) (refused : List ℕ) (now : Desk) : Type 0 where
-  pub once : List desk.Authority
+  pub once : List Authority
   pub are : filter (λ page. refuses (slice_index_or once page nobody) attempt.entry.number (lines_within page attempt.lines)) (touched_pages attempt) ≡ refused
   pub keeps : KeepsPages attempt.entry.number once now.authority
 
@@ -49,25 +49,25 @@ pub record IsFree (begins : Word → Turning) (attempt : Attempt) (refused : Lis
 abbrev pub instruction_in : Activity → (seat : ℕ) → (committed : List ℕ) → (order : List (ℕ × ℕ)) → Counts → Word → Turning
 instruction_in a seat committed order counts word = instruction word (Some (entry_in a seat)) (desk_over a committed order) counts
 
--- Pages get entries one after another, each the one that is told of it.
-abbrev pub AreSet : (of : ℕ → Entry) → (pages : List ℕ) → (old new : List Authority) → Type 0
+-- Pages get entries one after another, each with the authority that is told of it.
+abbrev pub AreSet : (of : ℕ → Authority) → (pages : List ℕ) → (old new : List PageEntry) → Type 0
 AreSet of [] old new = new ≡ old
-AreSet of (page ∷ pages) old new = (one : Authority) × (entry_of one ≡ of page) × AreSet of pages (slice_set old page one) new
+AreSet of (page ∷ pages) old new = (one : PageEntry) × (authority_of one ≡ of page) × AreSet of pages (slice_set old page one) new
 
--- the entry that a page gets by what a seat holds in it, where its row stores into it or doesn't
-abbrev pub entry_given : Activity → (seat : ℕ) → (storing : Bool) → (page : ℕ) → Entry
-entry_given a seat storing page =
+-- the authority that a page gets by what a seat holds in it, where its row stores into it or doesn't
+abbrev pub authority_given : Activity → (seat : ℕ) → (storing : Bool) → (page : ℕ) → Authority
+authority_given a seat storing page =
     if is_fine_page a.reach.directory page
-    then granted_fine (seat + 1) (held_at a.seating.holding seat page).0 (held_at a.seating.holding seat page).1 storing
-    else granted (seat + 1) (held_at a.seating.holding seat page).0 (held_at a.seating.holding seat page).1
+    then fine_authority_by (seat + 1) storing (held_at a.seating.holding seat page).0 (held_at a.seating.holding seat page).1
+    else authority_by (seat + 1) (held_at a.seating.holding seat page).0 (held_at a.seating.holding seat page).1
 
 -- Pages are granted one after another to a seat, whose row wants these lines.
-abbrev pub AreGranted : Activity → (seat : ℕ) → (wants : List Want) → (pages : List ℕ) → (old new : List Authority) → Type 0
-AreGranted a seat wants pages old new = AreSet (λ page. entry_given a seat (stores_into wants page) page) pages old new
+abbrev pub AreGranted : Activity → (seat : ℕ) → (wants : List Want) → (pages : List ℕ) → (old new : List PageEntry) → Type 0
+AreGranted a seat wants pages old new = AreSet (λ page. authority_given a seat (stores_into wants page) page) pages old new
 
--- the entry of a page with its write bit off
-abbrev pub entry_to_read : Activity → (seat page : ℕ) → Entry
-entry_to_read a seat page = granted (seat + 1) (held_at a.seating.holding seat page).0 []
+-- the authority of a page with its write bit off
+abbrev pub authority_to_read : Activity → (seat page : ℕ) → Authority
+authority_to_read a seat page = authority_by (seat + 1) (held_at a.seating.holding seat page).0 []
 
 -- whether the write bit of a page that a row stored into goes off: it is fine, and a seat holds not all its lines to read
 abbrev pub is_lowered : Activity → (seat page : ℕ) → Bool
@@ -78,15 +78,15 @@ abbrev pub pages_lowered : Activity → (seat : ℕ) → List Want → List ℕ
 pages_lowered a seat wants = pages_wanted (filter (λ want. not (length want.writes == 0) && is_lowered a seat want.page) wants)
 
 -- The write bits of pages go off one after another, as a row of who sits in a seat took effect.
-abbrev pub AreLowered : Activity → (seat : ℕ) → (pages : List ℕ) → (old new : List Authority) → Type 0
-AreLowered a seat pages old new = AreSet (entry_to_read a seat) pages old new
+abbrev pub AreLowered : Activity → (seat : ℕ) → (pages : List ℕ) → (old new : List PageEntry) → Type 0
+AreLowered a seat pages old new = AreSet (authority_to_read a seat) pages old new
 
 -- the entries of the pages are others
-abbrev pub with_entries : Activity → (entries : List Authority) → Activity
+abbrev pub with_entries : Activity → (entries : List PageEntry) → Activity
 with_entries a entries = record a { reach = record a.reach { entries = entries } }
 
 -- a seat holds what it asked for, and its refused pages are granted
-abbrev pub locked : Activity → (seat : ℕ) → List Want → (entries : List Authority) → Activity
+abbrev pub locked : Activity → (seat : ℕ) → List Want → (entries : List PageEntry) → Activity
 locked a seat wants entries = record a { seating = took a.seating seat (map (with_whole_page a.reach.directory) wants); reach = record a.reach { entries = entries } }
 
 -- a row that was served takes effect

@@ -10,9 +10,9 @@ use Rattle.frame_pool.specs.declared.model.Pool.{Pool}
 use Rattle.flat_machine.specs.declared.machine.Plain.{Plain}
 use Rattle.desk_law.specs.Beside.{IsLaid}
 use Rattle.desk_law.specs.Changes.{committed_at}
-use Rattle.desk_law.specs.Consistent.{due_to}
 use Rattle.desk.specs.Desk.{rolled_back}
 use Rattle.desk.specs.Instruction.{Word, Counts, Going, instruction}
+use Rattle.desk.specs.Holdings.{due_to}
 use Rattle.seats.specs.Seating.{went_on, left}
 use Rattle.storage_unit.specs.Served.{ended, released}
 use Rattle.storage_unit.specs.Rows.{GoesOpen, LeavesSeats, plain_over}

@@ -10,7 +10,7 @@ use super::activations::Activations;
 use super::touch::Touch;
 use line_geometry::LineSet;
 use line_locks::{Request, Want};
-use lockbit_rules::Authority;
+use lockbit_rules::PageEntry;
 
 impl Activations {
     ghost use Rattle.activations.specs.Follows.{IsSound};
@@ -86,11 +86,11 @@ impl Activations {
     {
         let (reads, writes) = self.seats.locks().held(seat, want.page);
         let entry = if self.directory.is_fine(want.page) {
-            Authority::grant_fine(seat + 1, reads, writes, !want.writes.is_empty())
+            PageEntry::grant_fine(seat + 1, reads, writes, !want.writes.is_empty())
         } else {
-            Authority::grant(seat + 1, reads, writes)
+            PageEntry::grant(seat + 1, reads, writes)
         };
-        self.unit.set_authority(want.page, entry);
+        self.unit.set_entry(want.page, entry);
     }
 
     /// The write bits of the fine pages that a touch wrote into go off, but for those of which a seat holds all lines.
@@ -132,9 +132,9 @@ impl Activations {
         if reads.count() == 16 {
             return;
         }
-        self.unit.set_authority(
+        self.unit.set_entry(
             want.page,
-            Authority::grant(seat + 1, reads, LineSet::none()),
+            PageEntry::grant(seat + 1, reads, LineSet::none()),
         );
     }
 }
