@@ -1,10 +1,11 @@
 -- A row that goes on, and whose access was served: it goes on still, and its lines are open.
-use Rattle.activations.proofs.Common.{◌≡◌, refl, ℕ, ◌+◌, ◌-◌, ◌*◌, ◌%◌, ◌<◌, ◌==◌, ◌&&◌, ◌||◌, not, Bool, true, false, List, [], ◌∷◌, All, length, replicate, list_any, map, slice_index_or, slice_set, arith, ap, sym, ◌∙◌, subst, inl, inr, eqb-true, eqb-false, eq-eqb, and_parts, or_cases, or_left, or_parts, or_right, nat_tests, get_or-set_other, get_or-set_same, length-replicate, length-set, All-cons, All-head, All-nil, All-tail, cases_Bool, Layout, byte_count, has, both, page_of_line, has_left, has_right, Want, AreWithin, lines_wanted, held_at, of_seat, of_page-below, AreAlike, AreOfPage, IsFlat, IsOfPage, PageEntry, unowned, authority_of, lets, Plain, Program, Outcome, On, Commit, Check, row, touched, Reach, IsOpen, IsOpenLine, bytes_over, private_bytes, lines_of_access, Access, Activity, live_in, locks_in, program_in, Pool, IsMoved, with_pool, taken-below, long-seat, plain_in, IsShut, TookEffect, WasAttempted, WillTouch, CameTo, IsSound, AreGranted, AreSet, authority_given, locked, AreWanted, IsApart, AreLetBut, pages_refused, pages_wanted, refuses_want, stores_into, with_whole_page, refuses, Authority, authority_by}
+use Rattle.activations.proofs.Common.{◌≡◌, refl, ℕ, ◌+◌, ◌-◌, ◌*◌, ◌%◌, ◌<◌, ◌==◌, ◌&&◌, ◌||◌, not, Bool, true, false, List, [], ◌∷◌, All, length, replicate, list_any, map, slice_index_or, slice_set, arith, ap, sym, ◌∙◌, subst, inl, inr, eqb-true, eqb-false, eq-eqb, and_parts, or_cases, or_left, or_parts, or_right, nat_tests, get_or-set_other, get_or-set_same, length-replicate, length-set, All-cons, All-head, All-nil, All-tail, cases_Bool, Layout, byte_count, has, both, page_of_line, has_left, has_right, Want, AreWithin, lines_wanted, held_at, of_seat, of_page-below, AreAlike, AreOfPage, IsFlat, IsOfPage, PageEntry, unowned, authority_of, lets, Plain, Program, Outcome, On, Commit, Check, row, touched, Reach, IsOpen, IsOpenLine, bytes_over, private_bytes, lines_of_access, Access, Activity, live_in, locks_in, program_in, Pool, IsMoved, with_pool, taken-below, long-seat, plain_in, IsShut, TookEffect, WasAttempted, WillTouch, CameTo, IsSound, AreGranted, AreSet, authority_given, locked, AreWanted, IsApart, AreLetBut, pages_refused, pages_wanted, refuses_want, stores_into, with_whole_page, refuses, Authority}
 use Rattle.flat_machine.specs.Agreement.{SameWay}
 use Rattle.flat_machine.specs.Plans.{Plan, Does, Fails}
 use Rattle.flat_machine.specs.Row.{plan_at}
 use Rattle.flat_machine.specs.Touched.{touched_by}
 use Rattle.flat_machine.proofs.SameWay.{on, row-way}
+use Rattle.desk_law.proofs.Granted.{lets-loads, lets-stores}
 use Rattle.desk_law.proofs.Permitted.{any-none}
 use Rattle.romp_cpu.specs.declared.cpu.Attempt.{Attempt}
 use Rattle.activations.specs.Causes.{IsCheckCode}
@@ -138,21 +139,12 @@ let-but owned tid pages (want ∷ wants) among =
 pub let-refused : (owned : List PageEntry) (tid : ℕ) (wants : List Want) → AreLetBut owned tid (pages_refused owned tid wants) wants
 let-refused owned tid wants = let-but owned tid (pages_refused owned tid wants) wants (λ page inside. inside)
 
--- An entry by locks lets its identifier load what is locked to read, and store to what is locked to write.
-granted-loads : (tid : ℕ) (reads writes : List ℕ) (line : ℕ) → has reads line ≡ true → lets (authority_by tid reads writes) tid line false ≡ true
-granted-loads tid reads [] line inside = grind (arith, nat_tests, inside)
-granted-loads tid reads (x ∷ writes) line inside = grind (arith, nat_tests)
-
-granted-stores : (tid : ℕ) (reads writes : List ℕ) (line : ℕ) → has writes line ≡ true → lets (authority_by tid reads writes) tid line true ≡ true
-granted-stores tid reads [] line inside = absurd (cc (inside))
-granted-stores tid reads (x ∷ writes) line inside = grind (arith, nat_tests, inside)
-
 module _ (a : Activity) (seat page : ℕ) (storing : Bool) where
   given-loads : (line : ℕ) → has (held_at a.seating.holding seat page).0 line ≡ true → lets (authority_given a seat storing page) (seat + 1) line false ≡ true
-  given-loads line inside = let granted = λ (writes : List ℕ). granted-loads (seat + 1) (held_at a.seating.holding seat page).0 writes line inside in grind (arith, nat_tests, granted)
+  given-loads line inside = let granted = λ (writes : List ℕ). lets-loads (seat + 1) (held_at a.seating.holding seat page).0 writes line inside in grind (arith, nat_tests, granted)
 
   given-stores : (line : ℕ) → storing ≡ true → has (held_at a.seating.holding seat page).1 line ≡ true → lets (authority_given a seat storing page) (seat + 1) line true ≡ true
-  given-stores line is inside = let granted = granted-stores (seat + 1) (held_at a.seating.holding seat page).0 (held_at a.seating.holding seat page).1 line inside in grind (arith, nat_tests, granted, is, inside)
+  given-stores line is inside = let granted = lets-stores (seat + 1) (held_at a.seating.holding seat page).0 (held_at a.seating.holding seat page).1 line inside in grind (arith, nat_tests, granted, is, inside)
 
 -- Entries that are set are those that are told of these pages, and the others are as they were.
 set-there : (of : ℕ → Authority) (pages : List ℕ) (old new : List PageEntry) (page : ℕ) → ((at : ℕ) → has pages at ≡ true → at < length old) → AreSet of pages old new

@@ -2,9 +2,6 @@
 use Rattle.desk_law.proofs.Common.{◌≡◌, refl, ℕ, ◌<◌, ◌==◌, not, if◌then◌else◌, Bool, true, false, List, [], ◌∷◌, length, filter, slice_index_or, list_any, ap, ◌∙◌, inl, inr, eq-eqb, both_ways, and_from, or_parts, cases_Bool, not-false, false_from_ne_true, has, permits, Lines, within_page, page_of_line, pages_of, any-at, has-filter, has_left, has_right, has-within_page, pages_of-line, all_of, Authority, nobody, Attempt, authority_by, fine_authority_by, given, granted, refuses, lines_within, touched_pages, lets, ArePermitted, KeepsPages, nat_tests, arith}
 use Rattle.desk_law.proofs.EachPage.{each-is, each-not}
 
-read-here : (same bit : Bool) → same ≡ true → bit ≡ true → permits same false bit false ≡ true
-read-here same bit h1 h2 = grind (arith, nat_tests)
-
 read-there : (same bit : Bool) → same ≡ true → permits same true bit false ≡ true
 read-there same bit h1 = grind (arith, nat_tests)
 
@@ -14,9 +11,18 @@ write-here same bit h1 h2 = grind (arith, nat_tests)
 inside-page : (lines : List ℕ) (line : ℕ) → has lines line ≡ true → has (within_page (page_of_line line) lines) line ≡ true
 inside-page lines line inside = has-within_page (page_of_line line) lines line ∙ and_from (page_of_line line == page_of_line line) (has lines line) (eq-eqb (page_of_line line) (page_of_line line) refl) inside
 
+-- The authority by locks lets its number load what is locked to read, and store to what is locked to write.
+pub lets-loads : (number : ℕ) (reads writes : List ℕ) (line : ℕ) → has reads line ≡ true → lets (authority_by number reads writes) number line false ≡ true
+lets-loads number reads [] line inside = grind (arith, nat_tests, inside)
+lets-loads number reads (x ∷ writes) line inside = grind (arith, nat_tests)
+
+pub lets-stores : (number : ℕ) (reads writes : List ℕ) (line : ℕ) → has writes line ≡ true → lets (authority_by number reads writes) number line true ≡ true
+lets-stores number reads [] line inside = absurd (cc (inside))
+lets-stores number reads (x ∷ writes) line inside = grind (arith, nat_tests, inside)
+
 by-reads : (attempt : Attempt) (locks : Lines) (line : ℕ) (writes : List ℕ) → has locks.reads line ≡ true
     → lets (authority_by attempt.entry.number (within_page (page_of_line line) locks.reads) writes) attempt.entry.number line false ≡ true
-by-reads attempt locks line writes inside = grind (arith, nat_tests, read-here, eq-eqb, inside-page, read-there)
+by-reads attempt locks line writes inside = lets-loads attempt.entry.number (within_page (page_of_line line) locks.reads) writes line (inside-page locks.reads line inside)
 
 given-reads : (fine : ℕ → Bool) (attempt : Attempt) (locks : Lines) (line : ℕ) → has locks.reads line ≡ true → lets (given fine attempt locks (page_of_line line)) attempt.entry.number line false ≡ true
 given-reads fine attempt locks line inside = grind (arith, nat_tests, read-there, by-reads)
@@ -25,10 +31,6 @@ given-writes : (fine : ℕ → Bool) (attempt : Attempt) (locks : Lines) (line :
     → lets (given fine attempt locks (page_of_line line)) attempt.entry.number line true ≡ true
 given-writes fine attempt locks line writes inside = by_fine (fine (page_of_line line)) (has (pages_of attempt.lines.writes) (page_of_line line)) (pages_of-line attempt.lines.writes line writes)
   where
-    by_writes : (writes : List ℕ) → has writes line ≡ true → lets (authority_by attempt.entry.number (within_page (page_of_line line) locks.reads) writes) attempt.entry.number line true ≡ true
-    by_writes [] there = absurd (cc)
-    by_writes (one ∷ more) there = write-here (attempt.entry.number == attempt.entry.number) (has (one ∷ more) line) (eq-eqb attempt.entry.number attempt.entry.number refl) there
-
     by_fine : (is_fine storing : Bool) → storing ≡ true
         → lets
         (if is_fine
@@ -38,7 +40,7 @@ given-writes fine attempt locks line writes inside = by_fine (fine (page_of_line
         ≡ true
     by_fine true true e = write-here (attempt.entry.number == attempt.entry.number) (has (within_page (page_of_line line) locks.writes) line) (eq-eqb attempt.entry.number attempt.entry.number refl) (inside-page locks.writes line inside)
     by_fine true false e = absurd (cc)
-    by_fine false storing e = by_writes (within_page (page_of_line line) locks.writes) (inside-page locks.writes line inside)
+    by_fine false storing e = lets-stores attempt.entry.number (within_page (page_of_line line) locks.reads) (within_page (page_of_line line) locks.writes) line (inside-page locks.writes line inside)
 
 owns : (same write bit store : Bool) → permits same write bit store ≡ true → same ≡ true
 owns same write bit store h1 = grind (arith, nat_tests)
