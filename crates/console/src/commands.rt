@@ -35,7 +35,7 @@ pub fn console<S: Source, W: Outside>(
     ensures read { ReadsJob words.now → ReadsBy (given S.Source job.old job.new) result.status }
     ensures unread { (ReadsJob words.now ⊎ ReadsBundle words.now ⊎ ReadsStore words.now ⊎ ReadsText words.now → ⊥) → job.new ≡ job.old }
     ensures unfailed { result.status ≡ Status.Done → (S.faults job.new ≡ S.faults job.old) × (W.put_faults outside.new ≡ W.put_faults outside.old) }
-    ensures opened { RunsJob words.now → OpensBy W.Outside outside.old outside.new result.status }
+    ensures opened { RunsJob words.now → OpensBy W.Outside outside.old outside.new result.status result.session }
     ensures put { result.status ≡ Status.PutFault → Rose (W.put_faults outside.old) (W.put_faults outside.new) }
     ensures disk { result.status ≡ Status.DiskFault → Rose (W.disk_faults outside.old) (W.disk_faults outside.new) }
     ensures did { (form : Command) → IsForm form words.now → Does W.Outside form (given S.Source job.old job.new) outside.old outside.new result }

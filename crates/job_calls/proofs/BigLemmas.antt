@@ -1,5 +1,5 @@
 -- A load on the store that a disk stands for.
-use Rattle.job_calls.proofs.Common.{◌≡◌, ℕ, ◌≤◌, ⊎_elim, true, false, List, [], ◌∷◌, ◌++◌, length, refl, sym, ◌∙◌, ap, subst, arith, append-nil, append_assoc, Option, Ghosts, Failed, AreTold, Prints, IsSure, Elapses, CallsDisk, FewerLater, OnlyAsks, held_of, elapses-trans, FlatStore, Program, Activation, Event, begun, is_commit, commit_lines, serial_lines, IsSerial, Desk, Word, Line, printed, spaced, event_lines, run, faulted, Header, total, IsSessionOpened, activity, order_of, Session, ghosts, IsLasting, RunsQuietly, Tells, is_rollback, is_shut, out_after, InDoubt, PrintedNow, to_later, Job, Status, HasBigRun, IsToldBy, Loaded, LoadedBy, RanBig, big_line, last_out, line_for, Call, call, OpensBy, RunsFrom, IsStanding, TellsStore, StillTold, codes, decimal, All, Bool, Some, Result, Ok, Err, IsSome, IsTrue, count_by, HoldsStore, FailsOnlyCounted}
+use Rattle.job_calls.proofs.Common.{◌≡◌, ℕ, ◌≤◌, ⊎_elim, true, false, List, [], ◌∷◌, ◌++◌, length, refl, sym, ◌∙◌, ap, subst, arith, append-nil, append_assoc, Option, Ghosts, Failed, AreTold, Prints, IsSure, Elapses, CallsDisk, FewerLater, OnlyAsks, held_of, elapses-trans, FlatStore, Program, Activation, Event, begun, is_commit, commit_lines, serial_lines, IsSerial, Desk, Word, Line, printed, spaced, event_lines, run, faulted, Header, total, IsSessionOpened, activity, order_of, Session, ghosts, IsLasting, RunsQuietly, Tells, is_rollback, is_shut, out_after, InDoubt, PrintedNow, to_later, Job, Status, HasBigRun, IsToldBy, Loaded, LoadedBy, RanBig, big_line, last_out, line_for, Call, call, RunsFrom, IsStanding, TellsStore, StillTold, codes, decimal, All, Bool, Some, Result, Ok, Err, IsSome, IsTrue, count_by, HoldsStore, FailsOnlyCounted}
 use Rattle.std.specs.List.{fold}
 use Rattle.std.specs.Option.{ForSome}
 use Rattle.hex.specs.Hex.{encode_lower}
@@ -12,6 +12,7 @@ use Rattle.call_status.specs.Printed.{put_of, PrintsBy}
 use Rattle.desk.specs.Lines as line
 use Rattle.schedule_replay.specs.declared.quietly.Quiet.TheVariants as quiet
 use Rattle.call_status.specs.declared.status.Status.TheVariants as status
+use Rattle.job_calls.proofs.CauseLemmas.{opens_past}
 use Rattle.job_calls.proofs.RunLemmas.{RanFrom, Facts, first_desk, has-opened, given, wanted, these, runs-from, told-since}
 
 -- only the commit lines tell what was printed last
@@ -117,14 +118,6 @@ put_calm G before after status.Done past un cause = cause.done
 put_calm G before after status.PutFault past un cause = absurd (un refl)
 put_calm G before after _ past un cause = absurd past
 
--- a status behind the opening is no store's fault
-opens_past : {W : Type 0} (G : Ghosts W) (before after : W) (now : Status) → ((offset : ℕ) → now ≡ Status.Store offset → ⊥) → (WentThrough now → IsSome (G.held before) → IsStanding (held_of G before)) → OpensBy G before after now
-opens_past G before after now other stood = record {
-  no_store = λ offset same told. absurd (other offset same);
-  store = stood;
-  never = λ honest told standing offset same. other offset same;
-}
-
 loaded_past : {W : Type 0} (G : Ghosts W) (transfers : ℕ) (c : Call W) (session : Option Session) (now : Status) → WentThrough now → RanBig G transfers c session → PutsTimes G 1 c.before c.after (put_of now) → LoadedBy G transfers c session now
 loaded_past G transfers c session status.Done past ran times = (ran, times)
 loaded_past G transfers c session status.PutFault past ran times = ran
@@ -153,7 +146,7 @@ module _ {W : Type 0} (G : Ghosts W) (fewer_later : FewerLater G) (printed_now :
         time = elapses-trans G fewer_later before start after asks.calls.time later;
         told = λ told. subst (λ (those : Option (List ℕ)). IsSome those) (sym puts.only.held) (still (told-since G before start asks told));
         put = λ un. put_calm G between after now past un puts.only.cause ∙ calls.put ∙ asks.calls.put;
-        opens = opens_past G before after now (λ offset is. subst WentThrough is past) (λ opened told. stood told);
+        opens = opens_past G before after now (Some new) (λ offset is. subst WentThrough is past) (λ opened told. stood told);
         by_status = loaded_past G transfers (call before after (order_of new) now) (Some new) now past
             (record {
               job = job;
@@ -185,7 +178,7 @@ module _ {W : Type 0} (G : Ghosts W) (fewer_later : FewerLater G) (printed_now :
         time = elapses-trans G fewer_later before start between asks.calls.time calls.time;
         told = λ told. still (told-since G before start asks told);
         put = λ un. calls.put ∙ asks.calls.put;
-        opens = opens_past G before between Status.DiskFault (λ offset is. cc) (λ opened told. stood told);
+        opens = opens_past G before between Status.DiskFault (Some new) (λ offset is. cc) (λ opened told. stood told);
         by_status = (
           record {
             job = job;

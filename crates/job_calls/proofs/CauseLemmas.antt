@@ -1,25 +1,36 @@
 -- The statuses of a run on a disk, by how it was opened and how it ended.
-use Rattle.job_calls.proofs.Common.{◌≡◌, ℕ, inr, refl, ◌∙◌, ap, false, IsSome, IsTrue, Ghosts, Rose, held_of, Header, chosen, HasStood, Session, ghosts, Replayed, EndsBy, Status, status_of_replay, OpensBy}
+use Rattle.job_calls.proofs.Common.{◌≡◌, ℕ, refl, ◌∙◌, ap, false, Option, Some, IsSome, IsTrue, Ghosts, Rose, held_of, Header, chosen, HasStood, Session, ghosts, Replayed, EndsBy, Status, status_of_replay, OpensBy, IsStanding}
 use Rattle.store_format.specs.Bank.{Faulty, bank_of}
+use Rattle.call_status.specs.Statuses.{WentThrough}
 use Rattle.schedule_replay.specs.declared.events.Replayed.TheVariants as replayed
 
 same-offset : (one two : ℕ) → Status.Store one ≡ Status.Store two → one ≡ two
 same-offset one two is = cc
 
+-- a status that is no store's fault
+pub opens_past : {W : Type 0} (G : Ghosts W) (before after : W) (now : Status) (session : Option Session) → ((offset : ℕ) → now ≡ Status.Store offset → ⊥) → (WentThrough now → IsSome (G.held before) → IsStanding (held_of G before)) → OpensBy G before after now session
+opens_past G before after now session other stood = record {
+  at_opening = λ none offset same told. absurd (other offset same);
+  at_crash = λ some offset same told still. absurd (other offset same);
+  store = stood;
+  never = λ honest told standing offset same. other offset same;
+}
+
 -- a store that was opened, and what was replayed on it
 pub opens-by : {W : Type 0} (G : Ghosts W) (before start now : W) (desk new : Session) (result : Replayed) → (IsSome (G.held before) → HasStood desk.store.header (held_of G before))
-    → EndsBy ghosts G desk new start now result → ((offset : ℕ) → result ≡ Replayed.Damaged offset → IsTrue (G.is_honest before) → IsSome (G.held before) → ⊥) → OpensBy G before now (status_of_replay result)
-opens-by G before start now desk new replayed.Ended stood ends undamaged = record { no_store = λ offset same told. absurd cc; store = λ past told. (stood told).1; never = λ honest told standing offset same. absurd cc }
-opens-by G before start now desk new replayed.Closed stood ends undamaged = record { no_store = λ offset same told. absurd cc; store = λ past. absurd past; never = λ honest told standing offset same. absurd cc }
+    → EndsBy ghosts G desk new start now result → ((offset : ℕ) → result ≡ Replayed.Damaged offset → IsTrue (G.is_honest before) → IsSome (G.held before) → ⊥) → OpensBy G before now (status_of_replay result) (Some new)
+opens-by G before start now desk new replayed.Ended stood ends undamaged = opens_past G before now Status.Done (Some new) (λ offset same. cc) (λ past told. (stood told).1)
+opens-by G before start now desk new replayed.Closed stood ends undamaged = opens_past G before now Status.DiskFault (Some new) (λ offset same. cc) (λ past. absurd past)
 opens-by G before start now desk new (replayed.Damaged at) stood ends undamaged = record {
-  no_store = λ offset same told. inr (λ still.
+  at_opening = λ none. absurd cc;
+  at_crash = λ some offset same told still.
       ap (λ (header : Header). bank_of (held_of G now) header (chosen (held_of G now))) (stood told).0
       ∙ ends.1 still
-      ∙ ap Faulty (same-offset at offset same));
+      ∙ ap Faulty (same-offset at offset same);
   store = λ past. absurd past;
   never = λ honest told standing offset same. undamaged at refl honest told;
 }
-opens-by G before start now desk new replayed.PutFault stood ends undamaged = record { no_store = λ offset same told. absurd cc; store = λ past told. (stood told).1; never = λ honest told standing offset same. absurd cc }
+opens-by G before start now desk new replayed.PutFault stood ends undamaged = opens_past G before now Status.PutFault (Some new) (λ offset same. cc) (λ past told. (stood told).1)
 
 -- puts that all went well
 pub put-same : {W : Type 0} (G : Ghosts W) (start now : W) (desk new : Session) (result : Replayed) → EndsBy ghosts G desk new start now result → (status_of_replay result ≡ Status.PutFault → ⊥) → G.put_faults now ≡ G.put_faults start

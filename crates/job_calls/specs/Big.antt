@@ -77,5 +77,5 @@ pub record Loaded {W : Type 0} (G : Ghosts W) (transfers : ℕ) (call : Call W) 
   pub time : Elapses G.moment G.left_since call.before call.after
   pub told : StillTold G call.before call.after
   pub put : call.status ≢ Status.PutFault → G.put_faults call.after ≡ G.put_faults call.before
-  pub opens : OpensBy G call.before call.after call.status
+  pub opens : OpensBy G call.before call.after call.status session
   pub by_status : LoadedBy G transfers call session call.status

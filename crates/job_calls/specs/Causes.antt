@@ -1,7 +1,8 @@
 -- How a call that runs events ends, and what the bytes of its disk tell of that.
-use Rattle.std.specs.Prelude.{◌≡◌, ◌≢◌, ◌⊎◌, ℕ, IsSome, IsTrue}
+use Rattle.std.specs.Prelude.{◌≡◌, ◌≢◌, ℕ, Option, None, IsSome, IsTrue}
 use Rattle.outside.specs.declared.world.Outside.{Ghosts}
 use Rattle.outside.specs.Runs.{held_of}
+use Rattle.supervisor.specs.declared.session.Session.{Session}
 use Rattle.schedule_replay.specs.declared.events.Replayed.{Replayed}
 use Rattle.schedule_replay.specs.declared.events.Replayed.TheVariants as replayed
 use Rattle.call_status.specs.declared.status.Status.{Status}
@@ -16,11 +17,12 @@ status_of_replay replayed.Closed = Status.DiskFault
 status_of_replay (replayed.Damaged offset) = Status.Store offset
 status_of_replay replayed.PutFault = Status.PutFault
 
--- What the bytes of a disk tell of the status with which a job ran on it: no store, where the bytes of the start have that fault, or where those of
--- now do, if they are told, under the header of the start, as a crash event finds it; a store, where they stand. An honest disk whose bytes stand is
--- never told otherwise.
-pub record OpensBy {W : Type 0} (G : Ghosts W) (before now : W) (status : Status) : Type 0 where
-  pub no_store : (offset : ℕ) → status ≡ Status.Store offset → IsSome (G.held before) → IsFaultAt (held_of G before) offset ⊎ (IsSome (G.held now) → IsFaultSince (held_of G before) (held_of G now) offset)
+-- What the bytes of a disk tell of the status with which a job ran on it, and of the session, where one was opened. No store without one: the bytes of
+-- the start have that fault, so the opening found it. No store with one: those of now do, if they are told, under the header of the start, so a crash
+-- event found it. Events that ran to their end: the bytes of the start stand for a store. An honest disk whose bytes stand is never told otherwise.
+pub record OpensBy {W : Type 0} (G : Ghosts W) (before now : W) (status : Status) (session : Option Session) : Type 0 where
+  pub at_opening : session ≡ None → (offset : ℕ) → status ≡ Status.Store offset → IsSome (G.held before) → IsFaultAt (held_of G before) offset
+  pub at_crash : IsSome session → (offset : ℕ) → status ≡ Status.Store offset → IsSome (G.held before) → IsSome (G.held now) → IsFaultSince (held_of G before) (held_of G now) offset
   pub store : WentThrough status → IsSome (G.held before) → IsStanding (held_of G before)
   pub never : IsTrue (G.is_honest before) → IsSome (G.held before) → IsStanding (held_of G before) → (offset : ℕ) → status ≢ Status.Store offset
 

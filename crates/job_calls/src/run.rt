@@ -22,7 +22,7 @@ use supervisor::Session;
 /// Runs the job of a source on the disk's store, and puts its report, a line at a time.
 pub fn run_source<S: Source, W: Outside>(alloc: Global, source: &mut S, outside: &mut W) -> Ended
     ensures read { ReadsBy (given S.Source source.old source.new) result.status }
-    ensures opened { OpensBy W.Outside outside.old outside.new result.status }
+    ensures opened { OpensBy W.Outside outside.old outside.new result.status result.session }
     ensures unfailed { result.status ≡ Status.Done → (S.faults source.new ≡ S.faults source.old) × (W.put_faults outside.new ≡ W.put_faults outside.old) }
     ensures put { result.status ≡ Status.PutFault → Rose (W.put_faults outside.old) (W.put_faults outside.new) }
     ensures disk { result.status ≡ Status.DiskFault → Rose (W.disk_faults outside.old) (W.disk_faults outside.new) }
@@ -40,7 +40,7 @@ pub fn run_source<S: Source, W: Outside>(alloc: Global, source: &mut S, outside:
 /// The store is opened, and the events of the job run. All memory is taken before the first of them.
 pub fn try_job<W: Outside>(alloc: Global, job: Job, outside: &mut W) -> Ended
     requires { IsReady job }
-    ensures opened { OpensBy W.Outside outside.old outside.new result.status }
+    ensures opened { OpensBy W.Outside outside.old outside.new result.status result.session }
     ensures unfailed { result.status ≡ Status.Done → W.put_faults outside.new ≡ W.put_faults outside.old }
     ensures put { result.status ≡ Status.PutFault → Rose (W.put_faults outside.old) (W.put_faults outside.new) }
     ensures disk { result.status ≡ Status.DiskFault → Rose (W.disk_faults outside.old) (W.disk_faults outside.new) }
@@ -69,7 +69,7 @@ fn run_job<W: Outside>(
     requires begins { begins ≡ begins_in job.events.items }
     requires none { order.items ≡ [] }
     requires room { begins ≤ vec_capacity order }
-    ensures opened { OpensBy W.Outside outside.old outside.new result.status }
+    ensures opened { OpensBy W.Outside outside.old outside.new result.status result.session }
     ensures unfailed { result.status ≡ Status.Done → W.put_faults outside.new ≡ W.put_faults outside.old }
     ensures put { result.status ≡ Status.PutFault → Rose (W.put_faults outside.old) (W.put_faults outside.new) }
     ensures disk { result.status ≡ Status.DiskFault → Rose (W.disk_faults outside.old) (W.disk_faults outside.new) }

@@ -56,7 +56,7 @@ returns-clause-opened g c =
     let start = c.open.new.outside in
     let after = c.replay-replayed.new.outside in
     let result = c.replay-replayed.result in
-    subst (λ (now : Status). OpensBy G before after now) (sym c.status_of_replay.ensures)
+    subst (λ (now : Status). OpensBy G before after now (Some c.replay-replayed.new.desk)) (sym c.status_of_replay.ensures)
     (opens-by G before start after c.in-Ok.session c.replay-replayed.new.desk result c.in-Ok.ensures.told c.replay-replayed.ensures.ends
     (λ offset is honest told.
     let opens = c.in-Ok.ensures.opened honest told in
