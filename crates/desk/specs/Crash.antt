@@ -7,6 +7,7 @@ use Rattle.outside.specs.Runs.{Leaves, held_of}
 use Rattle.flat_machine.specs.declared.machine.Program.{Program}
 use Rattle.store_format.specs.Stands.{Standing, Stands, stands}
 use Rattle.desk.specs.declared.event.Event.{Event}
+use Rattle.desk.specs.Calls.{Fixed}
 use Rattle.desk.specs.Desk.{Desk}
 use Rattle.desk.specs.Instruction.{Word, Fine, Doubt}
 use Rattle.desk.specs.Kept.{JournalAfter, journal_in}
@@ -27,17 +28,38 @@ IsEitherOf programs number event old new image =
     (stands image ≡ standing_of number old)
     ⊎ ((fine_step programs event old).order ≡ new.order) × (stands image ≡ standing_of number (fine_step programs event old))
 
--- An event was a step of the desk with a word, which isn't fine only where the disk's faults rose. While the desk is open, its bytes are
--- sure and shown, and their journal is what what happened makes of the one before. A crash in it leaves what stood before it or after
--- it; where a commit in doubt closed the desk there is one place with whose byte the commit stands.
-pub record Did {W : Type 0} (G : Ghosts W) (programs : List Program) (number : ℕ) (event : Event) (told : Happening) (closed : Bool) (order : List (ℕ × ℕ)) (shows : List ℕ → Desk → Type 0) (desk : Desk) (before after : W) : Type 0 where
+-- an event of a desk that has these programs and opened with this number, and what is told that happened at it
+pub record ToldEvent : Type 0 where
+  pub programs : List Program
+  pub number : ℕ
+  pub event : Event
+  pub told : Happening
+
+-- an event of a desk whose opening set this
+abbrev pub told_event : Fixed → Event → Happening → ToldEvent
+told_event fixed event told = record { programs = fixed.programs; number = fixed.opened; event = event; told = told }
+
+-- what is seen of a supervisor: whether it is closed, its commits in order, and which desk it is over which bytes
+pub record View : Type 1 where
+  pub closed : Bool
+  pub order : List (ℕ × ℕ)
+  pub shows : List ℕ → Desk → Type 0
+
+-- these three as one
+abbrev pub view : Bool → List (ℕ × ℕ) → (List ℕ → Desk → Type 0) → View
+view closed order shows = record { closed = closed; order = order; shows = shows }
+
+-- A supervisor took an event, which was a step of the desk with a word, which isn't fine only where the disk's faults rose. It is seen since as that
+-- step left the desk. While the desk is open, its bytes are sure and shown, and their journal is what what happened makes of the one before. A crash
+-- in the event leaves what stood before it or after it; where a commit in doubt closed the desk there is one place with whose byte the commit stands.
+pub record TookEvent {W : Type 0} (G : Ghosts W) (this : ToldEvent) (seen : View) (desk : Desk) (before after : W) : Type 0 where
   pub word : Word
   pub next : Desk
-  pub stepped : step programs event word desk ≡ record { desk = next; happening = told }
+  pub stepped : step this.programs this.event word desk ≡ record { desk = next; happening = this.told }
   pub why : (word ≡ Fine) ⊎ Rose (G.disk_faults before) (G.disk_faults after)
-  pub closes : closed ≡ next.closed
-  pub ordered : order ≡ next.order
-  pub still : next.closed ≡ false → IsSure G after × shows (held_of G after) next
-  pub journal : next.closed ≡ false → JournalAfter told (journal_in (held_of G before)) (journal_in (held_of G after))
-  pub crash : Leaves G (λ image seen. IsEitherOf programs number event desk next image) before after
-  pub doubt : word ≡ Doubt → next.closed ≡ true → ((fine_step programs event desk).order ≡ next.order) × ((gate : ℕ) × Leaves G (λ image seen. stands (slice_set image gate 165) ≡ standing_of number (fine_step programs event desk)) after after)
+  pub closes : seen.closed ≡ next.closed
+  pub ordered : seen.order ≡ next.order
+  pub still : next.closed ≡ false → IsSure G after × seen.shows (held_of G after) next
+  pub journal : next.closed ≡ false → JournalAfter this.told (journal_in (held_of G before)) (journal_in (held_of G after))
+  pub crash : Leaves G (λ image seen. IsEitherOf this.programs this.number this.event desk next image) before after
+  pub doubt : word ≡ Doubt → next.closed ≡ true → ((fine_step this.programs this.event desk).order ≡ next.order) × ((gate : ℕ) × Leaves G (λ image seen. stands (slice_set image gate 165) ≡ standing_of this.number (fine_step this.programs this.event desk)) after after)

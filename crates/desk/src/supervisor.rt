@@ -9,7 +9,7 @@ ghost use Rattle.desk.specs.Instruction.{Fine};
 ghost use Rattle.desk.specs.Run.{step};
 ghost use Rattle.desk.specs.Report.{number_after};
 ghost use Rattle.desk.specs.Answers.{begun_told, turn_told, stored_told, reopened_told, turn_closes, stored_closes, reopened_closes, EntersOrder, HasNumbers, KeepsPrinted, StoredNumber, IsReopened};
-ghost use Rattle.desk.specs.Crash.{Did, standing_of};
+ghost use Rattle.desk.specs.Crash.{TookEvent, standing_of, told_event, view};
 ghost use Rattle.desk.specs.Calls.{CallsStore, FailsCounted, Fixed, StaysShut, reopened_fails, stored_fails};
 ghost use Rattle.desk.specs.Kept.{HoldsStore, IsDamage, WritesMore, writes_due, turn_fails};
 
@@ -65,7 +65,7 @@ pub trait Supervisor {
         requires limit { limit ≤ 1000000 }
         requires turns { turns self.old < 2 ^ 32 }
         requires bytes { HoldsStore W.Outside (fixed self.old).header outside.old }
-        ensures did { (desk : Desk) → IsSure W.Outside outside.old → shows self.old (held_of W.Outside outside.old) desk → (did : Did W.Outside (fixed self.old).programs (fixed self.old).opened (event.Turn activation limit) (turn_told activation result (printed self.new)) (closed self.new) (order self.new) (shows self.new) desk outside.old outside.new) × HasNumbers result.end activation (number_after (fixed self.old).opened did.next) }
+        ensures did { (desk : Desk) → IsSure W.Outside outside.old → shows self.old (held_of W.Outside outside.old) desk → (did : TookEvent W.Outside (told_event (fixed self.old) (event.Turn activation limit) (turn_told activation result (printed self.new))) (view (closed self.new) (order self.new) (shows self.new)) desk outside.old outside.new) × HasNumbers result.end activation (number_after (fixed self.old).opened did.next) }
         ensures writes { WritesMore (W.writes outside.old) (W.writes outside.new) (writes_due result.end) }
         ensures shut { StaysShut (closed self.old) (result.end ≡ TurnEnd.Shut) ((self.new ≡ self.old) × (outside.new ≡ outside.old)) }
         ensures closed { closed self.new ≡ turn_closes result.end }
@@ -82,7 +82,7 @@ pub trait Supervisor {
     fn checkpoint<W: Outside>(&mut self, outside: &mut W) -> Stored
         requires sound { sound self.old }
         requires bytes { HoldsStore W.Outside (fixed self.old).header outside.old }
-        ensures did { (desk : Desk) → IsSure W.Outside outside.old → shows self.old (held_of W.Outside outside.old) desk → (did : Did W.Outside (fixed self.old).programs (fixed self.old).opened event.Checkpoint (stored_told result) (closed self.new) (order self.new) (shows self.new) desk outside.old outside.new) × StoredNumber result (number_after (fixed self.old).opened did.next) }
+        ensures did { (desk : Desk) → IsSure W.Outside outside.old → shows self.old (held_of W.Outside outside.old) desk → (did : TookEvent W.Outside (told_event (fixed self.old) event.Checkpoint (stored_told result)) (view (closed self.new) (order self.new) (shows self.new)) desk outside.old outside.new) × StoredNumber result (number_after (fixed self.old).opened did.next) }
         ensures writes { WritesMore (W.writes outside.old) (W.writes outside.new) 0 }
         ensures shut { StaysShut (closed self.old) (result ≡ Stored.Shut) ((self.new ≡ self.old) × (outside.new ≡ outside.old)) }
         ensures closed { closed self.new ≡ stored_closes result }
@@ -99,7 +99,7 @@ pub trait Supervisor {
     fn forget<W: Outside>(&mut self, outside: &mut W) -> Reopened
         requires sound { sound self.old }
         requires bytes { HoldsStore W.Outside (fixed self.old).header outside.old }
-        ensures did { (desk : Desk) → IsSure W.Outside outside.old → shows self.old (held_of W.Outside outside.old) desk → (did : Did W.Outside (fixed self.old).programs (fixed self.old).opened event.Crash (reopened_told (numbers desk) result) (closed self.new) (order self.new) (shows self.new) desk outside.old outside.new) × IsReopened result (number_after (fixed self.old).opened did.next) }
+        ensures did { (desk : Desk) → IsSure W.Outside outside.old → shows self.old (held_of W.Outside outside.old) desk → (did : TookEvent W.Outside (told_event (fixed self.old) event.Crash (reopened_told (numbers desk) result)) (view (closed self.new) (order self.new) (shows self.new)) desk outside.old outside.new) × IsReopened result (number_after (fixed self.old).opened did.next) }
         ensures shut { StaysShut (closed self.old) (result ≡ Reopened.Shut) ((self.new ≡ self.old) × (outside.new ≡ outside.old)) }
         ensures closed { closed self.new ≡ reopened_closes result }
         ensures failed { FailsCounted (reopened_fails result) (W.disk_faults outside.old) (W.disk_faults outside.new) }

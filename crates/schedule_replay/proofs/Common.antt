@@ -9,7 +9,7 @@ pub use Rattle.std.specs.Prelude.{All, Bool, Err, IfOk, IfSome, IsErr, None, Ok,
 pub use Rattle.desk.specs.Answers.{HasNumbers, IsReopened, StoredNumber, begun_told, counts_told, ending_told, reopened_closes, reopened_told, stored_closes, stored_told, turn_closes, turn_told}
 pub use Rattle.desk.specs.Calls.{CallsStore, FailsCounted, Fixed, StaysShut, reopened_fails, stored_fails}
 pub use Rattle.desk.specs.Commits.{is_commit}
-pub use Rattle.desk.specs.Crash.{Did, IsEitherOf, standing_of}
+pub use Rattle.desk.specs.Crash.{IsEitherOf, TookEvent, standing_of}
 pub use Rattle.desk.specs.Desk.{Desk}
 pub use Rattle.desk.specs.Holdings.{numbers}
 pub use Rattle.desk.specs.Instruction.{Counts, Doubt, Ending, Fine, Word}
@@ -52,7 +52,7 @@ pub use Rattle.schedule_replay.specs.Answered.{Answered, GoesBy, GoesShut, IsRea
 pub use Rattle.schedule_replay.specs.Asked.{IsAsked, begins_in, is_begin, is_turn, turns_in}
 pub use Rattle.schedule_replay.specs.Puts.{BeginsWith, Puts, PutsTimes, number_told, reopened_number, shown_of, stored_number, unended_told}
 pub use Rattle.schedule_replay.specs.Quiet.{RanQuietly, Tells, WentQuietly, is_rollback, last_by, out_after, tally_begun, tally_by, tally_stored, unput}
-pub use Rattle.schedule_replay.specs.Ran.{HasOpened, InDoubt, PrintsEarlier, Ran, WasStep, text_of}
+pub use Rattle.schedule_replay.specs.Ran.{HasOpened, InDoubt, PrintsEarlier, Ran, WasStep, text_of, view_of}
 pub use Rattle.schedule_replay.specs.RanTo.{RanTo}
 pub use Rattle.schedule_replay.specs.Replays.{RanSome, Reports, WentBy, going_begun, going_by, going_if, is_closed, is_damaged}
 pub use Rattle.schedule_replay.specs.declared.events.Going.{Going}

@@ -1,5 +1,5 @@
 -- What one event keeps, how it goes on, and the numbers in its lines.
-use Rattle.schedule_replay.proofs.Common.{◌≡◌, ℕ, ◌+◌, ◌*◌, ◌≤◌, List, [], ◌∷◌, sym, ap, ◌∙◌, subst, arith, true, false, Bool, Option, Result, Ok, IfOk, Failed, Ghosts, IsSure, OnlyAsks, FewerLater, held_of, leaves_held, Program, stands, Event, Begun, Turn, TurnEnd, Stored, Reopened, begun_told, turn_told, stored_told, reopened_told, turn_closes, turn_fails, stored_closes, stored_fails, reopened_closes, reopened_fails, HasNumbers, StoredNumber, IsReopened, Did, standing_of, Desk, numbers, Fine, CallsStore, FailsCounted, Fixed, StaysShut, HoldsStore, IsDamage, WritesMore, writes_due, Line, happening_lines, number_after, step, AreNames, Answered, GoesBy, Going, begins_in, turns_in, Puts, number_told, stored_number, reopened_number, WasStep, WentBy, going_if, going_begun, going_by, is_closed, is_damaged, nat_tests, result_and}
+use Rattle.schedule_replay.proofs.Common.{◌≡◌, ℕ, ◌+◌, ◌*◌, ◌≤◌, List, [], ◌∷◌, sym, ap, ◌∙◌, subst, arith, true, false, Bool, Option, Result, Ok, IfOk, Failed, Ghosts, IsSure, OnlyAsks, FewerLater, held_of, leaves_held, Program, stands, Event, Begun, Turn, TurnEnd, Stored, Reopened, begun_told, turn_told, stored_told, reopened_told, turn_closes, turn_fails, stored_closes, stored_fails, reopened_closes, reopened_fails, HasNumbers, StoredNumber, IsReopened, TookEvent, standing_of, Desk, numbers, Fine, CallsStore, FailsCounted, Fixed, StaysShut, HoldsStore, IsDamage, WritesMore, writes_due, Line, happening_lines, number_after, step, AreNames, Answered, GoesBy, Going, begins_in, turns_in, Puts, number_told, stored_number, reopened_number, WasStep, WentBy, view_of, going_if, going_begun, going_by, is_closed, is_damaged, nat_tests, result_and}
 use Rattle.desk.specs.declared.event.Event.TheVariants as event
 use Rattle.desk.specs.declared.answers.Begun.TheVariants as begun
 use Rattle.desk.specs.declared.answers.TurnEnd.TheVariants as end
@@ -84,7 +84,7 @@ module _ {D W : Type 0} (S : desk.Ghosts D) (G : Ghosts W) where
 
     module _ (number : ℕ) (start : Desk) (new : D) (before after : W) where
       pub turn_step : (activation limit : ℕ) (answer : Turn) (printed : List ℕ)
-          → (did : Did G programs number (event.Turn activation limit) (turn_told activation answer printed) (S.closed new) (S.order new) (S.shows new) start before after) × HasNumbers answer.end activation (number_after number did.next)
+          → (did : TookEvent G (record { programs = programs; number = number; event = event.Turn activation limit; told = turn_told activation answer printed }) (view_of S new) start before after) × HasNumbers answer.end activation (number_after number did.next)
           → WritesMore (G.writes before) (G.writes after) (writes_due answer.end) → FailsCounted (turn_fails answer.end) (G.disk_faults before) (G.disk_faults after)
           → WasStep S G names programs number (event.Turn activation limit) (happening_lines names (number_told answer.end) (turn_told activation answer printed)) start new before after
       turn_step activation limit answer printed (did, has) writes failed = record {
@@ -96,7 +96,7 @@ module _ {D W : Type 0} (S : desk.Ghosts D) (G : Ghosts W) where
       }
 
       pub checkpoint_step : (answer : Stored)
-          → (did : Did G programs number event.Checkpoint (stored_told answer) (S.closed new) (S.order new) (S.shows new) start before after) × StoredNumber answer (number_after number did.next)
+          → (did : TookEvent G (record { programs = programs; number = number; event = event.Checkpoint; told = stored_told answer }) (view_of S new) start before after) × StoredNumber answer (number_after number did.next)
           → WritesMore (G.writes before) (G.writes after) 0 → FailsCounted (stored_fails answer) (G.disk_faults before) (G.disk_faults after)
           → WasStep S G names programs number event.Checkpoint (happening_lines names (stored_number answer) (stored_told answer)) start new before after
       checkpoint_step answer (did, has) writes failed = record {
@@ -108,7 +108,7 @@ module _ {D W : Type 0} (S : desk.Ghosts D) (G : Ghosts W) where
       }
 
       pub crash_step : (lost : List ℕ) (answer : Reopened) → lost ≡ numbers start
-          → (did : Did G programs number event.Crash (reopened_told (numbers start) answer) (S.closed new) (S.order new) (S.shows new) start before after) × IsReopened answer (number_after number did.next)
+          → (did : TookEvent G (record { programs = programs; number = number; event = event.Crash; told = reopened_told (numbers start) answer }) (view_of S new) start before after) × IsReopened answer (number_after number did.next)
           → OnlyAsks G before after → FailsCounted (reopened_fails answer) (G.disk_faults before) (G.disk_faults after)
           → WasStep S G names programs number event.Crash (happening_lines names (reopened_number answer) (reopened_told lost answer)) start new before after
       crash_step lost answer are (did, has) asks failed = record {

@@ -1,5 +1,5 @@
 -- One event of a run, and its lines.
-use Rattle.schedule_replay.proofs.Common.{◌≡◌, ℕ, zero, suc, ◌+◌, ◌≤◌, List, [], ◌∷◌, ◌++◌, length, map, take, refl, sym, ap, ◌∙◌, subst, arith, length-append, ⊎_elim, append-nil, inr, IsSome, true, false, not, Bool, Option, unwrap_or, Result, All, flat_map, Failed, Ghosts, Prints, IsSure, CallsDisk, Leaves, FewerLater, held_of, elapses-trans, leaves_on, told_is, Program, stands, Event, Did, IsEitherOf, standing_of, Desk, Word, Doubt, Step, step, faulted, Line, line_text, number_after, happening_lines, event_lines, commits_seen, IsUnbroken, IsLeft, IsStage, seen_cut, seen_all, commits_in, AreNames, Stepped, step_by, run_plain, left_quiet, left_open, stage_either, Puts, PutsTimes, shown_of, Ran, InDoubt, WasStep, text_of, RanTo, nat_tests}
+use Rattle.schedule_replay.proofs.Common.{◌≡◌, ℕ, zero, suc, ◌+◌, ◌≤◌, List, [], ◌∷◌, ◌++◌, length, map, take, refl, sym, ap, ◌∙◌, subst, arith, length-append, ⊎_elim, append-nil, inr, IsSome, true, false, not, Bool, Option, unwrap_or, Result, All, flat_map, Failed, Ghosts, Prints, IsSure, CallsDisk, Leaves, FewerLater, held_of, elapses-trans, leaves_on, told_is, Program, stands, Event, TookEvent, IsEitherOf, standing_of, Desk, Word, Doubt, Step, step, faulted, Line, line_text, number_after, happening_lines, event_lines, commits_seen, IsUnbroken, IsLeft, IsStage, seen_cut, seen_all, commits_in, AreNames, Stepped, step_by, run_plain, left_quiet, left_open, stage_either, Puts, PutsTimes, shown_of, Ran, InDoubt, WasStep, text_of, view_of, RanTo, nat_tests}
 use Rattle.desk.specs.declared.supervisor.Supervisor as desk
 use Rattle.schedule_replay.proofs.PutsLemmas.{PrintedNow, puts_same, begins_none}
 use Rattle.schedule_replay.proofs.RanToLemmas.{to_did, to_later}
@@ -54,7 +54,7 @@ module _ {D W : Type 0} (S : desk.Ghosts D) (G : Ghosts W) (fewer_later : FewerL
 
   module _ (stands_law : (s : D) (held : List ℕ) (desk : Desk) → S.shows s held desk → stands held ≡ standing_of (S.fixed s).opened desk) (names : List (List ℕ)) (are : AreNames names) (programs : List Program) (number : ℕ) where
     module _ {T : Type 0} (event : Event) (lines : List Line) (start : Desk) (new : D) (before between after : W) (result : Result T Failed) (was_open : start.closed ≡ false) (opened : (S.fixed new).opened ≡ number) (calls : CallsDisk G before between) (was : WasStep S G names programs number event lines start new before between) (puts : Puts G lines between after result) where
-      abbrev did : Did G programs number event was.told (S.closed new) (S.order new) (S.shows new) start before between
+      abbrev did : TookEvent G (record { programs = programs; number = number; event = event; told = was.told }) (view_of S new) start before between
       did = was.did
 
       abbrev word : Word

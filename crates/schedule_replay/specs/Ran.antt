@@ -12,7 +12,7 @@ use Rattle.store_format.specs.Stands.{stands}
 use Rattle.desk.specs.declared.event.Event.{Event}
 use Rattle.desk.specs.declared.supervisor.Supervisor as desk
 use Rattle.desk.specs.Commits.{is_commit}
-use Rattle.desk.specs.Crash.{Did, standing_of, fine_step}
+use Rattle.desk.specs.Crash.{TookEvent, View, standing_of, fine_step, view}
 use Rattle.desk.specs.Desk.{Desk}
 use Rattle.desk.specs.Instruction.{Word, Doubt}
 use Rattle.desk.specs.Kept.{WritesMore, tells_fault}
@@ -22,6 +22,10 @@ use Rattle.desk.specs.Report.{number_after, event_lines, happening_lines}
 use Rattle.run_law.specs.Left.{IsLeft, IsStage}
 use Rattle.schedule_replay.specs.Puts.{BeginsWith, PutsTimes, shown_of}
 use Rattle.schedule_replay.specs.RanTo.{RanTo}
+
+-- what is seen of a supervisor
+abbrev pub view_of : {D : Type 0} → desk.Ghosts D → D → View
+view_of S desk = view (S.closed desk) (S.order desk) (S.shows desk)
 
 -- the bytes that are told are sure, and over them the supervisor is this desk, which was opened with the number that it tells
 pub record HasOpened {D W : Type 0} (S : desk.Ghosts D) (G : Ghosts W) (desk : D) (outside : W) (start : Desk) : Type 0 where
@@ -52,7 +56,7 @@ text_of names programs number taken start = flat_map line_text (event_lines name
 -- the disk's count of faults stays where no line tells of one.
 pub record WasStep {D W : Type 0} (S : desk.Ghosts D) (G : Ghosts W) (names : List (List ℕ)) (programs : List Program) (number : ℕ) (event : Event) (lines : List Line) (start : Desk) (new : D) (before after : W) : Type 0 where
   pub told : Happening
-  pub did : Did G programs number event told (S.closed new) (S.order new) (S.shows new) start before after
+  pub did : TookEvent G (record { programs = programs; number = number; event = event; told = told }) (view_of S new) start before after
   pub lines_are : lines ≡ happening_lines names (number_after number did.next) told
   pub writes : WritesMore (G.writes before) (G.writes after) (2 * count_by is_commit lines)
   pub calm : count_by tells_fault lines ≡ 0 → G.disk_faults after ≡ G.disk_faults before

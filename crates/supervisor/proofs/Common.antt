@@ -19,7 +19,7 @@ pub use Rattle.activations.specs.declared.live.Live.{Live}
 pub use Rattle.activations.specs.declared.tally.Tally.{Tally}
 pub use Rattle.desk.specs.Answers.{EntersOrder, HasNumbers, begun_told, counts_told, ending_told, order_told, turn_closes, turn_told}
 pub use Rattle.desk.specs.Calls.{CallsStore, FailsCounted, Fixed, StaysShut}
-pub use Rattle.desk.specs.Crash.{Did, IsEitherOf, fine_step, standing_of}
+pub use Rattle.desk.specs.Crash.{IsEitherOf, TookEvent, fine_step, standing_of, told_event}
 pub use Rattle.desk.specs.Desk.{Desk, Entry, opened, with_entry}
 pub use Rattle.desk.specs.Holdings.{conflicts_of, numbers, waits_for, wanted}
 pub use Rattle.desk.specs.Instruction.{Attempt, Broken, Contest, Contested, Counts, Doubt, Failed, Fetched, Fetching, Fine, Going, Limit, Lost, Over, ReadFailed, Settled, Turning, Unwritten, Word, asks, attempts, attempts_at, breaks_cycle, breaks_cycles, commits, contest_ends, fetched_first, fetches_touched, gets, goes_on, is_over_limit, limited, no_counts, ordered, refused_pages, takes_effect, turn, turn_of, waits_or_gets, with_grants}
@@ -62,8 +62,8 @@ pub use Rattle.store_format.specs.Stands.{Standing, Stands, chosen, laid, one_mo
 unfoldable pub use Rattle.store_format.specs.Stands.{stands}
 pub use Rattle.supervisor.specs.Causes.{ClosesAsCommit, ClosesInCommit, HasPlace, IsFailedCommit, IsFull, IsTurnEnd, KeepsStore, TellsNumber, answer_of, lacking}
 pub use Rattle.supervisor.specs.Laws.{CyclesWereMet, ShownIsConsistent, ShownIsIsolated, WasMet, WereMet}
-pub use Rattle.supervisor.specs.Session.{IsSound, activity, session_desk, order_of}
-pub use Rattle.supervisor.specs.Shown.{IsOpenOver, ShowsDesk}
+pub use Rattle.supervisor.specs.Session.{IsSound, activity, fixed_of, session_desk, order_of}
+pub use Rattle.supervisor.specs.Shown.{IsOpenOver, ShowsDesk, view_of}
 pub use Rattle.supervisor.specs.Went.{HasCommitted, TurnHasRun, IsCommitEnd, IsEitherSide, IsTurned, fine_desk}
 pub use Rattle.supervisor.specs.declared.session.Session.{Session}
 pub use Rattle.checkpoint.specs.Committed.{HoldsCommitted, emptied, roomy}

@@ -1,6 +1,6 @@
 -- What a crash of a session did.
 use Rattle.std.proofs.Common.{arith}
-use Rattle.supervisor.proofs.Common.{◌≡◌, inl, inr, ℕ, List, [], refl, sym, ◌∙◌, ap, Option, true, unwrap_or, Ghosts, Rose, IsSure, OnlyAsks, held_of, Header, Faulty, bank_of, Stands, stands, chosen, KeptStore, number_of, TracksStore, shown_stands, shown_store, journal_in, Did, standing_of, Desk, numbers, Fine, Failed, number_after, Step, Crashed, CrashFailed, shut, restarted, stepped, Activations, IsRestarted, activity_of, Session, IsSound, activity, session_desk, order_of, IsOpenOver, ShowsDesk}
+use Rattle.supervisor.proofs.Common.{◌≡◌, inl, inr, ℕ, List, [], refl, sym, ◌∙◌, ap, Option, true, unwrap_or, Ghosts, Rose, IsSure, OnlyAsks, held_of, Header, Faulty, bank_of, Stands, stands, chosen, KeptStore, number_of, TracksStore, shown_stands, shown_store, journal_in, TookEvent, told_event, fixed_of, view_of, standing_of, Desk, numbers, Fine, Failed, number_after, Step, Crashed, CrashFailed, shut, restarted, stepped, Activations, IsRestarted, activity_of, Session, IsSound, activity, session_desk, order_of, IsOpenOver}
 use Rattle.outside.proofs.Durable.{leaves_held}
 use Rattle.desk.specs.declared.event.Event.TheVariants as event
 use Rattle.supervisor.proofs.DidLemmas.{stood-over, fine-sure, failed-sure, open-shut}
@@ -42,7 +42,7 @@ module _ {W : Type 0} (G : Ghosts W) (s : Session) (store : KeptStore) (header :
     pub number-restarted : number_of store ≡ number_after s.opened (session_desk forgotten over.committed)
     number-restarted = number-same ∙ over.number
 
-    abbrev pub did-crash : Did G (activity s).programs s.opened event.Crash (Crashed (numbers (session_desk s over.committed))) s.closed (order_of s) (λ held desk. ShowsDesk forgotten held desk) (session_desk s over.committed) before after
+    abbrev pub did-crash : TookEvent G (told_event (fixed_of s) event.Crash (Crashed (numbers (session_desk s over.committed)))) (view_of forgotten) (session_desk s over.committed) before after
     did-crash = record {
       word = Fine;
       next = session_desk forgotten over.committed;
@@ -59,7 +59,7 @@ module _ {W : Type 0} (G : Ghosts W) (s : Session) (store : KeptStore) (header :
     }
 
   abbrev pub did-fail-crash : Rose (G.disk_faults before) (G.disk_faults after)
-      → Did G (activity s).programs s.opened event.Crash (CrashFailed (numbers (session_desk s over.committed))) true (order_of s) (λ held desk. ShowsDesk (record forgotten { closed = true }) held desk) (session_desk s over.committed) before after
+      → TookEvent G (told_event (fixed_of s) event.Crash (CrashFailed (numbers (session_desk s over.committed)))) (view_of (record forgotten { closed = true })) (session_desk s over.committed) before after
   did-fail-crash rose = record {
     word = Failed;
     next = shut (restarted (session_desk s over.committed));

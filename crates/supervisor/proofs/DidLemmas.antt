@@ -1,5 +1,5 @@
 -- What the turns and the checkpoints of a session did.
-use Rattle.supervisor.proofs.Common.{◌≡◌, inl, inr, ℕ, List, refl, sym, ◌∙◌, ap, subst, arith, true, false, Ghosts, Rose, IsSure, Leaves, held_of, Header, Stands, stands, KeptStore, number_of, Shows, TurnEnd, counts_told, ending_told, turn_told, Did, IsEitherOf, standing_of, Desk, Fine, Failed, Doubt, Counts, JournalAfter, journal_in, Happening, Step, Turned, CheckpointMade, CheckpointFailed, turned, shut, stepped, Tally, tally_counts, Session, IsSound, activity, session_desk, order_of, IsOpenOver, ShowsDesk, TurnHasRun, IsTurned, Turn}
+use Rattle.supervisor.proofs.Common.{◌≡◌, inl, inr, ℕ, List, refl, sym, ◌∙◌, ap, subst, arith, true, false, Ghosts, Rose, IsSure, Leaves, held_of, Header, Stands, stands, KeptStore, number_of, Shows, TurnEnd, counts_told, ending_told, turn_told, TookEvent, told_event, fixed_of, view_of, IsEitherOf, standing_of, Desk, Fine, Failed, Doubt, Counts, JournalAfter, journal_in, Happening, Step, Turned, CheckpointMade, CheckpointFailed, turned, shut, stepped, Tally, tally_counts, Session, IsSound, activity, session_desk, IsOpenOver, TurnHasRun, IsTurned, Turn}
 use Rattle.supervisor.proofs.JournalLemmas.{checkpoint-empties}
 use Rattle.desk.specs.declared.event.Event.TheVariants as event
 
@@ -25,7 +25,7 @@ told-by ends activation answer printed is = grind arith
 -- a turn of an open session
 module _ {W : Type 0} (G : Ghosts W) (s new : Session) (activation limit : ℕ) (result : TurnEnd) (tally : Tally) (answer : Turn) (before after : W) (over : IsOpenOver s (held_of G before)) where
   abbrev pub did-turn : IsSound new → IsTurned result → counts_told answer ≡ tally_counts tally → answer.end ≡ result → TurnHasRun G activation limit result s new tally before after over.committed
-      → Did G (activity s).programs s.opened (event.Turn activation limit) (turn_told activation answer new.printed) new.closed (order_of new) (λ held desk. ShowsDesk new held desk) (session_desk s over.committed) before after
+      → TookEvent G (told_event (fixed_of s) (event.Turn activation limit) (turn_told activation answer new.printed)) (view_of new) (session_desk s over.committed) before after
   did-turn sound is counts ends ran =
       let told : Turned activation (tally_counts tally) (ending_told result new.printed) ≡ turn_told activation answer new.printed =
       ap (λ (counted : Counts). Turned activation counted (ending_told result new.printed)) (sym counts)
@@ -64,7 +64,7 @@ module _ {W : Type 0} (G : Ghosts W) (s : Session) (store : KeptStore) (sound : 
   either image seen next left = inl (crash image seen left ∙ stood-over s (held_of G before) sound over)
 
   abbrev pub did-checkpoint : store.header ≡ s.store.header → number_of store ≡ number_of s.store → IsSure G after → Shows (held_of G after) store → stands (held_of G after) ≡ stands (held_of G before) → store.bank.count ≡ 0
-      → Did G (activity s).programs s.opened event.Checkpoint CheckpointMade s.closed (order_of s) (λ held desk. ShowsDesk (record s { store = store }) held desk) (session_desk s over.committed) before after
+      → TookEvent G (told_event (fixed_of s) event.Checkpoint CheckpointMade) (view_of (record s { store = store })) (session_desk s over.committed) before after
   did-checkpoint header number sure shows stood none = record {
     word = Fine;
     next = session_desk s over.committed;
@@ -79,7 +79,7 @@ module _ {W : Type 0} (G : Ghosts W) (s : Session) (store : KeptStore) (sound : 
   }
 
   abbrev pub did-fail-checkpoint : Rose (G.disk_faults before) (G.disk_faults after)
-      → Did G (activity s).programs s.opened event.Checkpoint CheckpointFailed true (order_of s) (λ held desk. ShowsDesk (record s { store = store; closed = true }) held desk) (session_desk s over.committed) before after
+      → TookEvent G (told_event (fixed_of s) event.Checkpoint CheckpointFailed) (view_of (record s { store = store; closed = true })) (session_desk s over.committed) before after
   did-fail-checkpoint rose = record {
     word = Failed;
     next = shut (session_desk s over.committed);

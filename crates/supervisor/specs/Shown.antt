@@ -3,11 +3,12 @@ use Rattle.std.specs.Prelude.{◌≡◌, ℕ, List, false}
 use Rattle.store_format.specs.Stands.{Stands, stands}
 use Rattle.restart.specs.Kept.{number_of}
 use Rattle.restart.specs.Shows.{Shows}
+use Rattle.desk.specs.Crash.{View}
 use Rattle.desk.specs.Desk.{Desk}
 use Rattle.desk.specs.Report.{number_after}
 use Rattle.activations.specs.Follows.{KeepsDesk}
 use Rattle.supervisor.specs.declared.session.Session.{Session}
-use Rattle.supervisor.specs.Session.{activity, session_desk}
+use Rattle.supervisor.specs.Session.{activity, order_of, session_desk}
 
 -- It is open, and the bytes are its store's: they stand for its number and some bytes, and what runs in it follows the desk
 -- over these.
@@ -24,3 +25,7 @@ pub record ShowsDesk (s : Session) (held : List ℕ) (desk : Desk) : Type 0 wher
   pub over : IsOpenOver s held
   pub directory : s.store.header.directory ≡ (activity s).reach.directory
   pub is : desk ≡ session_desk s over.committed
+
+-- what is seen of it, as of a supervisor
+abbrev pub view_of : Session → View
+view_of s = record { closed = s.closed; order = order_of s; shows = ShowsDesk s }

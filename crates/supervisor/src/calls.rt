@@ -9,7 +9,7 @@ ghost use Rattle.desk.specs.Instruction.{Fine, no_counts};
 ghost use Rattle.desk.specs.Run.{step};
 ghost use Rattle.desk.specs.Report.{number_after};
 ghost use Rattle.desk.specs.Answers.{begun_told, turn_told, stored_told, reopened_told, counts_told, turn_closes, stored_closes, reopened_closes, EntersOrder, HasNumbers, KeepsPrinted, StoredNumber, IsReopened};
-ghost use Rattle.desk.specs.Crash.{Did};
+ghost use Rattle.desk.specs.Crash.{TookEvent, told_event};
 ghost use Rattle.desk.specs.Calls.{CallsStore, FailsCounted, StaysShut, reopened_fails, stored_fails};
 ghost use Rattle.desk.specs.Kept.{HoldsStore, IsDamage, WritesMore, writes_due, turn_fails};
 ghost use Rattle.supervisor.specs.Causes.{answer_of};
@@ -36,7 +36,7 @@ fn told(tally: Tally, end: TurnEnd) -> Turn
 
 impl Session {
     ghost use Rattle.supervisor.specs.Session.{IsSound, activity, order_of, records_told, is_closed, fixed_of, turns_of, printed_of, number_told, store_told};
-    ghost use Rattle.supervisor.specs.Shown.{ShowsDesk};
+    ghost use Rattle.supervisor.specs.Shown.{ShowsDesk, view_of};
     ghost use Rattle.supervisor.specs.Causes.{IsFull, HasPlace, lacking, IsTurnEnd, ReopenedNumber, ClosesAsCommit, KeepsStore};
     ghost use Rattle.store_format.specs.Header.{most_lines};
     ghost use Rattle.seats.specs.Seating.{seat_of, numbers as numbers_seated};
@@ -71,7 +71,7 @@ impl Session {
         requires limit { limit ≤ 1000000 }
         requires turns { turns_of self.old < 2 ^ 32 }
         requires bytes { HoldsStore W.Outside (fixed_of self.old).header outside.old }
-        ensures did { (desk : Desk) → IsSure W.Outside outside.old → ShowsDesk self.old (held_of W.Outside outside.old) desk → (did : Did W.Outside (fixed_of self.old).programs (fixed_of self.old).opened (event.Turn activation limit) (turn_told activation result (printed_of self.new)) (is_closed self.new) (order_of self.new) (ShowsDesk self.new) desk outside.old outside.new) × HasNumbers result.end activation (number_after (fixed_of self.old).opened did.next) }
+        ensures did { (desk : Desk) → IsSure W.Outside outside.old → ShowsDesk self.old (held_of W.Outside outside.old) desk → (did : TookEvent W.Outside (told_event (fixed_of self.old) (event.Turn activation limit) (turn_told activation result (printed_of self.new))) (view_of self.new) desk outside.old outside.new) × HasNumbers result.end activation (number_after (fixed_of self.old).opened did.next) }
         ensures writes { WritesMore (W.writes outside.old) (W.writes outside.new) (writes_due result.end) }
         ensures shut { StaysShut (is_closed self.old) (result.end ≡ TurnEnd.Shut) ((self.new ≡ self.old) × (outside.new ≡ outside.old)) }
         ensures uncounted { is_closed self.old ≡ true → counts_told result ≡ no_counts }
@@ -102,7 +102,7 @@ impl Session {
     pub fn checkpoint<W: Outside>(&mut self, outside: &mut W) -> Stored
         requires sound { IsSound self.old }
         requires bytes { HoldsStore W.Outside (fixed_of self.old).header outside.old }
-        ensures did { (desk : Desk) → IsSure W.Outside outside.old → ShowsDesk self.old (held_of W.Outside outside.old) desk → (did : Did W.Outside (fixed_of self.old).programs (fixed_of self.old).opened event.Checkpoint (stored_told result) (is_closed self.new) (order_of self.new) (ShowsDesk self.new) desk outside.old outside.new) × StoredNumber result (number_after (fixed_of self.old).opened did.next) }
+        ensures did { (desk : Desk) → IsSure W.Outside outside.old → ShowsDesk self.old (held_of W.Outside outside.old) desk → (did : TookEvent W.Outside (told_event (fixed_of self.old) event.Checkpoint (stored_told result)) (view_of self.new) desk outside.old outside.new) × StoredNumber result (number_after (fixed_of self.old).opened did.next) }
         ensures writes { WritesMore (W.writes outside.old) (W.writes outside.new) 0 }
         ensures shut { StaysShut (is_closed self.old) (result ≡ Stored.Shut) ((self.new ≡ self.old) × (outside.new ≡ outside.old)) }
         ensures number { StoredNumber result (number_told self.old) }
@@ -133,7 +133,7 @@ impl Session {
     pub fn forget<W: Outside>(&mut self, outside: &mut W) -> Reopened
         requires sound { IsSound self.old }
         requires bytes { HoldsStore W.Outside (fixed_of self.old).header outside.old }
-        ensures did { (desk : Desk) → IsSure W.Outside outside.old → ShowsDesk self.old (held_of W.Outside outside.old) desk → (did : Did W.Outside (fixed_of self.old).programs (fixed_of self.old).opened event.Crash (reopened_told (numbers desk) result) (is_closed self.new) (order_of self.new) (ShowsDesk self.new) desk outside.old outside.new) × IsReopened result (number_after (fixed_of self.old).opened did.next) }
+        ensures did { (desk : Desk) → IsSure W.Outside outside.old → ShowsDesk self.old (held_of W.Outside outside.old) desk → (did : TookEvent W.Outside (told_event (fixed_of self.old) event.Crash (reopened_told (numbers desk) result)) (view_of self.new) desk outside.old outside.new) × IsReopened result (number_after (fixed_of self.old).opened did.next) }
         ensures shut { StaysShut (is_closed self.old) (result ≡ Reopened.Shut) ((self.new ≡ self.old) × (outside.new ≡ outside.old)) }
         ensures number { ReopenedNumber result (number_told self.new) }
         ensures closed { is_closed self.new ≡ reopened_closes result }

@@ -1,4 +1,4 @@
-use Rattle.supervisor.proofs.Lemmas.{◌≡◌, ap, sym, ◌∙◌, subst, true, Leaves, held_of, TracksStore, stands, Did, Desk, number_after, CheckpointMade, CheckpointFailed, activity, session_desk, order_of, ShowsDesk, refl, KeptBank, stored-sound, calls-store, did-checkpoint, did-fail-checkpoint}
+use Rattle.supervisor.proofs.Lemmas.{◌≡◌, ap, sym, ◌∙◌, subst, true, Leaves, held_of, TracksStore, stands, TookEvent, told_event, fixed_of, view_of, Desk, number_after, CheckpointMade, CheckpointFailed, session_desk, refl, KeptBank, stored-sound, calls-store, did-checkpoint, did-fail-checkpoint}
 use Rattle.desk.specs.declared.event.Event.TheVariants as event
 use Rattle.supervisor.proofs.session.Session.checkpoint.Goals as goal
 
@@ -16,7 +16,7 @@ returns-in-Ok-clause-did g c = λ desk sure shown.
     let did = did-checkpoint G s store c.requires.sound before after over crash c.in-Ok.ensures.header c.in-Ok.ensures.number done.tracks.sure done.tracks.shows done.stood c.in-Ok.ensures.count in
     let number : c.number.result ≡ number_after s.opened (session_desk s over.committed) = c.number.ensures ∙ c.in-Ok.ensures.number ∙ over.number in
     subst
-    (λ (that : Desk). (x : Did G (activity s).programs s.opened event.Checkpoint CheckpointMade s.closed (order_of s) (λ held shown. ShowsDesk (record s { store = store }) held shown) that before after) × (c.number.result ≡ number_after s.opened x.next))
+    (λ (that : Desk). (x : TookEvent G (told_event (fixed_of s) event.Checkpoint CheckpointMade) (view_of (record s { store = store })) that before after) × (c.number.result ≡ number_after s.opened x.next))
     (sym shown.is)
     (did, number)
 
@@ -35,7 +35,7 @@ returns-in-Err-clause-did g c = λ desk sure shown.
     let crash : Leaves G (λ image seen. stands image ≡ stands (held_of G before)) before after = λ image seen left. (c.in-Err.ensures.crash tracks image seen left).stood in
     let did = did-fail-checkpoint G s store c.requires.sound before after over crash c.in-Err.ensures.cause.failed in
     subst
-    (λ (that : Desk). (x : Did G (activity s).programs s.opened event.Checkpoint CheckpointFailed true (order_of s) (λ held shown. ShowsDesk (record s { store = store; closed = true }) held shown) that before after) × Unit {0})
+    (λ (that : Desk). (x : TookEvent G (told_event (fixed_of s) event.Checkpoint CheckpointFailed) (view_of (record s { store = store; closed = true })) that before after) × Unit {0})
     (sym shown.is)
     (did, tt)
 

@@ -1,4 +1,4 @@
-use Rattle.supervisor.proofs.Lemmas.{◌≡◌, sym, ◌∙◌, subst, true, held_of, reopened_holds, Did, Desk, numbers, number_after, Crashed, CrashFailed, activity, order_of, ShowsDesk, deserted-sound}
+use Rattle.supervisor.proofs.Lemmas.{◌≡◌, sym, ◌∙◌, subst, true, held_of, reopened_holds, TookEvent, told_event, fixed_of, view_of, Desk, numbers, number_after, Crashed, CrashFailed, deserted-sound}
 use Rattle.redo_journal.specs.declared.fault.ReopenFault.{ReopenFault}
 use Rattle.restart.specs.Faults.{IsStoreReopenFault}
 use Rattle.desk.specs.declared.event.Event.TheVariants as event
@@ -20,7 +20,7 @@ returns-in-Ok-clause-did g c = λ desk sure shown.
     let number : c.number.result ≡ number_after s.opened did.next =
     c.number.ensures ∙ number-restarted G s store c.in-Ok.ensures.header left c.requires.sound before after sure over gone c.in-Ok.ensures.asks tracks in
     subst
-    (λ (that : Desk). (x : Did G (activity s).programs s.opened event.Crash (Crashed (numbers that)) s.closed (order_of s) (λ held shown. ShowsDesk (record s { store = store; activations = left }) held shown) that before after) × (c.number.result ≡ number_after s.opened x.next))
+    (λ (that : Desk). (x : TookEvent G (told_event (fixed_of s) event.Crash (Crashed (numbers that))) (view_of (record s { store = store; activations = left })) that before after) × (c.number.result ≡ number_after s.opened x.next))
     (sym shown.is)
     (did, number)
 
@@ -49,7 +49,7 @@ returns-in-Err-DiskFault-clause-did g c = λ desk sure shown.
     let fault = subst (λ (fault : ReopenFault). IsStoreReopenFault G before after s.store.header fault) c.in-Err-DiskFault.field-0-is c.in-Err-DiskFault.ensures.fault in
     let did = did-fail-crash G s store c.in-Err-DiskFault.ensures.header left c.requires.sound before after sure over gone c.in-Err-DiskFault.ensures.asks fault in
     subst
-    (λ (that : Desk). (x : Did G (activity s).programs s.opened event.Crash (CrashFailed (numbers that)) true (order_of s) (λ held shown. ShowsDesk (record s { store = store; activations = left; closed = true }) held shown) that before after) × Unit {0})
+    (λ (that : Desk). (x : TookEvent G (told_event (fixed_of s) event.Crash (CrashFailed (numbers that))) (view_of (record s { store = store; activations = left; closed = true })) that before after) × Unit {0})
     (sym shown.is)
     (did, tt)
 

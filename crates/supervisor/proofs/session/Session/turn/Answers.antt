@@ -1,5 +1,5 @@
 use Rattle.std.proofs.Common.{arith}
-use Rattle.supervisor.proofs.Lemmas.{◌≡◌, ◌+◌, ap, sym, subst, held_of, most_lines, number_of, IsTurnEnd, KeepsStore, FailsCounted, Fixed, turn_fails, counts_told, turn_told, HasNumbers, Did, Desk, number_after, activity, order_of, IsOpenOver, ShowsDesk, Turn, calls-store, did-turn}
+use Rattle.supervisor.proofs.Lemmas.{◌≡◌, ◌+◌, ap, sym, subst, held_of, most_lines, number_of, IsTurnEnd, KeepsStore, FailsCounted, Fixed, turn_fails, counts_told, turn_told, HasNumbers, TookEvent, told_event, fixed_of, view_of, Desk, number_after, IsOpenOver, Turn, calls-store, did-turn}
 use Rattle.desk.specs.declared.event.Event.TheVariants as event
 use Rattle.supervisor.proofs.session.Session.turn.Goals as goal
 
@@ -25,7 +25,7 @@ returns-clause-did g c = λ desk sure shown.
     let did = did-turn G (record s { turns = s.turns + 1 }) new c.args.activation c.args.limit end c.end_of_turn-end.new.tally answer c.args.outside.now c.end_of_turn-end.new.outside begun kept.sound kept.turned (ap counts_told c.told-2.ensures) ends ran in
     let numbers : HasNumbers answer.end c.args.activation (number_after s.opened ran.next) = grind (arith, ran.numbers) in
     subst
-    (λ (that : Desk). (x : Did G (activity s).programs s.opened (event.Turn c.args.activation c.args.limit) (turn_told c.args.activation answer new.printed) new.closed (order_of new) (λ held shown. ShowsDesk new held shown) that c.args.outside.now c.end_of_turn-end.new.outside) × HasNumbers answer.end c.args.activation (number_after s.opened x.next))
+    (λ (that : Desk). (x : TookEvent G (told_event (fixed_of s) (event.Turn c.args.activation c.args.limit) (turn_told c.args.activation answer new.printed)) (view_of new) that c.args.outside.now c.end_of_turn-end.new.outside) × HasNumbers answer.end c.args.activation (number_after s.opened x.next))
     (sym shown.is)
     (did, numbers)
 
