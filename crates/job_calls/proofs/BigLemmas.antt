@@ -1,5 +1,5 @@
 -- A load on the store that a disk stands for.
-use Rattle.job_calls.proofs.Common.{◌≡◌, ℕ, ◌≤◌, ⊎_elim, true, false, List, [], ◌∷◌, ◌++◌, length, refl, sym, ◌∙◌, ap, subst, arith, append-nil, append_assoc, Option, Ghosts, Failed, AreTold, Prints, IsSure, Elapses, CallsDisk, FewerLater, OnlyAsks, held_of, elapses-trans, FlatStore, Program, Activation, Event, begun, is_commit, commit_lines, serial_lines, IsSerial, Desk, Word, Line, printed, spaced, event_lines, run, faulted, Header, total, IsSessionOpened, activity, order_of, Session, ghosts, IsLasting, RunsQuietly, Tells, is_rollback, is_shut, out_after, InDoubt, PrintedNow, to_later, Job, Status, HasBigRun, IsToldBy, Loaded, LoadedBy, RanBig, big_line, last_out, line_for, Call, call, RunsFrom, IsStanding, TellsStore, StillTold, codes, decimal, All, Bool, Some, Result, Ok, Err, IsSome, IsTrue, count_by, HoldsStore, FailsOnlyCounted}
+use Rattle.job_calls.proofs.Common.{◌≡◌, ℕ, ◌≤◌, ⊎_elim, true, false, List, [], ◌∷◌, ◌++◌, length, refl, sym, ◌∙◌, ap, subst, arith, append-nil, append_assoc, Option, Ghosts, Failed, AreTold, Prints, IsSure, Elapses, CallsDisk, FewerLater, OnlyAsks, held_of, elapses-trans, FlatStore, Activation, Event, begun, is_commit, commit_lines, serial_lines, IsSerial, Desk, Word, Line, printed, spaced, run, faulted, Header, total, IsSessionOpened, activity, order_of, Session, ghosts, IsLasting, RunsQuietly, Tells, is_rollback, is_shut, out_after, InDoubt, PrintedNow, to_later, Job, Status, HasBigRun, IsToldBy, Loaded, LoadedBy, RanBig, big_line, last_out, line_for, Call, call, RunsFrom, IsStanding, TellsStore, StillTold, codes, decimal, All, Bool, Some, Result, Ok, Err, IsSome, IsTrue, count_by, HoldsStore, FailsOnlyCounted, span, Opening, end_of, lines_of, opening_of, fixed_of}
 use Rattle.std.specs.List.{fold}
 use Rattle.std.specs.Option.{ForSome}
 use Rattle.hex.specs.Hex.{encode_lower}
@@ -13,7 +13,7 @@ use Rattle.desk.specs.Lines as line
 use Rattle.schedule_replay.specs.declared.quietly.Quiet.TheVariants as quiet
 use Rattle.call_status.specs.declared.status.Status.TheVariants as status
 use Rattle.job_calls.proofs.CauseLemmas.{opens_past}
-use Rattle.job_calls.proofs.RunLemmas.{RanFrom, Facts, first_desk, has-opened, given, wanted, these, runs-from, told-since}
+use Rattle.job_calls.proofs.RunLemmas.{RanFrom, first_desk, first_opening, has-opened, these, runs-from, told-since}
 
 -- only the commit lines tell what was printed last
 out_filtered : (last : List ℕ) (lines : List Line) → fold out_after last lines ≡ fold out_after last (commit_lines lines)
@@ -59,15 +59,15 @@ line_told transfers commits rollbacks last lines tells =
     ∙ ap (λ (out : List ℕ). big_line transfers (count_by is_commit lines) (count_by is_rollback lines) out) tells.last
 
 -- a run as it stands a little later, where nothing of it changed
-abbrev ran_until : {W : Type 0} (G : Ghosts W) (programs : List Program) (number : ℕ) (events : List Event) (first : Desk) (new : Session) (start between after : W) (last : List ℕ) (quiet : Quiet)
-    → RunsQuietly ghosts G programs number events first new start between last quiet → G.held after ≡ G.held between → G.writes after ≡ G.writes between → G.disk_faults after ≡ G.disk_faults between → (IsSure G between → IsSure G after)
-    → (new.closed ≡ true → (front : List (Event × Word)) (event : Event) → InDoubt G programs number first front event between → InDoubt G programs number first front event after)
-    → ((image seen : List ℕ) → G.left_since after (G.moment start) image seen → (other : List ℕ) × G.left_since between (G.moment start) image other) → RanFrom G [] programs number events first new start after
-ran_until G programs number events first new start between after last quiet runs held writes disk sure doubt images = record {
+abbrev ran_until : {W : Type 0} (G : Ghosts W) (begins : Opening) (events : List Event) (new : Session) (start between after : W) (last : List ℕ) (quiet : Quiet)
+    → RunsQuietly ghosts G begins events new (span start between) last quiet → G.held after ≡ G.held between → G.writes after ≡ G.writes between → G.disk_faults after ≡ G.disk_faults between → (IsSure G between → IsSure G after)
+    → (new.closed ≡ true → (front : List (Event × Word)) (event : Event) → InDoubt G begins front event between → InDoubt G begins front event after)
+    → ((image seen : List ℕ) → G.left_since after (G.moment start) image seen → (other : List ℕ) × G.left_since between (G.moment start) image other) → RanFrom G begins events new (span start after)
+ran_until G begins events new start between after last quiet runs held writes disk sure doubt images = record {
   taken = runs.ran.taken;
   rest = runs.rest;
   is_run = record { prefix = ap (λ (front : List Event). front ++ runs.rest) runs.ran.events_taken ∙ runs.whole; each_open = runs.ran.each_open };
-  to = to_later ghosts G (run programs runs.ran.taken first) (event_lines [] programs number runs.ran.taken first) (faulted runs.ran.taken) new start between after held disk writes sure runs.ran.to;
+  to = to_later ghosts G (end_of begins runs.ran.taken) (lines_of begins runs.ran.taken) (faulted runs.ran.taken) new start between after held disk writes sure runs.ran.to;
   images = λ image seen left. let other = images image seen left in runs.ran.images image other.0 other.1;
   doubt = λ shut front event is. doubt (runs.ran.to.closes ∙ shut) front event (runs.ran.doubt shut front event is);
 }
@@ -75,27 +75,18 @@ ran_until G programs number events first new start between after last quiet runs
 module _ {W : Type 0} (G : Ghosts W) (fewer_later : FewerLater G) (printed_now : PrintedNow G) (transfers : ℕ) (job : Job) (before start between after : W) (desk new : Session) (number : ℕ) (store : FlatStore)
     (standing : TellsStore G before number store) (opens : IsSessionOpened G job.frames before start desk) (asks : OnlyAsks G before start) (programs_are : (activity desk).programs ≡ job.programs.items) (same_opened : new.opened ≡ desk.opened)
     (same_honest : G.is_honest after ≡ G.is_honest start) (time : Elapses G.moment G.left_since start after) (asks-calm : G.disk_faults start ≡ G.disk_faults before)
-    (last : List ℕ) (quiet : Quiet) (runs : RunsQuietly ghosts G (activity desk).programs desk.opened job.events.items (first_desk G job.frames before start desk opens asks) new start between last quiet)
+    (last : List ℕ) (quiet : Quiet) (runs : RunsQuietly ghosts G (first_opening G job.frames before start desk opens asks []) job.events.items new (span start between) last quiet)
     (held : G.held after ≡ G.held between) (writes : G.writes after ≡ G.writes between) (disk : G.disk_faults after ≡ G.disk_faults between) (sure : IsSure G between → IsSure G after)
-    (doubt : new.closed ≡ true → (front : List (Event × Word)) (event : Event) → InDoubt G (activity desk).programs desk.opened (first_desk G job.frames before start desk opens asks) front event between → InDoubt G (activity desk).programs desk.opened (first_desk G job.frames before start desk opens asks) front event after)
+    (doubt : new.closed ≡ true → (front : List (Event × Word)) (event : Event) → InDoubt G (first_opening G job.frames before start desk opens asks []) front event between → InDoubt G (first_opening G job.frames before start desk opens asks []) front event after)
     (images : (image seen : List ℕ) → G.left_since after (G.moment start) image seen → (other : List ℕ) × G.left_since between (G.moment start) image other) where
-  abbrev half : RanFrom G [] (activity desk).programs desk.opened job.events.items (first_desk G job.frames before start desk opens asks) new start after
-  half = ran_until G (activity desk).programs desk.opened job.events.items (first_desk G job.frames before start desk opens asks) new start between after last quiet runs held writes disk sure doubt images
+  abbrev half : RanFrom G (first_opening G job.frames before start desk opens asks []) job.events.items new (span start after)
+  half = ran_until G (first_opening G job.frames before start desk opens asks []) job.events.items new start between after last quiet runs held writes disk sure doubt images
 
   abbrev whole : (now : Status) → RunsFrom G job number store (call before after (order_of new) now)
   whole = runs-from G fewer_later printed_now job before start after desk new number store standing opens asks programs_are same_opened same_honest time asks-calm [] half
 
-  abbrev facts : Facts
-  facts = given G fewer_later printed_now job before start after desk new number store standing opens asks programs_are same_opened same_honest time asks-calm
-
-  abbrev wants : Facts
-  wants = wanted G fewer_later printed_now job before start after desk new number store standing opens asks programs_are same_opened same_honest time asks-calm
-
-  facts_are : facts ≡ wants
-  facts_are = these G fewer_later printed_now job before start after desk new number store standing opens asks programs_are same_opened same_honest time asks-calm
-
   -- the run of a load, by its status
-  pub has_big_run : (now : Status) → (WentThrough now → (is_shut quiet ≡ false) × PrintsBy (G.printed before) (G.printed after) (line_for transfers (event_lines [] (activity desk).programs desk.opened runs.ran.taken (first_desk G job.frames before start desk opens asks))) now) → (now ≡ Status.DiskFault → is_shut quiet ≡ true)
+  pub has_big_run : (now : Status) → (WentThrough now → (is_shut quiet ≡ false) × PrintsBy (G.printed before) (G.printed after) (line_for transfers (lines_of (first_opening G job.frames before start desk opens asks []) runs.ran.taken)) now) → (now ≡ Status.DiskFault → is_shut quiet ≡ true)
       → HasBigRun G transfers job number store (call before after (order_of new) now) (Some new)
   has_big_run now past shut = record {
     ran = whole now;
@@ -103,7 +94,8 @@ module _ {W : Type 0} (G : Ghosts W) (fewer_later : FewerLater G) (printed_now :
     all = λ opened. runs.all (past opened).0;
     still_open = λ opened. sym (whole now).to.closes ∙ runs.closed ∙ (past opened).0;
     shut = λ is. sym (whole now).to.closes ∙ runs.closed ∙ shut is;
-    told = λ opened. subst (λ (f : Facts). PrintsBy (G.printed before) (G.printed after) (line_for transfers (event_lines [] f.programs f.number runs.ran.taken f.start)) now) facts_are (past opened).1;
+    told = λ opened. subst (λ (f : Opening). PrintsBy (G.printed before) (G.printed after) (line_for transfers (lines_of f runs.ran.taken)) now)
+        (these G fewer_later printed_now job before start after desk new number store standing opens asks programs_are same_opened same_honest time asks-calm []) (past opened).1;
     last = λ opened. last_serial (begun job.programs.items job.events.items) number store (order_of new) _ _ _ (whole now).serial_run (sym (whole now).to.closes ∙ runs.closed ∙ (past opened).0);
   }
 
@@ -135,7 +127,7 @@ module _ {W : Type 0} (G : Ghosts W) (fewer_later : FewerLater G) (printed_now :
     (opens : IsTrue (G.is_honest before) → IsSome (G.held before) → IsSessionOpened G job.frames before start desk) (asks : OnlyAsks G before start) (programs_are : (activity desk).programs ≡ job.programs.items) (same_programs : (activity new).programs ≡ (activity desk).programs) (same_opened : new.opened ≡ desk.opened) (asks-calm : G.disk_faults start ≡ G.disk_faults before)
     (stood : IsSome (G.held before) → IsStanding (held_of G before)) (last : List ℕ) (calls : CallsDisk G start between) (still : StillTold G start between) where
   abbrev Ran : Quiet → Type 0
-  Ran quiet = (first : Desk) → IsSure G start → ghosts.shows desk (held_of G start) first → RunsQuietly ghosts G (activity desk).programs desk.opened job.events.items first new start between last quiet
+  Ran quiet = (first : Desk) → IsSure G start → ghosts.shows desk (held_of G start) first → RunsQuietly ghosts G (opening_of [] (fixed_of desk) first) job.events.items new (span start between) last quiet
 
   pub loaded : (quiet : Quiet) → Ran quiet → (after : W) (now : Status) → IsToldBy G transfers quiet last (call between after [] now) → Loaded G transfers (call before after (order_of new) now) (Some new)
   loaded (quiet.Ended commits rollbacks) runs after now (past, puts, times) =
@@ -155,7 +147,7 @@ module _ {W : Type 0} (G : Ghosts W) (fewer_later : FewerLater G) (printed_now :
                   let opened = opens standing.honest standing.told in
                   let begins = has-opened G job.frames before start desk opened asks in
                   let run = runs (first_desk G job.frames before start desk opened asks) begins.sure begins.shows in
-                  let lines : List Line = event_lines [] (activity desk).programs desk.opened run.ran.taken (first_desk G job.frames before start desk opened asks) in
+                  let lines : List Line = lines_of (first_opening G job.frames before start desk opened asks []) run.ran.taken in
                   has_big_run G fewer_later printed_now transfers job before start between after desk new number store standing opened asks programs_are same_opened honest later asks-calm last (quiet.Ended commits rollbacks) run puts.only.held puts.only.writes puts.only.disk
                   (sure_put G fewer_later (big_line transfers commits rollbacks last) between after (put_of now) puts)
                   (λ shut. absurd (let no : ⊥ = let still : new.closed ≡ false = run.closed in cc in no))

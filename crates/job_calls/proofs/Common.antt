@@ -34,16 +34,17 @@ pub use Rattle.schedule_replay.proofs.PutsLemmas.{PrintedNow}
 pub use Rattle.schedule_replay.proofs.RanToLemmas.{to_later, to_since}
 pub use Rattle.schedule_replay.specs.Asked.{IsAsked, begins_in, is_turn, turns_in}
 pub use Rattle.schedule_replay.specs.Quiet.{IsLasting, RunsQuietly, Tells, is_rollback, is_shut, out_after}
-pub use Rattle.schedule_replay.specs.Ran.{HasOpened, InDoubt, PrintsEarlier, text_of}
+pub use Rattle.schedule_replay.specs.Ran.{HasOpened, IfInDoubt, InDoubt, PrintsEarlier, text_of}
 pub use Rattle.schedule_replay.specs.Replays.{EndsBy, Replays, Reports}
+pub use Rattle.schedule_replay.specs.Runs.{Opening, Span, end_of, lines_of, opening, opening_of, report_lines_of, report_of, span}
 pub use Rattle.schedule_replay.specs.declared.events.Replayed.{Replayed}
 pub use Rattle.store_format.specs.Header.{Header, header_of, most_lines, total}
 pub use Rattle.store_format.specs.Stands.{Standing, Stands, chosen}
 unfoldable pub use Rattle.store_format.specs.Stands.{stands}
 pub use Rattle.supervisor.specs.Opened.{HasStood, IsSessionOpened}
-pub use Rattle.supervisor.specs.Session.{activity, session_desk, order_of}
+pub use Rattle.supervisor.specs.Session.{activity, fixed_of, session_desk, order_of}
 pub use Rattle.supervisor.specs.contracts.supervisor.SessionSupervisor.TheImpl.{ghosts}
 pub use Rattle.supervisor.specs.declared.session.Session.{Session}
 pub use Rattle.job_calls.specs.Big.{HasBigRun, IsToldBy, Loaded, LoadedBy, RanBig, big_line, last_out, line_for}
 pub use Rattle.job_calls.specs.Causes.{OpensBy, status_of_replay}
-pub use Rattle.job_calls.specs.Headline.{DidBy, DoubtStands, Happened, HappenedTo, JobHasRun, HasRunFrom, RanJob, RunsFrom, job_desk, names_of, put_by}
+pub use Rattle.job_calls.specs.Headline.{DidBy, DoubtStands, Happened, HappenedTo, JobHasRun, HasRunFrom, RanJob, RunsFrom, job_desk, job_opening, names_of, put_by}

@@ -1,5 +1,5 @@
 -- What runs on the store that a disk stands for.
-use Rattle.job_calls.proofs.Common.{Result, Ok, Err, IsErr, IsSome, IsTrue, unwrap_or, Ghosts, Failed, Prints, Rose, Elapses, OnlyAsks, FewerLater, Leaves, held_of, elapses-trans, leaves_on, FlatStore, Program, Activation, serial, header_of, most_lines, Standing, Stands, stands, Event, Desk, opened, Word, Doubt, run, faulted, IsRunOf, Line, line_text, Open, report, report_lines, event_lines, number_after, begun, IsSerial, IsSessionOpened, activity, session_desk, order_of, Session, ghosts, Replayed, PrintsEarlier, HasOpened, InDoubt, text_of, Reports, Replays, PrintedNow, to_since, Job, Status, status_of_replay, Call, Given, call, TellsStore, StillTold, EndsBy, DidBy, JobHasRun, HasRunFrom, DoubtStands, Happened, HappenedTo, IsOfStart, RanJob, RunsFrom, put_by, names_of, job_desk, ◌≡◌, ◌⊎◌, ℕ, ◌+◌, ◌%◌, ◌^◌, inl, inr, Bool, true, false, List, [], ◌∷◌, ◌++◌, length, take, refl, sym, ◌∙◌, ap, subst, arith, append-nil, Option, Some, None}
+use Rattle.job_calls.proofs.Common.{Result, Ok, Err, IsErr, IsSome, IsTrue, unwrap_or, Ghosts, Failed, Prints, Rose, Elapses, OnlyAsks, FewerLater, Leaves, held_of, elapses-trans, leaves_on, FlatStore, Activation, serial, header_of, most_lines, Standing, Stands, stands, Event, Desk, opened, Word, Doubt, run, faulted, IsRunOf, Line, line_text, Open, number_after, begun, IsSerial, IsSessionOpened, activity, session_desk, order_of, Session, ghosts, Replayed, PrintsEarlier, HasOpened, InDoubt, text_of, Reports, Replays, PrintedNow, to_since, Job, Status, status_of_replay, Call, Given, call, TellsStore, StillTold, EndsBy, DidBy, JobHasRun, HasRunFrom, DoubtStands, Happened, HappenedTo, IsOfStart, RanJob, RunsFrom, put_by, names_of, job_desk, ◌≡◌, ◌⊎◌, ℕ, ◌+◌, ◌%◌, ◌^◌, inl, inr, Bool, true, false, List, [], ◌∷◌, ◌++◌, length, take, refl, sym, ◌∙◌, ap, subst, arith, append-nil, Option, Some, None, opening, span, Opening, Span, end_of, lines_of, opening_of, report_of, report_lines_of, IfInDoubt, job_opening, fixed_of}
 use Rattle.std.proofs.lemmas.Bool.{cases_lt}
 use Rattle.outside.proofs.Prints.{prints_well, prints_broken}
 use Rattle.restart.specs.Kept.{number_of}
@@ -34,6 +34,10 @@ module _ {W : Type 0} (G : Ghosts W) (frames : ℕ) (before start : W) (desk : S
   abbrev pub first_desk : Desk
   first_desk = opened frames 16 (most_lines desk.store.header) opens.store
 
+  -- and what a run begins with there
+  abbrev pub first_opening : List (List ℕ) → Opening
+  first_opening names = opening_of names (fixed_of desk) first_desk
+
   pub number-fits : (desk.opened + 0) % 2 ^ 64 ≡ desk.opened
   number-fits =
       let over = opens.shows.over in
@@ -45,20 +49,14 @@ module _ {W : Type 0} (G : Ghosts W) (frames : ℕ) (before start : W) (desk : S
   pub has-opened : HasOpened ghosts G desk start first_desk
   has-opened = record { sure = opens.sure; shows = opens.shows; number = number-fits }
 
--- a run of the first of events from an opened desk, without what was put
-pub record RanFrom {W : Type 0} (G : Ghosts W) (names : List (List ℕ)) (programs : List Program) (number : ℕ) (events : List Event) (first : Desk) (new : Session) (start after : W) : Type 0 where
+-- a run of the first of events from an opening, without what was put
+pub record RanFrom {W : Type 0} (G : Ghosts W) (begins : Opening) (events : List Event) (new : Session) (span : Span W) : Type 0 where
   pub taken : List (Event × Word)
   pub rest : List Event
-  pub is_run : IsRunOf programs events first taken rest
-  pub to : RanTo ghosts G (run programs taken first) (event_lines names programs number taken first) (faulted taken) new start after
-  pub images : Leaves G (λ image seen. IsStage programs number first taken image) start after
-  pub doubt : (run programs taken first).closed ≡ true → (front : List (Event × Word)) (event : Event) → taken ≡ front ++ (event, Doubt) ∷ [] → InDoubt G programs number first front event after
-
--- what a run begins with
-pub record Facts : Type 0 where
-  pub programs : List Program
-  pub start : Desk
-  pub number : ℕ
+  pub is_run : IsRunOf begins.programs events begins.start taken rest
+  pub to : RanTo ghosts G (end_of begins taken) (lines_of begins taken) (faulted taken) new span
+  pub images : Leaves G (λ image seen. IsStage begins.programs begins.number begins.start taken image) span.before span.after
+  pub doubt : IfInDoubt taken (end_of begins taken).closed (λ front event. InDoubt G begins front event span.after)
 
 module _ {W : Type 0} (G : Ghosts W) (fewer_later : FewerLater G) (printed_now : PrintedNow G) (job : Job) (before start after : W) (desk new : Session) (number : ℕ) (store : FlatStore)
     (standing : TellsStore G before number store) (opens : IsSessionOpened G job.frames before start desk) (asks : OnlyAsks G before start) (programs_are : (activity desk).programs ≡ job.programs.items) (same_opened : new.opened ≡ desk.opened)
@@ -69,19 +67,15 @@ module _ {W : Type 0} (G : Ghosts W) (fewer_later : FewerLater G) (printed_now :
   pub number-is : desk.opened ≡ number
   number-is = same-number desk.opened number opens.store store (sym opens.stood ∙ standing.stood)
 
-  -- the programs, the desk and the number of the run are the job's
-  abbrev pub given : Facts
-  given = record { programs = (activity desk).programs; start = first_desk G job.frames before start desk opens asks; number = desk.opened }
+  -- what the run begins with is the job's
+  abbrev pub given : List (List ℕ) → Opening
+  given = first_opening G job.frames before start desk opens asks
 
-  abbrev pub wanted : Facts
-  wanted = record { programs = job.programs.items; start = begins_with; number = number }
+  abbrev pub wanted : List (List ℕ) → Opening
+  wanted names = job_opening names job number (held_of G before) store
 
-  pub these : given ≡ wanted
-  these = λ i. record {
-    programs = programs_are i;
-    start = opened job.frames 16 (most_lines (sym opens.header i)) (same-store desk.opened number opens.store store (sym opens.stood ∙ standing.stood) i);
-    number = number-is i;
-  }
+  pub these : (names : List (List ℕ)) → given names ≡ wanted names
+  these names = λ i. opening names (programs_are i) (number-is i) (opened job.frames 16 (most_lines (sym opens.header i)) (same-store desk.opened number opens.store store (sym opens.stood ∙ standing.stood) i))
 
   shown-same : shown_of G start ≡ shown_of G before
   shown-same = ap (λ (told : Option (List ℕ)). unwrap_or told []) asks.calls.quiet.same
@@ -94,30 +88,30 @@ module _ {W : Type 0} (G : Ghosts W) (fewer_later : FewerLater G) (printed_now :
 
   -- what a crash left of the opening and of a run from it, without a word on the screen
   pub crash-any : (order : List (ℕ × ℕ)) (taken : List (Event × Word)) (rest : List Event) → IsRunOf job.programs.items job.events.items begins_with taken rest → order ≡ (run job.programs.items taken begins_with).order
-      → Leaves G (λ image seen. IsStage (activity desk).programs desk.opened (first_desk G job.frames before start desk opens asks) taken image) start after → Leaves G (λ image seen. IsOfStart G before image seen ⊎ IsFirst (begun job.programs.items job.events.items) number store order image) before after
+      → Leaves G (λ image seen. IsStage (given []).programs (given []).number (given []).start taken image) start after → Leaves G (λ image seen. IsOfStart G before image seen ⊎ IsFirst (begun job.programs.items job.events.items) number store order image) before after
   crash-any order taken rest ran ordered_is images =
       leaves_on G fewer_later before start after asks.calls.time time (λ (image seen : List ℕ). IsOfStart G before image seen ⊎ IsFirst (begun job.programs.items job.events.items) number store order image)
       (λ image seen left. inl (opening-left image seen left))
       (λ image seen left. inr
       (subst (λ (those : List (ℕ × ℕ)). IsFirst (begun job.programs.items job.events.items) number store those image) (sym ordered_is)
       (stage_is_first job.programs.items number job.frames 16 (most_lines (header_of (take 128 (held_of G before)))) store job.events.items taken rest image ran
-      (subst (λ (f : Facts). IsStage f.programs f.number f.start taken image) these (images image seen left))).0))
+      (subst (λ (f : Opening). IsStage f.programs f.number f.start taken image) (these []) (images image seen left))).0))
 
   -- the same of a run from the opening, in the job's words
-  module _ (names : List (List ℕ)) (half : RanFrom G names (activity desk).programs desk.opened job.events.items (first_desk G job.frames before start desk opens asks) new start after) where
+  module _ (names : List (List ℕ)) (half : RanFrom G (given names) job.events.items new (span start after)) where
     pub is_run : IsRunOf job.programs.items job.events.items begins_with half.taken half.rest
-    is_run = subst (λ (f : Facts). IsRunOf f.programs job.events.items f.start half.taken half.rest) these half.is_run
+    is_run = subst (λ (f : Opening). IsRunOf f.programs job.events.items f.start half.taken half.rest) (these names) half.is_run
 
     abbrev pub ends : Desk
     ends = run job.programs.items half.taken begins_with
 
     abbrev pub lines : List Line
-    lines = event_lines names job.programs.items number half.taken begins_with
+    lines = lines_of (wanted names) half.taken
 
-    pub comes-to : RanTo ghosts G ends lines (faulted half.taken) new before after
+    pub comes-to : RanTo ghosts G ends lines (faulted half.taken) new (span before after)
     comes-to =
         to_since ghosts G ends lines (faulted half.taken) new before start after asks.held asks-calm asks.writes
-        (subst (λ (f : Facts). RanTo ghosts G (run f.programs half.taken f.start) (event_lines names f.programs f.number half.taken f.start) (faulted half.taken) new start after) these half.to)
+        (subst (λ (f : Opening). RanTo ghosts G (end_of f half.taken) (lines_of f half.taken) (faulted half.taken) new (span start after)) (these names) half.to)
 
     pub ordered : (order_of new) ≡ ends.order
     ordered = comes-to.ordered
@@ -155,7 +149,7 @@ module _ {W : Type 0} (G : Ghosts W) (fewer_later : FewerLater G) (printed_now :
     -- a doubt
     pub doubt-leaves : ends.closed ≡ true → (front : List (Event × Word)) (event : Event) → half.taken ≡ front ++ (event, Doubt) ∷ [] → DoubtStands G job number store (order_of new) after
     doubt-leaves shut front event is =
-        let doubted = subst (λ (f : Facts). (run f.programs half.taken f.start).closed ≡ true → (front : List (Event × Word)) (event : Event) → half.taken ≡ front ++ (event, Doubt) ∷ [] → InDoubt G f.programs f.number f.start front event after) these half.doubt shut front event is in
+        let doubted = subst (λ (f : Opening). IfInDoubt half.taken (end_of f half.taken).closed (λ front event. InDoubt G f front event after)) (these names) half.doubt shut front event is in
         let ran = subst (λ (taken : List (Event × Word)). IsRunOf job.programs.items job.events.items begins_with taken half.rest) is is_run in
         let whole = doubt_is_whole job.programs.items number job.frames 16 (most_lines (header_of (take 128 (held_of G before)))) store job.events.items front event half.rest ran doubted.0 in
         let order : (run job.programs.items (front ++ (event, Doubt) ∷ []) begins_with).order ≡ (order_of new) = ap (λ (taken : List (Event × Word)). (run job.programs.items taken begins_with).order) (sym is) ∙ sym ordered in (
@@ -185,8 +179,8 @@ module _ {W : Type 0} (G : Ghosts W) (fewer_later : FewerLater G) (printed_now :
       doubt = doubt-leaves;
     }
 
-  module _ (result : Result Bool Failed) (put : Result ℕ Failed) (now : Status) (reports : Reports ghosts G (names_of job) (activity desk).programs desk.opened job.events.items (first_desk G job.frames before start desk opens asks) new start after (λ closed. closed) result) where
-    abbrev half : RanFrom G (names_of job) (activity desk).programs desk.opened job.events.items (first_desk G job.frames before start desk opens asks) new start after
+  module _ (result : Result Bool Failed) (put : Result ℕ Failed) (now : Status) (reports : Reports ghosts G (given (names_of job)) job.events.items new (span start after) (λ closed. closed) result) where
+    abbrev half : RanFrom G (given (names_of job)) job.events.items new (span start after)
     half = record {
       taken = reports.taken;
       rest = reports.rest;
@@ -209,11 +203,11 @@ module _ {W : Type 0} (G : Ghosts W) (fewer_later : FewerLater G) (printed_now :
         (subst (λ (order : List (ℕ × ℕ)). IsPrefix (commits names half) number store order (shown_of G before) image seen) (sym (ordered names half))
         (subst (λ (printed : List ℕ). IsPrefix (commits names half) number store (ends names half).order printed image seen) shown-same
         (left_is_prefix job.programs.items number job.frames 16 (most_lines (header_of (take 128 (held_of G before)))) store job.events.items reports.taken reports.rest
-        (report (names_of job) job.programs.items number reports.taken reports.rest begins_with) (shown_of G start) image seen (is_run names half)
-        (subst (λ (f : Facts). IsLeft f.programs f.number f.start reports.taken (report (names_of job) f.programs f.number reports.taken reports.rest f.start) (shown_of G start) image seen) these (reports.left still image seen left))))))
+        (report_of (wanted names) reports.taken reports.rest) (shown_of G start) image seen (is_run names half)
+        (subst (λ (f : Opening). IsLeft f.programs f.number f.start reports.taken (report_of f reports.taken reports.rest) (shown_of G start) image seen) (these names) (reports.left still image seen left))))))
 
     -- the opening puts nothing
-    times-since : (put : Result ℕ Failed) → PutsTimes G (length (report_lines (names_of job) job.programs.items number reports.taken reports.rest begins_with)) start after put → PutsTimes G (length (report_lines (names_of job) job.programs.items number reports.taken reports.rest begins_with)) before after put
+    times-since : (put : Result ℕ Failed) → PutsTimes G (length (report_lines_of (wanted names) reports.taken reports.rest)) start after put → PutsTimes G (length (report_lines_of (wanted names) reports.taken reports.rest)) before after put
     times-since (Err failed) times = tt
     times-since (Ok value) times = λ told.
         let more = times (subst (λ (those : Option (List ℕ)). IsSome those) (sym asks.calls.quiet.same) told) in
@@ -231,12 +225,12 @@ module _ {W : Type 0} (G : Ghosts W) (fewer_later : FewerLater G) (printed_now :
       shut = λ is. sym (comes-to names half).closes ∙ shut is;
       put = put;
       put_is = put_is;
-      printed = subst (λ (told : Option (List ℕ)). Prints told (G.printed after) (report (names_of job) job.programs.items number reports.taken reports.rest begins_with) put) asks.calls.quiet.same
-          (turns (G.printed start) (G.printed after) (report (names_of job) job.programs.items number reports.taken reports.rest begins_with)
-          (subst (λ (f : Facts). Prints (G.printed start) (G.printed after) (report (names_of job) f.programs f.number reports.taken reports.rest f.start) result) these reports.printed));
-      earlier = subst (λ (told : Option (List ℕ)). PrintsEarlier told (G.printed after) (λ front. line_text (Open number) ++ text_of (names_of job) job.programs.items number front begins_with) reports.taken) asks.calls.quiet.same
-          (subst (λ (f : Facts). PrintsEarlier (G.printed start) (G.printed after) (λ front. line_text (Open f.number) ++ text_of (names_of job) f.programs f.number front f.start) reports.taken) these reports.earlier);
-      times = times-since put (on_ok_as _ result put fails (subst (λ (f : Facts). PutsTimes G (length (report_lines (names_of job) f.programs f.number reports.taken reports.rest f.start)) start after result) these reports.times));
+      printed = subst (λ (told : Option (List ℕ)). Prints told (G.printed after) (report_of (wanted names) reports.taken reports.rest) put) asks.calls.quiet.same
+          (turns (G.printed start) (G.printed after) (report_of (wanted names) reports.taken reports.rest)
+          (subst (λ (f : Opening). Prints (G.printed start) (G.printed after) (report_of f reports.taken reports.rest) result) (these names) reports.printed));
+      earlier = subst (λ (told : Option (List ℕ)). PrintsEarlier told (G.printed after) (λ front. line_text (Open number) ++ text_of (wanted names) front) reports.taken) asks.calls.quiet.same
+          (subst (λ (f : Opening). PrintsEarlier (G.printed start) (G.printed after) (λ front. line_text (Open f.number) ++ text_of f front) reports.taken) (these names) reports.earlier);
+      times = times-since put (on_ok_as _ result put fails (subst (λ (f : Opening). PutsTimes G (length (report_lines_of f reports.taken reports.rest)) start after result) (these names) reports.times));
       seen = crash-leaves;
     }
 
@@ -248,23 +242,27 @@ told-since G before start asks told = subst (λ (those : Option (List ℕ)). IsS
 module _ {W : Type 0} (G : Ghosts W) (fewer_later : FewerLater G) (printed_now : PrintedNow G) (job : Job) (before start after : W) (desk new : Session)
     (opens : IsTrue (G.is_honest before) → IsSome (G.held before) → IsSessionOpened G job.frames before start desk) (asks : OnlyAsks G before start) (programs_are : (activity desk).programs ≡ job.programs.items) (same_opened : new.opened ≡ desk.opened)
     (same_honest : G.is_honest after ≡ G.is_honest start) (time : Elapses G.moment G.left_since start after) (still : StillTold G start after) (asks-calm : G.disk_faults start ≡ G.disk_faults before)
-    (result : Replayed) (replays : (first : Desk) → HasOpened ghosts G desk start first → Replays ghosts G (names_of job) (activity desk).programs desk.opened job.events.items first new start after result) where
-  abbrev replayed-from : (number : ℕ) (store : FlatStore) (standing : TellsStore G before number store) → Replays ghosts G (names_of job) (activity desk).programs desk.opened job.events.items (first_desk G job.frames before start desk (opens standing.honest standing.told) asks) new start after result
-  replayed-from number store standing = replays (first_desk G job.frames before start desk (opens standing.honest standing.told) asks) (has-opened G job.frames before start desk (opens standing.honest standing.told) asks)
+    (result : Replayed) (replays : (first : Desk) → HasOpened ghosts G desk start first → Replays ghosts G (opening_of (names_of job) (fixed_of desk) first) job.events.items new (span start after) result) where
+  replayed-as : (that : Replayed) → result ≡ that → (number : ℕ) (store : FlatStore) (standing : TellsStore G before number store)
+      → Replays ghosts G (first_opening G job.frames before start desk (opens standing.honest standing.told) asks (names_of job)) job.events.items new (span start after) that
+  replayed-as that is number store standing =
+      let begins = first_desk G job.frames before start desk (opens standing.honest standing.told) asks in
+      subst (λ (those : Replayed). Replays ghosts G (opening_of (names_of job) (fixed_of desk) begins) job.events.items new (span start after) those) is
+      (replays begins (has-opened G job.frames before start desk (opens standing.honest standing.told) asks))
 
   did-by : (that : Replayed) → result ≡ that → DidBy G (HasRunFrom G job (call before after (order_of new) (status_of_replay that)) (Some new)) (call before after (order_of new) (status_of_replay that)) (Some new) (status_of_replay that)
   did-by replayed.Ended is = λ number store standing.
-      let reports = subst (λ (those : Replayed). Replays ghosts G (names_of job) (activity desk).programs desk.opened job.events.items (first_desk G job.frames before start desk (opens standing.honest standing.told) asks) new start after those) is (replayed-from number store standing) in
+      let reports = replayed-as replayed.Ended is number store standing in
       has_run G fewer_later printed_now job before start after desk new number store standing (opens standing.honest standing.told) asks programs_are same_opened same_honest time asks-calm
       (Ok false) (Ok 0) status.Done reports refl (λ one two bytes prints. prints_well one two bytes false 0 prints) (λ is. is) (λ is. (reports.closed, reports.all refl)) (λ is. absurd (cc))
   did-by replayed.Closed is = λ number store standing.
-      let reports = subst (λ (those : Replayed). Replays ghosts G (names_of job) (activity desk).programs desk.opened job.events.items (first_desk G job.frames before start desk (opens standing.honest standing.told) asks) new start after those) is (replayed-from number store standing) in
+      let reports = replayed-as replayed.Closed is number store standing in
       has_run G fewer_later printed_now job before start after desk new number store standing (opens standing.honest standing.told) asks programs_are same_opened same_honest time asks-calm
       (Ok true) (Ok 0) status.DiskFault reports refl (λ one two bytes prints. prints_well one two bytes true 0 prints) (λ is. is) (λ is. absurd (cc)) (λ is. reports.closed)
   did-by (replayed.Damaged offset) is = λ number store standing.
-      subst (λ (those : Replayed). Replays ghosts G (names_of job) (activity desk).programs desk.opened job.events.items (first_desk G job.frames before start desk (opens standing.honest standing.told) asks) new start after those) is (replayed-from number store standing)
+      replayed-as (replayed.Damaged offset) is number store standing
   did-by replayed.PutFault is = λ number store standing.
-      let (failed, reports) = subst (λ (those : Replayed). Replays ghosts G (names_of job) (activity desk).programs desk.opened job.events.items (first_desk G job.frames before start desk (opens standing.honest standing.told) asks) new start after those) is (replayed-from number store standing) in
+      let (failed, reports) = replayed-as replayed.PutFault is number store standing in
       has_run G fewer_later printed_now job before start after desk new number store standing (opens standing.honest standing.told) asks programs_are same_opened same_honest time asks-calm
       (Err failed) (Err failed) status.PutFault reports (failed, refl) (λ one two bytes prints. prints_broken {T = Bool} {U = ℕ} (Err failed) (Err failed) refl refl one two bytes prints) (λ is. is) (λ is. absurd (cc)) (λ is. absurd (cc))
 

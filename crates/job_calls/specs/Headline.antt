@@ -16,12 +16,12 @@ use Rattle.desk.specs.Kept.{StillTold}
 use Rattle.desk.specs.Instruction.{Word}
 use Rattle.desk.specs.Run.{run, faulted, IsRunOf}
 use Rattle.desk.specs.Lines.{Line, line_text, Open}
-use Rattle.desk.specs.Report.{report, report_lines, event_lines}
 use Rattle.desk.specs.Commits.{begun, IsSerial}
 use Rattle.run_law.specs.Headline.{IsFirst, IsPrefix}
 use Rattle.schedule_replay.specs.Puts.{PutsTimes, shown_of}
 use Rattle.schedule_replay.specs.Ran.{IfInDoubt, PrintsEarlier, text_of}
 use Rattle.schedule_replay.specs.RanTo.{RanTo}
+use Rattle.schedule_replay.specs.Runs.{Opening, lines_of, opening, report_lines_of, report_of, span}
 use Rattle.schedule_replay.specs.Told.{TellsBy}
 use Rattle.schedule_replay.specs.declared.events.Replayed.{Replayed}
 use Rattle.supervisor.specs.declared.session.Session.{Session}
@@ -45,6 +45,10 @@ names_of job = map (λ name. name.items) job.names.items
 abbrev pub job_desk : Job → List ℕ → FlatStore → Desk
 job_desk job held store = opened job.frames 16 (most_lines (header_of (take 128 held))) store
 
+-- what a run of a job begins with there, with these names for its programs
+abbrev pub job_opening : List (List ℕ) → Job → ℕ → List ℕ → FlatStore → Opening
+job_opening names job number held store = opening names job.programs.items number (job_desk job held store)
+
 -- how the report was put, by the status
 abbrev pub put_by : Status → Result ℕ Failed → Type 0
 put_by status.PutFault put = (failed : Failed) × (put ≡ Err failed)
@@ -67,9 +71,9 @@ pub record RunsFrom {W : Type 0} (G : Ghosts W) (job : Job) (number : ℕ) (stor
   -- its lines, with these names for the programs
   pub names : List (List ℕ)
   pub lines : List Line
-  pub lines_are : lines ≡ event_lines names job.programs.items number taken (job_desk job (held_of G call.before) store)
+  pub lines_are : lines ≡ lines_of (job_opening names job number (held_of G call.before) store) taken
   pub session : Session
-  pub to : RanTo ghosts G end lines (faulted taken) session call.before call.after
+  pub to : RanTo ghosts G end lines (faulted taken) session (span call.before call.after)
   -- all words are fine where the disk's faults didn't rise
   pub all_fine : (Rose (G.disk_faults call.before) (G.disk_faults call.after) → ⊥) → faulted taken ≡ 0
   -- the commits are those of the job's activations, one after another, and so are the commit lines
@@ -93,10 +97,10 @@ pub record JobHasRun {W : Type 0} (G : Ghosts W) (job : Job) (number : ℕ) (sto
   pub shut : call.status ≡ Status.DiskFault → ran.end.closed ≡ true
   pub put : Result ℕ Failed
   pub put_is : put_by call.status put
-  pub printed : Prints (G.printed call.before) (G.printed call.after) (report (names_of job) job.programs.items number ran.taken ran.rest (job_desk job (held_of G call.before) store)) put
+  pub printed : Prints (G.printed call.before) (G.printed call.after) (report_of (job_opening (names_of job) job number (held_of G call.before) store) ran.taken ran.rest) put
   -- each line by one put
-  pub times : PutsTimes G (length (report_lines (names_of job) job.programs.items number ran.taken ran.rest (job_desk job (held_of G call.before) store))) call.before call.after put
-  pub earlier : PrintsEarlier (G.printed call.before) (G.printed call.after) (λ front. line_text (Open number) ++ text_of (names_of job) job.programs.items number front (job_desk job (held_of G call.before) store)) ran.taken
+  pub times : PutsTimes G (length (report_lines_of (job_opening (names_of job) job number (held_of G call.before) store) ran.taken ran.rest)) call.before call.after put
+  pub earlier : PrintsEarlier (G.printed call.before) (G.printed call.after) (λ front. line_text (Open number) ++ text_of (job_opening (names_of job) job number (held_of G call.before) store) front) ran.taken
   -- a crash leaves such an image of the start, or the commits that were printed by then, and at most one more, where the printed bytes are told
   pub seen : IsSome (G.printed call.before) → Leaves G (λ image seen. IsOfStart G call.before image seen ⊎ IsPrefix (begun job.programs.items job.events.items) number store call.order (shown_of G call.before) image seen)
       call.before call.after

@@ -54,6 +54,7 @@ pub use Rattle.schedule_replay.specs.Puts.{BeginsWith, Puts, PutsTimes, number_t
 pub use Rattle.schedule_replay.specs.Quiet.{RanQuietly, Tells, WentQuietly, is_rollback, last_by, out_after, tally_begun, tally_by, tally_stored, unput}
 pub use Rattle.schedule_replay.specs.Ran.{HasOpened, InDoubt, PrintsEarlier, Ran, WasStep, text_of, view_of}
 pub use Rattle.schedule_replay.specs.RanTo.{RanTo}
+pub use Rattle.schedule_replay.specs.Runs.{Opening, Span, end_of, lines_of, opening, opening_of, report_lines_of, report_of, span}
 pub use Rattle.schedule_replay.specs.Replays.{RanSome, Reports, WentBy, going_begun, going_by, going_if, is_closed, is_damaged}
 pub use Rattle.schedule_replay.specs.declared.events.Going.{Going}
 pub use Rattle.std.proofs.lemmas.Bool.Decides.{nat_tests}

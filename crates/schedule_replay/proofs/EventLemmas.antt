@@ -1,5 +1,5 @@
 -- What one event keeps, how it goes on, and the numbers in its lines.
-use Rattle.schedule_replay.proofs.Common.{◌≡◌, ℕ, ◌+◌, ◌*◌, ◌≤◌, List, [], ◌∷◌, sym, ap, ◌∙◌, subst, arith, true, false, Bool, Option, Result, Ok, IfOk, Failed, Ghosts, IsSure, OnlyAsks, FewerLater, held_of, leaves_held, Program, stands, Event, Begun, Turn, TurnEnd, Stored, Reopened, begun_told, turn_told, stored_told, reopened_told, turn_closes, turn_fails, stored_closes, stored_fails, reopened_closes, reopened_fails, HasNumbers, StoredNumber, IsReopened, TookEvent, standing_of, Desk, numbers, Fine, CallsStore, FailsCounted, Fixed, StaysShut, HoldsStore, IsDamage, WritesMore, writes_due, Line, happening_lines, number_after, step, AreNames, Answered, GoesBy, Going, begins_in, turns_in, Puts, number_told, stored_number, reopened_number, WasStep, WentBy, view_of, going_if, going_begun, going_by, is_closed, is_damaged, nat_tests, result_and}
+use Rattle.schedule_replay.proofs.Common.{◌≡◌, ℕ, ◌+◌, ◌*◌, ◌≤◌, List, [], ◌∷◌, sym, ap, ◌∙◌, subst, arith, true, false, Bool, Option, Result, Ok, IfOk, Failed, Ghosts, IsSure, OnlyAsks, FewerLater, held_of, leaves_held, Program, stands, Event, Begun, Turn, TurnEnd, Stored, Reopened, begun_told, turn_told, stored_told, reopened_told, turn_closes, turn_fails, stored_closes, stored_fails, reopened_closes, reopened_fails, HasNumbers, StoredNumber, IsReopened, TookEvent, standing_of, Desk, numbers, Fine, CallsStore, FailsCounted, Fixed, StaysShut, HoldsStore, IsDamage, WritesMore, writes_due, Line, happening_lines, number_after, step, AreNames, Answered, GoesBy, Going, begins_in, turns_in, Puts, number_told, stored_number, reopened_number, WasStep, WentBy, view_of, going_if, going_begun, going_by, is_closed, is_damaged, nat_tests, result_and, opening, opening_of, span}
 use Rattle.desk.specs.declared.event.Event.TheVariants as event
 use Rattle.desk.specs.declared.answers.Begun.TheVariants as begun
 use Rattle.desk.specs.declared.answers.TurnEnd.TheVariants as end
@@ -79,14 +79,14 @@ module _ {D W : Type 0} (S : desk.Ghosts D) (G : Ghosts W) where
     pub begin_step : (stands_law : (s : D) (held : List ℕ) (desk : Desk) → S.shows s held desk → stands held ≡ standing_of (S.fixed s).opened desk) (open_law : (s : D) (held : List ℕ) (desk : Desk) → S.shows s held desk → desk.closed ≡ false) (closed_law : (s : D) (held : List ℕ) (desk : Desk) → S.shows s held desk → S.closed s ≡ false) (order_law : (s : D) (held : List ℕ) (desk : Desk) → S.shows s held desk → S.order s ≡ desk.order)
         (program : ℕ) (args : List ℕ) (answer : Begun) (start : Desk) (old new : D) (w : W) → IsSure G w → S.shows old (held_of G w) start
         → (next : Desk) × (step programs (event.Begin program args) Fine start ≡ record { desk = next; happening = begun_told program answer }) × S.shows new (held_of G w) next
-        → WasStep S G names programs (S.fixed old).opened (event.Begin program args) (happening_lines names 0 (begun_told program answer)) start new w w
+        → WasStep S G (opening names programs (S.fixed old).opened start) (event.Begin program args) (happening_lines names 0 (begun_told program answer)) new (span w w)
     begin_step stands_law open_law closed_law order_law program args answer start old new w sure shows (next, is, shown) = grind (arith, nat_tests, begun_keep, leaves_held, begun_numbered, begin_writes, writes_same)
 
     module _ (number : ℕ) (start : Desk) (new : D) (before after : W) where
       pub turn_step : (activation limit : ℕ) (answer : Turn) (printed : List ℕ)
           → (did : TookEvent G (record { programs = programs; number = number; event = event.Turn activation limit; told = turn_told activation answer printed }) (view_of S new) start before after) × HasNumbers answer.end activation (number_after number did.next)
           → WritesMore (G.writes before) (G.writes after) (writes_due answer.end) → FailsCounted (turn_fails answer.end) (G.disk_faults before) (G.disk_faults after)
-          → WasStep S G names programs number (event.Turn activation limit) (happening_lines names (number_told answer.end) (turn_told activation answer printed)) start new before after
+          → WasStep S G (opening names programs number start) (event.Turn activation limit) (happening_lines names (number_told answer.end) (turn_told activation answer printed)) new (span before after)
       turn_step activation limit answer printed (did, has) writes failed = record {
         told = turn_told activation answer printed;
         did = did;
@@ -98,7 +98,7 @@ module _ {D W : Type 0} (S : desk.Ghosts D) (G : Ghosts W) where
       pub checkpoint_step : (answer : Stored)
           → (did : TookEvent G (record { programs = programs; number = number; event = event.Checkpoint; told = stored_told answer }) (view_of S new) start before after) × StoredNumber answer (number_after number did.next)
           → WritesMore (G.writes before) (G.writes after) 0 → FailsCounted (stored_fails answer) (G.disk_faults before) (G.disk_faults after)
-          → WasStep S G names programs number event.Checkpoint (happening_lines names (stored_number answer) (stored_told answer)) start new before after
+          → WasStep S G (opening names programs number start) event.Checkpoint (happening_lines names (stored_number answer) (stored_told answer)) new (span before after)
       checkpoint_step answer (did, has) writes failed = record {
         told = stored_told answer;
         did = did;
@@ -110,7 +110,7 @@ module _ {D W : Type 0} (S : desk.Ghosts D) (G : Ghosts W) where
       pub crash_step : (lost : List ℕ) (answer : Reopened) → lost ≡ numbers start
           → (did : TookEvent G (record { programs = programs; number = number; event = event.Crash; told = reopened_told (numbers start) answer }) (view_of S new) start before after) × IsReopened answer (number_after number did.next)
           → OnlyAsks G before after → FailsCounted (reopened_fails answer) (G.disk_faults before) (G.disk_faults after)
-          → WasStep S G names programs number event.Crash (happening_lines names (reopened_number answer) (reopened_told lost answer)) start new before after
+          → WasStep S G (opening names programs number start) event.Crash (happening_lines names (reopened_number answer) (reopened_told lost answer)) new (span before after)
       crash_step lost answer are (did, has) asks failed = record {
         told = reopened_told (numbers start) answer;
         did = did;
@@ -125,11 +125,11 @@ module _ {D W : Type 0} (S : desk.Ghosts D) (G : Ghosts W) where
       → event ≡ one → way ≡ told → result ≡ result_and put (Ok way) → Puts G lines between after put
       → S.sound new → S.fixed new ≡ S.fixed old → S.given new ≤ S.given old + begins_in (one ∷ []) → S.turns new ≤ S.turns old + turns_in (one ∷ []) → CallsStore G (S.fixed new).header before between
       → (S.closed old ≡ true → told ≡ going.Closed) → S.closed new ≡ is_closed told → (G.disk_faults after ≡ G.disk_faults between → G.held after ≡ G.held between → GoesBy S G old new before after told)
-      → ((start : Desk) → IsSure G before → S.shows old (held_of G before) start → WasStep S G names (S.fixed old).programs (S.fixed old).opened one lines start new before between × (is_damaged told ≡ false))
-      → AreLinesOf names (one ∷ []) lines (S.order old) (S.order new) → WentBy S G names event old new before after result
+      → ((start : Desk) → IsSure G before → S.shows old (held_of G before) start → WasStep S G (opening_of names (S.fixed old) start) one lines new (span before between) × (is_damaged told ≡ false))
+      → AreLinesOf names (one ∷ []) lines (S.order old) (S.order new) → WentBy S G names event old new (span before after) result
   went_event fewer_later printed_now stands_law open_law {T} names are event one lines old new before between after put way told result is_one is is_and puts sound fixed given turns store shut closed goes went told_of =
-      subst (λ (e : Event). WentBy S G names e old new before after result) (sym is_one)
-      (subst (λ (how : Result Going Failed). WentBy S G names one old new before after how) (sym is_and) (record {
+      subst (λ (e : Event). WentBy S G names e old new (span before after) result) (sym is_one)
+      (subst (λ (how : Result Going Failed). WentBy S G names one old new (span before after) how) (sym is_and) (record {
         answered = answered_event fewer_later (one ∷ []) lines old new before between after _ sound fixed given turns store all;
         goes = if_ok_and (GoesBy S G old new before after) (goes puts.only.disk puts.only.held) put;
         shut = λ was. if_ok_and (λ how. how ≡ going.Closed) (shut was) put;

@@ -1,5 +1,5 @@
 -- Events without a report, one after another.
-use Rattle.schedule_replay.proofs.Common.{◌≡◌, ℕ, ◌+◌, ◌<◌, List, [], ◌∷◌, ◌++◌, length, cond, take, get_or, refl, sym, ap, ◌∙◌, subst, arith, false, not, count_by, Option, IfSome, flat_map, fold, map-append, length-map, take_more, fold-append, sum_by-append, Ghosts, IsSure, CallsDisk, FewerLater, held_of, leaves_held, Program, stands, Turn, TurnEnd, Event, Begun, begun_told, turn_told, stored_told, counts_told, Stored, is_commit, standing_of, IsEitherOf, Desk, Word, Doubt, Line, cycle_lines, event_lines, happening_lines, Step, run, step, faulted, stage_either, stage_none, run_on, open_on, lines_on, faulted_on, Stepped, counted_quiet, step_by, RanQuietly, Tells, WentQuietly, is_rollback, last_by, out_after, tally_begun, tally_by, tally_stored, InDoubt, RanTo, WasStep, nat_tests}
+use Rattle.schedule_replay.proofs.Common.{◌≡◌, ℕ, ◌+◌, ◌<◌, List, [], ◌∷◌, ◌++◌, length, cond, take, get_or, refl, sym, ap, ◌∙◌, subst, arith, false, not, count_by, Option, IfSome, flat_map, fold, map-append, length-map, take_more, fold-append, sum_by-append, Ghosts, IsSure, CallsDisk, FewerLater, held_of, leaves_held, Program, stands, Turn, TurnEnd, Event, Begun, begun_told, turn_told, stored_told, counts_told, Stored, is_commit, standing_of, IsEitherOf, Desk, Word, Doubt, Line, cycle_lines, event_lines, happening_lines, Step, run, step, faulted, stage_either, stage_none, run_on, open_on, lines_on, faulted_on, Stepped, counted_quiet, step_by, RanQuietly, Tells, WentQuietly, is_rollback, last_by, out_after, tally_begun, tally_by, tally_stored, InDoubt, RanTo, WasStep, nat_tests, opening, opening_of, span}
 use Rattle.schedule_replay.specs.declared.quietly.Tally.{Tally}
 use Rattle.desk.specs.declared.answers.TurnEnd.TheVariants as end
 use Rattle.desk.specs.declared.supervisor.Supervisor as desk
@@ -54,14 +54,14 @@ if_some P Q told turns is = grind (arith, turns)
 module _ {D W : Type 0} (S : desk.Ghosts D) (G : Ghosts W) (fewer_later : FewerLater G) (programs : List Program) (number : ℕ) where
   -- an event went quietly whose step and tally are told
   pub went_quietly : (event one : Event) (lines : List Line) (start : Desk) (new : D) (before after : W) (old_last new_last last : List ℕ) (tally told : Option Tally) → event ≡ one → new_last ≡ last → tally ≡ told
-      → WasStep S G [] programs number one lines start new before after → IfSome told (λ each. Tells each old_last last lines) → WentQuietly S G programs number event start new before after old_last new_last tally
+      → WasStep S G (opening [] programs number start) one lines new (span before after) → IfSome told (λ each. Tells each old_last last lines) → WentQuietly S G (opening [] programs number start) event new (span before after) old_last new_last tally
   went_quietly event one lines start new before after old_last new_last last tally told is_one is_last is_told step tells = grind (arith, nat_tests)
 
   -- nothing was run yet
   pub ran_nothing : (stands_law : (s : D) (held : List ℕ) (desk : Desk) → S.shows s held desk → stands held ≡ standing_of (S.fixed s).opened desk) (open_law : (s : D) (held : List ℕ) (desk : Desk) → S.shows s held desk → desk.closed ≡ false) (closed_law : (s : D) (held : List ℕ) (desk : Desk) → S.shows s held desk → S.closed s ≡ false) (order_law : (s : D) (held : List ℕ) (desk : Desk) → S.shows s held desk → S.order s ≡ desk.order)
-      (start : Desk) (new : D) (w : W) → (S.fixed new).opened ≡ number → IsSure G w → S.shows new (held_of G w) start → (ran : RanQuietly S G programs number [] start new w w) × (event_lines [] programs number ran.taken start ≡ [])
+      (start : Desk) (new : D) (w : W) → (S.fixed new).opened ≡ number → IsSure G w → S.shows new (held_of G w) start → (ran : RanQuietly S G (opening [] programs number start) [] new (span w w)) × (event_lines [] programs number ran.taken start ≡ [])
   ran_nothing stands_law open_law closed_law order_law start new w opened sure shows =
-      let ran : RanQuietly S G programs number [] start new w w = record {
+      let ran : RanQuietly S G (opening [] programs number start) [] new (span w w) = record {
         taken = [];
         events_taken = refl;
         each_open = tt;
@@ -73,9 +73,9 @@ module _ {D W : Type 0} (S : desk.Ghosts D) (G : Ghosts W) (fewer_later : FewerL
       (ran, refl)
 
   -- some events were run, and then one more
-  pub ran_one_more : (xs : List Event) (event : Event) (second : List Line) (start : Desk) (mid new : D) (before between after : W) → S.closed mid ≡ false → CallsDisk G before between → CallsDisk G between after → (one : RanQuietly S G programs number xs start mid before between)
-      → WasStep S G [] programs number event second (run programs one.taken start) new between after
-      → (ran : RanQuietly S G programs number (xs ++ event ∷ []) start new before after) × (event_lines [] programs number ran.taken start ≡ event_lines [] programs number one.taken start ++ second)
+  pub ran_one_more : (xs : List Event) (event : Event) (second : List Line) (start : Desk) (mid new : D) (before between after : W) → S.closed mid ≡ false → CallsDisk G before between → CallsDisk G between after → (one : RanQuietly S G (opening [] programs number start) xs mid (span before between))
+      → WasStep S G (opening [] programs number (run programs one.taken start)) event second new (span between after)
+      → (ran : RanQuietly S G (opening [] programs number start) (xs ++ event ∷ []) new (span before after)) × (event_lines [] programs number ran.taken start ≡ event_lines [] programs number one.taken start ++ second)
   ran_one_more xs event second start mid new before between after was_open calls_one calls_two one two =
       let middle : Desk = run programs one.taken start in
       let word : Word = two.did.word in
@@ -87,12 +87,12 @@ module _ {D W : Type 0} (S : desk.Ghosts D) (G : Ghosts W) (fewer_later : FewerL
       let same : run programs (one.taken ++ last_one) start ≡ two.did.next = run_on programs one.taken last_one start ∙ next_is in
       let lines : event_lines [] programs number (one.taken ++ last_one) start ≡ first ++ second = lines_on programs [] number one.taken last_one start ∙ ap (λ (back : List Line). first ++ back) (one_event [] programs number event word middle next two.did.stepped ∙ sym two.lines_are) in
       let steps : Stepped word middle.order [] (step programs event word middle) = step_by programs event word [] middle still_open in
-      let ran : RanQuietly S G programs number (xs ++ event ∷ []) start new before after = record {
+      let ran : RanQuietly S G (opening [] programs number start) (xs ++ event ∷ []) new (span before after) = record {
         taken = one.taken ++ last_one;
         events_taken = map-append (λ (each : Event × Word). each.0) one.taken last_one ∙ ap (λ (front : List Event). front ++ event ∷ []) one.events_taken;
         each_open = open_on programs one.taken last_one start one.each_open (ap not still_open, tt);
         to =
-            subst (λ (desk : Desk). RanTo S G desk (event_lines [] programs number (one.taken ++ last_one) start) (faulted (one.taken ++ last_one)) new before after) (sym same)
+            subst (λ (desk : Desk). RanTo S G desk (event_lines [] programs number (one.taken ++ last_one) start) (faulted (one.taken ++ last_one)) new (span before after)) (sym same)
             (to_on S G middle two.did.next first second (event_lines [] programs number (one.taken ++ last_one) start) (faulted one.taken) (faulted last_one) (faulted (one.taken ++ last_one)) mid new before between after was_open lines (faulted_on one.taken last_one) one.to
             (to_did S G programs number event [] second middle new between after two calls_two.disk));
         images =
@@ -103,24 +103,24 @@ module _ {D W : Type 0} (S : desk.Ghosts D) (G : Ghosts W) (fewer_later : FewerL
             let doubted : word ≡ Doubt = ap (λ (pair : Event × Word). pair.1) ends.1 in
             let that : event ≡ last = ap (λ (pair : Event × Word). pair.0) ends.1 in
             let place = two.did.doubt doubted (ap (λ (desk : Desk). desk.closed) (sym same) ∙ shut) in
-            let here : InDoubt G programs number start one.taken event after = (place.0 ∙ ap (λ (desk : Desk). desk.order) (sym same) ∙ ap (λ (w : Word). (run programs (one.taken ++ (event, w) ∷ []) start).order) doubted, place.1) in
-            subst (λ (these : List (Event × Word)). InDoubt G programs number start these last after) ends.0 (subst (λ (e : Event). InDoubt G programs number start one.taken e after) that here);
+            let here : InDoubt G (opening [] programs number start) one.taken event after = (place.0 ∙ ap (λ (desk : Desk). desk.order) (sym same) ∙ ap (λ (w : Word). (run programs (one.taken ++ (event, w) ∷ []) start).order) doubted, place.1) in
+            subst (λ (these : List (Event × Word)). InDoubt G (opening [] programs number start) these last after) ends.0 (subst (λ (e : Event). InDoubt G (opening [] programs number start) one.taken e after) that here);
       } in
       (ran, lines)
 
   -- the next event is run from where the run is, and tallied
   pub ran_next_quietly : (events : List Event) (i : ℕ) (event : Event) → i < length events → (start : Desk) (mid new : D) (before between after : W) (old_last new_last : List ℕ) (so_far : Tally) (tally : Option Tally) → S.closed mid ≡ false → (S.fixed mid).programs ≡ programs → (S.fixed mid).opened ≡ number → CallsDisk G before between → CallsDisk G between after
-      → (one : RanQuietly S G programs number (take i events) start mid before between) → Tells so_far [] old_last (event_lines [] programs number one.taken start)
-      → ((desk : Desk) → IsSure G between → S.shows mid (held_of G between) desk → WentQuietly S G (S.fixed mid).programs (S.fixed mid).opened (get_or events i event) desk new between after old_last new_last tally)
-      → (ran : RanQuietly S G programs number (take (i + 1) events) start new before after) × IfSome tally (λ more. Tells (record { commits = so_far.commits + more.commits; rollbacks = so_far.rollbacks + more.rollbacks }) [] new_last (event_lines [] programs number ran.taken start))
+      → (one : RanQuietly S G (opening [] programs number start) (take i events) mid (span before between)) → Tells so_far [] old_last (event_lines [] programs number one.taken start)
+      → ((desk : Desk) → IsSure G between → S.shows mid (held_of G between) desk → WentQuietly S G (opening_of [] (S.fixed mid) desk) (get_or events i event) new (span between after) old_last new_last tally)
+      → (ran : RanQuietly S G (opening [] programs number start) (take (i + 1) events) new (span before after)) × IfSome tally (λ more. Tells (record { commits = so_far.commits + more.commits; rollbacks = so_far.rollbacks + more.rollbacks }) [] new_last (event_lines [] programs number ran.taken start))
   ran_next_quietly events i event lt start mid new before between after old_last new_last so_far tally was_open same_programs same_number calls_one calls_two one tells next =
       let kept = one.to.still (sym one.to.closes ∙ was_open) in
       let told = next (run programs one.taken start) kept.0 kept.1 in
-      let two : WentQuietly S G programs number (get_or events i event) (run programs one.taken start) new between after old_last new_last tally =
-      subst (λ (n : ℕ). WentQuietly S G programs n (get_or events i event) (run programs one.taken start) new between after old_last new_last tally) same_number
-      (subst (λ (these : List Program). WentQuietly S G these (S.fixed mid).opened (get_or events i event) (run programs one.taken start) new between after old_last new_last tally) same_programs told) in
+      let two : WentQuietly S G (opening [] programs number (run programs one.taken start)) (get_or events i event) new (span between after) old_last new_last tally =
+      subst (λ (n : ℕ). WentQuietly S G (opening [] programs n (run programs one.taken start)) (get_or events i event) new (span between after) old_last new_last tally) same_number
+      (subst (λ (these : List Program). WentQuietly S G (opening [] these (S.fixed mid).opened (run programs one.taken start)) (get_or events i event) new (span between after) old_last new_last tally) same_programs told) in
       let more = ran_one_more (take i events) (get_or events i event) two.lines start mid new before between after was_open calls_one calls_two one two.step in
-      subst (λ (these : List Event). (ran : RanQuietly S G programs number these start new before after) × IfSome tally (λ more. Tells (record { commits = so_far.commits + more.commits; rollbacks = so_far.rollbacks + more.rollbacks }) [] new_last (event_lines [] programs number ran.taken start))) (sym (take_more events i event lt)) (
+      subst (λ (these : List Event). (ran : RanQuietly S G (opening [] programs number start) these new (span before after)) × IfSome tally (λ more. Tells (record { commits = so_far.commits + more.commits; rollbacks = so_far.rollbacks + more.rollbacks }) [] new_last (event_lines [] programs number ran.taken start))) (sym (take_more events i event lt)) (
         more.0,
         if_some (λ one_more. Tells one_more old_last new_last two.lines) _ tally
             (λ one_more here. tells_on so_far one_more (record { commits = so_far.commits + one_more.commits; rollbacks = so_far.rollbacks + one_more.rollbacks }) [] old_last new_last (event_lines [] programs number one.taken start) two.lines (event_lines [] programs number more.0.taken start) more.1 refl refl tells here) two.tells,

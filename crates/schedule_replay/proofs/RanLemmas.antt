@@ -1,5 +1,5 @@
 -- The runs of a supervisor, one event after another.
-use Rattle.schedule_replay.proofs.Common.{◌≡◌, ℕ, ◌+◌, ◌<◌, List, [], ◌∷◌, ◌++◌, length, map, get_or, take, drop, refl, sym, ap, ◌∙◌, subst, arith, length-append, append-nil, append_assoc, inl, inr, true, false, Option, Result, Ok, IsErr, IfOk, flat_map, map-append, take_more, take-append-drop, flat_map-append, Failed, Ghosts, Prints, Elapses, IsSure, FewerLater, Leaves, held_of, told_is, leaves_held, stands, standing_of, elapses-trans, leaves_on, prints_same, prints_on, Program, Event, Desk, Word, Doubt, run, faulted, OpenBeforeEach, Line, line_text, event_lines, commits_seen, IsLeft, IsStage, ArePlain, seen_lines, seen_all, AreNames, Grew, run_grew, run_plain, run_on, open_on, lines_on, faulted_on, left_none, left_more, left_behind, stage_behind, stage_more, stage_none, PutsTimes, shown_of, Ran, PrintsEarlier, InDoubt, text_of, Fixed, Going, RanSome, RanTo, is_closed, is_damaged, nat_tests}
+use Rattle.schedule_replay.proofs.Common.{◌≡◌, ℕ, ◌+◌, ◌<◌, List, [], ◌∷◌, ◌++◌, length, map, get_or, take, drop, refl, sym, ap, ◌∙◌, subst, arith, length-append, append-nil, append_assoc, inl, inr, true, false, Option, Result, Ok, IsErr, IfOk, flat_map, map-append, take_more, take-append-drop, flat_map-append, Failed, Ghosts, Prints, Elapses, IsSure, FewerLater, Leaves, held_of, told_is, leaves_held, stands, standing_of, elapses-trans, leaves_on, prints_same, prints_on, Program, Event, Desk, Word, Doubt, run, faulted, OpenBeforeEach, Line, line_text, event_lines, commits_seen, IsLeft, IsStage, ArePlain, seen_lines, seen_all, AreNames, Grew, run_grew, run_plain, run_on, open_on, lines_on, faulted_on, left_none, left_more, left_behind, stage_behind, stage_more, stage_none, PutsTimes, shown_of, Ran, PrintsEarlier, InDoubt, text_of, Fixed, Going, RanSome, RanTo, is_closed, is_damaged, nat_tests, opening, opening_of, span}
 use Rattle.desk.specs.declared.supervisor.Supervisor as desk
 use Rattle.schedule_replay.proofs.CountLemmas.{on_ok_as}
 use Rattle.schedule_replay.proofs.PutsLemmas.{PrintedNow, done, no_time, times_on, shown_after, begins_none, begins_on, begins_behind, printed_none}
@@ -44,18 +44,18 @@ pub seen_behind : (lines : List Line) → ArePlain lines → (rest : List ℕ) �
 seen_behind lines are rest = grind (arith, nat_tests, seen_lines, seen_all)
 
 -- a run that is open at its end makes the commits that its text tells
-pub seen_each : (names : List (List ℕ)) → AreNames names → (programs : List Program) (number : ℕ) (taken : List (Event × Word)) (start : Desk) → OpenBeforeEach programs taken start → (run programs taken start).closed ≡ false → length (run programs taken start).order ≡ length start.order + commits_seen (text_of names programs number taken start)
+pub seen_each : (names : List (List ℕ)) → AreNames names → (programs : List Program) (number : ℕ) (taken : List (Event × Word)) (start : Desk) → OpenBeforeEach programs taken start → (run programs taken start).closed ≡ false → length (run programs taken start).order ≡ length start.order + commits_seen (text_of (opening names programs number start) taken)
 seen_each names are programs number taken start each_open still = grind (arith, (run_grew programs names number taken start each_open).few, (run_grew programs names number taken start each_open).settled (inl still), seen_all (event_lines names programs number taken start) (run_plain programs names number are taken start), (run_grew programs names number taken start each_open).order_is, length-append start.order (run_grew programs names number taken start each_open).more)
 
 module _ {D W : Type 0} (S : desk.Ghosts D) (G : Ghosts W) (fewer_later : FewerLater G) (names : List (List ℕ)) (are : AreNames names) (programs : List Program) (number : ℕ) where
-  pub ran_as : {T U : Type 0} (events : List Event) (start : Desk) (new : D) (before after : W) (result : Result T Failed) (other : Result U Failed) → ((one two : Option (List ℕ)) (bytes : List ℕ) → Prints one two bytes result → Prints one two bytes other) → (IsErr result → IsErr other) → Ran S G names programs number events start new before after result → Ran S G names programs number events start new before after other
+  pub ran_as : {T U : Type 0} (events : List Event) (start : Desk) (new : D) (before after : W) (result : Result T Failed) (other : Result U Failed) → ((one two : Option (List ℕ)) (bytes : List ℕ) → Prints one two bytes result → Prints one two bytes other) → (IsErr result → IsErr other) → Ran S G (opening names programs number start) events new (span before after) result → Ran S G (opening names programs number start) events new (span before after) other
   ran_as events start new before after result other turns fails ran = grind (arith, nat_tests, on_ok_as _ result other fails ran.times)
 
-  pub ran_on : {T U : Type 0} (xs : List Event) (event : Event) (start : Desk) (mid new : D) (before between after : W) (value : T) (result : Result U Failed) → S.closed mid ≡ false → (one : Ran S G names programs number xs start mid before between (Ok value)) → Ran S G names programs number (event ∷ []) (run programs one.taken start) new between after result → Ran S G names programs number (xs ++ event ∷ []) start new before after result
+  pub ran_on : {T U : Type 0} (xs : List Event) (event : Event) (start : Desk) (mid new : D) (before between after : W) (value : T) (result : Result U Failed) → S.closed mid ≡ false → (one : Ran S G (opening names programs number start) xs mid (span before between) (Ok value)) → Ran S G (opening names programs number (run programs one.taken start)) (event ∷ []) new (span between after) result → Ran S G (opening names programs number start) (xs ++ event ∷ []) new (span before after) result
   ran_on {T} {U} xs event start mid new before between after value result was_open one two =
       let middle : Desk = run programs one.taken start in
-      let bytes : List (Event × Word) → List ℕ = λ taken. text_of names programs number taken start in
-      let later : List (Event × Word) → List ℕ = λ taken. text_of names programs number taken middle in
+      let bytes : List (Event × Word) → List ℕ = λ taken. text_of (opening names programs number start) taken in
+      let later : List (Event × Word) → List ℕ = λ taken. text_of (opening names programs number middle) taken in
       let behind : (front : List (Event × Word)) → bytes one.taken ++ later front ≡ bytes (one.taken ++ front) = λ front. cc (flat_map-append line_text (event_lines names programs number one.taken start) (event_lines names programs number front middle), lines_on programs names number one.taken front start) in
       let same : run programs (one.taken ++ two.taken) start ≡ run programs two.taken middle = run_on programs one.taken two.taken start in
       let grew : Grew programs names number two.taken middle = run_grew programs names number two.taken middle two.each_open in
@@ -65,7 +65,7 @@ module _ {D W : Type 0} (S : desk.Ghosts D) (G : Ghosts W) (fewer_later : FewerL
         each_open = open_on programs one.taken two.taken start one.each_open two.each_open;
         to =
             let lines = event_lines names programs number (one.taken ++ two.taken) start in
-            subst (λ (desk : Desk). RanTo S G desk lines (faulted (one.taken ++ two.taken)) new before after) (sym same)
+            subst (λ (desk : Desk). RanTo S G desk lines (faulted (one.taken ++ two.taken)) new (span before after)) (sym same)
             (to_on S G middle (run programs two.taken middle) (event_lines names programs number one.taken start) (event_lines names programs number two.taken middle) lines (faulted one.taken) (faulted two.taken) (faulted (one.taken ++ two.taken)) mid new before between after
             was_open (lines_on programs names number one.taken two.taken start) (faulted_on one.taken two.taken) one.to two.to);
         printed = prints_same (G.printed before) (G.printed after) (bytes one.taken ++ later two.taken) (bytes (one.taken ++ two.taken)) result (behind two.taken)
@@ -89,30 +89,30 @@ module _ {D W : Type 0} (S : desk.Ghosts D) (G : Ghosts W) (fewer_later : FewerL
             let ends = last_is one.taken front (event, word.0) (last, Doubt) (ap (λ (back : List (Event × Word)). one.taken ++ back) (sym word.1) ∙ is) in
             let doubted : word.0 ≡ Doubt = ap (λ (pair : Event × Word). pair.1) ends.1 in
             let that : event ≡ last = ap (λ (pair : Event × Word). pair.0) ends.1 in
-            let here : InDoubt G programs number middle [] event after = two.doubt (ap (λ (desk : Desk). desk.closed) (sym same) ∙ shut) [] event (word.1 ∙ ap (λ (w : Word). (event, w) ∷ []) doubted) in
-            subst (λ (these : List (Event × Word)). InDoubt G programs number start these last after) ends.0 (subst (λ (e : Event). InDoubt G programs number start one.taken e after) that (here.0 ∙ ap (λ (desk : Desk). desk.order) (sym (run_on programs one.taken ((event, Doubt) ∷ []) start)), here.1));
+            let here : InDoubt G (opening names programs number middle) [] event after = two.doubt (ap (λ (desk : Desk). desk.closed) (sym same) ∙ shut) [] event (word.1 ∙ ap (λ (w : Word). (event, w) ∷ []) doubted) in
+            subst (λ (these : List (Event × Word)). InDoubt G (opening names programs number start) these last after) ends.0 (subst (λ (e : Event). InDoubt G (opening names programs number start) one.taken e after) that (here.0 ∙ ap (λ (desk : Desk). desk.order) (sym (run_on programs one.taken ((event, Doubt) ∷ []) start)), here.1));
       }
 
-  pub ran_more : {U : Type 0} (events : List Event) (i : ℕ) (event : Event) → i < length events → (start : Desk) (mid new : D) (before between after : W) (result : Result U Failed) → S.closed mid ≡ false → (one : Ran S G names programs number (take i events) start mid before between done) → Ran S G names programs number (get_or events i event ∷ []) (run programs one.taken start) new between after result → Ran S G names programs number (take (i + 1) events) start new before after result
+  pub ran_more : {U : Type 0} (events : List Event) (i : ℕ) (event : Event) → i < length events → (start : Desk) (mid new : D) (before between after : W) (result : Result U Failed) → S.closed mid ≡ false → (one : Ran S G (opening names programs number start) (take i events) mid (span before between) done) → Ran S G (opening names programs number (run programs one.taken start)) (get_or events i event ∷ []) new (span between after) result → Ran S G (opening names programs number start) (take (i + 1) events) new (span before after) result
   ran_more events i event lt start mid new before between after result was_open one two = grind (arith, take_more events i event lt, ran_on (take i events) (get_or events i event) start mid new before between after 0 result was_open one two)
 
   -- the next event is run from where the run is
-  ran_next : {U : Type 0} (events : List Event) (i : ℕ) (event : Event) → i < length events → (start : Desk) (mid new : D) (before between after : W) (result : Result U Failed) → S.closed mid ≡ false → (S.fixed mid).programs ≡ programs → (S.fixed mid).opened ≡ number → Ran S G names programs number (take i events) start mid before between done
-      → ((desk : Desk) → IsSure G between → S.shows mid (held_of G between) desk → Ran S G names (S.fixed mid).programs (S.fixed mid).opened (get_or events i event ∷ []) desk new between after result) → Ran S G names programs number (take (i + 1) events) start new before after result
+  ran_next : {U : Type 0} (events : List Event) (i : ℕ) (event : Event) → i < length events → (start : Desk) (mid new : D) (before between after : W) (result : Result U Failed) → S.closed mid ≡ false → (S.fixed mid).programs ≡ programs → (S.fixed mid).opened ≡ number → Ran S G (opening names programs number start) (take i events) mid (span before between) done
+      → ((desk : Desk) → IsSure G between → S.shows mid (held_of G between) desk → Ran S G (opening_of names (S.fixed mid) desk) (get_or events i event ∷ []) new (span between after) result) → Ran S G (opening names programs number start) (take (i + 1) events) new (span before after) result
   ran_next events i event lt start mid new before between after result was_open same_programs same_number one next = grind (arith, nat_tests, ran_more, get_or)
 
 -- The events so far were run, from a supervisor that was open, and the next one was asked of it.
 module _ {D W : Type 0} (S : desk.Ghosts D) (G : Ghosts W) (fewer_later : FewerLater G) (names : List (List ℕ)) (are : AreNames names) (events : List Event) (i : ℕ) (event : Event) (lt : i < length events) (start : Desk) (old mid new : D) (before between after : W) (was_open : S.closed mid ≡ false) (fixed : S.fixed mid ≡ S.fixed old)
-    {T : Type 0} (result : Result T Failed) (so_far : Ran S G names (S.fixed old).programs (S.fixed old).opened (take i events) start mid before between done)
-    (next : (desk : Desk) → IsSure G between → S.shows mid (held_of G between) desk → Ran S G names (S.fixed mid).programs (S.fixed mid).opened (get_or events i event ∷ []) desk new between after result) where
-  pub ran_further : {U : Type 0} (other : Result U Failed) → ((one two : Option (List ℕ)) (bytes : List ℕ) → Prints one two bytes result → Prints one two bytes other) → (IsErr result → IsErr other) → Ran S G names (S.fixed old).programs (S.fixed old).opened (take (i + 1) events) start new before after other
+    {T : Type 0} (result : Result T Failed) (so_far : Ran S G (opening_of names (S.fixed old) start) (take i events) mid (span before between) done)
+    (next : (desk : Desk) → IsSure G between → S.shows mid (held_of G between) desk → Ran S G (opening_of names (S.fixed mid) desk) (get_or events i event ∷ []) new (span between after) result) where
+  pub ran_further : {U : Type 0} (other : Result U Failed) → ((one two : Option (List ℕ)) (bytes : List ℕ) → Prints one two bytes result → Prints one two bytes other) → (IsErr result → IsErr other) → Ran S G (opening_of names (S.fixed old) start) (take (i + 1) events) new (span before after) other
   ran_further other turns fails =
       ran_as S G fewer_later names are (S.fixed old).programs (S.fixed old).opened (take (i + 1) events) start new before after result other turns fails
       (ran_next S G fewer_later names are (S.fixed old).programs (S.fixed old).opened events i event lt start mid new before between after result was_open (ap (λ (fixed : Fixed). fixed.programs) fixed) (ap (λ (fixed : Fixed). fixed.opened) fixed) so_far next)
 
   -- and none is asked behind it
   pub ran_last : (other : Result Going Failed) → ((one two : Option (List ℕ)) (bytes : List ℕ) → Prints one two bytes result → Prints one two bytes other) → (IsErr result → IsErr other)
-      → IfOk other (λ going. S.closed new ≡ is_closed going) → IfOk other (λ going. is_damaged going ≡ false) → IfOk other (λ going. is_closed going ≡ true) → RanSome S G names (S.fixed old).programs (S.fixed old).opened events start new before after other
+      → IfOk other (λ going. S.closed new ≡ is_closed going) → IfOk other (λ going. is_damaged going ≡ false) → IfOk other (λ going. is_closed going ≡ true) → RanSome S G (opening_of names (S.fixed old) start) events new (span before after) other
   ran_last other turns fails closed sound shut = grind (arith, nat_tests, take (i + 1) events, drop (i + 1) events, take-append-drop (i + 1) events, ran_further other turns fails)
 
 -- no event was run
@@ -121,7 +121,7 @@ none_last [] last is = cc
 none_last (first ∷ front) last is = cc
 
 pub ran_none : {D W : Type 0} (S : desk.Ghosts D) (G : Ghosts W) (printed_now : PrintedNow G) (stands_law : (s : D) (held : List ℕ) (desk : Desk) → S.shows s held desk → stands held ≡ standing_of (S.fixed s).opened desk) (open_law : (s : D) (held : List ℕ) (desk : Desk) → S.shows s held desk → desk.closed ≡ false) (closed_law : (s : D) (held : List ℕ) (desk : Desk) → S.shows s held desk → S.closed s ≡ false) (order_law : (s : D) (held : List ℕ) (desk : Desk) → S.shows s held desk → S.order s ≡ desk.order)
-    (names : List (List ℕ)) (programs : List Program) (start : Desk) (new : D) (w : W) → IsSure G w → S.shows new (held_of G w) start → Ran S G names programs (S.fixed new).opened [] start new w w done
+    (names : List (List ℕ)) (programs : List Program) (start : Desk) (new : D) (w : W) → IsSure G w → S.shows new (held_of G w) start → Ran S G (opening names programs (S.fixed new).opened start) [] new (span w w) done
 ran_none S G printed_now stands_law open_law closed_law order_law names programs start new w sure shows = record {
   taken = [];
   events_taken = refl;

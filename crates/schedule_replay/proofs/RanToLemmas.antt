@@ -1,5 +1,5 @@
 -- What runs leave, one after another.
-use Rattle.schedule_replay.proofs.Common.{◌≡◌, ℕ, ◌+◌, ◌*◌, ◌≤◌, ◌⊎◌, List, [], ◌∷◌, ◌++◌, sym, ◌∙◌, subst, arith, false, Option, unwrap_or, Ghosts, Rose, RoseBy, IsSure, held_of, Program, Event, Desk, KeepsJournal, WritesMore, journal_in, Line, number_after, faulted, commits_in, commits_on, RanTo, WasStep, nat_tests, Word, Fine}
+use Rattle.schedule_replay.proofs.Common.{◌≡◌, ℕ, ◌+◌, ◌*◌, ◌≤◌, ◌⊎◌, List, [], ◌∷◌, ◌++◌, sym, ◌∙◌, subst, arith, false, Option, unwrap_or, Ghosts, Rose, RoseBy, IsSure, held_of, Program, Event, Desk, KeepsJournal, WritesMore, journal_in, Line, number_after, faulted, commits_in, commits_on, RanTo, WasStep, nat_tests, Word, Fine, opening, span}
 use Rattle.desk.specs.declared.supervisor.Supervisor as desk
 use Rattle.schedule_replay.proofs.CountLemmas.{faults_front, faults_behind, happened_keep, journal_on}
 use Rattle.schedule_replay.proofs.WriteLemmas.{writes_on}
@@ -10,11 +10,11 @@ word_faults event word before after le cause = grind arith
 
 module _ {D W : Type 0} (S : desk.Ghosts D) (G : Ghosts W) where
   -- nothing was run
-  pub to_none : (start : Desk) (new : D) (w : W) → S.closed new ≡ false → start.closed ≡ false → S.order new ≡ start.order → IsSure G w → S.shows new (held_of G w) start → RanTo S G start [] 0 new w w
+  pub to_none : (start : Desk) (new : D) (w : W) → S.closed new ≡ false → start.closed ≡ false → S.order new ≡ start.order → IsSure G w → S.shows new (held_of G w) start → RanTo S G start [] 0 new (span w w)
   to_none start new w was_open is_open order sure shows = grind (arith, nat_tests)
 
   -- an event, by its word
-  pub to_did : (programs : List Program) (number : ℕ) (event : Event) (names : List (List ℕ)) (lines : List Line) (start : Desk) (new : D) (before after : W) (was : WasStep S G names programs number event lines start new before after) → G.disk_faults before ≤ G.disk_faults after → RanTo S G was.did.next lines (faulted ((event, was.did.word) ∷ [])) new before after
+  pub to_did : (programs : List Program) (number : ℕ) (event : Event) (names : List (List ℕ)) (lines : List Line) (start : Desk) (new : D) (before after : W) (was : WasStep S G (opening names programs number start) event lines new (span before after)) → G.disk_faults before ≤ G.disk_faults after → RanTo S G was.did.next lines (faulted ((event, was.did.word) ∷ [])) new (span before after)
   to_did programs number event names lines start new before after was later = record {
     closes = was.did.closes;
     ordered = was.did.ordered;
@@ -27,7 +27,7 @@ module _ {D W : Type 0} (S : desk.Ghosts D) (G : Ghosts W) where
 
   module _ (end : Desk) (lines : List Line) (unfine : ℕ) (new : D) where
     -- a run as it stands later, where nothing of it changed
-    pub to_later : (before between after : W) → G.held after ≡ G.held between → G.disk_faults after ≡ G.disk_faults between → G.writes after ≡ G.writes between → (IsSure G between → IsSure G after) → RanTo S G end lines unfine new before between → RanTo S G end lines unfine new before after
+    pub to_later : (before between after : W) → G.held after ≡ G.held between → G.disk_faults after ≡ G.disk_faults between → G.writes after ≡ G.writes between → (IsSure G between → IsSure G after) → RanTo S G end lines unfine new (span before between) → RanTo S G end lines unfine new (span before after)
     to_later before between after held disk writes sure ran = record {
       closes = ran.closes;
       ordered = ran.ordered;
@@ -41,7 +41,7 @@ module _ {D W : Type 0} (S : desk.Ghosts D) (G : Ghosts W) where
     }
 
     -- and as it is told from an earlier moment on, since which nothing had changed
-    pub to_since : (before start after : W) → G.held start ≡ G.held before → G.disk_faults start ≡ G.disk_faults before → G.writes start ≡ G.writes before → RanTo S G end lines unfine new start after → RanTo S G end lines unfine new before after
+    pub to_since : (before start after : W) → G.held start ≡ G.held before → G.disk_faults start ≡ G.disk_faults before → G.writes start ≡ G.writes before → RanTo S G end lines unfine new (span start after) → RanTo S G end lines unfine new (span before after)
     to_since before start after held disk writes ran = record {
       closes = ran.closes;
       ordered = ran.ordered;
@@ -53,7 +53,7 @@ module _ {D W : Type 0} (S : desk.Ghosts D) (G : Ghosts W) where
     }
 
   -- one run and then another
-  pub to_on : (middle end : Desk) (first second lines : List Line) (one two both : ℕ) (mid new : D) (before between after : W) → S.closed mid ≡ false → lines ≡ first ++ second → both ≡ one + two → RanTo S G middle first one mid before between → RanTo S G end second two new between after → RanTo S G end lines both new before after
+  pub to_on : (middle end : Desk) (first second lines : List Line) (one two both : ℕ) (mid new : D) (before between after : W) → S.closed mid ≡ false → lines ≡ first ++ second → both ≡ one + two → RanTo S G middle first one mid (span before between) → RanTo S G end second two new (span between after) → RanTo S G end lines both new (span before after)
   to_on middle end first second lines one two both mid new before between after was_open is sum ran more = record {
     closes = more.closes;
     ordered = more.ordered;

@@ -1,5 +1,5 @@
 -- The report of a run, from its parts.
-use Rattle.schedule_replay.proofs.Common.{◌≡◌, ℕ, List, [], ◌∷◌, ◌++◌, length, map, refl, sym, ap, ◌∙◌, subst, inl, inr, arith, append-nil, IsSome, Option, Bool, true, false, Result, Ok, Err, IsErr, IfOk, OnOk, flat_map, Failed, Ghosts, Prints, IsSure, Elapses, Leaves, held_of, prints_broken, prints_same, prints_well, prints_on, prints_stop, leaves_held, elapses-trans, leaves_on, Program, stands, Event, standing_of, Desk, Word, Line, Open, Left, line_text, number_after, closing_lines, report, event_lines, run, faulted, commits_seen, IsLeft, IsStage, ArePlain, plain_on, commits_in, commits_on, seen_all, AreNames, Grew, run_grew, run_plain, report_parts, lines_end, left_none, left_more, stage_more, stage_none, Going, Puts, PutsTimes, BeginsWith, shown_of, Ran, HasOpened, PrintsEarlier, text_of, RanSome, Reports, Fixed, is_closed, nat_tests}
+use Rattle.schedule_replay.proofs.Common.{◌≡◌, ℕ, List, [], ◌∷◌, ◌++◌, length, map, refl, sym, ap, ◌∙◌, subst, inl, inr, arith, append-nil, IsSome, Option, Bool, true, false, Result, Ok, Err, IsErr, IfOk, OnOk, flat_map, Failed, Ghosts, Prints, IsSure, Elapses, Leaves, held_of, prints_broken, prints_same, prints_well, prints_on, prints_stop, leaves_held, elapses-trans, leaves_on, Program, stands, Event, standing_of, Desk, Word, Line, Open, Left, line_text, number_after, closing_lines, report, event_lines, run, faulted, commits_seen, IsLeft, IsStage, ArePlain, plain_on, commits_in, commits_on, seen_all, AreNames, Grew, run_grew, run_plain, report_parts, lines_end, left_none, left_more, stage_more, stage_none, Going, Puts, PutsTimes, BeginsWith, shown_of, Ran, HasOpened, PrintsEarlier, text_of, RanSome, Reports, Fixed, is_closed, nat_tests, opening, opening_of, span, Opening, Span, report_of}
 use Rattle.desk.specs.declared.supervisor.Supervisor as desk
 use Rattle.std.proofs.lemmas.Result.{IfOk-weaker}
 use Rattle.schedule_replay.specs.declared.events.Going.TheVariants as going
@@ -77,16 +77,16 @@ module _ {D W : Type 0} (S : desk.Ghosts D) (G : Ghosts W) (laws : Laws S G) (na
 
     -- what was put behind the first line
     record Tail {T : Type 0} (start : Desk) (taken : List (Event × Word)) (rest : List Event) (between after : W) (later : Result T Failed) : Type 0 where
-      pub printed : Prints (G.printed between) (G.printed after) (text_of names programs number taken start ++ flat_map line_text (closing_lines number rest (run programs taken start))) later
+      pub printed : Prints (G.printed between) (G.printed after) (text_of (opening names programs number start) taken ++ flat_map line_text (closing_lines number rest (run programs taken start))) later
       pub times : PutsTimes G (length (event_lines names programs number taken start ++ closing_lines number rest (run programs taken start))) between after later
       pub images : Leaves G (λ image seen. IsStage programs number start taken image) between after
-      pub left : IsSome (G.printed between) → Leaves G (IsLeft programs number start taken (text_of names programs number taken start ++ flat_map line_text (closing_lines number rest (run programs taken start))) (shown_of G between)) between after
+      pub left : IsSome (G.printed between) → Leaves G (IsLeft programs number start taken (text_of (opening names programs number start) taken ++ flat_map line_text (closing_lines number rest (run programs taken start))) (shown_of G between)) between after
       pub time : Elapses G.moment G.left_since between after
 
     -- a put failed among the lines of the events
-    tail_stop : {T U : Type 0} (front rest : List Event) (start : Desk) (new : D) (between after : W) (result : Result T Failed) (later : Result U Failed) → IsErr result → IsErr later → (ran : Ran S G names programs number front start new between after result) → Tail start ran.taken rest between after later
+    tail_stop : {T U : Type 0} (front rest : List Event) (start : Desk) (new : D) (between after : W) (result : Result T Failed) (later : Result U Failed) → IsErr result → IsErr later → (ran : Ran S G (opening names programs number start) front new (span between after) result) → Tail start ran.taken rest between after later
     tail_stop front rest start new between after result later one two ran =
-        let put = text_of names programs number ran.taken start in
+        let put = text_of (opening names programs number start) ran.taken in
         let ends = flat_map line_text (closing_lines number rest (run programs ran.taken start)) in
         record {
           printed = prints_stop (G.printed between) (G.printed after) put ends result later one two ran.printed;
@@ -97,9 +97,9 @@ module _ {D W : Type 0} (S : desk.Ghosts D) (G : Ghosts W) (laws : Laws S G) (na
         }
 
     -- the desk is closed
-    tail_shut : {T U : Type 0} (front rest : List Event) (start : Desk) (new : D) (between after : W) (value : T) (other : U) (ran : Ran S G names programs number front start new between after (Ok value)) → S.closed new ≡ true → Tail start ran.taken rest between after (Ok other)
+    tail_shut : {T U : Type 0} (front rest : List Event) (start : Desk) (new : D) (between after : W) (value : T) (other : U) (ran : Ran S G (opening names programs number start) front new (span between after) (Ok value)) → S.closed new ≡ true → Tail start ran.taken rest between after (Ok other)
     tail_shut {T} {U} front rest start new between after value other ran shut =
-        let put = text_of names programs number ran.taken start in
+        let put = text_of (opening names programs number start) ran.taken in
         let ends = flat_map line_text (closing_lines number rest (run programs ran.taken start)) in
         let none : ends ≡ [] = ap (flat_map line_text) (no_closing number rest (run programs ran.taken start) (sym ran.to.closes ∙ shut)) in
         record {
@@ -111,11 +111,11 @@ module _ {D W : Type 0} (S : desk.Ghosts D) (G : Ghosts W) (laws : Laws S G) (na
         }
 
     -- the lines of the end are put
-    tail_put : {T U : Type 0} (front rest : List Event) (start : Desk) (new : D) (between middle after : W) (value : T) (later : Result U Failed) → (S.fixed new).opened ≡ number → S.closed new ≡ false → rest ≡ [] → (ran : Ran S G names programs number front start new between middle (Ok value))
+    tail_put : {T U : Type 0} (front rest : List Event) (start : Desk) (new : D) (between middle after : W) (value : T) (later : Result U Failed) → (S.fixed new).opened ≡ number → S.closed new ≡ false → rest ≡ [] → (ran : Ran S G (opening names programs number start) front new (span between middle) (Ok value))
         → ((held : List ℕ) (desk : Desk) → S.shows new held desk → Puts G (closing_lines number [] desk) middle after later) → Tail start ran.taken rest between after later
     tail_put front rest start new between middle after value later opened still none ran closing =
         let last = run programs ran.taken start in
-        let put = text_of names programs number ran.taken start in
+        let put = text_of (opening names programs number start) ran.taken in
         let ends : List ℕ = flat_map line_text (closing_lines number [] last) in
         let kept = ran.to.still (sym ran.to.closes ∙ still) in
         let puts : Puts G (closing_lines number [] last) middle after later = closing (held_of G middle) last kept.1 in
@@ -137,11 +137,11 @@ module _ {D W : Type 0} (S : desk.Ghosts D) (G : Ghosts W) (laws : Laws S G) (na
 
     module _ (old : D) (opened_at : (S.fixed old).opened ≡ number) (start : Desk) (before between : W) where
       -- the first line failed
-      reports_none : {T : Type 0} (events : List Event) (result : Result T Failed) (later : Result Going Failed) → IsErr result → IsErr later → S.closed old ≡ false → HasOpened S G old before start → Puts G (Open number ∷ []) before between result → Reports S G names programs number events start old before between is_closed later
+      reports_none : {T : Type 0} (events : List Event) (result : Result T Failed) (later : Result Going Failed) → IsErr result → IsErr later → S.closed old ≡ false → HasOpened S G old before start → Puts G (Open number ∷ []) before between result → Reports S G (opening names programs number start) events old (span before between) is_closed later
       reports_none events result later one two was_open opened puts =
           let sure = sure_puts S G laws.later laws.printed (Open number ∷ []) before between result puts opened.sure in
           let first : List ℕ = flat_map line_text (Open number ∷ []) in
-          let more : List ℕ = text_of names programs number [] start ++ flat_map line_text (closing_lines number events start) in
+          let more : List ℕ = text_of (opening names programs number start) [] ++ flat_map line_text (closing_lines number events start) in
           let whole : first ++ more ≡ report names programs number [] events start = ap (λ (front : List ℕ). front ++ more) (open_text number) ∙ sym (report_parts programs names number [] events start) in
           record {
             taken = [];
@@ -161,13 +161,13 @@ module _ {D W : Type 0} (S : desk.Ghosts D) (G : Ghosts W) (laws : Laws S G) (na
           }
 
       -- the first line is put, then the lines of events and those of the end
-      reports_of : {T U : Type 0} (events front rest : List Event) (new : D) (middle after : W) (value : T) (result : Result U Failed) (later : Result Going Failed) → HasOpened S G old before start → Puts G (Open number ∷ []) before between (Ok value) → front ++ rest ≡ events → (ran : Ran S G names programs number front start new between middle result)
+      reports_of : {T U : Type 0} (events front rest : List Event) (new : D) (middle after : W) (value : T) (result : Result U Failed) (later : Result Going Failed) → HasOpened S G old before start → Puts G (Open number ∷ []) before between (Ok value) → front ++ rest ≡ events → (ran : Ran S G (opening names programs number start) front new (span between middle) result)
           → Tail start ran.taken rest between after later → (IsSure G middle → IsSure G after)
           → ((image seen : List ℕ) → G.left_since after (G.moment after) image seen → (shown : List ℕ) × G.left_since middle (G.moment middle) image shown) → G.disk_faults after ≡ G.disk_faults middle → G.held after ≡ G.held middle → G.writes after ≡ G.writes middle → BeginsWith (G.printed middle) (G.printed after) []
-          → IfOk later (λ going. S.closed new ≡ is_closed going) → IfOk later (λ going. is_closed going ≡ false → rest ≡ []) → Reports S G names programs number events start new before after is_closed later
+          → IfOk later (λ going. S.closed new ≡ is_closed going) → IfOk later (λ going. is_closed going ≡ false → rest ≡ []) → Reports S G (opening names programs number start) events new (span before after) is_closed later
       reports_of events front rest new middle after value result later opened puts whole ran tail sure images disk same_held same_writes more closed all =
           let first : List ℕ = flat_map line_text (Open number ∷ []) in
-          let put = text_of names programs number ran.taken start in
+          let put = text_of (opening names programs number start) ran.taken in
           let ends = flat_map line_text (closing_lines number rest (run programs ran.taken start)) in
           let parts : first ++ (put ++ ends) ≡ report names programs number ran.taken rest start = ap (λ (front : List ℕ). front ++ (put ++ ends)) (open_text number) ∙ sym (report_parts programs names number ran.taken rest start) in
           let grew : Grew programs names number ran.taken start = run_grew programs names number ran.taken start ran.each_open in
@@ -182,7 +182,7 @@ module _ {D W : Type 0} (S : desk.Ghosts D) (G : Ghosts W) (laws : Laws S G) (na
             printed = prints_same (G.printed before) (G.printed after) (first ++ (put ++ ends)) (report names programs number ran.taken rest start) later parts
                 (prints_on (G.printed before) (G.printed between) (G.printed after) first (put ++ ends) value later puts.printed tail.printed);
             times = grind (arith, lines_end programs names number ran.taken rest start, times_on G before between after (Open number ∷ []) (event_lines names programs number ran.taken start ++ closing_lines number rest (run programs ran.taken start)) value later puts.printed puts.times tail.times);
-            earlier = earlier_behind (G.printed before) (G.printed between) (G.printed middle) (G.printed after) (line_text (Open number)) (λ front. text_of names programs number front start) ran.taken value
+            earlier = earlier_behind (G.printed before) (G.printed between) (G.printed middle) (G.printed after) (line_text (Open number)) (λ front. text_of (opening names programs number start) front) ran.taken value
                 (prints_same (G.printed before) (G.printed between) first (line_text (Open number)) (Ok value) (open_text number) puts.printed) ran.earlier more;
             closed = closed;
             all = all;
@@ -201,9 +201,9 @@ module _ {D W : Type 0} (S : desk.Ghosts D) (G : Ghosts W) (laws : Laws S G) (na
           }
 
       -- and the lines of the end are put
-      reports_closing : {T U : Type 0} (events front rest : List Event) (new : D) (middle after : W) (value : T) (result : U) (later : Result Going Failed) → HasOpened S G old before start → Puts G (Open number ∷ []) before between (Ok value) → front ++ rest ≡ events → Ran S G names programs number front start new between middle (Ok result)
+      reports_closing : {T U : Type 0} (events front rest : List Event) (new : D) (middle after : W) (value : T) (result : U) (later : Result Going Failed) → HasOpened S G old before start → Puts G (Open number ∷ []) before between (Ok value) → front ++ rest ≡ events → Ran S G (opening names programs number start) front new (span between middle) (Ok result)
           → (S.fixed new).opened ≡ number → S.closed new ≡ false → rest ≡ [] → ((held : List ℕ) (desk : Desk) → S.shows new held desk → Puts G (closing_lines number [] desk) middle after later)
-          → IfOk later (λ going. S.closed new ≡ is_closed going) → IfOk later (λ going. is_closed going ≡ false → rest ≡ []) → Reports S G names programs number events start new before after is_closed later
+          → IfOk later (λ going. S.closed new ≡ is_closed going) → IfOk later (λ going. is_closed going ≡ false → rest ≡ []) → Reports S G (opening names programs number start) events new (span before after) is_closed later
       reports_closing events front rest new middle after value result later opened puts whole ran opened_new was_open none closing closed all =
           let last = run programs ran.taken start in
           let kept = ran.to.still (sym ran.to.closes ∙ was_open) in
@@ -215,46 +215,46 @@ module _ {D W : Type 0} (S : desk.Ghosts D) (G : Ghosts W) (laws : Laws S G) (na
 
   -- The first line can't be put.
   pub reports_unopened : {T : Type 0} (old : D) (start : Desk) (before between : W) (number : ℕ) (events : List Event) (result : Result T Failed) (later : Result Going Failed) → HasOpened S G old before start → ((held : List ℕ) (desk : Desk) → S.shows old held desk → number ≡ number_after (S.fixed old).opened desk) → Puts G (Open number ∷ []) before between result
-      → IsErr result → IsErr later → Reports S G names (S.fixed old).programs (S.fixed old).opened events start old before between is_closed later
+      → IsErr result → IsErr later → Reports S G (opening_of names (S.fixed old) start) events old (span before between) is_closed later
   reports_unopened old start before between number events result later opened tells put one two = grind (arith, nat_tests, reports_none, opens)
 
   -- The first line is put, and then the lines of some events.
   module _ (old new : D) (start : Desk) (before between middle : W) (number : ℕ) (events : List Event) {T : Type 0} (value : T) (result : Result Going Failed) (opened : HasOpened S G old before start)
       (tells : (held : List ℕ) (desk : Desk) → S.shows old held desk → number ≡ number_after (S.fixed old).opened desk) (put : Puts G (Open number ∷ []) before between (Ok value))
-      (ran : (desk : Desk) → IsSure G between → S.shows old (held_of G between) desk → RanSome S G names (S.fixed old).programs (S.fixed old).opened events desk new between middle result) where
+      (ran : (desk : Desk) → IsSure G between → S.shows old (held_of G between) desk → RanSome S G (opening_of names (S.fixed old) desk) events new (span between middle) result) where
     first_put : Puts G (Open (S.fixed old).opened ∷ []) before between (Ok value)
     first_put = opens old before between start number (Ok value) (tells (held_of G before) start opened.shows) opened put
 
-    pub some_ran : RanSome S G names (S.fixed old).programs (S.fixed old).opened events start new between middle result
+    pub some_ran : RanSome S G (opening_of names (S.fixed old) start) events new (span between middle) result
     some_ran = grind (arith, nat_tests)
 
     -- nothing is put behind them
     reports_still : (later : Result Going Failed) → Tail (S.fixed old).programs (S.fixed old).opened start some_ran.ran.taken some_ran.rest between middle later → IfOk later (λ going. S.closed new ≡ is_closed going) → IfOk later (λ going. is_closed going ≡ false → some_ran.rest ≡ [])
-        → Reports S G names (S.fixed old).programs (S.fixed old).opened events start new before middle is_closed later
+        → Reports S G (opening_of names (S.fixed old) start) events new (span before middle) is_closed later
     reports_still later tail closed all =
         reports_of (S.fixed old).programs (S.fixed old).opened old refl start before between events some_ran.front some_ran.rest new middle middle value result later opened first_put some_ran.whole some_ran.ran tail
         (λ sure. sure) (λ image seen left. (seen, left)) refl refl refl (begins_same (G.printed middle) (G.printed middle) refl) closed all
 
     -- a put failed among them
-    pub reports_stopped : (later : Result Going Failed) → IsErr result → IsErr later → Reports S G names (S.fixed old).programs (S.fixed old).opened events start new before middle is_closed later
+    pub reports_stopped : (later : Result Going Failed) → IsErr result → IsErr later → Reports S G (opening_of names (S.fixed old) start) events new (span before middle) is_closed later
     reports_stopped later one two =
         reports_still later (tail_stop (S.fixed old).programs (S.fixed old).opened some_ran.front some_ran.rest start new between middle result later one two some_ran.ran) (if_ok_broken later _ two) (if_ok_broken later _ two)
 
   module _ (old new : D) (start : Desk) (before between middle : W) (number : ℕ) (events : List Event) {T : Type 0} (value : T) (how : Going) (opened : HasOpened S G old before start)
       (tells : (held : List ℕ) (desk : Desk) → S.shows old held desk → number ≡ number_after (S.fixed old).opened desk) (put : Puts G (Open number ∷ []) before between (Ok value))
-      (ran : (desk : Desk) → IsSure G between → S.shows old (held_of G between) desk → RanSome S G names (S.fixed old).programs (S.fixed old).opened events desk new between middle (Ok how)) where
-    abbrev some : RanSome S G names (S.fixed old).programs (S.fixed old).opened events start new between middle (Ok how)
+      (ran : (desk : Desk) → IsSure G between → S.shows old (held_of G between) desk → RanSome S G (opening_of names (S.fixed old) desk) events new (span between middle) (Ok how)) where
+    abbrev some : RanSome S G (opening_of names (S.fixed old) start) events new (span between middle) (Ok how)
     some = some_ran old new start before between middle number events value (Ok how) opened tells put ran
 
     -- one of them closed the desk
-    pub reports_shut : (how ≡ going.On → ⊥) → Reports S G names (S.fixed old).programs (S.fixed old).opened events start new before middle is_closed (Ok how)
+    pub reports_shut : (how ≡ going.On → ⊥) → Reports S G (opening_of names (S.fixed old) start) events new (span before middle) is_closed (Ok how)
     reports_shut shut =
         reports_still old new start before between middle number events value (Ok how) opened tells put ran (Ok how)
         (tail_shut (S.fixed old).programs (S.fixed old).opened some.front some.rest start new between middle how how some.ran (some.closed ∙ not_on_closed how shut)) some.closed some.all
 
     -- all were run, and the lines of the end are put
     pub reports_ended : (after : W) (later : Result Going Failed) → how ≡ going.On → IfOk later (λ going. is_closed going ≡ false) → S.fixed new ≡ S.fixed old
-        → ((held : List ℕ) (desk : Desk) → S.shows new held desk → Puts G (closing_lines (S.fixed new).opened [] desk) middle after later) → Reports S G names (S.fixed old).programs (S.fixed old).opened events start new before after is_closed later
+        → ((held : List ℕ) (desk : Desk) → S.shows new held desk → Puts G (closing_lines (S.fixed new).opened [] desk) middle after later) → Reports S G (opening_of names (S.fixed old) start) events new (span before after) is_closed later
     reports_ended after later is still fixed closing =
         let same : (S.fixed new).opened ≡ (S.fixed old).opened = ap (λ (fixed : Fixed). fixed.opened) fixed in
         let was_open : S.closed new ≡ false = some.closed ∙ ap is_closed is in
@@ -263,19 +263,20 @@ module _ {D W : Type 0} (S : desk.Ghosts D) (G : Ghosts W) (laws : Laws S G) (na
         (λ held desk shows. subst (λ (n : ℕ). Puts G (closing_lines n [] desk) middle after later) same (closing held desk shows))
         (IfOk-weaker later _ _ (λ going on. was_open ∙ sym on) still) (IfOk-weaker later _ _ (λ going on goes. none) still)
 
--- what is told of a result, as of another that says as much
-pub reports_as : {D W T U : Type 0} (S : desk.Ghosts D) (G : Ghosts W) (names : List (List ℕ)) (programs : List Program) (number : ℕ) (events : List Event) (start : Desk) (new : D) (before after : W) (shut : T → Bool) (other : U → Bool) (result : Result T Failed) (later : Result U Failed)
-    → ((old now : Option (List ℕ)) (bytes : List ℕ) → Prints old now bytes result → Prints old now bytes later) → ((P : Type 0) → OnOk result P → OnOk later P) → (IfOk result (λ value. S.closed new ≡ shut value) → IfOk later (λ value. S.closed new ≡ other value)) → ((P : Type 0) → IfOk result (λ value. shut value ≡ false → P) → IfOk later (λ value. other value ≡ false → P))
-    → Reports S G names programs number events start new before after shut result → Reports S G names programs number events start new before after other later
-reports_as S G names programs number events start new before after shut other result later prints times closes all reports = grind (arith, (prints (G.printed before) (G.printed after) (report names programs number reports.taken reports.rest start) reports.printed), times _ reports.times, closes reports.closed, all _ reports.all)
+module _ {D W : Type 0} (S : desk.Ghosts D) (G : Ghosts W) (begins : Opening) (events : List Event) (new : D) (at : Span W) where
+  -- what is told of a result, as of another that says as much
+  reports_as : {T U : Type 0} (shut : T → Bool) (other : U → Bool) (result : Result T Failed) (later : Result U Failed)
+      → ((old now : Option (List ℕ)) (bytes : List ℕ) → Prints old now bytes result → Prints old now bytes later) → ((P : Type 0) → OnOk result P → OnOk later P) → (IfOk result (λ value. S.closed new ≡ shut value) → IfOk later (λ value. S.closed new ≡ other value)) → ((P : Type 0) → IfOk result (λ value. shut value ≡ false → P) → IfOk later (λ value. other value ≡ false → P))
+      → Reports S G begins events new at shut result → Reports S G begins events new at other later
+  reports_as shut other result later prints times closes all reports = grind (arith, (prints (G.printed at.before) (G.printed at.after) (report_of begins reports.taken reports.rest) reports.printed), times _ reports.times, closes reports.closed, all _ reports.all)
 
--- what is told of how it goes on, as whether the desk is closed
-pub reports_told : {D W : Type 0} (S : desk.Ghosts D) (G : Ghosts W) (names : List (List ℕ)) (programs : List Program) (number : ℕ) (events : List Event) (start : Desk) (new : D) (before after : W) (how : Going) (shut : Bool) → is_closed how ≡ shut → Reports S G names programs number events start new before after is_closed (Ok how) → Reports S G names programs number events start new before after (λ closed. closed) (Ok shut)
-reports_told S G names programs number events start new before after how shut is =
-    reports_as S G names programs number events start new before after is_closed (λ closed. closed) (Ok how) (Ok shut)
-    (λ old now bytes prints. prints_well old now bytes how shut prints) (λ P times. times) (λ closes. closes ∙ is) (λ P all going_on. all (is ∙ going_on))
+  -- what is told of how it goes on, as whether the desk is closed
+  pub reports_told : (how : Going) (shut : Bool) → is_closed how ≡ shut → Reports S G begins events new at is_closed (Ok how) → Reports S G begins events new at (λ closed. closed) (Ok shut)
+  reports_told how shut is =
+      reports_as is_closed (λ closed. closed) (Ok how) (Ok shut)
+      (λ old now bytes prints. prints_well old now bytes how shut prints) (λ P times. times) (λ closes. closes ∙ is) (λ P all going_on. all (is ∙ going_on))
 
--- and of a put that failed
-pub reports_broken : {D W : Type 0} (S : desk.Ghosts D) (G : Ghosts W) (names : List (List ℕ)) (programs : List Program) (number : ℕ) (events : List Event) (start : Desk) (new : D) (before after : W) (failed : Failed) → Reports S G names programs number events start new before after is_closed (Err failed) → Reports S G names programs number events start new before after {T = Bool} (λ closed. closed) (Err failed)
-reports_broken S G names programs number events start new before after failed =
-    reports_as S G names programs number events start new before after is_closed (λ closed. closed) (Err failed) (Err failed) (λ old now bytes prints. prints_broken {T = Going} {U = Bool} (Err failed) (Err failed) refl refl old now bytes prints) (λ P times. times) (λ closes. closes) (λ P all. all)
+  -- and of a put that failed
+  pub reports_broken : (failed : Failed) → Reports S G begins events new at is_closed (Err failed) → Reports S G begins events new at {T = Bool} (λ closed. closed) (Err failed)
+  reports_broken failed =
+      reports_as is_closed (λ closed. closed) (Err failed) (Err failed) (λ old now bytes prints. prints_broken {T = Going} {U = Bool} (Err failed) (Err failed) refl refl old now bytes prints) (λ P times. times) (λ closes. closes) (λ P all. all)

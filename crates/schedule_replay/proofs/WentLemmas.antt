@@ -1,5 +1,5 @@
 -- One event of a run, and its lines.
-use Rattle.schedule_replay.proofs.Common.{◌≡◌, ℕ, zero, suc, ◌+◌, ◌≤◌, List, [], ◌∷◌, ◌++◌, length, map, take, refl, sym, ap, ◌∙◌, subst, arith, length-append, ⊎_elim, append-nil, inr, IsSome, true, false, not, Bool, Option, unwrap_or, Result, All, flat_map, Failed, Ghosts, Prints, IsSure, CallsDisk, Leaves, FewerLater, held_of, elapses-trans, leaves_on, told_is, Program, stands, Event, TookEvent, IsEitherOf, standing_of, Desk, Word, Doubt, Step, step, faulted, Line, line_text, number_after, happening_lines, event_lines, commits_seen, IsUnbroken, IsLeft, IsStage, seen_cut, seen_all, commits_in, AreNames, Stepped, step_by, run_plain, left_quiet, left_open, stage_either, Puts, PutsTimes, shown_of, Ran, InDoubt, WasStep, text_of, view_of, RanTo, nat_tests}
+use Rattle.schedule_replay.proofs.Common.{◌≡◌, ℕ, zero, suc, ◌+◌, ◌≤◌, List, [], ◌∷◌, ◌++◌, length, map, take, refl, sym, ap, ◌∙◌, subst, arith, length-append, ⊎_elim, append-nil, inr, IsSome, true, false, not, Bool, Option, unwrap_or, Result, All, flat_map, Failed, Ghosts, Prints, IsSure, CallsDisk, Leaves, FewerLater, held_of, elapses-trans, leaves_on, told_is, Program, stands, Event, TookEvent, IsEitherOf, standing_of, Desk, Word, Doubt, Step, step, faulted, Line, line_text, number_after, happening_lines, event_lines, commits_seen, IsUnbroken, IsLeft, IsStage, seen_cut, seen_all, commits_in, AreNames, Stepped, step_by, run_plain, left_quiet, left_open, stage_either, Puts, PutsTimes, shown_of, Ran, InDoubt, WasStep, text_of, view_of, RanTo, nat_tests, opening, span}
 use Rattle.desk.specs.declared.supervisor.Supervisor as desk
 use Rattle.schedule_replay.proofs.PutsLemmas.{PrintedNow, puts_same, begins_none}
 use Rattle.schedule_replay.proofs.RanToLemmas.{to_did, to_later}
@@ -53,7 +53,7 @@ module _ {D W : Type 0} (S : desk.Ghosts D) (G : Ghosts W) (fewer_later : FewerL
       told_is (G.printed before) seen told (⊎_elim (λ was. printed_now before image seen was) (λ is. is) (calls.quiet.crash image seen left))
 
   module _ (stands_law : (s : D) (held : List ℕ) (desk : Desk) → S.shows s held desk → stands held ≡ standing_of (S.fixed s).opened desk) (names : List (List ℕ)) (are : AreNames names) (programs : List Program) (number : ℕ) where
-    module _ {T : Type 0} (event : Event) (lines : List Line) (start : Desk) (new : D) (before between after : W) (result : Result T Failed) (was_open : start.closed ≡ false) (opened : (S.fixed new).opened ≡ number) (calls : CallsDisk G before between) (was : WasStep S G names programs number event lines start new before between) (puts : Puts G lines between after result) where
+    module _ {T : Type 0} (event : Event) (lines : List Line) (start : Desk) (new : D) (before between after : W) (result : Result T Failed) (was_open : start.closed ≡ false) (opened : (S.fixed new).opened ≡ number) (calls : CallsDisk G before between) (was : WasStep S G (opening names programs number start) event lines new (span before between)) (puts : Puts G lines between after result) where
       abbrev did : TookEvent G (record { programs = programs; number = number; event = event; told = was.told }) (view_of S new) start before between
       did = was.did
 
@@ -64,7 +64,7 @@ module _ {D W : Type 0} (S : desk.Ghosts D) (G : Ghosts W) (fewer_later : FewerL
       went = step programs event word start
 
       abbrev text : List ℕ
-      text = text_of names programs number ((event, word) ∷ []) start
+      text = text_of (opening names programs number start) ((event, word) ∷ [])
 
       next_is : went.desk ≡ did.next
       next_is = ap (λ (after : Step). after.desk) did.stepped
@@ -123,14 +123,14 @@ module _ {D W : Type 0} (S : desk.Ghosts D) (G : Ghosts W) (fewer_later : FewerL
           few
 
       -- what it left, once its lines were put
-      comes_to : RanTo S G went.desk (event_lines names programs number ((event, word) ∷ []) start) (faulted ((event, word) ∷ [])) new before after
+      comes_to : RanTo S G went.desk (event_lines names programs number ((event, word) ∷ []) start) (faulted ((event, word) ∷ [])) new (span before after)
       comes_to =
-          subst (λ (these : List Line). RanTo S G went.desk these (faulted ((event, word) ∷ [])) new before after) (sym lines_are)
-          (subst (λ (desk : Desk). RanTo S G desk lines (faulted ((event, word) ∷ [])) new before after) (sym next_is)
+          subst (λ (these : List Line). RanTo S G went.desk these (faulted ((event, word) ∷ [])) new (span before after)) (sym lines_are)
+          (subst (λ (desk : Desk). RanTo S G desk lines (faulted ((event, word) ∷ [])) new (span before after)) (sym next_is)
           (to_later S G did.next lines (faulted ((event, word) ∷ [])) new before between after puts.only.held puts.only.disk puts.only.writes (λ sure. (sure_puts lines between after result puts sure).0)
           (to_did S G programs number event names lines start new before between was calls.disk)))
 
-      in_doubt : went.desk.closed ≡ true → (front : List (Event × Word)) (one : Event) → (event, word) ∷ [] ≡ front ++ (one, Doubt) ∷ [] → InDoubt G programs number start front one after
+      in_doubt : went.desk.closed ≡ true → (front : List (Event × Word)) (one : Event) → (event, word) ∷ [] ≡ front ++ (one, Doubt) ∷ [] → InDoubt G (opening names programs number start) front one after
       in_doubt shut front one is =
           let last = last_is [] front (event, word) (one, Doubt) is in
           let doubted : word ≡ Doubt = ap (λ (pair : Event × Word). pair.1) last.1 in
@@ -139,7 +139,7 @@ module _ {D W : Type 0} (S : desk.Ghosts D) (G : Ghosts W) (fewer_later : FewerL
           let later = λ (image seen : List ℕ). fewer_later after (G.moment between) (G.moment after) image seen lines_put.only.time.later in
           grind (arith, last, doubted, place, next_is, images, later)
 
-      pub ran_event : Ran S G names programs number (event ∷ []) start new before after result
+      pub ran_event : Ran S G (opening names programs number start) (event ∷ []) new (span before after) result
       ran_event = record {
         taken = (event, word) ∷ [];
         events_taken = refl;

@@ -2,6 +2,7 @@ pub mod Asked
 pub mod Puts
 pub mod Answered
 pub mod Told
+pub mod Runs
 pub mod RanTo
 pub mod Ran
 pub mod Replays

@@ -4,7 +4,6 @@ use Rattle.std.specs.List.{fold}
 use Rattle.outside.specs.declared.world.Outside.{Ghosts}
 use Rattle.outside.specs.declared.failed.Failed.{Failed}
 use Rattle.outside.specs.Runs.{Leaves}
-use Rattle.flat_machine.specs.declared.machine.Program.{Program}
 use Rattle.desk.specs.declared.answers.Begun.{Begun}
 use Rattle.desk.specs.declared.answers.Begun.TheVariants as begun
 use Rattle.desk.specs.declared.answers.Stored.{Stored}
@@ -15,12 +14,10 @@ use Rattle.desk.specs.declared.event.Event.{Event}
 use Rattle.desk.specs.declared.event.Event.TheVariants.{Crash}
 use Rattle.desk.specs.declared.supervisor.Supervisor as desk
 use Rattle.desk.specs.Commits.{is_commit}
-use Rattle.desk.specs.Desk.{Desk}
 use Rattle.desk.specs.Instruction.{Word}
-use Rattle.desk.specs.Run.{run, faulted, OpenBeforeEach}
+use Rattle.desk.specs.Run.{faulted, OpenBeforeEach}
 use Rattle.desk.specs.Lines.{Line}
 use Rattle.desk.specs.Lines as line
-use Rattle.desk.specs.Report.{event_lines}
 use Rattle.run_law.specs.Left.{IsStage}
 use Rattle.schedule_replay.specs.declared.events.Going.{Going}
 use Rattle.schedule_replay.specs.declared.events.Going.TheVariants as going
@@ -29,6 +26,7 @@ use Rattle.schedule_replay.specs.declared.quietly.Quiet.TheVariants as quiet
 use Rattle.schedule_replay.specs.declared.quietly.Tally.{Tally}
 use Rattle.schedule_replay.specs.Ran.{IfInDoubt, InDoubt, WasStep}
 use Rattle.schedule_replay.specs.RanTo.{RanTo}
+use Rattle.schedule_replay.specs.Runs.{Opening, Span, end_of, lines_of}
 
 -- no put failed
 abbrev pub unput : Result ℕ Failed
@@ -100,20 +98,20 @@ going_of (quiet.Ended commits rollbacks) = going.On
 going_of quiet.Closed = going.Closed
 
 -- an event was a step of the desk, and what it came to is told, where it left the desk open
-pub record WentQuietly {D W : Type 0} (S : desk.Ghosts D) (G : Ghosts W) (programs : List Program) (number : ℕ) (event : Event) (start : Desk) (new : D) (before after : W) (old_last new_last : List ℕ) (tally : Option Tally) : Type 0 where
+pub record WentQuietly {D W : Type 0} (S : desk.Ghosts D) (G : Ghosts W) (opening : Opening) (event : Event) (new : D) (span : Span W) (old_last new_last : List ℕ) (tally : Option Tally) : Type 0 where
   pub lines : List Line
-  pub step : WasStep S G [] programs number event lines start new before after
+  pub step : WasStep S G opening event lines new span
   pub tells : IfSome tally (λ tally. Tells tally old_last new_last lines)
 
 -- Events were run from a desk, each with a word, and nothing was put: what `Ran` says but for its lines, which nobody sees. The image that
 -- a crash since the start left is one of the run, whatever was printed before.
-pub record RanQuietly {D W : Type 0} (S : desk.Ghosts D) (G : Ghosts W) (programs : List Program) (number : ℕ) (events : List Event) (start : Desk) (new : D) (before after : W) : Type 0 where
+pub record RanQuietly {D W : Type 0} (S : desk.Ghosts D) (G : Ghosts W) (opening : Opening) (events : List Event) (new : D) (span : Span W) : Type 0 where
   pub taken : List (Event × Word)
   pub events_taken : map (λ event. event.0) taken ≡ events
-  pub each_open : OpenBeforeEach programs taken start
-  pub to : RanTo S G (run programs taken start) (event_lines [] programs number taken start) (faulted taken) new before after
-  pub images : Leaves G (λ image seen. IsStage programs number start taken image) before after
-  pub doubt : IfInDoubt taken (run programs taken start).closed (λ front event. InDoubt G programs number start front event after)
+  pub each_open : OpenBeforeEach opening.programs taken opening.start
+  pub to : RanTo S G (end_of opening taken) (lines_of opening taken) (faulted taken) new span
+  pub images : Leaves G (λ image seen. IsStage opening.programs opening.number opening.start taken image) span.before span.after
+  pub doubt : IfInDoubt taken (end_of opening taken).closed (λ front event. InDoubt G opening front event span.after)
 
 -- the counts of a run that ended, and what its last commit printed, are those of its lines
 abbrev pub TellsAll : Quiet → (last : List ℕ) → List Line → Type 0
@@ -127,11 +125,11 @@ is_shut quiet.Closed = true
 
 -- There is one run of the first of the events from the desk that was shown, and all events were run where it is open in the end. Its
 -- counts are those of its lines.
-pub record RunsQuietly {D W : Type 0} (S : desk.Ghosts D) (G : Ghosts W) (programs : List Program) (number : ℕ) (events : List Event) (start : Desk) (new : D) (before after : W) (last : List ℕ) (quiet : Quiet) : Type 0 where
+pub record RunsQuietly {D W : Type 0} (S : desk.Ghosts D) (G : Ghosts W) (opening : Opening) (events : List Event) (new : D) (span : Span W) (last : List ℕ) (quiet : Quiet) : Type 0 where
   pub front : List Event
   pub rest : List Event
   pub whole : front ++ rest ≡ events
-  pub ran : RanQuietly S G programs number front start new before after
-  pub tells : TellsAll quiet last (event_lines [] programs number ran.taken start)
+  pub ran : RanQuietly S G opening front new span
+  pub tells : TellsAll quiet last (lines_of opening ran.taken)
   pub closed : S.closed new ≡ is_shut quiet
   pub all : is_shut quiet ≡ false → rest ≡ []

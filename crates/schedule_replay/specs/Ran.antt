@@ -7,7 +7,6 @@ use Rattle.outside.specs.Bytes.{Prints}
 use Rattle.outside.specs.Durable.{IsSure}
 use Rattle.outside.specs.Moments.{Elapses}
 use Rattle.outside.specs.Runs.{Leaves, held_of}
-use Rattle.flat_machine.specs.declared.machine.Program.{Program}
 use Rattle.store_format.specs.Stands.{stands}
 use Rattle.desk.specs.declared.event.Event.{Event}
 use Rattle.desk.specs.declared.supervisor.Supervisor as desk
@@ -16,12 +15,13 @@ use Rattle.desk.specs.Crash.{TookEvent, View, standing_of, fine_step, view}
 use Rattle.desk.specs.Desk.{Desk}
 use Rattle.desk.specs.Instruction.{Word, Doubt}
 use Rattle.desk.specs.Kept.{WritesMore, tells_fault}
-use Rattle.desk.specs.Run.{Happening, run, faulted, OpenBeforeEach}
+use Rattle.desk.specs.Run.{Happening, faulted, OpenBeforeEach}
 use Rattle.desk.specs.Lines.{Line, line_text}
-use Rattle.desk.specs.Report.{number_after, event_lines, happening_lines}
+use Rattle.desk.specs.Report.{number_after, happening_lines}
 use Rattle.run_law.specs.Left.{IsLeft, IsStage}
 use Rattle.schedule_replay.specs.Puts.{BeginsWith, PutsTimes, shown_of}
 use Rattle.schedule_replay.specs.RanTo.{RanTo}
+use Rattle.schedule_replay.specs.Runs.{Opening, Span, end_of, lines_of}
 
 -- what is seen of a supervisor
 abbrev pub view_of : {D : Type 0} → desk.Ghosts D → D → View
@@ -43,35 +43,35 @@ abbrev pub IfInDoubt : List (Event × Word) → (closed : Bool) → (List (Event
 IfInDoubt taken closed P = closed ≡ true → (front : List (Event × Word)) (event : Event) → taken ≡ front ++ (event, Doubt) ∷ [] → P front event
 
 -- behind these events one ended in doubt: there is one place with whose byte each image stands for where it goes well
-abbrev pub InDoubt : {W : Type 0} → Ghosts W → List Program → ℕ → Desk → List (Event × Word) → Event → W → Type 0
-InDoubt G programs number start front event after =
-    ((fine_step programs event (run programs front start)).order ≡ (run programs (front ++ (event, Doubt) ∷ []) start).order)
-    × ((gate : ℕ) × Leaves G (λ image seen. stands (slice_set image gate 165) ≡ standing_of number (fine_step programs event (run programs front start))) after after)
+abbrev pub InDoubt : {W : Type 0} → Ghosts W → Opening → List (Event × Word) → Event → W → Type 0
+InDoubt G opening front event after =
+    ((fine_step opening.programs event (end_of opening front)).order ≡ (end_of opening (front ++ (event, Doubt) ∷ [])).order)
+    × ((gate : ℕ) × Leaves G (λ image seen. stands (slice_set image gate 165) ≡ standing_of opening.number (fine_step opening.programs event (end_of opening front))) after after)
 
 -- the text of a run's events
-abbrev pub text_of : List (List ℕ) → List Program → ℕ → List (Event × Word) → Desk → List ℕ
-text_of names programs number taken start = flat_map line_text (event_lines names programs number taken start)
+abbrev pub text_of : Opening → List (Event × Word) → List ℕ
+text_of opening taken = flat_map line_text (lines_of opening taken)
 
--- An event was a step of the desk, and these are the lines of what happened at it, with these names. Two writes for each commit line succeeded, and
+-- An event was a step of the desk with which this begins, and these are the lines of what happened at it. Two writes for each commit line succeeded, and
 -- the disk's count of faults stays where no line tells of one.
-pub record WasStep {D W : Type 0} (S : desk.Ghosts D) (G : Ghosts W) (names : List (List ℕ)) (programs : List Program) (number : ℕ) (event : Event) (lines : List Line) (start : Desk) (new : D) (before after : W) : Type 0 where
+pub record WasStep {D W : Type 0} (S : desk.Ghosts D) (G : Ghosts W) (opening : Opening) (event : Event) (lines : List Line) (new : D) (span : Span W) : Type 0 where
   pub told : Happening
-  pub did : TookEvent G (record { programs = programs; number = number; event = event; told = told }) (view_of S new) start before after
-  pub lines_are : lines ≡ happening_lines names (number_after number did.next) told
-  pub writes : WritesMore (G.writes before) (G.writes after) (2 * count_by is_commit lines)
-  pub calm : count_by tells_fault lines ≡ 0 → G.disk_faults after ≡ G.disk_faults before
+  pub did : TookEvent G (record { programs = opening.programs; number = opening.number; event = event; told = told }) (view_of S new) opening.start span.before span.after
+  pub lines_are : lines ≡ happening_lines opening.names (number_after opening.number did.next) told
+  pub writes : WritesMore (G.writes span.before) (G.writes span.after) (2 * count_by is_commit lines)
+  pub calm : count_by tells_fault lines ≡ 0 → G.disk_faults span.after ≡ G.disk_faults span.before
 
--- Events were run from a desk, each with a word, and their lines put. The image that a crash since the start left is one of the run, and where printed
+-- Events were run from an opening, each with a word, and their lines put. The image that a crash since the start left is one of the run, and where printed
 -- bytes are told it lacks no commit that was seen by then, and has at most one more.
-pub record Ran {D W : Type 0} (S : desk.Ghosts D) (G : Ghosts W) (names : List (List ℕ)) (programs : List Program) (number : ℕ) (events : List Event) (start : Desk) (new : D) (before after : W) {T : Type 0} (result : Result T Failed) : Type 0 where
+pub record Ran {D W : Type 0} (S : desk.Ghosts D) (G : Ghosts W) (opening : Opening) (events : List Event) (new : D) (span : Span W) {T : Type 0} (result : Result T Failed) : Type 0 where
   pub taken : List (Event × Word)
   pub events_taken : map (λ event. event.0) taken ≡ events
-  pub each_open : OpenBeforeEach programs taken start
-  pub to : RanTo S G (run programs taken start) (event_lines names programs number taken start) (faulted taken) new before after
-  pub printed : Prints (G.printed before) (G.printed after) (text_of names programs number taken start) result
-  pub times : PutsTimes G (length (event_lines names programs number taken start)) before after result
-  pub earlier : PrintsEarlier (G.printed before) (G.printed after) (λ front. text_of names programs number front start) taken
-  pub time : Elapses G.moment G.left_since before after
-  pub images : Leaves G (λ image seen. IsStage programs number start taken image) before after
-  pub left : IsSome (G.printed before) → Leaves G (IsLeft programs number start taken (text_of names programs number taken start) (shown_of G before)) before after
-  pub doubt : IfInDoubt taken (run programs taken start).closed (λ front event. InDoubt G programs number start front event after)
+  pub each_open : OpenBeforeEach opening.programs taken opening.start
+  pub to : RanTo S G (end_of opening taken) (lines_of opening taken) (faulted taken) new span
+  pub printed : Prints (G.printed span.before) (G.printed span.after) (text_of opening taken) result
+  pub times : PutsTimes G (length (lines_of opening taken)) span.before span.after result
+  pub earlier : PrintsEarlier (G.printed span.before) (G.printed span.after) (λ front. text_of opening front) taken
+  pub time : Elapses G.moment G.left_since span.before span.after
+  pub images : Leaves G (λ image seen. IsStage opening.programs opening.number opening.start taken image) span.before span.after
+  pub left : IsSome (G.printed span.before) → Leaves G (IsLeft opening.programs opening.number opening.start taken (text_of opening taken) (shown_of G span.before)) span.before span.after
+  pub doubt : IfInDoubt taken (end_of opening taken).closed (λ front event. InDoubt G opening front event span.after)

@@ -9,15 +9,16 @@ use Rattle.desk.specs.Commits.{is_commit}
 use Rattle.desk.specs.Desk.{Desk}
 use Rattle.desk.specs.Kept.{KeepsJournal, WritesMore, journal_in, tells_fault}
 use Rattle.desk.specs.Lines.{Line}
+use Rattle.schedule_replay.specs.Runs.{Span}
 
 -- A run ended at this desk, with these lines, and in so many of its events a word wasn't fine. The supervisor is closed where the desk is and has its
 -- order; while the desk is open the bytes are sure and show it, and their journal is what the lines make of the one before. The disk's count of
 -- faults rose by at least the words that aren't fine, and stays where no line tells of a fault; for each commit line two writes succeeded.
-pub record RanTo {D W : Type 0} (S : desk.Ghosts D) (G : Ghosts W) (end : Desk) (lines : List Line) (unfine : ℕ) (new : D) (before after : W) : Type 0 where
+pub record RanTo {D W : Type 0} (S : desk.Ghosts D) (G : Ghosts W) (end : Desk) (lines : List Line) (unfine : ℕ) (new : D) (span : Span W) : Type 0 where
   pub closes : S.closed new ≡ end.closed
   pub ordered : S.order new ≡ end.order
-  pub still : end.closed ≡ false → IsSure G after × S.shows new (held_of G after) end
-  pub journal : end.closed ≡ false → KeepsJournal lines (journal_in (held_of G before)) (journal_in (held_of G after))
-  pub faults : RoseBy unfine (G.disk_faults before) (G.disk_faults after)
-  pub calm : count_by tells_fault lines ≡ 0 → G.disk_faults after ≡ G.disk_faults before
-  pub writes : WritesMore (G.writes before) (G.writes after) (2 * count_by is_commit lines)
+  pub still : end.closed ≡ false → IsSure G span.after × S.shows new (held_of G span.after) end
+  pub journal : end.closed ≡ false → KeepsJournal lines (journal_in (held_of G span.before)) (journal_in (held_of G span.after))
+  pub faults : RoseBy unfine (G.disk_faults span.before) (G.disk_faults span.after)
+  pub calm : count_by tells_fault lines ≡ 0 → G.disk_faults span.after ≡ G.disk_faults span.before
+  pub writes : WritesMore (G.writes span.before) (G.writes span.after) (2 * count_by is_commit lines)

@@ -6,7 +6,6 @@ use Rattle.outside.specs.Bytes.{Prints}
 use Rattle.outside.specs.Causes.{Rose}
 use Rattle.outside.specs.Durable.{IsSure}
 use Rattle.outside.specs.Runs.{Leaves, held_of}
-use Rattle.flat_machine.specs.declared.machine.Program.{Program}
 use Rattle.store_format.specs.Bank.{Faulty, bank_of}
 use Rattle.store_format.specs.Stands.{chosen}
 use Rattle.desk.specs.declared.answers.Begun.{Begun}
@@ -17,9 +16,8 @@ use Rattle.desk.specs.declared.event.Event.{Event}
 use Rattle.desk.specs.declared.supervisor.Supervisor as desk
 use Rattle.desk.specs.Desk.{Desk}
 use Rattle.desk.specs.Instruction.{Word}
-use Rattle.desk.specs.Run.{run, faulted, IsRunOf}
+use Rattle.desk.specs.Run.{faulted, IsRunOf}
 use Rattle.desk.specs.Lines.{line_text, Open}
-use Rattle.desk.specs.Report.{report, report_lines, event_lines}
 use Rattle.run_law.specs.Left.{IsLeft, IsStage}
 use Rattle.schedule_replay.specs.declared.events.Going.{Going}
 use Rattle.schedule_replay.specs.declared.events.Going.TheVariants as going
@@ -29,6 +27,7 @@ use Rattle.schedule_replay.specs.Answered.{Answered, GoesBy}
 use Rattle.schedule_replay.specs.Puts.{PutsTimes, shown_of}
 use Rattle.schedule_replay.specs.Ran.{Ran, PrintsEarlier, IfInDoubt, InDoubt, text_of}
 use Rattle.schedule_replay.specs.RanTo.{RanTo}
+use Rattle.schedule_replay.specs.Runs.{Opening, Span, end_of, lines_of, opening_of, report_of, report_lines_of}
 use Rattle.schedule_replay.specs.Told.{Tells}
 
 -- whether the desk goes on
@@ -60,21 +59,21 @@ going_by reopened.Shut = going.Closed
 
 -- One event was asked and its lines put: what that keeps, how it goes on, which lines they are, and the run of this event alone, from bytes that are
 -- sure and show a desk, which are never found damaged.
-pub record WentBy {D W : Type 0} (S : desk.Ghosts D) (G : Ghosts W) (names : List (List ℕ)) (event : Event) (old new : D) (before after : W) (result : Result Going Failed) : Type 0 where
-  pub answered : Answered S G (event ∷ []) old new before after result
-  pub goes : IfOk result (λ going. GoesBy S G old new before after going)
+pub record WentBy {D W : Type 0} (S : desk.Ghosts D) (G : Ghosts W) (names : List (List ℕ)) (event : Event) (old new : D) (span : Span W) (result : Result Going Failed) : Type 0 where
+  pub answered : Answered S G (event ∷ []) old new span.before span.after result
+  pub goes : IfOk result (λ going. GoesBy S G old new span.before span.after going)
   pub shut : S.closed old ≡ true → IfOk result (λ how. how ≡ going.Closed)
-  pub ran : (start : Desk) → IsSure G before → S.shows old (held_of G before) start → Ran S G names (S.fixed old).programs (S.fixed old).opened (event ∷ []) start new before after result
+  pub ran : (start : Desk) → IsSure G span.before → S.shows old (held_of G span.before) start → Ran S G (opening_of names (S.fixed old) start) (event ∷ []) new span result
   pub closed : IfOk result (λ going. S.closed new ≡ is_closed going)
-  pub undamaged : (start : Desk) → IsSure G before → S.shows old (held_of G before) start → IfOk result (λ going. is_damaged going ≡ false)
-  pub tells : Tells G names (event ∷ []) (S.order old) (S.order new) before after result
+  pub undamaged : (start : Desk) → IsSure G span.before → S.shows old (held_of G span.before) start → IfOk result (λ going. is_damaged going ≡ false)
+  pub tells : Tells G names (event ∷ []) (S.order old) (S.order new) span.before span.after result
 
 -- The first of the events were run, and their lines put. All events were run where the desk goes on.
-pub record RanSome {D W : Type 0} (S : desk.Ghosts D) (G : Ghosts W) (names : List (List ℕ)) (programs : List Program) (number : ℕ) (events : List Event) (start : Desk) (new : D) (before after : W) (result : Result Going Failed) : Type 0 where
+pub record RanSome {D W : Type 0} (S : desk.Ghosts D) (G : Ghosts W) (opening : Opening) (events : List Event) (new : D) (span : Span W) (result : Result Going Failed) : Type 0 where
   pub front : List Event
   pub rest : List Event
   pub whole : front ++ rest ≡ events
-  pub ran : Ran S G names programs number front start new before after result
+  pub ran : Ran S G opening front new span result
   pub closed : IfOk result (λ going. S.closed new ≡ is_closed going)
   pub sound : IfOk result (λ going. is_damaged going ≡ false)
   pub all : IfOk result (λ going. is_closed going ≡ false → rest ≡ [])
@@ -83,27 +82,27 @@ pub record RanSome {D W : Type 0} (S : desk.Ghosts D) (G : Ghosts W) (names : Li
 -- a put failed, which has the first line and those of all events but the last. A result says whether the desk is closed; all events were run where it
 -- goes on. The image that a crash at any moment since the start left is one of the run, and where printed bytes are told it lacks no commit that was
 -- seen by then, and has at most one more.
-pub record Reports {D W : Type 0} (S : desk.Ghosts D) (G : Ghosts W) (names : List (List ℕ)) (programs : List Program) (number : ℕ) (events : List Event) (start : Desk) (new : D) (before after : W) {T : Type 0} (shut : T → Bool) (result : Result T Failed) : Type 0 where
+pub record Reports {D W : Type 0} (S : desk.Ghosts D) (G : Ghosts W) (opening : Opening) (events : List Event) (new : D) (span : Span W) {T : Type 0} (shut : T → Bool) (result : Result T Failed) : Type 0 where
   pub taken : List (Event × Word)
   pub rest : List Event
-  pub is_run : IsRunOf programs events start taken rest
-  pub to : RanTo S G (run programs taken start) (event_lines names programs number taken start) (faulted taken) new before after
-  pub printed : Prints (G.printed before) (G.printed after) (report names programs number taken rest start) result
-  pub times : PutsTimes G (length (report_lines names programs number taken rest start)) before after result
-  pub earlier : PrintsEarlier (G.printed before) (G.printed after) (λ front. line_text (Open number) ++ text_of names programs number front start) taken
+  pub is_run : IsRunOf opening.programs events opening.start taken rest
+  pub to : RanTo S G (end_of opening taken) (lines_of opening taken) (faulted taken) new span
+  pub printed : Prints (G.printed span.before) (G.printed span.after) (report_of opening taken rest) result
+  pub times : PutsTimes G (length (report_lines_of opening taken rest)) span.before span.after result
+  pub earlier : PrintsEarlier (G.printed span.before) (G.printed span.after) (λ front. line_text (Open opening.number) ++ text_of opening front) taken
   pub closed : IfOk result (λ value. S.closed new ≡ shut value)
   pub all : IfOk result (λ value. shut value ≡ false → rest ≡ [])
-  pub images : Leaves G (λ image seen. IsStage programs number start taken image) before after
-  pub left : IsSome (G.printed before) → Leaves G (IsLeft programs number start taken (report names programs number taken rest start) (shown_of G before)) before after
-  pub doubt : IfInDoubt taken (run programs taken start).closed (λ front event. InDoubt G programs number start front event after)
+  pub images : Leaves G (λ image seen. IsStage opening.programs opening.number opening.start taken image) span.before span.after
+  pub left : IsSome (G.printed span.before) → Leaves G (IsLeft opening.programs opening.number opening.start taken (report_of opening taken rest) (shown_of G span.before)) span.before span.after
+  pub doubt : IfInDoubt taken (end_of opening taken).closed (λ front event. InDoubt G opening front event span.after)
 
 -- The events were replayed: to the end, to the one that closed the desk, or to the one in whose report a put failed. Bytes that are sure
 -- and shown are never found damaged.
-abbrev pub Replays : {D W : Type 0} → desk.Ghosts D → Ghosts W → List (List ℕ) → List Program → ℕ → List Event → Desk → D → W → W → Replayed → Type 0
-Replays S G names programs number events start new before after replayed.Ended = Reports S G names programs number events start new before after (λ closed. closed) (Ok false)
-Replays S G names programs number events start new before after replayed.Closed = Reports S G names programs number events start new before after (λ closed. closed) (Ok true)
-Replays S G names programs number events start new before after (replayed.Damaged offset) = ⊥
-Replays S G names programs number events start new before after replayed.PutFault = (failed : Failed) × Reports S G names programs number events start new before after {T = Bool} (λ closed. closed) (Err failed)
+abbrev pub Replays : {D W : Type 0} → desk.Ghosts D → Ghosts W → Opening → List Event → D → Span W → Replayed → Type 0
+Replays S G opening events new span replayed.Ended = Reports S G opening events new span (λ closed. closed) (Ok false)
+Replays S G opening events new span replayed.Closed = Reports S G opening events new span (λ closed. closed) (Ok true)
+Replays S G opening events new span (replayed.Damaged offset) = ⊥
+Replays S G opening events new span replayed.PutFault = (failed : Failed) × Reports S G opening events new span {T = Bool} (λ closed. closed) (Err failed)
 
 -- Why it ended so, without a word on what the supervisor shows: of one that was open a close comes only where the disk's faults rose,
 -- and damage only where the chosen bank of the bytes that are told has that fault; a failed put only where the screen's faults rose, and

@@ -13,6 +13,7 @@ ghost use Rattle.schedule_replay.specs.Answered.{IsReady, Answered, GoesBy, Goes
 ghost use Rattle.schedule_replay.specs.Puts.{Puts};
 ghost use Rattle.schedule_replay.specs.Ran.{HasOpened};
 ghost use Rattle.schedule_replay.specs.Told.{TellsBy, TellsReport, TellsSome};
+ghost use Rattle.schedule_replay.specs.Runs.{opening_of, span};
 ghost use Rattle.schedule_replay.specs.Replays.{Replays, Reports, RanSome, WentBy, EndsBy, EndsShut, is_closed, is_damaged, going_if, going_begun, going_by};
 
 use super::lines::{Unended, put_begun, put_each_and, put_one, put_reopened, put_stored, put_turn};
@@ -55,7 +56,7 @@ pub fn replay<S: Supervisor, W: Outside>(
 
     // From bytes that are sure, over which a desk is shown: what was run, that what was printed is its report, or a prefix of
     // it after a failed put, and what a crash left at any moment.
-    ensures replays { (start : Desk) → HasOpened S.Supervisor W.Outside desk.old outside.old start → Replays S.Supervisor W.Outside (map (λ name. name.items) names.now) (S.fixed desk.old).programs (S.fixed desk.old).opened events.now start desk.new outside.old outside.new result }
+    ensures replays { (start : Desk) → HasOpened S.Supervisor W.Outside desk.old outside.old start → Replays S.Supervisor W.Outside (opening_of (map (λ name. name.items) names.now) (S.fixed desk.old) start) events.now desk.new (span outside.old outside.new) result }
     // Whatever stands on the disk: what was printed are the lines of the answers, and the order is the one that they tell of.
     ensures tells { TellsBy W.Outside (map (λ name. name.items) names.now) events.now (S.order desk.old) (S.order desk.new) outside.old outside.new result }
     ensures ends { EndsBy S.Supervisor W.Outside desk.old desk.new outside.old outside.new result }
@@ -89,7 +90,7 @@ fn put_report<S: Supervisor, W: Outside>(
     requires names { length (S.fixed desk.old).programs ≤ length names.now }
     requires unbroken { All (λ name. IsUnbroken name.items) names.now }
     ensures tells { TellsReport W.Outside (map (λ name. name.items) names.now) events.now (S.order desk.old) (S.order desk.new) outside.old outside.new is_closed result }
-    ensures reports { (start : Desk) → HasOpened S.Supervisor W.Outside desk.old outside.old start → Reports S.Supervisor W.Outside (map (λ name. name.items) names.now) (S.fixed desk.old).programs (S.fixed desk.old).opened events.now start desk.new outside.old outside.new is_closed result }
+    ensures reports { (start : Desk) → HasOpened S.Supervisor W.Outside desk.old outside.old start → Reports S.Supervisor W.Outside (opening_of (map (λ name. name.items) names.now) (S.fixed desk.old) start) events.now desk.new (span outside.old outside.new) is_closed result }
     ensures undamaged { (start : Desk) → HasOpened S.Supervisor W.Outside desk.old outside.old start → IfOk result (λ going. is_damaged going ≡ false) }
     ensures goes { IfOk result (λ going. GoesBy S.Supervisor W.Outside desk.old desk.new outside.old outside.new going) }
     ensures shut { S.closed desk.old ≡ true → IfOk result (GoesShut events.now) }
@@ -137,7 +138,7 @@ fn put_events<S: Supervisor, W: Outside>(
     ensures answered { (count : ℕ) × Answered S.Supervisor W.Outside (take count events.now) desk.old desk.new outside.old outside.new result }
     ensures goes { IfOk result (λ going. GoesBy S.Supervisor W.Outside desk.old desk.new outside.old outside.new going) }
     ensures shut { S.closed desk.old ≡ true → IfOk result (GoesShut events.now) }
-    ensures ran { (start : Desk) → IsSure W.Outside outside.old → S.shows desk.old (held_of W.Outside outside.old) start → RanSome S.Supervisor W.Outside (map (λ name. name.items) names.now) (S.fixed desk.old).programs (S.fixed desk.old).opened events.now start desk.new outside.old outside.new result }
+    ensures ran { (start : Desk) → IsSure W.Outside outside.old → S.shows desk.old (held_of W.Outside outside.old) start → RanSome S.Supervisor W.Outside (opening_of (map (λ name. name.items) names.now) (S.fixed desk.old) start) events.now desk.new (span outside.old outside.new) result }
 {
     for event in events {
         match answer(desk, names, *event, reporter, outside)? {
@@ -159,7 +160,7 @@ fn answer<S: Supervisor, W: Outside>(
     requires ready { IsReady S.Supervisor W.Outside (event ∷ []) desk.old outside.old }
     requires names { length (S.fixed desk.old).programs ≤ length names.now }
     requires unbroken { All (λ name. IsUnbroken name.items) names.now }
-    ensures { WentBy S.Supervisor W.Outside (map (λ name. name.items) names.now) event desk.old desk.new outside.old outside.new result }
+    ensures { WentBy S.Supervisor W.Outside (map (λ name. name.items) names.now) event desk.old desk.new (span outside.old outside.new) result }
 {
     match event {
         Event::Begin { program, args } => {

@@ -6,6 +6,7 @@ ghost use Rattle.desk.specs.declared.event.Event.TheVariants as event;
 ghost use Rattle.desk.specs.Desk.{Desk};
 ghost use Rattle.desk.specs.Kept.{HoldsStore, StillTold};
 ghost use Rattle.schedule_replay.specs.Answered.{IsReady, Answered, GoesBy, GoesShut};
+ghost use Rattle.schedule_replay.specs.Runs.{opening_of, span};
 ghost use Rattle.schedule_replay.specs.Replays.{is_closed};
 ghost use Rattle.schedule_replay.specs.Quiet.{IsLasting, IsSmall, RunsQuietly, WentQuietly, going_of, going_told, last_by, tally_begun, tally_by, tally_stored, unput};
 
@@ -53,7 +54,7 @@ pub fn run_quiet<S: Supervisor, W: Outside>(
     requires lasting { All IsLasting events.now }
 
     // From bytes that are sure, over which a desk is shown: what was run, its counts, and what a crash left at any moment.
-    ensures runs { (start : Desk) → IsSure W.Outside outside.old → S.shows desk.old (held_of W.Outside outside.old) start → RunsQuietly S.Supervisor W.Outside (S.fixed desk.old).programs (S.fixed desk.old).opened events.now start desk.new outside.old outside.new last.new.items result }
+    ensures runs { (start : Desk) → IsSure W.Outside outside.old → S.shows desk.old (held_of W.Outside outside.old) start → RunsQuietly S.Supervisor W.Outside (opening_of [] (S.fixed desk.old) start) events.now desk.new (span outside.old outside.new) last.new.items result }
     ensures goes { GoesBy S.Supervisor W.Outside desk.old desk.new outside.old outside.new (going_of result) }
     ensures shut { S.closed desk.old ≡ true → GoesShut events.now (going_of result) }
     ensures calls { CallsDisk W.Outside outside.old outside.new }
@@ -93,7 +94,7 @@ fn answer<S: Supervisor, W: Outside>(
     ensures calls { CallsDisk W.Outside outside.old outside.new }
     ensures closed { S.closed desk.new ≡ is_closed (going_told result) }
     ensures small { IfSome result IsSmall }
-    ensures went { (start : Desk) → IsSure W.Outside outside.old → S.shows desk.old (held_of W.Outside outside.old) start → WentQuietly S.Supervisor W.Outside (S.fixed desk.old).programs (S.fixed desk.old).opened event start desk.new outside.old outside.new last.old.items last.new.items result }
+    ensures went { (start : Desk) → IsSure W.Outside outside.old → S.shows desk.old (held_of W.Outside outside.old) start → WentQuietly S.Supervisor W.Outside (opening_of [] (S.fixed desk.old) start) event desk.new (span outside.old outside.new) last.old.items last.new.items result }
 {
     match event {
         Event::Begin { program, args } => tally_of_begin(desk.begin(program, args)),

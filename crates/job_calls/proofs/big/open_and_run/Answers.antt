@@ -1,4 +1,4 @@
-use Rattle.job_calls.proofs.Common.{◌≡◌, ◌≤◌, ◌∙◌, ap, sym, subst, arith, length, vec_len, get_or, All, List, ℕ, Some, length-map, count_by-le-length, Program, Fixed, order_told, Desk, Event, IsSure, held_of, IsEventAmong, activity, ghosts, is_turn, begins_in, turns_in, IsLasting, RunsQuietly, call, Loaded}
+use Rattle.job_calls.proofs.Common.{◌≡◌, ◌≤◌, ◌∙◌, ap, sym, subst, arith, length, vec_len, get_or, All, List, ℕ, Some, length-map, count_by-le-length, [], Program, Fixed, order_told, Desk, Event, IsSure, held_of, IsEventAmong, activity, ghosts, is_turn, begins_in, turns_in, IsLasting, RunsQuietly, call, Loaded, fixed_of, opening_of, span}
 use Rattle.job_calls.proofs.NameLemmas.{asked-among}
 use Rattle.job_calls.proofs.BigLemmas.{lasting, loaded, still-holds}
 use Rattle.job_calls.proofs.big.open_and_run.Goals as goal
@@ -46,9 +46,9 @@ returns-clause-loaded g c =
     let between = c.run_quiet-quiet.new.outside in
     let last = c.as_slice.result.now in
     let quiet = c.run_quiet-quiet.result in
-    let runs : (first : Desk) → IsSure G start → ghosts.shows desk (held_of G start) first → RunsQuietly ghosts G (activity desk).programs desk.opened job.events.items first new start between last quiet = λ first sure shows.
-    subst (λ (bytes : List ℕ). RunsQuietly ghosts G (activity desk).programs desk.opened job.events.items first new start between bytes quiet) (sym c.as_slice.ensures.value)
-    (subst (λ (events : List Event). RunsQuietly ghosts G (activity desk).programs desk.opened events first new start between c.run_quiet-quiet.new.last.items quiet) c.deref.ensures.value (c.run_quiet-quiet.ensures.runs first sure shows)) in
+    let runs : (first : Desk) → IsSure G start → ghosts.shows desk (held_of G start) first → RunsQuietly ghosts G (opening_of [] (fixed_of desk) first) job.events.items new (span start between) last quiet = λ first sure shows.
+    subst (λ (bytes : List ℕ). RunsQuietly ghosts G (opening_of [] (fixed_of desk) first) job.events.items new (span start between) bytes quiet) (sym c.as_slice.ensures.value)
+    (subst (λ (events : List Event). RunsQuietly ghosts G (opening_of [] (fixed_of desk) first) events new (span start between) c.run_quiet-quiet.new.last.items quiet) c.deref.ensures.value (c.run_quiet-quiet.ensures.runs first sure shows)) in
     subst (λ (order : List (ℕ × ℕ)). Loaded G c.args.transfers (call before c.tell.new.outside order c.tell.result) (Some new)) (sym (ap order_told c.filled.ensures ∙ c.order.ensures))
     (loaded G g.met.W.Outside.fewer_later g.met.W.Outside.printed_now c.args.transfers job c.requires.load before start between desk new c.in-Ok.ensures.opened c.in-Ok.ensures.asks c.in-Ok.ensures.new.programs_are (ap (λ (fixed : Fixed). fixed.programs) c.run_quiet-quiet.ensures.fixed) (ap (λ (fixed : Fixed). fixed.opened) c.run_quiet-quiet.ensures.fixed) c.in-Ok.ensures.unfailed
     (λ told. (c.in-Ok.ensures.told told).1) last c.run_quiet-quiet.ensures.calls c.run_quiet-quiet.ensures.told quiet runs c.tell.new.outside c.tell.result c.tell.ensures)

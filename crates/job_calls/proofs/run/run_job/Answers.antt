@@ -1,10 +1,10 @@
-use Rattle.job_calls.proofs.Common.{◌≡◌, ◌∙◌, ap, sym, ◌≤◌, subst, arith, length, vec_len, get_or, All, List, ℕ, refl, Some, map, length-map, count_by-le-length, Ghosts, Fixed, Program, order_told, Desk, IsUnbroken, Event, IsEventAmong, Job, activity, Session, ghosts, is_turn, begins_in, turns_in, HasOpened, Replays, Replayed, call, Status, status_of_replay, OpensBy, HappenedTo, names_of}
+use Rattle.job_calls.proofs.Common.{◌≡◌, ◌∙◌, ap, sym, ◌≤◌, subst, arith, length, vec_len, get_or, All, List, ℕ, refl, Some, map, length-map, count_by-le-length, Ghosts, Fixed, Program, order_told, Desk, IsUnbroken, Event, IsEventAmong, Job, activity, Session, ghosts, is_turn, begins_in, turns_in, HasOpened, Replays, Replayed, call, Status, status_of_replay, OpensBy, HappenedTo, names_of, fixed_of, opening_of, span}
 use Rattle.arrayvec.specs.ArrayVec.{ArrayVec}
 use Rattle.supervisor.specs.Session.{order_of}
 use Rattle.schedule_replay.specs.Told.{TellsBy}
 use Rattle.job_calls.proofs.CauseLemmas.{opens-by, put-rose, put-same, disk-rose}
 use Rattle.job_calls.proofs.NameLemmas.{name-unbroken, asked-among}
-use Rattle.job_calls.proofs.RunLemmas.{happened-by, has-opened, first_desk}
+use Rattle.job_calls.proofs.RunLemmas.{happened-by, has-opened, first_desk, first_opening}
 use Rattle.job_calls.proofs.run.run_job.Goals as goal
 
 pub replay-replayed-requires-clause-ready : goal.replay-replayed-requires-clause-ready
@@ -43,11 +43,11 @@ filled-requires-clause-room g c =
 -- what was replayed, in the job's words
 replays : {W : Type 0} (G : Ghosts W) (names : List (List ℕ)) (events : List Event) (job : Job) (desk new : Session) (start after : W) (result : Replayed)
     → names ≡ names_of job → events ≡ job.events.items
-    → ((first : Desk) → HasOpened ghosts G desk start first → Replays ghosts G names (activity desk).programs desk.opened events first new start after result)
-    → (first : Desk) → HasOpened ghosts G desk start first → Replays ghosts G (names_of job) (activity desk).programs desk.opened job.events.items first new start after result
+    → ((first : Desk) → HasOpened ghosts G desk start first → Replays ghosts G (opening_of names (fixed_of desk) first) events new (span start after) result)
+    → (first : Desk) → HasOpened ghosts G desk start first → Replays ghosts G (opening_of (names_of job) (fixed_of desk) first) job.events.items new (span start after) result
 replays G names events job desk new start after result same_names same_events did =
-    subst (λ (those : List (List ℕ)). (first : Desk) → HasOpened ghosts G desk start first → Replays ghosts G those (activity desk).programs desk.opened job.events.items first new start after result) same_names
-    (subst (λ (those : List Event). (first : Desk) → HasOpened ghosts G desk start first → Replays ghosts G names (activity desk).programs desk.opened those first new start after result) same_events did)
+    subst (λ (those : List (List ℕ)). (first : Desk) → HasOpened ghosts G desk start first → Replays ghosts G (opening_of those (fixed_of desk) first) job.events.items new (span start after) result) same_names
+    (subst (λ (those : List Event). (first : Desk) → HasOpened ghosts G desk start first → Replays ghosts G (opening_of names (fixed_of desk) first) those new (span start after) result) same_events did)
 
 pub returns-clause-opened : goal.returns-clause-opened
 returns-clause-opened g c =
@@ -60,7 +60,7 @@ returns-clause-opened g c =
     (opens-by G before start after c.in-Ok.session c.replay-replayed.new.desk result c.in-Ok.ensures.told c.replay-replayed.ensures.ends
     (λ offset is honest told.
     let opens = c.in-Ok.ensures.opened honest told in
-    subst (λ (those : Replayed). Replays ghosts G (map (λ name. name.items) c.deref.result.now) (activity c.in-Ok.session).programs c.in-Ok.session.opened c.deref-2.result.now (first_desk G c.args.job.frames before start c.in-Ok.session opens c.in-Ok.ensures.asks) c.replay-replayed.new.desk start after those) is
+    subst (λ (those : Replayed). Replays ghosts G (first_opening G c.args.job.frames before start c.in-Ok.session opens c.in-Ok.ensures.asks (map (λ name. name.items) c.deref.result.now)) c.deref-2.result.now c.replay-replayed.new.desk (span start after) those) is
     (c.replay-replayed.ensures.replays (first_desk G c.args.job.frames before start c.in-Ok.session opens c.in-Ok.ensures.asks) (has-opened G c.args.job.frames before start c.in-Ok.session opens c.in-Ok.ensures.asks))))
 
 pub returns-clause-put : goal.returns-clause-put

@@ -1,4 +1,5 @@
 use Rattle.schedule_replay.proofs.Lemmas.{◌≡◌, map, take, true, false, IsSure, held_of, Desk, Answered, Ran, done}
+use Rattle.schedule_replay.specs.Runs.{opening_of, span}
 use Rattle.schedule_replay.specs.Told.{Tells}
 use Rattle.schedule_replay.proofs.events.put_events.Given as goal
 
@@ -9,5 +10,5 @@ invariant-loop-event g l = record {
   answered : Answered g.S.Supervisor g.W.Outside (take l.event-index l.events) l.initial.desk l.desk l.initial.outside l.outside done;
   still : g.S.Supervisor.closed l.initial.desk ≡ false → g.S.Supervisor.closed l.desk ≡ false;
   shut : g.S.Supervisor.closed l.initial.desk ≡ true → (l.event-index ≡ 0) × (g.S.Supervisor.closed l.desk ≡ true);
-  ran : (start : Desk) → IsSure g.W.Outside l.initial.outside → g.S.Supervisor.shows l.initial.desk (held_of g.W.Outside l.initial.outside) start → Ran g.S.Supervisor g.W.Outside (map (λ name. name.items) l.names) (g.S.Supervisor.fixed l.initial.desk).programs (g.S.Supervisor.fixed l.initial.desk).opened (take l.event-index l.events) start l.desk l.initial.outside l.outside done;
+  ran : (start : Desk) → IsSure g.W.Outside l.initial.outside → g.S.Supervisor.shows l.initial.desk (held_of g.W.Outside l.initial.outside) start → Ran g.S.Supervisor g.W.Outside (opening_of (map (λ name. name.items) l.names) (g.S.Supervisor.fixed l.initial.desk) start) (take l.event-index l.events) l.desk (span l.initial.outside l.outside) done;
 }

@@ -1,5 +1,6 @@
 use Rattle.schedule_replay.proofs.ToldLemmas.{told_as, told_failed}
 use Rattle.schedule_replay.proofs.Lemmas.{map, ap, true, false, is_closed, arith, common_steps, reports_broken, reports_told}
+use Rattle.schedule_replay.specs.Runs.{opening_of, span}
 use Rattle.schedule_replay.proofs.events.replay.Goals as goal
 
 pub returns-in-Ok-On-clause-tells : goal.returns-in-Ok-On-clause-tells
@@ -19,10 +20,13 @@ returns-in-Err-clause-tells g c = (
 
 pub returns-in-Ok-On-clause-replays : goal.returns-in-Ok-On-clause-replays
 returns-in-Ok-On-clause-replays g c = λ start opened.
-    reports_told g.S.Supervisor g.W.Outside (map (λ name. name.items) c.args.names.now) (g.S.Supervisor.fixed c.args.desk.now).programs (g.S.Supervisor.fixed c.args.desk.now).opened c.args.events.now start c.put_report.new.desk c.args.outside.now c.put_report.new.outside c.in-Ok-On.field-0 false (ap is_closed c.in-Ok-On.field-0-is) (c.in-Ok-On.ensures.reports start opened)
+    reports_told g.S.Supervisor g.W.Outside (opening_of (map (λ name. name.items) c.args.names.now) (g.S.Supervisor.fixed c.args.desk.now) start) c.args.events.now c.put_report.new.desk (span c.args.outside.now c.put_report.new.outside) c.in-Ok-On.field-0 false (ap is_closed c.in-Ok-On.field-0-is) (c.in-Ok-On.ensures.reports start opened)
 
 pub returns-in-Err-clause-replays : goal.returns-in-Err-clause-replays
-returns-in-Err-clause-replays g c = λ start opened. grind (arith, c.in-Err.field-0, reports_broken, (g.S.Supervisor.fixed c.args.desk.now).programs, (g.S.Supervisor.fixed c.args.desk.now).opened, c.in-Err.ensures.reports)
+returns-in-Err-clause-replays g c = λ start opened. (
+  c.in-Err.field-0,
+  reports_broken g.S.Supervisor g.W.Outside (opening_of (map (λ name. name.items) c.args.names.now) (g.S.Supervisor.fixed c.args.desk.now) start) c.args.events.now c.put_report.new.desk (span c.args.outside.now c.put_report.new.outside) c.in-Err.field-0 (c.in-Err.ensures.reports start opened),
+)
 
 pub returns-in-Ok-Damaged-clause-turns : goal.returns-in-Ok-Damaged-clause-turns
 returns-in-Ok-Damaged-clause-turns g c = grind (arith, common_steps)

@@ -1,0 +1,49 @@
+-- What a run begins with, and between which two moments it went.
+use Rattle.std.specs.Prelude.{ℕ, List}
+use Rattle.flat_machine.specs.declared.machine.Program.{Program}
+use Rattle.desk.specs.declared.event.Event.{Event}
+use Rattle.desk.specs.Calls.{Fixed}
+use Rattle.desk.specs.Desk.{Desk}
+use Rattle.desk.specs.Instruction.{Word}
+use Rattle.desk.specs.Lines.{Line}
+use Rattle.desk.specs.Report.{event_lines, report, report_lines}
+use Rattle.desk.specs.Run.{run}
+
+-- what a run begins with: the names that its lines give the programs, these programs, the number with which the store opened, and the first desk
+pub record Opening : Type 0 where
+  pub names : List (List ℕ)
+  pub programs : List Program
+  pub number : ℕ
+  pub start : Desk
+
+-- these four as one
+abbrev pub opening : List (List ℕ) → List Program → ℕ → Desk → Opening
+opening names programs number start = record { names = names; programs = programs; number = number; start = start }
+
+-- with these names, a supervisor whose opening set this, and from this desk
+abbrev pub opening_of : List (List ℕ) → Fixed → Desk → Opening
+opening_of names fixed start = opening names fixed.programs fixed.opened start
+
+-- an outside at the start of a call, and at its end
+pub record Span (W : Type 0) : Type 0 where
+  pub before : W
+  pub after : W
+
+-- these two as one
+abbrev pub span : {W : Type 0} → W → W → Span W
+span before after = record { before = before; after = after }
+
+-- the desk at which events with their words leave a run
+abbrev pub end_of : Opening → List (Event × Word) → Desk
+end_of begins taken = run begins.programs taken begins.start
+
+-- their lines
+abbrev pub lines_of : Opening → List (Event × Word) → List Line
+lines_of begins taken = event_lines begins.names begins.programs begins.number taken begins.start
+
+-- the bytes and the lines of the whole report, where these events were left
+abbrev pub report_of : Opening → List (Event × Word) → List Event → List ℕ
+report_of begins taken rest = report begins.names begins.programs begins.number taken rest begins.start
+
+abbrev pub report_lines_of : Opening → List (Event × Word) → List Event → List Line
+report_lines_of begins taken rest = report_lines begins.names begins.programs begins.number taken rest begins.start
