@@ -1,5 +1,5 @@
 -- A page comes in whose entry refuses none of what a row touches: the turn goes on from there.
-use Rattle.activations.proofs.Common.{found-among, size-alike, any-at, within-most, written-alike, false_from_ne_true, or-false, not-false, ◌≡◌, refl, ℕ, suc, ◌+◌, ◌-◌, ◌%◌, ◌<◌, ◌≤◌, ◌==◌, nat_lt, not, true, false, List, ◌∷◌, [], ◌++◌, find, slice_index_or, Some, Option, arith, ap, sym, ◌∙◌, subst, inl, inr, both_ways, eqb-true, and_parts, or_cases, or_parts, not-true, has, has-append, has_left, page_of_line, Lines, lines_wanted, PageEntry, authority_of, lets, unowned, Plain, Pool, Desk, Entry, Word, Counts, Turning, Going, instruction, turns, IsAmong, due_to, permitted-told, seat-told, sitter, number_in, AreOfPage, Touch, Activity, entry_in, entries, store_over, desk_over, locks_in, number_under, authority_under, IsToServe, IsFetched, lines_with, with_pool, AreWanted, is_granted, wants_of, pages_wanted, IsTurning}
+use Rattle.activations.proofs.Common.{found-among, size-alike, any-at, within-most, written-alike, false_from_ne_true, or-false, not-false, ◌≡◌, refl, ℕ, suc, ◌+◌, ◌-◌, ◌%◌, ◌<◌, ◌≤◌, ◌==◌, nat_lt, not, true, false, List, ◌∷◌, [], ◌++◌, find, slice_index_or, Some, Option, arith, ap, sym, ◌∙◌, subst, inl, inr, both_ways, eqb-true, and_parts, or_cases, or_parts, not-true, has, has-append, has_left, page_of_line, Lines, lines_wanted, Authority, grant_of, lets, unowned, Plain, Pool, Desk, Entry, Word, Counts, Turning, Going, instruction, turns, IsAmong, due_to, permitted-told, seat-told, sitter, number_in, AreOfPage, Touch, Activity, entry_in, entries, store_over, desk_over, locks_in, number_under, authority_under, IsToServe, IsFetched, lines_with, with_pool, AreWanted, is_granted, wants_of, pages_wanted, IsTurning}
 use Rattle.activations.proofs.PoolLemmas.{moved-follows}
 use Rattle.activations.proofs.RequestLemmas.{has-wanted}
 use Rattle.activations.proofs.StartLemmas.{again}
@@ -7,13 +7,13 @@ use Rattle.activations.proofs.TableLemmas.{permits-flat, stands-for}
 use Rattle.activations.proofs.TouchingLemmas.{are-touched}
 
 -- what a granted touch writes is let
-writes-let : (owned : List PageEntry) (tid : ℕ) (touch : Touch) → AreOfPage (wants_of touch) → is_granted owned tid touch ≡ true → (line : ℕ) → has (lines_wanted (wants_of touch)).writes line ≡ true
-    → lets (authority_of (slice_index_or owned (page_of_line line) unowned)) tid (line % 16) true ≡ true
+writes-let : (owned : List Authority) (tid : ℕ) (touch : Touch) → AreOfPage (wants_of touch) → is_granted owned tid touch ≡ true → (line : ℕ) → has (lines_wanted (wants_of touch)).writes line ≡ true
+    → lets (grant_of (slice_index_or owned (page_of_line line) unowned)) tid (line % 16) true ≡ true
 writes-let owned tid (Touch.One want) sets granted line inside =
     let there = and_parts (want.page == page_of_line line) (has want.writes (line % 16)) (sym (or-false _) ∙ sym (has-wanted (λ w. w.writes) (want ∷ []) line sets.writes) ∙ inside) in
     let none = (or_parts _ _ (not-true _ granted)).1 in
-    subst (λ (page : ℕ). lets (authority_of (slice_index_or owned page unowned)) tid (line % 16) true ≡ true) (eqb-true want.page (page_of_line line) there.0)
-    (not-false _ (false_from_ne_true _ (λ refused. both_ways _ none (any-at (λ x. not (lets (authority_of (slice_index_or owned want.page unowned)) tid x true)) want.writes (line % 16) there.1 refused))))
+    subst (λ (page : ℕ). lets (grant_of (slice_index_or owned page unowned)) tid (line % 16) true ≡ true) (eqb-true want.page (page_of_line line) there.0)
+    (not-false _ (false_from_ne_true _ (λ refused. both_ways _ none (any-at (λ x. not (lets (grant_of (slice_index_or owned want.page unowned)) tid x true)) want.writes (line % 16) there.1 refused))))
 writes-let owned tid touch sets granted line inside = absurd (cc)
 
 -- an instruction of a turn that is the same from another desk

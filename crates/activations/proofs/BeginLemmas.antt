@@ -1,5 +1,5 @@
 -- A program begins.
-use Rattle.activations.proofs.Common.{ne_eqb, or-false, ◌≡◌, ◌≢◌, refl, ℕ, zero, suc, ◌+◌, ◌*◌, ◌/◌, ◌%◌, ◌<◌, ◌≤◌, ◌==◌, ◌⊎◌, nat_lt, if◌then◌else◌, Bool, true, false, List, [], ◌∷◌, ◌++◌, All, length, map, slice_index_or, Option, Some, None, list_any, arith, ap, sym, ◌∙◌, subst, inl, inr, get_or-set_same, get_or-set_other, eqb-false, eq-eqb, both_ways, or_left, or_right, or_parts, nat_tests, length-map, length-set, map-append, get_or_read, All-from_get_or, list_any-append, FlatStore, has, no_lines, has-append, no_lines_of, PageEntry, unowned, Program, start, registers_of_program, Begun, Entry, nobody, Fine, AreAlike, AreMarked, IsState, requested, due_to, IsCurrent, IsOrderly, current-begun, first_entry, with_first, begins-consistent, refused-consistent, told-taken, Seat, IsSeating, sitter, number_in, newcomer, next_seat, all-has, none-free, some-free, has-at, few-taken, taken-below, kept-seated, apart-taken, is_line_marked, Fits, private_segment, Live, Activity, no_program, program_at, live_in, entry_for, entry_in, entries, number_under, authority_under, authority_told, store_over, desk_over, lines_held, locks_in, request_for, request_in, state_in, shown, given, started, begun_in, IsBegin, IsSound, IsSetUp, IsIdentified, IsKept, KeepsDesk, Authority}
+use Rattle.activations.proofs.Common.{ne_eqb, or-false, ◌≡◌, ◌≢◌, refl, ℕ, zero, suc, ◌+◌, ◌*◌, ◌/◌, ◌%◌, ◌<◌, ◌≤◌, ◌==◌, ◌⊎◌, nat_lt, if◌then◌else◌, Bool, true, false, List, [], ◌∷◌, ◌++◌, All, length, map, slice_index_or, Option, Some, None, list_any, arith, ap, sym, ◌∙◌, subst, inl, inr, get_or-set_same, get_or-set_other, eqb-false, eq-eqb, both_ways, or_left, or_right, or_parts, nat_tests, length-map, length-set, map-append, get_or_read, All-from_get_or, list_any-append, FlatStore, has, no_lines, has-append, no_lines_of, Authority, unowned, Program, start, registers_of_program, Begun, Entry, nobody, Fine, AreAlike, AreMarked, IsState, requested, due_to, IsCurrent, IsOrderly, current-begun, first_entry, with_first, begins-consistent, refused-consistent, told-taken, Seat, IsSeating, sitter, number_in, newcomer, next_seat, all-has, none-free, some-free, has-at, few-taken, taken-below, kept-seated, apart-taken, is_line_marked, Fits, private_segment, Live, Activity, no_program, program_at, live_in, entry_for, entry_in, entries, number_under, authority_under, authority_told, store_over, desk_over, lines_held, locks_in, request_for, request_in, state_in, shown, given, started, begun_in, IsBegin, IsSound, IsSetUp, IsIdentified, IsKept, KeepsDesk, Grant}
 use Rattle.std.proofs.lemmas.Option.{slice_get-get_or}
 use Rattle.flat_machine.specs.Serial.{Activation}
 use Rattle.desk.specs.declared.event.Event.TheVariants.{Begin}
@@ -89,10 +89,10 @@ module _ (a : Activity) (program : ℕ) (args : List ℕ) (seat : ℕ) (sound : 
 
   -- no page is that seat's
   unused : (page : ℕ) → ((slice_index_or (authority_under a.reach.entries) page nobody).owner == seat + 1) ≡ false
-  unused page = ap (λ (one : Authority). one.owner == seat + 1) (under-page a.reach.entries page) ∙ by_owner (slice_index_or a.reach.entries page unowned) (sound.identified page)
+  unused page = ap (λ (one : Grant). one.owner == seat + 1) (under-page a.reach.entries page) ∙ by_owner (slice_index_or a.reach.entries page unowned) (sound.identified page)
     where
-      by_owner : (one : PageEntry) → IsIdentified a.seating.taken one → (one.tid == seat + 1) ≡ false
-      by_owner one (inl none) = ap (λ (e : PageEntry). e.tid == seat + 1) none ∙ (let no : (0 == seat + 1) ≡ false = grind (arith, nat_tests) in no)
+      by_owner : (one : Authority) → IsIdentified a.seating.taken one → (one.tid == seat + 1) ≡ false
+      by_owner one (inl none) = ap (λ (e : Authority). e.tid == seat + 1) none ∙ (let no : (0 == seat + 1) ≡ false = grind (arith, nat_tests) in no)
       by_owner one (inr (other, inside, is)) =
           let shift : (other + 1 == seat + 1) ≡ (other == seat) = grind (arith, nat_tests) in
           ap (λ (n : ℕ). n == seat + 1) is ∙ shift ∙ elsewhere other inside

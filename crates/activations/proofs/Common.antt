@@ -83,13 +83,13 @@ pub use Rattle.line_locks.specs.declared.request.Want.{Want}
 pub use Rattle.lock_rules.proofs.Lines.{any-or, has-pages_of, has-whole_pages, reaches}
 pub use Rattle.lock_rules.proofs.Sets.{any-at, any-some, has-append, has-filter, has_left, has_right}
 pub use Rattle.lock_rules.proofs.Sizes.{size-alike, size-apart, size-append, size-counted}
-pub use Rattle.lock_rules.specs.Access.{Authority, authority_by, fine_authority_by, lets, nobody, permits}
+pub use Rattle.lock_rules.specs.Access.{Grant, grant_by, fine_grant_by, lets, nobody, permits}
 pub use Rattle.lock_rules.specs.Lines.{Lines, both, conflicts, is_whole_page, no_lines, page_of_line, pages_of, with_whole_pages, within_page}
 pub use Rattle.lock_rules.specs.Resident.{brought, taken_out}
 pub use Rattle.lock_rules.specs.Sets.{distinct, has, size}
 pub use Rattle.lock_rules.specs.Waits.{shown_cycle, victim_of}
-pub use Rattle.lockbit_rules.specs.Entries.{authority_of}
-pub use Rattle.lockbit_rules.specs.declared.PageEntry.{PageEntry}
+pub use Rattle.lockbit_rules.specs.Entries.{grant_of}
+pub use Rattle.lockbit_rules.specs.declared.Authority.{Authority}
 pub use Rattle.outside.proofs.Runs.{asks_none, asks_on}
 pub use Rattle.outside.specs.Causes.{Rose}
 pub use Rattle.outside.specs.Runs.{FewerLater, OnlyAsks, held_of}

@@ -1,5 +1,5 @@
 -- A contest, round by round: each cycle that a waiting seat closes is broken.
-use Rattle.activations.proofs.Common.{◌≡◌, ℕ, ◌==◌, true, false, List, [], ◌∷◌, filter, find, map, Option, Some, None, option_map, option_map_or, ap, sym, ◌∙◌, subst, has, Lines, no_lines, shown_cycle, victim_of, lines_wanted, Request, Plain, Pool, Word, Counts, Attempt, Turning, Over, Victim, Waits, contest_ends, AreAlike, by_number, kept_conflict, kept_waits, IsOrderly, KeepsPages, contest, IsUnderWay, marked, with_cycle, alike-same, told-found, at-number, IsContesting, contesting-victim, contesting-turn, contesting-loses, contesting-consistent, contesting-ready, contesting-waits, contesting-gets, number_in, seat_of, sitter, holders, cycle_of, Activity, entry_in, entries, desk_over, locks_in, request_in, state_in, shown, IsSound, KeepsDesk, IsContested, ComesToEnd, IsFree, WereRefused, rolled, RollsBack, Authority, Desk, Entry}
+use Rattle.activations.proofs.Common.{◌≡◌, ℕ, ◌==◌, true, false, List, [], ◌∷◌, filter, find, map, Option, Some, None, option_map, option_map_or, ap, sym, ◌∙◌, subst, has, Lines, no_lines, shown_cycle, victim_of, lines_wanted, Request, Plain, Pool, Word, Counts, Attempt, Turning, Over, Victim, Waits, contest_ends, AreAlike, by_number, kept_conflict, kept_waits, IsOrderly, KeepsPages, contest, IsUnderWay, marked, with_cycle, alike-same, told-found, at-number, IsContesting, contesting-victim, contesting-turn, contesting-loses, contesting-consistent, contesting-ready, contesting-waits, contesting-gets, number_in, seat_of, sitter, holders, cycle_of, Activity, entry_in, entries, desk_over, locks_in, request_in, state_in, shown, IsSound, KeepsDesk, IsContested, ComesToEnd, IsFree, WereRefused, rolled, RollsBack, Grant, Desk, Entry}
 use Rattle.activations.proofs.CommitLemmas.{told-kept}
 use Rattle.activations.proofs.WaitLemmas.{holders-told, cycle-told}
 
@@ -12,7 +12,7 @@ pub refused-since : (attempt : Attempt) (refused : List ℕ) (first now : Desk) 
 refused-since attempt refused first now were keeps = record {
   once = were.once;
   are = were.are;
-  keeps = λ page own. keeps page (ap (λ (one : Authority). one.owner == attempt.entry.number) (were.keeps page own) ∙ own) ∙ were.keeps page own;
+  keeps = λ page own. keeps page (ap (λ (one : Grant). one.owner == attempt.entry.number) (were.keeps page own) ∙ own) ∙ were.keeps page own;
 }
 
 -- what is held, what is asked for and the states, by the numbers of those that sit

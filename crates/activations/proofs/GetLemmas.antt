@@ -1,5 +1,5 @@
 -- What is asked for is got: the pages come in once more, and the row is served; or one can't be read.
-use Rattle.activations.proofs.Common.{false_from_ne_true, ◌≡◌, refl, ℕ, ◌+◌, ◌<◌, ◌%◌, ◌==◌, if◌then◌else◌, not, Bool, true, false, List, [], ◌∷◌, ◌++◌, filter, length, map, slice_index_or, Result, Ok, Err, OnOk, IfErr, list_any, arith, ap, sym, ◌∙◌, subst, inl, inr, set-set, both_ways, eqb-true, ne_eqb, or_cases, or_left, nat_tests, All-head, All-tail, is_fine_page, FlatStore, has, Lines, both, page_of_line, pages_of, with_whole_pages, taken_out, has-append, has_right, Want, lines_wanted, AreWithin, with_wants, no_lines_of, of_seat, PageEntry, Plain, On, Pool, Ghosts, KeptStore, TurnEnd, Desk, Entry, rolled_back, wanted, Word, ReadFailed, Fine, Counts, Attempt, Turning, Over, Disk, Fetched, Broken, fetches, goes_on, locks_with, touched_pages, with_grants, AreAlike, owners_told, gone_on, IsAmong, AreConsistent, due_to, IsOrderly, granted-rolled, new-among, one-entry, replaced, replaced-among, due-more, grants-held, row-goes-on, touched_of, seat-told, resident-consistent, any-among, Seating, sitter, left, IsClean, is_line_marked, Touch, Activity, entry_in, entries, store_over, desk_over, authority_told, number_under, authority_under, locks_in, HasUndone, IsBrokenOff, IsStoreOf, HasBrokenOff, IsSound, IsKept, IsServed, Serves, IsFetched, AreGranted, IsFree, locked, with_entries, KeepsParts, rolled, with_pool, wrote, AreWanted, page_if, pages_picked, pages_wanted, wants_of, with_whole_page, HasBroken, HasEnded, HasFetched, Authority, nobody}
+use Rattle.activations.proofs.Common.{false_from_ne_true, ◌≡◌, refl, ℕ, ◌+◌, ◌<◌, ◌%◌, ◌==◌, if◌then◌else◌, not, Bool, true, false, List, [], ◌∷◌, ◌++◌, filter, length, map, slice_index_or, Result, Ok, Err, OnOk, IfErr, list_any, arith, ap, sym, ◌∙◌, subst, inl, inr, set-set, both_ways, eqb-true, ne_eqb, or_cases, or_left, nat_tests, All-head, All-tail, is_fine_page, FlatStore, has, Lines, both, page_of_line, pages_of, with_whole_pages, taken_out, has-append, has_right, Want, lines_wanted, AreWithin, with_wants, no_lines_of, of_seat, Authority, Plain, On, Pool, Ghosts, KeptStore, TurnEnd, Desk, Entry, rolled_back, wanted, Word, ReadFailed, Fine, Counts, Attempt, Turning, Over, Disk, Fetched, Broken, fetches, goes_on, locks_with, touched_pages, with_grants, AreAlike, owners_told, gone_on, IsAmong, AreConsistent, due_to, IsOrderly, granted-rolled, new-among, one-entry, replaced, replaced-among, due-more, grants-held, row-goes-on, touched_of, seat-told, resident-consistent, any-among, Seating, sitter, left, IsClean, is_line_marked, Touch, Activity, entry_in, entries, store_over, desk_over, authority_told, number_under, authority_under, locks_in, HasUndone, IsBrokenOff, IsStoreOf, HasBrokenOff, IsSound, IsKept, IsServed, Serves, IsFetched, AreGranted, IsFree, locked, with_entries, KeepsParts, rolled, with_pool, wrote, AreWanted, page_if, pages_picked, pages_wanted, wants_of, with_whole_page, HasBroken, HasEnded, HasFetched, Grant, nobody}
 use Rattle.flat_machine.specs.Agreement.{all_of}
 use Rattle.desk.specs.declared.answers.TurnEnd.TheVariants as end
 use Rattle.activations.proofs.ContestLemmas.{orderly-other}
@@ -36,7 +36,7 @@ eqb-turned : (one other : ℕ) → (other == one) ≡ (one == other)
 eqb-turned one other = grind (arith, nat_tests)
 
 -- what is kept is so whatever the entries of pages are
-kept-entries : (a : Activity) (owned : List PageEntry) (committed : List ℕ) → IsKept a committed → IsKept (with_entries a owned) committed
+kept-entries : (a : Activity) (owned : List Authority) (committed : List ℕ) → IsKept a committed → IsKept (with_entries a owned) committed
 kept-entries a owned committed kept = record {
   long = kept.long;
   held = kept.held;
@@ -48,7 +48,7 @@ kept-entries a owned committed kept = record {
 }
 
 -- who leaves a seat leaves the same, whatever he took before
-left-locked : (a : Activity) (seat : ℕ) (wants : List Want) (owned : List PageEntry) → left (locked a seat wants owned).seating seat ≡ left a.seating seat
+left-locked : (a : Activity) (seat : ℕ) (wants : List Want) (owned : List Authority) → left (locked a seat wants owned).seating seat ≡ left a.seating seat
 left-locked a seat wants owned i =
     record (left a.seating seat) {
       holding = record a.seating.holding {
@@ -57,7 +57,7 @@ left-locked a seat wants owned i =
     }
 
 module _ (begins : Word → Turning) (attempt : Attempt) (refused : List ℕ) (a : Activity) (seat : ℕ) (committed : List ℕ) (order : List (ℕ × ℕ)) (counts : Counts)
-    (wants : List Want) (owned : List PageEntry)
+    (wants : List Want) (owned : List Authority)
     (sound : IsSound a) (taken : has a.seating.taken seat ≡ true) (later : IsSound (locked a seat wants owned)) (wanted_here : AreWanted a.reach.directory wants)
     (number : attempt.entry.number ≡ (sitter a.seating seat).number) (free : IsFree begins attempt refused a committed order counts) (lines : attempt.lines ≡ lines_wanted wants)
     (below_pages : (page : ℕ) → has refused page ≡ true → page < length a.reach.entries)
@@ -180,8 +180,8 @@ module _ (begins : Word → Turning) (attempt : Attempt) (refused : List ℕ) (a
           resident = (undone.were.resident ∙ ap (taken_out undone.pages) broken.none) i;
         }
       where
-        cleared : ℕ → List Authority → List Authority
-        cleared n authority = map (λ (one : Authority). if one.owner == n then nobody else one) authority
+        cleared : ℕ → List Grant → List Grant
+        cleared n authority = map (λ (one : Grant). if one.owner == n then nobody else one) authority
 
         authority-after : authority_told after ≡ cleared attempt.entry.number (with_grants attempt refused old).authority
         authority-after =

@@ -1,5 +1,5 @@
 -- The row whose access was served: it takes effect.
-use Rattle.activations.proofs.Common.{◌≡◌, refl, ℕ, ◌+◌, ◌<◌, ◌⊎◌, true, List, None, arith, sym, subst, inl, inr, has, Word, Counts, Turning, Want, PageEntry, Seat, sitter, taken-below, Activity, live_in, program_in, registers_of_program, private_segment, StaysSeated, ap, ◌∙◌, TookEffect, WasAttempted, IsSound, GoesUncounted, IsServed, KeepsParts, AreLowered, pages_lowered, with_entries, counted, nat_tests}
+use Rattle.activations.proofs.Common.{◌≡◌, refl, ℕ, ◌+◌, ◌<◌, ◌⊎◌, true, List, None, arith, sym, subst, inl, inr, has, Word, Counts, Turning, Want, Authority, Seat, sitter, taken-below, Activity, live_in, program_in, registers_of_program, private_segment, StaysSeated, ap, ◌∙◌, TookEffect, WasAttempted, IsSound, GoesUncounted, IsServed, KeepsParts, AreLowered, pages_lowered, with_entries, counted, nat_tests}
 use Rattle.romp_cpu.specs.declared.cpu.Attempt.{Attempt}
 use Rattle.activations.proofs.SittingLemmas.{sitter-there, sitter-other}
 
@@ -28,7 +28,7 @@ keeps-counted a seat rows sound taken = record {
 -- a row that took effect
 module _ (begins : Word → Turning) (a after : Activity) (seat : ℕ) (wants : List Want) (committed : List ℕ) (order : List (ℕ × ℕ)) (counts : Counts)
     (served : IsServed begins a seat wants committed order counts) where
-  pub took-served : TookEffect a seat after → (eased : List PageEntry) → AreLowered after seat (pages_lowered after seat wants) after.reach.entries eased
+  pub took-served : TookEffect a seat after → (eased : List Authority) → AreLowered after seat (pages_lowered after seat wants) after.reach.entries eased
       → GoesUncounted begins (with_entries after eased) seat committed order counts
   took-served took eased lowers =
       subst (λ (x : Activity). GoesUncounted begins (with_entries x eased) seat committed order counts) (sym took.shape)
@@ -36,7 +36,7 @@ module _ (begins : Word → Turning) (a after : Activity) (seat : ℕ) (wants : 
       (subst (λ (x : Activity). AreLowered x seat (pages_lowered x seat wants) x.reach.entries eased) took.shape lowers))
 
 -- who sits there stays, and is selected still
-pub took-stays : (a ran : Activity) (seat : ℕ) (owned : List PageEntry) → IsSound a → IsSound ran → has a.seating.taken seat ≡ true → TookEffect a seat ran → StaysSeated a (with_entries ran owned) seat
+pub took-stays : (a ran : Activity) (seat : ℕ) (owned : List Authority) → IsSound a → IsSound ran → has a.seating.taken seat ≡ true → TookEffect a seat ran → StaysSeated a (with_entries ran owned) seat
 took-stays a ran seat owned sound later taken took = record {
   taken = taken_there;
   number = ap (λ (x : Activity). (sitter x.seating seat).number) took.shape;

@@ -1,10 +1,10 @@
 -- Who took what he asked for is granted it as on the desk.
-use Rattle.activations.proofs.Common.{◌≡◌, refl, ℕ, zero, suc, ◌<◌, ◌==◌, ◌&&◌, not, Bool, true, List, [], ◌∷◌, length, filter, arith, ap, sym, ◌∙◌, subst, All-head, All-tail, FlatStore, has, Lines, both, with_whole_pages, Want, lines_wanted, AreWithin, of_seat, PageEntry, Desk, Entry, Word, Counts, Attempt, Turning, granted, lowered, locks_with, with_grants, page_count, is_fine_page, AreAlike, owners_told, due_to, one-entry, touched_of, seat-told, sitter, taken-below, long-seat, Activity, entry_in, entries, store_over, desk_over, authority_under, number_under, locks_in, IsSound, AreGranted, AreLowered, IsFree, is_lowered, pages_lowered, locked, AreWanted, pages_wanted, nat_tests}
+use Rattle.activations.proofs.Common.{◌≡◌, refl, ℕ, zero, suc, ◌<◌, ◌==◌, ◌&&◌, not, Bool, true, List, [], ◌∷◌, length, filter, arith, ap, sym, ◌∙◌, subst, All-head, All-tail, FlatStore, has, Lines, both, with_whole_pages, Want, lines_wanted, AreWithin, of_seat, Authority, Desk, Entry, Word, Counts, Attempt, Turning, granted, lowered, locks_with, with_grants, page_count, is_fine_page, AreAlike, owners_told, due_to, one-entry, touched_of, seat-told, sitter, taken-below, long-seat, Activity, entry_in, entries, store_over, desk_over, authority_under, number_under, locks_in, IsSound, AreGranted, AreLowered, IsFree, is_lowered, pages_lowered, locked, AreWanted, pages_wanted, nat_tests}
 use Rattle.activations.proofs.GrantingLemmas.{within-whole}
 use Rattle.activations.proofs.TakenLemmas.{taken-alike, granted-all, lowered-all}
 
 -- the numbers under identifiers are those of who sits there, whatever is held
-pub under-locked : (a : Activity) (seat : ℕ) (wants : List Want) (owned : List PageEntry) → number_under (locked a seat wants owned) ≡ number_under a
+pub under-locked : (a : Activity) (seat : ℕ) (wants : List Want) (owned : List Authority) → number_under (locked a seat wants owned) ≡ number_under a
 under-locked a seat wants owned i tid = at tid i
   where
     at : (tid : ℕ) → number_under (locked a seat wants owned) tid ≡ number_under a tid
@@ -20,7 +20,7 @@ lowered-below some pages (want ∷ wants) within page inside =
     grind (arith, nat_tests, first, rest)
 
 module _ (begins : Word → Turning) (attempt : Attempt) (refused : List ℕ) (a : Activity) (seat : ℕ) (committed : List ℕ) (order : List (ℕ × ℕ)) (counts : Counts)
-    (wants : List Want) (owned : List PageEntry)
+    (wants : List Want) (owned : List Authority)
     (sound : IsSound a) (taken : has a.seating.taken seat ≡ true) (later : IsSound (locked a seat wants owned)) (wanted_here : AreWanted a.reach.directory wants)
     (number : attempt.entry.number ≡ (sitter a.seating seat).number) (free : IsFree begins attempt refused a committed order counts) (lines : attempt.lines ≡ lines_wanted wants)
     (below_pages : (page : ℕ) → has refused page ≡ true → page < length a.reach.entries)
@@ -64,7 +64,7 @@ module _ (begins : Word → Turning) (attempt : Attempt) (refused : List ℕ) (a
   granted-free = (granted-locks, granted-entries)
 
   -- Once the row has taken effect, its write bits go off as on the desk.
-  pub lowered-free : (eased : List PageEntry) → AreLowered (locked a seat wants owned) seat (pages_lowered (locked a seat wants owned) seat wants) owned eased
+  pub lowered-free : (eased : List Authority) → AreLowered (locked a seat wants owned) seat (pages_lowered (locked a seat wants owned) seat wants) owned eased
       → owners_told (number_under a) (authority_under eased)
       ≡ lowered (is_fine_page a.reach.directory) attempt (locks_with attempt (desk_over a committed order)) (with_grants attempt refused (desk_over a committed order)).authority
   lowered-free eased is =

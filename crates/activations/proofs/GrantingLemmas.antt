@@ -1,6 +1,6 @@
 -- Locks that are taken and pages that are granted, one after another: what is left is sound.
 use Rattle.activations.proofs.SittingLemmas.{each_seat}
-use Rattle.activations.proofs.Common.{◌≡◌, refl, ℕ, zero, suc, ◌+◌, ◌<◌, ◌==◌, if◌then◌else◌, Bool, true, List, [], ◌∷◌, length, map, slice_index_or, slice_set, ap, sym, ◌∙◌, subst, inr, eq-eqb, or_left, or_right, length-set, All-cons, All-head, All-tail, Layout, is_fine_page, IsOfPage, of_page_where, has, Want, AreWithin, of_page, together, with_want, with_wants, PageEntry, unowned, Seating, took, taken-below, kept-took, same-with, other-with, Touch, Activity, AreOfPages, IsIdentified, IsSound, AreSet, AreGranted, AreLowered, authority_given, authority_to_read, locked, with_entries, each_refused, pages_picked, pages_refused, stores_into, wants_of, with_whole_page, arith, Authority, authority_by, fine_authority_by}
+use Rattle.activations.proofs.Common.{◌≡◌, refl, ℕ, zero, suc, ◌+◌, ◌<◌, ◌==◌, if◌then◌else◌, Bool, true, List, [], ◌∷◌, length, map, slice_index_or, slice_set, ap, sym, ◌∙◌, subst, inr, eq-eqb, or_left, or_right, length-set, All-cons, All-head, All-tail, Layout, is_fine_page, IsOfPage, of_page_where, has, Want, AreWithin, of_page, together, with_want, with_wants, Authority, unowned, Seating, took, taken-below, kept-took, same-with, other-with, Touch, Activity, AreOfPages, IsIdentified, IsSound, AreSet, AreGranted, AreLowered, authority_given, authority_to_read, locked, with_entries, each_refused, pages_picked, pages_refused, stores_into, wants_of, with_whole_page, arith, Grant, grant_by, fine_grant_by}
 use Rattle.line_locks.specs.Holding.{of_seat, held_at, taken as holding_more}
 
 -- what is set is there, or what was
@@ -40,7 +40,7 @@ second_within pages touch first second within is =
     (All-tail (λ (w : Want). w.page < pages) first (second ∷ []) (subst (λ (t : Touch). AreWithin pages (wants_of t)) is within))
 
 -- entries that are set look at what is told of each page alone
-pub set-same : (of other : ℕ → Authority) (pages : List ℕ) (old new : List PageEntry) → ((page : ℕ) → has pages page ≡ true → of page ≡ other page) → AreSet of pages old new → AreSet other pages old new
+pub set-same : (of other : ℕ → Grant) (pages : List ℕ) (old new : List Authority) → ((page : ℕ) → has pages page ≡ true → of page ≡ other page) → AreSet of pages old new → AreSet other pages old new
 set-same of other [] old new same is = is
 set-same of other (page ∷ pages) old new same (one, entry, rest) = (
   one,
@@ -49,21 +49,21 @@ set-same of other (page ∷ pages) old new same (one, entry, rest) = (
 )
 
 -- grants look at what is held alone
-pub granted-same : (a other : Activity) (seat : ℕ) (wants : List Want) (pages : List ℕ) (old new : List PageEntry) → a.seating ≡ other.seating → a.reach.directory ≡ other.reach.directory
+pub granted-same : (a other : Activity) (seat : ℕ) (wants : List Want) (pages : List ℕ) (old new : List Authority) → a.seating ≡ other.seating → a.reach.directory ≡ other.reach.directory
     → AreGranted a seat wants pages old new → AreGranted other seat wants pages old new
 granted-same a other seat wants pages old new same directory is =
     set-same (λ page. authority_given a seat (stores_into wants page) page) (λ page. authority_given other seat (stores_into wants page) page) pages old new
     (λ page inside i.
     if is_fine_page (directory i) page
-    then fine_authority_by (seat + 1) (stores_into wants page) (held_at (same i).holding seat page).0 (held_at (same i).holding seat page).1
-    else authority_by (seat + 1) (held_at (same i).holding seat page).0 (held_at (same i).holding seat page).1)
+    then fine_grant_by (seat + 1) (stores_into wants page) (held_at (same i).holding seat page).0 (held_at (same i).holding seat page).1
+    else grant_by (seat + 1) (held_at (same i).holding seat page).0 (held_at (same i).holding seat page).1)
     is
 
-set-length : (of : ℕ → Authority) (pages : List ℕ) (old new : List PageEntry) → AreSet of pages old new → length new ≡ length old
+set-length : (of : ℕ → Grant) (pages : List ℕ) (old new : List Authority) → AreSet of pages old new → length new ≡ length old
 set-length of [] old new is = ap length is
 set-length of (page ∷ pages) old new (one, entry, rest) = set-length of pages (slice_set old page one) new rest ∙ length-set old page one
 
-granted-owner : (tid : ℕ) (reads writes : List ℕ) → (authority_by tid reads writes).owner ≡ tid
+granted-owner : (tid : ℕ) (reads writes : List ℕ) → (grant_by tid reads writes).owner ≡ tid
 granted-owner tid reads [] = refl
 granted-owner tid reads (line ∷ lines) = refl
 
@@ -71,15 +71,15 @@ given-owner : (a : Activity) (seat : ℕ) (storing : Bool) (page : ℕ) → (aut
 given-owner a seat storing page = grind (arith, granted-owner)
 
 -- each entry is nobody's or a taken seat's, also once some are a taken seat's
-set-identified : (taken : List ℕ) (seat : ℕ) (of : ℕ → Authority) (pages : List ℕ) (old new : List PageEntry) → has taken seat ≡ true → ((page : ℕ) → (of page).owner ≡ seat + 1) → AreSet of pages old new
+set-identified : (taken : List ℕ) (seat : ℕ) (of : ℕ → Grant) (pages : List ℕ) (old new : List Authority) → has taken seat ≡ true → ((page : ℕ) → (of page).owner ≡ seat + 1) → AreSet of pages old new
     → ((page : ℕ) → IsIdentified taken (slice_index_or old page unowned)) → (page : ℕ) → IsIdentified taken (slice_index_or new page unowned)
-set-identified taken seat of [] old new inside owner is was = λ page. subst (λ (entries : List PageEntry). IsIdentified taken (slice_index_or entries page unowned)) (sym is) (was page)
+set-identified taken seat of [] old new inside owner is was = λ page. subst (λ (entries : List Authority). IsIdentified taken (slice_index_or entries page unowned)) (sym is) (was page)
 set-identified taken seat of (page ∷ pages) old new inside owner (one, entry, rest) was =
     set-identified taken seat of pages (slice_set old page one) new inside owner rest
-    (λ other. set-keeps (IsIdentified taken) old page other one unowned (inr (seat, inside, ap (λ (e : Authority). e.owner) entry ∙ owner page)) (was other))
+    (λ other. set-keeps (IsIdentified taken) old page other one unowned (inr (seat, inside, ap (λ (e : Grant). e.owner) entry ∙ owner page)) (was other))
 
 -- Pages that a taken seat gets leave all sound.
-pub set-sound : (a : Activity) (seat : ℕ) (of : ℕ → Authority) (pages : List ℕ) (owned : List PageEntry) → IsSound a → has a.seating.taken seat ≡ true → ((page : ℕ) → (of page).owner ≡ seat + 1)
+pub set-sound : (a : Activity) (seat : ℕ) (of : ℕ → Grant) (pages : List ℕ) (owned : List Authority) → IsSound a → has a.seating.taken seat ≡ true → ((page : ℕ) → (of page).owner ≡ seat + 1)
     → AreSet of pages a.reach.entries owned → IsSound (with_entries a owned)
 set-sound a seat of pages owned sound taken owner is = record {
   seating = sound.seating;
@@ -97,12 +97,12 @@ set-sound a seat of pages owned sound taken owner is = record {
 }
 
 -- Write bits that went off leave all sound.
-pub lowered-sound : (a : Activity) (seat : ℕ) (pages : List ℕ) (owned : List PageEntry) → IsSound a → has a.seating.taken seat ≡ true → AreLowered a seat pages a.reach.entries owned
+pub lowered-sound : (a : Activity) (seat : ℕ) (pages : List ℕ) (owned : List Authority) → IsSound a → has a.seating.taken seat ≡ true → AreLowered a seat pages a.reach.entries owned
     → IsSound (with_entries a owned)
 lowered-sound a seat pages owned sound taken is = set-sound a seat (authority_to_read a seat) pages owned sound taken (λ page. refl) is
 
 -- Who holds what he asked for, with the pages that are granted, leaves all sound.
-pub taken-sound : (a : Activity) (seat : ℕ) (wants : List Want) (pages : List ℕ) (owned : List PageEntry) → IsSound a → has a.seating.taken seat ≡ true
+pub taken-sound : (a : Activity) (seat : ℕ) (wants : List Want) (pages : List ℕ) (owned : List Authority) → IsSound a → has a.seating.taken seat ≡ true
     → AreGranted (locked a seat wants owned) seat wants pages a.reach.entries owned → IsSound (locked a seat wants owned)
 taken-sound a seat wants pages owned sound taken is = record {
   seating = kept-took a.seating sound.seating seat (map (with_whole_page a.reach.directory) wants) taken;
@@ -137,7 +137,7 @@ sound-then a new seat wants pages seating sound taken is shape grants =
     (taken-sound a seat wants pages new.reach.entries sound taken (granted-same (record a { seating = seating }) (locked a seat wants new.reach.entries) seat wants pages a.reach.entries new.reach.entries is refl grants))
 
 -- The pages of a touch that are picked where its entry refuses them are those that are refused.
-pub picked-refused : (owned : List PageEntry) (tid : ℕ) (touch : Touch) → pages_picked touch (each_refused owned tid touch) ≡ pages_refused owned tid (wants_of touch)
+pub picked-refused : (owned : List Authority) (tid : ℕ) (touch : Touch) → pages_picked touch (each_refused owned tid touch) ≡ pages_refused owned tid (wants_of touch)
 picked-refused owned tid Touch.Nothing = refl
 picked-refused owned tid (Touch.One want) = grind arith
 picked-refused owned tid (Touch.Two first second) = grind arith

@@ -1,5 +1,5 @@
 -- Nobody sits anywhere: as at first, and as after a crash.
-use Rattle.activations.proofs.Common.{◌≡◌, refl, ℕ, zero, suc, ◌+◌, ◌%◌, ◌<◌, nat_lt, if◌then◌else◌, Bool, true, false, List, [], ◌∷◌, length, map, replicate, slice_index, slice_index_or, Option, Some, None, range_with_len, option_map_or, ForSome, arith, ap, sym, ◌∙◌, subst, inl, inr, both_ways, nat_tests, same_number_lists, get_or_past, get_or-replicate, length-replicate, All-nil, All-replicate, get_or-map-range_with_len, length-map-range_with_len, Layout, byte_count, page_count, line_of, page_of, has, page_of_line, AreWithin, of_seat, no_lines_of, nothing_held, PageEntry, unowned, Program, Pool, frame_at, nobody, opened, restarted, owner_told, owners_told, IsCurrent, current-quiet, quiet-consistent, Seat, IsSeating, newcomer, nobody_sits, byte_in_frame, byte_over, is_line_marked, is_marked, Keeps, Live, Activity, authority_at, flat_authority, authority_told, entry_in, number_under, store_over, desk_over, shown, idle, WereRolled, IsRestarted, IsSound, IsKept, KeepsDesk, IsIdentified, AreOfPages, IsMoved, with_pool, Authority, authority_of}
+use Rattle.activations.proofs.Common.{◌≡◌, refl, ℕ, zero, suc, ◌+◌, ◌%◌, ◌<◌, nat_lt, if◌then◌else◌, Bool, true, false, List, [], ◌∷◌, length, map, replicate, slice_index, slice_index_or, Option, Some, None, range_with_len, option_map_or, ForSome, arith, ap, sym, ◌∙◌, subst, inl, inr, both_ways, nat_tests, same_number_lists, get_or_past, get_or-replicate, length-replicate, All-nil, All-replicate, get_or-map-range_with_len, length-map-range_with_len, Layout, byte_count, page_count, line_of, page_of, has, page_of_line, AreWithin, of_seat, no_lines_of, nothing_held, Authority, unowned, Program, Pool, frame_at, nobody, opened, restarted, owner_told, owners_told, IsCurrent, current-quiet, quiet-consistent, Seat, IsSeating, newcomer, nobody_sits, byte_in_frame, byte_over, is_line_marked, is_marked, Keeps, Live, Activity, authority_at, flat_authority, authority_told, entry_in, number_under, store_over, desk_over, shown, idle, WereRolled, IsRestarted, IsSound, IsKept, KeepsDesk, IsIdentified, AreOfPages, IsMoved, with_pool, Grant, grant_of}
 use Rattle.activations.proofs.PoolLemmas.{moved-follows}
 use Rattle.activations.proofs.TableLemmas.{nobody-page}
 use Rattle.activations.proofs.VacateLemmas.{none-of-pages}
@@ -13,14 +13,14 @@ nobody-there : {A : Type 0} (seat : ℕ) → has [] seat ≡ true → A
 nobody-there seat inside = absurd (both_ways false refl inside)
 
 -- Where each page is nobody's by its entry, it is by the desk.
-nobodys : (a : Activity) (f : ℕ → Authority) (from count : ℕ) → ((page : ℕ) → f page ≡ nobody) → owners_told (number_under a) (map f (range_with_len from count)) ≡ replicate count nobody
+nobodys : (a : Activity) (f : ℕ → Grant) (from count : ℕ) → ((page : ℕ) → f page ≡ nobody) → owners_told (number_under a) (map f (range_with_len from count)) ≡ replicate count nobody
 nobodys a f from zero each = refl
 nobodys a f from (suc count) each = λ i. owner_told (number_under a) (each from i) ∷ nobodys a f (from + 1) count each i
 
 all-nobodys : (a : Activity) → length a.reach.entries ≡ page_count a.reach.directory → ((page : ℕ) → slice_index_or a.reach.entries page unowned ≡ unowned)
     → authority_told a ≡ replicate (page_count a.reach.directory) nobody
 all-nobodys a long each =
-    nobodys a (authority_at a.reach.entries) 0 (length a.reach.entries) (λ page. ap (λ (one : PageEntry). flat_authority page (authority_of one)) (each page) ∙ nobody-page page)
+    nobodys a (authority_at a.reach.entries) 0 (length a.reach.entries) (λ page. ap (λ (one : Authority). flat_authority page (grant_of one)) (each page) ∙ nobody-page page)
     ∙ ap (λ (n : ℕ). replicate n nobody) long
 
 -- Sixteen seats in which nobody sits.
@@ -104,7 +104,7 @@ module _ (a : Activity) (pool : Pool) (committed : List ℕ) (sound : IsSound a)
   authority-out : authority_told a ≡ replicate (page_count a.reach.directory) nobody
   authority-out = all-nobodys a sound.entries (λ page. by_owner (slice_index_or a.reach.entries page unowned) (sound.identified page))
     where
-      by_owner : (one : PageEntry) → IsIdentified a.seating.taken one → one ≡ unowned
+      by_owner : (one : Authority) → IsIdentified a.seating.taken one → one ≡ unowned
       by_owner one (inl is) = is
       by_owner one (inr (seat, inside, is)) = nobody-there seat (sym (ap (λ (taken : List ℕ). has taken seat) none) ∙ inside)
 

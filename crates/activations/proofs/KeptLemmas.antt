@@ -1,5 +1,5 @@
 -- What stays while those that run are served: of a rollback of another, and one after another.
-use Rattle.activations.proofs.Common.{◌≡◌, refl, ℕ, ◌+◌, ◌≤◌, ◌==◌, not, if◌then◌else◌, Bool, true, false, List, [], ◌∷◌, filter, length, None, replicate, Result, Ok, Err, OnOk, arith, ap, sym, ◌∙◌, subst, has, has-filter, ArrayVec, Cycle, Pool, Tally, Activity, sitter, IsSelected, TookEffect, HasUndone, KeepsParts, StandsStill, StaysSeated, Want, PageEntry, cleared_entry, unowned, map, slice_index_or, slice_range, zero, suc, ◌*◌, locked, rolled, with_pool, Ghosts, FewerLater, asks_on, nat_tests, KeepsAll, KeepsSound}
+use Rattle.activations.proofs.Common.{◌≡◌, refl, ℕ, ◌+◌, ◌≤◌, ◌==◌, not, if◌then◌else◌, Bool, true, false, List, [], ◌∷◌, filter, length, None, replicate, Result, Ok, Err, OnOk, arith, ap, sym, ◌∙◌, subst, has, has-filter, ArrayVec, Cycle, Pool, Tally, Activity, sitter, IsSelected, TookEffect, HasUndone, KeepsParts, StandsStill, StaysSeated, Want, Authority, cleared_entry, unowned, map, slice_index_or, slice_range, zero, suc, ◌*◌, locked, rolled, with_pool, Ghosts, FewerLater, asks_on, nat_tests, KeepsAll, KeepsSound}
 
 -- none more are left of those but one
 pub no-more : (taken : List ℕ) (seat : ℕ) → length (filter (λ other. not (other == seat)) taken) ≤ length taken
@@ -55,11 +55,11 @@ still-on a b c seat first second = record {
   program = second.program ∙ first.program;
   live = second.live ∙ first.live;
   private = second.private ∙ first.private;
-  own = λ page its. second.own page (ap (λ (one : PageEntry). one.tid) (first.own page its) ∙ its) ∙ first.own page its;
+  own = λ page its. second.own page (ap (λ (one : Authority). one.tid) (first.own page its) ∙ its) ∙ first.own page its;
 }
 
 -- an entry that is cleared
-cleared-at : (tid : ℕ) (owned : List PageEntry) (page : ℕ) → slice_index_or (map (cleared_entry tid) owned) page unowned ≡ cleared_entry tid (slice_index_or owned page unowned)
+cleared-at : (tid : ℕ) (owned : List Authority) (page : ℕ) → slice_index_or (map (cleared_entry tid) owned) page unowned ≡ cleared_entry tid (slice_index_or owned page unowned)
 cleared-at tid [] page = grind arith
 cleared-at tid (one ∷ owned) zero = refl
 cleared-at tid (one ∷ owned) (suc page) = cleared-at tid owned page
@@ -74,7 +74,7 @@ still-rolled first a seat loser pool undone still inside = record {
       let same = still.own page its in
       let left = has-filter (λ other. not (other == loser)) a.seating.taken seat in
       let other : ((slice_index_or a.reach.entries page unowned).tid == loser + 1) ≡ false =
-      ap (λ (one : PageEntry). one.tid == loser + 1) same ∙ ap (λ (tid : ℕ). tid == loser + 1) its ∙ grind (arith, nat_tests, left, inside) in
+      ap (λ (one : Authority). one.tid == loser + 1) same ∙ ap (λ (tid : ℕ). tid == loser + 1) its ∙ grind (arith, nat_tests, left, inside) in
       cleared-at (loser + 1) a.reach.entries page
       ∙ ap (λ (gone : Bool). if gone then unowned else slice_index_or a.reach.entries page unowned) other ∙ same;
 }
@@ -120,7 +120,7 @@ pub keeps-checked : (a same after : Activity) (seat : ℕ) (pool : Pool) → sam
 keeps-checked a same after seat pool is shape = keeps-left a after seat pool (shape ∙ ap (λ (x : Activity). rolled x seat pool) is)
 
 -- locks were taken and entries granted, and other pages came in
-pub keeps-locked : (a : Activity) (seat : ℕ) (wants : List Want) (entries : List PageEntry) (pool : Pool) → KeepsParts a (with_pool (locked a seat wants entries) pool) 0
+pub keeps-locked : (a : Activity) (seat : ℕ) (wants : List Want) (entries : List Authority) (pool : Pool) → KeepsParts a (with_pool (locked a seat wants entries) pool) 0
 keeps-locked a seat wants entries pool = let same = keeps-itself a in record { programs = refl; most_lines = refl; next = refl; directory = refl; fewer = same.fewer; rows = same.rows }
 
 -- and then nothing more

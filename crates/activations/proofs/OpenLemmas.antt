@@ -1,5 +1,5 @@
 -- A row that goes on, and whose access was served: it goes on still, and its lines are open.
-use Rattle.activations.proofs.Common.{◌≡◌, refl, ℕ, ◌+◌, ◌-◌, ◌*◌, ◌%◌, ◌<◌, ◌==◌, ◌&&◌, ◌||◌, not, Bool, true, false, List, [], ◌∷◌, All, length, replicate, list_any, map, slice_index_or, slice_set, arith, ap, sym, ◌∙◌, subst, inl, inr, eqb-true, eqb-false, eq-eqb, and_parts, or_cases, or_left, or_parts, or_right, nat_tests, get_or-set_other, get_or-set_same, length-replicate, length-set, All-cons, All-head, All-nil, All-tail, cases_Bool, Layout, byte_count, has, both, page_of_line, has_left, has_right, Want, AreWithin, lines_wanted, held_at, of_seat, of_page-below, AreAlike, AreOfPage, IsFlat, IsOfPage, PageEntry, unowned, authority_of, lets, Plain, Program, Outcome, On, Commit, Check, row, touched, Reach, IsOpen, IsOpenLine, bytes_over, private_bytes, lines_of_access, Access, Activity, live_in, locks_in, program_in, Pool, IsMoved, with_pool, taken-below, long-seat, plain_in, IsShut, TookEffect, WasAttempted, WillTouch, CameTo, IsSound, AreGranted, AreSet, authority_given, locked, AreWanted, IsApart, AreLetBut, pages_refused, pages_wanted, refuses_want, stores_into, with_whole_page, refuses, Authority}
+use Rattle.activations.proofs.Common.{◌≡◌, refl, ℕ, ◌+◌, ◌-◌, ◌*◌, ◌%◌, ◌<◌, ◌==◌, ◌&&◌, ◌||◌, not, Bool, true, false, List, [], ◌∷◌, All, length, replicate, list_any, map, slice_index_or, slice_set, arith, ap, sym, ◌∙◌, subst, inl, inr, eqb-true, eqb-false, eq-eqb, and_parts, or_cases, or_left, or_parts, or_right, nat_tests, get_or-set_other, get_or-set_same, length-replicate, length-set, All-cons, All-head, All-nil, All-tail, cases_Bool, Layout, byte_count, has, both, page_of_line, has_left, has_right, Want, AreWithin, lines_wanted, held_at, of_seat, of_page-below, AreAlike, AreOfPage, IsFlat, IsOfPage, Authority, unowned, grant_of, lets, Plain, Program, Outcome, On, Commit, Check, row, touched, Reach, IsOpen, IsOpenLine, bytes_over, private_bytes, lines_of_access, Access, Activity, live_in, locks_in, program_in, Pool, IsMoved, with_pool, taken-below, long-seat, plain_in, IsShut, TookEffect, WasAttempted, WillTouch, CameTo, IsSound, AreGranted, AreSet, authority_given, locked, AreWanted, IsApart, AreLetBut, pages_refused, pages_wanted, refuses_want, stores_into, with_whole_page, refuses, Grant}
 use Rattle.flat_machine.specs.Agreement.{SameWay}
 use Rattle.flat_machine.specs.Plans.{Plan, Does, Fails}
 use Rattle.flat_machine.specs.Row.{plan_at}
@@ -92,8 +92,8 @@ module _ (a after : Activity) (seat : ℕ) where
   check-named code came = checks-named (program_in a seat) a.reach.directory (plain_in a seat zeros) code (came.1 zeros long)
 
 -- whether an entry refuses an identifier one of the lines of a want
-abbrev entry_refuses : PageEntry → (tid : ℕ) → Want → Bool
-entry_refuses one tid want = refuses (authority_of one) tid (record { reads = want.reads; writes = want.writes })
+abbrev entry_refuses : Authority → (tid : ℕ) → Want → Bool
+entry_refuses one tid want = refuses (grant_of one) tid (record { reads = want.reads; writes = want.writes })
 
 -- what none of some passes, and what all pass
 none-at : (test : ℕ → Bool) (xs : List ℕ) (x : ℕ) → list_any test xs ≡ false → has xs x ≡ true → test x ≡ false
@@ -105,21 +105,21 @@ all-none test [] all none = refl
 all-none test (x ∷ xs) all none = let first = all x in absurd (cc (first, none))
 
 -- an entry that is another's lets an identifier no line
-lets-own : (one : PageEntry) (tid line : ℕ) (store : Bool) → (one.tid == tid) ≡ false → lets (authority_of one) tid line store ≡ false
+lets-own : (one : Authority) (tid line : ℕ) (store : Bool) → (one.tid == tid) ≡ false → lets (grant_of one) tid line store ≡ false
 lets-own one tid line store other = grind (arith, other)
 
 -- A want that isn't refused stays so where each entry of its own stays.
-let-one : (old new : PageEntry) (tid : ℕ) (want : Want) → (old.tid ≡ tid → new ≡ old) → entry_refuses old tid want ≡ false → entry_refuses new tid want ≡ false
+let-one : (old new : Authority) (tid : ℕ) (want : Want) → (old.tid ≡ tid → new ≡ old) → entry_refuses old tid want ≡ false → entry_refuses new tid want ≡ false
 let-one old new tid want same free = elim (cases_Bool (old.tid == tid)) [
-  | inl own ↦ ap (λ (one : PageEntry). entry_refuses one tid want) (same (eqb-true old.tid tid own)) ∙ free
+  | inl own ↦ ap (λ (one : Authority). entry_refuses one tid want) (same (eqb-true old.tid tid own)) ∙ free
   | inr other ↦
-      let parts : (list_any (λ line. not (lets (authority_of old) tid line false)) want.reads ≡ false) × (list_any (λ line. not (lets (authority_of old) tid line true)) want.writes ≡ false) = grind (arith, free) in
-      let reads = all-none (λ line. not (lets (authority_of old) tid line false)) want.reads (λ line. ap not (lets-own old tid line false other)) parts.0 in
-      let writes = all-none (λ line. not (lets (authority_of old) tid line true)) want.writes (λ line. ap not (lets-own old tid line true other)) parts.1 in
-      (λ i. list_any (λ line. not (lets (authority_of new) tid line false)) (reads i) || list_any (λ line. not (lets (authority_of new) tid line true)) (writes i))
+      let parts : (list_any (λ line. not (lets (grant_of old) tid line false)) want.reads ≡ false) × (list_any (λ line. not (lets (grant_of old) tid line true)) want.writes ≡ false) = grind (arith, free) in
+      let reads = all-none (λ line. not (lets (grant_of old) tid line false)) want.reads (λ line. ap not (lets-own old tid line false other)) parts.0 in
+      let writes = all-none (λ line. not (lets (grant_of old) tid line true)) want.writes (λ line. ap not (lets-own old tid line true other)) parts.1 in
+      (λ i. list_any (λ line. not (lets (grant_of new) tid line false)) (reads i) || list_any (λ line. not (lets (grant_of new) tid line true)) (writes i))
 ]
 
-pub let-on : (old new : List PageEntry) (tid : ℕ) (pages : List ℕ) (wants : List Want)
+pub let-on : (old new : List Authority) (tid : ℕ) (pages : List ℕ) (wants : List Want)
     → ((page : ℕ) → (slice_index_or old page unowned).tid ≡ tid → slice_index_or new page unowned ≡ slice_index_or old page unowned)
     → AreLetBut old tid pages wants → AreLetBut new tid pages wants
 let-on old new tid pages [] same free = All-nil (λ (w : Want). has pages w.page ≡ false → refuses_want new tid w ≡ false)
@@ -129,14 +129,14 @@ let-on old new tid pages (want ∷ wants) same free =
     (let-on old new tid pages wants same (All-tail (λ (w : Want). has pages w.page ≡ false → refuses_want old tid w ≡ false) want wants free))
 
 -- none is refused but those that are
-let-but : (owned : List PageEntry) (tid : ℕ) (pages : List ℕ) (wants : List Want) → ((page : ℕ) → has (pages_refused owned tid wants) page ≡ true → has pages page ≡ true) → AreLetBut owned tid pages wants
+let-but : (owned : List Authority) (tid : ℕ) (pages : List ℕ) (wants : List Want) → ((page : ℕ) → has (pages_refused owned tid wants) page ≡ true → has pages page ≡ true) → AreLetBut owned tid pages wants
 let-but owned tid pages [] among = All-nil (λ (w : Want). has pages w.page ≡ false → refuses_want owned tid w ≡ false)
 let-but owned tid pages (want ∷ wants) among =
     All-cons (λ (w : Want). has pages w.page ≡ false → refuses_want owned tid w ≡ false) want wants
     (λ out. let here = among want.page in grind (arith, nat_tests, here, out))
     (let-but owned tid pages wants (λ page inside. let here = among page in grind (arith, nat_tests, here, inside)))
 
-pub let-refused : (owned : List PageEntry) (tid : ℕ) (wants : List Want) → AreLetBut owned tid (pages_refused owned tid wants) wants
+pub let-refused : (owned : List Authority) (tid : ℕ) (wants : List Want) → AreLetBut owned tid (pages_refused owned tid wants) wants
 let-refused owned tid wants = let-but owned tid (pages_refused owned tid wants) wants (λ page inside. inside)
 
 module _ (a : Activity) (seat page : ℕ) (storing : Bool) where
@@ -147,9 +147,9 @@ module _ (a : Activity) (seat page : ℕ) (storing : Bool) where
   given-stores line is inside = let granted = lets-stores (seat + 1) (held_at a.seating.holding seat page).0 (held_at a.seating.holding seat page).1 line inside in grind (arith, nat_tests, granted, is, inside)
 
 -- Entries that are set are those that are told of these pages, and the others are as they were.
-set-there : (of : ℕ → Authority) (pages : List ℕ) (old new : List PageEntry) (page : ℕ) → ((at : ℕ) → has pages at ≡ true → at < length old) → AreSet of pages old new
-    → (has pages page ≡ true → authority_of (slice_index_or new page unowned) ≡ of page) × (has pages page ≡ false → slice_index_or new page unowned ≡ slice_index_or old page unowned)
-set-there of [] old new page below is = (λ inside. absurd (cc (inside)), λ out. ap (λ (owned : List PageEntry). slice_index_or owned page unowned) is)
+set-there : (of : ℕ → Grant) (pages : List ℕ) (old new : List Authority) (page : ℕ) → ((at : ℕ) → has pages at ≡ true → at < length old) → AreSet of pages old new
+    → (has pages page ≡ true → grant_of (slice_index_or new page unowned) ≡ of page) × (has pages page ≡ false → slice_index_or new page unowned ≡ slice_index_or old page unowned)
+set-there of [] old new page below is = (λ inside. absurd (cc (inside)), λ out. ap (λ (owned : List Authority). slice_index_or owned page unowned) is)
 set-there of (at ∷ pages) old new page below (one, entry, rest) =
     let later = set-there of pages (slice_set old at one) new page (λ other inside. subst (λ (n : ℕ). other < n) (sym (length-set old at one)) (below other (or_right (at == other) (has pages other) inside))) rest in (
       λ inside. elim (cases_Bool (has pages page)) [
@@ -157,7 +157,7 @@ set-there of (at ∷ pages) old new page below (one, entry, rest) =
         | inr out ↦
             let same : at ≡ page = eqb-true at page (grind (arith, inside, out)) in
             let here = get_or-set_same old at one unowned (below at (or_left (at == at) (has pages at) (eq-eqb at at refl))) in
-            ap authority_of (later.1 out ∙ subst (λ (p : ℕ). slice_index_or (slice_set old at one) p unowned ≡ one) same here) ∙ entry ∙ ap of same
+            ap grant_of (later.1 out ∙ subst (λ (p : ℕ). slice_index_or (slice_set old at one) p unowned ≡ one) same here) ∙ entry ∙ ap of same
       ],
       λ out.
           let differs : (page == at) ≡ false = grind (arith, nat_tests, out) in
@@ -165,7 +165,7 @@ set-there of (at ∷ pages) old new page below (one, entry, rest) =
     )
 
 -- Who took what he wanted, and is granted the pages that refused him, is refused no line of it.
-module _ (a : Activity) (seat : ℕ) (wants : List Want) (owned : List PageEntry) (pages : List ℕ) (sound : IsSound a) (below : seat < 16) (later : IsSound (locked a seat wants owned))
+module _ (a : Activity) (seat : ℕ) (wants : List Want) (owned : List Authority) (pages : List ℕ) (sound : IsSound a) (below : seat < 16) (later : IsSound (locked a seat wants owned))
     (wanted : AreWanted a.reach.directory wants) (inside : AreWithin (length (of_seat a.seating.holding seat)) (map (with_whole_page a.reach.directory) wants))
     (within : (page : ℕ) → has pages page ≡ true → page < length a.reach.entries)
     (grants : AreGranted (locked a seat wants owned) seat wants pages a.reach.entries owned) where
@@ -200,14 +200,14 @@ module _ (a : Activity) (seat : ℕ) (wants : List Want) (owned : List PageEntry
       (elim (cases_Bool (has pages want.page)) [
         | inl there ↦ granted_here there
         | inr out ↦
-            ap (λ (one : PageEntry). entry_refuses one (seat + 1) want) (set.1 out)
+            ap (λ (one : Authority). entry_refuses one (seat + 1) want) (set.1 out)
             ∙ All-head (λ (w : Want). has pages w.page ≡ false → refuses_want a.reach.entries (seat + 1) w ≡ false) want some free out
       ])
       (let-each some (All-tail (IsApart wants) want some apart) (All-tail (λ (w : Want). IsOfPage w.reads) want some reads) (All-tail (λ (w : Want). IsOfPage w.writes) want some writes)
       (λ page is. stores page (or_right ((want.page == page) && not (length want.writes == 0)) (stores_into some page) is))
       (All-tail (λ (w : Want). has pages w.page ≡ false → refuses_want a.reach.entries (seat + 1) w ≡ false) want some free))
     where
-      set : (has pages want.page ≡ true → authority_of (slice_index_or owned want.page unowned) ≡ authority_given now seat (stores_into wants want.page) want.page)
+      set : (has pages want.page ≡ true → grant_of (slice_index_or owned want.page unowned) ≡ authority_given now seat (stores_into wants want.page) want.page)
           × (has pages want.page ≡ false → slice_index_or owned want.page unowned ≡ slice_index_or a.reach.entries want.page unowned)
       set = set-there (λ page. authority_given now seat (stores_into wants page) page) pages a.reach.entries owned want.page within grants
 
@@ -246,7 +246,7 @@ opens state wants sets free there = record {
 }
   where
     each : (part : Want → List ℕ) (store : Bool)
-        → ((want : Want) → refuses_want state.entries state.runner want ≡ false → list_any (λ line. not (lets (authority_of (slice_index_or state.entries want.page unowned)) state.runner line store)) (part want) ≡ false)
+        → ((want : Want) → refuses_want state.entries state.runner want ≡ false → list_any (λ line. not (lets (grant_of (slice_index_or state.entries want.page unowned)) state.runner line store)) (part want) ≡ false)
         → (some : List Want) → All (λ want. refuses_want state.entries state.runner want ≡ false) some → ((page : ℕ) → has (pages_wanted some) page ≡ true → has state.pool.resident page ≡ true)
         → (line : ℕ) → list_any (λ want. (want.page == page_of_line line) && has (part want) (line % 16)) some ≡ true → IsOpenLine state line store
     each part store let_part [] free there line is = absurd (cc (is))
@@ -256,8 +256,8 @@ opens state wants sets free there = record {
               let parts = and_parts (want.page == page_of_line line) (has (part want) (line % 16)) here in
               let same = eqb-true want.page (page_of_line line) parts.0 in record {
                 resident = ap (has state.pool.resident) (sym same) ∙ there want.page (or_left (want.page == want.page) (has (pages_wanted some) want.page) (eq-eqb want.page want.page refl));
-                permits = subst (λ (page : ℕ). not (lets (authority_of (slice_index_or state.entries page unowned)) state.runner (line % 16) store) ≡ false) same
-                    (none-at (λ x. not (lets (authority_of (slice_index_or state.entries want.page unowned)) state.runner x store)) (part want) (line % 16)
+                permits = subst (λ (page : ℕ). not (lets (grant_of (slice_index_or state.entries page unowned)) state.runner (line % 16) store) ≡ false) same
+                    (none-at (λ x. not (lets (grant_of (slice_index_or state.entries want.page unowned)) state.runner x store)) (part want) (line % 16)
                     (let_part want (All-head (λ (w : Want). refuses_want state.entries state.runner w ≡ false) want some free)) parts.1);
               }
           | inr rest ↦
@@ -266,7 +266,7 @@ opens state wants sets free there = record {
         ]
 
 -- Who got what he wanted goes on still, and his lines are open.
-module _ (a : Activity) (seat : ℕ) (wants : List Want) (owned : List PageEntry) (pages : List ℕ) (pool : Pool) (sound : IsSound a) (taken : has a.seating.taken seat ≡ true) (runner : a.reach.runner ≡ seat + 1)
+module _ (a : Activity) (seat : ℕ) (wants : List Want) (owned : List Authority) (pages : List ℕ) (pool : Pool) (sound : IsSound a) (taken : has a.seating.taken seat ≡ true) (runner : a.reach.runner ≡ seat + 1)
     (moved : IsMoved a.reach.pool pool) where
   below : seat < 16
   below = taken-below a.seating sound.seating seat taken

@@ -1,5 +1,5 @@
 -- An access is prepared: its pages come in, or one of them can't be read.
-use Rattle.activations.proofs.Common.{◌≡◌, refl, ℕ, ◌+◌, nat_lt, Bool, true, false, List, [], length, ap, sym, ◌∙◌, subst, has, lines_wanted, Want, PageEntry, Plain, lines_of_access, Access, Ghosts, KeptStore, Pool, IsClean, Desk, rolled_back, Word, ReadFailed, Counts, Attempt, Turning, Over, Disk, fetches, touched_pages, AreConsistent, Touch, Activity, program_in, entry_in, entries, store_over, desk_over, IsSelected, IsShut, HasUndone, IsStoreOf, IsBrokenOff, HasBrokenOff, IsSound, IsKept, KeepsDesk, IsAsked, IsPrepared, IsToServe, IsFetched, AreTouched, attempt_in, lines_with, counted_with, instruction_in, with_pool, rolled, RollsBack, AreWanted, wants_of, pages_wanted, each_refused, pages_refused, HasBroken, arith}
+use Rattle.activations.proofs.Common.{◌≡◌, refl, ℕ, ◌+◌, nat_lt, Bool, true, false, List, [], length, ap, sym, ◌∙◌, subst, has, lines_wanted, Want, Authority, Plain, lines_of_access, Access, Ghosts, KeptStore, Pool, IsClean, Desk, rolled_back, Word, ReadFailed, Counts, Attempt, Turning, Over, Disk, fetches, touched_pages, AreConsistent, Touch, Activity, program_in, entry_in, entries, store_over, desk_over, IsSelected, IsShut, HasUndone, IsStoreOf, IsBrokenOff, HasBrokenOff, IsSound, IsKept, KeepsDesk, IsAsked, IsPrepared, IsToServe, IsFetched, AreTouched, attempt_in, lines_with, counted_with, instruction_in, with_pool, rolled, RollsBack, AreWanted, wants_of, pages_wanted, each_refused, pages_refused, HasBroken, arith}
 use mir.Val.{bool_byte}
 use Rattle.activations.proofs.EndLemmas.{rolled-follows}
 use Rattle.activations.proofs.PoolLemmas.{moved-desk, moved-follows}
@@ -61,7 +61,7 @@ is-to-serve a seat access wants sound taken selected shut lines committed follow
     (out.next, record { sound = sound; taken = taken; runner = selected.runner; follows = follows; goes = out.goes; touches = out.touches ∙ sym lines })
 
 -- as many pages are refused as are marked
-pub count-refused : (owned : List PageEntry) (tid : ℕ) (touch : Touch)
+pub count-refused : (owned : List Authority) (tid : ℕ) (touch : Touch)
     → bool_byte (each_refused owned tid touch).0 + bool_byte (each_refused owned tid touch).1 ≡ length (pages_refused owned tid (wants_of touch))
 count-refused owned tid Touch.Nothing = refl
 count-refused owned tid (Touch.One want) = grind arith

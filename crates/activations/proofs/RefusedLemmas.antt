@@ -1,11 +1,11 @@
 -- The pages whose entries refuse a line that is touched.
-use Rattle.activations.proofs.Common.{or-false, ◌≡◌, ◌≢◌, refl, ℕ, ◌+◌, ◌*◌, ◌/◌, ◌%◌, ◌<◌, ◌==◌, ◌&&◌, ◌||◌, not, Bool, true, false, List, [], ◌∷◌, All, filter, slice_index_or, list_any, arith, ap, sym, ◌∙◌, All-nil, All-cons, All-head, All-tail, IsOfPage, has, page_of_line, within_page, permits, Want, flat_lines, lines_wanted, has-page, PageEntry, unowned, nobody, Attempt, refuses, refused_pages, touched_pages, lines_within, Ascend, refused-told, sitter, AreOfPage, Activity, authority_at, authority_under, number_under, entries, desk_over, IsSound, refuses_want, pages_refused, pages_wanted, IsApart, nat_tests, if◌then◌else◌, lets, Authority, authority_of}
+use Rattle.activations.proofs.Common.{or-false, ◌≡◌, ◌≢◌, refl, ℕ, ◌+◌, ◌*◌, ◌/◌, ◌%◌, ◌<◌, ◌==◌, ◌&&◌, ◌||◌, not, Bool, true, false, List, [], ◌∷◌, All, filter, slice_index_or, list_any, arith, ap, sym, ◌∙◌, All-nil, All-cons, All-head, All-tail, IsOfPage, has, page_of_line, within_page, permits, Want, flat_lines, lines_wanted, has-page, Authority, unowned, nobody, Attempt, refuses, refused_pages, touched_pages, lines_within, Ascend, refused-told, sitter, AreOfPage, Activity, authority_at, authority_under, number_under, entries, desk_over, IsSound, refuses_want, pages_refused, pages_wanted, IsApart, nat_tests, if◌then◌else◌, lets, Grant, grant_of}
 use Rattle.activations.proofs.GrantLemmas.{flat-within}
 use Rattle.activations.proofs.RequestLemmas.{has-wanted}
 use Rattle.activations.proofs.TableLemmas.{under-page, stands-for}
 
 -- whether an entry refuses a flat line of its page, or a line of it
-any-refused : (page tid : ℕ) (entry : Authority) (store : Bool) (set : List ℕ)
+any-refused : (page tid : ℕ) (entry : Grant) (store : Bool) (set : List ℕ)
     → list_any (λ line. not (permits (entry.owner == tid) entry.write (has (flat_lines page entry.lines) line) store)) (flat_lines page set)
     ≡ list_any (λ line. not (lets entry tid line store)) set
 any-refused page tid entry store [] = refl
@@ -13,12 +13,12 @@ any-refused page tid entry store (line ∷ set) =
     λ i. not (permits (entry.owner == tid) entry.write (has-page page line entry.lines i) store) || any-refused page tid entry store set i
 
 -- one page
-refused-one : (owned : List PageEntry) (tid : ℕ) (wants : List Want) (want : Want) → IsApart wants want → IsOfPage want.reads → IsOfPage want.writes
+refused-one : (owned : List Authority) (tid : ℕ) (wants : List Want) (want : Want) → IsApart wants want → IsOfPage want.reads → IsOfPage want.writes
     → refuses (slice_index_or (authority_under owned) want.page nobody) tid (lines_within want.page (lines_wanted wants)) ≡ refuses_want owned tid want
 refused-one owned tid wants want apart reads writes =
-    ap (λ (one : Authority). refuses one tid (lines_within want.page (lines_wanted wants))) (under-page owned want.page)
+    ap (λ (one : Grant). refuses one tid (lines_within want.page (lines_wanted wants))) (under-page owned want.page)
     ∙ (λ i. refuses (authority_at owned want.page) tid (record { reads = sym reads-are i; writes = sym writes-are i }))
-    ∙ (λ i. any-refused want.page tid (authority_of (slice_index_or owned want.page unowned)) false want.reads i || any-refused want.page tid (authority_of (slice_index_or owned want.page unowned)) true want.writes i)
+    ∙ (λ i. any-refused want.page tid (grant_of (slice_index_or owned want.page unowned)) false want.reads i || any-refused want.page tid (grant_of (slice_index_or owned want.page unowned)) true want.writes i)
   where
     reads-are : flat_lines want.page want.reads ≡ within_page want.page (lines_wanted wants).reads
     reads-are = flat-within want.page want.reads (lines_wanted wants).reads reads apart.reads
@@ -27,7 +27,7 @@ refused-one owned tid wants want apart reads writes =
     writes-are = flat-within want.page want.writes (lines_wanted wants).writes writes apart.writes
 
 -- and each of some
-refused-some : (owned : List PageEntry) (tid : ℕ) (wants some : List Want) → All (IsApart wants) some → All (λ want. IsOfPage want.reads) some → All (λ want. IsOfPage want.writes) some
+refused-some : (owned : List Authority) (tid : ℕ) (wants some : List Want) → All (IsApart wants) some → All (λ want. IsOfPage want.reads) some → All (λ want. IsOfPage want.writes) some
     → filter (λ page. refuses (slice_index_or (authority_under owned) page nobody) tid (lines_within page (lines_wanted wants))) (pages_wanted some) ≡ pages_refused owned tid some
 refused-some owned tid wants [] apart reads writes = refl
 refused-some owned tid wants (want ∷ some) apart reads writes =

@@ -1,5 +1,5 @@
 -- What a seat holds once it has taken what it asked for, and what it is granted then.
-use Rattle.activations.proofs.Common.{lowered-alike, granted-alike, ◌≡◌, refl, ℕ, suc, ◌+◌, ◌*◌, ◌/◌, ◌%◌, ◌<◌, ◌==◌, ◌&&◌, ◌||◌, not, if◌then◌else◌, Bool, true, List, [], ◌∷◌, length, filter, map, slice_set, arith, ap, sym, ◌∙◌, subst, eq-eqb, or_left, or_right, length-set, list_any-append, is_fine_page, has, Lines, both, pages_of, with_whole_pages, within_page, is_whole_page, has-append, has-filter, list_any, reaches, has-whole_pages, Want, AreWithin, with_wants, lines_wanted, IsFlat, of_seat, flat-taken, PageEntry, AreAlike, owners_told, granted-told, lowered-told, alike-then, sitter, same-with, AreOfPage, Activity, authority_under, number_under, locks_in, IsSound, AreOfPages, AreSet, AreGranted, AreLowered, authority_given, authority_to_read, is_lowered, pages_lowered, locked, with_whole_page, stores_into, pages_wanted, nat_tests, flat_authority, authority_by, fine_authority_by, Authority}
+use Rattle.activations.proofs.Common.{lowered-alike, granted-alike, ◌≡◌, refl, ℕ, suc, ◌+◌, ◌*◌, ◌/◌, ◌%◌, ◌<◌, ◌==◌, ◌&&◌, ◌||◌, not, if◌then◌else◌, Bool, true, List, [], ◌∷◌, length, filter, map, slice_set, arith, ap, sym, ◌∙◌, subst, eq-eqb, or_left, or_right, length-set, list_any-append, is_fine_page, has, Lines, both, pages_of, with_whole_pages, within_page, is_whole_page, has-append, has-filter, list_any, reaches, has-whole_pages, Want, AreWithin, with_wants, lines_wanted, IsFlat, of_seat, flat-taken, Authority, AreAlike, owners_told, granted-told, lowered-told, alike-then, sitter, same-with, AreOfPage, Activity, authority_under, number_under, locks_in, IsSound, AreOfPages, AreSet, AreGranted, AreLowered, authority_given, authority_to_read, is_lowered, pages_lowered, locked, with_whole_page, stores_into, pages_wanted, nat_tests, flat_authority, grant_by, fine_grant_by, Grant}
 use Rattle.desk.specs.Instruction.{Attempt, given, with_each, granted, to_read, lowered_pages, lowered}
 use Rattle.desk_law.proofs.EachPage.{each-alike}
 use Rattle.activations.proofs.GrantLemmas.{granted-page, lowered-page, held-whole, under-set}
@@ -37,7 +37,7 @@ whole-both fine one other = record {
 }
 
 -- what is taken is held beside what was held,
-pub taken-both : (a : Activity) (seat : ℕ) (wants : List Want) (entries : List PageEntry) → IsSound a → seat < 16
+pub taken-both : (a : Activity) (seat : ℕ) (wants : List Want) (entries : List Authority) → IsSound a → seat < 16
     → AreOfPage wants → AreWithin (length (of_seat a.seating.holding seat)) (map (with_whole_page a.reach.directory) wants)
     → AreOfPages (of_seat (locked a seat wants entries).seating.holding seat)
     → AreAlike (locks_in (locked a seat wants entries) seat) (both (locks_in a seat) (lines_wanted (map (with_whole_page a.reach.directory) wants)))
@@ -50,7 +50,7 @@ taken-both a seat wants entries sound below sets inside of =
     holds = same-with a.seating.holding seat (with_wants (of_seat a.seating.holding seat) (map (with_whole_page a.reach.directory) wants)) sound.seating.whole below
 
 -- with the whole pages that are written into
-pub taken-alike : (a : Activity) (seat : ℕ) (wants : List Want) (entries : List PageEntry) (within : Lines) → IsSound a → seat < 16
+pub taken-alike : (a : Activity) (seat : ℕ) (wants : List Want) (entries : List Authority) (within : Lines) → IsSound a → seat < 16
     → AreOfPage wants → AreWithin (length (of_seat a.seating.holding seat)) (map (with_whole_page a.reach.directory) wants)
     → AreOfPages (of_seat (locked a seat wants entries).seating.holding seat)
     → AreAlike (locks_in a seat) (with_whole_pages (is_fine_page a.reach.directory) within)
@@ -63,7 +63,7 @@ taken-alike a seat wants entries within sound below sets inside of alike =
     (whole-both (is_fine_page a.reach.directory) within (lines_wanted wants)))
 
 -- Where entries are set, authorities in flat lines are set, under the seat's identifier.
-set-under : (of : ℕ → Authority) (told : ℕ → Authority) (pages : List ℕ) (old new : List PageEntry) → ((page : ℕ) → has pages page ≡ true → page < length old)
+set-under : (of : ℕ → Grant) (told : ℕ → Grant) (pages : List ℕ) (old new : List Authority) → ((page : ℕ) → has pages page ≡ true → page < length old)
     → ((page : ℕ) → has pages page ≡ true → flat_authority page (of page) ≡ told page)
     → AreSet of pages old new → authority_under new ≡ with_each told pages (authority_under old)
 set-under of told [] old new below same is = ap authority_under is
@@ -97,7 +97,7 @@ module _ (a : Activity) (seat : ℕ) (attempt : Attempt) (locks : Lines) (wants 
   stores page = stored-into wants page sets ∙ ap (λ (l : Lines). has (pages_of l.writes) page) (sym lines)
 
   -- Grants of entries are grants of the desk.
-  pub granted-all : (pages : List ℕ) (old new : List PageEntry) → ((page : ℕ) → has pages page ≡ true → page < length old) → AreGranted a seat wants pages old new
+  pub granted-all : (pages : List ℕ) (old new : List Authority) → ((page : ℕ) → has pages page ≡ true → page < length old) → AreGranted a seat wants pages old new
       → owners_told (number_under a) (authority_under new) ≡ granted (is_fine_page a.reach.directory) attempt locks pages (owners_told (number_under a) (authority_under old))
   granted-all pages old new below is =
       ap (owners_told (number_under a))
@@ -107,8 +107,8 @@ module _ (a : Activity) (seat : ℕ) (attempt : Attempt) (locks : Lines) (wants 
       ∙ ap
       (λ (storing : Bool).
       if is_fine_page a.reach.directory page
-      then fine_authority_by (seat + 1) storing (within_page page (locks_in a seat).reads) (within_page page (locks_in a seat).writes)
-      else authority_by (seat + 1) (within_page page (locks_in a seat).reads) (within_page page (locks_in a seat).writes))
+      then fine_grant_by (seat + 1) storing (within_page page (locks_in a seat).reads) (within_page page (locks_in a seat).writes)
+      else grant_by (seat + 1) (within_page page (locks_in a seat).reads) (within_page page (locks_in a seat).writes))
       (stores page))
       is)
       ∙ granted-told (number_under a) refl (is_fine_page a.reach.directory) (seat + 1) attempt (locks_in a seat) pages (authority_under old) number-is
@@ -126,7 +126,7 @@ module _ (a : Activity) (seat : ℕ) (attempt : Attempt) (locks : Lines) (wants 
       each (want ∷ wants) = grind (arith, nat_tests, each wants)
 
   -- and so are they.
-  pub lowered-all : (old new : List PageEntry) → ((page : ℕ) → has (pages_lowered a seat wants) page ≡ true → page < length old) → AreLowered a seat (pages_lowered a seat wants) old new
+  pub lowered-all : (old new : List Authority) → ((page : ℕ) → has (pages_lowered a seat wants) page ≡ true → page < length old) → AreLowered a seat (pages_lowered a seat wants) old new
       → owners_told (number_under a) (authority_under new) ≡ lowered (is_fine_page a.reach.directory) attempt locks (owners_told (number_under a) (authority_under old))
   lowered-all old new below is =
       ap (owners_told (number_under a))

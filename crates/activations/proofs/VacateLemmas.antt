@@ -1,24 +1,24 @@
 -- A seat that is left: its entry goes, and its pages are nobody's.
 use Rattle.activations.proofs.SittingLemmas.{each_seat}
-use Rattle.activations.proofs.Common.{◌≡◌, refl, ℕ, zero, suc, ◌+◌, ◌<◌, ◌≤◌, ◌==◌, not, nat_lt, if◌then◌else◌, Bool, true, false, List, [], ◌∷◌, length, map, slice_index_or, slice_set, range_with_len, arith, ap, sym, ◌∙◌, subst, inl, inr, get_or-set_same, get_or-set_other, eqb-false, and_parts, and_from, not-true, nat_tests, length-map, length-set, get_or-map, get_or_past, All-filter, passing, IsOfPage, has, has-filter, PageEntry, unowned, cleared_entry, nobody, StandsFor, owners_told, freed-told, others, told-others, sitter, number_in, left, taken-below, kept-left, same-with, other-with, of_page, nothing, of_seat, no_lines_of, released, Activity, flat_authority, authority_at, authority_under, authority_told, number_under, entry_in, entries, IsSound, IsIdentified, AreOfPages, vacated, cond_both, map-map, Authority, authority_of}
+use Rattle.activations.proofs.Common.{◌≡◌, refl, ℕ, zero, suc, ◌+◌, ◌<◌, ◌≤◌, ◌==◌, not, nat_lt, if◌then◌else◌, Bool, true, false, List, [], ◌∷◌, length, map, slice_index_or, slice_set, range_with_len, arith, ap, sym, ◌∙◌, subst, inl, inr, get_or-set_same, get_or-set_other, eqb-false, and_parts, and_from, not-true, nat_tests, length-map, length-set, get_or-map, get_or_past, All-filter, passing, IsOfPage, has, has-filter, Authority, unowned, cleared_entry, nobody, StandsFor, owners_told, freed-told, others, told-others, sitter, number_in, left, taken-below, kept-left, same-with, other-with, of_page, nothing, of_seat, no_lines_of, released, Activity, flat_authority, authority_at, authority_under, authority_told, number_under, entry_in, entries, IsSound, IsIdentified, AreOfPages, vacated, cond_both, map-map, Grant, grant_of}
 use Rattle.activations.proofs.TableLemmas.{nobody-page}
 
 -- an entry that is cleared is told as a page that is freed
-cleared-told : (page tid : ℕ) (one : PageEntry) → flat_authority page (authority_of (cleared_entry tid one)) ≡ (if (flat_authority page (authority_of one)).owner == tid then nobody else flat_authority page (authority_of one))
+cleared-told : (page tid : ℕ) (one : Authority) → flat_authority page (grant_of (cleared_entry tid one)) ≡ (if (flat_authority page (grant_of one)).owner == tid then nobody else flat_authority page (grant_of one))
 cleared-told page tid one = grind (arith, nobody-page)
 
-pub map-range : (f g : ℕ → Authority) (from count : ℕ) → ((page : ℕ) → from ≤ page → page < from + count → f page ≡ g page) → map f (range_with_len from count) ≡ map g (range_with_len from count)
+pub map-range : (f g : ℕ → Grant) (from count : ℕ) → ((page : ℕ) → from ≤ page → page < from + count → f page ≡ g page) → map f (range_with_len from count) ≡ map g (range_with_len from count)
 map-range f g from zero same = refl
 map-range f g from (suc count) same =
     λ i. same from (omega arith) (omega arith) i ∷ map-range f g (from + 1) count (λ page above below. same page (omega (arith, above)) (omega (arith, below))) i
 
 -- the pages of an identifier that is cleared are nobody's
-pub cleared-under : (owned : List PageEntry) (tid : ℕ) → authority_under (map (cleared_entry tid) owned) ≡ map (λ (one : Authority). if one.owner == tid then nobody else one) (authority_under owned)
+pub cleared-under : (owned : List Authority) (tid : ℕ) → authority_under (map (cleared_entry tid) owned) ≡ map (λ (one : Grant). if one.owner == tid then nobody else one) (authority_under owned)
 cleared-under owned tid =
     ap (λ (n : ℕ). map (authority_at (map (cleared_entry tid) owned)) (range_with_len 0 n)) (length-map owned (cleared_entry tid))
     ∙ map-range (authority_at (map (cleared_entry tid) owned)) (λ page. if (authority_at owned page).owner == tid then nobody else authority_at owned page) 0 (length owned)
-    (λ page above below. ap (λ (one : PageEntry). flat_authority page (authority_of one)) (get_or-map (cleared_entry tid) owned page unowned unowned (omega (arith, below))) ∙ cleared-told page tid (slice_index_or owned page unowned))
-    ∙ sym (map-map (λ (one : Authority). if one.owner == tid then nobody else one) (authority_at owned) (range_with_len 0 (length owned)))
+    (λ page above below. ap (λ (one : Authority). flat_authority page (grant_of one)) (get_or-map (cleared_entry tid) owned page unowned unowned (omega (arith, below))) ∙ cleared-told page tid (slice_index_or owned page unowned))
+    ∙ sym (map-map (λ (one : Grant). if one.owner == tid then nobody else one) (authority_at owned) (range_with_len 0 (length owned)))
 
 -- nothing is of pages
 pub none-of-page : (pages page : ℕ) → of_page (no_lines_of pages) page ≡ nothing
@@ -50,7 +50,7 @@ module _ (a : Activity) (seat : ℕ) (sound : IsSound a) (taken : has a.seating.
   entries-left = told-others a.seating.taken (entry_in a) seat (λ at inside. sound.seats.apart at seat inside taken)
 
   pub authority-left : StandsFor (number_under a) (seat + 1) (sitter a.seating seat).number (authority_under a.reach.entries)
-      → authority_told (vacated a seat) ≡ map (λ (one : Authority). if one.owner == (sitter a.seating seat).number then nobody else one) (authority_told a)
+      → authority_told (vacated a seat) ≡ map (λ (one : Grant). if one.owner == (sitter a.seating seat).number then nobody else one) (authority_told a)
   authority-left stands =
       ap (owners_told (number_under a)) (cleared-under a.reach.entries (seat + 1))
       ∙ freed-told (number_under a) refl (seat + 1) (sitter a.seating seat).number (authority_under a.reach.entries) stands
@@ -58,7 +58,7 @@ module _ (a : Activity) (seat : ℕ) (sound : IsSound a) (taken : has a.seating.
   begun-other : (at : ℕ) → (at == seat) ≡ false → slice_index_or (slice_set a.reach.begun seat false) at false ≡ slice_index_or a.reach.begun at false
   begun-other at differs = get_or-set_other a.reach.begun seat at false false (eqb-false at seat differs)
 
-  identified-left : (one : PageEntry) → IsIdentified a.seating.taken one → IsIdentified (left a.seating seat).taken (cleared_entry (seat + 1) one)
+  identified-left : (one : Authority) → IsIdentified a.seating.taken one → IsIdentified (left a.seating seat).taken (cleared_entry (seat + 1) one)
   identified-left one (inl none) = inl (grind arith)
   identified-left one (inr (other, inside, same)) = cond_both (one.tid == seat + 1) _ _ (IsIdentified (left a.seating seat).taken) (λ _. inl refl) (λ e.
       let differs : (other == seat) ≡ false = grind (arith, nat_tests, e, same) in

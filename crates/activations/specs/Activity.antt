@@ -6,14 +6,14 @@ use Rattle.std.specs.Option.{option_map_or}
 use Rattle.line_geometry.specs.FlatStore.{FlatStore}
 use Rattle.line_geometry.specs.declared.directory.PageSize.{PageSize}
 use Rattle.line_geometry.specs.declared.directory.PageSize.TheVariants.{Two}
-use Rattle.lock_rules.specs.Access.{Authority}
+use Rattle.lock_rules.specs.Access.{Grant}
 use Rattle.lock_rules.specs.Lines.{Lines, no_lines}
 use Rattle.line_locks.specs.Held.{of_page}
 use Rattle.line_locks.specs.Flat.{flat_lines, lines_wanted}
 use Rattle.line_locks.specs.Holding.{of_seat}
 use Rattle.inverted_table.specs.Placed.{unowned}
-use Rattle.lockbit_rules.specs.Entries.{authority_of}
-use Rattle.lockbit_rules.specs.declared.PageEntry.{PageEntry}
+use Rattle.lockbit_rules.specs.Entries.{grant_of}
+use Rattle.lockbit_rules.specs.declared.Authority.{Authority}
 use Rattle.frame_pool.specs.declared.model.Pool.{Pool}
 use Rattle.flat_machine.specs.declared.machine.Plain.{Plain}
 use Rattle.flat_machine.specs.declared.machine.Program.{Program}
@@ -83,18 +83,18 @@ number_under a zero = 0
 number_under a (suc seat) = (sitter a.seating seat).number
 
 -- an authority over lines of a page from 0 to 15, over these as flat lines
-abbrev pub flat_authority : (page : ℕ) → Authority → Authority
+abbrev pub flat_authority : (page : ℕ) → Grant → Grant
 flat_authority page authority = record authority { lines = flat_lines page authority.lines }
 
 -- what the entry of a page grants, in flat lines, under the identifier that owns it
-abbrev pub authority_at : List PageEntry → (page : ℕ) → Authority
-authority_at owned page = flat_authority page (authority_of (slice_index_or owned page unowned))
+abbrev pub authority_at : List Authority → (page : ℕ) → Grant
+authority_at owned page = flat_authority page (grant_of (slice_index_or owned page unowned))
 
 -- the authority of each page, under the identifiers of seats, and under the numbers of those who sit there
-abbrev pub authority_under : List PageEntry → List Authority
+abbrev pub authority_under : List Authority → List Grant
 authority_under owned = map (authority_at owned) (range_with_len 0 (length owned))
 
-abbrev pub authority_told : Activity → List Authority
+abbrev pub authority_told : Activity → List Grant
 authority_told a = owners_told (number_under a) (authority_under a.reach.entries)
 
 -- the committed store

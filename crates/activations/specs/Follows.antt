@@ -10,7 +10,7 @@ use Rattle.desk.specs.Holdings.{requested, due_to}
 use Rattle.desk_law.specs.Beside.{AreSeats, AreMarked, AreAlike, IsState}
 use Rattle.desk_law.specs.Current.{IsCurrent}
 use Rattle.desk_law.specs.Orderly.{IsOrderly}
-use Rattle.lockbit_rules.specs.declared.PageEntry.{PageEntry}
+use Rattle.lockbit_rules.specs.declared.Authority.{Authority}
 use Rattle.inverted_table.specs.Placed.{unowned}
 use Rattle.line_locks.specs.declared.request.Request.{Request}
 use Rattle.seats.specs.Seating.{IsSeating, sitter, number_in}
@@ -29,7 +29,7 @@ pub record IsSetUp (a : Activity) (seat : ℕ) : Type 0 where
   pub few : length (live_in a seat).out ≤ 4096
 
 -- the entry of a page is nobody's, or a taken seat's
-abbrev pub IsIdentified : List ℕ → PageEntry → Type 0
+abbrev pub IsIdentified : List ℕ → Authority → Type 0
 IsIdentified taken one = (one ≡ unowned) ⊎ ((seat : ℕ) × (has taken seat ≡ true) × (one.tid ≡ seat + 1))
 
 -- what is held of each page are lines of it

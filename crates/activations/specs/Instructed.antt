@@ -8,7 +8,7 @@ use Rattle.line_geometry.specs.Directory.{byte_count}
 use Rattle.line_locks.specs.Flat.{lines_wanted}
 use Rattle.line_locks.specs.declared.request.Request.{Request}
 use Rattle.line_locks.specs.declared.request.Want.{Want}
-use Rattle.lockbit_rules.specs.declared.PageEntry.{PageEntry}
+use Rattle.lockbit_rules.specs.declared.Authority.{Authority}
 use Rattle.desk.specs.declared.answers.TurnEnd.{TurnEnd}
 use Rattle.desk.specs.declared.answers.TurnEnd.TheVariants as end
 use Rattle.desk.specs.Instruction.{Word, Counts, Attempt, Turning}
@@ -78,7 +78,7 @@ Prepares (Err end) begins a seat committed order counts = HasEnded end begins a 
 -- What it asked for was got: once it has taken effect, and the write bits of the fine pages that it wrote into went off, that is the
 -- desk's instruction.
 pub record IsServed (begins : Word → Turning) (a : Activity) (seat : ℕ) (wants : List Want) (committed : List ℕ) (order : List (ℕ × ℕ)) (counts : Counts) : Type 0 where
-  pub goes : (live : Live) (bytes : List ℕ) (marked : List (List ℕ)) (eased : List PageEntry) → HasExecuted a seat live bytes marked committed
+  pub goes : (live : Live) (bytes : List ℕ) (marked : List (List ℕ)) (eased : List Authority) → HasExecuted a seat live bytes marked committed
       → AreLowered a seat (pages_lowered a seat wants) a.reach.entries eased
       → GoesUncounted begins (with_entries (executed a seat live bytes marked) eased) seat committed order counts
   pub long : length committed ≡ byte_count a.reach.directory

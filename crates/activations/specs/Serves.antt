@@ -7,7 +7,7 @@ use Rattle.line_locks.specs.declared.request.Want.{Want}
 use Rattle.line_locks.specs.Flat.{lines_wanted}
 use Rattle.line_locks.specs.Held.{of_page, write_count}
 use Rattle.line_geometry.specs.LineSets.{difference}
-use Rattle.lockbit_rules.specs.declared.PageEntry.{PageEntry}
+use Rattle.lockbit_rules.specs.declared.Authority.{Authority}
 use Rattle.flat_machine.specs.declared.machine.Plain.{Plain}
 use Rattle.flat_machine.specs.Row.{On, row}
 use Rattle.flat_machine.specs.Touched.{touched}
@@ -90,7 +90,7 @@ ServingStarts =
 abbrev pub ServedGoesOn : Type 0
 ServedGoesOn =
     (begins : Word → Turning) (attempt : Attempt) (refused : List ℕ) (a : Activity) (seat : ℕ) (committed : List ℕ) (order : List (ℕ × ℕ)) (counts : Counts)
-    (wants : List Want) (owned eased : List PageEntry) (pool : Pool) (live : Live) (bytes : List ℕ) (marked : List (List ℕ)) (pages : ℕ) (next : Plain)
+    (wants : List Want) (owned eased : List Authority) (pool : Pool) (live : Live) (bytes : List ℕ) (marked : List (List ℕ)) (pages : ℕ) (next : Plain)
     → IsSound a → has a.seating.taken seat ≡ true → a.reach.runner ≡ seat + 1 → attempt.entry.number ≡ (sitter a.seating seat).number
     → IsFree begins attempt refused a committed order counts → attempt.outcome ≡ On next → IsFetched a committed order (touched_pages attempt) counts.pages pool pages
     → AreAlike (locks_in (locked a seat wants owned) seat) (locks_with attempt (desk_over a committed order))

@@ -2,11 +2,11 @@
 use Rattle.std.specs.Prelude.{◌≡◌, ℕ, ◌+◌, ◌==◌, ◌&&◌, not, if◌then◌else◌, Bool, length, Some, List, [], ◌∷◌, filter, map, slice_index_or, slice_set}
 use Rattle.line_locks.specs.declared.request.Want.{Want}
 use Rattle.line_locks.specs.Holding.{held_at}
-use Rattle.lockbit_rules.specs.Entries.{authority_of}
-use Rattle.lockbit_rules.specs.declared.PageEntry.{PageEntry}
+use Rattle.lockbit_rules.specs.Entries.{grant_of}
+use Rattle.lockbit_rules.specs.declared.Authority.{Authority}
 use Rattle.line_geometry.specs.Directory.{is_fine_page}
 use Rattle.lock_rules.specs.Lines.{is_whole_page}
-use Rattle.lock_rules.specs.Access.{nobody, Authority, authority_by, fine_authority_by}
+use Rattle.lock_rules.specs.Access.{nobody, Grant, grant_by, fine_grant_by}
 use Rattle.line_locks.specs.declared.request.Request.{Request}
 use Rattle.seats.specs.Seating.{took, waiting_for}
 use Rattle.activations.specs.Touched.{with_whole_page, stores_into, pages_wanted}
@@ -20,7 +20,7 @@ use Rattle.activations.specs.Follows.{IsKept, KeepsDesk}
 
 -- These are the pages of an attempt whose authority refused it once, and of those that it owned then the authority is as it was.
 pub record WereRefused (attempt : Attempt) (refused : List ℕ) (now : Desk) : Type 0 where
-  pub once : List Authority
+  pub once : List Grant
   pub are : filter (λ page. refuses (slice_index_or once page nobody) attempt.entry.number (lines_within page attempt.lines)) (touched_pages attempt) ≡ refused
   pub keeps : KeepsPages attempt.entry.number once now.authority
 
@@ -50,24 +50,24 @@ abbrev pub instruction_in : Activity → (seat : ℕ) → (committed : List ℕ)
 instruction_in a seat committed order counts word = instruction word (Some (entry_in a seat)) (desk_over a committed order) counts
 
 -- Pages get entries one after another, each with the authority that is told of it.
-abbrev pub AreSet : (of : ℕ → Authority) → (pages : List ℕ) → (old new : List PageEntry) → Type 0
+abbrev pub AreSet : (of : ℕ → Grant) → (pages : List ℕ) → (old new : List Authority) → Type 0
 AreSet of [] old new = new ≡ old
-AreSet of (page ∷ pages) old new = (one : PageEntry) × (authority_of one ≡ of page) × AreSet of pages (slice_set old page one) new
+AreSet of (page ∷ pages) old new = (one : Authority) × (grant_of one ≡ of page) × AreSet of pages (slice_set old page one) new
 
 -- the authority that a page gets by what a seat holds in it, where its row stores into it or doesn't
-abbrev pub authority_given : Activity → (seat : ℕ) → (storing : Bool) → (page : ℕ) → Authority
+abbrev pub authority_given : Activity → (seat : ℕ) → (storing : Bool) → (page : ℕ) → Grant
 authority_given a seat storing page =
     if is_fine_page a.reach.directory page
-    then fine_authority_by (seat + 1) storing (held_at a.seating.holding seat page).0 (held_at a.seating.holding seat page).1
-    else authority_by (seat + 1) (held_at a.seating.holding seat page).0 (held_at a.seating.holding seat page).1
+    then fine_grant_by (seat + 1) storing (held_at a.seating.holding seat page).0 (held_at a.seating.holding seat page).1
+    else grant_by (seat + 1) (held_at a.seating.holding seat page).0 (held_at a.seating.holding seat page).1
 
 -- Pages are granted one after another to a seat, whose row wants these lines.
-abbrev pub AreGranted : Activity → (seat : ℕ) → (wants : List Want) → (pages : List ℕ) → (old new : List PageEntry) → Type 0
+abbrev pub AreGranted : Activity → (seat : ℕ) → (wants : List Want) → (pages : List ℕ) → (old new : List Authority) → Type 0
 AreGranted a seat wants pages old new = AreSet (λ page. authority_given a seat (stores_into wants page) page) pages old new
 
 -- the authority of a page with its write bit off
-abbrev pub authority_to_read : Activity → (seat page : ℕ) → Authority
-authority_to_read a seat page = authority_by (seat + 1) (held_at a.seating.holding seat page).0 []
+abbrev pub authority_to_read : Activity → (seat page : ℕ) → Grant
+authority_to_read a seat page = grant_by (seat + 1) (held_at a.seating.holding seat page).0 []
 
 -- whether the write bit of a page that a row stored into goes off: it is fine, and a seat holds not all its lines to read
 abbrev pub is_lowered : Activity → (seat page : ℕ) → Bool
@@ -78,15 +78,15 @@ abbrev pub pages_lowered : Activity → (seat : ℕ) → List Want → List ℕ
 pages_lowered a seat wants = pages_wanted (filter (λ want. not (length want.writes == 0) && is_lowered a seat want.page) wants)
 
 -- The write bits of pages go off one after another, as a row of who sits in a seat took effect.
-abbrev pub AreLowered : Activity → (seat : ℕ) → (pages : List ℕ) → (old new : List PageEntry) → Type 0
+abbrev pub AreLowered : Activity → (seat : ℕ) → (pages : List ℕ) → (old new : List Authority) → Type 0
 AreLowered a seat pages old new = AreSet (authority_to_read a seat) pages old new
 
 -- the entries of the pages are others
-abbrev pub with_entries : Activity → (entries : List PageEntry) → Activity
+abbrev pub with_entries : Activity → (entries : List Authority) → Activity
 with_entries a entries = record a { reach = record a.reach { entries = entries } }
 
 -- a seat holds what it asked for, and its refused pages are granted
-abbrev pub locked : Activity → (seat : ℕ) → List Want → (entries : List PageEntry) → Activity
+abbrev pub locked : Activity → (seat : ℕ) → List Want → (entries : List Authority) → Activity
 locked a seat wants entries = record a { seating = took a.seating seat (map (with_whole_page a.reach.directory) wants); reach = record a.reach { entries = entries } }
 
 -- a row that was served takes effect

@@ -9,8 +9,8 @@ use Rattle.desk_law.specs.Consistent.{AreDistinct}
 use Rattle.seats.specs.Waiting.{AreOfPage}
 use Rattle.lock_rules.specs.Sets.{has}
 use Rattle.std.specs.List.{list_any, range_with_len}
-use Rattle.lockbit_rules.specs.Entries.{authority_of}
-use Rattle.lockbit_rules.specs.declared.PageEntry.{PageEntry}
+use Rattle.lockbit_rules.specs.Entries.{grant_of}
+use Rattle.lockbit_rules.specs.declared.Authority.{Authority}
 use Rattle.inverted_table.specs.Placed.{unowned}
 use Rattle.line_geometry.specs.LineSets.{between, union}
 use Rattle.activations.specs.declared.touch.Touch.{Touch}
@@ -44,26 +44,26 @@ wants_of (Touch.One want) = want ∷ []
 wants_of (Touch.Two first second) = first ∷ second ∷ []
 
 -- whether an entry refuses an identifier one of the lines that are wanted of its page
-abbrev pub refuses_want : List PageEntry → (tid : ℕ) → Want → Bool
-refuses_want owned tid want = refuses (authority_of (slice_index_or owned want.page unowned)) tid (record { reads = want.reads; writes = want.writes })
+abbrev pub refuses_want : List Authority → (tid : ℕ) → Want → Bool
+refuses_want owned tid want = refuses (grant_of (slice_index_or owned want.page unowned)) tid (record { reads = want.reads; writes = want.writes })
 
 -- whether the first, and the second page of a touch is refused
-abbrev pub each_refused : List PageEntry → (tid : ℕ) → Touch → Bool × Bool
+abbrev pub each_refused : List Authority → (tid : ℕ) → Touch → Bool × Bool
 each_refused owned tid Touch.Nothing = (false, false)
 each_refused owned tid (Touch.One want) = (refuses_want owned tid want, false)
 each_refused owned tid (Touch.Two first second) = (refuses_want owned tid first, refuses_want owned tid second)
 
 -- whether a touch is of one page, whose entry refuses an identifier none of its lines
-abbrev pub is_granted : List PageEntry → (tid : ℕ) → Touch → Bool
+abbrev pub is_granted : List Authority → (tid : ℕ) → Touch → Bool
 is_granted owned tid (Touch.One want) = not (refuses_want owned tid want)
 is_granted owned tid touch = false
 
 -- the pages of which one is refused
-abbrev pub pages_refused : List PageEntry → (tid : ℕ) → List Want → List ℕ
+abbrev pub pages_refused : List Authority → (tid : ℕ) → List Want → List ℕ
 pages_refused owned tid wants = pages_wanted (filter (refuses_want owned tid) wants)
 
 -- an entry refuses an identifier none of the lines that are wanted of its page, unless this is one of these pages
-abbrev pub AreLetBut : List PageEntry → (tid : ℕ) → (pages : List ℕ) → List Want → Type 0
+abbrev pub AreLetBut : List Authority → (tid : ℕ) → (pages : List ℕ) → List Want → Type 0
 AreLetBut owned tid pages wants = All (λ want. has pages want.page ≡ false → refuses_want owned tid want ≡ false) wants
 
 -- a page, where it is picked

@@ -10,7 +10,7 @@ use super::activations::Activations;
 use super::touch::Touch;
 use line_geometry::LineSet;
 use line_locks::{Request, Want};
-use lockbit_rules::PageEntry;
+use lockbit_rules::Authority;
 
 impl Activations {
     ghost use Rattle.activations.specs.Follows.{IsSound};
@@ -86,11 +86,11 @@ impl Activations {
     {
         let (reads, writes) = self.seats.locks().held(seat, want.page);
         let entry = if self.directory.is_fine(want.page) {
-            PageEntry::grant_fine(seat + 1, reads, writes, !want.writes.is_empty())
+            Authority::grant_fine(seat + 1, reads, writes, !want.writes.is_empty())
         } else {
-            PageEntry::grant(seat + 1, reads, writes)
+            Authority::grant(seat + 1, reads, writes)
         };
-        self.unit.set_entry(want.page, entry);
+        self.unit.set_authority(want.page, entry);
     }
 
     /// The write bits of the fine pages that a touch wrote into go off, but for those of which a seat holds all lines.
@@ -132,9 +132,9 @@ impl Activations {
         if reads.count() == 16 {
             return;
         }
-        self.unit.set_entry(
+        self.unit.set_authority(
             want.page,
-            PageEntry::grant(seat + 1, reads, LineSet::none()),
+            Authority::grant(seat + 1, reads, LineSet::none()),
         );
     }
 }

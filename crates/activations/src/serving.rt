@@ -3,7 +3,7 @@ ghost use Rattle.std.specs.Prelude.{◌≡◌, ◌+◌, ◌<◌, not};
 ghost use Rattle.std.specs.List.{list_any};
 ghost use Rattle.line_locks.specs.Held.{AreWithin};
 ghost use Rattle.line_geometry.specs.Directory.{page_count};
-ghost use Rattle.lockbit_rules.specs.Entries.{authority_of};
+ghost use Rattle.lockbit_rules.specs.Entries.{grant_of};
 ghost use Rattle.lock_rules.specs.Access.{lets};
 ghost use Rattle.activations.specs.Touched.{wants_of, refuses_want, each_refused, is_granted};
 
@@ -11,7 +11,7 @@ use super::activations::Activations;
 use super::touch::Touch;
 use line_geometry::LineSet;
 use line_locks::Want;
-use lockbit_rules::PageEntry;
+use lockbit_rules::Authority;
 
 impl Activations {
     ghost use Rattle.activations.specs.View.{activity_of};
@@ -52,7 +52,7 @@ impl Activations {
         requires page { want.now.page < page_count (activity_of self.now).reach.directory }
         ensures { result ≡ refuses_want (activity_of self.now).reach.entries (seat + 1) want.now }
     {
-        let entry = self.unit.table().entry(want.page);
+        let entry = self.unit.table().authority(want.page);
         keeps_from(&entry, seat + 1, want.reads, false)
             || keeps_from(&entry, seat + 1, want.writes, true)
     }
@@ -60,8 +60,8 @@ impl Activations {
 
 /// Whether an entry keeps one of these lines from an identifier.
 #[inline(always)]
-fn keeps_from(entry: &PageEntry, tid: u8, lines: LineSet, store: bool) -> bool
-    ensures { result ≡ list_any (λ line. not (lets (authority_of entry.now) tid line store)) lines }
+fn keeps_from(entry: &Authority, tid: u8, lines: LineSet, store: bool) -> bool
+    ensures { result ≡ list_any (λ line. not (lets (grant_of entry.now) tid line store)) lines }
 {
     for line in lines.lines() {
         if !entry.permits(tid, line, store) {

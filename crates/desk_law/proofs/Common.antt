@@ -37,7 +37,7 @@ pub use Rattle.lock_rules.proofs.Cycles.{after-among, any-named, find-named, fou
 pub use Rattle.lock_rules.proofs.Lines.{ArePart, any-or, has-pages_of, has-whole, has-whole_pages, has-within_page, meets-at, pages_of-line, part-both, part-whole_pages, reaches, reaches-coarse, whole-has, whole-reached}
 pub use Rattle.lock_rules.proofs.Sets.{any-at, any-some, has-append, has-filter, has_left, has_right}
 pub use Rattle.lock_rules.proofs.Sizes.{size-alike}
-pub use Rattle.lock_rules.specs.Access.{permits, Authority, nobody, authority_by, fine_authority_by, lets}
+pub use Rattle.lock_rules.specs.Access.{permits, Grant, nobody, grant_by, fine_grant_by, lets}
 pub use Rattle.lock_rules.specs.Lines.{Lines, both, conflicts, is_whole_page, lines_of_page, no_lines, page_of_line, pages_of, with_whole_pages, within_page}
 pub use Rattle.lock_rules.specs.Resident.{brought, first_out, taken_out}
 pub use Rattle.lock_rules.specs.Sets.{has, meets, size}

@@ -1,5 +1,5 @@
 -- Cycles of waits and their victims.
-use Rattle.desk_law.proofs.Common.{◌≡◌, refl, ℕ, zero, suc, ◌+◌, ◌<◌, ◌≤◌, ◌==◌, ◌⊎◌, not, max, Bool, true, false, List, [], ◌∷◌, ◌++◌, length, filter, map, find, fold, Option, Some, None, arith, ap, sym, ◌∙◌, subst, inl, inr, length-append, eqb-true, eq-eqb, both_ways, and_parts, and_from, or_left, or_right, not_from_false, false_from_ne_true, cases_lt, not_from_true, has, leads, shown_cycle, victim_of, after-among, Desk, Entry, Authority, rolled_back, numbers, waits_for, Counts, Contest, Contested, Settled, Lost, breaks_cycle, breaks_cycles, IsAmong, IsOrderly, except, IsContending, KeepsPages, nat_tests}
+use Rattle.desk_law.proofs.Common.{◌≡◌, refl, ℕ, zero, suc, ◌+◌, ◌<◌, ◌≤◌, ◌==◌, ◌⊎◌, not, max, Bool, true, false, List, [], ◌∷◌, ◌++◌, length, filter, map, find, fold, Option, Some, None, arith, ap, sym, ◌∙◌, subst, inl, inr, length-append, eqb-true, eq-eqb, both_ways, and_parts, and_from, or_left, or_right, not_from_false, false_from_ne_true, cases_lt, not_from_true, has, leads, shown_cycle, victim_of, after-among, Desk, Entry, Grant, rolled_back, numbers, waits_for, Counts, Contest, Contested, Settled, Lost, breaks_cycle, breaks_cycles, IsAmong, IsOrderly, except, IsContending, KeepsPages, nat_tests}
 use Rattle.desk_law.proofs.Entries.{among-filter, filter-among, among-found, none-found, filter-short}
 use Rattle.desk_law.proofs.Walks.{no-cycle-fewer, no-cycle-from, no-cycle-leaves, walk-short}
 use Rattle.desk_law.proofs.Others.{rollback-leaves}
@@ -71,7 +71,7 @@ pub shown-none : (waits : ℕ → ℕ → Bool) (all : List ℕ) (first : ℕ) �
 shown-none waits all first is = grind (arith, nat_tests)
 
 -- pages of others are freed
-pub freed-keeps : (one gone : ℕ) (old new : List Authority) → (gone == one) ≡ false → KeepsPages one old new → KeepsPages one old (map (freed gone) new)
+pub freed-keeps : (one gone : ℕ) (old new : List Grant) → (gone == one) ≡ false → KeepsPages one old new → KeepsPages one old (map (freed gone) new)
 freed-keeps one gone old new differ keeps page own = grind (arith, nat_tests, freed-at)
 
 -- what a contest of an entry came to

@@ -1,5 +1,5 @@
 -- Once the refused pages are granted, every line of the row is permitted.
-use Rattle.desk_law.proofs.Common.{◌≡◌, refl, ℕ, ◌<◌, ◌==◌, not, if◌then◌else◌, Bool, true, false, List, [], ◌∷◌, length, filter, slice_index_or, list_any, ap, ◌∙◌, inl, inr, eq-eqb, both_ways, and_from, or_parts, cases_Bool, not-false, false_from_ne_true, has, permits, Lines, within_page, page_of_line, pages_of, any-at, has-filter, has_left, has_right, has-within_page, pages_of-line, all_of, Authority, nobody, Attempt, authority_by, fine_authority_by, given, granted, refuses, lines_within, touched_pages, lets, ArePermitted, KeepsPages, nat_tests, arith}
+use Rattle.desk_law.proofs.Common.{◌≡◌, refl, ℕ, ◌<◌, ◌==◌, not, if◌then◌else◌, Bool, true, false, List, [], ◌∷◌, length, filter, slice_index_or, list_any, ap, ◌∙◌, inl, inr, eq-eqb, both_ways, and_from, or_parts, cases_Bool, not-false, false_from_ne_true, has, permits, Lines, within_page, page_of_line, pages_of, any-at, has-filter, has_left, has_right, has-within_page, pages_of-line, all_of, Grant, nobody, Attempt, grant_by, fine_grant_by, given, granted, refuses, lines_within, touched_pages, lets, ArePermitted, KeepsPages, nat_tests, arith}
 use Rattle.desk_law.proofs.EachPage.{each-is, each-not}
 
 read-there : (same bit : Bool) → same ≡ true → permits same true bit false ≡ true
@@ -12,16 +12,16 @@ inside-page : (lines : List ℕ) (line : ℕ) → has lines line ≡ true → ha
 inside-page lines line inside = has-within_page (page_of_line line) lines line ∙ and_from (page_of_line line == page_of_line line) (has lines line) (eq-eqb (page_of_line line) (page_of_line line) refl) inside
 
 -- The authority by locks lets its number load what is locked to read, and store to what is locked to write.
-pub lets-loads : (number : ℕ) (reads writes : List ℕ) (line : ℕ) → has reads line ≡ true → lets (authority_by number reads writes) number line false ≡ true
+pub lets-loads : (number : ℕ) (reads writes : List ℕ) (line : ℕ) → has reads line ≡ true → lets (grant_by number reads writes) number line false ≡ true
 lets-loads number reads [] line inside = grind (arith, nat_tests, inside)
 lets-loads number reads (x ∷ writes) line inside = grind (arith, nat_tests)
 
-pub lets-stores : (number : ℕ) (reads writes : List ℕ) (line : ℕ) → has writes line ≡ true → lets (authority_by number reads writes) number line true ≡ true
+pub lets-stores : (number : ℕ) (reads writes : List ℕ) (line : ℕ) → has writes line ≡ true → lets (grant_by number reads writes) number line true ≡ true
 lets-stores number reads [] line inside = absurd (cc (inside))
 lets-stores number reads (x ∷ writes) line inside = grind (arith, nat_tests, inside)
 
 by-reads : (attempt : Attempt) (locks : Lines) (line : ℕ) (writes : List ℕ) → has locks.reads line ≡ true
-    → lets (authority_by attempt.entry.number (within_page (page_of_line line) locks.reads) writes) attempt.entry.number line false ≡ true
+    → lets (grant_by attempt.entry.number (within_page (page_of_line line) locks.reads) writes) attempt.entry.number line false ≡ true
 by-reads attempt locks line writes inside = lets-loads attempt.entry.number (within_page (page_of_line line) locks.reads) writes line (inside-page locks.reads line inside)
 
 given-reads : (fine : ℕ → Bool) (attempt : Attempt) (locks : Lines) (line : ℕ) → has locks.reads line ≡ true → lets (given fine attempt locks (page_of_line line)) attempt.entry.number line false ≡ true
@@ -34,8 +34,8 @@ given-writes fine attempt locks line writes inside = by_fine (fine (page_of_line
     by_fine : (is_fine storing : Bool) → storing ≡ true
         → lets
         (if is_fine
-        then fine_authority_by attempt.entry.number storing (within_page (page_of_line line) locks.reads) (within_page (page_of_line line) locks.writes)
-        else authority_by attempt.entry.number (within_page (page_of_line line) locks.reads) (within_page (page_of_line line) locks.writes))
+        then fine_grant_by attempt.entry.number storing (within_page (page_of_line line) locks.reads) (within_page (page_of_line line) locks.writes)
+        else grant_by attempt.entry.number (within_page (page_of_line line) locks.reads) (within_page (page_of_line line) locks.writes))
         attempt.entry.number line true
         ≡ true
     by_fine true true e = write-here (attempt.entry.number == attempt.entry.number) (has (within_page (page_of_line line) locks.writes) line) (eq-eqb attempt.entry.number attempt.entry.number refl) (inside-page locks.writes line inside)
@@ -51,7 +51,7 @@ none-there test xs x none inside = false_from_ne_true (test x) (λ passes. both_
 
 -- Pages are granted after a contest that left the activation its own pages.
 pub granted-permits :
-    (fine : ℕ → Bool) (attempt : Attempt) (locks : Lines) (before later : List Authority) → KeepsPages attempt.entry.number before later
+    (fine : ℕ → Bool) (attempt : Attempt) (locks : Lines) (before later : List Grant) → KeepsPages attempt.entry.number before later
     → ((line : ℕ) → has attempt.lines.reads line ≡ true → has locks.reads line ≡ true) → ((line : ℕ) → has attempt.lines.writes line ≡ true → has locks.writes line ≡ true)
     → ((line : ℕ) → has (all_of attempt.lines) line ≡ true → page_of_line line < length later)
     → ArePermitted
@@ -87,13 +87,13 @@ granted-permits fine attempt locks before later keeps reads writes below = recor
         → ((reads_refused line ≡ false) × (writes_refused line ≡ false) → list_any (λ l. not (lets (slice_index_or before (page_of_line line) nobody) attempt.entry.number l stores)) (within_page (page_of_line line) lines) ≡ false)
         → lets (slice_index_or (granted fine attempt locks refused later) (page_of_line line) nobody) attempt.entry.number line stores ≡ true
     one line stores lines there inside given_here quiet_of = elim (cases_Bool (has refused (page_of_line line))) [
-      | inl was ↦ ap (λ (a : Authority). lets a attempt.entry.number line stores) (each-is (given fine attempt locks) refused later (page_of_line line) (below line there) was) ∙ given_here
+      | inl was ↦ ap (λ (a : Grant). lets a attempt.entry.number line stores) (each-is (given fine attempt locks) refused later (page_of_line line) (below line there) was) ∙ given_here
       | inr wasn't ↦
           let was_there = slice_index_or before (page_of_line line) nobody in
           let may : lets was_there attempt.entry.number line stores ≡ true =
           not-false (lets was_there attempt.entry.number line stores)
           (none-there (λ l. not (lets was_there attempt.entry.number l stores)) (within_page (page_of_line line) lines) line (quiet_of (or_parts (reads_refused line) (writes_refused line) (not_refused line there wasn't))) (inside-page lines line inside)) in
-          ap (λ (a : Authority). lets a attempt.entry.number line stores)
+          ap (λ (a : Grant). lets a attempt.entry.number line stores)
           (each-not (given fine attempt locks) refused later (page_of_line line) wasn't
           ∙ keeps (page_of_line line) (owns (was_there.owner == attempt.entry.number) was_there.write (has was_there.lines line) stores may))
           ∙ may

@@ -1,5 +1,5 @@
 -- The end of an instruction that was served: its pages are granted and there, and its row goes on over the bytes of all.
-use Rattle.desk_law.proofs.Common.{◌≡◌, refl, ℕ, ◌+◌, ◌<◌, true, List, [], ◌++◌, length, filter, slice_index_or, arith, ap, sym, ◌∙◌, is_fine_page, has, Lines, both, with_whole_pages, page_of_line, has_left, has_right, pages_of-line, Plain, On, row, all_of, touched-below, Desk, Authority, nobody, conflicts_of, Word, Counts, Going, Attempt, Fetched, fetches, touched_pages, refuses, lines_within, granted, locks_with, with_grants, gets, AreThere, over_all, gone_on, row_done, IsCurrent, ArePermitted, KeepsPages, touched_of, IsUnderWay, IsReady, IsOrderly, nat_tests}
+use Rattle.desk_law.proofs.Common.{◌≡◌, refl, ℕ, ◌+◌, ◌<◌, true, List, [], ◌++◌, length, filter, slice_index_or, arith, ap, sym, ◌∙◌, is_fine_page, has, Lines, both, with_whole_pages, page_of_line, has_left, has_right, pages_of-line, Plain, On, row, all_of, touched-below, Desk, Grant, nobody, conflicts_of, Word, Counts, Going, Attempt, Fetched, fetches, touched_pages, refuses, lines_within, granted, locks_with, with_grants, gets, AreThere, over_all, gone_on, row_done, IsCurrent, ArePermitted, KeepsPages, touched_of, IsUnderWay, IsReady, IsOrderly, nat_tests}
 use Rattle.desk_law.proofs.AttemptsOnCurrent.{shown-current}
 use Rattle.desk_law.proofs.Entries.{replaced}
 use Rattle.desk_law.proofs.GoesOn.{ready-again, grants-held, row-goes-on}
@@ -24,7 +24,7 @@ touched-page attempt desk ready line inside = grind (arith, nat_tests, touched-b
 
 -- Once the refused pages are granted and all are there, the second attempt isn't refused.
 pub served-there :
-    (attempt : Attempt) (before : List Authority) (desk : Desk) (resident : List ℕ) → IsReady attempt desk → KeepsPages attempt.entry.number before desk.authority
+    (attempt : Attempt) (before : List Grant) (desk : Desk) (resident : List ℕ) → IsReady attempt desk → KeepsPages attempt.entry.number before desk.authority
     → ((page : ℕ) → has (touched_pages attempt) page ≡ true → has resident page ≡ true)
     → AreThere
     (got attempt (filter (λ page. refuses (slice_index_or before page nobody) attempt.entry.number (lines_within page attempt.lines)) (touched_pages attempt)) resident desk)

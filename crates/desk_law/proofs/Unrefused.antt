@@ -1,5 +1,5 @@
 -- A row of which no entry refuses a line.
-use Rattle.desk_law.proofs.Common.{◌≡◌, refl, ℕ, ◌<◌, true, List, [], length, Option, Some, option_map_or, arith, ap, sym, ◌∙◌, subst, is_fine_page, line_count, has, Lines, no_lines, page_of_line, Plain, touched, after, all_of, touched-below, Desk, Entry, Authority, conflicts_of, wanted, gets, granted, refused_pages, IsAmong, ArePermitted, IsOrderly, Word, Counts, next_attempt, nat_tests, counts_refused, UnrefusedAsksNothing}
+use Rattle.desk_law.proofs.Common.{◌≡◌, refl, ℕ, ◌<◌, true, List, [], length, Option, Some, option_map_or, arith, ap, sym, ◌∙◌, subst, is_fine_page, line_count, has, Lines, no_lines, page_of_line, Plain, touched, after, all_of, touched-below, Desk, Entry, Grant, conflicts_of, wanted, gets, granted, refused_pages, IsAmong, ArePermitted, IsOrderly, Word, Counts, next_attempt, nat_tests, counts_refused, UnrefusedAsksNothing}
 use Rattle.desk_law.proofs.Granted.{granted-permits}
 use Rattle.desk_law.proofs.Orderly.{orderly}
 use Rattle.desk_law.proofs.Permitted.{permitted-held, held-free}
@@ -16,7 +16,7 @@ module _ (desk : Desk) (entry : Entry) (now : Plain) (is : IsOrderly desk) (amon
 
   permitted_all : ArePermitted desk.authority entry.number (wanted desk entry)
   permitted_all =
-      subst (λ (authority : List Authority). ArePermitted authority entry.number (wanted desk entry))
+      subst (λ (authority : List Grant). ArePermitted authority entry.number (wanted desk entry))
       (ap (λ (pages : List ℕ). granted (is_fine_page desk.committed.directory) (next_attempt desk entry now) (wanted desk entry) pages desk.authority) none)
       (granted-permits (is_fine_page desk.committed.directory) (next_attempt desk entry now) (wanted desk entry) desk.authority desk.authority (λ page same. refl) (λ line inside. inside) (λ line inside. inside) below)
 

@@ -4,7 +4,7 @@ use Rattle.std.specs.List.{list_any}
 use Rattle.std.specs.Option.{option_map_or}
 use Rattle.line_geometry.specs.FlatStore.{FlatStore}
 use Rattle.lock_rules.specs.Sets.{has}
-use Rattle.lock_rules.specs.Access.{Authority, nobody, lets}
+use Rattle.lock_rules.specs.Access.{Grant, nobody, lets}
 use Rattle.lock_rules.specs.Lines.{Lines, conflicts, page_of_line}
 use Rattle.flat_machine.specs.declared.machine.Plain.{Plain}
 use Rattle.flat_machine.specs.After.{after}
@@ -88,14 +88,14 @@ abbrev pub Reads : Word → ℕ → Type 0
 Reads word counted = (page : ℕ) → page ≤ counted → can't_be_read word page ≡ false
 
 -- the authority of a page with its owner told: 0 is nobody's identifier and nobody's number
-abbrev pub owner_told : (numbers : ℕ → ℕ) → Authority → Authority
+abbrev pub owner_told : (numbers : ℕ → ℕ) → Grant → Grant
 owner_told numbers authority = record authority { owner = numbers authority.owner }
 
-abbrev pub owners_told : (numbers : ℕ → ℕ) → List Authority → List Authority
+abbrev pub owners_told : (numbers : ℕ → ℕ) → List Grant → List Grant
 owners_told numbers authority = map (owner_told numbers) authority
 
 -- on each page an identifier stands where its number is told: seats that are taken have numbers of their own
-pub record StandsFor (numbers : ℕ → ℕ) (identifier number : ℕ) (authority : List Authority) : Type 0 where
+pub record StandsFor (numbers : ℕ → ℕ) (identifier number : ℕ) (authority : List Grant) : Type 0 where
   pub is : numbers identifier ≡ number
   pub alone : (page : ℕ) → ((slice_index_or authority page nobody).owner == identifier) ≡ (numbers (slice_index_or authority page nobody).owner == number)
 

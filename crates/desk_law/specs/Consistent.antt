@@ -4,7 +4,7 @@ use Rattle.line_geometry.specs.Directory.{page_count}
 use Rattle.line_geometry.specs.FlatStore.{FlatStore, IsWhole}
 use Rattle.lock_rules.specs.Sets.{has, size}
 use Rattle.lock_rules.specs.Lines.{Lines, page_of_line}
-use Rattle.lock_rules.specs.Access.{Authority, nobody, lets}
+use Rattle.lock_rules.specs.Access.{Grant, nobody, lets}
 use Rattle.lock_rules.specs.Waits.{leads}
 use Rattle.flat_machine.specs.declared.machine.Plain.{Plain}
 use Rattle.flat_machine.specs.After.{after}
@@ -36,16 +36,16 @@ pub record AreApart (first second : Lines) : Type 0 where
   pub second_writes : (line : ℕ) → IsTrue (has second.writes line) → IsFalse (has (all_of first) line)
 
 -- what an authority over a page permits to a number is among these locks
-pub record IsCovered (authority : Authority) (page number : ℕ) (locks : Lines) : Type 0 where
+pub record IsCovered (authority : Grant) (page number : ℕ) (locks : Lines) : Type 0 where
   pub loads : (line : ℕ) → page_of_line line ≡ page → IsTrue (lets authority number line false) → IsTrue (has locks.reads line)
   pub stores : (line : ℕ) → page_of_line line ≡ page → IsTrue (lets authority number line true) → IsTrue (has locks.writes line)
 
 -- the owner of a page is nobody or an active entry
-abbrev pub IsOwned : List Entry → Authority → Type 0
+abbrev pub IsOwned : List Entry → Grant → Type 0
 IsOwned entries authority = (authority.owner ≡ 0) ⊎ ((entry : Entry) × IsAmong entries entry × (authority.owner ≡ entry.number))
 
 -- each page has an authority, its owner is nobody or active, and what it permits to an active entry is among the entry's due locks
-pub record IsHeld (store : FlatStore) (entries : List Entry) (authority : List Authority) : Type 0 where
+pub record IsHeld (store : FlatStore) (entries : List Entry) (authority : List Grant) : Type 0 where
   pub pages : length authority ≡ page_count store.directory
   pub owned : (page : ℕ) → IsOwned entries (slice_index_or authority page nobody)
   pub covered : (page : ℕ) (entry : Entry) → IsAmong entries entry → IsCovered (slice_index_or authority page nobody) page entry.number (due_to store entry)

@@ -5,7 +5,7 @@ use Rattle.line_geometry.specs.FlatStore.{FlatStore, IsWhole}
 use Rattle.lock_rules.specs.Sets.{has}
 use Rattle.lock_rules.specs.Lines.{Lines, page_of_line}
 use Rattle.lock_rules.specs.Waits.{shown_cycle}
-use Rattle.lock_rules.specs.Access.{Authority, nobody, lets}
+use Rattle.lock_rules.specs.Access.{Grant, nobody, lets}
 use Rattle.flat_machine.specs.declared.machine.Program.{Program}
 use Rattle.desk.specs.declared.event.Event.{Event}
 use Rattle.desk.specs.Desk.{Desk, Entry, opened, with_entry}
@@ -47,7 +47,7 @@ IdleWhereInactive =
     × ((IsActive desk number → ⊥) → turn word number limit desk ≡ Over desk no_counts Idle)
 
 -- an authority of each page permits a number all these lines
-pub record ArePermitted (authority : List Authority) (number : ℕ) (lines : Lines) : Type 0 where
+pub record ArePermitted (authority : List Grant) (number : ℕ) (lines : Lines) : Type 0 where
   pub reads : (line : ℕ) → IsTrue (has lines.reads line) → IsTrue (lets (slice_index_or authority (page_of_line line) nobody) number line false)
   pub writes : (line : ℕ) → IsTrue (has lines.writes line) → IsTrue (lets (slice_index_or authority (page_of_line line) nobody) number line true)
 

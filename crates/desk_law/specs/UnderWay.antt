@@ -3,7 +3,7 @@ use Rattle.std.specs.Prelude.{◌≡◌, ℕ, ◌≤◌, ◌==◌, ◌&&◌, not
 use Rattle.line_geometry.specs.FlatStore.{FlatStore, IsWhole}
 use Rattle.lock_rules.specs.Sets.{size}
 use Rattle.lock_rules.specs.Lines.{Lines}
-use Rattle.lock_rules.specs.Access.{Authority, nobody}
+use Rattle.lock_rules.specs.Access.{Grant, nobody}
 use Rattle.flat_machine.specs.declared.machine.Plain.{Plain}
 use Rattle.flat_machine.specs.Row.{row}
 use Rattle.flat_machine.specs.Touched.{touched}
@@ -60,7 +60,7 @@ abbrev pub contest : ℕ → Desk → Counts → Contest
 contest number desk counts = breaks_cycles (length desk.active) number (Contested desk counts)
 
 -- a number keeps the pages that it owns
-abbrev pub KeepsPages : ℕ → (old new : List Authority) → Type 0
+abbrev pub KeepsPages : ℕ → (old new : List Grant) → Type 0
 KeepsPages one old new = (page : ℕ) → ((slice_index_or old page nobody).owner == one) ≡ true → slice_index_or new page nobody ≡ slice_index_or old page nobody
 
 -- A contest under way, of an entry that is marked: what the loop keeps beside the value of the contest.

@@ -1,16 +1,16 @@
 -- The table as a list: what each frame holds, and the entry of each page of the store.
 use Rattle.std.specs.Prelude.{ℕ, ◌==◌, ◌&&◌, if◌then◌else◌, Bool, false, List, map, replicate, position, slice_set, slice_index_or, Option, Some, None}
 use Rattle.std.specs.Option.{option_map_or}
-use Rattle.lockbit_rules.specs.declared.PageEntry.{PageEntry}
+use Rattle.lockbit_rules.specs.declared.Authority.{Authority}
 use Rattle.inverted_table.specs.declared.key.Key.{Key}
 
 -- the page of a segment that each frame holds, if it holds one, and the entry of each page of the store
 pub record Placed : Type 0 where
   pub keys : List (Option Key)
-  pub entries : List PageEntry
+  pub entries : List Authority
 
 -- nobody's entry
-abbrev pub unowned : PageEntry
+abbrev pub unowned : Authority
 unowned = record { tid = 0; write = false; bits = 0 }
 
 -- a table of so many frames and pages, in which no frame holds a page and each page is nobody's
@@ -42,15 +42,15 @@ abbrev pub without_frame : Placed → ℕ → Placed
 without_frame table frame = record table { keys = slice_set table.keys frame None }
 
 -- the entry of a page
-abbrev pub entry_at : Placed → ℕ → PageEntry
+abbrev pub entry_at : Placed → ℕ → Authority
 entry_at table page = slice_index_or table.entries page unowned
 
 -- the table with another entry of a page
-abbrev pub with_entry : Placed → ℕ → PageEntry → Placed
+abbrev pub with_entry : Placed → ℕ → Authority → Placed
 with_entry table page entry = record table { entries = slice_set table.entries page entry }
 
 -- an entry after its identifier is cleared: nobody's, if it was that identifier's
-abbrev pub cleared_entry : ℕ → PageEntry → PageEntry
+abbrev pub cleared_entry : ℕ → Authority → Authority
 cleared_entry tid entry = if entry.tid == tid then unowned else entry
 
 -- the table after an identifier is cleared

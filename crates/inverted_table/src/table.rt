@@ -7,7 +7,7 @@ mod tests;
 
 use super::chain::{before, find_along, hash, held_in};
 use super::key::Key;
-use lockbit_rules::PageEntry;
+use lockbit_rules::Authority;
 use segment_regs::Virtual;
 use std::alloc::{AllocError, Global};
 use std::marker::Model;
@@ -19,7 +19,7 @@ pub struct Table {
     anchors: Vec<Option<u16>>,
     next: Vec<Option<u16>>,
     keys: Vec<Option<Key>>,
-    entries: Vec<PageEntry>,
+    entries: Vec<Authority>,
 }
 
 impl Model for Table {
@@ -58,7 +58,7 @@ impl Table {
             anchors: no_frames(alloc, anchors)?,
             next: no_frames(alloc, usize::from(frames))?,
             keys: no_keys(alloc, usize::from(frames))?,
-            entries: vec![in alloc; PageEntry::NOBODY; usize::from(pages)]?,
+            entries: vec![in alloc; Authority::NOBODY; usize::from(pages)]?,
         })
     }
 
@@ -121,7 +121,7 @@ impl Table {
 
     /// The entry of a page of the store.
     #[inline(always)]
-    pub fn entry(&self, page: u16) -> PageEntry
+    pub fn authority(&self, page: u16) -> Authority
         requires { page < length self.now.entries }
         ensures { result ≡ entry_at self.now page }
     {
@@ -130,7 +130,7 @@ impl Table {
 
     /// Sets the entry of a page of the store.
     #[inline(always)]
-    pub fn set_entry(&mut self, page: u16, value: PageEntry)
+    pub fn set_authority(&mut self, page: u16, value: Authority)
         requires { page < length self.old.entries }
         ensures { self.new ≡ with_entry self.old page value }
     {
@@ -146,7 +146,7 @@ impl Table {
 }
 
 /// Each entry of an identifier becomes nobody's.
-fn clear_all(entries: &mut [PageEntry], tid: u8)
+fn clear_all(entries: &mut [Authority], tid: u8)
     ensures { entries.new ≡ map (cleared_entry tid) entries.old }
 {
     for entry in entries.iter_mut() {
@@ -155,10 +155,10 @@ fn clear_all(entries: &mut [PageEntry], tid: u8)
 }
 
 /// An entry becomes nobody's, if it is the identifier's.
-fn clear_one(entry: &mut PageEntry, tid: u8)
+fn clear_one(entry: &mut Authority, tid: u8)
     ensures { entry.new ≡ cleared_entry tid entry.old }
 {
     if entry.tid == tid {
-        *entry = PageEntry::NOBODY;
+        *entry = Authority::NOBODY;
     }
 }

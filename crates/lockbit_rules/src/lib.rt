@@ -7,18 +7,18 @@ use line_geometry::LineSet;
 
 /// The entry of a page: the identifier that owns it, or 0 for nobody; its write bit; and its lockbits, line i as bit i.
 #[derive(Clone, Copy, PartialEq, Eq)]
-pub struct PageEntry {
+pub struct Authority {
     pub tid: u8,
     pub write: bool,
     pub bits: u16,
 }
 
-impl PageEntry {
-    ghost use Rattle.lock_rules.specs.Access.{lets, authority_by, fine_authority_by};
-    ghost use Rattle.lockbit_rules.specs.Entries.{authority_of};
+impl Authority {
+    ghost use Rattle.lock_rules.specs.Access.{lets, grant_by, fine_grant_by};
+    ghost use Rattle.lockbit_rules.specs.Entries.{grant_of};
 
     /// The entry of a page that nobody owns. It lets nobody load or store.
-    pub const NOBODY: PageEntry = PageEntry {
+    pub const NOBODY: Authority = Authority {
         tid: 0,
         write: false,
         bits: 0,
@@ -28,7 +28,7 @@ impl PageEntry {
     /// locks and waits").
     pub fn permits(&self, tid: u8, line: u8, store: bool) -> bool
         requires { line < 16 }
-        ensures { result ≡ lets (authority_of self.now) tid line store }
+        ensures { result ≡ lets (grant_of self.now) tid line store }
     {
         self.tid == tid
             && match (self.write, LineSet::from_bits(self.bits).contains(line)) {
@@ -40,12 +40,12 @@ impl PageEntry {
 
     /// The entry for an identifier that has locked these lines of the page: to write the written ones, if there are some,
     /// else to read the read ones.
-    pub fn grant(tid: u8, reads: LineSet, writes: LineSet) -> PageEntry
-        ensures { authority_of result ≡ authority_by tid reads writes }
+    pub fn grant(tid: u8, reads: LineSet, writes: LineSet) -> Authority
+        ensures { grant_of result ≡ grant_by tid reads writes }
     {
         let write = !writes.is_empty();
         let lines = if write { writes } else { reads };
-        PageEntry {
+        Authority {
             tid,
             write,
             bits: lines.bits(),
@@ -54,19 +54,19 @@ impl PageEntry {
 
     /// The entry of a fine page for an identifier that has locked these lines of it: to write the written ones, if its row
     /// stores into the page or if there are some and all sixteen are read, else to read the read ones.
-    pub fn grant_fine(tid: u8, reads: LineSet, writes: LineSet, storing: bool) -> PageEntry
-        ensures { authority_of result ≡ fine_authority_by tid storing reads writes }
+    pub fn grant_fine(tid: u8, reads: LineSet, writes: LineSet, storing: bool) -> Authority
+        ensures { grant_of result ≡ fine_grant_by tid storing reads writes }
     {
         if storing {
-            PageEntry {
+            Authority {
                 tid,
                 write: true,
                 bits: writes.bits(),
             }
         } else if reads.count() == 16 {
-            PageEntry::grant(tid, reads, writes)
+            Authority::grant(tid, reads, writes)
         } else {
-            PageEntry::grant(tid, reads, LineSet::none())
+            Authority::grant(tid, reads, LineSet::none())
         }
     }
 }

@@ -44,8 +44,8 @@ pub use Rattle.lock_rules.proofs.Sets.{has-range, in_range}
 pub use Rattle.lock_rules.specs.Lines.{Lines, no_lines, page_of_line}
 pub use Rattle.lock_rules.specs.Sets.{has}
 pub use Rattle.lock_rules.specs.Access.{lets}
-pub use Rattle.lockbit_rules.specs.Entries.{authority_of}
-pub use Rattle.lockbit_rules.specs.declared.PageEntry.{PageEntry}
+pub use Rattle.lockbit_rules.specs.Entries.{grant_of}
+pub use Rattle.lockbit_rules.specs.declared.Authority.{Authority}
 pub use Rattle.owned_list.proofs.Overlay.{length-overlaid, overlaid_before, overlaid_behind, overlaid_within}
 pub use Rattle.owned_list.specs.Overlay.{overlaid}
 pub use Rattle.romp_cpu.proofs.WholeLemmas.{stored_bytes-long}

@@ -6,7 +6,7 @@ use Rattle.line_geometry.specs.Segments.{page_bytes}
 use Rattle.lock_rules.specs.Lines.{page_of_line}
 use Rattle.lock_rules.specs.Sets.{has}
 use Rattle.lock_rules.specs.Access.{lets}
-use Rattle.lockbit_rules.specs.Entries.{authority_of}
+use Rattle.lockbit_rules.specs.Entries.{grant_of}
 use Rattle.segment_regs.specs.declared.registers.Virtual.{Virtual}
 use Rattle.segment_regs.specs.Registers.{Registers, located_by}
 use Rattle.inverted_table.specs.Keys.{key_of}
@@ -27,7 +27,7 @@ use Rattle.storage_unit.specs.Reach.{is_in_frame, refuses}
 abbrev pub lets_at : Layout → Placed → (runner : ℕ) → Virtual → (store : Bool) → Bool
 lets_at directory table runner at store =
     let line = line_of directory (start_of directory at.segment + offset_of directory.page at) in
-    lets (authority_of (entry_at table (page_of_line line))) runner (line % 16) store
+    lets (grant_of (entry_at table (page_of_line line))) runner (line % 16) store
 
 -- whether the line of a byte of the store is among the marks of its page
 abbrev pub is_marked_at : Layout → List (List ℕ) → Virtual → Bool

@@ -15,7 +15,7 @@ use Rattle.flat_machine.specs.Touched.{lines_at}
 use Rattle.segment_regs.specs.declared.registers.Virtual.{Virtual}
 use Rattle.segment_regs.specs.Registers.{located_by}
 use Rattle.lock_rules.specs.Access.{lets}
-use Rattle.lockbit_rules.specs.Entries.{authority_of}
+use Rattle.lockbit_rules.specs.Entries.{grant_of}
 use Rattle.inverted_table.specs.Placed.{unowned}
 use Rattle.frame_pool.specs.declared.model.Pool.{Pool}
 use Rattle.frame_pool.specs.Pool.{frame_at, page_at, marks_at}
@@ -33,7 +33,7 @@ is_resident state line = is_some (frame_at state.pool (page_of_line line))
 
 -- whether the entry of a line's page refuses the selected seat to load it, or to store it
 abbrev pub is_refused : Reach → ℕ → Bool → Bool
-is_refused state line store = not (lets (authority_of (slice_index_or state.entries (page_of_line line) unowned)) state.runner (line % 16) store)
+is_refused state line store = not (lets (grant_of (slice_index_or state.entries (page_of_line line) unowned)) state.runner (line % 16) store)
 
 -- the byte at a place: of private storage that of the selected seat, of the store that of its frame
 abbrev pub byte_of : Reach → Located → ℕ

@@ -1,7 +1,7 @@
 // What contracts see of a unit.
 use frame_pool::Pool;
 use line_geometry::Directory;
-use lockbit_rules::PageEntry;
+use lockbit_rules::Authority;
 use owned_list::OwnedList;
 use segment_regs::SegmentRegs;
 
@@ -11,7 +11,7 @@ use segment_regs::SegmentRegs;
 #[derive(Drop)]
 pub struct Reach {
     pub pool: Pool,
-    pub entries: OwnedList<PageEntry>,
+    pub entries: OwnedList<Authority>,
     pub begun: [bool; 16],
     pub directory: Directory,
     pub registers: SegmentRegs,

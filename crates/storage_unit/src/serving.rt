@@ -17,7 +17,7 @@ use super::unit::Unit;
 use frame_pool::{FramePool, Slot};
 use inverted_table::{Key, Table};
 use line_geometry::LineSet;
-use lockbit_rules::PageEntry;
+use lockbit_rules::Authority;
 use open_lines::OpenLines;
 use tlb_model::Tlb;
 
@@ -95,12 +95,12 @@ impl Unit {
 
     /// Sets the entry of a page.
     #[inline(always)]
-    pub fn set_entry(&mut self, page: u16, value: PageEntry)
+    pub fn set_authority(&mut self, page: u16, value: Authority)
         requires { page < page_count (reach_of self.old).directory }
         ensures { reach_of self.new ≡ record (reach_of self.old) { entries = slice_set (reach_of self.old).entries page value } }
     {
         self.lines.forget();
-        self.table.set_entry(page, value);
+        self.table.set_authority(page, value);
     }
 
     /// Each entry of an identifier becomes nobody's.

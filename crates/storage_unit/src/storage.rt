@@ -151,7 +151,7 @@ impl Unit {
     {
         let page = self.directory.page_of(place);
         let line = (self.directory.line_of(place) % 16) as u8;
-        !self.table.entry(page).permits(self.runner, line, store)
+        !self.table.authority(page).permits(self.runner, line, store)
     }
 
     /// The frame that holds the page of a byte. The pool is asked, and not the table.
@@ -349,7 +349,7 @@ impl Unit {
     {
         let line = line_in_page(self.directory.page(), first.byte + past);
         match self.pool.page_in(frame) {
-            Some(page) => !self.table.entry(page).permits(self.runner, line, store),
+            Some(page) => !self.table.authority(page).permits(self.runner, line, store),
             None => true,
         }
     }

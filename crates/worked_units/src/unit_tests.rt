@@ -1,7 +1,7 @@
 //! A page comes in, is loaded and stored, and leaves, as the buffer and the answers have it.
 use flat_machine::{Program, Window};
 use line_geometry::{Directory, LineSet, PageSize};
-use lockbit_rules::PageEntry;
+use lockbit_rules::Authority;
 use owned_list::OwnedList;
 use romp_cpu::{Access, Fault, Probe, Storage, registers_of};
 use segment_regs::Virtual;
@@ -74,7 +74,7 @@ fn bring(rt: &impl Abort, unit: &mut Unit, page: u16, reads: LineSet, writes: Li
     assert!(rt; unit.directory().pages() == 6 && page < 6);
     assert!(rt; !unit.pool().resident().contains(&page));
     let Ok(()) = unit.bring_in(&Zeros, &mut (), page, None);
-    unit.set_entry(page, PageEntry::grant(1, reads, writes));
+    unit.set_authority(page, Authority::grant(1, reads, writes));
     unit.pool().frame_of(page).expect(rt, "it has come in")
 }
 

@@ -1,5 +1,5 @@
 -- Two writers of different lines of a fine page: neither waits.
-use Rattle.desk.proofs.Common.{range_with_len, lit≤, row_numbered, FlatStore, Four, Program, Begin, Turn, opened, Fine, fine_authority_by, instruction, turns, report, run, ◌≡◌, refl, true, false, [], ◌∷◌, ◌++◌, codes, replicate, slice_range}
+use Rattle.desk.proofs.Common.{range_with_len, lit≤, row_numbered, FlatStore, Four, Program, Begin, Turn, opened, Fine, fine_grant_by, instruction, turns, report, run, ◌≡◌, refl, true, false, [], ◌∷◌, ◌++◌, codes, replicate, slice_range}
 use Rattle.std.specs.Fmt.{digits}
 use Rattle.hex.specs.Hex.{encode_with}
 use Rattle.desk.proofs.Rows.Programs.{program, text, args, add_code}
@@ -30,13 +30,13 @@ unfolding digits encode_with row_numbered instruction turns
 each_store_asks = refl
 
 -- but where all sixteen lines are held
-all_held : fine_authority_by 7 false (range_with_len 16 16) (20 ∷ []) ≡ record { owner = 7; write = true; lines = 20 ∷ [] }
+all_held : fine_grant_by 7 false (range_with_len 16 16) (20 ∷ []) ≡ record { owner = 7; write = true; lines = 20 ∷ [] }
 all_held = refl
 
-not_all_held : fine_authority_by 7 false (range_with_len 16 15) (20 ∷ []) ≡ record { owner = 7; write = false; lines = range_with_len 16 15 }
+not_all_held : fine_grant_by 7 false (range_with_len 16 15) (20 ∷ []) ≡ record { owner = 7; write = false; lines = range_with_len 16 15 }
 not_all_held = refl
 
-row_stores : fine_authority_by 7 true (20 ∷ []) (20 ∷ []) ≡ record { owner = 7; write = true; lines = 20 ∷ [] }
+row_stores : fine_grant_by 7 true (20 ∷ []) (20 ∷ []) ≡ record { owner = 7; write = true; lines = 20 ∷ [] }
 row_stores = refl
 
 -- stores its argument at the beginning, and fails

@@ -1,6 +1,6 @@
 use super::super::chain::following;
 use super::Table;
-use lockbit_rules::PageEntry;
+use lockbit_rules::Authority;
 use segment_regs::Virtual;
 use std::test::Fail;
 
@@ -29,15 +29,15 @@ fn frames_are_chained_by_their_hash(rt: HostRuntime) -> Result<(), Fail> {
     table.leave(4);
     assert!(rt; table.find(at(1, 3)) == Some(0));
     assert!(rt; table.find(at(3841, 0)) == Some(2));
-    let written = PageEntry {
+    let written = Authority {
         tid: 3,
         write: true,
         bits: 5,
     };
-    table.set_entry(1, written);
-    table.set_entry(2, PageEntry { tid: 4, ..written });
+    table.set_authority(1, written);
+    table.set_authority(2, Authority { tid: 4, ..written });
     table.clear(3);
-    assert!(rt; table.entry(1) == PageEntry::NOBODY);
-    assert!(rt; table.entry(2) == PageEntry { tid: 4, ..written });
+    assert!(rt; table.authority(1) == Authority::NOBODY);
+    assert!(rt; table.authority(2) == Authority { tid: 4, ..written });
     Ok(())
 }

@@ -1,9 +1,9 @@
-use Rattle.activations.proofs.Common.{list_any, or_left, or_right, nat_tests, LinesOf, of_page-below, has, PageEntry, authority_of, lets, ◌≡◌, ◌==◌, ◌||◌, ℕ, Bool, List, not, sym, ◌∙◌, ap, arith}
+use Rattle.activations.proofs.Common.{list_any, or_left, or_right, nat_tests, LinesOf, of_page-below, has, Authority, grant_of, lets, ◌≡◌, ◌==◌, ◌||◌, ℕ, Bool, List, not, sym, ◌∙◌, ap, arith}
 use Rattle.activations.proofs.serving.keeps_from.Goals as goal
 
 -- whether a line is kept from an identifier
-abbrev is_kept : PageEntry → (tid : ℕ) → (store : Bool) → (line : ℕ) → Bool
-is_kept entry tid store line = not (lets (authority_of entry) tid line store)
+abbrev is_kept : Authority → (tid : ℕ) → (store : Bool) → (line : ℕ) → Bool
+is_kept entry tid store line = not (lets (grant_of entry) tid line store)
 
 pub loop-line-init : goal.loop-line-init
 loop-line-init c =
