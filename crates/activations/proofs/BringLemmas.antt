@@ -3,9 +3,9 @@ use Rattle.activations.proofs.Common.{asks_none, length-replicate, replicate, â—
 use Rattle.std.proofs.lemmas.List.Quantifiers.{position-Some}
 use Rattle.store_format.proofs.Fronts.{shorter_front, later_front}
 use Rattle.store_format.proofs.Stores.{stands_is}
-use Rattle.redo_journal.proofs.Newest.{store_agrees}
-use Rattle.restart.specs.Shows.{Shows}
-use Rattle.restart.proofs.ShowLemmas.{sure_on, shown_store}
+use Rattle.store.proofs.Newest.{store_agrees}
+use Rattle.store.specs.Shows.{Shows}
+use Rattle.store.proofs.ShowLemmas.{sure_on, shown_store}
 use Rattle.frame_pool.specs.declared.pages.StorePages.{StorePages}
 use Rattle.frame_pool.specs.Places.{index_out}
 use Rattle.frame_pool.specs.PlacesView.{places_of}
@@ -14,7 +14,7 @@ use Rattle.storage_unit.specs.declared.unit.Unit.{Unit}
 use Rattle.storage_unit.specs.Incoming.{IsFilled, IsKept, HasGoneOut}
 use Rattle.storage_unit.proofs.BringKeeps.{bring-keeps, page_in-long}
 use Rattle.storage_unit.proofs.FailedBringKeeps.{failed-bring-keeps}
-use Rattle.restart.specs.Shows as restart
+use Rattle.store.specs.Shows as restart
 use Rattle.activations.proofs.SizeLemmas.{private-all}
 
 -- a store stays open, with the same bytes, while the disk is only asked

@@ -61,43 +61,43 @@ pub use Rattle.frame_pool.specs.Seen.{IsSeen}
 pub use Rattle.frame_pool.specs.Sizes.{frame_count, line_place, line_size, private_frames}
 pub use Rattle.frame_pool.specs.View.{pool_of}
 pub use Rattle.frame_pool.specs.declared.model.Pool.{Pool}
-pub use Rattle.inverted_table.specs.Placed.{cleared_entry, unowned}
-pub use Rattle.line_geometry.proofs.LineSetLemmas.{is_in_where-below, of_page-below, of_page_where}
-pub use Rattle.line_geometry.proofs.Within.{byte_count-lines, byte_count_pages, line-below, line-bytes-pos, segment-within}
-pub use Rattle.line_geometry.specs.Directory.{Layout, byte_count, is_fine_page, length_of, page_count, start_of}
-pub use Rattle.line_geometry.specs.FlatStore.{FlatStore}
-pub use Rattle.line_geometry.specs.Legal.{IsLegal}
-pub use Rattle.line_geometry.specs.LineSets.{IsOfPage, between, difference, union}
-unfoldable pub use Rattle.line_geometry.specs.LineSets.{passing}
-pub use Rattle.line_geometry.specs.Lines.{line_count, line_of, page_of}
-pub use Rattle.line_geometry.specs.Segments.{line_bytes, page_bytes}
-pub use Rattle.line_geometry.specs.declared.directory.PageSize.{PageSize}
-pub use Rattle.line_geometry.specs.declared.directory.PageSize.TheVariants.{Four, Two}
-pub use Rattle.line_geometry.specs.declared.line_set.LinesOf.{LinesOf}
-pub use Rattle.line_locks.proofs.FlatLemmas.{flat-taken, has-other_page, has-page}
-pub use Rattle.line_locks.specs.Flat.{IsFlat, flat_lines, lines_wanted}
-pub use Rattle.line_locks.specs.Held.{AreWithin, holds_some, nothing, of_page, together, with_want, with_wants, write_count}
-pub use Rattle.line_locks.specs.Holding.{Holding, IsWhole, held_at, no_lines_of, nothing_held, of_seat, released}
-pub use Rattle.line_locks.specs.declared.request.Request.{Request}
-pub use Rattle.line_locks.specs.declared.request.Want.{Want}
-pub use Rattle.lock_rules.proofs.Lines.{any-or, has-pages_of, has-whole_pages, reaches}
-pub use Rattle.lock_rules.proofs.Sets.{any-at, any-some, has-append, has-filter, has_left, has_right}
-pub use Rattle.lock_rules.proofs.Sizes.{size-alike, size-apart, size-append, size-counted}
-pub use Rattle.lock_rules.specs.Access.{Grant, grant_by, fine_grant_by, lets, nobody, permits}
-pub use Rattle.lock_rules.specs.Lines.{Lines, both, conflicts, is_whole_page, no_lines, page_of_line, pages_of, with_whole_pages, within_page}
-pub use Rattle.lock_rules.specs.Resident.{brought, taken_out}
-pub use Rattle.lock_rules.specs.Sets.{distinct, has, size}
-pub use Rattle.lock_rules.specs.Waits.{shown_cycle, victim_of}
-pub use Rattle.lockbit_rules.specs.Entries.{grant_of}
-pub use Rattle.lockbit_rules.specs.declared.Authority.{Authority}
+pub use Rattle.page_table.specs.Placed.{cleared_entry, unowned}
+pub use Rattle.lines.proofs.LineSetLemmas.{is_in_where-below, of_page-below, of_page_where}
+pub use Rattle.lines.proofs.WithinLemmas.{byte_count-lines, byte_count_pages, line-below, line-bytes-pos, segment-within}
+pub use Rattle.lines.specs.Directory.{Layout, byte_count, is_fine_page, length_of, page_count, start_of}
+pub use Rattle.lines.specs.FlatStore.{FlatStore}
+pub use Rattle.lines.specs.Legal.{IsLegal}
+pub use Rattle.lines.specs.LineSets.{IsOfPage, between, difference, union}
+unfoldable pub use Rattle.lines.specs.LineSets.{passing}
+pub use Rattle.lines.specs.Lines.{line_count, line_of, page_of}
+pub use Rattle.lines.specs.Segments.{line_bytes, page_bytes}
+pub use Rattle.lines.specs.declared.line_geometry.PageSize.{PageSize}
+pub use Rattle.lines.specs.declared.line_geometry.PageSize.TheVariants.{Four, Two}
+pub use Rattle.lines.specs.declared.line_set.LinesOf.{LinesOf}
+pub use Rattle.seats.proofs.FlatLemmas.{flat-taken, has-other_page, has-page}
+pub use Rattle.seats.specs.Flat.{IsFlat, flat_lines, lines_wanted}
+pub use Rattle.seats.specs.Held.{AreWithin, holds_some, nothing, of_page, together, with_want, with_wants, write_count}
+pub use Rattle.seats.specs.Holding.{Holding, IsWhole, held_at, no_lines_of, nothing_held, of_seat, released}
+pub use Rattle.seats.specs.declared.request.Request.{Request}
+pub use Rattle.seats.specs.declared.request.Want.{Want}
+pub use Rattle.lines.proofs.ConflictLemmas.{any-or, has-pages_of, has-whole_pages, reaches}
+pub use Rattle.lines.proofs.SetLemmas.{any-at, any-some, has-append, has-filter, has_left, has_right}
+pub use Rattle.lines.proofs.SizeLemmas.{size-alike, size-apart, size-append, size-counted}
+pub use Rattle.lines.specs.Access.{Grant, grant_by, fine_grant_by, lets, nobody, permits}
+pub use Rattle.lines.specs.Conflicts.{Lines, both, conflicts, is_whole_page, no_lines, page_of_line, pages_of, with_whole_pages, within_page}
+pub use Rattle.lines.specs.Resident.{brought, taken_out}
+pub use Rattle.lines.specs.Sets.{distinct, has, size}
+pub use Rattle.lines.specs.Waits.{shown_cycle, victim_of}
+pub use Rattle.page_table.specs.Entries.{grant_of}
+pub use Rattle.page_table.specs.declared.lockbit_rules.Authority.{Authority}
 pub use Rattle.outside.proofs.Runs.{asks_none, asks_on}
 pub use Rattle.outside.specs.Causes.{Rose}
 pub use Rattle.outside.specs.Runs.{FewerLater, OnlyAsks, held_of}
 pub use Rattle.outside.specs.declared.world.Outside.{Ghosts}
-pub use Rattle.owned_list.proofs.Overlay.{length-overlaid, overlaid_before, overlaid_behind, overlaid_within}
-pub use Rattle.owned_list.specs.Overlay.{overlaid}
-pub use Rattle.redo_journal.specs.Kept.{begun_of, record_bytes_of, with_line}
-pub use Rattle.restart.specs.Kept.{KeptStore, with_begun}
+pub use Rattle.lines.proofs.OverlayLemmas.{length-overlaid, overlaid_before, overlaid_behind, overlaid_within}
+pub use Rattle.lines.specs.Overlay.{overlaid}
+pub use Rattle.store.specs.Kept.{begun_of, record_bytes_of, with_line}
+pub use Rattle.store.specs.KeptStore.{KeptStore, with_begun}
 pub use Rattle.romp_cpu.specs.Attempts.{IsOfFewBytes, lines_of_access}
 pub use Rattle.romp_cpu.specs.Segments.{registers_of_program}
 pub use Rattle.romp_cpu.specs.declared.cpu.Cpu.{Cpu}
@@ -109,7 +109,7 @@ pub use Rattle.seats.specs.Seating.{IsSeating, Seating, left, newcomer, nobody_s
 unfoldable pub use Rattle.seats.specs.Seating.{next_seat}
 pub use Rattle.seats.specs.Waiting.{AreOfPage, cycle_of, holders, seat_waits}
 pub use Rattle.seats.specs.declared.seat.Seat.{Seat}
-pub use Rattle.segment_regs.specs.Registers.{Registers, located_by, virtual_at}
+pub use Rattle.page_table.specs.Registers.{Registers, located_by, virtual_at}
 pub use Rattle.storage_unit.proofs.ByteLemmas.{byte-of-all, in-range, over-none, over-some}
 pub use Rattle.storage_unit.proofs.LeaveLemmas.{clean-shows, emptied-frame}
 pub use Rattle.storage_unit.proofs.LeftLemmas.{range-long}
@@ -148,5 +148,5 @@ pub use Rattle.activations.specs.declared.tally.Tally.{Tally}
 pub use Rattle.activations.specs.declared.touch.Touch.{Touch}
 pub use Rattle.activations.specs.Stages.{EndsByDisk, EndsContest, EndsRows, Fetches, HasFetched, KeepsAll, KeepsSound}
 pub use Rattle.frame_pool.proofs.ApartLemmas.{differs, has-remove_other, turned}
-pub use Rattle.redo_journal.proofs.WriteLemmas.{asks_only}
+pub use Rattle.store.proofs.WriteLemmas.{asks_only}
 pub use Rattle.std.proofs.lemmas.Simd.{map-map}

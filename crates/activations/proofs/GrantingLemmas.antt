@@ -1,7 +1,7 @@
 -- Locks that are taken and pages that are granted, one after another: what is left is sound.
 use Rattle.activations.proofs.SittingLemmas.{each_seat}
 use Rattle.activations.proofs.Common.{◌≡◌, refl, ℕ, zero, suc, ◌+◌, ◌<◌, ◌==◌, if◌then◌else◌, Bool, true, List, [], ◌∷◌, length, map, slice_index_or, slice_set, ap, sym, ◌∙◌, subst, inr, eq-eqb, or_left, or_right, length-set, All-cons, All-head, All-tail, Layout, is_fine_page, IsOfPage, of_page_where, has, Want, AreWithin, of_page, together, with_want, with_wants, Authority, unowned, Seating, took, taken-below, kept-took, same-with, other-with, Touch, Activity, AreOfPages, IsIdentified, IsSound, AreSet, AreGranted, AreLowered, authority_given, authority_to_read, locked, with_entries, each_refused, pages_picked, pages_refused, stores_into, wants_of, with_whole_page, arith, Grant, grant_by, fine_grant_by}
-use Rattle.line_locks.specs.Holding.{of_seat, held_at, taken as holding_more}
+use Rattle.seats.specs.Holding.{of_seat, held_at, taken as holding_more}
 
 -- what is set is there, or what was
 set-keeps : {A : Type 0} (P : A → Type 0) (xs : List A) (place at : ℕ) (value other : A) → P value → P (slice_index_or xs at other) → P (slice_index_or (slice_set xs place value) at other)

@@ -1,7 +1,7 @@
 -- The pages whose lines come into a record.
 use Rattle.activations.proofs.Common.{flat_map, arith, ap, sym, ◌∙◌, subst, append_assoc, length-append, append-nil, length-map, take_more, take_all, get_or_default, page_of_line, has, size, has-append, size-alike, flat_lines, holds_some, Holding, IsWhole, held_at, of_seat, Pool, RecordLine, entry_bytes, most_lines, begun_of, record_bytes_of, KeptStore, with_begun, Activity, locks_in, IsSound, line_told, recorded, with_lines, written_of, wrote, ◌≡◌, refl, ℕ, zero, suc, ◌+◌, ◌*◌, ◌/◌, ◌%◌, ◌<◌, ◌≤◌, ◌&&◌, ◌||◌, List, [], ◌∷◌, ◌++◌, All, length, take, slice_index_or, nat_tests}
 use Rattle.std.proofs.lemmas.List.Concat.{flat_map-append}
-use Rattle.line_locks.specs.Counted.{Ascend}
+use Rattle.seats.specs.Counted.{Ascend}
 use Rattle.activations.proofs.HoldingLemmas.{held-flat}
 use Rattle.activations.proofs.RecordLemmas.{Climbs, climbs-from, climbs-below, climbs-on, climbs-page, climbs-flat, climbs-once, length-recorded, recorded-append, recorded-below}
 use Rattle.activations.proofs.RequestLemmas.{has-flat}

@@ -3,8 +3,8 @@ use Rattle.activations.proofs.Common.{or_parts, range_with_len, arith, ap, sym, 
 use Rattle.flat_machine.specs.declared.machine.Located.{Located}
 use Rattle.flat_machine.specs.declared.machine.Located.TheVariants.{Private, Shared, Refused}
 use Rattle.flat_machine.specs.declared.machine.Window.{Window}
-use Rattle.segment_regs.specs.declared.registers.Check.{Check}
-use Rattle.segment_regs.specs.declared.registers.Virtual.{Virtual}
+use Rattle.page_table.specs.declared.segment_regs.Check.{Check}
+use Rattle.page_table.specs.declared.segment_regs.Virtual.{Virtual}
 use Rattle.storage_unit.proofs.PlaceLemmas.{under, offset-is}
 use Rattle.storage_unit.proofs.LocatedLemmas.{lies-where}
 use Rattle.activations.proofs.LimitLemmas.{written-none, written-one, written-two}

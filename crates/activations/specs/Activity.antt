@@ -3,17 +3,17 @@ use Rattle.std.specs.Prelude.{refl, ℕ, zero, suc, false, List, [], length, map
 use Rattle.std.proofs.Common.{lit<, lit≤}
 use Rattle.std.specs.List.{flat_map, range_with_len}
 use Rattle.std.specs.Option.{option_map_or}
-use Rattle.line_geometry.specs.FlatStore.{FlatStore}
-use Rattle.line_geometry.specs.declared.directory.PageSize.{PageSize}
-use Rattle.line_geometry.specs.declared.directory.PageSize.TheVariants.{Two}
-use Rattle.lock_rules.specs.Access.{Grant}
-use Rattle.lock_rules.specs.Lines.{Lines, no_lines}
-use Rattle.line_locks.specs.Held.{of_page}
-use Rattle.line_locks.specs.Flat.{flat_lines, lines_wanted}
-use Rattle.line_locks.specs.Holding.{of_seat}
-use Rattle.inverted_table.specs.Placed.{unowned}
-use Rattle.lockbit_rules.specs.Entries.{grant_of}
-use Rattle.lockbit_rules.specs.declared.Authority.{Authority}
+use Rattle.lines.specs.FlatStore.{FlatStore}
+use Rattle.lines.specs.declared.line_geometry.PageSize.{PageSize}
+use Rattle.lines.specs.declared.line_geometry.PageSize.TheVariants.{Two}
+use Rattle.lines.specs.Access.{Grant}
+use Rattle.lines.specs.Conflicts.{Lines, no_lines}
+use Rattle.seats.specs.Held.{of_page}
+use Rattle.seats.specs.Flat.{flat_lines, lines_wanted}
+use Rattle.seats.specs.Holding.{of_seat}
+use Rattle.page_table.specs.Placed.{unowned}
+use Rattle.page_table.specs.Entries.{grant_of}
+use Rattle.page_table.specs.declared.lockbit_rules.Authority.{Authority}
 use Rattle.frame_pool.specs.declared.model.Pool.{Pool}
 use Rattle.flat_machine.specs.declared.machine.Plain.{Plain}
 use Rattle.flat_machine.specs.declared.machine.Program.{Program}

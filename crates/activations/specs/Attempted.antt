@@ -1,11 +1,11 @@
 -- What an attempt in a seat came to, over any committed bytes.
 use Rattle.std.specs.Prelude.{◌≡◌, ◌⊎◌, ℕ, ◌+◌, ◌<◌, ◌≤◌, List, [], ◌∷◌, ◌++◌, length, slice_set}
-use Rattle.line_geometry.specs.Directory.{byte_count}
+use Rattle.lines.specs.Directory.{byte_count}
 use Rattle.flat_machine.specs.declared.machine.Plain.{Plain}
 use Rattle.flat_machine.specs.Row.{Outcome, On, Commit, Check, row}
 use Rattle.flat_machine.specs.Touched.{touched}
-use Rattle.line_locks.specs.declared.request.Want.{Want}
-use Rattle.line_locks.specs.Flat.{lines_wanted}
+use Rattle.seats.specs.declared.request.Want.{Want}
+use Rattle.seats.specs.Flat.{lines_wanted}
 use Rattle.romp_cpu.specs.declared.cpu.Attempt.{Attempt}
 use Rattle.romp_cpu.specs.declared.cpu.Cpu.{Cpu}
 use Rattle.storage_unit.specs.declared.model.Reach.{Reach}

@@ -1,6 +1,6 @@
 -- Why a turn ended before its commit call, where no count of the disk shows it.
 use Rattle.std.specs.Prelude.{◌≡◌, ℕ, ◌<◌, ◌≤◌, ◌++◌, ◌∷◌, [], List}
-use Rattle.lock_rules.specs.Waits.{victim_of}
+use Rattle.lines.specs.Waits.{victim_of}
 use Rattle.desk.specs.declared.answers.Cycle.{Cycle}
 use Rattle.desk.specs.declared.answers.TurnEnd.{TurnEnd}
 use Rattle.desk.specs.declared.answers.TurnEnd.TheVariants as end

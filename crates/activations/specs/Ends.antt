@@ -1,10 +1,10 @@
 -- What endings leave: one rolled back or committed, and everybody rolled back, as by a crash.
 use Rattle.std.specs.Prelude.{◌≡◌, ℕ, ◌<◌, ◌%◌, true, List, [], length, slice_index, slice_set}
-use Rattle.line_geometry.specs.Directory.{byte_count}
-use Rattle.line_geometry.specs.Lines.{line_of}
-use Rattle.lock_rules.specs.Lines.{page_of_line}
-use Rattle.lock_rules.specs.Sets.{has}
-use Rattle.line_locks.specs.Holding.{Holding, held_at}
+use Rattle.lines.specs.Directory.{byte_count}
+use Rattle.lines.specs.Lines.{line_of}
+use Rattle.lines.specs.Conflicts.{page_of_line}
+use Rattle.lines.specs.Sets.{has}
+use Rattle.seats.specs.Holding.{Holding, held_at}
 use Rattle.storage_unit.specs.declared.model.Reach.{Reach}
 use Rattle.storage_unit.specs.Bytes.{IsClean, bytes_over}
 use Rattle.storage_unit.specs.Laws.{Keeps}

@@ -1,14 +1,14 @@
 -- Pages of a touch that come in from the store on the disk.
 use Rattle.std.specs.Prelude.{◌≡◌, ℕ, ◌+◌, ◌<◌, if◌then◌else◌, true, false, List, [], Option, Some, option_to_list}
-use Rattle.line_geometry.specs.Directory.{Layout}
-use Rattle.lock_rules.specs.Resident.{brought}
-use Rattle.lock_rules.specs.Sets.{has}
+use Rattle.lines.specs.Directory.{Layout}
+use Rattle.lines.specs.Resident.{brought}
+use Rattle.lines.specs.Sets.{has}
 use Rattle.frame_pool.specs.declared.model.Pool.{Pool}
 use Rattle.outside.specs.declared.world.Outside.{Ghosts}
 use Rattle.outside.specs.Runs.{held_of}
 use Rattle.store_format.specs.Stands.{Stands, stands}
-use Rattle.restart.specs.Kept.{KeptStore}
-use Rattle.restart.specs.Shows.{TracksStore}
+use Rattle.store.specs.KeptStore.{KeptStore}
+use Rattle.store.specs.Shows.{TracksStore}
 use Rattle.desk.specs.Instruction.{ReadFailed, Broken, fetches}
 use Rattle.storage_unit.specs.Laws.{Keeps}
 use Rattle.storage_unit.specs.Bytes.{IsClean}

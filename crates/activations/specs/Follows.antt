@@ -1,18 +1,18 @@
 -- What holds of those that run side by side at every moment.
 use Rattle.std.specs.Prelude.{◌≡◌, ℕ, ◌+◌, ◌<◌, ◌≤◌, ◌⊎◌, true, false, List, [], All, length, slice_index_or, Some}
-use Rattle.line_geometry.specs.Directory.{byte_count, page_count}
-use Rattle.lock_rules.specs.Sets.{has}
-use Rattle.line_geometry.specs.LineSets.{IsOfPage}
-use Rattle.line_locks.specs.Held.{of_page}
-use Rattle.line_locks.specs.Holding.{of_seat}
+use Rattle.lines.specs.Directory.{byte_count, page_count}
+use Rattle.lines.specs.Sets.{has}
+use Rattle.lines.specs.LineSets.{IsOfPage}
+use Rattle.seats.specs.Held.{of_page}
+use Rattle.seats.specs.Holding.{of_seat}
 use Rattle.romp_cpu.specs.Segments.{registers_of_program}
 use Rattle.desk.specs.Holdings.{requested, due_to}
 use Rattle.desk_law.specs.Beside.{AreSeats, AreMarked, AreAlike, IsState}
 use Rattle.desk_law.specs.Current.{IsCurrent}
 use Rattle.desk_law.specs.Orderly.{IsOrderly}
-use Rattle.lockbit_rules.specs.declared.Authority.{Authority}
-use Rattle.inverted_table.specs.Placed.{unowned}
-use Rattle.line_locks.specs.declared.request.Request.{Request}
+use Rattle.page_table.specs.declared.lockbit_rules.Authority.{Authority}
+use Rattle.page_table.specs.Placed.{unowned}
+use Rattle.seats.specs.declared.request.Request.{Request}
 use Rattle.seats.specs.Seating.{IsSeating, sitter, number_in}
 use Rattle.seats.specs.Waiting.{AreOfPage}
 use Rattle.storage_unit.specs.Bytes.{IsClean, is_line_marked}

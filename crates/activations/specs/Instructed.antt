@@ -4,11 +4,11 @@ use Rattle.outside.specs.declared.world.Outside.{Ghosts}
 use Rattle.outside.specs.Causes.{Rose}
 use Rattle.flat_machine.specs.declared.machine.Plain.{Plain}
 use Rattle.flat_machine.specs.Row.{On}
-use Rattle.line_geometry.specs.Directory.{byte_count}
-use Rattle.line_locks.specs.Flat.{lines_wanted}
-use Rattle.line_locks.specs.declared.request.Request.{Request}
-use Rattle.line_locks.specs.declared.request.Want.{Want}
-use Rattle.lockbit_rules.specs.declared.Authority.{Authority}
+use Rattle.lines.specs.Directory.{byte_count}
+use Rattle.seats.specs.Flat.{lines_wanted}
+use Rattle.seats.specs.declared.request.Request.{Request}
+use Rattle.seats.specs.declared.request.Want.{Want}
+use Rattle.page_table.specs.declared.lockbit_rules.Authority.{Authority}
 use Rattle.desk.specs.declared.answers.TurnEnd.{TurnEnd}
 use Rattle.desk.specs.declared.answers.TurnEnd.TheVariants as end
 use Rattle.desk.specs.Instruction.{Word, Counts, Attempt, Turning}

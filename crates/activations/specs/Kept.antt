@@ -1,8 +1,8 @@
 -- What stays while those that run are served.
 use Rattle.std.specs.Prelude.{◌≡◌, ℕ, ◌+◌, ◌≤◌, ◌<◌, true, length, slice_index_or}
-use Rattle.lock_rules.specs.Sets.{has}
+use Rattle.lines.specs.Sets.{has}
 use Rattle.seats.specs.Seating.{sitter, number_in}
-use Rattle.inverted_table.specs.Placed.{unowned}
+use Rattle.page_table.specs.Placed.{unowned}
 use Rattle.storage_unit.specs.Bytes.{private_bytes}
 use Rattle.activations.specs.Activity.{Activity, live_in, program_in}
 use Rattle.activations.specs.Attempted.{IsSelected}

@@ -1,21 +1,21 @@
 -- The record of a commit: the lines that who sits in a seat holds to write, as all see them.
 use Rattle.std.specs.Prelude.{◌≡◌, ℕ, ◌+◌, ◌<◌, ◌%◌, List, [], ◌∷◌, ◌++◌, All, length, map, Some}
 use Rattle.std.specs.List.{AllPairs, flat_map}
-use Rattle.line_geometry.specs.declared.directory.PageSize.{PageSize}
+use Rattle.lines.specs.declared.line_geometry.PageSize.{PageSize}
 use Rattle.flat_machine.specs.declared.machine.Plain.{Plain}
 use Rattle.flat_machine.specs.After.{after}
 use Rattle.flat_machine.specs.Row.{Commit, row}
 use Rattle.frame_pool.specs.declared.model.Pool.{Pool}
 use Rattle.frame_pool.specs.Pool.{line_shown}
 use Rattle.desk_law.specs.Beside.{over_all}
-use Rattle.line_locks.specs.Counted.{Ascend}
-use Rattle.line_locks.specs.Flat.{flat_lines}
-use Rattle.line_locks.specs.Held.{holds_some}
-use Rattle.line_locks.specs.Holding.{held_at}
-use Rattle.lock_rules.specs.Lines.{page_of_line}
-use Rattle.lock_rules.specs.Sets.{has}
-use Rattle.redo_journal.specs.Kept.{begun_of, record_bytes_of}
-use Rattle.restart.specs.Kept.{KeptStore, with_begun}
+use Rattle.seats.specs.Counted.{Ascend}
+use Rattle.seats.specs.Flat.{flat_lines}
+use Rattle.seats.specs.Held.{holds_some}
+use Rattle.seats.specs.Holding.{held_at}
+use Rattle.lines.specs.Conflicts.{page_of_line}
+use Rattle.lines.specs.Sets.{has}
+use Rattle.store.specs.Kept.{begun_of, record_bytes_of}
+use Rattle.store.specs.KeptStore.{KeptStore, with_begun}
 use Rattle.store_format.specs.Header.{entry_bytes}
 use Rattle.store_format.specs.Bank.{RecordLine}
 use Rattle.store_format.specs.Stands.{laid}

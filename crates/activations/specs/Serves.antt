@@ -1,13 +1,13 @@
 -- What becomes of an access that isn't permitted, step by step.
 use Rattle.std.specs.Prelude.{◌≡◌, ◌≢◌, ℕ, ◌+◌, nat_lt, true, false, List, [], ◌∷◌, ◌++◌, All, length, map}
-use Rattle.line_geometry.specs.Directory.{is_fine_page}
-use Rattle.lock_rules.specs.Sets.{has, size}
-use Rattle.line_locks.specs.declared.request.Request.{Request}
-use Rattle.line_locks.specs.declared.request.Want.{Want}
-use Rattle.line_locks.specs.Flat.{lines_wanted}
-use Rattle.line_locks.specs.Held.{of_page, write_count}
-use Rattle.line_geometry.specs.LineSets.{difference}
-use Rattle.lockbit_rules.specs.declared.Authority.{Authority}
+use Rattle.lines.specs.Directory.{is_fine_page}
+use Rattle.lines.specs.Sets.{has, size}
+use Rattle.seats.specs.declared.request.Request.{Request}
+use Rattle.seats.specs.declared.request.Want.{Want}
+use Rattle.seats.specs.Flat.{lines_wanted}
+use Rattle.seats.specs.Held.{of_page, write_count}
+use Rattle.lines.specs.LineSets.{difference}
+use Rattle.page_table.specs.declared.lockbit_rules.Authority.{Authority}
 use Rattle.flat_machine.specs.declared.machine.Plain.{Plain}
 use Rattle.flat_machine.specs.Row.{On, row}
 use Rattle.flat_machine.specs.Touched.{touched}

@@ -1,13 +1,13 @@
 -- An instruction that is served, from where it began.
 use Rattle.std.specs.Prelude.{◌≡◌, ℕ, ◌+◌, ◌==◌, ◌&&◌, not, if◌then◌else◌, Bool, length, Some, List, [], ◌∷◌, filter, map, slice_index_or, slice_set}
-use Rattle.line_locks.specs.declared.request.Want.{Want}
-use Rattle.line_locks.specs.Holding.{held_at}
-use Rattle.lockbit_rules.specs.Entries.{grant_of}
-use Rattle.lockbit_rules.specs.declared.Authority.{Authority}
-use Rattle.line_geometry.specs.Directory.{is_fine_page}
-use Rattle.lock_rules.specs.Lines.{is_whole_page}
-use Rattle.lock_rules.specs.Access.{nobody, Grant, grant_by, fine_grant_by}
-use Rattle.line_locks.specs.declared.request.Request.{Request}
+use Rattle.seats.specs.declared.request.Want.{Want}
+use Rattle.seats.specs.Holding.{held_at}
+use Rattle.page_table.specs.Entries.{grant_of}
+use Rattle.page_table.specs.declared.lockbit_rules.Authority.{Authority}
+use Rattle.lines.specs.Directory.{is_fine_page}
+use Rattle.lines.specs.Conflicts.{is_whole_page}
+use Rattle.lines.specs.Access.{nobody, Grant, grant_by, fine_grant_by}
+use Rattle.seats.specs.declared.request.Request.{Request}
 use Rattle.seats.specs.Seating.{took, waiting_for}
 use Rattle.activations.specs.Touched.{with_whole_page, stores_into, pages_wanted}
 use Rattle.desk.specs.Desk.{Desk}

@@ -1,14 +1,14 @@
 -- What the stages of a turn ask for, and what each leaves.
 use Rattle.std.specs.Prelude.{◌≡◌, ℕ, ◌+◌, ◌<◌, ◌≤◌, true, false, List, length, Result, Ok, Err}
 use Rattle.arrayvec.specs.ArrayVec.{array_vec_len}
-use Rattle.lock_rules.specs.Sets.{has}
+use Rattle.lines.specs.Sets.{has}
 use Rattle.frame_pool.specs.declared.model.Pool.{Pool}
 use Rattle.outside.specs.declared.world.Outside.{Ghosts}
 use Rattle.outside.specs.Causes.{Rose}
 use Rattle.outside.specs.Runs.{OnlyAsks}
-use Rattle.redo_journal.specs.Held.{HoldsAtLeast}
+use Rattle.store.specs.Held.{HoldsAtLeast}
 use Rattle.store_format.specs.Header.{total}
-use Rattle.restart.specs.Kept.{KeptStore}
+use Rattle.store.specs.KeptStore.{KeptStore}
 use Rattle.desk.specs.declared.answers.TurnEnd.{TurnEnd}
 use Rattle.desk.specs.declared.answers.TurnEnd.TheVariants as end
 use Rattle.storage_unit.specs.Bytes.{IsClean}

@@ -1,11 +1,11 @@
 -- What a row of one does to all.
 use Rattle.std.specs.Prelude.{◌≡◌, ℕ, ◌+◌, ◌<◌, ◌%◌, ◌&&◌, not, if◌then◌else◌, Bool, List, slice_index, slice_set, true, Some}
-use Rattle.line_geometry.specs.Directory.{Layout, byte_count}
-use Rattle.line_geometry.specs.Lines.{line_of}
-use Rattle.lock_rules.specs.Sets.{has}
-use Rattle.lock_rules.specs.Lines.{page_of_line}
-use Rattle.lock_rules.specs.Resident.{taken_out}
-use Rattle.line_locks.specs.Holding.{Holding, held_at}
+use Rattle.lines.specs.Directory.{Layout, byte_count}
+use Rattle.lines.specs.Lines.{line_of}
+use Rattle.lines.specs.Sets.{has}
+use Rattle.lines.specs.Conflicts.{page_of_line}
+use Rattle.lines.specs.Resident.{taken_out}
+use Rattle.seats.specs.Holding.{Holding, held_at}
 use Rattle.frame_pool.specs.declared.model.Pool.{Pool}
 use Rattle.flat_machine.specs.declared.machine.Plain.{Plain}
 use Rattle.desk_law.specs.Beside.{IsLaid}

@@ -1,6 +1,6 @@
 -- What runs in a seat beside what it reaches, and rows of it, whoever else sits.
 use Rattle.std.specs.Prelude.{◌≡◌, ℕ, true, slice_set}
-use Rattle.lock_rules.specs.Sets.{has}
+use Rattle.lines.specs.Sets.{has}
 use Rattle.storage_unit.specs.declared.model.Reach.{Reach}
 use Rattle.activations.specs.declared.live.Live.{Live}
 use Rattle.activations.specs.Activity.{Activity, live_in}

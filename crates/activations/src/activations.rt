@@ -3,14 +3,14 @@ ghost use Rattle.std.specs.Prelude.{◌≡◌, ℕ, ◌-◌, ◌^◌, ◌≤◌,
 ghost use Rattle.store_format.specs.Header.{most_lines};
 ghost use Rattle.desk.specs.Run.{absent_segment};
 ghost use Rattle.desk.specs.Desk.{opened};
-ghost use Rattle.line_geometry.specs.Directory.{byte_count};
+ghost use Rattle.lines.specs.Directory.{byte_count};
 ghost use Rattle.storage_unit.specs.View.{reach_of};
-ghost use Rattle.lock_rules.specs.Sets.{has};
+ghost use Rattle.lines.specs.Sets.{has};
 
 use super::live::Live;
 use desk::Begun;
 use flat_machine::{Program, Window};
-use line_geometry::Directory;
+use lines::Directory;
 use romp_cpu::registers_of;
 use seats::Seats;
 use std::alloc::{AllocError, Global};

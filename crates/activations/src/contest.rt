@@ -1,8 +1,8 @@
 // Who waits for whom, and the cycles that are broken.
 ghost use Rattle.std.specs.Prelude.{◌≡◌, ◌≤◌, ◌+◌, ◌==◌, true, ℕ, List, [], ◌∷◌, ◌++◌, length, map, IsSome, Some, ◌<◌, OnOk, IfErr};
 ghost use Rattle.arrayvec.specs.ArrayVec.{array_vec_len};
-ghost use Rattle.lock_rules.specs.Sets.{has};
-ghost use Rattle.lock_rules.specs.Waits.{victim_of};
+ghost use Rattle.lines.specs.Sets.{has};
+ghost use Rattle.lines.specs.Waits.{victim_of};
 ghost use Rattle.desk.specs.Desk.{Desk};
 ghost use Rattle.desk.specs.Instruction.{Word, Attempt, Turning};
 
@@ -19,7 +19,7 @@ impl Activations {
     ghost use Rattle.activations.specs.Stages.{CountsCycles, EndsContest, KeepsSound};
     ghost use Rattle.activations.specs.Turning.{tally_counts, IsSettled};
     ghost use Rattle.activations.specs.View.{activity_of};
-    ghost use Rattle.line_locks.specs.declared.request.Request.{Request};
+    ghost use Rattle.seats.specs.declared.request.Request.{Request};
     ghost use Rattle.seats.specs.Seating.{number_in, sitter};
     ghost use Rattle.seats.specs.Waiting.{holders};
 

@@ -1,8 +1,8 @@
 // How an activation ends.
 ghost use Rattle.std.specs.Prelude.{◌≡◌, ◌<◌, true, false, ℕ, List, Some};
-ghost use Rattle.line_geometry.specs.Directory.{page_count};
-ghost use Rattle.lock_rules.specs.Sets.{has};
-ghost use Rattle.line_locks.specs.Holding.{IsWhole};
+ghost use Rattle.lines.specs.Directory.{page_count};
+ghost use Rattle.lines.specs.Sets.{has};
+ghost use Rattle.seats.specs.Holding.{IsWhole};
 ghost use Rattle.flat_machine.specs.declared.machine.Plain.{Plain};
 ghost use Rattle.flat_machine.specs.After.{after};
 ghost use Rattle.flat_machine.specs.Row as row;

@@ -1,11 +1,11 @@
 // Pages come in from the store on the disk.
 ghost use Rattle.std.specs.Prelude.{◌≡◌, ◌+◌, ◌<◌, ◌^◌, false, [], OnOk, OnErr, option_to_list};
-ghost use Rattle.line_geometry.specs.Directory.{page_count};
-ghost use Rattle.lock_rules.specs.Resident.{brought};
-ghost use Rattle.lock_rules.specs.Sets.{has};
+ghost use Rattle.lines.specs.Directory.{page_count};
+ghost use Rattle.lines.specs.Resident.{brought};
+ghost use Rattle.lines.specs.Sets.{has};
 ghost use Rattle.outside.specs.Causes.{FailsOnlyCounted};
 ghost use Rattle.outside.specs.Runs.{OnlyAsks};
-ghost use Rattle.redo_journal.specs.Held.{HoldsAtLeast};
+ghost use Rattle.store.specs.Held.{HoldsAtLeast};
 ghost use Rattle.store_format.specs.Header.{total};
 ghost use Rattle.storage_unit.specs.View.{reach_of};
 ghost use Rattle.activations.specs.Fetching.{IsIn, IsUnread, KeepsStore};
@@ -17,8 +17,8 @@ use super::pages::StorePages;
 use super::tally::Tally;
 use super::touch::Touch;
 use outside::{Failed, Outside};
-use restart::Durable;
 use storage_unit::Unit;
+use store::Durable;
 
 impl Activations {
     ghost use Rattle.activations.specs.Follows.{IsSound};

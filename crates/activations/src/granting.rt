@@ -1,16 +1,16 @@
 // Lines are locked, the pages whose entries refused them are granted, and write bits of fine pages go off again.
 ghost use Rattle.std.specs.Prelude.{◌≡◌, ◌<◌, ◌∷◌, [], map, true};
-ghost use Rattle.line_geometry.specs.Directory.{page_count};
-ghost use Rattle.line_locks.specs.Held.{AreWithin};
-ghost use Rattle.lock_rules.specs.Sets.{has};
+ghost use Rattle.lines.specs.Directory.{page_count};
+ghost use Rattle.seats.specs.Held.{AreWithin};
+ghost use Rattle.lines.specs.Sets.{has};
 ghost use Rattle.desk_law.specs.Consistent.{AreDistinct};
 ghost use Rattle.activations.specs.Touched.{AreWanted, page_if, pages_picked, pages_wanted, wants_of, with_whole_page};
 
 use super::activations::Activations;
 use super::touch::Touch;
-use line_geometry::LineSet;
-use line_locks::{Request, Want};
-use lockbit_rules::Authority;
+use lines::LineSet;
+use page_table::Authority;
+use seats::{Request, Want};
 
 impl Activations {
     ghost use Rattle.activations.specs.Follows.{IsSound};

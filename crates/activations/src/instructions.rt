@@ -1,14 +1,14 @@
 // One instruction of who sits in a seat: it takes effect, once its access has been served where it must be.
 ghost use Rattle.std.specs.Prelude.{◌≡◌, ◌+◌, ◌<◌, ◌≤◌, ◌^◌, ℕ, List, true, length, map, IfErr, IfOk, OnOk};
 ghost use Rattle.arrayvec.specs.ArrayVec.{array_vec_len};
-ghost use Rattle.lock_rules.specs.Sets.{has};
+ghost use Rattle.lines.specs.Sets.{has};
 ghost use Rattle.outside.specs.Runs.{OnlyAsks};
 ghost use Rattle.desk.specs.Instruction.{Word, Turning, Counts};
 ghost use Rattle.desk.specs.Instruction as desk;
 ghost use Rattle.desk.specs.declared.answers.TurnEnd.TheVariants as end;
 ghost use Rattle.flat_machine.specs.Row as row;
 ghost use Rattle.flat_machine.specs.declared.machine.Plain.{Plain};
-ghost use Rattle.line_locks.specs.Flat.{lines_wanted};
+ghost use Rattle.seats.specs.Flat.{lines_wanted};
 ghost use Rattle.storage_unit.specs.Rows.{IsOpen};
 ghost use Rattle.activations.specs.Touched.{wants_of, pages_picked, pages_wanted, AreLetBut, AreWanted};
 
@@ -17,8 +17,8 @@ use super::tally::Tally;
 use super::touch::Touch;
 use desk::TurnEnd;
 use outside::{Failed, Outside};
-use restart::Durable;
 use romp_cpu::{Access, Attempt};
+use store::Durable;
 
 /// How the next instruction of an activation went.
 #[derive(Clone, Copy)]

@@ -5,9 +5,9 @@ ghost use Rattle.flat_machine.specs.After as first;
 ghost use Rattle.activations.specs.Activity.{nothing_over};
 
 use flat_machine::{Cs, Printed, Program, first_registers};
-use line_geometry::PageSize;
+use lines::PageSize;
+use page_table::SegmentRegs;
 use romp_cpu::Cpu;
-use segment_regs::SegmentRegs;
 use std::alloc::{AllocError, Global};
 
 /// What runs in a seat: its processor, what it reaches through its segment registers, and what it has printed.

@@ -1,17 +1,17 @@
 // The pages of an open store, as the storage unit reads them.
 ghost use Rattle.std.specs.Prelude.{◌≡◌, ◌<◌, false};
-ghost use Rattle.line_geometry.specs.Directory.{page_count};
-ghost use Rattle.line_geometry.specs.Segments.{page_bytes};
+ghost use Rattle.lines.specs.Directory.{page_count};
+ghost use Rattle.lines.specs.Segments.{page_bytes};
 ghost use Rattle.outside.specs.Causes.{Rose};
 ghost use Rattle.outside.specs.Runs.{OnlyAsks, held_of};
-ghost use Rattle.redo_journal.specs.Held.{HoldsAtLeast};
+ghost use Rattle.store.specs.Held.{HoldsAtLeast};
 ghost use Rattle.store_format.specs.Header.{total};
 ghost use Rattle.store_format.specs.Stands.{stands};
-ghost use Rattle.restart.specs.Shows.{IsShown, page_in};
+ghost use Rattle.store.specs.Shows.{IsShown, page_in};
 
 use outside::{Failed, Outside};
-use restart::Durable;
 use storage_unit::Pages;
+use store::Durable;
 
 /// An open store, whose pages are read by calls that only ask the disk.
 #[derive(Drop)]

@@ -1,27 +1,27 @@
 // The record of a commit.
 ghost use Rattle.std.specs.Prelude.{◌≡◌, ◌+◌, ◌*◌, ◌<◌, ◌≤◌, ℕ, List, [], All, length, map, true, Some, IsSome, IsOk, OnOk, OnErr, IfErr};
-ghost use Rattle.lock_rules.specs.Sets.{has, size};
-ghost use Rattle.line_geometry.specs.Directory.{page_count};
-ghost use Rattle.line_locks.specs.Flat.{flat_lines};
-ghost use Rattle.line_locks.specs.Held.{write_count};
-ghost use Rattle.line_locks.specs.Holding.{of_seat};
+ghost use Rattle.lines.specs.Sets.{has, size};
+ghost use Rattle.lines.specs.Directory.{page_count};
+ghost use Rattle.seats.specs.Flat.{flat_lines};
+ghost use Rattle.seats.specs.Held.{write_count};
+ghost use Rattle.seats.specs.Holding.{of_seat};
 ghost use Rattle.frame_pool.specs.View.{pool_of};
 ghost use Rattle.store_format.specs.Header.{most_lines};
-ghost use Rattle.redo_journal.specs.Kept.{begun_of};
+ghost use Rattle.store.specs.Kept.{begun_of};
 ghost use Rattle.activations.specs.Recorded.{with_lines};
 
 use super::activations::Activations;
 use super::touch::Touch;
 use desk::TurnEnd;
 use frame_pool::FramePool;
-use line_geometry::LineSet;
-use restart::Durable;
+use lines::LineSet;
+use store::Durable;
 
 impl Activations {
     ghost use Rattle.activations.specs.Activity.{locks_in};
     ghost use Rattle.activations.specs.Follows.{IsSound, KeepsDesk};
     ghost use Rattle.activations.specs.Recorded.{IsRecordOf, LeavesCommitted, HasWritten};
-    ghost use Rattle.restart.specs.Kept.{with_begun};
+    ghost use Rattle.store.specs.KeptStore.{with_begun};
     ghost use Rattle.activations.specs.Steps.{rolled};
     ghost use Rattle.activations.specs.View.{activity_of};
 

@@ -5,7 +5,7 @@ ghost use Rattle.activations.specs.Attempted.{WasAttempted, IsShut, IsStopped};
 ghost use Rattle.activations.specs.Striding.{RunsAt, StrodeTo, with_live};
 ghost use Rattle.activations.specs.Follows.{IsSound};
 ghost use Rattle.storage_unit.specs.View.{reach_of};
-ghost use Rattle.lock_rules.specs.Sets.{has};
+ghost use Rattle.lines.specs.Sets.{has};
 
 use super::activations::Activations;
 use super::live::Live;

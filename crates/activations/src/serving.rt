@@ -1,17 +1,17 @@
 // An access that isn't permitted is served: its pages come in, and its lines are locked.
 ghost use Rattle.std.specs.Prelude.{◌≡◌, ◌+◌, ◌<◌, not};
 ghost use Rattle.std.specs.List.{list_any};
-ghost use Rattle.line_locks.specs.Held.{AreWithin};
-ghost use Rattle.line_geometry.specs.Directory.{page_count};
-ghost use Rattle.lockbit_rules.specs.Entries.{grant_of};
-ghost use Rattle.lock_rules.specs.Access.{lets};
+ghost use Rattle.seats.specs.Held.{AreWithin};
+ghost use Rattle.lines.specs.Directory.{page_count};
+ghost use Rattle.page_table.specs.Entries.{grant_of};
+ghost use Rattle.lines.specs.Access.{lets};
 ghost use Rattle.activations.specs.Touched.{wants_of, refuses_want, each_refused, is_granted};
 
 use super::activations::Activations;
 use super::touch::Touch;
-use line_geometry::LineSet;
-use line_locks::Want;
-use lockbit_rules::Authority;
+use lines::LineSet;
+use page_table::Authority;
+use seats::Want;
 
 impl Activations {
     ghost use Rattle.activations.specs.View.{activity_of};

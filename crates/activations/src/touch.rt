@@ -1,14 +1,14 @@
 // The lines that an access touches, page by page.
 ghost use Rattle.std.specs.Prelude.{◌≡◌, ◌+◌, ◌/◌, ◌<◌, ◌≤◌, ◌^◌, ◌∷◌, [], map};
-ghost use Rattle.line_geometry.specs.Directory.{Layout};
-ghost use Rattle.line_geometry.specs.Lines.{line_count};
-ghost use Rattle.line_locks.specs.Flat.{lines_wanted};
+ghost use Rattle.lines.specs.Directory.{Layout};
+ghost use Rattle.lines.specs.Lines.{line_count};
+ghost use Rattle.seats.specs.Flat.{lines_wanted};
 ghost use Rattle.seats.specs.Waiting.{AreOfPage};
 ghost use Rattle.activations.specs.Touched.{lines_between, wants_of, with_whole_page, AreWanted};
 
 use arrayvec::ArrayVec;
-use line_geometry::{Directory, LineSet};
-use line_locks::{Request, Want};
+use lines::{Directory, LineSet};
+use seats::{Request, Want};
 
 /// The lines of the store that one access touches, at most two, by their pages, ascending.
 #[derive(Clone, Copy)]

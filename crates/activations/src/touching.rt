@@ -1,13 +1,13 @@
 // The lines of the store that an access touches, and the most that are written.
 ghost use Rattle.std.specs.Prelude.{◌≡◌, ◌+◌, ◌-◌, ◌<◌, ◌≤◌, true, false, nat_lt, ℕ, List, length, OnOk, IfErr};
-ghost use Rattle.lock_rules.specs.Sets.{has};
-ghost use Rattle.line_geometry.specs.Directory.{start_of, byte_count, page_count};
-ghost use Rattle.line_geometry.specs.Lines.{line_of};
-ghost use Rattle.line_geometry.specs.LineSets.{difference};
-ghost use Rattle.line_locks.specs.Flat.{lines_wanted};
-ghost use Rattle.line_locks.specs.Held.{write_count};
-ghost use Rattle.line_locks.specs.Holding.{of_seat, held_at};
-ghost use Rattle.segment_regs.specs.Registers.{located_by};
+ghost use Rattle.lines.specs.Sets.{has};
+ghost use Rattle.lines.specs.Directory.{start_of, byte_count, page_count};
+ghost use Rattle.lines.specs.Lines.{line_of};
+ghost use Rattle.lines.specs.LineSets.{difference};
+ghost use Rattle.seats.specs.Flat.{lines_wanted};
+ghost use Rattle.seats.specs.Held.{write_count};
+ghost use Rattle.seats.specs.Holding.{of_seat, held_at};
+ghost use Rattle.page_table.specs.Registers.{located_by};
 ghost use Rattle.romp_cpu.specs.Attempts.{lines_of_access};
 ghost use Rattle.flat_machine.specs.declared.machine.Plain.{Plain};
 ghost use Rattle.desk.specs.Instruction.{Counts};
@@ -16,10 +16,10 @@ ghost use Rattle.activations.specs.Touched.{lines_between, wants_of, AreWanted};
 use super::activations::Activations;
 use super::touch::Touch;
 use desk::TurnEnd;
-use line_geometry::Directory;
-use line_locks::Want;
+use lines::Directory;
+use page_table::{Check, Virtual};
 use romp_cpu::Access;
-use segment_regs::{Check, Virtual};
+use seats::Want;
 use storage_unit::PRIVATE;
 
 impl Activations {

@@ -1,7 +1,7 @@
 // The rows of a turn, one after another.
 ghost use Rattle.std.specs.Prelude.{◌≡◌, ◌+◌, ◌<◌, ◌≤◌, ◌^◌, ℕ, List, true, length, IfErr, IfOk, OnOk};
 ghost use Rattle.arrayvec.specs.ArrayVec.{array_vec_len};
-ghost use Rattle.lock_rules.specs.Sets.{has};
+ghost use Rattle.lines.specs.Sets.{has};
 ghost use Rattle.desk.specs.Instruction.{Word, Counts, Turning};
 
 use super::activations::Activations;
@@ -9,8 +9,8 @@ use super::instructions::Went;
 use super::tally::Tally;
 use desk::TurnEnd;
 use outside::Outside;
-use restart::Durable;
 use romp_cpu::Access;
+use store::Durable;
 
 impl Activations {
     ghost use Rattle.activations.specs.Attempted.{IsSelected};

@@ -1,6 +1,6 @@
 -- What the bytes of a disk say of an opening.
 use Rattle.std.specs.Prelude.{◌≡◌, ℕ, ◌⊎◌, List, take, IsSome, IsTrue}
-use Rattle.line_geometry.specs.FlatStore.{FlatStore}
+use Rattle.lines.specs.FlatStore.{FlatStore}
 use Rattle.outside.specs.declared.world.Outside.{Ghosts}
 use Rattle.outside.specs.Bytes.{AreTold}
 use Rattle.outside.specs.Runs.{Leaves, held_of}

@@ -1,7 +1,7 @@
 -- How a call ends, what a fault below makes of it, and how the program tells it.
 use Rattle.std.specs.Prelude.{ℕ, List, [], ◌++◌, codes, decimal, Result, Ok, Err}
-use Rattle.redo_journal.specs.declared.fault.OpenFault.{OpenFault}
-use Rattle.redo_journal.specs.declared.fault.OpenFault.TheVariants as open_fault
+use Rattle.store.specs.declared.fault.OpenFault.{OpenFault}
+use Rattle.store.specs.declared.fault.OpenFault.TheVariants as open_fault
 use Rattle.job_text.specs.declared.job.JobFault.{JobFault}
 use Rattle.job_text.specs.declared.job.JobFault.TheVariants as job_fault
 use Rattle.call_status.specs.declared.source_text.TextFault.{TextFault}

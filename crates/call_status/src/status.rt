@@ -7,8 +7,8 @@ use super::source_text::TextFault;
 use arrayvec::ArrayString;
 use itoa::Buffer;
 use job_text::JobFault;
-use redo_journal::OpenFault;
 use std::alloc::AllocError;
+use store::OpenFault;
 
 /// How a call ended (docs/FORMATS.md, "Statuses").
 #[derive(Debug, Clone, Copy, PartialEq, Eq)]

@@ -7,14 +7,14 @@ pub use Rattle.std.specs.List.{flat_map, sum, sum_by, zip}
 pub use Rattle.std.specs.Prelude.{All, Err, MatchOption, MatchResult, None, Ok, OnErr, OnOk, Option, Result, Some, codes, is_err, option_map, slice_index, string_bytes, ◌==◌, IsSome, String, nat_eq, slice_get, unwrap_or}
 pub use Rattle.std.specs.Str.Parse.{IsNumeral, ParsesUnsigned, digits_value, without_leading_plus}
 pub use Rattle.std.specs.declared.alloc.Global.{Global}
-pub use Rattle.bundle_calls.specs.Traced.{CanTrace, TracedFrom}
+pub use Rattle.store_calls.specs.Traced.{CanTrace, TracedFrom}
 pub use Rattle.call_status.specs.Call.{Call, Given, call, given}
 pub use Rattle.call_status.specs.declared.status.Status.{Status}
 pub use Rattle.flat_machine.specs.declared.machine.Program.{Program}
 pub use Rattle.job_text.specs.Grammar.{content_of}
-pub use Rattle.line_geometry.specs.Legal.{AreFlags, IsInRange, IsLegal}
-pub use Rattle.line_geometry.specs.declared.directory.PageSize.{PageSize}
-pub use Rattle.line_geometry.specs.declared.directory.PageSize.TheVariants.{Four, Two}
+pub use Rattle.lines.specs.Legal.{AreFlags, IsInRange, IsLegal}
+pub use Rattle.lines.specs.declared.line_geometry.PageSize.{PageSize}
+pub use Rattle.lines.specs.declared.line_geometry.PageSize.TheVariants.{Four, Two}
 pub use Rattle.listing.proofs.PutsLemmas.{done, puts_more, puts_no_more, times_on}
 pub use Rattle.listing.specs.Listing.{lines_in, listing_of}
 pub use Rattle.listing.specs.Puts.{Puts, PutsTimes}

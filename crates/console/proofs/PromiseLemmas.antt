@@ -5,13 +5,13 @@ use Rattle.call_status.proofs.TextLemmas.{read_whole, too_much}
 use Rattle.outside.specs.Causes.{Rose}
 use Rattle.outside.specs.Runs.{held_of}
 use Rattle.store_calls.specs.Renewed.{IsNotOne, IsOfRenew, Renewed}
-use Rattle.restart.specs.Kept.{number_of}
+use Rattle.store.specs.KeptStore.{number_of}
 use Rattle.standby.specs.State.{IsFirstLong, due}
 use Rattle.standby.specs.Text.{Content, IsContent, ShipLine, text_of}
-use Rattle.standby_calls.specs.Followed.{FollowedBy, FollowedFrom, IsNoText, IsOfFollow, OnStore}
-use Rattle.standby_calls.specs.Shipped.{IsOfShip, ShippedFrom}
+use Rattle.standby.specs.FollowCalled.{FollowedBy, FollowedFrom, IsNoText, IsOfFollow, OnStore}
+use Rattle.standby.specs.ShipCalled.{IsOfShip, ShippedFrom}
 use Rattle.call_status.specs.Opening.{IsFaultAt, IsStanding}
-use Rattle.bundle_calls.specs.Audited.{CanAudit}
+use Rattle.store_calls.specs.Audited.{CanAudit}
 use Rattle.console.specs.Causes.{CanFollow, CanShip, HasAll, HasOldStore, IsComplete}
 use Rattle.call_status.specs.declared.status.Status.TheVariants as status
 use Rattle.console.proofs.WordLemmas.{one_from, one_trace}

@@ -5,14 +5,14 @@ use Rattle.call_status.specs.Call.{Call, Given, call}
 use Rattle.store_calls.specs.New.{Made}
 use Rattle.store_calls.specs.Renewed.{Renewed}
 use Rattle.store_calls.specs.Show.{RangeShown}
-use Rattle.standby_calls.specs.Followed.{FollowedFrom}
-use Rattle.standby_calls.specs.Shipped.{ShippedFrom}
+use Rattle.standby.specs.FollowCalled.{FollowedFrom}
+use Rattle.standby.specs.ShipCalled.{ShippedFrom}
 use Rattle.job_calls.specs.declared.ended.Ended.{Ended}
 use Rattle.job_calls.specs.Big.{Loaded}
 use Rattle.job_calls.specs.Headline.{Happened}
 use Rattle.drills.specs.Drilled.{Drilled}
-use Rattle.bundle_calls.specs.Audited.{Audited}
-use Rattle.bundle_calls.specs.Traced.{TracedFrom}
+use Rattle.store_calls.specs.Audited.{Audited}
+use Rattle.store_calls.specs.Traced.{TracedFrom}
 use Rattle.console.specs.Listed.{Listed}
 use Rattle.console.specs.declared.words.Command.{Command}
 use Rattle.console.specs.declared.words.Command.TheVariants as command

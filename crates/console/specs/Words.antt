@@ -3,9 +3,9 @@ use Rattle.std.specs.Prelude.{◌≡◌, ◌≢◌, ◌⊎◌, ℕ, ◌-◌, ◌
 use Rattle.std.specs.Str.Parse.{IsNumeral, digits_value}
 use Rattle.std.specs.declared.alloc.Global.{Global}
 use Rattle.asm_parse.specs.Number.{number_in}
-use Rattle.line_geometry.specs.declared.directory.PageSize.{PageSize}
-use Rattle.line_geometry.specs.declared.directory.PageSize.TheVariants.{Two, Four}
-use Rattle.line_geometry.specs.Legal.{IsLegal, AreFlags}
+use Rattle.lines.specs.declared.line_geometry.PageSize.{PageSize}
+use Rattle.lines.specs.declared.line_geometry.PageSize.TheVariants.{Two, Four}
+use Rattle.lines.specs.Legal.{IsLegal, AreFlags}
 use Rattle.store_format.specs.Header.{HasRanges}
 use Rattle.console.specs.declared.words.Command.{Command}
 use Rattle.console.specs.declared.words.Command.TheVariants as command
@@ -148,7 +148,7 @@ pub record IsForm (form : Command) (words : List (String Global)) : Type 0 where
 
 -- the words are no command
 abbrev pub IsNoForm : List (String Global) → Type 0
-IsNoForm words = (form : Command) → IsForm form words → ⊥
+IsNoForm words = (form : Command) → ¬ (IsForm form words)
 
 -- the words ask for a job to be run: `try`, or `run` with a store
 abbrev pub RunsJob : List (String Global) → Type 0

@@ -11,14 +11,13 @@ ghost use Rattle.console.specs.Words.{IsForm, IsNoForm, OpensSession, ReadsBundl
 
 use super::list::list_source;
 use super::words::{Command, command_of};
-use bundle_calls::{audit_source, trace_source};
 use call_status::Status;
 use drills::drill_source;
 use job_calls::{Ended, run_load, run_source};
 use outside::{Outside, Source};
-use standby_calls::{follow_source, ship_store};
+use standby::{follow_source, ship_store};
 use std::alloc::Global;
-use store_calls::{make_store, renew_store, show_range};
+use store_calls::{audit_source, make_store, renew_store, show_range, trace_source};
 
 /// All that the program does: it takes the words of the command line, without the program's name, and the source, disk
 /// and screen that are handed in, and answers how it ended (docs/FORMATS.md, "Words" and "Statuses").
@@ -33,7 +32,7 @@ pub fn console<S: Source, W: Outside>(
     ensures unasked { result.status ≡ Status.Usage → (job.new ≡ job.old) × (outside.new ≡ outside.old) × (order_told result.order.items ≡ []) }
     ensures only { (form : Command) → IsForm form words.now → IsOf form result.status }
     ensures read { ReadsJob words.now → ReadsBy (given S.Source job.old job.new) result.status }
-    ensures unread { (ReadsJob words.now ⊎ ReadsBundle words.now ⊎ ReadsStore words.now ⊎ ReadsText words.now → ⊥) → job.new ≡ job.old }
+    ensures unread { (¬ (ReadsJob words.now ⊎ ReadsBundle words.now ⊎ ReadsStore words.now ⊎ ReadsText words.now)) → job.new ≡ job.old }
     ensures unfailed { result.status ≡ Status.Done → (S.faults job.new ≡ S.faults job.old) × (W.put_faults outside.new ≡ W.put_faults outside.old) }
     ensures opened { RunsJob words.now → OpensBy W.Outside outside.old outside.new result.status result.session }
     ensures put { result.status ≡ Status.PutFault → Rose (W.put_faults outside.old) (W.put_faults outside.new) }
@@ -41,8 +40,8 @@ pub fn console<S: Source, W: Outside>(
     ensures did { (form : Command) → IsForm form words.now → Does W.Outside form (given S.Source job.old job.new) outside.old outside.new result }
     ensures handed { OpensSession words.now → HandsOn (order_told result.order.items) result.session result.status }
     ensures fits { HandedFits W.Outside outside.new result.session }
-    ensures no_session { (OpensSession words.now → ⊥) → result.session ≡ None }
-    ensures complete { IsComplete W.Outside words.now (S.left job.old) outside.old → (Rose (S.faults job.old) (S.faults job.new) → ⊥) → (Rose (W.disk_faults outside.old) (W.disk_faults outside.new) → ⊥) → (Rose (W.put_faults outside.old) (W.put_faults outside.new) → ⊥) → (result.status ≡ Status.Done) ⊎ (result.status ≡ Status.NoMemory) }
+    ensures no_session { (¬ (OpensSession words.now)) → result.session ≡ None }
+    ensures complete { IsComplete W.Outside words.now (S.left job.old) outside.old → (¬ (Rose (S.faults job.old) (S.faults job.new))) → (¬ (Rose (W.disk_faults outside.old) (W.disk_faults outside.new))) → (¬ (Rose (W.put_faults outside.old) (W.put_faults outside.new))) → (result.status ≡ Status.Done) ⊎ (result.status ≡ Status.NoMemory) }
 {
     let Some(command) = command_of(words) else {
         return Ended::without_events(alloc, Status::Usage);

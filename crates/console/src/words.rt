@@ -1,11 +1,11 @@
 // The words of the command line.
 ghost use Rattle.std.specs.Prelude.{◌≡◌, ◌≢◌, ◌≤◌, ◌<◌, ◌+◌, ◌^◌, [], ◌∷◌, ◌++◌, Bool, List, ℕ, All, map, length, false, MatchOption, Some, string_bytes};
-ghost use Rattle.line_geometry.specs.Legal.{IsLegal, IsInRange, AreFlags};
+ghost use Rattle.lines.specs.Legal.{IsLegal, IsInRange, AreFlags};
 ghost use Rattle.store_format.specs.Header.{Header as Layout, HasRanges};
 ghost use Rattle.console.specs.Words.{IsForm, IsNoForm, AreWithin, AreNumbers, IsAlone, IsLong, IsNumbered, IsOnStore, number_said, word_of, numbers_of, number_of, marked_of, plain, spread};
 
 use arrayvec::ArrayVec;
-use line_geometry::{Directory, PageSize};
+use lines::{Directory, PageSize};
 use store_calls::Range;
 use store_format::Header;
 
@@ -71,7 +71,7 @@ pub fn command_of(words: &[String]) -> Option<Command>
 
 /// The command that a word and a number are, if the words are these.
 fn numbered(words: &[String]) -> Option<Command>
-    ensures { MatchOption result ((form : Command) → IsNumbered form → IsForm form words.now → ⊥) (λ command. IsNumbered command × IsForm command words.now) }
+    ensures { MatchOption result ((form : Command) → IsNumbered form → ¬ (IsForm form words.now)) (λ command. IsNumbered command × IsForm command words.now) }
 {
     match words {
         [word, number] => command_with(word.as_str(), number.as_str()),
@@ -81,7 +81,7 @@ fn numbered(words: &[String]) -> Option<Command>
 
 /// The number from which the words ask a store to ship, if they do.
 fn shipping(words: &[String]) -> Option<u64>
-    ensures { MatchOption result ((from : ℕ) → IsForm (Command.Ship from) words.now → ⊥) (λ from. IsForm (Command.Ship from) words.now) }
+    ensures { MatchOption result ((from : ℕ) → ¬ (IsForm (Command.Ship from) words.now)) (λ from. IsForm (Command.Ship from) words.now) }
 {
     match words {
         [word, store, number] if word.as_str() == "ship" && !store.as_str().is_empty() => {
@@ -94,7 +94,7 @@ fn shipping(words: &[String]) -> Option<u64>
 /// The command that a word is with this number.
 fn command_with(word: &str, number: &str) -> Option<Command>
     ensures { MatchOption result
-        ((form : Command) → IsNumbered form → word.now ≡ word_of form → number_of number.now ≡ Some (number_said form) → AreWithin form → ⊥)
+        ((form : Command) → IsNumbered form → word.now ≡ word_of form → number_of number.now ≡ Some (number_said form) → ¬ (AreWithin form))
         (λ command. IsNumbered command × (word.now ≡ word_of command) × (number_of number.now ≡ Some (number_said command)) × AreWithin command) }
 {
     let number = number_of(number)?;
@@ -127,7 +127,7 @@ fn command_alone(word: &str) -> Option<Command>
 /// The command that a word is with a store and these numbers, each with its mark or without.
 fn command_on(word: &str, numbers: &[(u32, bool)]) -> Option<Command>
     ensures { MatchOption result
-        ((form : Command) → IsOnStore form → word.now ≡ word_of form → numbers.now ≡ numbers_of form → AreWithin form → ⊥)
+        ((form : Command) → IsOnStore form → word.now ≡ word_of form → numbers.now ≡ numbers_of form → ¬ (AreWithin form))
         (λ command. IsOnStore command × (word.now ≡ word_of command) × (numbers.now ≡ numbers_of command) × AreWithin command) }
 {
     if word == "run" {
@@ -161,7 +161,7 @@ fn bare(numbers: &[(u32, bool)], command: Command) -> Option<Command>
 /// The range that these numbers are: its segment, its first offset and its number of bytes.
 fn range_of(numbers: &[(u32, bool)]) -> Option<Range>
     ensures { MatchOption result
-        ((range : Range) → numbers.now ≡ plain (range.segment ∷ range.from ∷ range.count ∷ []) → range.count ≤ 65536 → ⊥)
+        ((range : Range) → numbers.now ≡ plain (range.segment ∷ range.from ∷ range.count ∷ []) → ¬ (range.count ≤ 65536))
         (λ range. (numbers.now ≡ plain (range.segment ∷ range.from ∷ range.count ∷ [])) × (range.count ≤ 65536)) }
 {
     match numbers {
@@ -177,7 +177,7 @@ fn range_of(numbers: &[(u32, bool)]) -> Option<Range>
 /// The bytes of a bank that these numbers are.
 fn bank_of(numbers: &[(u32, bool)]) -> Option<u32>
     ensures { MatchOption result
-        ((bank : ℕ) → numbers.now ≡ plain (bank ∷ []) → 4096 ≤ bank → bank ≤ 131072 → ⊥)
+        ((bank : ℕ) → numbers.now ≡ plain (bank ∷ []) → 4096 ≤ bank → ¬ (bank ≤ 131072))
         (λ bank. (numbers.now ≡ plain (bank ∷ [])) × (4096 ≤ bank) × (bank ≤ 131072)) }
 {
     match numbers {
@@ -191,7 +191,7 @@ fn bank_of(numbers: &[(u32, bool)]) -> Option<u32>
 fn header_of(page: PageSize, numbers: &[(u32, bool)]) -> Option<Header>
     ensures { MatchOption result
         ((header : Layout) → header.directory.page ≡ page → numbers.now ≡ (header.bank_bytes, false) ∷ spread header.directory.segments header.directory.fine
-        → HasRanges header → IsLegal header.directory.segments → AreFlags page header.directory.segments header.directory.fine → ⊥)
+        → HasRanges header → IsLegal header.directory.segments → ¬ (AreFlags page header.directory.segments header.directory.fine))
         (λ header. (header.directory.page ≡ page) × (numbers.now ≡ (header.bank_bytes, false) ∷ spread header.directory.segments header.directory.fine)
         × HasRanges header × IsLegal header.directory.segments × AreFlags page header.directory.segments header.directory.fine) }
 {
@@ -209,7 +209,7 @@ fn header_of(page: PageSize, numbers: &[(u32, bool)]) -> Option<Header>
 /// The directory of the segments that these numbers are, each an identifier and its pages, with pages of this size.
 fn directory_of(page: PageSize, numbers: &[(u32, bool)]) -> Option<Directory>
     ensures { MatchOption result
-        ((segments : List (ℕ × ℕ)) (fine : ℕ) → numbers.now ≡ spread segments fine → IsLegal segments → AreFlags page segments fine → ⊥)
+        ((segments : List (ℕ × ℕ)) (fine : ℕ) → numbers.now ≡ spread segments fine → IsLegal segments → ¬ (AreFlags page segments fine))
         (λ directory. (directory.page ≡ page) × (numbers.now ≡ spread directory.segments directory.fine) × IsLegal directory.segments × AreFlags page directory.segments directory.fine) }
 {
     let mut segments = ArrayVec::<(u16, u16), 15>::new();
@@ -226,7 +226,7 @@ fn add_segments(numbers: &[(u32, bool)], segments: &mut ArrayVec<(u16, u16), 15>
     requires { length segments.old.items ≤ 15 }
     ensures few { length segments.new.items ≤ 15 }
     ensures flags { MatchOption result
-        ((more : List (ℕ × ℕ)) (fine : ℕ) → numbers.now ≡ spread more fine → length segments.old.items + length more ≤ 15 → All IsInRange more → ⊥)
+        ((more : List (ℕ × ℕ)) (fine : ℕ) → numbers.now ≡ spread more fine → length segments.old.items + length more ≤ 15 → ¬ (All IsInRange more))
         (λ fine. (more : List (ℕ × ℕ)) × (numbers.now ≡ spread more fine) × (segments.new.items ≡ segments.old.items ++ more) × (fine < 2 ^ length more)) }
 {
     match numbers {
@@ -245,7 +245,7 @@ fn add_segments(numbers: &[(u32, bool)], segments: &mut ArrayVec<(u16, u16), 15>
 
 /// An identifier and pages as they are kept; none where one is far out of its range.
 fn segment_of(identifier: u32, pages: u32) -> Option<(u16, u16)>
-    ensures { MatchOption result (IsInRange (identifier, pages) → ⊥) (λ segment. (segment.0 ≡ identifier) × (segment.1 ≡ pages)) }
+    ensures { MatchOption result (¬ (IsInRange (identifier, pages))) (λ segment. (segment.0 ≡ identifier) × (segment.1 ≡ pages)) }
 {
     match (u16::try_from(identifier), u16::try_from(pages)) {
         (Ok(identifier), Ok(pages)) => Some((identifier, pages)),
@@ -256,7 +256,7 @@ fn segment_of(identifier: u32, pages: u32) -> Option<(u16, u16)>
 /// The numbers that these words are, where all are and a form has as many.
 fn numbers_of(words: &[String]) -> Option<ArrayVec<(u32, bool), MOST_NUMBERS>>
     ensures { MatchOption result
-        ((numbers : List (ℕ × Bool)) → length numbers ≤ 31 → AreNumbers (map string_bytes words.now) numbers → ⊥)
+        ((numbers : List (ℕ × Bool)) → length numbers ≤ 31 → ¬ (AreNumbers (map string_bytes words.now) numbers))
         (λ numbers. AreNumbers (map string_bytes words.now) numbers.items) }
 {
     let mut numbers = ArrayVec::new();
@@ -299,7 +299,7 @@ fn number_of(word: &str) -> Option<u32>
 
 /// The long number that a word is, if it is one.
 fn long_number_of(word: &str) -> Option<u64>
-    ensures { MatchOption result ((number : ℕ) → IsLong word.now number → ⊥) (λ number. IsLong word.now number) }
+    ensures { MatchOption result ((number : ℕ) → ¬ (IsLong word.now number)) (λ number. IsLong word.now number) }
 {
     let digits = word.as_bytes();
     if digits.is_empty() || digits.len() > 20 || digits[0] == b'+' {

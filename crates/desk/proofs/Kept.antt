@@ -2,7 +2,7 @@
 use Rattle.desk.proofs.Common.{◌==◌, not, map, filter, find, if◌then◌else◌, option_and_then, Plain, Activation, numbered, committing, if_commit, before_commit, Desk, Entry, with_entry, ended, rolled_back, wanted, numbers, waits_for, conflicts_of, is_fine, Word, Fine, ReadFailed, Unwritten, Doubt, Failed, Counts, Ending, Committed, CommitUnwritten, CommitDoubted, Turning, Going, Over, Attempt, Fetching, Fetched, Broken, Contest, Contested, Settled, Lost, attempts, attempts_at, instruction, turns, limited, is_over_limit, turn, fetched_first, fetches_touched, asks, gets, goes_on, takes_effect, commits, breaks, breaks_cycle, breaks_cycles, contest_ends, ordered, waits_or_gets, with_grants, refused_pages, nat_tests, ◌≡◌, ℕ, zero, suc, ◌+◌, Bool, true, false, List, [], ◌∷◌, ◌++◌, length, refl, sym, ◌∙◌, ap, arith, Option, Some, None}
 use Rattle.flat_machine.specs.Row.{Outcome, On, Commit, Check, row}
 use Rattle.flat_machine.specs.After.{after}
-use Rattle.lock_rules.specs.Waits.{shown_cycle, victim_of}
+use Rattle.lines.specs.Waits.{shown_cycle, victim_of}
 
 -- each active entry runs the activation of its number
 abbrev pub AreNumbered : List Activation → List Entry → Type 0

@@ -1,6 +1,6 @@
 -- The commits of a run, beside those of the same programs one after another.
 use Rattle.std.specs.Prelude.{◌≡◌, ℕ, ◌+◌, ◌≤◌, ◌%◌, ◌^◌, Bool, true, false, List, [], ◌∷◌, ◌++◌, length, filter, Option, Some, None, slice_get}
-use Rattle.line_geometry.specs.FlatStore.{FlatStore}
+use Rattle.lines.specs.FlatStore.{FlatStore}
 use Rattle.flat_machine.specs.declared.machine.Plain.{Plain}
 use Rattle.flat_machine.specs.declared.machine.Program.{Program}
 use Rattle.flat_machine.specs.Serial.{Activation, committing, serial}

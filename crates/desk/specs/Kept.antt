@@ -4,7 +4,7 @@ use Rattle.std.specs.Option.{ForSome}
 use Rattle.outside.specs.declared.world.Outside.{Ghosts}
 use Rattle.outside.specs.Runs.{held_of}
 use Rattle.store_format.specs.Header.{Header, header_of, total}
-use Rattle.line_geometry.specs.declared.directory.PageSize.{PageSize}
+use Rattle.lines.specs.declared.line_geometry.PageSize.{PageSize}
 use Rattle.store_format.specs.Bank.{Bank, Holds, Faulty, RecordLine, base_of, bank_of, record_bytes}
 use Rattle.store_format.specs.Stands.{chosen}
 use Rattle.desk.specs.declared.answers.Reopened.{Reopened}

@@ -3,7 +3,7 @@ use Rattle.desk_law.proofs.Common.{Bool, if◌then◌else◌, ◌≡◌, refl, �
 use Rattle.std.proofs.Math.ListN.{drop_of_length-le}
 use Rattle.std.proofs.Math.Nat.{mul-le-mul_right}
 use Rattle.std.proofs.Math.Seq.{drop-append-add, take-nil}
-use Rattle.line_geometry.proofs.Within.{byte_count-lines, line-bytes-pos}
+use Rattle.lines.proofs.WithinLemmas.{byte_count-lines, line-bytes-pos}
 
 -- a line of a list of bytes
 line-part : (lb line : ℕ) (xs : List ℕ) → slice_range xs (line * lb) (line * lb + lb) ≡ take lb (drop (line * lb) xs)

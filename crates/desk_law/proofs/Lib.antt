@@ -51,3 +51,10 @@ pub mod TurnCauses
 mod Unrefused
 pub mod AskingLaw
 mod RuleRows
+pub mod Unbroken
+pub mod SeenLemmas
+pub mod TurnLemmas
+pub mod StepLemmas
+pub mod RunLemmas
+pub mod LeftLemmas
+pub mod HeadlineLemmas

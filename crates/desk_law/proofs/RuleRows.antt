@@ -2,7 +2,7 @@
 -- value in register 3, and what one reads is in its register 4.
 use Rattle.desk_law.proofs.Common.{◌≡◌, refl, ℕ, ◌≤◌, ◌==◌, true, false, List, [], ◌∷◌, length, replicate, slice_index, Option, Some, None, option_map_or, sym, ◌∙◌, ap, inl, inr, both_ways, eq-eqb, FlatStore, IsWhole, Program, Plain, after, conflicts, Begin, Turn, Event, Desk, Entry, opened, requested, due_to, conflicts_of, Word, Fine, IsAmong, Machine, memory_of, lit<, lit≤, Asking, Ran, run_by, RunsAreIsolatedBy}
 unfoldable use Rattle.desk.proofs.Common.{row_numbered}
-use Rattle.line_geometry.specs.declared.directory.PageSize.TheVariants.{Four, Two}
+use Rattle.lines.specs.declared.line_geometry.PageSize.TheVariants.{Four, Two}
 unfoldable use Rattle.desk_law.specs.Asking.{instruction_by, turns_by}
 use Rattle.desk_law.specs.Rules.{conflicting, without_whole_pages, without_bits_off, without_read_meets_write, without_write_meets_read, without_kept_reads, IsolationRestsOnRules}
 

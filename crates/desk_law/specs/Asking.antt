@@ -1,7 +1,7 @@
 -- A desk by how it asks for the locks of a row, and the one that asks where the entry of a page refuses a line, as the program does.
 use Rattle.std.specs.Prelude.{◌≡◌, ℕ, zero, suc, ◌+◌, ◌≤◌, ◌==◌, ◌&&◌, not, if◌then◌else◌, Bool, true, false, IsTrue, List, [], ◌∷◌, ◌++◌, length, map, find, Option, Some, None}
 use Rattle.std.specs.Option.{option_map_or}
-use Rattle.line_geometry.specs.FlatStore.{FlatStore, IsWhole}
+use Rattle.lines.specs.FlatStore.{FlatStore, IsWhole}
 use Rattle.flat_machine.specs.declared.machine.Program.{Program}
 use Rattle.flat_machine.specs.Row.{Outcome, Check}
 use Rattle.flat_machine.specs.After.{after}

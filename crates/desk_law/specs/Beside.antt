@@ -2,10 +2,10 @@
 use Rattle.std.specs.Prelude.{◌≡◌, ℕ, ◌≤◌, ◌==◌, ◌&&◌, not, Bool, true, false, List, map, find, length, slice_index_or, Some}
 use Rattle.std.specs.List.{list_any}
 use Rattle.std.specs.Option.{option_map_or}
-use Rattle.line_geometry.specs.FlatStore.{FlatStore}
-use Rattle.lock_rules.specs.Sets.{has}
-use Rattle.lock_rules.specs.Access.{Grant, nobody, lets}
-use Rattle.lock_rules.specs.Lines.{Lines, conflicts, page_of_line}
+use Rattle.lines.specs.FlatStore.{FlatStore}
+use Rattle.lines.specs.Sets.{has}
+use Rattle.lines.specs.Access.{Grant, nobody, lets}
+use Rattle.lines.specs.Conflicts.{Lines, conflicts, page_of_line}
 use Rattle.flat_machine.specs.declared.machine.Plain.{Plain}
 use Rattle.flat_machine.specs.After.{after}
 use Rattle.flat_machine.specs.Agreement.{line_in}

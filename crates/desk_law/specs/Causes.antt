@@ -1,8 +1,8 @@
 -- Why turns and activations end.
-use Rattle.std.specs.Prelude.{◌≡◌, ℕ, ◌+◌, ◌<◌, ◌==◌, ◌⊎◌, map, Bool, true, false, IsTrue, List, [], ◌∷◌, ◌++◌, Some}
-use Rattle.line_geometry.specs.FlatStore.{FlatStore}
-use Rattle.lock_rules.specs.Sets.{has, size}
-use Rattle.lock_rules.specs.Waits.{victim_of}
+use Rattle.std.specs.Prelude.{◌≢◌, ◌≡◌, ℕ, ◌+◌, ◌<◌, ◌==◌, ◌⊎◌, map, Bool, true, false, IsTrue, List, [], ◌∷◌, ◌++◌, Some}
+use Rattle.lines.specs.FlatStore.{FlatStore}
+use Rattle.lines.specs.Sets.{has, size}
+use Rattle.lines.specs.Waits.{victim_of}
 use Rattle.flat_machine.specs.declared.machine.Plain.{Plain}
 use Rattle.flat_machine.specs.Row.{Outcome, Commit, Check, row}
 use Rattle.flat_machine.specs.After.{after}
@@ -42,7 +42,7 @@ EndsForCause word limit desk entry later counts Victim =
 EndsForCause word limit desk entry later counts (Waits holders) =
     IsAmong later.active (waiting_after entry counts.ran)
     × (conflicts_of later (waiting_after entry counts.ran) ≡ holders)
-    × (holders ≡ [] → ⊥)
+    × (holders ≢ [])
 EndsForCause word limit desk entry later counts (Committed steps printed) =
     (ran : ℕ) × (counts.ran ≡ ran + 1) × (steps ≡ entry.rows + ran + 1)
     × ((now : Plain) × RowIs desk.committed entry ran now Commit × (printed ≡ now.out))

@@ -1,6 +1,6 @@
 -- What a row and a commit make of an entry, a store and a desk.
 use Rattle.std.specs.Prelude.{◌+◌, false}
-use Rattle.line_geometry.specs.FlatStore.{FlatStore}
+use Rattle.lines.specs.FlatStore.{FlatStore}
 use Rattle.flat_machine.specs.declared.machine.Plain.{Plain}
 use Rattle.desk.specs.Desk.{Desk, Entry, with_entry, ended}
 use Rattle.desk.specs.Instruction.{Attempt, with_lowered}

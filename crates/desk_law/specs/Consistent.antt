@@ -1,11 +1,11 @@
 -- What holds of a desk at every moment.
 use Rattle.std.specs.Prelude.{◌≡◌, ℕ, ◌<◌, ◌≤◌, ◌==◌, ◌⊎◌, Bool, true, false, IsTrue, IsFalse, List, [], ◌∷◌, length, slice_index_or, Some, None}
-use Rattle.line_geometry.specs.Directory.{page_count}
-use Rattle.line_geometry.specs.FlatStore.{FlatStore, IsWhole}
-use Rattle.lock_rules.specs.Sets.{has, size}
-use Rattle.lock_rules.specs.Lines.{Lines, page_of_line}
-use Rattle.lock_rules.specs.Access.{Grant, nobody, lets}
-use Rattle.lock_rules.specs.Waits.{leads}
+use Rattle.lines.specs.Directory.{page_count}
+use Rattle.lines.specs.FlatStore.{FlatStore, IsWhole}
+use Rattle.lines.specs.Sets.{has, size}
+use Rattle.lines.specs.Conflicts.{Lines, page_of_line}
+use Rattle.lines.specs.Access.{Grant, nobody, lets}
+use Rattle.lines.specs.Waits.{leads}
 use Rattle.flat_machine.specs.declared.machine.Plain.{Plain}
 use Rattle.flat_machine.specs.After.{after}
 use Rattle.flat_machine.specs.Agreement.{all_of}

@@ -1,6 +1,6 @@
 -- The laws of the bytes as they are now, and what a commit of one is to another.
 use Rattle.std.specs.Prelude.{◌≡◌, ℕ, ◌==◌, if◌then◌else◌, IsTrue, IsFalse, List, [], Some}
-use Rattle.lock_rules.specs.Sets.{has}
+use Rattle.lines.specs.Sets.{has}
 use Rattle.flat_machine.specs.declared.machine.Plain.{Plain}
 use Rattle.flat_machine.specs.Row.{On, row}
 use Rattle.flat_machine.specs.After.{after}

@@ -1,11 +1,11 @@
 -- The laws of a desk at every moment.
 use Rattle.std.specs.Prelude.{◌≡◌, ℕ, ◌≤◌, ◌||◌, Bool, true, false, IsTrue, IsFalse, List, [], ◌∷◌, ◌++◌, slice_index_or, Some, None}
-use Rattle.line_geometry.specs.Directory.{is_fine_page}
-use Rattle.line_geometry.specs.FlatStore.{FlatStore, IsWhole}
-use Rattle.lock_rules.specs.Sets.{has}
-use Rattle.lock_rules.specs.Lines.{Lines, page_of_line}
-use Rattle.lock_rules.specs.Waits.{shown_cycle}
-use Rattle.lock_rules.specs.Access.{Grant, nobody, lets}
+use Rattle.lines.specs.Directory.{is_fine_page}
+use Rattle.lines.specs.FlatStore.{FlatStore, IsWhole}
+use Rattle.lines.specs.Sets.{has}
+use Rattle.lines.specs.Conflicts.{Lines, page_of_line}
+use Rattle.lines.specs.Waits.{shown_cycle}
+use Rattle.lines.specs.Access.{Grant, nobody, lets}
 use Rattle.flat_machine.specs.declared.machine.Program.{Program}
 use Rattle.desk.specs.declared.event.Event.{Event}
 use Rattle.desk.specs.Desk.{Desk, Entry, opened, with_entry}
@@ -44,7 +44,7 @@ abbrev pub IdleWhereInactive : Type 0
 IdleWhereInactive =
     (word : Word) (number limit : ℕ) (desk : Desk) → IsConsistent desk
     → (IsActive desk number → IsNotIdle (turn word number limit desk))
-    × ((IsActive desk number → ⊥) → turn word number limit desk ≡ Over desk no_counts Idle)
+    × ((¬ (IsActive desk number)) → turn word number limit desk ≡ Over desk no_counts Idle)
 
 -- an authority of each page permits a number all these lines
 pub record ArePermitted (authority : List Grant) (number : ℕ) (lines : Lines) : Type 0 where

@@ -10,3 +10,5 @@ pub mod Causes
 pub mod UnderWay
 pub mod Asking
 pub mod Rules
+pub mod Left
+pub mod Headline

@@ -1,6 +1,6 @@
 -- What is consistent of a desk beside its resident pages.
 use Rattle.std.specs.Prelude.{◌≤◌, length}
-use Rattle.line_geometry.specs.FlatStore.{IsWhole}
+use Rattle.lines.specs.FlatStore.{IsWhole}
 use Rattle.desk.specs.Desk.{Desk}
 use Rattle.desk.specs.Holdings.{numbers, waits_for}
 use Rattle.desk_law.specs.Consistent.{AreConsistent, IsHeld, HasNoCycle}

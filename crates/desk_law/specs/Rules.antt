@@ -1,8 +1,8 @@
 -- The rules of locks, each taken away from the desk that asks where it is refused.
 use Rattle.std.specs.Prelude.{ℕ, ◌==◌, ◌&&◌, ◌||◌, not, Bool, true, List, ◌++◌, map, filter, slice_index_or}
-use Rattle.lock_rules.specs.Sets.{meets}
-use Rattle.lock_rules.specs.Lines.{Lines, conflicts, with_whole_pages, page_of_line, pages_of}
-use Rattle.lock_rules.specs.Access.{nobody}
+use Rattle.lines.specs.Sets.{meets}
+use Rattle.lines.specs.Conflicts.{Lines, conflicts, with_whole_pages, page_of_line, pages_of}
+use Rattle.lines.specs.Access.{nobody}
 use Rattle.desk.specs.Desk.{Desk, Entry}
 use Rattle.desk.specs.Holdings.{wanted, requested, due_to}
 use Rattle.desk.specs.Instruction.{Turning, Going, Over, Committed, Attempt, with_grants}
@@ -63,9 +63,9 @@ without_ended_entries word attempt desk counts = pages_stay desk (asks_refused w
 
 -- The law: without each of five rules of locks isolation is false of the desk that asks where it is refused; and without the end of entries, consistency.
 pub record IsolationRestsOnRules : Type 0 where
-  pub whole_pages : RunsAreIsolatedBy without_whole_pages → ⊥
-  pub bits_off : RunsAreIsolatedBy without_bits_off → ⊥
-  pub read_meets_write : RunsAreIsolatedBy without_read_meets_write → ⊥
-  pub write_meets_read : RunsAreIsolatedBy without_write_meets_read → ⊥
-  pub kept_reads : RunsAreIsolatedBy without_kept_reads → ⊥
-  pub ended_entries : RunsStayConsistentBy without_ended_entries → ⊥
+  pub whole_pages : ¬ (RunsAreIsolatedBy without_whole_pages)
+  pub bits_off : ¬ (RunsAreIsolatedBy without_bits_off)
+  pub read_meets_write : ¬ (RunsAreIsolatedBy without_read_meets_write)
+  pub write_meets_read : ¬ (RunsAreIsolatedBy without_write_meets_read)
+  pub kept_reads : ¬ (RunsAreIsolatedBy without_kept_reads)
+  pub ended_entries : ¬ (RunsStayConsistentBy without_ended_entries)

@@ -1,9 +1,9 @@
 -- An attempt under way, and the contest of it where others hold what it asks for.
 use Rattle.std.specs.Prelude.{◌≡◌, ℕ, ◌≤◌, ◌==◌, ◌&&◌, not, Bool, true, List, ◌++◌, length, Some, slice_index_or}
-use Rattle.line_geometry.specs.FlatStore.{FlatStore, IsWhole}
-use Rattle.lock_rules.specs.Sets.{size}
-use Rattle.lock_rules.specs.Lines.{Lines}
-use Rattle.lock_rules.specs.Access.{Grant, nobody}
+use Rattle.lines.specs.FlatStore.{FlatStore, IsWhole}
+use Rattle.lines.specs.Sets.{size}
+use Rattle.lines.specs.Conflicts.{Lines}
+use Rattle.lines.specs.Access.{Grant, nobody}
 use Rattle.flat_machine.specs.declared.machine.Plain.{Plain}
 use Rattle.flat_machine.specs.Row.{row}
 use Rattle.flat_machine.specs.Touched.{touched}

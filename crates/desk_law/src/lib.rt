@@ -7,6 +7,7 @@ mod causes;
 mod consistency;
 mod current;
 mod isolation;
+mod run_law;
 
 pub use asking::{
     asking_is_isolated, asking_is_serial, asking_stays_consistent, asking_tells_the_machine,
@@ -23,3 +24,4 @@ pub use current::{
     rollbacks_give_back, rows_change_their_lines, rows_run_on_current,
 };
 pub use isolation::{commits_tell_the_machine, runs_are_isolated, side_by_side_is_serial};
+pub use run_law::{a_crash_leaves_a_prefix, a_doubt_leaves_all};

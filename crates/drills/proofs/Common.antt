@@ -15,7 +15,7 @@ pub use Rattle.desk.specs.declared.event.Event.{Event}
 pub use Rattle.flat_machine.specs.declared.machine.Program.{Program}
 pub use Rattle.job_calls.specs.Headline.{ByOpening, DidBy, FoundNoStore, HappenedTo, JobHasRun, HasRunFrom, StoodForNone, Untouched, job_desk, names_of, put_by}
 pub use Rattle.job_text.specs.declared.job.Job.{Job}
-pub use Rattle.line_geometry.specs.FlatStore.{FlatStore}
+pub use Rattle.lines.specs.FlatStore.{FlatStore}
 pub use Rattle.listing.proofs.PutsLemmas.{puts_on, puts_same, puts_stop, times_on}
 pub use Rattle.outside.specs.Causes.{Rose, CountsFault}
 pub use Rattle.outside.specs.MemoryDisk.{disk_calls, disk_faults, disk_first, disk_held, disk_images, disk_moment, disk_writes, Answers, FoundNoMemory, IsRecorded, WasTried, disk_origin, disk_plan, is_disk_starved}

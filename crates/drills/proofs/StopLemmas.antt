@@ -1,5 +1,5 @@
 -- What a run leaves on a disk that stops.
-use Rattle.run_law.proofs.HeadlineLemmas.{start_is_prefix}
+use Rattle.desk_law.proofs.HeadlineLemmas.{start_is_prefix}
 use Rattle.drills.proofs.Common.{◌≡◌, ℕ, ◌+◌, ◌*◌, ◌<◌, ◌≤◌, inl, inr, Bool, true, false, List, [], ◌∷◌, ◌++◌, length, map, take, rules, cond, refl, sym, ◌∙◌, ap, subst, arith, append-nil, append_assoc, Option, Some, None, ◌↔◌, Result, Ok, IsSome, unwrap_or, count_by, not, length-map, length-append, length-filter, sum_by-append, Ghosts, Rose, Elapses, FewerLater, held_of, disk_faults, disk_first, disk_held, disk_images, disk_moment, disk_writes, FlatStore, Program, header_of, most_lines, stands, Event, Committed, order_told, commits_seen, Job, Status, Stop, IsLeft, IsStop, IsStoppedRun, IsTold, all_fine, fine_order, ByOpening, DidBy, FoundNoStore, JobHasRun, HasRunFrom, HappenedTo, StoodForNone, TellsStore, Untouched, job_desk, names_of, call, StandsAt, ⊎_elim, cases_Bool, flat_map, AreTold, Prints, screen_printed, MemoryDisk, disk_origin, disk_plan, Origin, outcome_of, put_by, WereStopped, WereWritten, number_of}
 use Rattle.std.specs.Option.{option_and_then}
 use Rattle.outside.specs.declared.failed.Failed.{Failed as PutFailed}
@@ -13,10 +13,10 @@ use Rattle.desk.specs.Kept.{WritesMore}
 use Rattle.desk.specs.Lines.{Line, Open, line_text}
 use Rattle.desk.specs.Report.{closing_lines, event_lines, report}
 use Rattle.desk.specs.Run.{run, faulted, is_fine}
-use Rattle.run_law.specs.Headline.{IsPrefix}
-use Rattle.run_law.proofs.RunLemmas.{report_parts}
-use Rattle.run_law.proofs.SeenLemmas.{commits_in, commits_on, seen_lines}
-use Rattle.run_law.proofs.StepLemmas.{AreNames, run_plain}
+use Rattle.desk_law.specs.Headline.{IsPrefix}
+use Rattle.desk_law.proofs.RunLemmas.{report_parts}
+use Rattle.desk_law.proofs.SeenLemmas.{commits_in, commits_on, seen_lines}
+use Rattle.desk_law.proofs.StepLemmas.{AreNames, run_plain}
 use Rattle.job_calls.specs.declared.ended.Ended.{Ended}
 use Rattle.schedule_replay.proofs.PutsLemmas.{PrintedNow}
 use Rattle.schedule_replay.proofs.ReportLemmas.{no_closing}

@@ -1,5 +1,5 @@
 -- What a job leaves on a disk that stops at one of its writes.
-use Rattle.std.specs.Prelude.{◌≡◌, ◌⊎◌, ℕ, ◌+◌, ◌*◌, ◌%◌, ◌^◌, ◌<◌, ◌≤◌, true, false, List, [], length, map, take, count_by, Some}
+use Rattle.std.specs.Prelude.{◌≢◌, ◌≡◌, ◌⊎◌, ℕ, ◌+◌, ◌*◌, ◌%◌, ◌^◌, ◌<◌, ◌≤◌, true, false, List, [], length, map, take, count_by, Some}
 use Rattle.outside.specs.declared.world.Outside.{Ghosts}
 use Rattle.outside.specs.declared.memory_disk.MemoryDisk.{MemoryDisk}
 use Rattle.outside.specs.declared.memory_screen.MemoryScreen.{MemoryScreen}
@@ -8,7 +8,7 @@ use Rattle.outside.specs.MemoryDisk.{disk_faults, disk_first, disk_held, disk_pl
 use Rattle.outside.specs.MemoryScreen.{screen_printed}
 use Rattle.outside.specs.Plan.{outcome_of}
 use Rattle.outside.specs.Runs.{held_of}
-use Rattle.line_geometry.specs.FlatStore.{FlatStore}
+use Rattle.lines.specs.FlatStore.{FlatStore}
 use Rattle.flat_machine.specs.declared.machine.Program.{Program}
 use Rattle.flat_machine.specs.Serial.{serial}
 use Rattle.store_format.specs.Stands.{Stands, stands}
@@ -21,7 +21,7 @@ use Rattle.desk.specs.Kept.{WritesMore}
 use Rattle.desk.specs.Report.{event_lines}
 use Rattle.desk.specs.Run.{run, IsRunOf}
 use Rattle.desk.specs.Seen.{commits_seen}
-use Rattle.run_law.specs.Headline.{IsPrefix}
+use Rattle.desk_law.specs.Headline.{IsPrefix}
 use Rattle.job_text.specs.declared.job.Job.{Job}
 use Rattle.drills.specs.Stopping.{WereStopped, WereWritten, number_of}
 use Rattle.drills.specs.declared.stops.Stop.{Stop}
@@ -52,10 +52,10 @@ pub record IsStoppedRun (names : List (List ℕ)) (programs : List Program) (eve
 -- one run of the desk. At Done there is one for each commit, two writes were made for each, and all events went well where no fault was counted.
 pub record IsLeft {W : Type 0} (G : Ghosts W) (job : Job) (number : ℕ) (store : FlatStore) (call : Call W) : Type 0 where
   pub first : (image seen : List ℕ) → G.held call.after ≡ Some image → G.printed call.before ≡ Some [] → G.printed call.after ≡ Some seen → IsPrefix (begun job.programs.items job.events.items) number store call.order [] image seen
-  pub ran : (image seen : List ℕ) → G.held call.after ≡ Some image → G.printed call.before ≡ Some [] → G.printed call.after ≡ Some seen → (call.status ≡ Status.PutFault → ⊥)
+  pub ran : (image seen : List ℕ) → G.held call.after ≡ Some image → G.printed call.before ≡ Some [] → G.printed call.after ≡ Some seen → (call.status ≢ Status.PutFault)
       → IsStoppedRun (names_of job) job.programs.items job.events.items number (job_desk job (held_of G call.before) store) call.order (commits_seen seen) × (call.status ≡ Status.Done → commits_seen seen ≡ length call.order)
   pub writes : call.status ≡ Status.Done → WritesMore (G.writes call.before) (G.writes call.after) (2 * length call.order)
-  pub fine : call.status ≡ Status.Done → (Rose (G.disk_faults call.before) (G.disk_faults call.after) → ⊥) → call.order ≡ fine_order job (held_of G call.before) store
+  pub fine : call.status ≡ Status.Done → (¬ (Rose (G.disk_faults call.before) (G.disk_faults call.after))) → call.order ≡ fine_order job (held_of G call.before) store
 
 -- what is told of a run that ended so, over a disk that is to stop and a screen
 pub record IsTold (ended : Ended) (disk : MemoryDisk) (screen : MemoryScreen) (stop : Stop) : Type 0 where

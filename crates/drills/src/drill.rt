@@ -1,7 +1,7 @@
 // A drill: a job that is stopped at its writes in turn.
 ghost use Rattle.std.specs.Prelude.{◌≡◌, ◌⊎◌, ◌≤◌, ℕ, [], length, MatchOption, IfOk};
 ghost use Rattle.outside.specs.Causes.{Rose};
-ghost use Rattle.line_geometry.specs.FlatStore.{FlatStore};
+ghost use Rattle.lines.specs.FlatStore.{FlatStore};
 ghost use Rattle.store_format.specs.Stands.{Stands, stands};
 ghost use Rattle.listing.specs.Puts.{Puts, PutsTimes};
 ghost use Rattle.job_text.specs.Ready.{IsReady};
@@ -15,8 +15,8 @@ use super::stops::drill_stop;
 use call_status::{Status, job_from};
 use job_text::Job;
 use outside::{Failed, Joint, MemoryDisk, MemoryScreen, Outside, Source};
-use restart::Durable;
 use std::alloc::{AllocError, Global};
+use store::Durable;
 use store_calls::try_store;
 use text_line::TextLine;
 

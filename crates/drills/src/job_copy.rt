@@ -5,7 +5,7 @@ ghost use Rattle.job_calls.specs.Headline.{names_of};
 
 use flat_machine::Program;
 use job_text::Job;
-use owned_list::OwnedList;
+use lines::OwnedList;
 use std::alloc::{AllocError, Global};
 
 /// The same job, in memory of its own.

@@ -1,7 +1,7 @@
 // A job that runs on a disk in memory until the disk stops.
 ghost use Rattle.std.specs.Prelude.{◌≡◌, ◌*◌, ◌≤◌, ℕ, true, length, IfOk};
 ghost use Rattle.outside.specs.Causes.{Rose};
-ghost use Rattle.line_geometry.specs.FlatStore.{FlatStore};
+ghost use Rattle.lines.specs.FlatStore.{FlatStore};
 ghost use Rattle.store_format.specs.Stands.{Stands, stands};
 ghost use Rattle.desk.specs.Seen.{commits_seen};
 ghost use Rattle.job_text.specs.Ready.{IsReady};

@@ -11,7 +11,7 @@ pub use Rattle.file_runs.specs.FileRun.{AreBehind, Hands, IsBehind, IsQuiet, IsS
 pub use Rattle.file_runs.specs.FileWords.{DidOnFile, IsOnFile}
 pub use Rattle.file_runs.specs.ScreenWords.{AuditedOnScreen, AuditsBy, DidOnScreen, DrilledJob, DrilledOnScreen, DrillsBy, HandsDrill, HandsLoad, HandsStops, ListedOnScreen, LoadedOnScreen, TracedOnScreen, TracesBy, TriedOnScreen}
 pub use Rattle.job_calls.specs.Headline.{Happened, RanJob, Refused, job_desk, names_of}
-pub use Rattle.line_geometry.specs.FlatStore.{FlatStore}
+pub use Rattle.lines.specs.FlatStore.{FlatStore}
 pub use Rattle.outside.proofs.Common.{AreTold, AsksAndPuts, IsSome, Leaves, LeftAt, List, Moment, None, OnlyAsks, Option, Prints, Result, Some, Torn, [], ap, append_assoc, arith, drop, inl, inr, length, length-append, min, refl, subst, suc, sym, take, unwrap_or, written, zero, ℕ, ⊎_elim, ◌++◌, ◌+◌, ◌<◌, ◌∙◌, ◌∷◌, ◌≡◌, ◌≤◌, ◌⊎◌}
 pub use Rattle.outside.specs.Durable.{IsSure}
 pub use Rattle.outside.specs.Runs.{held_of}

@@ -7,8 +7,8 @@ use Rattle.std.proofs.lemmas.List.Sums.{sum_by-cons}
 use Rattle.std.proofs.lemmas.Bool.Decides.{nat_tests}
 use Rattle.outside.specs.Clock.{shown_by, start_of}
 use Rattle.outside.specs.Moments.{Moment}
-use Rattle.run_law.specs.Headline.{IsPrefix}
-use Rattle.run_law.proofs.HeadlineLemmas.{start_is_prefix}
+use Rattle.desk_law.specs.Headline.{IsPrefix}
+use Rattle.desk_law.proofs.HeadlineLemmas.{start_is_prefix}
 use Rattle.call_status.specs.Printed.{PrintsBy}
 use Rattle.call_status.specs.declared.status.Status.TheVariants as status
 use Rattle.desk.specs.Kept.{KeepsJournal, journal_in}

@@ -5,7 +5,7 @@ use Rattle.standby.specs.Followed.{IsAtNumber, followed_text, kept_text, well}
 use Rattle.standby.specs.State.{due}
 use Rattle.standby.specs.Text.{Content, later}
 use Rattle.standby.proofs.TellLemmas.{at_some}
-use Rattle.standby_calls.specs.Followed.{EndsOn, FollowedFrom, FollowsOn, IsDue, IsRefusal, OnStore}
+use Rattle.standby.specs.FollowCalled.{EndsOn, FollowedFrom, FollowsOn, IsDue, IsRefusal, OnStore}
 use Rattle.call_status.specs.declared.status.Status.TheVariants as status
 use Rattle.file_runs.specs.FileFollowed.{EndsAt, FollowedOnFile, FollowedText, FollowsBy, IsAfter, IsDueAt}
 use Rattle.file_runs.proofs.FileLemmas.{handed, held_is, leaves_at, nothing, only_asked, printed_so, stands_at, sure_now, told}

@@ -6,9 +6,9 @@ use Rattle.job_text.specs.declared.job.Job.{Job}
 use Rattle.call_status.specs.Statuses.{WentThrough}
 use Rattle.call_status.specs.declared.status.Status.TheVariants as status
 use Rattle.job_calls.specs.Big.{Loaded, RanBig, last_out, line_for}
-use Rattle.bundle_calls.specs.Audited.{Audited, AuditedBy}
-use Rattle.bundle_calls.specs.Bundled.{WithBundle}
-use Rattle.bundle_calls.specs.Traced.{TracedBy, TracedFrom}
+use Rattle.store_calls.specs.Audited.{Audited, AuditedBy}
+use Rattle.store_calls.specs.Bundled.{WithBundle}
+use Rattle.store_calls.specs.Traced.{TracedBy, TracedFrom}
 use Rattle.drills.specs.Drilled.{Drilled, DrilledTo, DrillsJob, PutsFirst, PutsWhole, broken, last_line, stop_lines, well}
 use Rattle.console.specs.Listed.{Listed}
 use Rattle.file_runs.proofs.FileLemmas.{handed, held_is, printed_so, ran_on_screen, stands_at, told, unprinted, unput}

@@ -3,7 +3,7 @@ use Rattle.file_runs.proofs.Common.{◌≡◌, inl, inr, ⊎_elim, ℕ, List, []
 use Rattle.call_status.specs.declared.status.Status.TheVariants as status
 use Rattle.store_calls.specs.Show.{HasNoRange, HasRange, PrintsRows, RangeShown}
 use Rattle.store_calls.specs.declared.show.Range.{Range}
-use Rattle.standby_calls.specs.Shipped.{IsNotKept, PutsText, ShippedFrom}
+use Rattle.standby.specs.ShipCalled.{IsNotKept, PutsText, ShippedFrom}
 use Rattle.file_runs.specs.FileShown.{HandsRecords, HandsRows, HasNoSuch, KeepsTooFew, ShipsBy, ShippedOnFile, ShownOnFile, ShowsBy}
 use Rattle.file_runs.proofs.FileLemmas.{handed, held_is, keeps, told, unprinted, unput}
 

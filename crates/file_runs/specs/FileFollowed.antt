@@ -1,13 +1,13 @@
 -- What following a ship text left of a file and a screen.
 use Rattle.std.specs.Prelude.{◌≡◌, ◌⊎◌, ℕ, ◌+◌, ◌≤◌, List, [], length, Some}
-use Rattle.line_geometry.specs.FlatStore.{FlatStore}
+use Rattle.lines.specs.FlatStore.{FlatStore}
 use Rattle.store_format.specs.Stands.{Stands, stands}
-use Rattle.restart.specs.Kept.{KeptStore}
-use Rattle.restart.specs.Shows.{Shows}
+use Rattle.store.specs.KeptStore.{KeptStore}
+use Rattle.store.specs.Shows.{Shows}
 use Rattle.standby.specs.Followed.{IsAtNumber, followed_text, kept_text}
 use Rattle.standby.specs.State.{due, state}
 use Rattle.standby.specs.Text.{Content, later}
-use Rattle.standby_calls.specs.Followed.{HasText, IsDueOn, IsNoText}
+use Rattle.standby.specs.FollowCalled.{HasText, IsDueOn, IsNoText}
 use Rattle.call_status.specs.Call.{Given}
 use Rattle.call_status.specs.Opening.{IsFaultAt}
 use Rattle.call_status.specs.declared.status.Status.{Status}

@@ -1,6 +1,6 @@
 -- What making a store left of a file and a screen.
 use Rattle.std.specs.Prelude.{◌≡◌, ℕ, ◌<◌, ◌⊎◌, List, [], length}
-use Rattle.line_geometry.specs.FlatStore.{FlatStore}
+use Rattle.lines.specs.FlatStore.{FlatStore}
 use Rattle.outside.specs.Bytes.{Torn}
 use Rattle.store_format.specs.Stands.{Stands, stands}
 use Rattle.call_status.specs.Call.{Given}

@@ -7,14 +7,14 @@ use Rattle.outside.specs.Clock.{shown_by, LeftAt}
 use Rattle.outside.specs.Moments.{Moment}
 use Rattle.outside.specs.Runs.{Leaves}
 use Rattle.store_format.specs.Stands.{Stands, stands}
-use Rattle.line_geometry.specs.FlatStore.{FlatStore}
+use Rattle.lines.specs.FlatStore.{FlatStore}
 use Rattle.desk.specs.declared.event.Event.{Event}
 use Rattle.desk.specs.Instruction.{Word}
 use Rattle.desk.specs.Kept.{KeepsJournal, journal_in}
 use Rattle.desk.specs.Run.{IsRunOf, run}
 use Rattle.desk.specs.Report.{report, event_lines}
 use Rattle.desk.specs.Commits.{begun, IsSerial}
-use Rattle.run_law.specs.Headline.{IsPrefix}
+use Rattle.desk_law.specs.Headline.{IsPrefix}
 use Rattle.job_text.specs.declared.job.Job.{Job}
 use Rattle.job_text.specs.Grammar.{job_of, content_of}
 use Rattle.call_status.specs.Call.{Given}

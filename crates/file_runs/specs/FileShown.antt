@@ -1,9 +1,9 @@
 -- What showing bytes of a store and shipping its records left of a file and a screen.
 use Rattle.std.specs.Prelude.{◌≡◌, ℕ, ◌≤◌, ◌<◌, ◌⊎◌, List, []}
 use Rattle.store_format.specs.Stands.{Stands, stands}
-use Rattle.line_geometry.specs.FlatStore.{FlatStore}
-use Rattle.restart.specs.Kept.{KeptStore, number_of}
-use Rattle.restart.specs.Shows.{Shows}
+use Rattle.lines.specs.FlatStore.{FlatStore}
+use Rattle.store.specs.KeptStore.{KeptStore, number_of}
+use Rattle.store.specs.Shows.{Shows}
 use Rattle.standby.specs.Shipped.{shipped}
 use Rattle.standby.specs.State.{behind}
 use Rattle.standby.specs.Text.{IsContent, text_of}
@@ -26,7 +26,7 @@ pub record HandsRows (range : Range) (first : List ℕ) (puts : List Deed) (end 
 
 -- the bytes stand for a store that hasn't the range
 abbrev pub HasNoSuch : Range → List ℕ → Type 0
-HasNoSuch range first = (number : ℕ) × (store : FlatStore) × (stands first ≡ Stands number store) × (IsInside store.directory range → ⊥)
+HasNoSuch range first = (number : ℕ) × (store : FlatStore) × (stands first ≡ Stands number store) × (¬ (IsInside store.directory range))
 
 -- what `show` handed to the screen, by its end; other ends don't come
 abbrev pub ShowsBy : Range → (first : List ℕ) (puts : List Deed) (end : Status) → Type 0

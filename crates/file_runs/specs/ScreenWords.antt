@@ -1,6 +1,6 @@
 -- What the words without a file handed to the screen: their disk is one in memory.
 use Rattle.std.specs.Prelude.{◌≡◌, ◌⊎◌, ◌++◌, ◌*◌, ◌≤◌, ℕ, List, [], min, length, Option, Some, Result, Ok}
-use Rattle.line_geometry.specs.FlatStore.{FlatStore}
+use Rattle.lines.specs.FlatStore.{FlatStore}
 use Rattle.outside.specs.Bytes.{Prints}
 use Rattle.outside.specs.declared.failed.Failed.{Failed}
 use Rattle.desk.specs.declared.event.Event.{Event}
@@ -12,7 +12,7 @@ use Rattle.desk.specs.Run.{IsRunOf, run}
 use Rattle.job_text.specs.Big.{IsBigJob}
 use Rattle.job_text.specs.Grammar.{Content, content_of, job_of}
 use Rattle.job_text.specs.declared.job.Job.{Job}
-use Rattle.touch_trace.specs.declared.answer.Trace.{Trace}
+use Rattle.serial_audit.specs.declared.answer.Trace.{Trace}
 use Rattle.serial_audit.specs.declared.auditing.Verdict.{Verdict}
 use Rattle.supervisor.specs.declared.session.Session.{Session}
 use Rattle.call_status.specs.Call.{Given}
@@ -23,9 +23,9 @@ use Rattle.call_status.specs.declared.status.Status.TheVariants as status
 use Rattle.job_calls.specs.Big.{last_out, line_for}
 use Rattle.job_calls.specs.Headline.{ByOpening, job_desk}
 use Rattle.job_calls.specs.declared.ended.Ended.{Ended}
-use Rattle.bundle_calls.specs.Audited.{IsChecked, IsUnchecked, verdict_line}
-use Rattle.bundle_calls.specs.Bundled.{WithBundle}
-use Rattle.bundle_calls.specs.Traced.{IsTraced, IsUntraced, trace_lines}
+use Rattle.store_calls.specs.Audited.{IsChecked, IsUnchecked, verdict_line}
+use Rattle.store_calls.specs.Bundled.{WithBundle}
+use Rattle.store_calls.specs.Traced.{IsTraced, IsUntraced, trace_lines}
 use Rattle.drills.specs.Drilled.{AreStops, broken, last_line, stop_lines, try_order, well}
 use Rattle.drills.specs.declared.drill.Pair.{Pair}
 use Rattle.console.specs.Listed.{listings_of}

@@ -9,15 +9,15 @@ pub use Rattle.std.specs.List.{flat_map, range_with_len}
 pub use Rattle.std.specs.Prelude.{Bool, List, None, Option, Some, [], drop, false, if◌then◌else◌, length, map, nat_le, nat_lt, option_and_then, option_map, refl, replicate, slice_index, slice_set, suc, take, true, zero, ℕ, ◌&&◌, ◌++◌, ◌+◌, ◌-◌, ◌<◌, ◌∷◌, ◌≡◌, ◌≤◌, ◌⊎◌, cond, not, pos, slice_index_or, slice_range, ◌%◌, ◌*ℤ◌, ◌*◌, ◌/◌, ◌^◌}
 pub use Rattle.byteorder.specs.Endian.{big_bytes, big_number}
 pub use Rattle.byteorder.specs.Numbers.{length-bytes_high_first}
-pub use Rattle.line_geometry.proofs.Within.{line-below, line-bytes-pos, segment-within}
-pub use Rattle.line_geometry.specs.Directory.{Layout, byte_count, is_fine_page, length_of, start_of}
-pub use Rattle.line_geometry.specs.FlatStore.{FlatStore, IsWhole}
-pub use Rattle.line_geometry.specs.declared.directory.PageSize.TheVariants.{Two}
-pub use Rattle.lock_rules.proofs.Sets.{has-append, has-range, has_left, has_right, in_range}
-pub use Rattle.lock_rules.specs.Lines.{Lines, both, no_lines, with_whole_pages}
-pub use Rattle.lock_rules.specs.Sets.{has}
-pub use Rattle.owned_list.proofs.Overlay.{length-overlaid, overlaid_before, overlaid_behind, overlaid_both}
-pub use Rattle.owned_list.specs.Overlay.{overlaid}
+pub use Rattle.lines.proofs.WithinLemmas.{line-below, line-bytes-pos, segment-within}
+pub use Rattle.lines.specs.Directory.{Layout, byte_count, is_fine_page, length_of, start_of}
+pub use Rattle.lines.specs.FlatStore.{FlatStore, IsWhole}
+pub use Rattle.lines.specs.declared.line_geometry.PageSize.TheVariants.{Two}
+pub use Rattle.lines.proofs.SetLemmas.{has-append, has-range, has_left, has_right, in_range}
+pub use Rattle.lines.specs.Conflicts.{Lines, both, no_lines, with_whole_pages}
+pub use Rattle.lines.specs.Sets.{has}
+pub use Rattle.lines.proofs.OverlayLemmas.{length-overlaid, overlaid_before, overlaid_behind, overlaid_both}
+pub use Rattle.lines.specs.Overlay.{overlaid}
 unfoldable pub use Rattle.romp_table.specs.Decode.{row_numbered}
 pub use Rattle.flat_machine.specs.Access.{LiesWithin}
 pub use Rattle.flat_machine.specs.After.{after, clear, next_state, start}

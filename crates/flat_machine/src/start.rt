@@ -1,11 +1,10 @@
 ghost use Rattle.std.specs.Prelude.{◌≡◌, ◌≤◌, ◌-◌, ◌++◌, replicate, length, IfOk};
-ghost use Rattle.line_geometry.specs.Directory.{Layout, byte_count};
+ghost use Rattle.lines.specs.Directory.{Layout, byte_count};
 ghost use Rattle.flat_machine.specs.After.{start, first_registers};
 
 use super::machine::{Cs, Plain, Program};
 use super::printed::Printed;
-use line_geometry::Directory;
-use owned_list::OwnedList;
+use lines::{Directory, OwnedList};
 use std::alloc::{AllocError, Global};
 
 impl Plain {

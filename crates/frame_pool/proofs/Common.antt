@@ -8,15 +8,15 @@ pub use Rattle.std.proofs.lemmas.List.Quantifiers.{position-Some}
 pub use Rattle.std.specs.List.{list_any, prefix_len, range_with_len}
 pub use Rattle.std.specs.Option.{option_map_or}
 pub use Rattle.std.specs.Prelude.{Err, IfSome, IsOk, IsSome, Ok, Option, Result, cond, find, fold, if◌then◌else◌, is_ok, is_some, nat_le, nat_lt, not, option_to_list, position, remove, replicate, slice_index, slice_index_or, slice_range, slice_set, unwrap_or, ◌&&◌, ◌==◌, ◌||◌}
-pub use Rattle.line_geometry.specs.LineSets.{IsOfPage, lines_of_bits, union}
-unfoldable pub use Rattle.line_geometry.specs.LineSets.{passing}
-pub use Rattle.line_geometry.specs.Segments.{page_bytes}
-pub use Rattle.line_geometry.specs.declared.directory.PageSize.{PageSize}
-pub use Rattle.lock_rules.proofs.Sets.{has-append, has-filter, has-range}
-pub use Rattle.lock_rules.specs.Resident.{first_out, taken_out}
-pub use Rattle.lock_rules.specs.Sets.{has}
-pub use Rattle.owned_list.proofs.Overlay.{length-overlaid}
-pub use Rattle.owned_list.specs.Overlay.{overlaid}
+pub use Rattle.lines.specs.LineSets.{IsOfPage, lines_of_bits, union}
+unfoldable pub use Rattle.lines.specs.LineSets.{passing}
+pub use Rattle.lines.specs.Segments.{page_bytes}
+pub use Rattle.lines.specs.declared.line_geometry.PageSize.{PageSize}
+pub use Rattle.lines.proofs.SetLemmas.{has-append, has-filter, has-range}
+pub use Rattle.lines.specs.Resident.{first_out, taken_out}
+pub use Rattle.lines.specs.Sets.{has}
+pub use Rattle.lines.proofs.OverlayLemmas.{length-overlaid}
+pub use Rattle.lines.specs.Overlay.{overlaid}
 pub use Rattle.frame_pool.specs.Places.{CameIn, Places, frame_of_index, index_out, left, place_of}
 pub use Rattle.frame_pool.specs.PlacesView.{places_of}
 pub use Rattle.frame_pool.specs.Pool.{Brought, emptied, frame_at, frame_bytes, gone, paging_after, laid, line_kept, line_laid, marked_in, marks_at, page_at, page_out, with_bytes, with_marks, with_room}

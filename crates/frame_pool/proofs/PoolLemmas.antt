@@ -1,6 +1,6 @@
 -- What a step of the pool needs and leaves.
 use Rattle.frame_pool.proofs.Common.{◌≡◌, ℕ, zero, suc, ◌+◌, ◌*◌, ◌<◌, ◌≤◌, Bool, true, false, List, [], ◌∷◌, length, refl, sym, ◌∙◌, ap, arith, Some, None, All, vec_len, ◌==◌, ◌||◌, not, cond, nat_lt, position, find, remove, IfSome, slice_index, slice_set, if◌then◌else◌, Option, unwrap_or, option_to_list, prefix_len, list_any, option_map_or, overlaid, nat_tests, All-from_get_or, position-Some, page_bytes, IsOfPage, has, first_out, taken_out, FramePool, Pool, private_frames, frame_count, Places, left, index_out, CameIn, places_of, is_apart, frame_at, page_at, marks_at, frame_bytes, paging_after, gone, page_out, with_room, Brought, emptied, pool_of}
-use Rattle.line_geometry.proofs.LineSetLemmas.{of_page-below}
+use Rattle.lines.proofs.LineSetLemmas.{of_page-below}
 use Rattle.frame_pool.proofs.ApartLemmas.{first-apart, turned, differs, has-at, has-push_last, or_none}
 use Rattle.frame_pool.proofs.SoundLemmas.{resident-in_frame, page-within, frame-of_store, page_part}
 use Rattle.frame_pool.proofs.PlaceLemmas.{none-room, index-out_below}

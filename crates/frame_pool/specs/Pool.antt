@@ -1,12 +1,12 @@
 -- The pool: the bytes of all frames, the resident pages and their frames, the marked lines, and paging space.
 use Rattle.std.specs.Prelude.{◌≡◌, ℕ, ◌+◌, ◌-◌, ◌*◌, ◌/◌, ◌≤◌, ◌<◌, ◌==◌, nat_lt, not, if◌then◌else◌, List, [], ◌∷◌, length, replicate, find, fold, slice_range, slice_set, slice_index_or, option_to_list, Option, Some, None}
 use Rattle.std.specs.Option.{option_map_or}
-use Rattle.owned_list.specs.Overlay.{overlaid}
-use Rattle.line_geometry.specs.declared.directory.PageSize.{PageSize}
-use Rattle.line_geometry.specs.Segments.{page_bytes}
-use Rattle.line_geometry.specs.LineSets.{union, difference, between}
-use Rattle.lock_rules.specs.Sets.{has}
-use Rattle.lock_rules.specs.Resident.{brought, taken_out}
+use Rattle.lines.specs.Overlay.{overlaid}
+use Rattle.lines.specs.declared.line_geometry.PageSize.{PageSize}
+use Rattle.lines.specs.Segments.{page_bytes}
+use Rattle.lines.specs.LineSets.{union, difference, between}
+use Rattle.lines.specs.Sets.{has}
+use Rattle.lines.specs.Resident.{brought, taken_out}
 use Rattle.frame_pool.specs.Sizes.{private_frames, frame_count, line_size, line_place}
 use Rattle.frame_pool.specs.declared.model.Pool.{Pool}
 

@@ -1,6 +1,6 @@
 -- How the places of pages agree.
 use Rattle.std.specs.Prelude.{◌≡◌, ℕ, ◌+◌, ◌≤◌, ◌<◌, ◌&&◌, not, Bool, true, List, [], ◌∷◌, length, Some, None, is_some}
-use Rattle.lock_rules.specs.Sets.{has}
+use Rattle.lines.specs.Sets.{has}
 use Rattle.frame_pool.specs.Sizes.{private_frames, frame_count}
 use Rattle.frame_pool.specs.Places.{Places, place_of, page_at}
 

@@ -1,6 +1,5 @@
 // What contracts see of a pool.
-use line_geometry::{LineSet, PageSize};
-use owned_list::OwnedList;
+use lines::{LineSet, OwnedList, PageSize};
 
 /// A pool, as contracts see it: the size of a page and the number of frames for pages of the store; the bytes of all
 /// frames, end to end, those of private storage first; the resident pages in the order in which they came; the frame of

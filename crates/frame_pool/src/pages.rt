@@ -1,11 +1,11 @@
 // Which pages of a store are resident, and in which frames.
 ghost use Rattle.std.specs.Prelude.{◌≡◌, ◌+◌, ◌<◌, ◌≤◌, ◌^◌, ◌==◌, false, not, length, position, option_to_list, vec_len, vec_capacity, remove, slice_index_or, IfOk, None, replicate};
 ghost use Rattle.std.specs.List.{range_with_len};
-ghost use Rattle.lock_rules.specs.Sets.{has};
+ghost use Rattle.lines.specs.Sets.{has};
 ghost use Rattle.frame_pool.specs.Sound.{IsSound};
 
 use super::sizes::private_frames;
-use line_geometry::PageSize;
+use lines::PageSize;
 use std::alloc::{AllocError, Global};
 
 /// Which pages of a store are resident, in the order in which they came; the frame of each page and the page of each

@@ -1,16 +1,15 @@
 ghost use Rattle.std.specs.Prelude.{◌≡◌, ◌+◌, ◌*◌, ◌<◌, ◌≤◌, ◌==◌, if◌then◌else◌, [], false, length, slice_index, vec_len, replicate, is_some, fold, slice_range, IfOk, IfSome};
 ghost use Rattle.std.specs.Borrow.{sem};
-ghost use Rattle.lock_rules.specs.Sets.{has};
-ghost use Rattle.owned_list.specs.Overlay.{overlaid};
-ghost use Rattle.line_geometry.specs.Segments.{page_bytes};
-ghost use Rattle.line_geometry.specs.LineSets.{between};
+ghost use Rattle.lines.specs.Sets.{has};
+ghost use Rattle.lines.specs.Overlay.{overlaid};
+ghost use Rattle.lines.specs.Segments.{page_bytes};
+ghost use Rattle.lines.specs.LineSets.{between};
 ghost use Rattle.frame_pool.specs.Sizes.{private_frames, frame_count, line_place, line_size};
 
 use super::frame_bytes::FrameBytes;
 use super::pages::StorePages;
 use super::sizes::{line_at, line_bytes, line_place, page_bytes, page_place, private_frames};
-use line_geometry::{LineSet, PageSize};
-use owned_list::OwnedList;
+use lines::{LineSet, OwnedList, PageSize};
 use std::alloc::{AllocError, Global};
 
 /// What bringing a page in came to: the frame that it is in, and the page that went out for it.

@@ -1,9 +1,9 @@
 // The sizes of pages and lines.
 ghost use Rattle.std.specs.Prelude.{◌≡◌, ◌+◌, ◌*◌, ◌/◌, ◌<◌, ◌≤◌, ◌^◌};
-ghost use Rattle.line_geometry.specs.Segments.{page_bytes};
+ghost use Rattle.lines.specs.Segments.{page_bytes};
 ghost use Rattle.frame_pool.specs.Sizes.{private_frames, line_size, line_place};
 
-use line_geometry::PageSize;
+use lines::PageSize;
 
 /// The bytes of a page.
 pub fn page_bytes(size: PageSize) -> usize

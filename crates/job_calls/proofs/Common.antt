@@ -21,7 +21,7 @@ pub use Rattle.flat_machine.specs.Serial.{Activation, serial}
 pub use Rattle.flat_machine.specs.declared.machine.Program.{Program}
 pub use Rattle.job_text.specs.Ready.{IsEventAmong, IsName}
 pub use Rattle.job_text.specs.declared.job.Job.{Job}
-pub use Rattle.line_geometry.specs.FlatStore.{FlatStore}
+pub use Rattle.lines.specs.FlatStore.{FlatStore}
 pub use Rattle.outside.proofs.Runs.{elapses-trans, leaves_on}
 pub use Rattle.outside.specs.Bytes.{AreTold, Prints}
 pub use Rattle.outside.specs.Causes.{Rose, FailsOnlyCounted}

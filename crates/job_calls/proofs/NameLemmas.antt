@@ -2,7 +2,7 @@
 use Rattle.job_calls.proofs.Common.{◌≢◌, ℕ, suc, ◌<◌, List, [], ◌∷◌, length, refl, arith, All, IsUnbroken, Event, IsEventAmong, IsName, IsAsked}
 use Rattle.std.proofs.lemmas.Bool.Decides.{nat_tests}
 use Rattle.desk.specs.declared.event.Event.TheVariants.{Begin, Turn, Checkpoint, Crash}
-use Rattle.run_law.proofs.Unbroken.{unbroken_more}
+use Rattle.desk_law.proofs.Unbroken.{unbroken_more}
 use Rattle.job_text.proofs.NameLemmas.{name_no_feed}
 
 bytes-unbroken : (bytes : List ℕ) → All (λ byte. byte ≢ 10) bytes → IsUnbroken bytes

@@ -2,12 +2,12 @@
 use Rattle.job_calls.proofs.Common.{Result, Ok, Err, IsErr, IsSome, IsTrue, unwrap_or, Ghosts, Failed, Prints, Rose, Elapses, OnlyAsks, FewerLater, Leaves, held_of, elapses-trans, leaves_on, FlatStore, Activation, serial, header_of, most_lines, Standing, Stands, stands, Event, Desk, opened, Word, Doubt, run, faulted, IsRunOf, Line, line_text, Open, number_after, begun, IsSerial, IsSessionOpened, activity, session_desk, order_of, Session, ghosts, Replayed, PrintsEarlier, HasOpened, InDoubt, text_of, Reports, Replays, PrintedNow, to_since, Job, Status, status_of_replay, Call, Given, call, TellsStore, StillTold, EndsBy, DidBy, JobHasRun, HasRunFrom, DoubtStands, Happened, HappenedTo, IsOfStart, RanJob, RunsFrom, put_by, names_of, job_desk, ◌≡◌, ◌⊎◌, ℕ, ◌+◌, ◌%◌, ◌^◌, inl, inr, Bool, true, false, List, [], ◌∷◌, ◌++◌, length, take, refl, sym, ◌∙◌, ap, subst, arith, append-nil, Option, Some, None, opening, span, Opening, Span, end_of, lines_of, opening_of, report_of, report_lines_of, IfInDoubt, job_opening, fixed_of}
 use Rattle.std.proofs.lemmas.Bool.{cases_lt}
 use Rattle.outside.proofs.Prints.{prints_well, prints_broken}
-use Rattle.restart.specs.Kept.{number_of}
+use Rattle.store.specs.KeptStore.{number_of}
 use Rattle.desk.specs.Crash.{standing_of}
 use Rattle.desk.proofs.SerialLaw.{run_serial}
-use Rattle.run_law.specs.Headline.{IsFirst, IsPrefix}
-use Rattle.run_law.specs.Left.{IsLeft, IsStage}
-use Rattle.run_law.proofs.HeadlineLemmas.{left_is_prefix, doubt_is_whole, stage_is_first}
+use Rattle.desk_law.specs.Headline.{IsFirst, IsPrefix}
+use Rattle.desk_law.specs.Left.{IsLeft, IsStage}
+use Rattle.desk_law.proofs.HeadlineLemmas.{left_is_prefix, doubt_is_whole, stage_is_first}
 use Rattle.supervisor.specs.ShownLaws.{shown-stands}
 use Rattle.schedule_replay.specs.Puts.{PutsTimes, shown_of}
 use Rattle.schedule_replay.specs.RanTo.{RanTo}

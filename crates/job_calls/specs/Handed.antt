@@ -20,7 +20,7 @@ IsClosedAt _ closed = ⊥
 -- a session is handed on with its order, closed as the status says; without one the events were not run to their end
 abbrev pub HandsOn : List (ℕ × ℕ) → Option Session → Status → Type 0
 HandsOn order (Some session) status = (order_of session ≡ order) × IsClosedAt status (is_closed session)
-HandsOn order None status = WentThrough status → ⊥
+HandsOn order None status = ¬ (WentThrough status)
 
 -- A session fits an outside: it is sound, the bytes that are told are enough for its store, and at most 10,000 turns were asked of it. So each of
 -- its calls may be asked of it with this outside, but for a begin behind the last for which it has room.

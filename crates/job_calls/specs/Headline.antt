@@ -6,7 +6,7 @@ use Rattle.outside.specs.Bytes.{Prints}
 use Rattle.outside.specs.Causes.{Rose}
 use Rattle.outside.specs.Moments.{Elapses}
 use Rattle.outside.specs.Runs.{OnlyAsks, Leaves, held_of}
-use Rattle.line_geometry.specs.FlatStore.{FlatStore}
+use Rattle.lines.specs.FlatStore.{FlatStore}
 use Rattle.flat_machine.specs.Serial.{serial}
 use Rattle.store_format.specs.Header.{header_of, most_lines}
 use Rattle.store_format.specs.Stands.{Stands, stands}
@@ -17,7 +17,7 @@ use Rattle.desk.specs.Instruction.{Word}
 use Rattle.desk.specs.Run.{run, faulted, IsRunOf}
 use Rattle.desk.specs.Lines.{Line, line_text, Open}
 use Rattle.desk.specs.Commits.{begun, IsSerial}
-use Rattle.run_law.specs.Headline.{IsFirst, IsPrefix}
+use Rattle.desk_law.specs.Headline.{IsFirst, IsPrefix}
 use Rattle.schedule_replay.specs.Puts.{PutsTimes, shown_of}
 use Rattle.schedule_replay.specs.Ran.{IfInDoubt, PrintsEarlier, text_of}
 use Rattle.schedule_replay.specs.RanTo.{RanTo}
@@ -75,7 +75,7 @@ pub record RunsFrom {W : Type 0} (G : Ghosts W) (job : Job) (number : ℕ) (stor
   pub session : Session
   pub to : RanTo ghosts G end lines (faulted taken) session (span call.before call.after)
   -- all words are fine where the disk's faults didn't rise
-  pub all_fine : (Rose (G.disk_faults call.before) (G.disk_faults call.after) → ⊥) → faulted taken ≡ 0
+  pub all_fine : (¬ (Rose (G.disk_faults call.before) (G.disk_faults call.after))) → faulted taken ≡ 0
   -- the commits are those of the job's activations, one after another, and so are the commit lines
   pub serial_run : IsSerial (begun job.programs.items job.events.items) number store call.order lines end.committed end.closed
   -- while the desk is open the disk's bytes stand for the number of commits and the store that they leave one after another
@@ -111,7 +111,7 @@ HasRunFrom G job call session = (number : ℕ) (store : FlatStore) → TellsStor
 
 -- a disk that stood for a store isn't found damaged
 abbrev pub StoodForNone : {W : Type 0} → Ghosts W → W → Type 0
-StoodForNone G before = (number : ℕ) (store : FlatStore) → TellsStore G before number store → ⊥
+StoodForNone G before = (number : ℕ) (store : FlatStore) → ¬ (TellsStore G before number store)
 
 -- the text was had whole, and means a job whose events were run; the session runs its programs
 pub record RanJob {W : Type 0} (G : Ghosts W) (given : Given) (call : Call W) (session : Option Session) : Type 0 where

@@ -30,9 +30,9 @@ pub use Rattle.romp_asm.proofs.MadeLemmas.{IsByte, IsLegalPlace, byte_body, imag
 pub use Rattle.romp_asm.proofs.WindowLemmas.{assembled_windows}
 pub use Rattle.romp_asm.specs.Layout.{Parts, parts_of}
 unfoldable pub use Rattle.romp_asm.specs.Layout.{image_behind}
-pub use Rattle.romp_link.proofs.ExportLemmas.{linked_alone, linked_made}
-pub use Rattle.romp_link.specs.Linked.{exported, linked}
-unfoldable pub use Rattle.romp_link.specs.Linked.{fault_among, fault_behind}
+pub use Rattle.romp_asm.proofs.ExportLemmas.{linked_alone, linked_made}
+pub use Rattle.romp_asm.specs.Linked.{exported, linked}
+unfoldable pub use Rattle.romp_asm.specs.Linked.{fault_among, fault_behind}
 pub use Rattle.job_text.specs.Big.{account_of, batch, batches, big_events, big_sources, move_of, other_of, transfer, turns_of}
 pub use Rattle.job_text.specs.Form.{AreBlank, FaultsEndTheReading, HasEvents, HasPrograms, HasSources, HaveNoMark, IsBegin, IsBlank, IsDrain, IsEventLine, IsFramesLine, IsJobText, IsLimit, IsNoBegin, IsOnly, IsProgram, IsSingle, IsTurn}
 pub use Rattle.job_text.specs.Grammar.{Content, content_of, job_of, last_part, then_read, whole}

@@ -11,7 +11,7 @@ use Rattle.asm_parse.specs.Statement.{is_label}
 use Rattle.asm_parse.specs.Text.{lines_of, statements_from}
 use Rattle.asm_parse.specs.Token.{tokens}
 use Rattle.romp_asm.specs.Layout.{Parts}
-use Rattle.romp_link.specs.Linked.{linked}
+use Rattle.romp_asm.specs.Linked.{linked}
 use Rattle.job_text.specs.Grammar.{Content, job_of}
 use Rattle.job_text.specs.Reading.{four_of, rounds_of}
 
@@ -29,7 +29,7 @@ IsOnly word line = tokens line ≡ Ok (Word word ∷ [])
 
 -- no line is `end` or `.part` alone
 abbrev pub HaveNoMark : List (List ℕ) → Type 0
-HaveNoMark lines = AllByRecursion (λ line. (IsOnly (codes "end") line → ⊥) × (IsOnly (codes ".part") line → ⊥)) lines
+HaveNoMark lines = AllByRecursion (λ line. (¬ (IsOnly (codes "end") line)) × (¬ (IsOnly (codes ".part") line))) lines
 
 -- source lines and the statements of their sources, with a `.part` alone between two; the first line has this number
 abbrev pub HasSources : (number : ℕ) → (lines : List (List ℕ)) → List (List Statement) → Type 0

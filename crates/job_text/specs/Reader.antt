@@ -7,7 +7,7 @@ use Rattle.asm_parse.specs.Answers.{IsFaultOf}
 use Rattle.asm_parse.specs.Statement.{statement_by}
 use Rattle.asm_parse.specs.Text.{at_line}
 use Rattle.romp_asm.specs.Layout.{parts_of}
-use Rattle.romp_link.specs.Linked.{linked}
+use Rattle.romp_asm.specs.Linked.{linked}
 use Rattle.job_text.specs.declared.job.JobFault.{JobFault}
 use Rattle.job_text.specs.declared.reader.Reader.{Reader}
 use Rattle.job_text.specs.declared.stage.Stage.{Stage}

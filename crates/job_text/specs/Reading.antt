@@ -11,7 +11,7 @@ use Rattle.asm_parse.specs.Statement.{is_label, line_of}
 use Rattle.asm_parse.specs.Text.{at_line}
 use Rattle.asm_parse.specs.Token.{tokens}
 use Rattle.romp_asm.specs.Layout.{Parts}
-use Rattle.romp_link.specs.Linked.{linked}
+use Rattle.romp_asm.specs.Linked.{linked}
 use Rattle.job_text.specs.declared.stage.Stage.{Stage}
 use Rattle.job_text.specs.declared.stage.Stage.TheVariants.{Frames, Programs, Source, Schedule, Ended}
 

@@ -5,7 +5,7 @@ ghost use Rattle.job_text.specs.Faults.{job_fault};
 use arrayvec::ArrayVec;
 use desk::Event;
 use flat_machine::Program;
-use romp_link::LinkFault;
+use romp_asm::LinkFault;
 use std::alloc::{AllocError, AllocFailed};
 
 /// The name of a program: 1 to 31 bytes.

@@ -9,7 +9,7 @@ use super::stage::Stage;
 use asm_parse::{LineFault, Statements, Token, Word, tokens_into};
 use desk::Event;
 use flat_machine::Program;
-use romp_link::link;
+use romp_asm::link;
 use std::alloc::{AllocError, Global};
 use std::mem;
 
@@ -51,7 +51,7 @@ pub(crate) struct Reader {
 }
 
 impl Reader {
-    ghost use Rattle.romp_link.specs.Linked.{linked};
+    ghost use Rattle.romp_asm.specs.Linked.{linked};
     ghost use Rattle.job_text.specs.Reading.{begin_line, begin_of, drain_line, ended_line, frames_line, line_read, nothing_read, program_begins, program_ends, programs_line, schedule_line, single_line, source_ends, sources_of, turn_line, with_event};
     ghost use Rattle.job_text.specs.Reader.{IsRead, IsStep, found_read, held, reading_of, source_found, tokens_read};
 

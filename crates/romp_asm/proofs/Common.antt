@@ -9,7 +9,7 @@ pub use Rattle.std.proofs.lemmas.List.{drop_all, get_or-map, get_or_append_left,
 pub use Rattle.std.proofs.lemmas.List.Sums.{fold_push, sum_by-append, sum_by-cons, sum_by-take-le, sum_by_push}
 pub use Rattle.std.proofs.lemmas.Result.{err_from_is_err_and}
 pub use Rattle.std.specs.BTreeMap.{BTreeMap, UpdatesBy, get_by}
-pub use Rattle.std.specs.List.{AllByRecursion, fold, list_any}
+pub use Rattle.std.specs.List.{AllByRecursion, fold, list_any, flat_map, position_from}
 pub use Rattle.std.specs.Option.{IsSomeAnd, option_map, option_map_or, option_or}
 pub use Rattle.std.specs.Prelude.{option_and_then, slice_get, if◌then◌else◌}
 pub use Rattle.std.specs.Str.{bytes_eq}
@@ -27,7 +27,7 @@ pub use Rattle.romp_asm.specs.Laid.{AreReadAs, IsLaid, IsReadAs, LaidTo, image_j
 pub use Rattle.romp_asm.specs.Layout.{Parts, assembled, entry_by, entry_of, fitted, has_label_of, is_entry, is_free, parts_of, piece_before, piece_of, takes_window, windows_of, with_entry, with_image, with_window}
 unfoldable pub use Rattle.romp_asm.specs.Layout.{image_behind}
 pub use Rattle.romp_asm.specs.Size.{SameMnemonic, form_size, size_of, total}
-pub use Rattle.romp_asm.specs.Sources.{defines, meant, name_in, named, renamed_body, renamed_expr, renamed_operand}
+pub use Rattle.romp_asm.specs.Sources.{defines, meant, name_in, named, renamed_body, renamed_expr, renamed_operand, joined}
 unfoldable pub use Rattle.romp_asm.specs.Sources.{joined_from}
 pub use Rattle.romp_asm.specs.Value.{address_of, addresses_of, is_labelled, known_before, known_of, knowns_of, result_map, value_of}
 unfoldable pub use Rattle.romp_asm.specs.Value.{address_from}
@@ -36,3 +36,7 @@ pub use Rattle.romp_asm.specs.declared.value.Scope.{Scope}
 pub use Rattle.romp_asm.specs.declared.value.Table.{Table}
 pub use Rattle.std.proofs.lemmas.Grind.{common_steps}
 pub use Rattle.std.proofs.lemmas.Slice.Eq.{bytes_eq-Decides}
+pub use Rattle.romp_asm.specs.Exported.{AreExports, HasLabels, told_of}
+pub use Rattle.romp_asm.specs.Linked.{export, export_fault, exported, exporter, gives, linked, with_exports}
+unfoldable pub use Rattle.romp_asm.specs.Linked.{fault_among, fault_behind}
+pub use Rattle.romp_asm.specs.declared.exports.Exports.{Exports}

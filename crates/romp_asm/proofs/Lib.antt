@@ -12,3 +12,4 @@ pub mod WindowLemmas
 pub mod RenamedLemmas
 pub mod SourcesLemmas
 pub mod Lemmas
+pub mod ExportLemmas

@@ -9,3 +9,6 @@ pub mod Layout
 pub mod Laid
 pub mod Source
 pub mod Sources
+pub mod Linked
+pub mod LinkAnswers
+pub mod Exported

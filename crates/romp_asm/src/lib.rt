@@ -2,14 +2,21 @@
 #![tactic(auto)]
 
 mod encoding;
+mod exports;
+mod fault;
 mod field;
 mod instruction;
 mod law;
 mod layout;
+mod link_law;
 mod output;
+mod romp_link;
 mod size;
 mod value;
 
+pub use fault::LinkFault;
 pub use law::size_is_by_mnemonic;
 pub use layout::{assemble, assemble_sources, assemble_text};
+pub use link_law::a_source_without_exports_is_as_before;
+pub use romp_link::link;
 pub use value::{Givers, LabelKey, label_key};

@@ -11,7 +11,7 @@ use super::size::size_of;
 use super::value::{Scope, value_of};
 use asm_parse::{Body, Expr, LineFault};
 use flat_machine::{Program, Window};
-use owned_list::OwnedList;
+use lines::OwnedList;
 use std::alloc::{AllocError, Global};
 
 /// The most bytes of an image.

@@ -1,7 +1,7 @@
 -- An attempt gives the row of every plain state that agrees, by the kinds of act.
 use Rattle.romp_cpu.proofs.Common.{option_map_or, arith, ap, sym, ◌∙◌, subst, leb-true, get_or-drop, length-append, get_or-map-range_with_len, length-map-range_with_len, big_number, overlaid, Layout, Act, Cs, Private, Shared, Refused, Plan, Does, Fails, Program, Attempt, Cpu, Access, Probe, bytes_from, halfword_of, access_to, Seen, seen_in, linked, undone, refused_by, unless_refused, tried, access_of, access_of_plan, place_of, bytes_in, ChecksAlike, ShowsSame, IsCpuOf, left_by, GivesAll, GivesBy, GivesOver, lines_of_access, TouchesAccess, GivesPlan, GivesEveryRow, nat_tests, ◌≡◌, refl, ℕ, ◌+◌, nat_le, nat_lt, cond, Bool, true, false, List, [], ◌∷◌, ◌++◌, length, slice_range, Option, Some, None}
 use mathlib.Core.Path.{fun_ext}
-use Rattle.lock_rules.specs.Lines.{no_lines}
+use Rattle.lines.specs.Conflicts.{no_lines}
 use Rattle.flat_machine.specs.declared.machine.Located.{Located}
 use Rattle.flat_machine.specs.declared.machine.Plain.{Plain}
 use Rattle.flat_machine.specs.Effect.{filled}

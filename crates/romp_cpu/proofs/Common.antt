@@ -16,13 +16,13 @@ pub use Rattle.flat_machine.specs.declared.machine.Located.TheVariants.{Private,
 pub use Rattle.flat_machine.specs.Plans.{Plan, Does, Fails}
 pub use Rattle.flat_machine.specs.declared.machine.Program.{Program}
 pub use Rattle.flat_machine.specs.declared.machine.Window.{Window}
-pub use Rattle.line_geometry.specs.Directory.{Layout, byte_count, length_of, start_of}
-pub use Rattle.line_geometry.specs.declared.directory.PageSize.{PageSize}
-pub use Rattle.owned_list.specs.Overlay.{overlaid}
-pub use Rattle.segment_regs.specs.Registers.{located_by, located_under, register_at, register_of, register_with, registers_with, virtual_at}
-pub use Rattle.segment_regs.specs.declared.registers.Check.{Check}
-pub use Rattle.segment_regs.specs.declared.registers.SegmentRegister.{SegmentRegister}
-pub use Rattle.segment_regs.specs.declared.registers.Virtual.{Virtual}
+pub use Rattle.lines.specs.Directory.{Layout, byte_count, length_of, start_of}
+pub use Rattle.lines.specs.declared.line_geometry.PageSize.{PageSize}
+pub use Rattle.lines.specs.Overlay.{overlaid}
+pub use Rattle.page_table.specs.Registers.{located_by, located_under, register_at, register_of, register_with, registers_with, virtual_at}
+pub use Rattle.page_table.specs.declared.segment_regs.Check.{Check}
+pub use Rattle.page_table.specs.declared.segment_regs.SegmentRegister.{SegmentRegister}
+pub use Rattle.page_table.specs.declared.segment_regs.Virtual.{Virtual}
 pub use Rattle.romp_cpu.specs.Answers.{IsOutside, answer_in, answered, answered_at, bytes_of_range, unless_absent_at}
 pub use Rattle.romp_cpu.specs.Attempts.{ChecksAlike, GivesAll, GivesBy, GivesEveryRow, GivesOver, GivesPlan, IsCpuOf, ShowsSame, StoresAll, TouchesAccess, UndoesUnlessWent, access_of, access_of_plan, bytes_in, left_by, lines_of_access, place_of}
 pub use Rattle.romp_cpu.specs.Segments.{register_of_window, registers_of_program}

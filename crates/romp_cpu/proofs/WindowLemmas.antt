@@ -1,10 +1,10 @@
 -- What stands under a program's segment registers, and which segments a legal directory has.
 use Rattle.romp_cpu.proofs.Common.{◌≡◌, refl, ℕ, suc, ◌+◌, ◌<◌, ◌≤◌, ◌^◌, cond, Bool, true, false, List, [], ◌∷◌, All, find, slice_index_or, Option, Some, None, option_map, arith, sym, ◌∙◌, get_or-map, nat_tests, PageSize, Layout, length_of, start_of, byte_count, SegmentRegister, Program, Window, register_of_window, registers_of_program}
 use Rattle.std.proofs.lemmas.List.Elements.{All-head, All-tail}
-use Rattle.line_geometry.specs.Legal.{IsInRange, IsLegal}
-use Rattle.line_geometry.specs.Segments.{page_bytes, bytes_of, is_named}
-use Rattle.line_geometry.proofs.Legal.{legal_bytes}
-use Rattle.line_geometry.proofs.Within.{segment-within}
+use Rattle.lines.specs.Legal.{IsInRange, IsLegal}
+use Rattle.lines.specs.Segments.{page_bytes, bytes_of, is_named}
+use Rattle.lines.proofs.LegalLemmas.{legal_bytes}
+use Rattle.lines.proofs.WithinLemmas.{segment-within}
 
 -- what stands under the register of a window is a segment of the store with its bytes
 window-segment :

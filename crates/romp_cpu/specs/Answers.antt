@@ -1,10 +1,10 @@
 -- The answer of a storage to an access.
 use Rattle.std.specs.Prelude.{◌≢◌, ℕ, ◌+◌, ◌<◌, Bool, false, not, List, map, find, Option, Some, None, Result, Ok, Err}
 use Rattle.std.specs.List.{range_with_len}
-use Rattle.segment_regs.specs.declared.registers.Check.{Check}
-use Rattle.line_geometry.specs.declared.directory.PageSize.{PageSize}
-use Rattle.segment_regs.specs.declared.registers.Virtual.{Virtual}
-use Rattle.segment_regs.specs.Registers.{Registers, bytes_on, located_by}
+use Rattle.page_table.specs.declared.segment_regs.Check.{Check}
+use Rattle.lines.specs.declared.line_geometry.PageSize.{PageSize}
+use Rattle.page_table.specs.declared.segment_regs.Virtual.{Virtual}
+use Rattle.page_table.specs.Registers.{Registers, bytes_on, located_by}
 use Rattle.romp_cpu.specs.declared.storage.Access.{Access}
 use Rattle.romp_cpu.specs.declared.storage.Fault.{Fault}
 use Rattle.romp_cpu.specs.declared.storage.Probe.{Probe}

@@ -1,8 +1,8 @@
 -- An attempt over a storage, beside the row of a plain state that agrees with it.
 use Rattle.std.specs.Prelude.{◌≡◌, ℕ, ◌+◌, ◌<◌, ◌≤◌, if◌then◌else◌, true, false, List, [], ◌∷◌, ◌++◌, length, slice_range, Option, Some, None}
 use Rattle.std.specs.Option.{option_map_or}
-use Rattle.line_geometry.specs.Directory.{Layout}
-use Rattle.lock_rules.specs.Lines.{Lines, no_lines}
+use Rattle.lines.specs.Directory.{Layout}
+use Rattle.lines.specs.Conflicts.{Lines, no_lines}
 use Rattle.flat_machine.specs.declared.machine.Act.{Act}
 use Rattle.flat_machine.specs.declared.machine.Located.{Located}
 use Rattle.flat_machine.specs.declared.machine.Located.TheVariants.{Private, Shared, Refused}

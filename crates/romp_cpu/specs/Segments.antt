@@ -1,8 +1,8 @@
 -- The segment registers of a program.
 use Rattle.std.specs.Prelude.{ℕ, ◌∷◌, map, Option, Some, None, option_map}
-use Rattle.line_geometry.specs.Directory.{Layout, length_of}
-use Rattle.segment_regs.specs.declared.registers.SegmentRegister.{SegmentRegister}
-use Rattle.segment_regs.specs.Registers.{Registers, private_register}
+use Rattle.lines.specs.Directory.{Layout, length_of}
+use Rattle.page_table.specs.declared.segment_regs.SegmentRegister.{SegmentRegister}
+use Rattle.page_table.specs.Registers.{Registers, private_register}
 use Rattle.flat_machine.specs.declared.machine.Program.{Program}
 use Rattle.flat_machine.specs.declared.machine.Window.{Window}
 

@@ -3,8 +3,8 @@ ghost use Rattle.romp_cpu.specs.Segments.{register_of_window, registers_of_progr
 
 use arrayvec::ArrayVec;
 use flat_machine::{Program, Window};
-use line_geometry::Directory;
-use segment_regs::{SegmentRegister, SegmentRegs};
+use lines::Directory;
+use page_table::{SegmentRegister, SegmentRegs};
 
 /// The segment registers of a program over a store with this directory: a private segment of 16,384 bytes under register
 /// 0, and under registers 1 to 15 the windows, each with its segment's bytes. Nothing stands under a register without a

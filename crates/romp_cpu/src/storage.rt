@@ -3,15 +3,15 @@ ghost use Rattle.flat_machine.specs.Access.{FitsFrom};
 ghost use Rattle.flat_machine.specs.Effect.{filled};
 ghost use Rattle.flat_machine.specs.Ready.{IsReadyAt};
 ghost use Rattle.flat_machine.specs.Row.{stored_bytes};
-ghost use Rattle.segment_regs.specs.Registers.{Registers};
-ghost use Rattle.segment_regs.specs.declared.registers.Virtual.{Virtual};
+ghost use Rattle.page_table.specs.Registers.{Registers};
+ghost use Rattle.page_table.specs.declared.segment_regs.Virtual.{Virtual};
 ghost use Rattle.romp_cpu.specs.declared.storage.Access.{Access};
 ghost use Rattle.romp_cpu.specs.declared.storage.Probe.{Probe};
 ghost use Rattle.romp_cpu.specs.Shown.{bytes_from, halfword_of, access_to};
 ghost use Rattle.romp_cpu.specs.Answers.{answer_in, if_permitted, IsOutside};
 
 use flat_machine::Ready;
-use segment_regs::Virtual;
+use page_table::Virtual;
 
 /// What an instruction or its subject accesses: so many bytes from an effective address on, to load or to store.
 #[derive(Clone, Copy)]

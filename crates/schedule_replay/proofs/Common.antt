@@ -39,11 +39,11 @@ pub use Rattle.outside.specs.Runs.{CallsDisk, FewerLater, Leaves, OnlyAsks, Only
 pub use Rattle.outside.specs.declared.failed.Failed.{Failed}
 pub use Rattle.outside.specs.declared.world.Outside.{Ghosts}
 pub use Rattle.report_text.specs.Line.{line_told}
-pub use Rattle.run_law.proofs.LeftLemmas.{left_behind, left_more, left_none, left_open, left_quiet, stage_behind, stage_either, stage_more, stage_none}
-pub use Rattle.run_law.proofs.RunLemmas.{faulted_on, lines_end, lines_on, open_on, report_parts, run_on}
-pub use Rattle.run_law.proofs.SeenLemmas.{ArePlain, commits_in, commits_on, plain_on, seen_all, seen_cut, seen_lines}
-pub use Rattle.run_law.proofs.StepLemmas.{AreNames, Grew, Stepped, counted_quiet, lost_behind, run_grew, run_plain, step_by}
-pub use Rattle.run_law.specs.Left.{IsLeft, IsStage}
+pub use Rattle.desk_law.proofs.LeftLemmas.{left_behind, left_more, left_none, left_open, left_quiet, stage_behind, stage_either, stage_more, stage_none}
+pub use Rattle.desk_law.proofs.RunLemmas.{faulted_on, lines_end, lines_on, open_on, report_parts, run_on}
+pub use Rattle.desk_law.proofs.SeenLemmas.{ArePlain, commits_in, commits_on, plain_on, seen_all, seen_cut, seen_lines}
+pub use Rattle.desk_law.proofs.StepLemmas.{AreNames, Grew, Stepped, counted_quiet, lost_behind, run_grew, run_plain, step_by}
+pub use Rattle.desk_law.specs.Left.{IsLeft, IsStage}
 pub use Rattle.store_format.specs.Bank.{Faulty, bank_of}
 pub use Rattle.store_format.specs.Header.{Header, total}
 pub use Rattle.store_format.specs.Stands.{chosen}

@@ -13,8 +13,8 @@ use Rattle.desk.specs.declared.answers.Stored.{Stored}
 use Rattle.desk.specs.declared.answers.Stored.TheVariants as stored
 use Rattle.desk.specs.declared.answers.Reopened.{Reopened}
 use Rattle.desk.specs.declared.answers.Reopened.TheVariants as reopened
-use Rattle.schedule_replay.specs.declared.lines.Unended.{Unended}
-use Rattle.schedule_replay.specs.declared.lines.Unended.TheVariants as unended
+use Rattle.schedule_replay.specs.declared.answer_lines.Unended.{Unended}
+use Rattle.schedule_replay.specs.declared.answer_lines.Unended.TheVariants as unended
 use Rattle.desk.specs.Answers.{counts_told, ending_told}
 use Rattle.desk.specs.Lines as line
 use Rattle.desk.specs.Lines.{Line, line_text}

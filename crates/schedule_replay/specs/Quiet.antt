@@ -18,7 +18,7 @@ use Rattle.desk.specs.Instruction.{Word}
 use Rattle.desk.specs.Run.{faulted, OpenBeforeEach}
 use Rattle.desk.specs.Lines.{Line}
 use Rattle.desk.specs.Lines as line
-use Rattle.run_law.specs.Left.{IsStage}
+use Rattle.desk_law.specs.Left.{IsStage}
 use Rattle.schedule_replay.specs.declared.events.Going.{Going}
 use Rattle.schedule_replay.specs.declared.events.Going.TheVariants as going
 use Rattle.schedule_replay.specs.declared.quietly.Quiet.{Quiet}

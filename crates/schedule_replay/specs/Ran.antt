@@ -18,7 +18,7 @@ use Rattle.desk.specs.Kept.{WritesMore, tells_fault}
 use Rattle.desk.specs.Run.{Happening, faulted, OpenBeforeEach}
 use Rattle.desk.specs.Lines.{Line, line_text}
 use Rattle.desk.specs.Report.{number_after, happening_lines}
-use Rattle.run_law.specs.Left.{IsLeft, IsStage}
+use Rattle.desk_law.specs.Left.{IsLeft, IsStage}
 use Rattle.schedule_replay.specs.Puts.{BeginsWith, PutsTimes, shown_of}
 use Rattle.schedule_replay.specs.RanTo.{RanTo}
 use Rattle.schedule_replay.specs.Runs.{Opening, Span, end_of, lines_of}

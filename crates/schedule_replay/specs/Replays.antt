@@ -18,7 +18,7 @@ use Rattle.desk.specs.Desk.{Desk}
 use Rattle.desk.specs.Instruction.{Word}
 use Rattle.desk.specs.Run.{faulted, IsRunOf}
 use Rattle.desk.specs.Lines.{line_text, Open}
-use Rattle.run_law.specs.Left.{IsLeft, IsStage}
+use Rattle.desk_law.specs.Left.{IsLeft, IsStage}
 use Rattle.schedule_replay.specs.declared.events.Going.{Going}
 use Rattle.schedule_replay.specs.declared.events.Going.TheVariants as going
 use Rattle.schedule_replay.specs.declared.events.Replayed.{Replayed}

@@ -16,7 +16,9 @@ ghost use Rattle.schedule_replay.specs.Told.{TellsBy, TellsReport, TellsSome};
 ghost use Rattle.schedule_replay.specs.Runs.{opening_of, span};
 ghost use Rattle.schedule_replay.specs.Replays.{Replays, Reports, RanSome, WentBy, EndsBy, EndsShut, is_closed, is_damaged, going_if, going_begun, going_by};
 
-use super::lines::{Unended, put_begun, put_each_and, put_one, put_reopened, put_stored, put_turn};
+use super::answer_lines::{
+    Unended, put_begun, put_each_and, put_one, put_reopened, put_stored, put_turn,
+};
 use desk::{Begun, Event, Reopened, Stored, Supervisor, TurnEnd};
 use job_text::Name;
 use outside::{Failed, Outside};

@@ -1,8 +1,8 @@
 //! The events of a schedule, one after another, and their report (docs/MODEL.md, "The report").
 #![tactic(auto)]
 
+mod answer_lines;
 mod events;
-mod lines;
 mod quietly;
 
 pub use events::{Replayed, replay};

@@ -1,8 +1,9 @@
 -- The bits of seats that pass a test, one by one.
-use Rattle.seats.proofs.Common.{arith, ap, sym, ◌∙◌, lt-ltb, le-ltb, bits_of_seats, is_on, marked, unmarked, ◌≡◌, refl, ℕ, zero, suc, ◌+◌, ◌<◌, ◌≤◌, ◌&&◌, nat_lt, Bool, true, false}
-use Rattle.line_geometry.specs.LineSets.{passing}
-use Rattle.line_locks.proofs.SeatLemmas.{seats-start, seat-on, seat-off}
-use Rattle.wait_cycles.proofs.Bits.{on-none}
+use Rattle.seats.proofs.Common.{arith, ap, sym, ◌∙◌, lt-ltb, le-ltb, bits_of_seats, is_on, ◌≡◌, refl, ℕ, zero, suc, ◌+◌, ◌<◌, ◌≤◌, ◌&&◌, nat_lt, Bool, true, false}
+use Rattle.seats.proofs.Walk.{marked, unmarked}
+use Rattle.lines.specs.LineSets.{passing}
+use Rattle.seats.proofs.SeatLemmas.{seats-start, seat-on, seat-off}
+use Rattle.seats.proofs.RowBits.{on-none}
 
 -- a bit is on where it is that of one of the seats looked at, which passes
 seats-on : (p : ℕ → Bool) (n : ℕ) → n ≤ 16 → (seat : ℕ) → seat < 16 → is_on (bits_of_seats (passing n p)) seat ≡ (nat_lt seat n && p seat)

@@ -2,11 +2,11 @@
 use Rattle.std.specs.Prelude.{◌≡◌, ℕ, ◌+◌, ◌<◌, ◌==◌, not, false, List, [], ◌∷◌, ◌++◌, length, find, filter, map, replicate, All, slice_set, slice_index_or, Option, Some, None}
 use Rattle.std.specs.List.{range_with_len, AllPairs}
 use Rattle.std.specs.Option.{ForSome}
-use Rattle.lock_rules.specs.Sets.{has}
-use Rattle.line_locks.specs.declared.request.Request.{Request}
-use Rattle.line_locks.specs.declared.request.Want.{Want}
-use Rattle.line_locks.specs.Held.{AreWithin}
-use Rattle.line_locks.specs.Holding.{Holding, IsWhole, no_lines_of, nothing_held, of_seat, released, taken as holding_more}
+use Rattle.lines.specs.Sets.{has}
+use Rattle.seats.specs.declared.request.Request.{Request}
+use Rattle.seats.specs.declared.request.Want.{Want}
+use Rattle.seats.specs.Held.{AreWithin}
+use Rattle.seats.specs.Holding.{Holding, IsWhole, no_lines_of, nothing_held, of_seat, released, taken as holding_more}
 use Rattle.seats.specs.declared.seat.Seat.{Seat}
 
 -- the seats that are taken, in the order in which their activations began, who sits in each of all the seats, and what each holds

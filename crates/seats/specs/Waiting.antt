@@ -1,10 +1,10 @@
 -- Who waits for whom.
 use Rattle.std.specs.Prelude.{ℕ, Bool, false, List, All, filter, map, slice_index_or, Option}
 use Rattle.std.specs.Option.{option_map, option_map_or}
-use Rattle.line_geometry.specs.LineSets.{IsOfPage}
-use Rattle.lock_rules.specs.Waits.{shown_cycle}
-use Rattle.line_locks.specs.declared.request.Want.{Want}
-use Rattle.line_locks.specs.Holding.{is_in_conflict}
+use Rattle.lines.specs.LineSets.{IsOfPage}
+use Rattle.lines.specs.Waits.{shown_cycle}
+use Rattle.seats.specs.declared.request.Want.{Want}
+use Rattle.seats.specs.Holding.{is_in_conflict}
 use Rattle.seats.specs.Seating.{Seating, sitter, number_in}
 
 -- the numbers of the activations in taken seats with which a request of a seat conflicts, ascending

@@ -1,4 +1,4 @@
-use line_locks::Request;
+use super::request::Request;
 
 /// An activation in its seat.
 #[derive(Drop)]

@@ -1,13 +1,14 @@
 ghost use Rattle.std.specs.Prelude.{◌≡◌, ◌+◌, ◌<◌, ◌≤◌, ◌^◌, ◌↔◌, None, length, All, IfOk, true};
 ghost use Rattle.std.specs.Option.{option_map_or};
-ghost use Rattle.lock_rules.specs.Sets.{has};
-ghost use Rattle.line_locks.specs.Held.{AreWithin};
-ghost use Rattle.line_locks.specs.Holding.{IsWhole, nothing_held};
+ghost use Rattle.lines.specs.Sets.{has};
+ghost use Rattle.seats.specs.Held.{AreWithin};
+ghost use Rattle.seats.specs.Holding.{IsWhole, nothing_held};
 ghost use Rattle.seats.specs.Seating.{IsSeating, newcomer, sitter, number_in, numbers, seat_of, nobody_sits, next_seat, seated, left, went_on, waiting_for, took};
 
+use super::line_locks::Locks;
+use super::request::Request;
 use super::seat::Seat;
 use arrayvec::ArrayVec;
-use line_locks::{Locks, Request};
 use std::alloc::{AllocError, Global};
 use std::marker::Model;
 

@@ -1,16 +1,16 @@
 // Who waits for whom.
 ghost use Rattle.std.specs.Prelude.{◌≡◌, ◌<◌, ◌&&◌, true, ℕ, length, map, nat_lt};
 ghost use Rattle.std.specs.Option.{option_map};
-ghost use Rattle.lock_rules.specs.Sets.{has};
-ghost use Rattle.wait_cycles.specs.Rows.{is_on, waits_in};
-ghost use Rattle.line_locks.specs.Held.{AreWithin};
+ghost use Rattle.lines.specs.Sets.{has};
+ghost use Rattle.seats.specs.Rows.{is_on, waits_in};
+ghost use Rattle.seats.specs.Held.{AreWithin};
 ghost use Rattle.seats.specs.Seating.{IsSeating};
 ghost use Rattle.seats.specs.Waiting.{holders, seat_waits, cycle_of, seat_at};
 
+use super::request::Request;
 use super::seats::Seats;
+use super::wait_cycles::shown_cycle;
 use arrayvec::ArrayVec;
-use line_locks::Request;
-use wait_cycles::shown_cycle;
 
 impl Seats {
     /// The numbers of the activations with which a request of a seat conflicts, ascending.

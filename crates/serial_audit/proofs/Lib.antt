@@ -7,3 +7,6 @@ pub mod RowLemmas
 pub mod SameLemmas
 pub mod VerdictLemmas
 pub mod Lemmas
+pub mod EnoughLemmas
+pub mod LineLemmas
+pub mod StepLemmas

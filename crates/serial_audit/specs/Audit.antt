@@ -1,7 +1,7 @@
 -- A report whose commits are those of the programs run one after another.
 use Rattle.std.specs.Prelude.{◌≡◌, ℕ, ◌+◌, ◌≤◌, ◌%◌, ◌^◌, ◌==◌, ◌⊎◌, if◌then◌else◌, List, ◌∷◌, ◌++◌, length, map, sum, Some}
 use Rattle.std.specs.List.{Contains}
-use Rattle.line_geometry.specs.FlatStore.{FlatStore}
+use Rattle.lines.specs.FlatStore.{FlatStore}
 use Rattle.flat_machine.specs.declared.machine.Plain.{Plain}
 use Rattle.flat_machine.specs.Serial.{Activation, committing, serial}
 use Rattle.desk.specs.declared.event.Event.{Event}

@@ -58,4 +58,4 @@ IsWrongAt bytes part =
 -- bytes are a bundle in one way at most, and of a bundle no part is wrong
 pub record HasOneSplitting : Type 0 where
   pub one : (bytes : List ℕ) (first second : Bundle) → IsBundle bytes first → IsBundle bytes second → first ≡ second
-  pub whole : (bytes : List ℕ) (bundle : Bundle) (part : ℕ) → IsBundle bytes bundle → IsWrongAt bytes part → ⊥
+  pub whole : (bytes : List ℕ) (bundle : Bundle) (part : ℕ) → IsBundle bytes bundle → ¬ (IsWrongAt bytes part)

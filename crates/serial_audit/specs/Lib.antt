@@ -3,3 +3,6 @@ pub mod Bundle
 pub mod Index
 pub mod Lengths
 pub mod Progress
+pub mod TraceLaws
+pub mod Stretch
+pub mod Trace

@@ -1,5 +1,5 @@
 ghost use Rattle.std.specs.Prelude.{◌≡◌, ◌+◌, ◌-◌, ◌<◌, ◌≤◌, ◌^◌, ◌↔◌, IsTrue, List, [], length, IfOk, IfSome, MatchOption, MatchResult};
-ghost use Rattle.line_geometry.specs.Directory.{byte_count};
+ghost use Rattle.lines.specs.Directory.{byte_count};
 ghost use Rattle.flat_machine.specs.Serial.{Activation};
 ghost use Rattle.job_text.specs.declared.job.Job.{Job};
 ghost use Rattle.serial_audit.specs.declared.auditing.KeptStore.{KeptStore};
@@ -10,8 +10,7 @@ ghost use Rattle.serial_audit.specs.Progress.{IsTaken, MayFollow, Stands};
 use super::index::{Entry, index_of, mark, place_among};
 use super::replay::replayed;
 use job_text::Job;
-use line_geometry::Directory;
-use owned_list::OwnedList;
+use lines::{Directory, OwnedList};
 use report_text::CommitLine;
 use std::alloc::{AllocError, Global};
 

@@ -2,13 +2,22 @@
 //! another, on the store that it began with (docs/MODEL.md).
 #![tactic(auto)]
 
+mod answer;
 mod auditing;
 mod bundle;
 mod index;
 mod law;
 mod replay;
+mod running;
+mod touch;
+mod touch_trace;
+mod trace_law;
 
+pub use answer::{Trace, TraceFault};
 pub use auditing::{KeptStore, Progress, Verdict, audit, audit_lines};
 pub use bundle::{Bundle, Span, split_bundle};
 pub use index::Entry;
 pub use law::a_bundle_has_one_splitting;
+pub use touch::Touch;
+pub use touch_trace::trace;
+pub use trace_law::a_trace_is_enough;

@@ -1,13 +1,12 @@
 // One committed program run again.
 ghost use Rattle.std.specs.Prelude.{◌≡◌, ◌≢◌, ℕ, List, length, IfOk, IfSome, MatchOption};
-ghost use Rattle.line_geometry.specs.Directory.{byte_count};
+ghost use Rattle.lines.specs.Directory.{byte_count};
 ghost use Rattle.flat_machine.specs.Serial.{before_commit};
 ghost use Rattle.serial_audit.specs.Audit.{told_of};
 ghost use Rattle.serial_audit.specs.Progress.{Replays};
 
 use flat_machine::{Plain, Program, Went};
-use line_geometry::Directory;
-use owned_list::OwnedList;
+use lines::{Directory, OwnedList};
 use report_text::CommitLine;
 use std::alloc::{AllocError, Global};
 

@@ -12,11 +12,11 @@ pub use Rattle.std.specs.Option.{ForSome, option_map}
 pub use Rattle.std.specs.Prelude.{All, Err, IfSome, MatchOption, None, Ok, OnErr, OnOk, Option, Result, Some, if◌then◌else◌, slice_get, slice_index, unwrap_or, fold}
 pub use Rattle.hex.proofs.HexLemmas.{decode_of-encode_lower, length-encode_with}
 pub use Rattle.hex.specs.Hex.{decode_of, encode_lower, lower_digits}
-pub use Rattle.line_geometry.specs.Directory.{Layout}
-pub use Rattle.line_geometry.specs.FlatStore.{FlatStore}
-pub use Rattle.line_geometry.specs.Lines.{line_count}
-pub use Rattle.line_geometry.specs.Segments.{line_bytes}
-pub use Rattle.line_geometry.specs.declared.directory.PageSize.{PageSize}
+pub use Rattle.lines.specs.Directory.{Layout}
+pub use Rattle.lines.specs.FlatStore.{FlatStore}
+pub use Rattle.lines.specs.Lines.{line_count}
+pub use Rattle.lines.specs.Segments.{line_bytes}
+pub use Rattle.lines.specs.declared.line_geometry.PageSize.{PageSize}
 pub use Rattle.outside.proofs.Durable.{told_is}
 pub use Rattle.outside.proofs.Prints.{prints_none, prints_on, prints_same, prints_stop, prints_unput}
 pub use Rattle.outside.proofs.Runs.{asks_none, asks_on, elapses-trans, leaves_on}
@@ -26,13 +26,13 @@ pub use Rattle.outside.specs.Durable.{IsSure}
 pub use Rattle.outside.specs.Runs.{AsksAndPuts, CallsDisk, FewerLater, Leaves, OnlyAsks, held_of}
 pub use Rattle.outside.specs.declared.failed.Failed.{Failed}
 pub use Rattle.outside.specs.declared.world.Outside.{Ghosts}
-pub use Rattle.redo_journal.specs.Kept.{KeptBank, begun_of, place_of, record_bytes_of, with_line, with_record}
-pub use Rattle.redo_journal.specs.Opened.{bank_in}
-pub use Rattle.redo_journal.specs.Records.{IsCounted, IsRecordAt, area_bytes}
-pub use Rattle.redo_journal.specs.Tracks.{IsEither}
-pub use Rattle.redo_journal.specs.declared.find.Record.{Record}
-pub use Rattle.restart.specs.Kept.{KeptStore, number_of, with_begun}
-pub use Rattle.restart.specs.Shows.{IsShown, Shows, TracksStore}
+pub use Rattle.store.specs.Kept.{KeptBank, begun_of, place_of, record_bytes_of, with_line, with_record}
+pub use Rattle.store.specs.Opened.{bank_in}
+pub use Rattle.store.specs.Records.{IsCounted, IsRecordAt, area_bytes}
+pub use Rattle.store.specs.Tracks.{IsEither}
+pub use Rattle.store.specs.declared.find.Record.{Record}
+pub use Rattle.store.specs.KeptStore.{KeptStore, number_of, with_begun}
+pub use Rattle.store.specs.Shows.{IsShown, Shows, TracksStore}
 pub use Rattle.store_format.specs.Bank.{RecordLine, record_bytes, wrong_line}
 pub use Rattle.store_format.specs.Header.{Header, entry_bytes, most_lines, number_at}
 pub use Rattle.store_format.specs.Stands.{HasHeader, Standing, Stands, chosen, home_of, one_more}
@@ -44,10 +44,15 @@ pub use Rattle.standby.specs.Followed.{StandWhole, BreaksAt, EndsWith, Follows, 
 pub use Rattle.standby.specs.Puts.{Puts, SeesPart}
 pub use Rattle.standby.specs.Read.{AreWhole, GoesOn, IsFirstBad, IsRead, IsReadFault, Tail, feeds}
 pub use Rattle.standby.specs.Shipped.{HasBytes, PrintsBy, shipped}
-pub use Rattle.standby.specs.State.{IsFirstLong, IsLongAt, behind, due, laid, laid_by}
+pub use Rattle.standby.specs.State.{IsFirstLong, IsLongAt, behind, due, laid, laid_by, IsAmong}
 pub use Rattle.standby.specs.Step.{IsBegun, IsFitting, IsStep, Steps, followed_of, over, put_of}
 pub use Rattle.standby.specs.Text.{AreLines, Content, HoldsOne, IsContent, IsPacked, IsShip, ShipLine, content_of, end_line, head_line, kept_line, later, line_line, lines_text, next, parted, record_line, record_of, record_text, records_text, text_of, told}
 pub use Rattle.standby.specs.declared.following.Followed.{Followed}
 pub use Rattle.standby.specs.declared.following.Followed.TheVariants.{DiskFault, Done, Geometry, Long, NotKept, PutFault}
 pub use Rattle.standby.specs.declared.shipping.Shipped.{Shipped}
 pub use Rattle.standby.specs.declared.text.ShipRecord.{ShipRecord}
+pub use Rattle.call_status.specs.Call.{call}
+pub use Rattle.call_status.specs.Statuses.{status_of_open}
+pub use Rattle.call_status.specs.declared.status.Status.{Status}
+pub use Rattle.store.specs.declared.fault.OpenFault.{OpenFault}
+pub use Rattle.store.specs.Faults.{IsStoreOpenFault}

@@ -1,8 +1,8 @@
 -- What is shipped is in the ranges of a ship text.
 use Rattle.standby.proofs.Common.{None, nat_tests, All-drop, All-map, recursion_from_All, AllByRecursion, line_count, line_bytes, RecordLine, wrong_line, KeptBank, area_bytes, KeptStore, Shows, HasBytes, shipped, behind, AreLines, IsContent, ShipLine, told, All, ◌≡◌, ℕ, ◌+◌, ◌^◌, ◌<◌, List, [], ◌∷◌, length, take, drop, get_or, refl, ◌∙◌, ap, arith}
 use Rattle.store_format.proofs.Widths.{line-few, line-some}
-use Rattle.redo_journal.specs.Opened.{IsRead}
-use Rattle.redo_journal.proofs.RecordLemmas.{stands_there}
+use Rattle.store.specs.Opened.{IsRead}
+use Rattle.store.proofs.RecordLemmas.{stands_there}
 use Rattle.standby.proofs.ShipLemmas.{split_at}
 
 -- lines in order are those of a text

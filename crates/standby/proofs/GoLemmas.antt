@@ -1,6 +1,6 @@
 -- Calls and puts, one after another.
 use Rattle.standby.proofs.Common.{◌≡◌, ℕ, List, ◌∙◌, arith, Option, Result, Ghosts, Failed, FewerLater, OnlyGoesOn, Puts, nat_tests}
-use Rattle.redo_journal.specs.Held.{IsMoreBy, OnlyWrites}
+use Rattle.store.specs.Held.{IsMoreBy, OnlyWrites}
 
 more_same : (first second : Option ℕ) → second ≡ first → IsMoreBy 0 first second
 more_same first second same before is = (before, same ∙ is, omega arith)

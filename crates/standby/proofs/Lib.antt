@@ -14,3 +14,5 @@ pub mod TailLemmas
 pub mod ReadLemmas
 pub mod OneLemmas
 pub mod Lemmas
+pub mod ShipCallLemmas
+pub mod FollowCallLemmas

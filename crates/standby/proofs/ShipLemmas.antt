@@ -2,7 +2,7 @@
 use Rattle.standby.proofs.Common.{Some, slice_get, flat_map-append, All-push, get_or_from_slice_get, take_more, get_or-map, length-map, length-take-le, take-append-drop, PageSize, RecordLine, record_bytes, Record, KeptBank, IsCounted, IsRecordAt, area_bytes, Ghosts, held_of, KeptStore, IsShown, ShipLine, later, line_line, lines_text, next, record_text, records_text, told, All, ◌≡◌, ℕ, ◌+◌, ◌<◌, List, [], ◌∷◌, ◌++◌, length, map, take, drop, get_or, refl, sym, ◌∙◌, ap, subst, arith, append_assoc, append-nil}
 use Rattle.std.proofs.Common.{add-one}
 use Rattle.std.proofs.Math.Seq.{split_at as cut}
-use Rattle.redo_journal.specs.Opened.{IsRead}
+use Rattle.store.specs.Opened.{IsRead}
 use Rattle.standby.proofs.ShowLemmas.{still_shown}
 
 area_append : (page : PageSize) (xs : List (List RecordLine)) (lines : List RecordLine) → area_bytes page (xs ++ lines ∷ []) ≡ area_bytes page xs + record_bytes page (length lines)

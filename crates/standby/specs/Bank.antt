@@ -1,7 +1,7 @@
 -- The bank that commits of records make.
 use Rattle.std.specs.Prelude.{List, [], Some, fold}
-use Rattle.redo_journal.specs.Kept.{KeptBank, with_line, with_record}
-use Rattle.checkpoint.specs.Committed.{roomy}
+use Rattle.store.specs.Kept.{KeptBank, with_line, with_record}
+use Rattle.store.specs.Committed.{roomy}
 use Rattle.standby.specs.Text.{ShipLine}
 
 -- the bank with a record of these lines begun

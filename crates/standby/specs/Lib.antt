@@ -6,3 +6,5 @@ pub mod Step
 pub mod Shipped
 pub mod Read
 pub mod Bank
+pub mod ShipCalled
+pub mod FollowCalled

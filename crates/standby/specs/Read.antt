@@ -30,7 +30,7 @@ pub record IsFirstBad (text : List ℕ) (line : ℕ) : Type 0 where
   pub place : line ≡ feeds front + 1
   pub more : List ℕ
   pub before : GoesOn front more
-  pub bad : (first rest others : List ℕ) → behind ≡ first ++ 10 ∷ rest → GoesOn front (first ++ 10 ∷ others) → ⊥
+  pub bad : (first rest others : List ℕ) → behind ≡ first ++ 10 ∷ rest → ¬ (GoesOn front (first ++ 10 ∷ others))
   pub none : (content : Content) → IsContent content → text ≢ text_of content
 
 -- A text may go on so: with so many lines of a record, from a least number on, the records behind this number, and the last line.

@@ -1,12 +1,12 @@
 -- What shipping records does.
 use Rattle.std.specs.Prelude.{◌≡◌, ◌<◌, ℕ, List, All, length, map, drop, Result, Ok, Err}
-use Rattle.line_geometry.specs.Lines.{line_count}
+use Rattle.lines.specs.Lines.{line_count}
 use Rattle.store_format.specs.Bank.{RecordLine}
-use Rattle.line_geometry.specs.Segments.{line_bytes}
+use Rattle.lines.specs.Segments.{line_bytes}
 use Rattle.outside.specs.declared.world.Outside.{Ghosts}
 use Rattle.outside.specs.Bytes.{Prints}
 use Rattle.outside.specs.Causes.{Rose}
-use Rattle.restart.specs.Kept.{KeptStore}
+use Rattle.store.specs.KeptStore.{KeptStore}
 use Rattle.standby.specs.Followed.{well, broken}
 use Rattle.standby.specs.Puts.{CountsPuts}
 use Rattle.standby.specs.Read.{feeds}

@@ -1,7 +1,7 @@
 -- The store at each number of a text.
 use Rattle.std.specs.Prelude.{◌≡◌, ℕ, ◌+◌, ◌*◌, ◌-◌, ◌%◌, ◌^◌, ◌<◌, ◌≤◌, List, length, take, drop, fold, slice_get, Some, All}
-use Rattle.owned_list.specs.Overlay.{overlaid}
-use Rattle.line_geometry.specs.FlatStore.{FlatStore}
+use Rattle.lines.specs.Overlay.{overlaid}
+use Rattle.lines.specs.FlatStore.{FlatStore}
 use Rattle.standby.specs.Text.{Content, ShipLine}
 use Rattle.standby.specs.declared.text.ShipRecord.{ShipRecord}
 

@@ -1,17 +1,17 @@
 -- What keeping one record of a text does.
 use Rattle.std.specs.Prelude.{◌≡◌, ◌⊎◌, ℕ, ◌≤◌, List, length, Option, Result, Ok, Err}
-use Rattle.line_geometry.specs.FlatStore.{FlatStore}
-use Rattle.line_geometry.specs.Lines.{line_count}
+use Rattle.lines.specs.FlatStore.{FlatStore}
+use Rattle.lines.specs.Lines.{line_count}
 use Rattle.store_format.specs.Bank.{RecordLine}
 use Rattle.store_format.specs.Header.{Header, most_lines}
-use Rattle.line_geometry.specs.Segments.{line_bytes}
+use Rattle.lines.specs.Segments.{line_bytes}
 use Rattle.store_format.specs.Stands.{Stands, stands}
 use Rattle.outside.specs.declared.world.Outside.{Ghosts}
 use Rattle.outside.specs.declared.failed.Failed.{Failed}
 use Rattle.outside.specs.Bytes.{AreTold, Prints}
 use Rattle.outside.specs.Runs.{Leaves, held_of}
-use Rattle.restart.specs.Kept.{KeptStore, with_begun}
-use Rattle.restart.specs.Shows.{TracksStore}
+use Rattle.store.specs.KeptStore.{KeptStore, with_begun}
+use Rattle.store.specs.Shows.{TracksStore}
 use Rattle.standby.specs.Bank.{bank_begun}
 use Rattle.standby.specs.Followed.{well, broken}
 use Rattle.standby.specs.Puts.{CountsPuts, SeesPart}

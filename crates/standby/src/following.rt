@@ -1,13 +1,13 @@
 // The records of a ship text, committed to a store one after another.
 ghost use Rattle.std.specs.Prelude.{◌≡◌, ◌≢◌, ◌↔◌, ◌+◌, ◌≤◌, ◌<◌, ◌^◌, ◌⊎◌, ℕ, List, [], All, length, map, drop, true, false, IsTrue, IsSome, IfSome, IfNone, Err, IfErr, OnOk, OnErr};
-ghost use Rattle.line_geometry.specs.FlatStore.{FlatStore};
+ghost use Rattle.lines.specs.FlatStore.{FlatStore};
 ghost use Rattle.store_format.specs.Header.{total, most_lines};
-ghost use Rattle.line_geometry.specs.Segments.{line_bytes};
+ghost use Rattle.lines.specs.Segments.{line_bytes};
 ghost use Rattle.store_format.specs.Stands.{Stands, stands};
 ghost use Rattle.outside.specs.Runs.{held_of};
-ghost use Rattle.redo_journal.specs.Held.{HoldsAtLeast};
-ghost use Rattle.restart.specs.Kept.{number_of};
-ghost use Rattle.restart.specs.Shows.{TracksStore};
+ghost use Rattle.store.specs.Held.{HoldsAtLeast};
+ghost use Rattle.store.specs.KeptStore.{number_of};
+ghost use Rattle.store.specs.Shows.{TracksStore};
 ghost use Rattle.standby.specs.Bank.{bank_with, bank_behind};
 ghost use Rattle.standby.specs.Followed.{IsAlike, OnlyGoesOn, EndsBy, IsStopped, Keeps, Follows};
 ghost use Rattle.standby.specs.Puts.{Puts};
@@ -19,8 +19,7 @@ use super::line::{fill_end, fill_kept};
 use super::put::put;
 use super::text::{Ship, ShipRecord};
 use outside::{Failed, Outside};
-use redo_journal::Kept;
-use restart::Durable;
+use store::{Durable, Kept};
 use store_format::lines_bytes;
 use text_line::TextLine;
 
@@ -47,8 +46,8 @@ pub fn follow<W: Outside>(durable: &mut Durable, ship: &Ship, outside: &mut W) -
     requires ship { IsShip ship.now }
     requires usable { durable.old.bank.spoiled ≡ false }
     requires room { HoldsAtLeast W.Outside (total durable.old.header) outside.old }
-    ensures geometry { result ≡ Followed.Geometry ↔ (IsAlike durable.old.header (content_of ship.now) → ⊥) }
-    ensures not_kept { result ≡ Followed.NotKept ↔ (IsAlike durable.old.header (content_of ship.now) × (IsAmong (content_of ship.now) (number_of durable.old) → ⊥)) }
+    ensures geometry { result ≡ Followed.Geometry ↔ (¬ (IsAlike durable.old.header (content_of ship.now))) }
+    ensures not_kept { result ≡ Followed.NotKept ↔ (IsAlike durable.old.header (content_of ship.now) × (¬ (IsAmong (content_of ship.now) (number_of durable.old)))) }
     ensures long { (number : ℕ) → result ≡ Followed.Long number → IsAlike durable.old.header (content_of ship.now) × IsAmong (content_of ship.now) (number_of durable.old) × ((place : ℕ) × (number ≡ later (number_of durable.old) (place + 1)) × IsFirstLong (most_lines durable.old.header) (due (content_of ship.now) (number_of durable.old)) place) }
     ensures fits { (result ≡ Followed.Done) ⊎ (result ≡ Followed.DiskFault) ⊎ (result ≡ Followed.PutFault) → IsAlike durable.old.header (content_of ship.now) × IsAmong (content_of ship.now) (number_of durable.old) × All (λ lines. length lines ≤ most_lines durable.old.header) (due (content_of ship.now) (number_of durable.old)) }
     ensures refused { (result ≡ Followed.Geometry) ⊎ (result ≡ Followed.NotKept) ⊎ ((number : ℕ) × (result ≡ Followed.Long number)) → (durable.new ≡ durable.old) × (outside.new ≡ outside.old) }

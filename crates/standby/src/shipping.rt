@@ -1,14 +1,14 @@
 // The records of a bank behind a number, put as a text.
 ghost use Rattle.std.specs.Prelude.{◌≡◌, ◌≢◌, ◌↔◌, ◌+◌, ◌≤◌, ◌<◌, ◌⊎◌, ℕ, All, length, map, drop, take, slice_get, Some, Err, IsSome, IfOk, IfErr, OnOk, OnErr, false};
-ghost use Rattle.line_geometry.specs.Lines.{line_count};
-ghost use Rattle.line_geometry.specs.Segments.{line_bytes};
+ghost use Rattle.lines.specs.Lines.{line_count};
+ghost use Rattle.lines.specs.Segments.{line_bytes};
 ghost use Rattle.store_format.specs.Header.{total};
 ghost use Rattle.store_format.specs.Bank.{RecordLine, record_bytes};
 ghost use Rattle.outside.specs.Causes.{FailsOnlyCounted};
 ghost use Rattle.outside.specs.Runs.{AsksAndPuts, OnlyAsks, held_of};
-ghost use Rattle.redo_journal.specs.Held.{HoldsAtLeast};
-ghost use Rattle.redo_journal.specs.Records.{IsRecordAt, area_bytes};
-ghost use Rattle.restart.specs.Shows.{IsShown};
+ghost use Rattle.store.specs.Held.{HoldsAtLeast};
+ghost use Rattle.store.specs.Records.{IsRecordAt, area_bytes};
+ghost use Rattle.store.specs.Shows.{IsShown};
 ghost use Rattle.standby.specs.Puts.{Puts};
 ghost use Rattle.standby.specs.Shipped.{EndsBy, HasBytes, IsStopped, PrintsBy, ShipsBy, shipped, shipped_of};
 ghost use Rattle.standby.specs.State.{behind};
@@ -18,7 +18,7 @@ ghost use Rattle.standby.specs.Text.{IsContent, later, line_line, record_text, r
 use super::line::{fill_end, fill_head, fill_line, fill_record};
 use super::put::put;
 use outside::{Failed, Outside};
-use restart::{Durable, Record};
+use store::{Durable, Record};
 use text_line::TextLine;
 
 /// How the records of a store were shipped.

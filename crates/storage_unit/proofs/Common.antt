@@ -26,28 +26,28 @@ pub use Rattle.frame_pool.specs.Seen.{IsSeen}
 pub use Rattle.frame_pool.specs.Sizes.{frame_count, line_place, line_size, private_frames}
 pub use Rattle.frame_pool.specs.View.{pool_of}
 pub use Rattle.frame_pool.specs.declared.model.Pool.{Pool}
-pub use Rattle.inverted_table.proofs.FindLemmas.{is-held, look_up-held, look_up-is, look_up-none}
-pub use Rattle.inverted_table.specs.Keys.{key_of, key_to}
-pub use Rattle.inverted_table.specs.Placed.{Placed, cleared_entry, entered, entry_at, key_in, look_up, unowned, without_frame}
-pub use Rattle.inverted_table.specs.declared.key.Key.{Key}
-pub use Rattle.line_geometry.proofs.LineSetLemmas.{is_in_where-below, of_page_where, where-alike, bits_of-lines}
-pub use Rattle.line_geometry.proofs.Within.{byte_count_pages, segment-within}
-pub use Rattle.line_geometry.specs.Directory.{Layout, byte_count, length_of, page_count, start_of}
-pub use Rattle.line_geometry.specs.Legal.{IsLegal}
-pub use Rattle.line_geometry.specs.LineSets.{IsOfPage, between, difference, lines_where, union, bits_of, lines_of_bits}
-unfoldable pub use Rattle.line_geometry.specs.LineSets.{passing}
-pub use Rattle.line_geometry.specs.Lines.{line_of, page_of}
-pub use Rattle.line_geometry.specs.Segments.{bytes_of, is_named, line_bytes, page_bytes}
-pub use Rattle.line_geometry.specs.declared.directory.PageSize.{PageSize}
-pub use Rattle.line_geometry.specs.declared.directory.PageSize.TheVariants.{Four, Two}
-pub use Rattle.lock_rules.proofs.Sets.{has-range, in_range}
-pub use Rattle.lock_rules.specs.Lines.{Lines, no_lines, page_of_line}
-pub use Rattle.lock_rules.specs.Sets.{has}
-pub use Rattle.lock_rules.specs.Access.{lets}
-pub use Rattle.lockbit_rules.specs.Entries.{grant_of}
-pub use Rattle.lockbit_rules.specs.declared.Authority.{Authority}
-pub use Rattle.owned_list.proofs.Overlay.{length-overlaid, overlaid_before, overlaid_behind, overlaid_within}
-pub use Rattle.owned_list.specs.Overlay.{overlaid}
+pub use Rattle.page_table.proofs.FindLemmas.{is-held, look_up-held, look_up-is, look_up-none}
+pub use Rattle.page_table.specs.Keys.{key_of, key_to}
+pub use Rattle.page_table.specs.Placed.{Placed, cleared_entry, entered, entry_at, key_in, look_up, unowned, without_frame}
+pub use Rattle.page_table.specs.declared.key.Key.{Key}
+pub use Rattle.lines.proofs.LineSetLemmas.{is_in_where-below, of_page_where, where-alike, bits_of-lines}
+pub use Rattle.lines.proofs.WithinLemmas.{byte_count_pages, segment-within}
+pub use Rattle.lines.specs.Directory.{Layout, byte_count, length_of, page_count, start_of}
+pub use Rattle.lines.specs.Legal.{IsLegal}
+pub use Rattle.lines.specs.LineSets.{IsOfPage, between, difference, lines_where, union, bits_of, lines_of_bits}
+unfoldable pub use Rattle.lines.specs.LineSets.{passing}
+pub use Rattle.lines.specs.Lines.{line_of, page_of}
+pub use Rattle.lines.specs.Segments.{bytes_of, is_named, line_bytes, page_bytes}
+pub use Rattle.lines.specs.declared.line_geometry.PageSize.{PageSize}
+pub use Rattle.lines.specs.declared.line_geometry.PageSize.TheVariants.{Four, Two}
+pub use Rattle.lines.proofs.SetLemmas.{has-range, in_range}
+pub use Rattle.lines.specs.Conflicts.{Lines, no_lines, page_of_line}
+pub use Rattle.lines.specs.Sets.{has}
+pub use Rattle.lines.specs.Access.{lets}
+pub use Rattle.page_table.specs.Entries.{grant_of}
+pub use Rattle.page_table.specs.declared.lockbit_rules.Authority.{Authority}
+pub use Rattle.lines.proofs.OverlayLemmas.{length-overlaid, overlaid_before, overlaid_behind, overlaid_within}
+pub use Rattle.lines.specs.Overlay.{overlaid}
 pub use Rattle.romp_cpu.proofs.WholeLemmas.{stored_bytes-long}
 pub use Rattle.romp_cpu.proofs.WindowLemmas.{bytes-low, named-low, register-window}
 pub use Rattle.romp_cpu.specs.Answers.{IsOutside, answer_in, answered, answered_at, bytes_of_range, if_permitted, unless_absent_at, unless_refused_at, IsRefusal, answer_of}
@@ -58,13 +58,13 @@ pub use Rattle.romp_cpu.specs.Tried.{Seen, Tried, refused_by, seen_in, tried, un
 pub use Rattle.romp_cpu.specs.declared.storage.Access.{Access}
 pub use Rattle.romp_cpu.specs.declared.storage.Fault.{Fault}
 pub use Rattle.romp_cpu.specs.declared.storage.Probe.{Probe}
-pub use Rattle.segment_regs.specs.Registers.{Registers, bytes_on, located_by, located_under, private_register, virtual_at}
-pub use Rattle.segment_regs.specs.declared.registers.Check.{Check}
-pub use Rattle.segment_regs.specs.declared.registers.SegmentRegister.{SegmentRegister}
-pub use Rattle.segment_regs.specs.declared.registers.Virtual.{Virtual}
-pub use Rattle.tlb_model.proofs.TableLemmas.{of_table-entered, of_table-left}
-pub use Rattle.tlb_model.specs.Buffer.{IsOfTable, after_found, forgotten, found}
-pub use Rattle.tlb_model.specs.declared.tlb.Pair.{Pair}
+pub use Rattle.page_table.specs.Registers.{Registers, bytes_on, located_by, located_under, private_register, virtual_at}
+pub use Rattle.page_table.specs.declared.segment_regs.Check.{Check}
+pub use Rattle.page_table.specs.declared.segment_regs.SegmentRegister.{SegmentRegister}
+pub use Rattle.page_table.specs.declared.segment_regs.Virtual.{Virtual}
+pub use Rattle.page_table.proofs.TableLemmas.{of_table-entered, of_table-left}
+pub use Rattle.page_table.specs.Buffer.{IsOfTable, after_found, forgotten, found}
+pub use Rattle.page_table.specs.declared.tlb_model.Pair.{Pair}
 pub use Rattle.storage_unit.specs.Bytes.{IsClean, byte_in_frame, byte_over, bytes_over, is_line_marked, is_marked, private_bytes}
 pub use Rattle.storage_unit.specs.Held.{AreOfPages, AreReached, IsUnder, first_keys, held_in, held_private, keys_of, keys_with, keys_without, pages_begun, seat_pages, table_of}
 pub use Rattle.storage_unit.specs.Laws.{BringKeeps, CommitIsUnseen, EmptyKeeps, FailedBringKeeps, Fits, Keeps, SettleKeeps, UndoForgets, filled, is_among, page_in}
@@ -77,7 +77,7 @@ pub use Rattle.storage_unit.specs.declared.model.Reach.{Reach}
 pub use Rattle.storage_unit.specs.declared.unit.Unit.{Unit}
 pub use Rattle.byteorder.specs.Endian.{big_number}
 pub use Rattle.frame_pool.proofs.LayLemmas.{all-lines, laid-anyway, overlaid-joined}
-pub use Rattle.open_lines.specs.declared.lines.OpenLine.{OpenLine}
+pub use Rattle.page_table.specs.declared.open_lines.OpenLine.{OpenLine}
 pub use Rattle.ready_rows.specs.Known.{known}
 pub use Rattle.ready_rows.specs.declared.rows.ReadyRows.{ReadyRows}
 pub use Rattle.storage_unit.specs.Cleared.{AreClear, AreUsed}

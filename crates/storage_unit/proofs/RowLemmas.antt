@@ -1,6 +1,6 @@
 -- An attempt over the unit is the row of the plain machine on the bytes that it shows over the committed ones.
 use Rattle.storage_unit.proofs.Common.{◌≡◌, ℕ, ◌+◌, ◌*◌, ◌<◌, ◌≤◌, Bool, true, false, List, [], ◌∷◌, ◌++◌, length, refl, sym, ◌∙◌, ap, subst, arith, Option, Some, None, Result, Ok, Err, ◌⊎◌, inl, inr, ◌==◌, ◌||◌, nat_lt, cond, if◌then◌else◌, slice_index, slice_range, slice_set, option_map_or, ne_eqb, nat_tests, length-append, get_or-map-range_with_len, length-map-range_with_len, same_number_lists, has, Lines, no_lines, Virtual, located_by, Located, Private, Shared, Refused, Program, lines_at, touched, Access, Fault, Probe, bytes_from, halfword_of, access_to, answered, answer_in, Seen, Tried, seen_in, undone, refused_by, unless_refused, tried, Reach, private_segment, place_at, on, seat_of, byte_of, byte_at, is_there, is_in_frame, refuses, put_at, stored, byte_in_frame, bytes_over, private_bytes, is_line_marked, IsSound, Lies, AreThere, plain_over, HasWindows, IsOpen, IsShutOut, IsRow, GoesOpen, MarksWritten, ChangesBytes, StaysClean, LeavesSeats}
-use Rattle.segment_regs.specs.declared.registers.Check.{Check as Wrong}
+use Rattle.page_table.specs.declared.segment_regs.Check.{Check as Wrong}
 use Rattle.flat_machine.specs.declared.machine.Act.{Act}
 use Rattle.flat_machine.specs.declared.machine.Cs.{Cs}
 use Rattle.flat_machine.specs.declared.machine.Plain.{Plain}

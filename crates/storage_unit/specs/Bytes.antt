@@ -2,11 +2,11 @@
 use Rattle.std.specs.Prelude.{◌≡◌, ℕ, ◌+◌, ◌*◌, ◌%◌, ◌<◌, if◌then◌else◌, Bool, false, List, map, slice_index, slice_range, Some}
 use Rattle.std.specs.List.{range_with_len}
 use Rattle.std.specs.Option.{option_map_or}
-use Rattle.line_geometry.specs.Directory.{Layout, byte_count}
-use Rattle.line_geometry.specs.Lines.{line_of, page_of}
-use Rattle.line_geometry.specs.Segments.{page_bytes}
-use Rattle.lock_rules.specs.Sets.{has}
-use Rattle.lock_rules.specs.Lines.{page_of_line}
+use Rattle.lines.specs.Directory.{Layout, byte_count}
+use Rattle.lines.specs.Lines.{line_of, page_of}
+use Rattle.lines.specs.Segments.{page_bytes}
+use Rattle.lines.specs.Sets.{has}
+use Rattle.lines.specs.Conflicts.{page_of_line}
 use Rattle.frame_pool.specs.declared.model.Pool.{Pool}
 use Rattle.frame_pool.specs.Pool.{frame_at, marks_at}
 

@@ -2,15 +2,15 @@
 use Rattle.std.specs.Prelude.{◌≡◌, ℕ, ◌+◌, ◌/◌, ◌%◌, ◌<◌, nat_lt, if◌then◌else◌, Bool, true, false, List, [], map, replicate, slice_index_or, slice_set, Option, Some, None, option_map}
 use Rattle.std.specs.List.{range_with_len}
 use Rattle.std.specs.Option.{option_map_or}
-use Rattle.line_geometry.specs.declared.directory.PageSize.{PageSize}
-use Rattle.line_geometry.specs.declared.directory.PageSize.TheVariants.{Two, Four}
-use Rattle.line_geometry.specs.Directory.{Layout, length_of}
-use Rattle.line_geometry.specs.LineSets.{IsOfPage}
-use Rattle.segment_regs.specs.declared.registers.SegmentRegister.{SegmentRegister}
-use Rattle.segment_regs.specs.Registers.{Registers, private_register}
-use Rattle.inverted_table.specs.declared.key.Key.{Key}
-use Rattle.inverted_table.specs.Keys.{key_to}
-use Rattle.inverted_table.specs.Placed.{Placed}
+use Rattle.lines.specs.declared.line_geometry.PageSize.{PageSize}
+use Rattle.lines.specs.declared.line_geometry.PageSize.TheVariants.{Two, Four}
+use Rattle.lines.specs.Directory.{Layout, length_of}
+use Rattle.lines.specs.LineSets.{IsOfPage}
+use Rattle.page_table.specs.declared.segment_regs.SegmentRegister.{SegmentRegister}
+use Rattle.page_table.specs.Registers.{Registers, private_register}
+use Rattle.page_table.specs.declared.key.Key.{Key}
+use Rattle.page_table.specs.Keys.{key_to}
+use Rattle.page_table.specs.Placed.{Placed}
 use Rattle.frame_pool.specs.declared.model.Pool.{Pool}
 use Rattle.frame_pool.specs.Sizes.{private_frames}
 use Rattle.frame_pool.specs.Pool.{frame_at}

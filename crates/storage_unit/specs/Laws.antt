@@ -1,10 +1,10 @@
 -- What the calls of a unit do to its one list of bytes.
 use Rattle.std.specs.Prelude.{◌≡◌, ℕ, ◌+◌, ◌*◌, ◌%◌, ◌<◌, ◌==◌, ◌&&◌, if◌then◌else◌, Bool, true, false, List, length, slice_index, slice_range, Option}
-use Rattle.lock_rules.specs.Sets.{has}
-use Rattle.lock_rules.specs.Lines.{page_of_line}
-use Rattle.line_geometry.specs.Directory.{Layout, byte_count, page_count}
-use Rattle.line_geometry.specs.Lines.{line_of}
-use Rattle.line_geometry.specs.Segments.{page_bytes}
+use Rattle.lines.specs.Sets.{has}
+use Rattle.lines.specs.Conflicts.{page_of_line}
+use Rattle.lines.specs.Directory.{Layout, byte_count, page_count}
+use Rattle.lines.specs.Lines.{line_of}
+use Rattle.lines.specs.Segments.{page_bytes}
 use Rattle.frame_pool.specs.declared.model.Pool.{Pool}
 use Rattle.frame_pool.specs.Pool.{Brought, settled, undone, emptied, laid, with_bytes}
 use Rattle.frame_pool.specs.Seen.{IsSeen}

@@ -1,19 +1,19 @@
 -- The lines that a unit knows: each may be accessed.
 use Rattle.std.specs.Prelude.{◌≡◌, ℕ, ◌+◌, ◌*◌, ◌%◌, ◌≤◌, ◌<◌, Bool, true, false, List, [], slice_index_or, Some, Ok}
-use Rattle.line_geometry.specs.Directory.{Layout, start_of}
-use Rattle.line_geometry.specs.Lines.{line_of}
-use Rattle.line_geometry.specs.Segments.{page_bytes}
-use Rattle.lock_rules.specs.Lines.{page_of_line}
-use Rattle.lock_rules.specs.Sets.{has}
-use Rattle.lock_rules.specs.Access.{lets}
-use Rattle.lockbit_rules.specs.Entries.{grant_of}
-use Rattle.segment_regs.specs.declared.registers.Virtual.{Virtual}
-use Rattle.segment_regs.specs.Registers.{Registers, located_by}
-use Rattle.inverted_table.specs.Keys.{key_of}
-use Rattle.inverted_table.specs.Placed.{Placed, entry_at, look_up}
-use Rattle.open_lines.specs.declared.lines.OpenLine.{OpenLine}
-use Rattle.open_lines.specs.declared.lines.OpenLines.{OpenLines}
-use Rattle.open_lines.specs.Known.{known}
+use Rattle.lines.specs.Directory.{Layout, start_of}
+use Rattle.lines.specs.Lines.{line_of}
+use Rattle.lines.specs.Segments.{page_bytes}
+use Rattle.lines.specs.Conflicts.{page_of_line}
+use Rattle.lines.specs.Sets.{has}
+use Rattle.lines.specs.Access.{lets}
+use Rattle.page_table.specs.Entries.{grant_of}
+use Rattle.page_table.specs.declared.segment_regs.Virtual.{Virtual}
+use Rattle.page_table.specs.Registers.{Registers, located_by}
+use Rattle.page_table.specs.Keys.{key_of}
+use Rattle.page_table.specs.Placed.{Placed, entry_at, look_up}
+use Rattle.page_table.specs.declared.open_lines.OpenLine.{OpenLine}
+use Rattle.page_table.specs.declared.open_lines.OpenLines.{OpenLines}
+use Rattle.page_table.specs.KnownLines.{known}
 use Rattle.romp_cpu.specs.Answers.{answer_in}
 use Rattle.romp_cpu.specs.declared.storage.Access.{Access}
 use Rattle.romp_cpu.specs.declared.storage.Probe.{Probe}

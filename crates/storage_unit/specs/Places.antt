@@ -1,14 +1,14 @@
 -- Where bytes lie: private storage, the flat place in the store, and the page that the table knows.
 use Rattle.std.specs.Prelude.{ℕ, ◌+◌, ◌-◌, ◌*◌, nat_le, nat_lt, if◌then◌else◌, Bool, List, [], ◌∷◌, Result, Ok, Err}
-use Rattle.line_geometry.specs.declared.directory.PageSize.{PageSize}
-use Rattle.line_geometry.specs.Segments.{page_bytes}
-use Rattle.line_geometry.specs.Directory.{Layout, start_of}
+use Rattle.lines.specs.declared.line_geometry.PageSize.{PageSize}
+use Rattle.lines.specs.Segments.{page_bytes}
+use Rattle.lines.specs.Directory.{Layout, start_of}
 use Rattle.flat_machine.specs.declared.machine.Located.{Located}
 use Rattle.flat_machine.specs.declared.machine.Located.TheVariants.{Private, Shared, Refused}
-use Rattle.segment_regs.specs.declared.registers.Check.{Check}
-use Rattle.segment_regs.specs.declared.registers.Virtual.{Virtual}
-use Rattle.inverted_table.specs.declared.key.Key.{Key}
-use Rattle.inverted_table.specs.Keys.{key_to}
+use Rattle.page_table.specs.declared.segment_regs.Check.{Check}
+use Rattle.page_table.specs.declared.segment_regs.Virtual.{Virtual}
+use Rattle.page_table.specs.declared.key.Key.{Key}
+use Rattle.page_table.specs.Keys.{key_to}
 
 -- the private segment of a seat, and whether a segment is a private one
 abbrev pub private_segment : ℕ → ℕ

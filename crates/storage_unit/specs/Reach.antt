@@ -2,21 +2,21 @@
 use Rattle.std.specs.Prelude.{ℕ, ◌+◌, ◌-◌, ◌*◌, ◌/◌, ◌%◌, ◌==◌, ◌&&◌, nat_le, nat_lt, not, if◌then◌else◌, Bool, true, false, List, map, length, slice_index, slice_index_or, is_some}
 use Rattle.std.specs.List.{range_with_len}
 use Rattle.std.specs.Option.{option_map_or}
-use Rattle.owned_list.specs.Overlay.{overlaid}
-use Rattle.line_geometry.specs.Directory.{Layout}
-use Rattle.line_geometry.specs.Lines.{line_of}
-use Rattle.line_geometry.specs.Segments.{page_bytes}
-use Rattle.line_geometry.specs.LineSets.{union, lines_where}
-use Rattle.lock_rules.specs.Sets.{has}
-use Rattle.lock_rules.specs.Lines.{page_of_line}
+use Rattle.lines.specs.Overlay.{overlaid}
+use Rattle.lines.specs.Directory.{Layout}
+use Rattle.lines.specs.Lines.{line_of}
+use Rattle.lines.specs.Segments.{page_bytes}
+use Rattle.lines.specs.LineSets.{union, lines_where}
+use Rattle.lines.specs.Sets.{has}
+use Rattle.lines.specs.Conflicts.{page_of_line}
 use Rattle.flat_machine.specs.declared.machine.Located.{Located}
 use Rattle.flat_machine.specs.declared.machine.Located.TheVariants.{Private, Shared, Refused}
 use Rattle.flat_machine.specs.Touched.{lines_at}
-use Rattle.segment_regs.specs.declared.registers.Virtual.{Virtual}
-use Rattle.segment_regs.specs.Registers.{located_by}
-use Rattle.lock_rules.specs.Access.{lets}
-use Rattle.lockbit_rules.specs.Entries.{grant_of}
-use Rattle.inverted_table.specs.Placed.{unowned}
+use Rattle.page_table.specs.declared.segment_regs.Virtual.{Virtual}
+use Rattle.page_table.specs.Registers.{located_by}
+use Rattle.lines.specs.Access.{lets}
+use Rattle.page_table.specs.Entries.{grant_of}
+use Rattle.page_table.specs.Placed.{unowned}
 use Rattle.frame_pool.specs.declared.model.Pool.{Pool}
 use Rattle.frame_pool.specs.Pool.{frame_at, page_at, marks_at}
 use Rattle.storage_unit.specs.declared.model.Reach.{Reach}

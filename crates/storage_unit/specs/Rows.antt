@@ -1,8 +1,8 @@
 -- An attempt over the unit, beside the row of the plain machine on one list of bytes of the store.
-use Rattle.std.specs.Prelude.{◌≡◌, ℕ, ◌+◌, ◌<◌, ◌≤◌, ◌||◌, Bool, true, false, List, [], ◌∷◌, ◌++◌, length}
-use Rattle.lock_rules.specs.Sets.{has}
-use Rattle.lock_rules.specs.Lines.{Lines, page_of_line}
-use Rattle.line_geometry.specs.Directory.{byte_count}
+use Rattle.std.specs.Prelude.{◌≢◌, ◌≡◌, ℕ, ◌+◌, ◌<◌, ◌≤◌, ◌||◌, Bool, true, false, List, [], ◌∷◌, ◌++◌, length}
+use Rattle.lines.specs.Sets.{has}
+use Rattle.lines.specs.Conflicts.{Lines, page_of_line}
+use Rattle.lines.specs.Directory.{byte_count}
 use Rattle.flat_machine.specs.declared.machine.Plain.{Plain}
 use Rattle.flat_machine.specs.declared.machine.Program.{Program}
 use Rattle.flat_machine.specs.Row.{On, Commit, Check, plan, row}
@@ -66,7 +66,7 @@ pub record IsShutOut (program : Program) (state : Reach) (before : Plain) (acces
   pub next : Plain
   pub goes : row program state.directory before ≡ On next
   pub touches : touched program state.directory before ≡ lines_of_access program state.directory access
-  pub shut : IsOpen state (touched program state.directory before) → ⊥
+  pub shut : ¬ (IsOpen state (touched program state.directory before))
 
 -- processor and unit are as before
 abbrev pub Stay : (before after : Cpu) → (old new : Reach) → Type 0
@@ -111,4 +111,4 @@ StaysClean old new =
 -- private bytes of other seats stay
 abbrev pub LeavesSeats : (old new : Reach) → Type 0
 LeavesSeats old new =
-    (seat : ℕ) → seat < 16 → (seat + 1 ≡ old.runner → ⊥) → private_bytes new.pool seat ≡ private_bytes old.pool seat
+    (seat : ℕ) → seat < 16 → (seat + 1 ≢ old.runner) → private_bytes new.pool seat ≡ private_bytes old.pool seat

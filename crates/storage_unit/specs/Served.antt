@@ -1,7 +1,7 @@
 -- What the calls of a unit leave.
 use Rattle.std.specs.Prelude.{ℕ, ◌+◌, ◌*◌, ◌-◌, ◌==◌, if◌then◌else◌, List, ◌++◌, length, map, replicate, slice_set, true, false, None}
-use Rattle.line_geometry.specs.Directory.{Layout, page_count}
-use Rattle.inverted_table.specs.Placed.{unowned, cleared_entry}
+use Rattle.lines.specs.Directory.{Layout, page_count}
+use Rattle.page_table.specs.Placed.{unowned, cleared_entry}
 use Rattle.frame_pool.specs.Pool as pool
 use Rattle.storage_unit.specs.declared.model.Reach.{Reach}
 

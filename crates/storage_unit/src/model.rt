@@ -1,9 +1,7 @@
 // What contracts see of a unit.
 use frame_pool::Pool;
-use line_geometry::Directory;
-use lockbit_rules::Authority;
-use owned_list::OwnedList;
-use segment_regs::SegmentRegs;
+use lines::{Directory, OwnedList};
+use page_table::{Authority, SegmentRegs};
 
 /// A unit, as contracts see it: the pool; the entry of each page of the store; which of sixteen seats are begun; the
 /// directory of the store; and the segment registers and the identifier of the seat that is selected. The identifier is a

@@ -1,19 +1,17 @@
 // The private storage of sixteen seats, and which of them is selected.
 ghost use Rattle.std.specs.Prelude.{◌≡◌, ℕ, List, None, ◌+◌, ◌<◌, ◌≤◌, ◌-◌, ◌++◌, false, true, length, slice_index, slice_index_or, replicate};
-ghost use Rattle.owned_list.specs.Overlay.{overlaid};
-ghost use Rattle.inverted_table.specs.Keys.{key_to};
-ghost use Rattle.inverted_table.specs.Placed.{key_in, look_up};
-ghost use Rattle.tlb_model.specs.declared.tlb.Pair.{Pair};
-ghost use Rattle.tlb_model.specs.Buffer.{IsOfTable};
+ghost use Rattle.lines.specs.Overlay.{overlaid};
+ghost use Rattle.page_table.specs.Keys.{key_to};
+ghost use Rattle.page_table.specs.Placed.{key_in, look_up};
+ghost use Rattle.page_table.specs.declared.tlb_model.Pair.{Pair};
+ghost use Rattle.page_table.specs.Buffer.{IsOfTable};
 ghost use Rattle.storage_unit.specs.Held.{AreReached, first_keys};
 
 use super::rows::forget_unless;
 use super::serving::clear_frame;
 use super::sizes::{first_frame, seat_pages};
 use super::unit::Unit;
-use inverted_table::Table;
-use segment_regs::SegmentRegs;
-use tlb_model::Tlb;
+use page_table::{SegmentRegs, Table, Tlb};
 
 /// The segment of the private storage of seat 0; those of a store are below it.
 pub const PRIVATE: u16 = 3840;

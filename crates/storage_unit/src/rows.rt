@@ -1,17 +1,16 @@
 // The rows that are known, and the bytes that were used, where private bytes are stored.
 ghost use Rattle.std.specs.Prelude.{◌≡◌, ℕ, ◌+◌, ◌-◌, ◌≤◌, ◌<◌, ◌^◌, if◌then◌else◌, length, slice_index, false, true, None};
 ghost use Rattle.ready_rows.specs.Known.{known};
-ghost use Rattle.open_lines.specs.Known.{KnowsNothing};
+ghost use Rattle.page_table.specs.KnownLines.{KnowsNothing};
 ghost use Rattle.storage_unit.specs.Places.{is_private, offset_of};
 ghost use Rattle.storage_unit.specs.ReadyRows.{after_store};
 ghost use Rattle.storage_unit.specs.Cleared.{AreUsed};
 
 use super::private::PRIVATE;
 use super::sizes::offset_of;
-use line_geometry::PageSize;
-use open_lines::OpenLines;
+use lines::PageSize;
+use page_table::{OpenLines, Virtual};
 use ready_rows::ReadyRows;
-use segment_regs::Virtual;
 
 /// So many bytes are stored from a byte on: where that one is private, no row that has one of them stays known.
 #[inline(always)]

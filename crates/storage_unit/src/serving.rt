@@ -1,25 +1,22 @@
 // Pages that come in and go out, and entries that are set.
 ghost use Rattle.std.specs.Prelude.{◌≡◌, ℕ, ◌<◌, ◌≤◌, false, length, fold, slice_set, option_and_then};
 ghost use Rattle.std.specs.Option.{option_map_or};
-ghost use Rattle.inverted_table.specs.Placed.{look_up, without_frame};
-ghost use Rattle.tlb_model.specs.Buffer.{IsOfTable};
+ghost use Rattle.page_table.specs.Placed.{look_up, without_frame};
+ghost use Rattle.page_table.specs.Buffer.{IsOfTable};
 ghost use Rattle.frame_pool.specs.View.{pool_of};
 ghost use Rattle.storage_unit.specs.Held.{keys_without};
-ghost use Rattle.line_geometry.specs.Directory.{page_count};
-ghost use Rattle.lock_rules.specs.Sets.{has};
+ghost use Rattle.lines.specs.Directory.{page_count};
+ghost use Rattle.lines.specs.Sets.{has};
 ghost use Rattle.frame_pool.specs.Sizes.{frame_count};
 ghost use Rattle.frame_pool.specs.Pool.{Brought, frame_at, page_out, settled, undone, emptied, laid};
 ghost use Rattle.storage_unit.specs.Places.{key_among};
 ghost use Rattle.storage_unit.specs.Served.{released};
-ghost use Rattle.open_lines.specs.Known.{KnowsNothing};
+ghost use Rattle.page_table.specs.KnownLines.{KnowsNothing};
 
 use super::unit::Unit;
 use frame_pool::{FramePool, Slot};
-use inverted_table::{Key, Table};
-use line_geometry::LineSet;
-use lockbit_rules::Authority;
-use open_lines::OpenLines;
-use tlb_model::Tlb;
+use lines::LineSet;
+use page_table::{Authority, Key, OpenLines, Table, Tlb};
 
 impl Unit {
     ghost use Rattle.storage_unit.specs.View.{reach_of};

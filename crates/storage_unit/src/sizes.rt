@@ -1,12 +1,12 @@
 // Places, by the size of a page.
 ghost use Rattle.std.specs.Prelude.{◌≡◌, ◌+◌, ◌-◌, ◌*◌, ◌/◌, ◌%◌, ◌<◌, ◌≤◌, ◌^◌, nat_le, true};
-ghost use Rattle.line_geometry.specs.Segments.{page_bytes, line_bytes};
-ghost use Rattle.segment_regs.specs.Registers.{bytes_on};
+ghost use Rattle.lines.specs.Segments.{page_bytes, line_bytes};
+ghost use Rattle.page_table.specs.Registers.{bytes_on};
 ghost use Rattle.storage_unit.specs.Held.{seat_pages};
 ghost use Rattle.storage_unit.specs.Places.{offset_of};
 
-use line_geometry::PageSize;
-use segment_regs::{Virtual, virtual_at};
+use lines::PageSize;
+use page_table::{Virtual, virtual_at};
 
 /// The private pages of a seat.
 pub fn seat_pages(page: PageSize) -> u16

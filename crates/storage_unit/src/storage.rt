@@ -1,10 +1,10 @@
 // The unit as a storage.
 ghost use Rattle.std.specs.Prelude.{◌≡◌, ◌+◌, ◌*◌, ◌-◌, ◌%◌, ◌<◌, ◌≤◌, ◌^◌, ℕ, length, find, not, Ok, Some, true, false, IfOk, IfErr, IfSome};
 ghost use Rattle.std.specs.List.{range_with_len};
-ghost use Rattle.segment_regs.specs.Registers.{bytes_on, located_by};
-ghost use Rattle.line_geometry.specs.Segments.{page_bytes, line_bytes};
-ghost use Rattle.line_geometry.specs.Directory.{byte_count, start_of};
-ghost use Rattle.line_geometry.specs.Lines.{line_of};
+ghost use Rattle.page_table.specs.Registers.{bytes_on, located_by};
+ghost use Rattle.lines.specs.Segments.{page_bytes, line_bytes};
+ghost use Rattle.lines.specs.Directory.{byte_count, start_of};
+ghost use Rattle.lines.specs.Lines.{line_of};
 ghost use Rattle.romp_cpu.specs.Answers.{answer_in, answered_at, answer_of, if_permitted, IsRefusal};
 ghost use Rattle.romp_cpu.specs.Shown.{access_to, bytes_from};
 ghost use Rattle.flat_machine.specs.Ready.{IsRowOf};
@@ -22,8 +22,8 @@ ghost use Rattle.storage_unit.specs.Reached.{Lies, AreThere, bytes_shown, is_abs
 ghost use Rattle.storage_unit.specs.Held.{table_of};
 ghost use Rattle.storage_unit.specs.Accesses.{IsRead, IsReadIf, IsWritten, IsWrittenIf};
 ghost use Rattle.storage_unit.specs.OpenLines.{is_marked_at, IsOpenAt, IsOpenFrom};
-ghost use Rattle.inverted_table.specs.Keys.{key_of};
-ghost use Rattle.inverted_table.specs.Placed.{look_up};
+ghost use Rattle.page_table.specs.Keys.{key_of};
+ghost use Rattle.page_table.specs.Placed.{look_up};
 
 use super::model::Reach;
 use super::private::PRIVATE;
@@ -34,9 +34,8 @@ use super::sizes::{
 use super::unit::Unit;
 use byteorder::{BigEndian, ByteOrder};
 use flat_machine::{Ready, fill, gather, ready_of};
-use open_lines::OpenLine;
+use page_table::{Check, OpenLine, Virtual};
 use romp_cpu::{Access, Attempt, Cpu, Fault, Probe, Storage};
-use segment_regs::{Check, Virtual};
 
 impl Unit {
     ghost use Rattle.storage_unit.specs.Reach.{byte_at, stored};

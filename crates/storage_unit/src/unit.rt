@@ -1,11 +1,11 @@
 // The unit's parts, and that they agree.
 ghost use Rattle.std.specs.Prelude.{◌≡◌, ◌≤◌, length, IfOk};
-ghost use Rattle.line_geometry.specs.Directory.{page_count};
-ghost use Rattle.line_geometry.specs.Legal.{IsLegal};
+ghost use Rattle.lines.specs.Directory.{page_count};
+ghost use Rattle.lines.specs.Legal.{IsLegal};
 ghost use Rattle.frame_pool.specs.View.{pool_of};
-ghost use Rattle.inverted_table.specs.Keys.{key_of};
-ghost use Rattle.inverted_table.specs.Placed.{look_up};
-ghost use Rattle.tlb_model.specs.Buffer.{IsOfTable, found, after_found};
+ghost use Rattle.page_table.specs.Keys.{key_of};
+ghost use Rattle.page_table.specs.Placed.{look_up};
+ghost use Rattle.page_table.specs.Buffer.{IsOfTable, found, after_found};
 ghost use Rattle.storage_unit.specs.Held.{keys_of, AreOfPages, IsSelected, table_of};
 ghost use Rattle.storage_unit.specs.PlanCodes.{plan_set};
 ghost use Rattle.storage_unit.specs.ReadyRows.{AreReady};
@@ -15,14 +15,11 @@ ghost use Rattle.std.proofs.Props.{props};
 ghost use Rattle.storage_unit.specs.Served.{made};
 
 use frame_pool::{FramePool, private_frames};
-use inverted_table::Table;
-use line_geometry::Directory;
-use open_lines::OpenLines;
+use lines::Directory;
+use page_table::{OpenLines, SegmentRegs, Table, Tlb, Virtual};
 use ready_rows::ReadyRows;
-use segment_regs::{SegmentRegs, Virtual};
 use std::alloc::{AllocError, Global};
 use store_format::Header;
-use tlb_model::Tlb;
 
 /// Frames, page table and look-aside buffer of a store, with the segment registers of the seat that is selected
 /// (docs/MODEL.md). They agree: the table has a page of the store in a frame exactly where the pool has

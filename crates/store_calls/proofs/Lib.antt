@@ -5,3 +5,5 @@ pub mod NameLemmas
 pub mod WrittenLemmas
 pub mod RenewLemmas
 pub mod Lemmas
+pub mod BundleLemmas
+pub mod PromiseLemmas

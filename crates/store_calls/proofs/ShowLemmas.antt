@@ -1,7 +1,7 @@
 -- Calls that ask the disk, and puts, one after another.
 use Rattle.store_calls.proofs.Common.{Option, IsSome, Result, Ok, Err, div_ceil, cases_lt, drop-drop, drop-take, div-add-mod', PageSize, page_bytes, Ghosts, Failed, Prints, AsksAndPuts, OnlyAsks, FewerLater, held_of, held_same, shows_asks, shows_none, shows_on, shows_puts, stands_is, Standing, Stands, NotAStore, Damaged, stands, shown_store, IsShown, Shows, page_in, row_lines, Puts, PutsTimes, Status, AreRead, HasRead, PutsBytes, PutsDone, StopsBy, bytes_in, nat_tests, ◌≡◌, ◌≤◌, ◌<◌, ◌+◌, ◌-◌, ◌*◌, ◌/◌, ◌%◌, ⊎_elim, ℕ, zero, suc, List, [], ◌∷◌, ◌++◌, length, take, drop, refl, sym, ◌∙◌, ap, subst, arith, append-nil, length-append, prints_broken, prints_none, prints_on, prints_stop, prints_same, prints_unput}
 use Rattle.std.proofs.Math.Seq.{take-add}
-use Rattle.restart.specs.Kept.{KeptStore}
+use Rattle.store.specs.KeptStore.{KeptStore}
 use Rattle.listing.proofs.RowLemmas.{rows_on}
 use Rattle.call_status.specs.declared.status.Status.TheVariants as status
 

@@ -1,9 +1,9 @@
 -- What printing a range of a store did.
 use Rattle.store_calls.proofs.Common.{◌≡◌, ◌⊎◌, inl, inr, ◌+◌, ℕ, List, [], refl, sym, ◌∙◌, ap, subst, Option, IsSome, IsTrue, Result, Ok, Err, unwrap_or, div_ceil, Ghosts, AreTold, Prints, bytes_at, AsksAndPuts, OnlyAsks, FewerLater, held_of, leaves_on, Layout, start_of, FlatStore, Stands, stands, stands_is, Shows, IsShown, shown_store, row_lines, call, Status, Range, HasRange, IsInside, PutsBytes, PutsDone, RangeShown, ShownBy, StopsBy, bytes_in, rows_of, held_same, shows_asks, shows_none, shows_on, nat_tests, ⊎_elim, arith, Leaves, leaves_held, prints_unput, TracksStore}
-use Rattle.redo_journal.specs.declared.fault.OpenFault.{OpenFault}
-use Rattle.redo_journal.specs.declared.fault.OpenFault.TheVariants as open_fault
-use Rattle.restart.specs.Faults.{IsStoreOpenFault}
-use Rattle.restart.specs.Kept.{KeptStore}
+use Rattle.store.specs.declared.fault.OpenFault.{OpenFault}
+use Rattle.store.specs.declared.fault.OpenFault.TheVariants as open_fault
+use Rattle.store.specs.Faults.{IsStoreOpenFault}
+use Rattle.store.specs.KeptStore.{KeptStore}
 use Rattle.call_status.specs.Statuses.{status_of_open}
 use Rattle.call_status.specs.declared.status.Status.TheVariants as status
 

@@ -1,9 +1,9 @@
 -- The store that bytes in memory are.
 use Rattle.std.specs.Prelude.{◌≡◌, ℕ, List, length}
-use Rattle.line_geometry.specs.Directory.{byte_count}
+use Rattle.lines.specs.Directory.{byte_count}
 use Rattle.store_format.specs.Stands.{Stands, stands}
-use Rattle.redo_journal.specs.declared.fault.OpenFault.{OpenFault}
-use Rattle.redo_journal.specs.declared.fault.OpenFault.TheVariants as open_fault
+use Rattle.store.specs.declared.fault.OpenFault.{OpenFault}
+use Rattle.store.specs.declared.fault.OpenFault.TheVariants as open_fault
 use Rattle.serial_audit.specs.declared.auditing.KeptStore.{KeptStore}
 use Rattle.serial_audit.specs.Audit.{flat_of}
 use Rattle.store_calls.specs.declared.kept.KeptFault.{KeptFault}

@@ -3,3 +3,6 @@ pub mod Show
 pub mod New
 pub mod Kept
 pub mod Renewed
+pub mod Bundled
+pub mod Audited
+pub mod Traced

@@ -1,10 +1,10 @@
 -- A store of version 2 with what a store of version 1 has.
 use Rattle.std.specs.Prelude.{◌≡◌, ◌≢◌, ◌⊎◌, ℕ, ◌+◌, ◌*◌, ◌/◌, ◌%◌, ◌^◌, ◌<◌, nat_eq, if◌then◌else◌, Bool, List, [], ◌∷◌, ◌++◌, codes, decimal, length, map, sum_by, take, drop, replicate}
 use Rattle.std.specs.List.{starts_with}
-use Rattle.line_geometry.specs.FlatStore.{FlatStore}
-use Rattle.line_geometry.specs.Legal.{IsLegal}
-use Rattle.line_geometry.specs.Segments.{bytes_of}
-use Rattle.line_geometry.specs.declared.directory.PageSize.TheVariants.{Two, Four}
+use Rattle.lines.specs.FlatStore.{FlatStore}
+use Rattle.lines.specs.Legal.{IsLegal}
+use Rattle.lines.specs.Segments.{bytes_of}
+use Rattle.lines.specs.declared.line_geometry.PageSize.TheVariants.{Two, Four}
 use Rattle.outside.specs.Causes.{Rose}
 use Rattle.outside.specs.declared.world.Outside.{Ghosts}
 use Rattle.outside.specs.Runs.{OnlyAsks}

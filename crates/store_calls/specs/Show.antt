@@ -5,11 +5,11 @@ use Rattle.outside.specs.declared.world.Outside.{Ghosts}
 use Rattle.outside.specs.Bytes.{AreTold, Prints, bytes_at}
 use Rattle.outside.specs.Causes.{Rose}
 use Rattle.outside.specs.Runs.{AsksAndPuts, Leaves, OnlyAsks, held_of}
-use Rattle.line_geometry.specs.Directory.{Layout, length_of, start_of}
-use Rattle.line_geometry.specs.FlatStore.{FlatStore}
+use Rattle.lines.specs.Directory.{Layout, length_of, start_of}
+use Rattle.lines.specs.FlatStore.{FlatStore}
 use Rattle.store_format.specs.Stands.{Standing, Stands, NotAStore, Damaged, stands}
-use Rattle.restart.specs.Kept.{KeptStore}
-use Rattle.restart.specs.Shows.{IsShown}
+use Rattle.store.specs.KeptStore.{KeptStore}
+use Rattle.store.specs.Shows.{IsShown}
 use Rattle.listing.specs.Listing.{row_lines}
 use Rattle.call_status.specs.Call.{Call}
 use Rattle.call_status.specs.declared.status.Status.{Status}
@@ -69,7 +69,7 @@ HasRange G range before = IsSome (G.held before) → (number : ℕ) × (store : 
 
 -- and for one that hasn't
 abbrev pub HasNoRange : {W : Type 0} → Ghosts W → Range → W → Type 0
-HasNoRange G range before = IsSome (G.held before) → (number : ℕ) × (store : FlatStore) × (stands (held_of G before) ≡ Stands number store) × (IsInside store.directory range → ⊥)
+HasNoRange G range before = IsSome (G.held before) → (number : ℕ) × (store : FlatStore) × (stands (held_of G before) ≡ Stands number store) × (¬ (IsInside store.directory range))
 
 -- where the told bytes stand for a store: its rows are printed, or a prefix of them
 abbrev pub PrintsRows : {W : Type 0} → Ghosts W → Range → W → W → Status → Type 0

@@ -1,6 +1,6 @@
 -- The store that `try` is handed.
 use Rattle.std.specs.Prelude.{[], ◌∷◌}
-use Rattle.line_geometry.specs.declared.directory.PageSize.TheVariants.{Two}
+use Rattle.lines.specs.declared.line_geometry.PageSize.TheVariants.{Two}
 use Rattle.store_format.specs.Header.{Header}
 
 -- the header of the store: segment 1 with four pages, segment 2 with two, and a bank of 65,536 bytes

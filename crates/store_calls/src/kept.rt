@@ -1,20 +1,19 @@
 // The store that bytes in memory are.
 ghost use Rattle.store_calls.specs.declared.kept.KeptFault.TheVariants.{Memory};
 ghost use Rattle.std.specs.Prelude.{◌≡◌, IsSome, IfOk, IfErr, MatchResult, false};
-ghost use Rattle.line_geometry.specs.Directory.{byte_count};
+ghost use Rattle.lines.specs.Directory.{byte_count};
 ghost use Rattle.outside.specs.Runs.{OnlyAsks, held_of};
-ghost use Rattle.redo_journal.specs.Held.{HoldsAtLeast};
+ghost use Rattle.store.specs.Held.{HoldsAtLeast};
 ghost use Rattle.store_format.specs.Header.{total};
 ghost use Rattle.store_format.specs.Stands.{stands};
-ghost use Rattle.restart.specs.Shows.{IsShown};
+ghost use Rattle.store.specs.Shows.{IsShown};
 ghost use Rattle.store_calls.specs.Kept.{IsWhyNone, Keeps, fault_of};
 ghost use Rattle.store_calls.specs.Show.{bytes_in};
 
 use outside::{Failed, Joint, MemoryDisk, MemoryScreen, Outside};
-use redo_journal::OpenFault;
-use restart::Durable;
 use serial_audit::KeptStore;
 use std::alloc::{AllocError, Global};
+use store::{Durable, OpenFault};
 
 /// The bytes of the largest page.
 const LARGEST_PAGE: usize = 4096;

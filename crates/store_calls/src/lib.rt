@@ -1,15 +1,20 @@
 //! A store that is made, renewed, shown, or read whole: the words `new`, `new2`, `renew` and `show`, and the store that `try` runs on.
 #![tactic(auto)]
 
+mod audit;
+mod bundle;
 mod kept;
 mod new;
 mod opening;
 mod renew;
 mod show;
+mod trace;
 mod written;
 
+pub use audit::audit_source;
 pub use kept::{KeptFault, kept_store};
 pub use new::make_store;
 pub use opening::try_store;
 pub use renew::renew_store;
 pub use show::{Range, show_range};
+pub use trace::trace_source;

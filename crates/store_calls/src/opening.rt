@@ -3,7 +3,7 @@ ghost use Rattle.std.specs.Prelude.{◌≡◌, vec_len, IfOk};
 ghost use Rattle.store_format.specs.Header.{total, fresh};
 ghost use Rattle.store_calls.specs.TryStore.{try_layout};
 
-use line_geometry::{Directory, PageSize};
+use lines::{Directory, PageSize};
 use std::alloc::{AllocError, Global};
 use store_format::Header;
 

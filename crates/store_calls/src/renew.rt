@@ -1,7 +1,7 @@
 // A store of version 1 that is made one of version 2.
 ghost use Rattle.std.specs.Prelude.{◌≡◌, ◌≢◌, ◌≤◌, ◌++◌, [], length, sum_by, IfOk, IfErr, MatchResult, OnOk};
-ghost use Rattle.line_geometry.specs.Segments.{bytes_of};
-ghost use Rattle.line_geometry.specs.declared.directory.PageSize.TheVariants.{Two};
+ghost use Rattle.lines.specs.Segments.{bytes_of};
+ghost use Rattle.lines.specs.declared.line_geometry.PageSize.TheVariants.{Two};
 ghost use Rattle.outside.specs.Causes.{Rose};
 ghost use Rattle.serial_audit.specs.Audit.{flat_of};
 ghost use Rattle.call_status.specs.Call.{call, given};
@@ -11,7 +11,7 @@ use super::kept::{KeptFault, kept_image};
 use super::written::{ask_empty, write_store};
 use arrayvec::ArrayVec;
 use call_status::{MOST_OF_STORE, Status, read_text};
-use line_geometry::{Directory, PageSize};
+use lines::{Directory, PageSize};
 use outside::{Outside, Source};
 use serial_audit::KeptStore;
 use std::alloc::{AllocError, Global};

@@ -1,22 +1,22 @@
 // Bytes of a store, printed.
 ghost use Rattle.std.specs.Prelude.{◌≡◌, ◌+◌, ◌%◌, ◌^◌, ◌≤◌, ◌<◌, [], find, length, None, OnOk, MatchOption, false};
-ghost use Rattle.line_geometry.specs.Directory.{length_of, start_of, byte_count};
-ghost use Rattle.line_geometry.specs.Segments.{is_named, page_bytes};
+ghost use Rattle.lines.specs.Directory.{length_of, start_of, byte_count};
+ghost use Rattle.lines.specs.Segments.{is_named, page_bytes};
 ghost use Rattle.store_format.specs.Header.{total};
 ghost use Rattle.store_format.specs.Stands.{stands};
 ghost use Rattle.outside.specs.Causes.{Rose, FailsOnlyCounted};
 ghost use Rattle.outside.specs.Runs.{OnlyAsks, held_of};
-ghost use Rattle.redo_journal.specs.Held.{HoldsAtLeast};
-ghost use Rattle.restart.specs.Shows.{IsShown};
+ghost use Rattle.store.specs.Held.{HoldsAtLeast};
+ghost use Rattle.store.specs.Shows.{IsShown};
 ghost use Rattle.call_status.specs.Call.{call};
 ghost use Rattle.store_calls.specs.Show.{HasRead, IsInside, IsOfShow, PutsBytes, RangeShown, bytes_in};
 
 use call_status::Status;
-use line_geometry::Directory;
+use lines::Directory;
 use listing::put_rows;
 use outside::{Failed, Outside};
-use restart::Durable;
 use std::alloc::Global;
+use store::Durable;
 use store_format::Header;
 
 /// The most bytes that are read before they are put.
@@ -57,7 +57,7 @@ pub fn show_range<W: Outside>(alloc: Global, range: Range, outside: &mut W) -> S
 /// Where a range begins in the store; none where its segment is absent, or it ends past that.
 fn place_of(header: &Header, range: &Range) -> Option<u32>
     ensures { MatchOption result
-        (IsInside header.now.directory range.now → ⊥)
+        (¬ (IsInside header.now.directory range.now))
         (λ at. IsInside header.now.directory range.now
         × (at ≡ start_of header.now.directory range.now.segment + range.now.from)
         × (at + range.now.count ≤ byte_count header.now.directory)

@@ -11,14 +11,14 @@ pub use Rattle.std.specs.Prelude.{All, IfOk, IfSome, IsSome, None, Ok, Option, S
 pub use Rattle.std.specs.Vec.{vec_len}
 pub use Rattle.byteorder.specs.Endian.{big_bytes, big_from, big_number}
 pub use Rattle.byteorder.specs.Numbers.{big_from-take, big_number-reads_back}
-pub use Rattle.line_geometry.proofs.Within.{byte_count-lines}
-pub use Rattle.line_geometry.specs.Directory.{Layout, byte_count}
-pub use Rattle.line_geometry.specs.FlatStore.{FlatStore}
-pub use Rattle.line_geometry.specs.Legal.{AreFlags, IsLegal, fault_after, fault_of, flag_count, is_strange}
-pub use Rattle.line_geometry.specs.Lines.{line_count}
-pub use Rattle.line_geometry.specs.Segments.{line_bytes}
-pub use Rattle.line_geometry.specs.declared.directory.PageSize.{PageSize}
-pub use Rattle.line_geometry.specs.declared.directory.PageSize.TheVariants.{Four, Two}
+pub use Rattle.lines.proofs.WithinLemmas.{byte_count-lines}
+pub use Rattle.lines.specs.Directory.{Layout, byte_count}
+pub use Rattle.lines.specs.FlatStore.{FlatStore}
+pub use Rattle.lines.specs.Legal.{AreFlags, IsLegal, fault_after, fault_of, flag_count, is_strange}
+pub use Rattle.lines.specs.Lines.{line_count}
+pub use Rattle.lines.specs.Segments.{line_bytes}
+pub use Rattle.lines.specs.declared.line_geometry.PageSize.{PageSize}
+pub use Rattle.lines.specs.declared.line_geometry.PageSize.TheVariants.{Four, Two}
 pub use Rattle.outside.specs.Runs.{held_of}
 pub use Rattle.store_format.specs.Bank.{Area, Bank, Closed, Faulty, Gate, HasBank, Holds, HoldsFrom, NoMore, NoRecord, OneMore, RecordLine, Sound, Wrong, area_at, area_of, bank_held, bank_of, base_of, count_of, gate_at, gate_if, head_fault, headed_gate, lined_gate, lines_from, lines_of, number_of, preceded, record_bytes, wrong_line}
 unfoldable pub use Rattle.store_format.specs.Bank.{holds_from}

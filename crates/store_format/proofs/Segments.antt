@@ -1,6 +1,6 @@
 -- The fields of segments are right exactly where the segments are a directory's.
 use Rattle.store_format.proofs.Common.{◌≡◌, ℕ, ◌+◌, ◌-◌, ◌<◌, ◌≤◌, false, List, [], ◌∷◌, length, refl, subst, arith, None, All, nat_lt, nat_le, ◌==◌, not, ◌&&◌, min, nat_tests, All-nil, All-cons, All-head, All-tail, fault_of, fault_after, is_strange, IsLegal, Field, within, segment_fields, first_fault}
-use Rattle.line_geometry.proofs.Legal.{first-fine, legal-none, none_legal}
+use Rattle.lines.proofs.LegalLemmas.{first-fine, legal-none, none_legal}
 use Rattle.store_format.proofs.Checks.{none-append}
 
 abbrev pub Stays : Field → Type 0

@@ -8,7 +8,7 @@ ghost use Rattle.store_format.specs.Header.{number_at, within, name_field, segme
 
 use crate::Header;
 use byteorder::{BigEndian, ByteOrder};
-use line_geometry::{Directory, PageSize};
+use lines::{Directory, PageSize};
 use outside::{Failed, Outside};
 use thiserror::Error;
 

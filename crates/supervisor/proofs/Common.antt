@@ -37,21 +37,21 @@ pub use Rattle.desk_law.specs.Changes.{committed_at}
 pub use Rattle.flat_machine.specs.After.{after}
 pub use Rattle.flat_machine.specs.Row.{Check, Commit, On, Outcome, row}
 pub use Rattle.flat_machine.specs.declared.machine.Plain.{Plain}
-pub use Rattle.line_geometry.specs.Directory.{Layout, byte_count, page_count}
-pub use Rattle.line_geometry.specs.FlatStore.{FlatStore}
-pub use Rattle.lock_rules.specs.Sets.{has}
+pub use Rattle.lines.specs.Directory.{Layout, byte_count, page_count}
+pub use Rattle.lines.specs.FlatStore.{FlatStore}
+pub use Rattle.lines.specs.Sets.{has}
 pub use Rattle.outside.proofs.Runs.{asks_none, asks_on, leaves_on}
 pub use Rattle.outside.specs.Causes.{Rose}
 pub use Rattle.outside.specs.Durable.{IsSure}
 pub use Rattle.outside.specs.Runs.{FewerLater, Leaves, OnlyAsks, held_of}
 pub use Rattle.outside.specs.declared.world.Outside.{Ghosts}
-pub use Rattle.redo_journal.specs.Held.{IsMoreBy, OnlyWrites}
-pub use Rattle.redo_journal.specs.Kept.{begun_of, KeptBank, with_record}
-pub use Rattle.redo_journal.specs.declared.keep.Kept.{Kept}
-pub use Rattle.restart.proofs.ShowLemmas.{reopened_holds, shown_stands, shown_store, shows_begun, sure_on}
-pub use Rattle.restart.specs.Kept.{KeptStore, number_of, with_begun}
-pub use Rattle.restart.specs.Shows.{Shows, TracksStore}
-pub use Rattle.run_law.proofs.StepLemmas.{stepped}
+pub use Rattle.store.specs.Held.{IsMoreBy, OnlyWrites}
+pub use Rattle.store.specs.Kept.{begun_of, KeptBank, with_record}
+pub use Rattle.store.specs.declared.keep.Kept.{Kept}
+pub use Rattle.store.proofs.ShowLemmas.{reopened_holds, shown_stands, shown_store, shows_begun, sure_on}
+pub use Rattle.store.specs.KeptStore.{KeptStore, number_of, with_begun}
+pub use Rattle.store.specs.Shows.{Shows, TracksStore}
+pub use Rattle.desk_law.proofs.StepLemmas.{stepped}
 pub use Rattle.seats.proofs.Kept.{few-taken, taken-below}
 pub use Rattle.seats.proofs.Numbers.{seat-found}
 pub use Rattle.seats.specs.Seating.{newcomer, number_in, seat_of, sitter}
@@ -66,8 +66,8 @@ pub use Rattle.supervisor.specs.Session.{IsSound, activity, fixed_of, session_de
 pub use Rattle.supervisor.specs.Shown.{IsOpenOver, ShowsDesk, view_of}
 pub use Rattle.supervisor.specs.Went.{HasCommitted, TurnHasRun, IsCommitEnd, IsEitherSide, IsTurned, fine_desk}
 pub use Rattle.supervisor.specs.declared.session.Session.{Session}
-pub use Rattle.checkpoint.specs.Committed.{HoldsCommitted, emptied, roomy}
+pub use Rattle.store.specs.Committed.{HoldsCommitted, emptied, roomy}
 pub use Rattle.desk.specs.declared.answers.Turn.{Turn}
-pub use Rattle.redo_journal.specs.Tracks.{HoldsRecords, IsEither}
+pub use Rattle.store.specs.Tracks.{HoldsRecords, IsEither}
 pub use Rattle.std.proofs.lemmas.Bool.Decides.{nat_tests}
 pub use Rattle.std.specs.Option.{option_map}

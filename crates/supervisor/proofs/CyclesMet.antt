@@ -1,6 +1,6 @@
 -- The cycles that a turn records, and the desks at which they were met.
 use Rattle.supervisor.proofs.Common.{Bool, true, Plain, Outcome, row, after, Desk, Entry, with_entry, wanted, numbers, waits_for, Word, Counts, Limit, Turning, Going, Over, Attempt, Contest, Contested, Fetching, commits, takes_effect, goes_on, gets, with_grants, fetches_touched, breaks_cycle, breaks_cycles, waits_or_gets, contest_ends, asks, fetched_first, limited, attempts, attempts_at, instruction, turns, turn, turn_of, no_counts, WasMet, WereMet, CyclesWereMet, ◌≡◌, ℕ, zero, suc, ◌+◌, ◌<◌, ◌==◌, List, [], ◌∷◌, ◌++◌, length, find, refl, sym, ◌∙◌, ap, subst, arith, Option, Some, None}
-use Rattle.lock_rules.specs.Waits.{shown_cycle}
+use Rattle.lines.specs.Waits.{shown_cycle}
 use Rattle.desk_law.specs.Causes.{turn_counts}
 use Rattle.desk_law.specs.Laws.{contest_counts}
 use Rattle.desk_law.proofs.CyclesBroken.{broken-cycles-were}

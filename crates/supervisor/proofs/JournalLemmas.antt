@@ -1,14 +1,14 @@
 -- The journal of the bytes that a store shows, and what a commit and a checkpoint make of it.
 use Rattle.supervisor.proofs.Common.{◌≡◌, ℕ, ◌+◌, ◌%◌, ◌^◌, List, [], ◌∷◌, ◌++◌, length, refl, sym, ◌∙◌, ap, arith, Option, inl, inr, Bool, true, false, not, unwrap_or, ◌==◌, Holds, RecordLine, KeptStore, Shows, shown_store, begun_of, Journal, journal_emptied, journal_in, journal_with, suc, zero, nat_tests, drop, slice_index, nat_lt, if◌then◌else◌, option_map, nil_from_length, entry_bytes, number_at, Area, Closed, Gate, Sound, Wrong, count_of, gate_at, record_bytes, HoldsRecords, HoldsCommitted, emptied, roomy, bytes_taken}
 use Rattle.std.proofs.lemmas.List.Sums.{sum_by-append, sum_by-cons}
-use Rattle.line_geometry.specs.declared.directory.PageSize.{PageSize}
+use Rattle.lines.specs.declared.line_geometry.PageSize.{PageSize}
 use Rattle.store_format.specs.declared.header.Which.{Which}
 unfoldable use Rattle.store_format.specs.Bank.{holds_from}
 use Rattle.store_format.proofs.Walk.{closed_is, preceded_is, sound_is}
-use Rattle.redo_journal.specs.Kept.{KeptBank, area_end, end_of, needed_end, number_of, place_of, with_record}
-use Rattle.redo_journal.specs.Turned.{placed}
-use Rattle.redo_journal.proofs.AppendLemmas.{length-lines_from}
-use Rattle.checkpoint.specs.Chosen.{other}
+use Rattle.store.specs.Kept.{KeptBank, area_end, end_of, needed_end, number_of, place_of, with_record}
+use Rattle.store.specs.Turned.{placed}
+use Rattle.store.proofs.AppendLemmas.{length-lines_from}
+use Rattle.store.specs.Chosen.{other}
 
 -- the closed gate stands behind the records
 gate_behind : (image : List ℕ) (area : Area) (most number from gate : ℕ) (records : List (List RecordLine)) (at : Gate)

@@ -1,7 +1,7 @@
 -- A session that has just opened.
 use Rattle.supervisor.proofs.Common.{◌≡◌, ℕ, ◌+◌, ◌^◌, List, [], length, take, sym, ◌∙◌, ap, arith, Option, false, unwrap_or, byte_count, Ghosts, OnlyAsks, held_of, header_of, most_lines, Stands, stands, KeptStore, number_of, Shows, TracksStore, order_told, opened, desk_over, Begins, Session, activity, session_desk}
 use Rattle.std.proofs.Math.Nat.{mod-mod}
-use Rattle.restart.proofs.StoodLemmas.{committed_in, committed-long, stood-store}
+use Rattle.store.proofs.StoodLemmas.{committed_in, committed-long, stood-store}
 use Rattle.supervisor.specs.Opened.{HasStood, IsSessionOpened}
 
 pub has-stood : (held : List ℕ) (store : KeptStore) → Shows held store → HasStood store.header held

@@ -1,19 +1,19 @@
 -- Why the answers of a session come.
 use Rattle.std.specs.Prelude.{◌≡◌, ℕ, ◌+◌, ◌%◌, ◌<◌, ◌≤◌, ◌^◌, true, List, length, Option, Some, None}
-use Rattle.lock_rules.specs.Sets.{has}
+use Rattle.lines.specs.Sets.{has}
 use Rattle.outside.specs.declared.world.Outside.{Ghosts}
 use Rattle.outside.specs.Causes.{Rose}
 use Rattle.outside.specs.Runs.{Leaves, OnlyAsks, held_of}
 use Rattle.store_format.specs.Bank.{RecordLine}
-use Rattle.redo_journal.specs.declared.keep.Kept.{Kept}
-use Rattle.redo_journal.specs.declared.keep.Kept.TheVariants as kept
-use Rattle.redo_journal.specs.Appended.{FailedLeaves}
-use Rattle.redo_journal.specs.Held.{OnlyWrites}
-use Rattle.redo_journal.specs.Kept.{begun_of, with_record}
-use Rattle.redo_journal.specs.Tracks.{IsEither}
-use Rattle.checkpoint.specs.Committed.{roomy, IsKeptAfter}
-use Rattle.restart.specs.Kept.{KeptStore, with_begun}
-use Rattle.restart.specs.Shows.{TracksStore}
+use Rattle.store.specs.declared.keep.Kept.{Kept}
+use Rattle.store.specs.declared.keep.Kept.TheVariants as kept
+use Rattle.store.specs.Appended.{FailedLeaves}
+use Rattle.store.specs.Held.{OnlyWrites}
+use Rattle.store.specs.Kept.{begun_of, with_record}
+use Rattle.store.specs.Tracks.{IsEither}
+use Rattle.store.specs.Committed.{roomy, IsKeptAfter}
+use Rattle.store.specs.KeptStore.{KeptStore, with_begun}
+use Rattle.store.specs.Shows.{TracksStore}
 use Rattle.desk.specs.declared.answers.Reopened.{Reopened}
 use Rattle.desk.specs.declared.answers.Reopened.TheVariants as reopened
 use Rattle.desk.specs.declared.answers.Turn.{Turn}

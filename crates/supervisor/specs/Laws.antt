@@ -1,8 +1,8 @@
 -- What holds of each desk that a session shows, and of each cycle that a turn records.
 use Rattle.std.specs.Prelude.{◌≡◌, ◌<◌, ◌≤◌, ◌==◌, ℕ, true, IsFalse, List, [], ◌∷◌, find, Some}
-use Rattle.line_geometry.specs.FlatStore.{FlatStore, IsWhole}
-use Rattle.lock_rules.specs.Sets.{has}
-use Rattle.lock_rules.specs.Waits.{shown_cycle}
+use Rattle.lines.specs.FlatStore.{FlatStore, IsWhole}
+use Rattle.lines.specs.Sets.{has}
+use Rattle.lines.specs.Waits.{shown_cycle}
 use Rattle.flat_machine.specs.declared.machine.Program.{Program}
 use Rattle.desk.specs.declared.event.Event.{Event}
 use Rattle.desk.specs.Desk.{Desk, Entry, opened, with_entry}
@@ -36,7 +36,7 @@ abbrev pub ShownTurnsEnd : Type 0
 ShownTurnsEnd =
     (s : Session) (held : List ℕ) (desk : Desk) (word : Word) (number limit : ℕ) → ShowsDesk s held desk
     → ((entry : Entry) → IsAmong desk.active entry → IsOverFor word limit desk entry (turn word entry.number limit desk))
-    × ((IsActive desk number → ⊥) → turn word number limit desk ≡ Over desk no_counts Idle)
+    × ((¬ (IsActive desk number)) → turn word number limit desk ≡ Over desk no_counts Idle)
 
 -- A cycle was met in a turn. After so many of its rows the turn had come to a desk at which, with these pages resident, its entry was
 -- marked waiting and its contest went this many rounds; there the cycle was shown, and each of its members waits for the next.

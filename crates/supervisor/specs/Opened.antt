@@ -1,6 +1,6 @@
 -- A session that has just opened on the store of a disk.
 use Rattle.std.specs.Prelude.{◌≡◌, ℕ, List, [], false, take}
-use Rattle.line_geometry.specs.FlatStore.{FlatStore}
+use Rattle.lines.specs.FlatStore.{FlatStore}
 use Rattle.flat_machine.specs.declared.machine.Program.{Program}
 use Rattle.outside.specs.declared.world.Outside.{Ghosts}
 use Rattle.outside.specs.Durable.{IsSure}

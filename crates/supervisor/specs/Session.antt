@@ -1,7 +1,7 @@
 -- A session, the desk that it is over committed bytes, and what holds of it at every moment.
 use Rattle.std.specs.Prelude.{◌≡◌, ℕ, Bool, ◌+◌, ◌*◌, ◌<◌, ◌≤◌, ◌^◌, false, List, length, vec_len, vec_capacity}
 use Rattle.store_format.specs.Header.{Header, HasRanges, most_lines}
-use Rattle.restart.specs.Kept.{KeptStore, number_of}
+use Rattle.store.specs.KeptStore.{KeptStore, number_of}
 use Rattle.desk.specs.Answers.{order_told}
 use Rattle.desk.specs.Calls.{Fixed}
 use Rattle.desk.specs.Desk.{Desk}

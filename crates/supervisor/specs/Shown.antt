@@ -1,8 +1,8 @@
 -- The desk that a session shows over the bytes of a disk.
 use Rattle.std.specs.Prelude.{◌≡◌, ℕ, List, false}
 use Rattle.store_format.specs.Stands.{Stands, stands}
-use Rattle.restart.specs.Kept.{number_of}
-use Rattle.restart.specs.Shows.{Shows}
+use Rattle.store.specs.KeptStore.{number_of}
+use Rattle.store.specs.Shows.{Shows}
 use Rattle.desk.specs.Crash.{View}
 use Rattle.desk.specs.Desk.{Desk}
 use Rattle.desk.specs.Report.{number_after}

@@ -19,7 +19,7 @@ use activations::Tally;
 use arrayvec::ArrayVec;
 use desk::{Begun, Committed, Reopened, Stored, Turn, TurnEnd};
 use outside::{Failed, Outside};
-use redo_journal::ReopenFault;
+use store::ReopenFault;
 
 /// What is told of a turn that was counted so and ended so.
 fn told(tally: Tally, end: TurnEnd) -> Turn

@@ -1,10 +1,10 @@
 // The commit call of who sits in a seat.
 ghost use Rattle.std.specs.Prelude.{◌≡◌, ◌+◌, ◌<◌, ◌≤◌, ◌++◌, ◌∷◌, [], true, false, vec_len, vec_capacity};
 ghost use Rattle.seats.specs.Seating.{number_in, sitter};
-ghost use Rattle.lock_rules.specs.Sets.{has};
+ghost use Rattle.lines.specs.Sets.{has};
 ghost use Rattle.outside.specs.Durable.{IsSure};
 ghost use Rattle.outside.specs.Runs.{held_of};
-ghost use Rattle.redo_journal.specs.Held.{OnlyWrites};
+ghost use Rattle.store.specs.Held.{OnlyWrites};
 ghost use Rattle.desk.specs.Calls.{FailsCounted};
 ghost use Rattle.desk.specs.Kept.{HoldsStore, WritesMore, writes_due, turn_fails};
 ghost use Rattle.desk.specs.Answers.{EntersOrder, KeepsPrinted, turn_closes};
@@ -15,7 +15,7 @@ use super::session::Session;
 use activations::Tally;
 use desk::{Committed, TurnEnd};
 use outside::Outside;
-use redo_journal::Kept;
+use store::Kept;
 
 impl Session {
     ghost use Rattle.activations.specs.Turns.{IsAtCommit};
@@ -24,7 +24,7 @@ impl Session {
     ghost use Rattle.supervisor.specs.Session.{IsSound, KeepsParts, activity, order_of};
     ghost use Rattle.supervisor.specs.Shown.{IsOpenOver};
     ghost use Rattle.supervisor.specs.Causes.{TellsNumber, ClosesAsCommit, KeepsStore};
-    ghost use Rattle.restart.specs.Kept.{number_of};
+    ghost use Rattle.store.specs.KeptStore.{number_of};
     ghost use Rattle.supervisor.specs.Went.{HasCommitted, IsCommitEnd};
 
     /// The commit call of who sits in a seat: his record, and the end of the turn.

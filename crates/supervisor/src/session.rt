@@ -1,16 +1,15 @@
 // A session over a store that is open.
 ghost use Rattle.std.specs.Prelude.{◌≡◌, ◌≢◌, ◌≤◌, ◌<◌, ◌^◌, ◌-◌, ◌+◌, IfOk, IfErr, OnOk, IsSome, IsTrue};
 ghost use Rattle.outside.specs.Runs.{OnlyAsks, held_of};
-ghost use Rattle.restart.specs.Faults.{IsStoreOpenFault};
+ghost use Rattle.store.specs.Faults.{IsStoreOpenFault};
 ghost use Rattle.desk.specs.Kept.{HoldsStore};
 
 use activations::Activations;
 use desk::Committed;
 use flat_machine::{Printed, Program};
 use outside::Outside;
-use redo_journal::OpenFault;
-use restart::Durable;
 use std::alloc::Global;
+use store::{Durable, OpenFault};
 
 /// What answers the events of a schedule: a store that is open, what runs over it, and the commits so far. All memory is taken
 /// when it is opened.

@@ -2,7 +2,7 @@
 ghost use Rattle.std.specs.Prelude.{◌≡◌, ◌+◌, ◌*◌, ◌-◌, ◌<◌, ◌≤◌, [], false, ◌↔◌, None};
 ghost use Rattle.outside.specs.Durable.{IsSure};
 ghost use Rattle.outside.specs.Runs.{held_of};
-ghost use Rattle.redo_journal.specs.Held.{OnlyWrites};
+ghost use Rattle.store.specs.Held.{OnlyWrites};
 ghost use Rattle.desk.specs.declared.answers.TurnEnd.TheVariants as end;
 ghost use Rattle.desk.specs.Calls.{FailsCounted};
 ghost use Rattle.desk.specs.Kept.{HoldsStore, WritesMore, writes_due, turn_fails};
@@ -19,7 +19,7 @@ impl Session {
     ghost use Rattle.supervisor.specs.Shown.{IsOpenOver};
     ghost use Rattle.supervisor.specs.Causes.{IsTurnEnd, answer_of, ClosesAsCommit, KeepsStore};
     ghost use Rattle.store_format.specs.Header.{most_lines};
-    ghost use Rattle.restart.specs.Kept.{number_of};
+    ghost use Rattle.store.specs.KeptStore.{number_of};
     ghost use Rattle.seats.specs.Seating.{seat_of};
     ghost use Rattle.supervisor.specs.Went.{TurnHasRun, IsTurned};
 

@@ -1,5 +1,5 @@
 use Rattle.drills.proofs.Lemmas.{◌≡◌, ◌∙◌, ap, sym, rules, disk_held, stands, one-number}
-use Rattle.restart.proofs.ShowLemmas.{shown_stands}
+use Rattle.store.proofs.ShowLemmas.{shown_stands}
 use Rattle.drills.proofs.drill.number_in.Goals as goal
 
 pub returns-in-Ok : goal.returns-in-Ok

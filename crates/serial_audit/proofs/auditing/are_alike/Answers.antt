@@ -1,5 +1,5 @@
 use Rattle.serial_audit.proofs.Lemmas.{sym, ◌∙◌, rules, slice_eq-Decides, pair_decides}
-use Rattle.line_geometry.specs.contracts.directory.PageSize.{the_type}
+use Rattle.lines.specs.contracts.line_geometry.PageSize.{the_type}
 use denote.Enum.Bare.{same_true}
 use Rattle.serial_audit.proofs.auditing.are_alike.Goals as goal
 

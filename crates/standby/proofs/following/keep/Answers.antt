@@ -1,9 +1,9 @@
 use Rattle.std.proofs.Common.{arith}
 use Rattle.standby.proofs.Lemmas.{◌≡◌, ◌∙◌, ap, subst, Err, line_bytes, FlatStore, Stands, stands, Leaves, held_of, IsEither, KeptBank, KeptStore, number_of, TracksStore, Steps, put_of, kept_line, next, record_of, DiskFault, with_record, goes_on, goes_puts, goes_writes, either_begun, more_begun, on_ok, sized, step_kept, step_unkept, tracks_begun}
-use Rattle.redo_journal.specs.Appended.{CountsKept}
-use Rattle.redo_journal.specs.declared.keep.Kept.{Kept}
-use Rattle.redo_journal.specs.declared.keep.Kept.TheVariants.{Unwritten, Doubt}
-use Rattle.checkpoint.specs.Committed.{IsKeptAfter, number_after, roomy}
+use Rattle.store.specs.Appended.{CountsKept}
+use Rattle.store.specs.declared.keep.Kept.{Kept}
+use Rattle.store.specs.declared.keep.Kept.TheVariants.{Unwritten, Doubt}
+use Rattle.store.specs.Committed.{IsKeptAfter, number_after, roomy}
 use Rattle.standby.proofs.following.keep.Given.{Over}
 use Rattle.standby.proofs.following.keep.Goals as goal
 use Rattle.standby.proofs.following.keep.Goals.{After-commit}

@@ -1,7 +1,7 @@
 use Rattle.store_calls.proofs.Common.{◌≡◌, ℕ, List, [], length, sym, ◌∙◌, ap, subst, arith, IsSome, Option, unwrap_or, take_all, Layout, byte_count, held_of, Header, Standing, Stands, stands, number_of, Shows, KeptStore, bytes_in}
-use Rattle.restart.proofs.StoodLemmas.{committed_in, committed-long, stood-store}
+use Rattle.store.proofs.StoodLemmas.{committed_in, committed-long, stood-store}
 use Rattle.store_calls.specs.Kept.{Keeps}
-use Rattle.restart.specs.Kept as restart
+use Rattle.store.specs.KeptStore as restart
 use Rattle.store_calls.proofs.kept.read_store.Goals as goal
 
 -- all bytes of what stands, read from the front on, are the store

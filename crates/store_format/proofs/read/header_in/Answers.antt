@@ -1,5 +1,5 @@
 use Rattle.store_format.proofs.Lemmas.{◌≡◌, ℕ, ◌+◌, ◌*◌, ◌<◌, ◌∷◌, [], ◌++◌, List, length, take, ◌∙◌, sym, ap, arith, subst, set, refl, min, IfOk, Ok, take_more_set, length-set, IsLegal, AreFlags, Layout, PageSize, number_at, segments_at, segments_of, page_of, segments_at-more, IsSound, sound_header}
-use Rattle.line_geometry.specs.declared.directory.DirectoryFault.{DirectoryFault}
+use Rattle.lines.specs.declared.line_geometry.DirectoryFault.{DirectoryFault}
 use Rattle.store_format.proofs.read.header_in.Goals as goal
 use Rattle.store_format.proofs.read.header_in.Goals.{After-half_at-count, After-with_fine, After-bank_bytes_in}
 

@@ -1,5 +1,5 @@
 use Rattle.storage_unit.proofs.Lemmas.{◌≡◌, ℕ, ◌<◌, ◌≤◌, false, List, length, sym, ◌∙◌, ap, subst, arith, Option, Some, None, slice_set, option_and_then, option_map_or, Key, Placed, key_in, look_up, without_frame, IsOfTable, of_table-entered, Pool, private_frames, frame_count, frame_at, page_out, with_room, Brought, IsSeen, has, page_count, length-set, pool_of, pool-seen, Stays, Unit, key_among, key_of_page, keys_of, pages_begun, AreOfPages, nat_tests, AreReady, AreClear, key-at, keys-long, held-store, finds-page, keys-store, frames-held, room-stays, room-none, absent-frame, keys-room, without-keys, without-entries, opened-none, Pair, get_or-set_same}
-use Rattle.tlb_model.proofs.BufferLemmas.{after-of, unremembered}
+use Rattle.page_table.proofs.BufferLemmas.{after-of, unremembered}
 use Rattle.storage_unit.proofs.Common.{after_found}
 use Rattle.storage_unit.proofs.unit.Unit.bring.Goals as goal
 

@@ -1,5 +1,5 @@
 use Rattle.storage_unit.proofs.Lemmas.{◌+◌, ◌%◌, sym, ◌∙◌, ap, arith, inl, inr, cases_lt, line_bytes, line_of, is_refused, reach_of, nat_tests, same-line}
-use Rattle.line_geometry.proofs.Legal.{legal_bytes}
+use Rattle.lines.proofs.LegalLemmas.{legal_bytes}
 use Rattle.storage_unit.proofs.FindLemmas.{none-found, first-found}
 use Rattle.storage_unit.proofs.unit.Unit.first_refused_from.Goals as goal
 

@@ -1,5 +1,5 @@
 use Rattle.storage_unit.proofs.Lemmas.{◌+◌, ◌*◌, ◌/◌, ◌∙◌, ap, refl, arith, page_bytes, Virtual, OpenLine, opened-with, open-moved, open-low}
-use Rattle.open_lines.specs.Known.{known, with_line}
+use Rattle.page_table.specs.KnownLines.{known, with_line}
 use Rattle.storage_unit.proofs.unit.Unit.keep_block.Goals as goal
 
 pub is_written-write-requires-clause-lies : goal.is_written-write-requires-clause-lies

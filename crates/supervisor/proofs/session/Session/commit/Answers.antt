@@ -1,7 +1,7 @@
 use Rattle.supervisor.proofs.Lemmas.{◌≡◌, ◌+◌, ◌%◌, ◌^◌, ◌∙◌, ◌∷◌, [], length, refl, sym, ap, subst, arith, Some, length-append, true, false, has, Commit, row, begun_of, Kept, KeptStore, number_of, TracksStore, held_of, over_all, committed_at, sitter, number_in, taken-below, Activity, live_in, program_in, entry_in, store_over, desk_over, shown, KeepsDesk, rolled, reprinted, activity_of, Session, activity, with_record, HoldsStore, Header, stored-sound, closes-now}
 use Rattle.flat_machine.specs.After.{after as after_rows}
-use Rattle.redo_journal.specs.declared.keep.Kept.TheVariants.{Unwritten, Doubt}
-use Rattle.checkpoint.specs.Committed.{roomy, number_after, IsKeptAfter}
+use Rattle.store.specs.declared.keep.Kept.TheVariants.{Unwritten, Doubt}
+use Rattle.store.specs.Committed.{roomy, number_after, IsKeptAfter}
 use Rattle.supervisor.proofs.JournalLemmas.{commit-adds}
 use Rattle.supervisor.proofs.CommitLemmas.{order-more, writes-more, gone, has_place, sound-left, sound-closed, out-is, tracked, went-done, went-doubt, went-unwritten}
 use Rattle.activations.specs.Follows as running

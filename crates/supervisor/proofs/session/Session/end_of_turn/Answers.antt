@@ -1,5 +1,5 @@
 use Rattle.supervisor.proofs.Lemmas.{ℕ, arith, sym, ◌∙◌, subst, sure_on, few-taken, seat-found, TurnEnd, FailsCounted, turn_fails, activity, order_of, IfWaits, IfJournal, IfVictim, IsEndOfRows, number_of, TellsNumber, ClosesAsCommit, asks_none, total, closes-since, commit-told, rows-counted, rows-number}
-use Rattle.redo_journal.proofs.WriteLemmas.{asks_only, writes_on}
+use Rattle.store.proofs.WriteLemmas.{asks_only, writes_on}
 use Rattle.supervisor.proofs.TurnLemmas.{idle, ended, committed, nothing-counted, sound-ran, over-ran, store-over}
 use Rattle.supervisor.proofs.session.Session.end_of_turn.Goals as goal
 

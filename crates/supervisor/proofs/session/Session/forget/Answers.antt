@@ -1,6 +1,6 @@
 use Rattle.supervisor.proofs.Lemmas.{◌≡◌, sym, ◌∙◌, subst, true, held_of, reopened_holds, TookEvent, told_event, fixed_of, view_of, Desk, numbers, number_after, Crashed, CrashFailed, deserted-sound}
-use Rattle.redo_journal.specs.declared.fault.ReopenFault.{ReopenFault}
-use Rattle.restart.specs.Faults.{IsStoreReopenFault}
+use Rattle.store.specs.declared.fault.ReopenFault.{ReopenFault}
+use Rattle.store.specs.Faults.{IsStoreReopenFault}
 use Rattle.desk.specs.declared.event.Event.TheVariants as event
 use Rattle.supervisor.proofs.CrashLemmas.{did-crash, did-fail-crash, number-restarted, undamaged}
 use Rattle.supervisor.proofs.session.Session.forget.Goals as goal

@@ -1,3 +1,0 @@
-pub mod Bundled
-pub mod Audited
-pub mod Traced

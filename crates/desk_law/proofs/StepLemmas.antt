@@ -1,0 +1,184 @@
+-- What a step of an open desk does to its order, and the lines that it has.
+use Rattle.desk_law.proofs.Common.{◌≡◌, ℕ, ◌+◌, ◌≤◌, List, [], ◌∷◌, ◌++◌, length, map, refl, sym, ap, ◌∙◌, subst, arith, append-nil, append_assoc, length-append, inl, inr, ⊎_elim, ◌⊎◌, flat_map, Program, Activation, Event, Desk, numbers, Word, Fine, Doubt, Failed, Counts, Ending, Idle, Limit, Victim, Committed, CommitUnwritten, CommitDoubted, Turning, Going, Over, turn, Happening, Nothing, Busy, Turned, Crashed, CrashFailed, Step, event_of, step, turned, run, begins, begin_if, absent_segment, OpenBeforeEach, Line, number_after, happening_lines, turn_lines, ending_lines, cycle_lines, event_lines, IsUnbroken, EndsInDoubt, nat_tests, Bool, true, false, not, if◌then◌else◌, Some, None, Option, IsTrue, slice_get, slice_index_or, nat_lt}
+use Rattle.desk.specs.declared.event.Event.TheVariants as event
+use Rattle.desk.specs.Lines as line
+use Rattle.desk_law.proofs.SeenLemmas.{ArePlain, plain_on, commits_in, commits_on}
+use Rattle.desk_law.proofs.TurnLemmas.{StaysOpen, Ended, Ends, turn_ends}
+
+-- an open desk takes the event
+pub stepped : (programs : List Program) (event : Event) (word : Word) (desk : Desk) → desk.closed ≡ false → step programs event word desk ≡ event_of programs event word desk
+stepped programs event word desk was_open = grind (arith, nat_tests)
+
+-- the lines of rollbacks have no commit
+cycles_quiet : (cycles : List (List ℕ)) → commits_in (flat_map cycle_lines cycles) ≡ 0
+cycles_quiet [] = refl
+cycles_quiet (cycle ∷ cycles) = let split = commits_on (cycle_lines cycle) (flat_map cycle_lines cycles) in let rest = cycles_quiet cycles in omega (arith, split, rest)
+
+pub counted_quiet : (activation : ℕ) (counts : Counts) (ends : List Line) → commits_in (line.Turn activation counts.ran counts.pages counts.locks ∷ (flat_map cycle_lines counts.cycles ++ ends)) ≡ commits_in ends
+counted_quiet activation counts ends = grind (arith, nat_tests, commits_on, cycles_quiet)
+
+-- what a step of an open desk did: its order grew by at most one, it has no more commit lines than it made commits and none where it closed the desk,
+-- as many where it left the desk open or its word is no doubt, and it leaves the desk open where its word is fine
+pub record Stepped (word : Word) (order : List (ℕ × ℕ)) (names : List (List ℕ)) (after : Step) : Type 0 where
+  pub more : List (ℕ × ℕ)
+  pub order_is : after.desk.order ≡ order ++ more
+  pub one : length more ≤ 1
+  pub few : (number : ℕ) → commits_in (happening_lines names number after.happening) ≤ length more
+  pub quiet : after.desk.closed ≡ true → (number : ℕ) → commits_in (happening_lines names number after.happening) ≡ 0
+  pub settled : (after.desk.closed ≡ false) ⊎ (word ≡ Doubt → ⊥) → (number : ℕ) → length more ≤ commits_in (happening_lines names number after.happening)
+  pub stays : word ≡ Fine → after.desk.closed ≡ false
+
+module _ (word : Word) (order : List (ℕ × ℕ)) (names : List (List ℕ)) where
+  -- it stays open, with no commit line
+  stayed : (after : Step) → StaysOpen order after.desk → ((number : ℕ) → commits_in (happening_lines names number after.happening) ≡ 0) → Stepped word order names after
+  stayed after is none = grind (arith, nat_tests, append-nil order)
+
+  -- it closed, with no commit line
+  shut_by : (after : Step) → after.desk.order ≡ order → (word ≡ Fine → ⊥) → ((number : ℕ) → commits_in (happening_lines names number after.happening) ≡ 0) → Stepped word order names after
+  shut_by after is broken none = grind (arith, nat_tests, append-nil order)
+
+  ended_by : (activation : ℕ) (desk : Desk) (counts : Counts) (ending : Ending) → Ended word order desk ending → Stepped word order names (record { desk = desk; happening = Turned activation counts ending })
+  ended_by activation desk counts Idle ended = stayed (record { desk = desk; happening = Turned activation counts Idle }) ended (λ number. refl)
+  ended_by activation desk counts (Committed steps printed) ended = record {
+    more = ended.1.0 ∷ [];
+    order_is = ended.1.1;
+    one = omega arith;
+    few = λ number. let one = counted_quiet activation counts (line.Commit activation number steps printed ∷ []) in omega (arith, one);
+    quiet = λ shut. let no = sym ended.0 ∙ shut in cc;
+    settled = λ cause number. let one = counted_quiet activation counts (line.Commit activation number steps printed ∷ []) in omega (arith, one);
+    stays = λ fine. ended.0;
+  }
+  ended_by activation desk counts CommitUnwritten ended = shut_by (record { desk = desk; happening = Turned activation counts CommitUnwritten }) ended.1 ended.2 (λ number. counted_quiet activation counts (line.Closed ∷ []))
+  ended_by activation desk counts CommitDoubted ended = record {
+    more = ended.1.0 ∷ [];
+    order_is = ended.1.1;
+    one = omega arith;
+    few = λ number. let none = counted_quiet activation counts (line.Doubt activation number ∷ line.Closed ∷ []) in omega (arith, none);
+    quiet = λ shut number. counted_quiet activation counts (line.Doubt activation number ∷ line.Closed ∷ []);
+    settled = λ cause number. absurd (⊎_elim (λ still. let no : true ≡ false = sym ended.0 ∙ still in cc) (λ never. never ended.2) cause);
+    stays = λ fine. absurd (let no : Fine ≡ Doubt = sym fine ∙ ended.2 in cc);
+  }
+  ended_by activation desk counts ending ended = stayed (record { desk = desk; happening = Turned activation counts ending }) ended (λ number. counted_quiet activation counts (ending_lines number activation ending))
+
+  turned_by : (activation : ℕ) (turning : Turning) → Ends word order turning → Stepped word order names (turned activation turning)
+  turned_by activation (Going desk counts) ends = absurd ends
+  turned_by activation (Over desk counts ending) ends = ended_by activation desk counts ending ends
+
+  -- a begin
+  begun_by : (segment : Option ℕ) (program : ℕ) (runs : Activation) (desk : Desk) → StaysOpen order desk → Stepped word order names (begins segment program runs desk)
+  begun_by (Some segment) program runs desk is = stayed (begins (Some segment) program runs desk) is (λ number. refl)
+  begun_by None program runs desk is = stayed (begins None program runs desk) is (λ number. refl)
+
+  room_by : (room : Bool) (program : ℕ) (runs : Activation) (desk : Desk) → StaysOpen order desk
+      → Stepped word order names (if room then begins (absent_segment desk.committed.directory runs.program.windows) program runs desk else record { desk = record desk { next = desk.next + 1 }; happening = Busy desk.next program })
+  room_by true program runs desk is = begun_by (absent_segment desk.committed.directory runs.program.windows) program runs desk is
+  room_by false program runs desk is = stayed (record { desk = record desk { next = desk.next + 1 }; happening = Busy desk.next program }) is (λ number. refl)
+
+  code_by : (program : ℕ) (args : List ℕ) (code : Option Program) (desk : Desk) → StaysOpen order desk → Stepped word order names (begin_if program args code desk)
+  code_by program args None desk is = stayed (record { desk = desk; happening = Nothing }) is (λ number. refl)
+  code_by program args (Some code) desk is = room_by (nat_lt (length desk.active) desk.most_active) program (record { program = code; args = args }) desk is
+
+-- the lines of lost activations have no commit
+lost_quiet : (lost : List ℕ) → commits_in (map line.Lost lost) ≡ 0
+lost_quiet [] = refl
+lost_quiet (activation ∷ lost) = let split = commits_on (line.Lost activation ∷ []) (map line.Lost lost) in let rest = lost_quiet lost in omega (arith, split, rest)
+
+pub lost_behind : (lost : List ℕ) (last : Line) → commits_in (last ∷ []) ≡ 0 → commits_in (map line.Lost lost ++ last ∷ []) ≡ 0
+lost_behind lost last none = let split = commits_on (map line.Lost lost) (last ∷ []) in let rest = lost_quiet lost in omega (arith, split, rest, none)
+
+checkpoint_by : (programs : List Program) (word : Word) (names : List (List ℕ)) (desk : Desk) → desk.closed ≡ false → Stepped word desk.order names (event_of programs event.Checkpoint word desk)
+checkpoint_by programs Failed names desk is = shut_by Failed desk.order names (event_of programs event.Checkpoint Failed desk) refl (λ fine. cc) (λ number. refl)
+checkpoint_by programs word names desk is = stayed word desk.order names (event_of programs event.Checkpoint word desk) (is, refl) (λ number. refl)
+
+crash_by : (programs : List Program) (word : Word) (names : List (List ℕ)) (desk : Desk) → desk.closed ≡ false → Stepped word desk.order names (event_of programs event.Crash word desk)
+crash_by programs Failed names desk is = shut_by Failed desk.order names (event_of programs event.Crash Failed desk) refl (λ fine. cc) (λ number. lost_behind (numbers desk) line.Closed refl)
+crash_by programs word names desk is = stayed word desk.order names (event_of programs event.Crash word desk) (is, refl) (λ number. lost_behind (numbers desk) (line.Open number) refl)
+
+event_by : (programs : List Program) (one : Event) (word : Word) (names : List (List ℕ)) (desk : Desk) → desk.closed ≡ false → Stepped word desk.order names (event_of programs one word desk)
+event_by programs (event.Begin program args) word names desk is = code_by word desk.order names program args (slice_get programs program) desk (is, refl)
+event_by programs (event.Turn activation limit) word names desk is = turned_by word desk.order names activation (turn word activation limit desk) (turn_ends desk.order word activation limit desk (is, refl))
+event_by programs event.Checkpoint word names desk is = checkpoint_by programs word names desk is
+event_by programs event.Crash word names desk is = crash_by programs word names desk is
+
+pub step_by : (programs : List Program) (one : Event) (word : Word) (names : List (List ℕ)) (desk : Desk) → desk.closed ≡ false → Stepped word desk.order names (step programs one word desk)
+step_by programs one word names desk is =
+    subst (λ (after : Step). Stepped word desk.order names after) (sym (stepped programs one word desk is)) (event_by programs one word names desk is)
+
+-- the lines of what happened have no line feed in a name
+abbrev pub AreNames : List (List ℕ) → Type 0
+AreNames names = (program : ℕ) → IsUnbroken (slice_index_or names program [])
+
+cycles_plain : (cycles : List (List ℕ)) → ArePlain (flat_map cycle_lines cycles)
+cycles_plain [] = tt
+cycles_plain (cycle ∷ cycles) = (tt, (tt, cycles_plain cycles))
+
+endings_plain : (number activation : ℕ) (ending : Ending) → ArePlain (ending_lines number activation ending)
+endings_plain number activation Idle = tt
+endings_plain number activation Limit = tt
+endings_plain number activation Victim = tt
+endings_plain number activation CommitDoubted = (tt, (tt, tt))
+endings_plain number activation _ = (tt, tt)
+
+counted_plain : (number activation : ℕ) (counts : Counts) (ending : Ending) → ArePlain (line.Turn activation counts.ran counts.pages counts.locks ∷ (flat_map cycle_lines counts.cycles ++ ending_lines number activation ending))
+counted_plain number activation counts ending =
+    (tt, plain_on (flat_map cycle_lines counts.cycles) (ending_lines number activation ending) (cycles_plain counts.cycles) (endings_plain number activation ending))
+
+turn_plain : (number activation : ℕ) (counts : Counts) (ending : Ending) → ArePlain (turn_lines number activation counts ending)
+turn_plain number activation counts Idle = (tt, tt)
+turn_plain number activation counts ending = counted_plain number activation counts ending
+
+lost_plain : (lost : List ℕ) → ArePlain (map line.Lost lost)
+lost_plain [] = tt
+lost_plain (activation ∷ lost) = (tt, lost_plain lost)
+
+pub happening_plain : (names : List (List ℕ)) → AreNames names → (number : ℕ) (happening : Happening) → ArePlain (happening_lines names number happening)
+happening_plain names are number (Turned activation counts ending) = turn_plain number activation counts ending
+happening_plain names are number (Crashed lost) = plain_on (map line.Lost lost) (line.Open number ∷ []) (lost_plain lost) (tt, tt)
+happening_plain names are number (CrashFailed lost) = plain_on (map line.Lost lost) (line.Closed ∷ []) (lost_plain lost) (tt, tt)
+happening_plain names are number _ = grind (arith, are)
+
+module _ (programs : List Program) (names : List (List ℕ)) (number : ℕ) where
+  -- the lines of a run have no line feed in a name
+  pub run_plain : AreNames names → (taken : List (Event × Word)) (desk : Desk) → ArePlain (event_lines names programs number taken desk)
+  run_plain are [] desk = tt
+  run_plain are (one ∷ taken) desk =
+      let after = step programs one.0 one.1 desk in
+      plain_on (happening_lines names (number_after number after.desk) after.happening) (event_lines names programs number taken after.desk) (happening_plain names are (number_after number after.desk) after.happening) (run_plain are taken after.desk)
+
+  open_is : (desk : Desk) → IsTrue (not desk.closed) → desk.closed ≡ false
+  open_is desk is = grind (arith, nat_tests)
+
+  -- a run that is open at its end, or whose last event didn't end in doubt
+  abbrev pub IsSettled : List (Event × Word) → Desk → Type 0
+  IsSettled taken desk = ((run programs taken desk).closed ≡ false) ⊎ (EndsInDoubt taken → ⊥)
+
+  settled_first : (one : Event × Word) (taken : List (Event × Word)) (desk : Desk) → OpenBeforeEach programs (one ∷ taken) desk → IsSettled (one ∷ taken) desk → ((step programs one.0 one.1 desk).desk.closed ≡ false) ⊎ (one.1 ≡ Doubt → ⊥)
+  settled_first one [] desk each_open (inl still) = inl still
+  settled_first one [] desk each_open (inr never) = inr (λ is. never ([], one.0, ap (λ (word : Word). (one.0, word) ∷ []) is))
+  settled_first one (next ∷ taken) desk each_open cause = inl (open_is (step programs one.0 one.1 desk).desk each_open.1.0)
+
+  settled_rest : (one : Event × Word) (taken : List (Event × Word)) (desk : Desk) → IsSettled (one ∷ taken) desk → IsSettled taken (step programs one.0 one.1 desk).desk
+  settled_rest one taken desk (inl still) = inl still
+  settled_rest one taken desk (inr never) = inr (λ ends. never (one ∷ ends.0, ends.1, ap (λ (behind : List (Event × Word)). one ∷ behind) ends.2))
+
+  -- a run's order is longer, by no fewer commits than its lines have, and as many where it is settled
+  pub record Grew (taken : List (Event × Word)) (desk : Desk) : Type 0 where
+    pub more : List (ℕ × ℕ)
+    pub order_is : (run programs taken desk).order ≡ desk.order ++ more
+    pub few : commits_in (event_lines names programs number taken desk) ≤ length more
+    pub settled : IsSettled taken desk → length more ≤ commits_in (event_lines names programs number taken desk)
+
+  pub run_grew : (taken : List (Event × Word)) (desk : Desk) → OpenBeforeEach programs taken desk → Grew taken desk
+  run_grew [] desk each_open = record { more = []; order_is = sym (append-nil desk.order); few = omega arith; settled = λ cause. omega arith }
+  run_grew (one ∷ taken) desk each_open =
+      let after = step programs one.0 one.1 desk in
+      let first : Stepped one.1 desk.order names after = step_by programs one.0 one.1 names desk (open_is desk each_open.0) in
+      let rest : Grew taken after.desk = run_grew taken after.desk each_open.1 in
+      record {
+        more = first.more ++ rest.more;
+        order_is = rest.order_is ∙ ap (λ (front : List (ℕ × ℕ)). front ++ rest.more) first.order_is ∙ append_assoc desk.order first.more rest.more;
+        few = omega (arith, commits_on (happening_lines names (number_after number after.desk) after.happening) (event_lines names programs number taken after.desk), first.few (number_after number after.desk), rest.few, length-append first.more rest.more);
+        settled = λ cause.
+            let later = rest.settled (settled_rest one taken desk cause) in
+            omega (arith, commits_on (happening_lines names (number_after number after.desk) after.happening) (event_lines names programs number taken after.desk), first.settled (settled_first one taken desk each_open cause) (number_after number after.desk), later, length-append first.more rest.more);
+      }

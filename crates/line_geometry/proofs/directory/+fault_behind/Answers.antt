@@ -1,5 +1,0 @@
-use Rattle.line_geometry.proofs.Common.{arith, common_steps}
-use Rattle.line_geometry.proofs.directory.+fault_behind.Goals as goal
-
-pub returns-else-pages-first-gt1024 : goal.returns-else-pages-first-gt1024
-returns-else-pages-first-gt1024 t c = grind (arith, common_steps)

@@ -1,5 +1,0 @@
-use Rattle.line_locks.proofs.Common.{arith, common_steps}
-use Rattle.line_locks.proofs.locks.Locks.release.Goals as goal
-
-pub invariant_of-self : goal.invariant_of-self
-invariant_of-self c = grind (arith, common_steps)

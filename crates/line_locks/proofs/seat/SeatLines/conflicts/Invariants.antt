@@ -1,6 +1,0 @@
-use Rattle.line_locks.proofs.Common.{◌≡◌, false, take, conflicts_with}
-use Rattle.line_locks.proofs.seat.SeatLines.conflicts.Given as goal
-
--- nothing that was looked at is in conflict
-abbrev pub invariant-loop-want : goal.invariant-loop-want
-invariant-loop-want l = conflicts_with l.self (take l.want-index l.request.wants.items) ≡ false

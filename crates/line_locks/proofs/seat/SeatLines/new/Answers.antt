@@ -1,5 +1,0 @@
-use Rattle.line_locks.proofs.Common.{arith, common_steps}
-use Rattle.line_locks.proofs.seat.SeatLines.new.Goals as goal
-
-pub invariant_of-result : goal.invariant_of-result
-invariant_of-result c = grind (arith, common_steps)

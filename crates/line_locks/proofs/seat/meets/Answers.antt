@@ -1,9 +1,0 @@
-use Rattle.line_locks.proofs.Common.{arith}
-use Rattle.std.proofs.lemmas.Nat.{and_le_l}
-use Rattle.line_locks.proofs.MeetsLemmas.{meets-bits}
-use Rattle.line_locks.proofs.seat.meets.Goals as goal
-
-pub returns : goal.returns
-returns c =
-    rw c.bits.ensures at rw c.bits-2.ensures at
-    (meets-bits c.bits.result c.bits-2.result (omega (arith, c.bits.type_inv, and_le_l c.bits.result c.bits-2.result)))

@@ -1,4 +1,0 @@
-pub mod Held
-pub mod Counted
-pub mod Holding
-pub mod Flat

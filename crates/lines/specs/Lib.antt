@@ -1,0 +1,14 @@
+pub mod Sets
+pub mod Conflicts
+pub mod Waits
+pub mod Access
+pub mod Resident
+pub mod Overlay
+pub mod Segments
+pub mod Directory
+pub mod Lines
+pub mod FlatStore
+pub mod Legal
+pub mod Kept
+pub mod LineSets
+pub mod LineBits

@@ -1,0 +1,6 @@
+use Rattle.page_table.proofs.Common.{◌≡◌, ◌++◌, take, drop, map, cleared_entry}
+use Rattle.page_table.proofs.inverted_table.clear_all.Given as goal
+
+-- the entries so far are cleared
+abbrev pub invariant-loop-entry : goal.invariant-loop-entry
+invariant-loop-entry l = l.entries ≡ map (cleared_entry l.tid) (take l.entry-index l.initial.entries) ++ drop l.entry-index l.initial.entries

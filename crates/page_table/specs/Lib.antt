@@ -1,0 +1,9 @@
+pub mod Registers
+pub mod Entries
+pub mod Placed
+pub mod Keys
+pub mod Chains
+pub mod Buffer
+pub mod Ways
+pub mod LinePlaces
+pub mod KnownLines

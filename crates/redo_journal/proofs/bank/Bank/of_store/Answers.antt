@@ -1,5 +1,0 @@
-use Rattle.redo_journal.proofs.Common.{common_steps, arith}
-use Rattle.redo_journal.proofs.bank.Bank.of_store.Goals as goal
-
-pub invariant_of-result : goal.invariant_of-result
-invariant_of-result c = grind (arith, common_steps)

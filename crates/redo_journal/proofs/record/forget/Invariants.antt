@@ -1,8 +1,0 @@
-use Rattle.redo_journal.proofs.Common.{◌≡◌, ℕ, length, take, replicate, Option, None}
-use Rattle.redo_journal.proofs.record.forget.Given as goal
-
-abbrev pub invariant-loop-line : goal.invariant-loop-line
-invariant-loop-line l = record {
-  none : take l.line l.newest ≡ replicate {A = Option ℕ} l.line None;
-  len : length l.newest ≡ length l.initial.newest;
-}

@@ -1,4 +1,0 @@
-pub mod Kept
-pub mod Shows
-pub mod Faults
-pub mod Page

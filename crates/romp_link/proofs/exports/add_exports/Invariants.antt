@@ -1,6 +1,0 @@
-use Rattle.romp_link.proofs.Common.{◌≡◌, List, length, Statement, AreExports}
-use Rattle.romp_link.proofs.ExportLemmas.{AreSoFar}
-use Rattle.romp_link.proofs.exports.add_exports.Given as goal
-
-abbrev pub invariant-loop-index : goal.invariant-loop-index
-invariant-loop-index l = (before : List (List Statement)) → length before ≡ l.source → AreExports l.initial.exports before → AreSoFar l.exports before l.statements l.index

@@ -1,5 +1,0 @@
-use Rattle.romp_link.proofs.Common.{take, AreExports}
-use Rattle.romp_link.proofs.exports.exports_of.Given as goal
-
-abbrev pub invariant-loop-source : goal.invariant-loop-source
-invariant-loop-source l = AreExports l.exports (take l.source l.sources)

@@ -1,5 +1,0 @@
-use Rattle.romp_link.proofs.Common.{take, HasLabels}
-use Rattle.romp_link.proofs.exports.labels_of.Given as goal
-
-abbrev pub invariant-loop-index : goal.invariant-loop-index
-invariant-loop-index l = HasLabels l.labels (take l.index l.statements)

@@ -1,5 +1,0 @@
-use Rattle.run_law.proofs.HeadlineLemmas.{left_is_prefix}
-use Rattle.run_law.proofs.law.a_crash_leaves_a_prefix.Goals as goal
-
-pub returns : goal.returns
-returns c = left_is_prefix

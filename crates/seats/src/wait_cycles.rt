@@ -1,0 +1,89 @@
+ghost use Rattle.std.specs.Prelude.{◌≡◌, ◌==◌, ◌||◌, ◌&&◌, ◌<◌, ◌≤◌, ◌^◌, ℕ, nat_lt, length, find, slice_index_or};
+ghost use Rattle.std.specs.List.{list_any};
+ghost use Rattle.std.specs.Option.{option_map};
+ghost use Rattle.lines.specs.Waits.{leads, shown_cycle};
+ghost use Rattle.seats.specs.Rows.{is_on, waits_in, places, places_of};
+
+use arrayvec::ArrayVec;
+
+/// The shown cycle from a place: it begins with it, and each next member is the least place that the last one waits for
+/// and from which waits lead back. It ends with the place where every cycle of waits goes through it, and anyway after
+/// as many steps as there are rows. None exactly where waits don't lead from the place to itself. There are sixteen rows
+/// at most, and place i waits for place j where bit j of row i is on; places ascend by activation. It takes no memory
+/// (docs/MODEL.md, "Lines, locks and waits").
+pub fn shown_cycle(from: u8, waits: &[u16]) -> Option<ArrayVec<u8, 17>>
+    requires from { from < length waits.now }
+    requires few { length waits.now ≤ 16 }
+    ensures { option_map (λ cycle. cycle.items) result ≡ shown_cycle (waits_in waits.now) (places_of waits.now) from }
+{
+    let leading = leading_to(from, waits);
+    if !is_on(leading, from) {
+        return None;
+    }
+    let mut cycle = ArrayVec::new();
+    cycle.push(from);
+    let mut last = from;
+    for _step in 0..waits.len() {
+        match least_on(waits[usize::from(last)] & leading) {
+            None => return Some(cycle),
+            Some(next) => {
+                cycle.push(next);
+                if next == from {
+                    return Some(cycle);
+                }
+                last = next;
+            }
+        }
+    }
+    Some(cycle)
+}
+
+/// The places from which waits lead to one, as bits.
+fn leading_to(to: u8, waits: &[u16]) -> u16
+    requires to { to < length waits.now }
+    requires few { length waits.now ≤ 16 }
+    ensures { (place : ℕ) → place < 16 → is_on result place ≡ (nat_lt place (length waits.now) && leads (waits_in waits.now) (places_of waits.now) (length waits.now) place to) }
+{
+    let mut leading = 0;
+    for _step in 0..waits.len() {
+        let next = waiting_for(leading | 1 << to, waits);
+        if next == leading {
+            return leading;
+        }
+        leading = next;
+    }
+    leading
+}
+
+/// The places that wait for one of these, as bits.
+fn waiting_for(goals: u16, waits: &[u16]) -> u16
+    requires { length waits.now ≤ 16 }
+    ensures { (place : ℕ) → place < 16 → is_on result place ≡ (nat_lt place (length waits.now) && list_any (λ next. waits_in waits.now place next && is_on goals next) places) }
+{
+    let mut waiting = 0;
+    for (place, row) in waits.iter().enumerate() {
+        if row & goals != 0 {
+            waiting |= 1 << place;
+        }
+    }
+    waiting
+}
+
+/// Whether the bit of a place is on.
+fn is_on(bits: u16, place: u8) -> bool
+    requires { place < 16 }
+    ensures { result ≡ is_on bits place }
+{
+    (bits >> place) & 1 == 1
+}
+
+/// The least place whose bit is on.
+fn least_on(bits: u16) -> Option<u8>
+    ensures { result ≡ find (is_on bits) places }
+{
+    if bits == 0 {
+        None
+    } else {
+        Some(bits.trailing_zeros() as u8)
+    }
+}

@@ -1,9 +1,0 @@
-use Rattle.std.proofs.Common.{◌≡◌, ℕ, ◌<◌, None, length, get_or}
-use Rattle.segment_regs.specs.Registers.{register_with}
-use Rattle.segment_regs.proofs.registers.SegmentRegs.new.Given as goal
-
-abbrev pub invariant-loop-number : goal.invariant-loop-number
-invariant-loop-number l = record {
-  long : length l.registers ≡ 16;
-  each : (k : ℕ) → k < l.number → get_or l.registers k None ≡ register_with l.private l.windows k;
-}

@@ -1,0 +1,61 @@
+-- The lines that an activation touches as its serial run does.
+use Rattle.std.specs.Prelude.{◌≡◌, ℕ, ◌-◌, Bool, false, true, List, [], ◌∷◌, ◌++◌, map, Some, Result, Ok, Err}
+use Rattle.std.specs.List.{Contains, flat_map, range_with_len}
+use Rattle.lines.specs.FlatStore.{FlatStore}
+use Rattle.lines.specs.Conflicts.{Lines}
+use Rattle.flat_machine.specs.Due.{touched_next}
+use Rattle.flat_machine.specs.Serial.{Activation, numbered, serial}
+use Rattle.job_text.specs.declared.job.Job.{Job}
+use Rattle.serial_audit.specs.declared.auditing.KeptStore.{KeptStore}
+use Rattle.serial_audit.specs.Audit.{AreSound, IsFirstUnsound, Told, activations_of, flat_of, pair_of}
+use Rattle.serial_audit.specs.declared.answer.Trace.{Trace}
+use Rattle.serial_audit.specs.declared.answer.TraceFault.{TraceFault}
+use Rattle.serial_audit.specs.declared.answer.TraceFault.TheVariants.{Memory, NoCommit, NotSerial}
+use Rattle.serial_audit.specs.declared.touch.Touch.{Touch}
+
+-- a line that a step reads, or writes
+abbrev pub touch_at : ℕ → Bool → ℕ → Touch
+touch_at step store line = record { step = step; line = line; store = store }
+
+-- the touches of a step: the lines that it reads, ascending, and then those that it writes, ascending
+abbrev pub touches_of_step : ℕ → Lines → List Touch
+touches_of_step step lines = map (touch_at step false) lines.reads ++ map (touch_at step true) lines.writes
+
+-- the touches of an activation's first steps on a store: for each step those of the row that is next after the steps before it
+abbrev pub touches : Activation → FlatStore → ℕ → List Touch
+touches activation store steps =
+    flat_map
+    (λ step. touches_of_step step (touched_next activation.program activation.args store (step - 1)))
+    (range_with_len 1 steps)
+
+-- these are the touches of a commit line's activation, on the store that the commit lines before it leave one after another
+pub record AreTouches (job : Job) (opening : KeptStore) (before : List Told) (told : Told) (list : List Touch) : Type 0 where
+  pub activation : Activation
+  pub begun : numbered (activations_of job) told.activation ≡ Some activation
+  pub left : FlatStore
+  pub leaves : serial (activations_of job) (map pair_of before) (flat_of opening) ≡ Some left
+  pub list_is : list ≡ touches activation left told.steps
+
+-- the commit lines before the first one of an activation, and that one
+pub record IsFirstOf (lines : List Told) (activation : ℕ) (before : List Told) (told : Told) : Type 0 where
+  pub behind : List Told
+  pub lines_are : lines ≡ before ++ told ∷ behind
+  pub is_its : told.activation ≡ activation
+  pub first : ¬ (Contains (map (λ line. line.activation) before) activation)
+
+-- the trace of a commit line: it and those before it are sound, and these are its steps and its touches
+pub record IsTrace (job : Job) (opening : KeptStore) (before : List Told) (told : Told) (trace : Trace) : Type 0 where
+  pub sound : AreSound job opening (before ++ told ∷ [])
+  pub steps : trace.steps ≡ told.steps
+  pub touches : AreTouches job opening before told trace.touches.items
+
+-- The answer of a trace: that of the activation's first commit line; or that it has none; or, up to that line and with it, the first line
+-- that isn't sound; or that there was no memory.
+abbrev pub IsAnswer : Job → KeptStore → List Told → ℕ → Result Trace TraceFault → Type 0
+IsAnswer job opening lines activation (Ok trace) =
+    (before : List Told) × (told : Told) × IsFirstOf lines activation before told × IsTrace job opening before told trace
+IsAnswer job opening lines activation (Err NoCommit) = ¬ (Contains (map (λ line. line.activation) lines) activation)
+IsAnswer job opening lines activation (Err (NotSerial place)) =
+    (before : List Told) × (told : Told) × IsFirstOf lines activation before told
+    × IsFirstUnsound job opening (before ++ told ∷ []) place
+IsAnswer job opening lines activation (Err Memory) = Unit {0}

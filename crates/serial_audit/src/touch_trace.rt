@@ -1,0 +1,104 @@
+ghost use Rattle.std.specs.Prelude.{◌≡◌, ◌-◌, ◌<◌, ◌^◌, List, length, map, take, IfOk, MatchOption};
+ghost use Rattle.std.specs.List.{Contains};
+ghost use Rattle.lines.specs.Directory.{byte_count};
+ghost use Rattle.job_text.specs.declared.job.Job.{Job};
+ghost use Rattle.serial_audit.specs.declared.auditing.KeptStore.{KeptStore};
+ghost use Rattle.serial_audit.specs.Audit.{IsSound, Told, report_told, told_of};
+ghost use Rattle.serial_audit.specs.Progress.{Stands};
+ghost use Rattle.serial_audit.specs.Trace.{AreTouches, IsAnswer, IsFirstOf};
+
+use super::answer::{Trace, TraceFault};
+use super::auditing::{KeptStore, Progress, audit_lines};
+use super::running::run_traced;
+use super::touch::Touch;
+use job_text::Job;
+use lines::Directory;
+use report_text::CommitLine;
+use std::alloc::{AllocError, Global};
+
+/// The lines that an activation touches up to its first commit line, as it runs after the commits before it (docs/MODEL.md,
+/// "A trace").
+///
+/// Each of these programs runs once from its start, on the store that those before it left.
+///
+/// # Errors
+///
+/// As [`TraceFault`] says.
+pub fn trace(
+    alloc: Global,
+    job: &Job,
+    report: &[CommitLine],
+    opening: &KeptStore,
+    activation: u32,
+) -> Result<Trace, TraceFault>
+    requires store { length opening.now.store.items ≡ byte_count opening.now.directory }
+    requires few { length report.now < 2 ^ 32 - 1 }
+    ensures { IsAnswer job.now opening.now (report_told report.now) activation result }
+{
+    let (before, commit) = match first_commit(report, activation) {
+        Some(found) => found,
+        None => return Err(TraceFault::NoCommit),
+    };
+    let progress = match audit_lines(alloc, job, &report[..before], opening)? {
+        Ok(progress) => progress,
+        Err(place) => return Err(TraceFault::NotSerial(place)),
+    };
+    let place = progress.next_place();
+    match touches_of(alloc, &opening.directory, progress, commit)? {
+        Some(touches) => Ok(Trace {
+            steps: commit.steps,
+            touches,
+        }),
+        None => Err(TraceFault::NotSerial(place)),
+    }
+}
+
+/// The first commit line of an activation, and how many lines are before it.
+fn first_commit(report: &[CommitLine], activation: u32) -> Option<(usize, &CommitLine)>
+    ensures { MatchOption result (¬ (Contains (map (λ (line : Told). line.activation) (report_told report.now)) activation))
+        (λ found. (found.0 < length report.now) × IsFirstOf (report_told report.now) activation (report_told (take found.0 report.now)) (told_of found.1.now)) }
+{
+    for (place, commit) in report.iter().enumerate() {
+        if commit.activation == activation {
+            return Some((place, commit));
+        }
+    }
+    None
+}
+
+/// The touches of a commit line after others, if it is sound. Its program runs on the store of the check itself.
+fn touches_of(
+    alloc: Global,
+    directory: &Directory,
+    progress: Progress,
+    commit: &CommitLine,
+) -> Result<Option<Vec<Touch>>, AllocError>
+    requires { length progress.store ≡ byte_count directory.now }
+    ensures { IfOk result (λ found. (job : Job) (opening : KeptStore) (before : List Told) → opening.directory ≡ directory.now
+        → Stands job opening before progress.entry
+        → MatchOption found (¬ (IsSound job opening before (told_of commit.now)))
+        (λ touches. IsSound job opening before (told_of commit.now) × AreTouches job opening before (told_of commit.now) touches.items)) }
+{
+    let entry = match progress.entry_for(commit) {
+        Some(entry) => entry,
+        None => return Ok(None),
+    };
+    let store = progress.store;
+    match run_traced(
+        alloc,
+        entry.program,
+        entry.args,
+        directory,
+        store,
+        commit.steps,
+    )? {
+        Some((state, touches)) => {
+            if state.out.as_slice() == commit.out.as_slice() {
+                Ok(Some(touches))
+            } else {
+                Ok(None)
+            }
+        }
+        None => Ok(None),
+    }
+}

@@ -1,0 +1,62 @@
+-- What shipping the records of a store did.
+use Rattle.std.specs.Prelude.{◌≡◌, ◌≢◌, ◌⊎◌, ◌<◌, ◌≤◌, ℕ, [], IsSome, IsTrue}
+use Rattle.outside.specs.declared.world.Outside.{Ghosts}
+use Rattle.outside.specs.Bytes.{AreTold}
+use Rattle.outside.specs.Runs.{Leaves, OnlyAsks, held_of, AsksAndPuts}
+use Rattle.store.specs.KeptStore.{KeptStore, number_of}
+use Rattle.store.specs.Shows.{Shows}
+use Rattle.standby.specs.Puts.{CountsPuts}
+use Rattle.standby.specs.Read.{feeds}
+use Rattle.standby.specs.Shipped.{shipped}
+use Rattle.standby.specs.State.{behind}
+use Rattle.standby.specs.Text.{IsContent, text_of}
+use Rattle.call_status.specs.Call.{Call}
+use Rattle.call_status.specs.Opening.{IsFaultAt}
+use Rattle.call_status.specs.Printed.{PrintsBy}
+use Rattle.call_status.specs.Statuses.{IsOfOpening}
+use Rattle.call_status.specs.declared.status.Status.{Status}
+use Rattle.call_status.specs.declared.status.Status.TheVariants as status
+
+-- The bytes show a store whose bank keeps all records behind the number, and their text was put: all of it, each line by one put, or a first part. At
+-- Done they are in the ranges of a ship text.
+pub record PutsText {W : Type 0} (G : Ghosts W) (from : ℕ) (before after : W) (now : Status) : Type 0 where
+  pub store : KeptStore
+  pub shows : Shows (held_of G before) store
+  pub kept : behind store.bank.base from ≤ store.bank.count
+  pub printed : PrintsBy (G.printed before) (G.printed after) (text_of (shipped store shows.read.records from)) now
+  pub times : now ≡ Status.Done → CountsPuts G (feeds (text_of (shipped store shows.read.records from))) before after
+  pub content : now ≡ Status.Done → IsContent (shipped store shows.read.records from)
+
+-- The bytes show a store whose bank has this base, and which has this number, and the bank doesn't keep all records behind the number asked for.
+pub record IsNotKept {W : Type 0} (G : Ghosts W) (from : ℕ) (before : W) (base number : ℕ) : Type 0 where
+  pub store : KeptStore
+  pub shows : Shows (held_of G before) store
+  pub base_is : base ≡ store.bank.base
+  pub number_is : number ≡ number_of store
+  pub behind_all : store.bank.count < behind store.bank.base from
+
+-- what it did, by the status, where the disk tells its bytes; other statuses don't come
+abbrev pub ShippedBy : {W : Type 0} → Ghosts W → ℕ → W → W → Status → Type 0
+ShippedBy G from before after status.Done = IsSome (G.held before) → PutsText G from before after status.Done
+ShippedBy G from before after status.PutFault = IsSome (G.held before) → PutsText G from before after status.PutFault
+ShippedBy G from before after status.DiskFault = (G.printed after ≡ G.printed before) ⊎ (IsSome (G.held before) → PutsText G from before after status.DiskFault)
+ShippedBy G from before after (status.NotKept base number) = OnlyAsks G before after × (IsSome (G.held before) → IsNotKept G from before base number)
+ShippedBy G from before after (status.Store offset) = OnlyAsks G before after × (IsSome (G.held before) → IsFaultAt (held_of G before) offset)
+ShippedBy G from before after status.NoMemory = OnlyAsks G before after
+ShippedBy G from before after _ = ⊥
+
+-- What it did; it writes nothing, each image that a crash may leave since is one of the start, and there is no order. Where the disk is honest and
+-- tells its bytes, each that is left once something is printed is just these. The disk's count of faults rises with DiskFault alone.
+pub record ShippedFrom {W : Type 0} (G : Ghosts W) (from : ℕ) (call : Call W) : Type 0 where
+  pub no_order : call.order ≡ []
+  pub only : AsksAndPuts G call.before call.after
+  pub sure : IsTrue (G.is_honest call.before) → IsSome (G.held call.before) → Leaves G (λ image seen. AreTold (G.printed call.before) seen ⊎ (image ≡ held_of G call.before)) call.before call.after
+  pub calm : call.status ≢ status.DiskFault → G.disk_faults call.after ≡ G.disk_faults call.before
+  pub by_status : ShippedBy G from call.before call.after call.status
+
+-- a status of shipping
+abbrev pub IsOfShip : Status → Type 0
+IsOfShip status.Done = Unit {0}
+IsOfShip status.PutFault = Unit {0}
+IsOfShip (status.NotKept base number) = Unit {0}
+IsOfShip other = IsOfOpening other

@@ -1,0 +1,86 @@
+// A ship text that a store follows.
+ghost use Rattle.std.specs.Prelude.{◌≡◌, ◌≢◌, [], IsSome, MatchResult, IfErr, OnOk};
+ghost use Rattle.outside.specs.Causes.{Rose};
+ghost use Rattle.outside.specs.Moments.{Elapses};
+ghost use Rattle.outside.specs.Runs.{OnlyAsks};
+ghost use Rattle.call_status.specs.Call.{call, given};
+ghost use Rattle.standby.specs.Text.{IsShip, content_of};
+ghost use Rattle.standby.specs.FollowCalled.{FollowedFrom, IsNoText, IsOfFollow, IsOfText, IsRefusal, IsShipFrom, OnStore};
+
+use super::following::{Followed, follow};
+use super::read::read_ship;
+use super::text::{Ship, ShipFault};
+use call_status::{MOST_OF_JOB, Status, read_text};
+use outside::{Outside, Source};
+use std::alloc::Global;
+use store::Durable;
+
+/// Why a text isn't followed: it is no ship text, it is of another store, or a record is too long.
+const NO_TEXT: u8 = 1;
+
+const OTHER_STORE: u8 = 2;
+
+const TOO_LONG: u8 = 3;
+
+/// Commits the records of the source's ship text to the disk's store, and prints a line for each (docs/FORMATS.md, "Ship text").
+pub fn follow_source<S: Source, W: Outside>(
+    alloc: Global,
+    source: &mut S,
+    outside: &mut W,
+) -> Status
+    ensures followed { FollowedFrom W.Outside (given S.Source source.old source.new) (call outside.old outside.new [] result) }
+    ensures unfailed { result ≡ Status.Done → (S.faults source.new ≡ S.faults source.old) × (W.put_faults outside.new ≡ W.put_faults outside.old) }
+    ensures put { result ≡ Status.PutFault → Rose (W.put_faults outside.old) (W.put_faults outside.new) }
+    ensures disk { result ≡ Status.DiskFault → Rose (W.disk_faults outside.old) (W.disk_faults outside.new) }
+    ensures only { IsOfFollow result }
+{
+    match ship_from(alloc, source) {
+        Ok(ship) => follow_text(alloc, &ship, outside),
+        Err(status) => status,
+    }
+}
+
+/// The ship text that a source has.
+fn ship_from<S: Source>(alloc: Global, source: &mut S) -> Result<Ship, Status>
+    ensures text { MatchResult result (IsShipFrom (given S.Source source.old source.new)) (IsNoText (given S.Source source.old source.new)) }
+    ensures unfailed { OnOk result (S.faults source.new ≡ S.faults source.old) }
+    ensures calm { IfErr result (λ status. status ≢ Status.SourceFault → S.faults source.new ≡ S.faults source.old) }
+{
+    let text = read_text(alloc, source, MOST_OF_JOB)?;
+    match read_ship(alloc, &text) {
+        Ok(ship) => Ok(ship),
+        Err(ShipFault::Bad(line)) => Err(Status::Stream(u64::from(line), NO_TEXT)),
+        Err(ShipFault::Memory) => Err(Status::NoMemory),
+    }
+}
+
+/// Lets the disk's store follow a text.
+fn follow_text<W: Outside>(alloc: Global, ship: &Ship, outside: &mut W) -> Status
+    requires { IsShip ship.now }
+    ensures on { OnStore W.Outside (content_of ship.now) outside.old outside.new result }
+    ensures honest { W.is_honest outside.new ≡ W.is_honest outside.old }
+    ensures time { Elapses W.moment W.left_since outside.old outside.new }
+    ensures told { IsSome (W.held outside.old) → IsSome (W.held outside.new) }
+    ensures refused { IsRefusal result → OnlyAsks W.Outside outside.old outside.new }
+    ensures calm { result ≢ Status.DiskFault → W.disk_faults outside.new ≡ W.disk_faults outside.old }
+    ensures unfailed { result ≢ Status.PutFault → W.put_faults outside.new ≡ W.put_faults outside.old }
+    ensures put { result ≡ Status.PutFault → Rose (W.put_faults outside.old) (W.put_faults outside.new) }
+    ensures disk { result ≡ Status.DiskFault → Rose (W.disk_faults outside.old) (W.disk_faults outside.new) }
+    ensures only { IsOfText result }
+{
+    let mut store = match Durable::open(alloc, outside) {
+        Ok(store) => store,
+        Err(fault) => return Status::from(fault),
+    };
+    match follow(&mut store, ship, outside) {
+        Followed::Done => Status::Done,
+        Followed::Geometry => Status::Stream(1, OTHER_STORE),
+        Followed::NotKept => Status::NotKept(
+            ship.start,
+            ship.start.wrapping_add(ship.records.len() as u64),
+        ),
+        Followed::Long(number) => Status::Stream(number, TOO_LONG),
+        Followed::DiskFault => Status::DiskFault,
+        Followed::PutFault => Status::PutFault,
+    }
+}

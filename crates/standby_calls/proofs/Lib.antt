@@ -1,3 +1,0 @@
-pub mod ShipLemmas
-pub mod FollowLemmas
-pub mod Common

@@ -1,2 +1,0 @@
-pub mod Shipped
-pub mod Followed

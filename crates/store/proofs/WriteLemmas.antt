@@ -1,0 +1,59 @@
+-- Calls that write, one after another.
+use Rattle.store.proofs.Common.{◌≡◌, ℕ, ◌+◌, ◌≤◌, List, length, ◌∙◌, ap, arith, length-append, ForSome, option_map, length-take, length-drop, Ghosts, Failed, Torn, Writes, CountsWrite, written, OnlyAsks, FewerLater, held_of, told_some, calls_none, calls_on, still_told, Option, Some, IsSome, IsTrue, Result, Ok, Err, nat_tests}
+use Rattle.outside.specs.Causes.{FailsOnlyCounted}
+use Rattle.outside.specs.Moments.{IsOneCall, Elapses, PrintsNothing, LeavesStep}
+use Rattle.store.specs.Held.{IsMoreBy, OnlyWrites, WritesOnce}
+
+pub more_on : (a b : ℕ) (old mid new : Option ℕ) → IsMoreBy a old mid → IsMoreBy b mid new → IsMoreBy (a + b) old new
+more_on a b old mid new first second before is = grind (arith, nat_tests, first)
+
+same_fewer : (old new : Option ℕ) → new ≡ old → IsMoreBy 0 old new
+same_fewer old new same before is = (before, same ∙ is, omega arith)
+
+-- the writes that a call counts
+counted_fewer : {T : Type 0} (old new : Option ℕ) (result : Result T Failed) → CountsWrite old new result → IsMoreBy 0 old new
+counted_fewer old new (Ok done) counts before is = (before + 1, counts ∙ ap (option_map (λ count. count + 1)) is, omega arith)
+counted_fewer old new (Err failed) counts before is = same_fewer old new counts before is
+
+-- the bytes that a write leaves are no fewer
+written_longer : {T : Type 0} (old new : Option (List ℕ)) (at : ℕ) (bytes : List ℕ) (result : Result T Failed) (count : ℕ) → Writes old new at bytes result → ForSome old (λ held. count ≤ length held) → ForSome new (λ held. count ≤ length held)
+written_longer old new at bytes result count writes room held is = grind (arith, nat_tests, written, room, length-append, length-take, length-drop)
+
+module _ {W : Type 0} (G : Ghosts W) (fewer_later : FewerLater G) (old mid new : W) where
+  pub writes_on : OnlyWrites G old mid → OnlyWrites G mid new → OnlyWrites G old new
+  writes_on first second = record {
+    calls = calls_on G fewer_later old mid new first.calls.time second.calls.time first.calls second.calls;
+    told = λ told. second.told (first.told told);
+    longer = λ count room. second.longer count (first.longer count room);
+    writes = more_on 0 0 (G.writes old) (G.writes mid) (G.writes new) first.writes second.writes;
+  }
+
+-- calls that only ask
+pub asks_only : {W : Type 0} (G : Ghosts W) (old new : W) → OnlyAsks G old new → OnlyWrites G old new
+asks_only G old new asks = grind (arith, nat_tests, same_fewer)
+
+-- a call that writes
+pub once : {W : Type 0} (G : Ghosts W) {T : Type 0} (at : ℕ) (bytes : List ℕ) (old new : W) (result : Result T Failed) → Writes (G.held old) (G.held new) at bytes result → CountsWrite (G.writes old) (G.writes new) result → G.is_honest new ≡ G.is_honest old
+    → Elapses G.moment G.left_since old new → IsOneCall (G.moment old) (G.moment new) → PrintsNothing G.moment G.left_since G.printed old new → (IsTrue (G.is_honest old) → IsSome (G.held old) → LeavesStep (Torn at (length bytes)) G.moment G.left_since old new)
+    → FailsOnlyCounted (G.disk_faults old) (G.disk_faults new) result → G.put_faults new ≡ G.put_faults old → WritesOnce G at bytes old new result
+once G at bytes old new result written counted honest time one quiet crash cause put = record {
+  only = record {
+    calls = record { quiet = quiet; honest = honest; time = time; disk = cause.later; put = put; puts = one.puts };
+    told = λ told. still_told (G.held old) (G.held new) at bytes result told written;
+    longer = λ count room. written_longer (G.held old) (G.held new) at bytes result count written room;
+    writes = counted_fewer (G.writes old) (G.writes new) result counted;
+  };
+  written = written;
+  counted = counted;
+  crash = crash;
+  cause = cause;
+}
+
+-- the bytes held are what a crash of now may leave
+pub held_left : {W : Type 0} (G : Ghosts W) → ((w : W) (image : List ℕ) → G.held w ≡ Some image → (seen : List ℕ) × G.left_since w (G.moment w) image seen) → (now : W) → IsSome (G.held now)
+    → (seen : List ℕ) × G.left_since now (G.moment now) (held_of G now) seen
+held_left G held_now now told = held_now now (held_of G now) (told_some (G.held now) told)
+
+-- no call at all
+pub wrote_nothing : {W : Type 0} (G : Ghosts W) (now : W) → OnlyWrites G now now
+wrote_nothing G now = grind (arith, nat_tests, calls_none, same_fewer)

@@ -1,0 +1,5 @@
+use Rattle.store.proofs.BanksCommon.{arith}
+use Rattle.store.proofs.checkpoint.Banks.append.Goals as goal
+
+pub returns : goal.returns
+returns g c = grind arith

@@ -1,0 +1,69 @@
+use Rattle.store.proofs.BanksCommon.{◌≡◌, ℕ, ◌+◌, List, [], length, refl, sym, subst, ◌∙◌, ap, arith, replicate, length-replicate, get_or-replicate, Which, Header, header_of, area_at, IsStore, Leaves, held_of, leaves_held, KeptBank, number_of, TracksBank, HoldsRecords, turned, place_is, other, IsSame, IsMoved, Option, None, take}
+use Rattle.store.proofs.StepLemmas.{held_since}
+use Rattle.store.proofs.checkpoint.Banks.checkpoint.Given.{Over}
+use Rattle.store.proofs.checkpoint.Banks.checkpoint.Goals as goal
+use Rattle.store.proofs.checkpoint.Banks.checkpoint.Goals.{After-move_to}
+
+-- the images since the start
+crash : (g : Over) (c : goal.After-move_to g) (tracks : TracksBank g.W.Outside c.args.self.now c.args.outside.now)
+    → Leaves g.W.Outside (λ image seen. IsSame tracks.header c.args.self.now tracks.records (held_of g.W.Outside c.args.outside.now) image) c.args.outside.now c.move_to.new.outside
+crash g c =
+    subst (λ (bank : KeptBank). (tracks : TracksBank g.W.Outside bank c.args.outside.now) → Leaves g.W.Outside (λ image seen. IsSame tracks.header bank tracks.records (held_of g.W.Outside c.args.outside.now) image) c.args.outside.now c.move_to.new.outside) c.self.view_is c.move_to.ensures.crash
+
+-- the bytes held are one of them
+held : (g : Over) (c : goal.After-move_to g) (tracks : TracksBank g.W.Outside c.args.self.now c.args.outside.now) → IsSame tracks.header c.args.self.now tracks.records (held_of g.W.Outside c.args.outside.now) (held_of g.W.Outside c.move_to.new.outside)
+held g c tracks =
+    let G = g.W.Outside in
+    held_since G g.met.W.Outside.fewer_later g.met.W.Outside.held_now c.args.outside.now c.move_to.new.outside c.move_to.ensures.only tracks.sure.told
+    (IsSame tracks.header c.args.self.now tracks.records (held_of G c.args.outside.now)) (crash g c tracks)
+
+pub returns-in-Err-clause-crash : goal.returns-in-Err-clause-crash
+returns-in-Err-clause-crash g c tracks = crash g (goal.at.returns-in-Err-clause-crash g c).After-move_to tracks
+
+pub returns-in-Err-clause-held : goal.returns-in-Err-clause-held
+returns-in-Err-clause-held g c tracks = held g (goal.at.returns-in-Err-clause-held g c).After-move_to tracks
+
+pub returns-in-Ok-clause-crash : goal.returns-in-Ok-clause-crash
+returns-in-Ok-clause-crash g c tracks = crash g (goal.at.returns-in-Ok-clause-crash g c).After-move_to tracks
+
+pub returns-in-Ok-clause-held : goal.returns-in-Ok-clause-held
+returns-in-Ok-clause-held g c tracks = held g (goal.at.returns-in-Ok-clause-held g c).After-move_to tracks
+
+pub returns-in-Ok-clause-done : goal.returns-in-Ok-clause-done
+returns-in-Ok-clause-done g c tracks =
+    let G = g.W.Outside in
+    let bank = c.args.self.now in
+    let away = other bank.which in
+    let new = held_of G c.move_to.new.outside in
+    let moved = subst (λ (those : KeptBank). (tracks : TracksBank G those c.args.outside.now) → IsMoved G tracks.header those c.args.outside.now c.move_to.new.outside) c.self.view_is c.in-Ok.ensures.done tracks in
+    let chose : c.other_of-which.result ≡ other c.self.inside.bank.which = c.other_of-which.ensures ∙ ap other c.which.ensures in
+    let kept : c.turn_to.new.self ≡ turned away bank = c.turn_to.ensures.turned ∙ ap (λ (which : Which). turned which c.self.inside.bank) chose ∙ ap (λ (those : KeptBank). turned (other those.which) those) c.self.view_is in
+    let lines : length (replicate {A = Option ℕ} (length bank.newest) None) ≡ length bank.newest = length-replicate {A = Option ℕ} (length bank.newest) None in
+    let gate : area_at tracks.header away ≡ (turned away bank).gate = ap (λ (n : ℕ). n + 8) (place_is tracks.header away bank.bank_bytes tracks.bank_bytes) in
+    let said : header_of (take 128 (held_of G c.args.outside.now)) ≡ tracks.header = tracks.store.said in
+    let now : TracksBank G (turned away bank) c.move_to.new.outside = record {
+      sure = moved.sure;
+      header = tracks.header;
+      records = [];
+      store = subst (λ (n : ℕ). IsStore new tracks.header away (number_of bank) n []) gate moved.store;
+      page = tracks.page;
+      bank_bytes = tracks.bank_bytes;
+      bound = tracks.bound ∙ sym lines;
+      count = refl;
+      newest = λ line below. get_or-replicate (length bank.newest) line None None (omega (arith, below, lines));
+    } in
+    record {
+      tracks = subst (λ (those : KeptBank). TracksBank G those c.move_to.new.outside) (sym kept) now;
+      stood = moved.stood;
+      header = moved.store.said ∙ sym said;
+      emptied = λ image seen left.
+          let there : HoldsRecords tracks.header away (number_of bank) [] new = record { gate = area_at tracks.header away; store = moved.store } in
+          subst (λ (those : List ℕ). HoldsRecords (header_of (take 128 (held_of G c.args.outside.now))) away (number_of bank) [] those) (sym (leaves_held G c.move_to.new.outside moved.sure image seen left))
+          (subst (λ (those : Header). HoldsRecords those away (number_of bank) [] new) (sym said) there);
+    }
+
+pub invariant_of-self-in-Ok : goal.invariant_of-self-in-Ok
+invariant_of-self-in-Ok g c = grind arith
+
+pub move_to-requires-clause-room : goal.move_to-requires-clause-room
+move_to-requires-clause-room g c = grind arith

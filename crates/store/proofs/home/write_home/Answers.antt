@@ -1,0 +1,70 @@
+use Rattle.store.proofs.BanksCommon.{◌≡◌, ℕ, ◌<◌, List, length, refl, sym, subst, ◌∙◌, arith, IsTrue, Bool, line_count, store_big, Leaves, held_of, leaves_held, TracksBank, writes_on, wrote_nothing, store_bytes, IsCovered, IsHomed}
+use Rattle.store.proofs.StepLemmas.{leaves_step}
+use Rattle.store.proofs.HomeLemmas.{covered_self, homed_start, step_covered, step_homed}
+use Rattle.store.proofs.home.write_home.Given.{Over}
+use Rattle.store.proofs.home.write_home.Goals as goal
+use Rattle.store.proofs.home.write_home.Goals.{After-copy_newest}
+
+pub loop-line-init : goal.loop-line-init
+loop-line-init g c =
+    let G = g.W.Outside in
+    let start = c.args.outside.now in
+    record {
+      only = wrote_nothing G start;
+      no_fault = refl;
+      crash = λ tracks image seen left.
+          let big = store_big tracks.header c.args.bank.now.which c.args.bank.now.base c.args.bank.now.gate tracks.records (held_of G start) tracks.store in
+          subst (λ (those : List ℕ). IsCovered tracks.header tracks.records (held_of G start) those) (sym (leaves_held G start tracks.sure image seen left)) (covered_self tracks.header c.args.bank.now.which c.args.bank.now.base c.args.bank.now.gate tracks.records (held_of G start) tracks.store big);
+      homed = λ tracks.
+          let big = store_big tracks.header c.args.bank.now.which c.args.bank.now.base c.args.bank.now.gate tracks.records (held_of G start) tracks.store in
+          homed_start tracks.header c.args.bank.now.which c.args.bank.now.base c.args.bank.now.gate tracks.records (held_of G start) tracks.store big;
+    }
+
+pub copy_newest-requires-clause-room : goal.copy_newest-requires-clause-room
+copy_newest-requires-clause-room g c = c.loop-line.invariant.only.longer (store_bytes c.args.bank.now) c.requires.room
+
+-- the images after one line more
+covered : (g : Over) (c : goal.After-copy_newest g) (tracks : TracksBank g.W.Outside c.args.bank.now c.args.outside.now) → Leaves g.W.Outside (λ image seen. IsCovered tracks.header tracks.records (held_of g.W.Outside c.args.outside.now) image) c.args.outside.now c.copy_newest.new.outside
+covered g c tracks =
+    let G = g.W.Outside in
+    let bank = c.args.bank.now in
+    let start = c.args.outside.now in
+    let before = c.loop-line.invariant.only in
+    let big = store_big tracks.header bank.which bank.base bank.gate tracks.records (held_of G start) tracks.store in
+    let below : c.loop-line.line < line_count tracks.header.directory = omega (arith, tracks.bound, c.loop-line-test.true, c.lines-line-end.ensures) in
+    let P = λ (image seen : List ℕ). IsCovered tracks.header tracks.records (held_of G start) image in
+    leaves_step G g.met.W.Outside.fewer_later start c.loop-line.outside c.copy_newest.new.outside before.calls.time c.copy_newest.ensures.only.calls.time P P _
+    (c.loop-line.invariant.crash tracks)
+    (c.copy_newest.ensures.crash (subst (λ (b : Bool). IsTrue b) (sym before.calls.honest) tracks.sure.honest) (before.told tracks.sure.told))
+    (λ image seen so. so)
+    (λ from image seen so torn.
+    step_covered tracks.header bank.which bank.base bank.gate tracks.records (held_of G start) tracks.store big bank c.loop-line.line tracks.page tracks.bank_bytes below _ (sym (tracks.newest c.loop-line.line (omega (arith, tracks.bound, below)))) from image so torn)
+
+pub returns-in_err-copy_newest-clause-only : goal.returns-in_err-copy_newest-clause-only
+returns-in_err-copy_newest-clause-only g c = writes_on g.W.Outside g.met.W.Outside.fewer_later c.args.outside.now c.loop-line.outside c.copy_newest.new.outside c.loop-line.invariant.only c.copy_newest.ensures.only
+
+pub returns-in_err-copy_newest-clause-crash : goal.returns-in_err-copy_newest-clause-crash
+returns-in_err-copy_newest-clause-crash g c tracks = covered g (goal.at.returns-in_err-copy_newest-clause-crash g c).After-copy_newest tracks
+
+pub loop-line-preserved : goal.loop-line-preserved
+loop-line-preserved g c =
+    let G = g.W.Outside in
+    let bank = c.args.bank.now in
+    let start = c.args.outside.now in
+    let before = c.loop-line.invariant.only in
+    record {
+      only = writes_on G g.met.W.Outside.fewer_later start c.loop-line.outside c.copy_newest.new.outside before c.copy_newest.ensures.only;
+      no_fault = c.in_ok-copy_newest.ensures.cause.done ∙ c.loop-line.invariant.no_fault;
+      crash = λ tracks. covered g (goal.at.loop-line-preserved g c).After-copy_newest tracks;
+      homed = λ tracks.
+          let big = store_big tracks.header bank.which bank.base bank.gate tracks.records (held_of G start) tracks.store in
+          let below : c.loop-line.line < line_count tracks.header.directory = omega (arith, tracks.bound, c.loop-line-test.true, c.lines-line-end.ensures) in
+          step_homed tracks.header bank.which bank.base bank.gate tracks.records (held_of G start) tracks.store big bank c.loop-line.line tracks.page tracks.bank_bytes below _ (sym (tracks.newest c.loop-line.line (omega (arith, tracks.bound, below))))
+          (held_of G c.loop-line.outside) (held_of G c.copy_newest.new.outside) (c.loop-line.invariant.homed tracks) (c.in_ok-copy_newest.ensures.done (before.told tracks.sure.told));
+    }
+
+pub returns-clause-done : goal.returns-clause-done
+returns-clause-done g c tracks =
+    let G = g.W.Outside in
+    let all : c.loop-line.line ≡ length c.args.bank.now.newest = omega (arith, c.loop-line-test.false, c.loop-line.auto.line-end, c.lines-line-end.ensures) in
+    subst (λ (n : ℕ). IsHomed tracks.header tracks.records (held_of G c.args.outside.now) n (held_of G c.loop-line.outside)) all (c.loop-line.invariant.homed tracks)

@@ -1,0 +1,27 @@
+use Rattle.store.proofs.Lemmas.{◌≡◌, ◌+◌, ◌*◌, ℕ, length, drop, ap, subst, ◌∙◌, arith, PageSize, entry_bytes, held_of, KeptBank, place_of, IsRecordAt, IsLine, IsLineOf, IsSome, if_ok, lined}
+use Rattle.store.proofs.redo_journal.Bank.line_at.Goals as goal
+
+pub returns : goal.returns
+returns g c =
+    let held = held_of g.W.Outside c.args.outside.now in
+    let bank = c.args.self.now in
+    let area = c.place_of.result + 8 in
+    let page : c.self.inside.page ≡ bank.page = ap (λ (those : KeptBank). those.page) c.self.view_is in
+    let place : area ≡ place_of bank.which bank.bank_bytes + 8 = ap (λ (n : ℕ). n + 8) (c.place_of.ensures.value ∙ ap (λ (those : KeptBank). place_of those.which those.bank_bytes) c.self.view_is) in
+    let entries : c.from-2.result ≡ entry_bytes bank.page * c.args.index = c.from-2.ensures ∙ c.entries_bytes.ensures.value ∙ ap (λ (size : PageSize). entry_bytes size * c.args.index) page in
+    let from : c.place_of.result + 8 + c.from.result + 11 + c.from-2.result ≡ area + c.args.of.now.place + 11 + entry_bytes bank.page * c.args.index = omega (arith, c.from.ensures, entries) in
+    record {
+      asks = c.read_line.ensures.asks;
+      read =
+          if_ok (λ (line : ℕ). IsSome (g.W.Outside.held c.args.outside.now) → IsLine c.self.inside.page (drop (c.place_of.result + 8 + c.from.result + 11 + c.from-2.result) held) line c.read_line.new.into)
+          (λ (line : ℕ). IsSome (g.W.Outside.held c.args.outside.now) → (at : IsRecordAt held bank c.args.of.now.place) → length at.lines ≡ c.args.of.now.count → IsLineOf at.lines c.args.index line c.read_line.new.into)
+          c.read_line.result
+          (λ line is some at many.
+          lined held bank c.args.of.now.place area at place c.args.index line c.read_line.new.into (omega (arith, many, c.requires.below))
+          (subst (λ (n : ℕ). IsLine bank.page (drop n held) line c.read_line.new.into) from (subst (λ (size : PageSize). IsLine size (drop (c.place_of.result + 8 + c.from.result + 11 + c.from-2.result) held) line c.read_line.new.into) page (is some))))
+          c.read_line.ensures.read;
+      cause = c.read_line.ensures.cause;
+    }
+
+pub read_line-requires-clause-whole : goal.read_line-requires-clause-whole
+read_line-requires-clause-whole g c = grind arith

@@ -1,0 +1,5 @@
+use Rattle.store.proofs.StoreLemmas.{shown_stands}
+use Rattle.store.proofs.shown_law.what_is_shown_stands.Goals as goal
+
+pub returns : goal.returns
+returns c = shown_stands

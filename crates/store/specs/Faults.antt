@@ -1,0 +1,31 @@
+-- Why a store isn't opened, or opened again.
+use Rattle.std.specs.Prelude.{◌≡◌, IsSome}
+use Rattle.store_format.specs.Header.{Header}
+use Rattle.store_format.specs.Bank.{Faulty, bank_of}
+use Rattle.store_format.specs.Stands.{stands, chosen, NotAStore, Damaged}
+use Rattle.outside.specs.declared.world.Outside.{Ghosts}
+use Rattle.outside.specs.Causes.{Rose}
+use Rattle.outside.specs.Runs.{held_of}
+use Rattle.store.specs.declared.fault.OpenFault.{OpenFault}
+use Rattle.store.specs.declared.fault.OpenFault.TheVariants as opening
+use Rattle.store.specs.declared.fault.ReopenFault.{ReopenFault}
+use Rattle.store.specs.declared.fault.ReopenFault.TheVariants as reopening
+
+-- bytes that are told have this fault, or the disk's count rose; memory is free
+abbrev pub IsStoreOpenFault : {W : Type 0} → Ghosts W → W → W → OpenFault → Type 0
+IsStoreOpenFault G old new (opening.NotAStore offset) = IsSome (G.held old) → stands (held_of G old) ≡ NotAStore offset
+IsStoreOpenFault G old new (opening.Damaged offset) = IsSome (G.held old) → stands (held_of G old) ≡ Damaged offset
+IsStoreOpenFault G old new opening.DiskFault = Rose (G.disk_faults old) (G.disk_faults new)
+IsStoreOpenFault G old new opening.Memory = Unit {0}
+
+-- the same in front of the bank: no damage and no want of memory
+abbrev pub IsStartFault : {W : Type 0} → Ghosts W → W → W → OpenFault → Type 0
+IsStartFault G old new (opening.NotAStore offset) = IsSome (G.held old) → stands (held_of G old) ≡ NotAStore offset
+IsStartFault G old new (opening.Damaged offset) = ⊥
+IsStartFault G old new opening.DiskFault = Rose (G.disk_faults old) (G.disk_faults new)
+IsStartFault G old new opening.Memory = ⊥
+
+-- the chosen bank of a store with this header has this fault, or the disk's count rose
+abbrev pub IsStoreReopenFault : {W : Type 0} → Ghosts W → W → W → Header → ReopenFault → Type 0
+IsStoreReopenFault G old new header (reopening.Damaged offset) = IsSome (G.held old) → bank_of (held_of G old) header (chosen (held_of G old)) ≡ Faulty offset
+IsStoreReopenFault G old new header reopening.DiskFault = Rose (G.disk_faults old) (G.disk_faults new)

@@ -1,0 +1,52 @@
+-- What a bank is that was read from the disk.
+use Rattle.std.specs.Prelude.{◌≡◌, ◌↔◌, ◌<◌, ℕ, List, length, slice_get, Some, None, IsSome}
+use Rattle.lines.specs.Lines.{line_count}
+use Rattle.lines.specs.declared.line_geometry.PageSize.{PageSize}
+use Rattle.store_format.specs.declared.header.Which.{Which}
+use Rattle.store_format.specs.Header.{Header, number_at}
+use Rattle.store_format.specs.Bank.{Bank, RecordLine, Holds, Faulty, bank_held, bank_of}
+use Rattle.outside.specs.declared.world.Outside.{Ghosts}
+use Rattle.outside.specs.Causes.{Rose}
+use Rattle.outside.specs.Runs.{held_of}
+use Rattle.store.specs.declared.fault.OpenFault.{OpenFault}
+use Rattle.store.specs.declared.fault.OpenFault.TheVariants as opening
+use Rattle.store.specs.declared.fault.ReopenFault.{ReopenFault}
+use Rattle.store.specs.declared.fault.ReopenFault.TheVariants as reopening
+use Rattle.store.specs.Kept.{KeptBank, place_of}
+use Rattle.store.specs.Noted.{AreNewest, IsNowhere}
+
+-- what these bytes hold where such a bank of a store with pages of a size and so many lines lies
+abbrev pub bank_in : List ℕ → PageSize → Which → (bank_bytes bound : ℕ) → Bank
+bank_in held page which bank_bytes bound = bank_held held page bound (place_of which bank_bytes) bank_bytes
+
+-- The bank is what these bytes hold where it lies: base, closed gate, number of records and newest places.
+pub record IsRead (held : List ℕ) (bank : KeptBank) : Type 0 where
+  pub records : List (List RecordLine)
+  pub base : number_at held (place_of bank.which bank.bank_bytes) 8 ≡ bank.base
+  pub holds : bank_in held bank.page bank.which bank.bank_bytes (length bank.newest) ≡ Holds bank.gate records
+  pub count : length records ≡ bank.count
+  pub newest : AreNewest bank.newest records
+
+-- a line of a bank that was read has no newest place exactly where no record of the bank has the line
+abbrev pub NewestLaw : Type 0
+NewestLaw = (held : List ℕ) (bank : KeptBank) (read : IsRead held bank) (line : ℕ) → line < length bank.newest → (slice_get bank.newest line ≡ Some None) ↔ IsNowhere line read.records
+
+-- the bank is this one of a store with such a header, and has no record begun
+pub record IsBankOf (header : Header) (which : Which) (bank : KeptBank) : Type 0 where
+  pub page : header.directory.page ≡ bank.page
+  pub bank_bytes : header.bank_bytes ≡ bank.bank_bytes
+  pub bound : line_count header.directory ≡ length bank.newest
+  pub which_is : bank.which ≡ which
+  pub begun : bank.begun ≡ None
+
+-- a disk's fault is counted; damage is a fault of the bank in the bytes that are told
+abbrev pub IsBankReopenFault : {W : Type 0} → Ghosts W → W → W → Which → KeptBank → ReopenFault → Type 0
+IsBankReopenFault G old new which bank (reopening.Damaged offset) = IsSome (G.held old) → bank_in (held_of G old) bank.page which bank.bank_bytes (length bank.newest) ≡ Faulty offset
+IsBankReopenFault G old new which bank reopening.DiskFault = Rose (G.disk_faults old) (G.disk_faults new)
+
+-- the same for a bank that is opened: it is no other store, and memory is free
+abbrev pub IsBankOpenFault : {W : Type 0} → Ghosts W → W → W → Header → Which → OpenFault → Type 0
+IsBankOpenFault G old new header which (opening.NotAStore offset) = ⊥
+IsBankOpenFault G old new header which (opening.Damaged offset) = IsSome (G.held old) → bank_of (held_of G old) header which ≡ Faulty offset
+IsBankOpenFault G old new header which opening.DiskFault = Rose (G.disk_faults old) (G.disk_faults new)
+IsBankOpenFault G old new header which opening.Memory = Unit {0}

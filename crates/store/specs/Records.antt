@@ -1,0 +1,63 @@
+-- Where the records of a bank lie in its area, and what is read of one.
+use Rattle.std.specs.Prelude.{◌≡◌, ◌⊎◌, ℕ, ◌+◌, ◌<◌, List, [], ◌∷◌, ◌++◌, length, take, drop, slice_get, Some, IsSome, Result, IfOk}
+use Rattle.byteorder.specs.Endian.{big_number}
+use Rattle.lines.specs.Segments.{line_bytes}
+use Rattle.lines.specs.declared.line_geometry.PageSize.{PageSize}
+use Rattle.store_format.specs.Bank.{RecordLine, record_bytes}
+use Rattle.outside.specs.declared.failed.Failed.{Failed}
+use Rattle.outside.specs.declared.world.Outside.{Ghosts}
+use Rattle.outside.specs.Causes.{FailsOnlyCounted}
+use Rattle.outside.specs.Runs.{OnlyAsks, held_of}
+use Rattle.store.specs.declared.find.Record.{Record}
+use Rattle.store.specs.Kept.{KeptBank}
+use Rattle.store.specs.Opened.{IsRead}
+
+-- the bytes of an area that these records take, in a store with pages of a size
+abbrev pub area_bytes : PageSize → List (List RecordLine) → ℕ
+area_bytes page [] = 0
+area_bytes page (lines ∷ records) = record_bytes page (length lines) + area_bytes page records
+
+-- The kept bank is what these bytes hold, and at this place of its area lies a record: behind these, with these lines, in front of those.
+pub record IsRecordAt (held : List ℕ) (bank : KeptBank) (place : ℕ) : Type 0 where
+  pub read : IsRead held bank
+  pub before : List (List RecordLine)
+  pub lines : List RecordLine
+  pub after : List (List RecordLine)
+  pub are : read.records ≡ before ++ lines ∷ after
+  pub place_is : place ≡ area_bytes bank.page before
+
+-- the record that is told lies there, and with a gate behind it fits an area of so many bytes; or it is told without lines, and with nothing behind it
+pub record IsFound (page : PageSize) (bank_bytes place : ℕ) (found : Record) : Type 0 where
+  pub place_is : found.place ≡ place
+  pub fits : ((found.count ≡ 0) × (found.next ≡ 0)) ⊎ ((found.next ≡ place + record_bytes page found.count) × (found.next < bank_bytes))
+
+-- the record has as many lines as that which lies there, and the next one lies behind these
+pub record IsCounted (page : PageSize) (place : ℕ) (lines : List RecordLine) (found : Record) : Type 0 where
+  pub count : found.count ≡ length lines
+  pub next : found.next ≡ place + record_bytes page (length lines)
+
+-- bytes begin with a line of a record: its number, and its bytes
+pub record IsLine (page : PageSize) (bytes : List ℕ) (line : ℕ) (into : List ℕ) : Type 0 where
+  pub number : line ≡ big_number 4 bytes
+  pub bytes_are : into ≡ take (line_bytes page) (drop 4 bytes)
+
+-- these are the number and the bytes of that line of a record
+pub record IsLineOf (lines : List RecordLine) (index line : ℕ) (into : List ℕ) : Type 0 where
+  pub one : RecordLine
+  pub there : slice_get lines index ≡ Some one
+  pub number : line ≡ one.line
+  pub bytes_are : into ≡ one.bytes
+
+-- What is answered where the record is read that lies at a place of the kept bank, in a store with these sizes: the disk is only asked, and fails only where
+-- its count rose; a record that is told is found there, and where the told bytes are the bank's it is counted as the one that lies there.
+pub record ReadsRecord {W : Type 0} (G : Ghosts W) (page : PageSize) (bank_bytes : ℕ) (bank : KeptBank) (place : ℕ) (before after : W) (result : Result Record Failed) : Type 0 where
+  pub asks : OnlyAsks G before after
+  pub found : IfOk result (IsFound page bank_bytes place)
+  pub read : IfOk result (λ found. IsSome (G.held before) → (at : IsRecordAt (held_of G before) bank place) → IsCounted page place at.lines found)
+  pub cause : FailsOnlyCounted (G.disk_faults before) (G.disk_faults after) result
+
+-- The same of a line of such a record: where the told bytes are the bank's, and the record has as many lines as was found, these are its number and its bytes.
+pub record ReadsLine {W : Type 0} (G : Ghosts W) (bank : KeptBank) (of : Record) (index : ℕ) (into : List ℕ) (before after : W) (result : Result ℕ Failed) : Type 0 where
+  pub asks : OnlyAsks G before after
+  pub read : IfOk result (λ line. IsSome (G.held before) → (at : IsRecordAt (held_of G before) bank of.place) → length at.lines ≡ of.count → IsLineOf at.lines index line into)
+  pub cause : FailsOnlyCounted (G.disk_faults before) (G.disk_faults after) result

@@ -1,0 +1,29 @@
+-- A bank that is turned to: the other one, without records.
+use Rattle.std.specs.Prelude.{ℕ, ◌+◌, List, [], ◌∷◌, ◌++◌, length, replicate, None}
+use Rattle.std.specs.Option.{option_map}
+use Rattle.byteorder.specs.Endian.{big_bytes}
+use Rattle.store_format.specs.declared.header.Which.{Which}
+use Rattle.lines.specs.declared.line_geometry.PageSize.{PageSize}
+use Rattle.store_format.specs.Header.{entry_bytes}
+use Rattle.store_format.specs.Bank.{RecordLine}
+use Rattle.store.specs.Kept.{KeptBank, place_of, number_of}
+
+-- these lines one behind another, from an offset on
+abbrev pub placed : PageSize → ℕ → List RecordLine → List RecordLine
+placed page at [] = []
+placed page at (line ∷ lines) = record line { at = at } ∷ placed page (at + entry_bytes page) lines
+
+-- the bank at this place with the number as its base, no record, and the begun record behind its gate
+abbrev pub turned : Which → KeptBank → KeptBank
+turned which bank = record bank {
+  which = which;
+  base = number_of bank;
+  count = 0;
+  gate = place_of which bank.bank_bytes + 8;
+  newest = replicate (length bank.newest) None;
+  begun = option_map (placed bank.page (place_of which bank.bank_bytes + 19)) bank.begun;
+}
+
+-- what a bank without records begins with: its base and a closed gate
+abbrev pub head_bytes : ℕ → List ℕ
+head_bytes base = big_bytes 8 base ++ 0 ∷ []

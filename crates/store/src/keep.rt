@@ -1,0 +1,106 @@
+// A body that is kept behind a gate.
+ghost use Rattle.std.specs.Prelude.{◌≡◌, ◌+◌, ◌≤◌, ◌<◌, ◌^◌, length, false, None, Some, OnOk};
+ghost use Rattle.std.specs.Option.{option_map};
+ghost use Rattle.outside.specs.Causes.{FailsOnlyCounted};
+ghost use Rattle.outside.specs.Runs.{Leaves, held_of};
+ghost use Rattle.outside.specs.Bytes.{Torn};
+ghost use Rattle.outside.specs.Durable.{IsSure, IsWritten};
+ghost use Rattle.store.specs.Appended.{CountsKept, kept_in};
+ghost use Rattle.store.specs.Held.{HoldsAtLeast, OnlyWrites, WritesOnce};
+ghost use Rattle.store.specs.Gate.{is_open, HasBody, IsShut, IsSafe, IsKept};
+
+use outside::{Failed, Outside};
+
+/// The gate in front of a record. Any other byte is a closed gate.
+pub const OPEN: u8 = 0xa5;
+
+/// How far a record was kept (docs/FORMATS.md, "Protocols").
+#[derive(Clone, Copy)]
+pub enum Kept {
+    /// It is on the disk.
+    Done,
+    /// The disk failed before the gate's write began: a crash leaves no such record.
+    Unwritten,
+    /// The disk failed from the gate's write on: a crash leaves the record or not.
+    Doubt,
+}
+
+/// What came of an append: it found no room, or how far the record was kept (docs/FORMATS.md, "Protocols").
+#[derive(Clone, Copy)]
+pub enum Appended {
+    /// As [`Kept::Done`].
+    Done,
+    /// The record and the gate after it don't fit the rest of the bank: nothing was written.
+    Full,
+    /// As [`Kept::Unwritten`].
+    Unwritten,
+    /// As [`Kept::Doubt`].
+    Doubt,
+}
+
+impl Appended {
+    /// How far the record was kept; none where it found no room.
+    pub fn kept(self) -> Option<Kept>
+        ensures value { result ≡ kept_in self }
+        ensures full { result ≡ None → self ≡ Appended.Full }
+        ensures done { result ≡ Some Kept.Done → self ≡ Appended.Done }
+    {
+        match self {
+            Appended::Done => Some(Kept::Done),
+            Appended::Full => None,
+            Appended::Unwritten => Some(Kept::Unwritten),
+            Appended::Doubt => Some(Kept::Doubt),
+        }
+    }
+}
+
+/// Writes a body after a closed gate, makes it durable, and then opens the gate and makes that durable.
+pub fn keep_body<W: Outside>(outside: &mut W, gate: u64, body: &[u8]) -> Kept
+    requires room { HoldsAtLeast W.Outside (gate + 1 + length body.now) outside.old }
+    requires few { gate < 2 ^ 63 }
+    ensures only { OnlyWrites W.Outside outside.old outside.new }
+    ensures crash { IsShut W.Outside gate outside.old → Leaves W.Outside (λ image seen. IsSafe gate body.now (held_of W.Outside outside.old) image) outside.old outside.new }
+    ensures unwritten { result ≡ Kept.Unwritten → IsShut W.Outside gate outside.old → Leaves W.Outside (λ image seen. is_open gate image ≡ false) outside.old outside.new }
+    ensures doubt { result ≡ Kept.Doubt → IsShut W.Outside gate outside.old → Leaves W.Outside (λ image seen. HasBody gate body.now image) outside.new outside.new }
+    ensures done { result ≡ Kept.Done → IsShut W.Outside gate outside.old → IsKept W.Outside gate body.now outside.old outside.new }
+    ensures writes { result ≡ Kept.Done → W.writes outside.new ≡ option_map (λ count. count + 2) (W.writes outside.old) }
+    ensures counted { CountsKept W.Outside outside.old outside.new result }
+{
+    match write_sure(outside, gate + 1, body) {
+        Err(Failed) => return Kept::Unwritten,
+        Ok(()) => {}
+    }
+    match write_sure(outside, gate, &[OPEN]) {
+        Err(Failed) => Kept::Doubt,
+        Ok(()) => Kept::Done,
+    }
+}
+
+/// Writes over bytes that are held, and makes them sure. From the start on a crash may leave anything in their range.
+///
+/// # Errors
+///
+/// Only where the disk's count rose.
+pub fn write_sure<W: Outside>(outside: &mut W, at: u64, bytes: &[u8]) -> Result<(), Failed>
+    requires room { HoldsAtLeast W.Outside (at + length bytes.now) outside.old }
+    ensures only { OnlyWrites W.Outside outside.old outside.new }
+    ensures crash { IsSure W.Outside outside.old → Leaves W.Outside (λ image seen. Torn at (length bytes.now) (held_of W.Outside outside.old) image) outside.old outside.new }
+    ensures done { OnOk result (IsSure W.Outside outside.old → IsWritten W.Outside at bytes.now outside.old outside.new) }
+    ensures writes { OnOk result (W.writes outside.new ≡ option_map (λ count. count + 1) (W.writes outside.old)) }
+    ensures cause { FailsOnlyCounted (W.disk_faults outside.old) (W.disk_faults outside.new) result }
+{
+    write_once(outside, at, bytes)?;
+    outside.sync()
+}
+
+/// Writes over bytes that are held.
+///
+/// # Errors
+///
+/// Only where the disk's count rose.
+pub fn write_once<W: Outside>(outside: &mut W, at: u64, bytes: &[u8]) -> Result<(), Failed>
+    requires { HoldsAtLeast W.Outside (at + length bytes.now) outside.old }
+    ensures { WritesOnce W.Outside at bytes.now outside.old outside.new result }
+{
+    outside.write_at(at, bytes)
+}

@@ -1,0 +1,139 @@
+// Reading the records of a bank.
+ghost use Rattle.std.specs.Prelude.{◌≡◌, ℕ, ◌+◌, ◌*◌, ◌==◌, ◌≤◌, ◌<◌, ◌^◌, length, drop, slice_index, None, IsSome, IfOk};
+ghost use Rattle.store_format.specs.Header.{number_at, entry_bytes};
+ghost use Rattle.store_format.specs.Bank.{lines_from, wrong_line, gate_if, bank_held};
+ghost use Rattle.outside.specs.Causes.{FailsOnlyCounted};
+ghost use Rattle.outside.specs.Runs.{OnlyAsks, held_of};
+ghost use Rattle.store.specs.Noted.{noted, AreWithin};
+ghost use Rattle.store.specs.Held.{HoldsAtLeast};
+ghost use Rattle.store.specs.Read.{IsGate, IsNext, IsBank, IsClosedIn};
+
+use crate::keep::OPEN;
+use byteorder::{BigEndian, ByteOrder};
+use lines::{OwnedList, PageSize};
+use outside::{Failed, Outside};
+use store_format::entries_bytes;
+
+/// What stands at a gate: nothing, a fault, or a record with a next gate.
+#[derive(Clone, Copy)]
+pub enum Gate {
+    Closed,
+    Wrong(u64),
+    Sound(u64),
+}
+
+/// What a bank holds: its base, the place of its closed gate and the number of its records, or a fault.
+#[derive(Clone, Copy)]
+pub enum Found {
+    Holds { base: u64, gate: u64, count: u32 },
+    Faulty(u64),
+}
+
+/// Reads the bank at a place, and notes the places of its lines.
+pub fn read_bank<W: Outside>(
+    outside: &mut W,
+    newest: &mut OwnedList<Option<u64>>,
+    page: PageSize,
+    at: u64,
+    bank_bytes: u32,
+) -> Result<Found, Failed>
+    requires room { HoldsAtLeast W.Outside (at + 8 + bank_bytes) outside.old }
+    requires few { at + 8 + bank_bytes < 2 ^ 20 }
+    requires some { 0 < bank_bytes }
+    ensures asks { OnlyAsks W.Outside outside.old outside.new }
+    ensures len { length newest.new ≡ length newest.old }
+    ensures within { IfOk result (IsClosedIn (at + 8) (at + 8 + bank_bytes)) }
+    ensures placed { AreWithin page (at + 8 + bank_bytes) newest.old → AreWithin page (at + 8 + bank_bytes) newest.new }
+    ensures found { IfOk result (λ found. IsSome (W.held outside.old) → IsBank found newest.old newest.new (number_at (held_of W.Outside outside.old) at 8) (bank_held (held_of W.Outside outside.old) page (length newest.old) at bank_bytes)) }
+    ensures cause { FailsOnlyCounted (W.disk_faults outside.old) (W.disk_faults outside.new) result }
+{
+    let mut head = [0; 8];
+    outside.read_at(at, &mut head)?;
+    let base = BigEndian::read_u64(&head);
+    let end = at + 8 + u64::from(bank_bytes);
+    let mut gate = at + 8;
+    for count in 0..bank_bytes {
+        let due = base.wrapping_add(u64::from(count) + 1);
+        match read_gate(outside, newest, page, end, due, gate)? {
+            Gate::Closed => return Ok(Found::Holds { base, gate, count }),
+            Gate::Wrong(offset) => return Ok(Found::Faulty(offset)),
+            Gate::Sound(next) => gate = next,
+        }
+    }
+    Ok(Found::Faulty(gate))
+}
+
+/// Reads the gate at a place of an area with this end, of which a record has this number.
+fn read_gate<W: Outside>(
+    outside: &mut W,
+    newest: &mut OwnedList<Option<u64>>,
+    page: PageSize,
+    end: u64,
+    due: u64,
+    gate: u64,
+) -> Result<Gate, Failed>
+    requires inside { gate < end }
+    requires room { HoldsAtLeast W.Outside end outside.old }
+    requires few { end < 2 ^ 20 }
+    ensures asks { OnlyAsks W.Outside outside.old outside.new }
+    ensures len { length newest.new ≡ length newest.old }
+    ensures next { IfOk result (IsNext gate end) }
+    ensures placed { AreWithin page end newest.old → AreWithin page end newest.new }
+    ensures found { IfOk result (λ found. IsSome (W.held outside.old) → IsGate found gate newest.old newest.new (gate_if page (slice_index (held_of W.Outside outside.old) gate == 0xA5) (length newest.old) end due gate (drop gate (held_of W.Outside outside.old)))) }
+    ensures cause { FailsOnlyCounted (W.disk_faults outside.old) (W.disk_faults outside.new) result }
+{
+    let mut first = [0; 1];
+    outside.read_at(gate, &mut first)?;
+    if first[0] != OPEN {
+        return Ok(Gate::Closed);
+    }
+    if end < gate + 11 {
+        return Ok(Gate::Wrong(gate));
+    }
+    let mut head = [0; 10];
+    outside.read_at(gate + 1, &mut head)?;
+    let count = BigEndian::read_u16(&head);
+    let next = gate + 11 + u64::from(entries_bytes(page, count));
+    if end < next + 1 {
+        return Ok(Gate::Wrong(gate + 1));
+    }
+    if BigEndian::read_u64(&head[2..]) != due {
+        return Ok(Gate::Wrong(gate + 3));
+    }
+    match read_lines(outside, newest, page, gate + 11, count)? {
+        Some(offset) => Ok(Gate::Wrong(offset)),
+        None => Ok(Gate::Sound(next)),
+    }
+}
+
+/// Notes the places of so many lines from a place on. The answer is where the first wrong one lies.
+fn read_lines<W: Outside>(
+    outside: &mut W,
+    newest: &mut OwnedList<Option<u64>>,
+    page: PageSize,
+    at: u64,
+    count: u16,
+) -> Result<Option<u64>, Failed>
+    requires room { HoldsAtLeast W.Outside (at + entry_bytes page * count) outside.old }
+    requires few { at < 2 ^ 20 }
+    ensures asks { OnlyAsks W.Outside outside.old outside.new }
+    ensures len { length newest.new ≡ length newest.old }
+    ensures placed { (end : ℕ) → at + entry_bytes page * count ≤ end → AreWithin page end newest.old → AreWithin page end newest.new }
+    ensures fault { IfOk result (λ fault. IsSome (W.held outside.old) → fault ≡ wrong_line (length newest.old) 0 (lines_from page count at (drop at (held_of W.Outside outside.old)))) }
+    ensures noted { IfOk result (λ fault. IsSome (W.held outside.old) → fault ≡ None → newest.new ≡ noted newest.old (lines_from page count at (drop at (held_of W.Outside outside.old)))) }
+    ensures cause { FailsOnlyCounted (W.disk_faults outside.old) (W.disk_faults outside.new) result }
+{
+    let mut least = 0;
+    for i in 0..count {
+        let place = at + u64::from(entries_bytes(page, i));
+        let mut number = [0; 4];
+        outside.read_at(place, &mut number)?;
+        let line = BigEndian::read_u32(&number);
+        if u64::from(line) < least || newest.len() <= line as usize {
+            return Ok(Some(place));
+        }
+        newest.write(line as usize, &[Some(place + 4)]);
+        least = u64::from(line) + 1;
+    }
+    Ok(None)
+}

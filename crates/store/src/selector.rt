@@ -1,0 +1,63 @@
+// The byte that chooses a bank.
+ghost use Rattle.std.specs.Prelude.{◌≡◌, ◌∷◌, [], IsSome, IfOk, OnOk};
+ghost use Rattle.store_format.specs.Stands.{chosen};
+ghost use Rattle.outside.specs.Bytes.{Torn};
+ghost use Rattle.outside.specs.Causes.{FailsOnlyCounted};
+ghost use Rattle.outside.specs.Durable.{IsSure, IsWritten};
+ghost use Rattle.outside.specs.Runs.{OnlyAsks, Leaves, held_of};
+ghost use Rattle.store.specs.Held.{HoldsAtLeast, OnlyWrites};
+ghost use Rattle.store.specs.Chosen.{other, selector_of};
+
+use super::keep::write_sure;
+use outside::{Failed, Outside};
+use store_format::Which;
+
+/// Where the selector lies.
+const SELECTOR_AT: u64 = 128;
+
+/// The other bank of a store.
+pub fn other_of(which: Which) -> Which
+    ensures { result ≡ other which }
+{
+    match which {
+        Which::A => Which::B,
+        Which::B => Which::A,
+    }
+}
+
+/// Which bank the selector chooses.
+pub fn read_selector<W: Outside>(outside: &mut W) -> Result<Which, Failed>
+    requires room { HoldsAtLeast W.Outside 129 outside.old }
+    ensures asks { OnlyAsks W.Outside outside.old outside.new }
+    ensures selected { IfOk result (λ which. IsSome (W.held outside.old) → chosen (held_of W.Outside outside.old) ≡ which) }
+    ensures cause { FailsOnlyCounted (W.disk_faults outside.old) (W.disk_faults outside.new) result }
+{
+    let mut selector = [0; 1];
+    outside.read_at(SELECTOR_AT, &mut selector)?;
+    if selector[0] == 1 {
+        Ok(Which::B)
+    } else {
+        Ok(Which::A)
+    }
+}
+
+/// Chooses a bank, and makes it durable.
+pub fn write_selector<W: Outside>(outside: &mut W, which: Which) -> Result<(), Failed>
+    requires room { HoldsAtLeast W.Outside 129 outside.old }
+    ensures only { OnlyWrites W.Outside outside.old outside.new }
+    ensures crash { IsSure W.Outside outside.old → Leaves W.Outside (λ image seen. Torn 128 1 (held_of W.Outside outside.old) image) outside.old outside.new }
+    ensures done { OnOk result (IsSure W.Outside outside.old → IsWritten W.Outside 128 (selector_of which ∷ []) outside.old outside.new) }
+    ensures cause { FailsOnlyCounted (W.disk_faults outside.old) (W.disk_faults outside.new) result }
+{
+    write_sure(outside, SELECTOR_AT, &[selector_of(which)])
+}
+
+/// The byte that chooses a bank.
+fn selector_of(which: Which) -> u8
+    ensures { result ≡ selector_of which }
+{
+    match which {
+        Which::A => 0,
+        Which::B => 1,
+    }
+}

@@ -1,0 +1,33 @@
+use Rattle.store_calls.proofs.Common.{◌≡◌, ◌⊎◌, ℕ, List, inl, inr, refl, sym, ap, subst, ◌∙◌, Ok, Content, content_of, job_of, AreCommitsOf, IsFirstBad, CommitLine, IsBundle, Bundle, Status, IsShut, part_of, IsFaultAt}
+use Rattle.store_calls.proofs.BundleLemmas.{handed_on}
+use Rattle.store_calls.proofs.bundle.open_bundle.Goals as goal
+
+module _ (bytes : List ℕ) (bundle : Bundle) (parts : IsBundle bytes bundle) (content : Content) (job_is : job_of (part_of bytes bundle.job) ≡ Ok content) where
+  -- a report with a line that is none
+  shut_by_report : (status : Status) → ((number : ℕ) × (status ≡ Status.Bundle 2 number) × IsFirstBad (part_of bytes bundle.report) number) ⊎ (status ≡ Status.NoMemory) → IsShut bytes status
+  shut_by_report status (inl (number, is, bad)) = subst (IsShut bytes) (sym is) (inr (inl (refl, record { bundle = bundle; parts = parts; content = content; job_is = job_is; bad = bad })))
+  shut_by_report status (inr is) = subst (IsShut bytes) (sym is) tt
+
+  -- an opening store that stands for nothing
+  shut_by_opening : (report : List CommitLine) → AreCommitsOf (part_of bytes bundle.report) report → (status : Status)
+      → ((offset : ℕ) × (status ≡ Status.Bundle 3 offset) × IsFaultAt (part_of bytes bundle.opening) offset) ⊎ (status ≡ Status.NoMemory) → IsShut bytes status
+  shut_by_opening report report_is status (inl (offset, is, fault)) =
+      subst (IsShut bytes) (sym is) (inr (inr (refl, record { bundle = bundle; parts = parts; content = content; job_is = job_is; report = report; report_is = report_is; fault = fault })))
+  shut_by_opening report report_is status (inr is) = subst (IsShut bytes) (sym is) tt
+
+pub returns-in_err-report-clause-opened : goal.returns-in_err-report-clause-opened
+returns-in_err-report-clause-opened c =
+    let bytes = c.args.bytes.now in
+    let bundle = c.in-Ok.bundle in
+    handed_on _ (IsShut bytes) c.from_residual-in_err-report.result c.in_err-report.field-0.0 c.from_residual-in_err-report.ensures
+    (shut_by_report bytes bundle c.in-Ok.ensures (content_of c.in_ok-job.job) (ap job_of (sym c.part.ensures) ∙ c.in_ok-job.ensures.answer) c.in_err-report.field-0.0
+    (subst (λ (text : List ℕ). ((number : ℕ) × (c.in_err-report.field-0.0 ≡ Status.Bundle 2 number) × IsFirstBad text number) ⊎ (c.in_err-report.field-0.0 ≡ Status.NoMemory)) c.part-2.ensures c.in_err-report.ensures.read))
+
+pub returns-in_err-opening-clause-opened : goal.returns-in_err-opening-clause-opened
+returns-in_err-opening-clause-opened c =
+    let bytes = c.args.bytes.now in
+    let bundle = c.in-Ok.bundle in
+    handed_on _ (IsShut bytes) c.from_residual-in_err-opening.result c.in_err-opening.field-0.0 c.from_residual-in_err-opening.ensures
+    (shut_by_opening bytes bundle c.in-Ok.ensures (content_of c.in_ok-job.job) (ap job_of (sym c.part.ensures) ∙ c.in_ok-job.ensures.answer)
+    c.in_ok-report.report.items (subst (λ (text : List ℕ). AreCommitsOf text c.in_ok-report.report.items) c.part-2.ensures c.in_ok-report.ensures.read) c.in_err-opening.field-0.0
+    (subst (λ (text : List ℕ). ((offset : ℕ) × (c.in_err-opening.field-0.0 ≡ Status.Bundle 3 offset) × IsFaultAt text offset) ⊎ (c.in_err-opening.field-0.0 ≡ Status.NoMemory)) c.part-3.ensures c.in_err-opening.ensures))

@@ -1,0 +1,94 @@
+-- What the parts of a bundle are, and the first that is wrong.
+use Rattle.std.specs.Prelude.{◌≡◌, ℕ, ◌-◌, ◌≤◌, ◌⊎◌, List, length, Option, Some, Ok, Err}
+use Rattle.outside.specs.Bytes.{bytes_at}
+use Rattle.outside.specs.Causes.{Rose}
+use Rattle.job_text.specs.Grammar.{Content, content_of, job_of}
+use Rattle.job_text.specs.declared.job.Job.{Job}
+use Rattle.report_text.specs.ReadLines.{AreCommitsOf, IsFirstBad}
+use Rattle.report_text.specs.declared.line.CommitLine.{CommitLine}
+use Rattle.serial_audit.specs.Bundle.{IsBundle, IsWrongAt}
+use Rattle.serial_audit.specs.declared.auditing.KeptStore.{KeptStore}
+use Rattle.serial_audit.specs.declared.bundle.Bundle.{Bundle}
+use Rattle.serial_audit.specs.declared.bundle.Span.{Span}
+use Rattle.call_status.specs.Call.{Given}
+use Rattle.call_status.specs.declared.status.Status.{Status}
+use Rattle.call_status.specs.declared.status.Status.TheVariants as status
+use Rattle.store_calls.specs.Kept.{Keeps}
+use Rattle.call_status.specs.Opening.{IsFaultAt, IsStanding}
+use Rattle.call_status.specs.Reading.{IsSomeJob}
+use Rattle.call_status.specs.SourceText.{HasRead, IsWholeBundle}
+
+-- the bytes of a part
+abbrev pub part_of : List ℕ → Span → List ℕ
+part_of bytes span = bytes_at bytes span.from (span.to - span.from)
+
+-- A bundle's text, its parts in their places: its job means this one, its report has these commit lines, and its opening store is this one.
+pub record AreBundleParts (bytes : List ℕ) (bundle : Bundle) (job : Job) (report : List CommitLine) (opening : KeptStore) : Type 0 where
+  pub parts : IsBundle bytes bundle
+  pub job_is : job_of (part_of bytes bundle.job) ≡ Ok (content_of job)
+  pub report_is : AreCommitsOf (part_of bytes bundle.report) report
+  pub opening_is : Keeps (part_of bytes bundle.opening) opening
+
+-- its job is none, at this line and for a reason of this kind
+pub record IsNoJob (bytes : List ℕ) (line kind : ℕ) : Type 0 where
+  pub bundle : Bundle
+  pub parts : IsBundle bytes bundle
+  pub fault : job_of (part_of bytes bundle.job) ≡ Err (line, kind)
+
+-- its job is one, and this line of its report is the first that is none
+pub record IsBadReport (bytes : List ℕ) (number : ℕ) : Type 0 where
+  pub bundle : Bundle
+  pub parts : IsBundle bytes bundle
+  pub content : Content
+  pub job_is : job_of (part_of bytes bundle.job) ≡ Ok content
+  pub bad : IsFirstBad (part_of bytes bundle.report) number
+
+-- its job and its report are some, and its opening store stands for nothing from this offset on
+pub record IsBadOpening (bytes : List ℕ) (offset : ℕ) : Type 0 where
+  pub bundle : Bundle
+  pub parts : IsBundle bytes bundle
+  pub content : Content
+  pub job_is : job_of (part_of bytes bundle.job) ≡ Ok content
+  pub report : List CommitLine
+  pub report_is : AreCommitsOf (part_of bytes bundle.report) report
+  pub fault : IsFaultAt (part_of bytes bundle.opening) offset
+
+-- all that comes before its closing store is right, and that stands for nothing from this offset on
+pub record IsBadClosing (bytes : List ℕ) (offset : ℕ) : Type 0 where
+  pub bundle : Bundle
+  pub job : Job
+  pub report : List CommitLine
+  pub opening : KeptStore
+  pub opened : AreBundleParts bytes bundle job report opening
+  pub fault : IsFaultAt (part_of bytes bundle.closing) offset
+
+-- the first part that is wrong, and where: the first line or the number of bytes behind it, at 0; the report, at its first line that is
+-- none; the opening store, at an offset
+abbrev pub IsWrongPart : List ℕ → (part at : ℕ) → Type 0
+IsWrongPart bytes part at =
+    ((at ≡ 0) × IsWrongAt bytes part) ⊎ ((part ≡ 2) × IsBadReport bytes at) ⊎ ((part ≡ 3) × IsBadOpening bytes at)
+
+-- The source has a bundle, whole: its job is one, no line of its report is bad, and its opening store stands.
+pub record HasBundle (left : Option (List ℕ)) : Type 0 where
+  pub text : List ℕ
+  pub has_text : left ≡ Some text
+  pub few : length text ≤ 33554432
+  pub bundle : Bundle
+  pub parts : IsBundle text bundle
+  pub job : IsSomeJob (part_of text bundle.job)
+  pub report : (number : ℕ) → ¬ (IsFirstBad (part_of text bundle.report) number)
+  pub opening : IsStanding (part_of text bundle.opening)
+
+-- why a bundle isn't opened, by the status
+abbrev pub IsShut : List ℕ → Status → Type 0
+IsShut bytes (status.Bundle part at) = IsWrongPart bytes part at
+IsShut bytes (status.Job line kind) = IsNoJob bytes line kind
+IsShut bytes status.NoMemory = Unit {0}
+IsShut bytes _ = ⊥
+
+-- What was done with the text of a bundle, which was read whole; or the source failed or gave a byte too many, and what is outside stays.
+abbrev pub WithBundle : Given → (stays : Type 0) (did : List ℕ → Type 0) → Status → Type 0
+WithBundle given stays did status.SourceFault = stays × Rose given.faults given.faults_now
+WithBundle given stays did status.TooBig = stays × HasRead given.left given.left_now 33554433
+WithBundle given stays did status.NoMemory = stays
+WithBundle given stays did _ = (text : List ℕ) × IsWholeBundle given.left given.left_now text × did text

@@ -1,0 +1,129 @@
+// The trace of an activation in a finished run.
+ghost use Rattle.std.specs.Prelude.{◌≡◌, ◌⊎◌, ◌+◌, ◌≤◌, [], length, MatchResult};
+ghost use Rattle.std.specs.List.{flat_map};
+ghost use Rattle.outside.specs.Causes.{Rose};
+ghost use Rattle.listing.specs.Puts.{Puts, PutsTimes};
+ghost use Rattle.call_status.specs.Call.{call, given};
+ghost use Rattle.store_calls.specs.Traced.{CanTrace, IsOfTrace, IsTraced, IsUntraced, TracedBy, TracedFrom, status_of_trace, steps_line, touch_line, trace_lines};
+
+use super::bundle::open_bundle;
+use call_status::{MOST_OF_BUNDLE, Status, read_text};
+use outside::{Failed, Outside, Source};
+use serial_audit::{Touch, Trace, TraceFault, trace};
+use std::alloc::Global;
+use text_line::TextLine;
+
+/// Prints which lines an activation of the source's bundle touched.
+pub fn trace_source<S: Source, W: Outside>(
+    alloc: Global,
+    source: &mut S,
+    activation: u32,
+    outside: &mut W,
+) -> Status
+    ensures traced { TracedFrom W.Outside activation (given S.Source source.old source.new) (call outside.old outside.new [] result) }
+    ensures only { IsOfTrace result }
+    ensures unfailed { result ≡ Status.Done → (S.faults source.new ≡ S.faults source.old) × (W.put_faults outside.new ≡ W.put_faults outside.old) }
+    ensures put { result ≡ Status.PutFault → Rose (W.put_faults outside.old) (W.put_faults outside.new) }
+    ensures complete { CanTrace activation (S.left source.old) → (¬ (Rose (S.faults source.old) (S.faults source.new))) → (¬ (Rose (W.put_faults outside.old) (W.put_faults outside.new))) → (result ≡ Status.Done) ⊎ (result ≡ Status.NoMemory) }
+{
+    match read_text(alloc, source, MOST_OF_BUNDLE) {
+        Ok(text) => trace_text(alloc, &text, activation, outside),
+        Err(fault) => Status::from(fault),
+    }
+}
+
+/// Prints which lines an activation of a bundle touched.
+fn trace_text<W: Outside>(alloc: Global, bytes: &[u8], activation: u32, outside: &mut W) -> Status
+    requires { length bytes.now ≤ 33554432 }
+    ensures traced { TracedBy W.Outside bytes.now activation outside.old outside.new result }
+    ensures only { IsOfTrace result }
+    ensures unfailed { result ≡ Status.Done → W.put_faults outside.new ≡ W.put_faults outside.old }
+    ensures put { result ≡ Status.PutFault → Rose (W.put_faults outside.old) (W.put_faults outside.new) }
+{
+    match trace_in(alloc, bytes, activation) {
+        Ok(trace) => match put_trace(activation, &trace, outside) {
+            Ok(()) => Status::Done,
+            Err(Failed) => Status::PutFault,
+        },
+        Err(status) => status,
+    }
+}
+
+/// The trace of an activation of a bundle.
+fn trace_in(alloc: Global, bytes: &[u8], activation: u32) -> Result<Trace, Status>
+    requires { length bytes.now ≤ 33554432 }
+    ensures { MatchResult result (IsTraced bytes.now activation) (IsUntraced bytes.now activation) }
+{
+    let opened = open_bundle(alloc, bytes)?;
+    match trace(
+        alloc,
+        &opened.job,
+        &opened.report,
+        &opened.opening,
+        activation,
+    ) {
+        Ok(trace) => Ok(trace),
+        Err(fault) => Err(status_of_trace(fault)),
+    }
+}
+
+/// The status of a trace that isn't had.
+fn status_of_trace(fault: TraceFault) -> Status
+    ensures { result ≡ status_of_trace fault }
+{
+    match fault {
+        TraceFault::NoCommit => Status::NoCommit,
+        TraceFault::NotSerial(place) => Status::NotSerial(u64::from(place)),
+        TraceFault::Memory => Status::NoMemory,
+    }
+}
+
+/// Puts the lines of a trace.
+fn put_trace<W: Outside>(activation: u32, trace: &Trace, outside: &mut W) -> Result<(), Failed>
+    ensures puts { Puts W.Outside (trace_lines activation trace.now) outside.old outside.new result }
+    ensures times { PutsTimes W.Outside (length trace.now.touches.items + 1) outside.old outside.new result }
+{
+    put_touches(&trace.touches, outside)?;
+    put_steps(activation, trace.steps, outside)
+}
+
+/// Puts the lines of touches.
+fn put_touches<W: Outside>(touches: &[Touch], outside: &mut W) -> Result<(), Failed>
+    ensures puts { Puts W.Outside (flat_map touch_line touches.now) outside.old outside.new result }
+    ensures times { PutsTimes W.Outside (length touches.now) outside.old outside.new result }
+{
+    let mut text = TextLine::new();
+    for touch in touches {
+        put_touch(&mut text, touch, outside)?;
+    }
+    Ok(())
+}
+
+/// Puts the line of one touch.
+fn put_touch<W: Outside>(text: &mut TextLine, touch: &Touch, outside: &mut W) -> Result<(), Failed>
+    ensures puts { Puts W.Outside (touch_line touch.now) outside.old outside.new result }
+    ensures times { PutsTimes W.Outside 1 outside.old outside.new result }
+{
+    text.begin(b"step");
+    text.number(touch.step);
+    if touch.store {
+        text.part(b"w", u64::from(touch.line));
+    } else {
+        text.part(b"r", u64::from(touch.line));
+    }
+    text.end();
+    outside.put(text.as_slice())
+}
+
+/// Puts the last line.
+fn put_steps<W: Outside>(activation: u32, steps: u64, outside: &mut W) -> Result<(), Failed>
+    ensures puts { Puts W.Outside (steps_line activation steps) outside.old outside.new result }
+    ensures times { PutsTimes W.Outside 1 outside.old outside.new result }
+{
+    let mut text = TextLine::new();
+    text.begin(b"trace");
+    text.number(u64::from(activation));
+    text.part(b"steps", steps);
+    text.end();
+    outside.put(text.as_slice())
+}

@@ -1,7 +1,0 @@
-use Rattle.tlb_model.proofs.Common.{sym, subst, arith, AreApart}
-use Rattle.tlb_model.proofs.BufferLemmas.{class-apart}
-use Rattle.tlb_model.proofs.tlb.Tlb.pairs.Goals as goal
-
-pub returns-clause-apart : goal.returns-clause-apart
-returns-clause-apart c =
-    subst AreApart (sym c.pairs.ensures) (class-apart c.self.inside.classes c.from.result _ (omega arith) c.self.invariant)

@@ -1,4 +1,0 @@
-pub mod Common
-pub mod EnoughLemmas
-pub mod LineLemmas
-pub mod StepLemmas

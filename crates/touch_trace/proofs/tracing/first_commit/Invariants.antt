@@ -1,5 +1,0 @@
-use Rattle.touch_trace.proofs.Common.{map, take, Contains, Told, report_told}
-use Rattle.touch_trace.proofs.tracing.first_commit.Given as goal
-
-abbrev pub invariant-loop-place : goal.invariant-loop-place
-invariant-loop-place l = ¬ (Contains (map (λ (line : Told). line.activation) (report_told (take l.place l.report))) l.activation)
