@@ -1,12 +1,11 @@
 -- What following a ship text did.
-use Rattle.std.specs.Prelude.{◌≡◌, ◌≢◌, ◌⊎◌, ℕ, ◌+◌, ◌≤◌, ◌<◌, List, [], length, IsSome, All}
+use Rattle.std.specs.Prelude.{◌≡◌, ◌≢◌, ◌⊎◌, ℕ, ◌+◌, ◌≤◌, ◌<◌, List, [], length, IsSome}
 use Rattle.outside.specs.declared.world.Outside.{Ghosts}
 use Rattle.outside.specs.Causes.{Rose}
 use Rattle.outside.specs.Durable.{IsSure}
 use Rattle.outside.specs.Moments.{Elapses}
 use Rattle.outside.specs.Runs.{Leaves, OnlyAsks, held_of}
 use Rattle.lines.specs.FlatStore.{FlatStore}
-use Rattle.store_format.specs.Header.{most_lines}
 use Rattle.store_format.specs.Stands.{Stands, stands}
 use Rattle.store.specs.KeptStore.{KeptStore, number_of}
 use Rattle.store.specs.Shows.{Shows}
@@ -14,7 +13,7 @@ use Rattle.standby.specs.Bank.{bank_behind}
 use Rattle.standby.specs.Followed.{IsAlike, IsAtNumber, StopsAt, followed_text}
 use Rattle.standby.specs.Puts.{CountsPuts}
 use Rattle.standby.specs.Read.{IsFirstBad}
-use Rattle.standby.specs.State.{IsAmong, IsFirstLong, due, state}
+use Rattle.standby.specs.State.{AllFit, IsAmong, IsTooLong, due, state}
 use Rattle.standby.specs.Text.{Content, ShipLine, IsContent, IsTextOf, later, text_of}
 use Rattle.standby.specs.declared.text.Ship.{Ship}
 use Rattle.call_status.specs.Call.{Call, Given, call}
@@ -62,10 +61,10 @@ FollowsOn G content before after now = (number : ℕ) (store : FlatStore) → Te
 abbrev pub IsDueOn : KeptStore → Content → Status → Type 0
 IsDueOn store content (status.Stream place kind) =
     ((kind ≡ 2) × (place ≡ 1) × (¬ (IsAlike store.header content)))
-    ⊎ ((kind ≡ 3) × IsAlike store.header content × IsAmong content (number_of store) × ((at : ℕ) × (place ≡ later (number_of store) (at + 1)) × IsFirstLong (most_lines store.header) (due content (number_of store)) at))
+    ⊎ ((kind ≡ 3) × IsAlike store.header content × IsAmong content (number_of store) × IsTooLong store.header content (number_of store) place)
 IsDueOn store content (status.NotKept first last) =
     (first ≡ content.start) × (last ≡ later content.start (length content.records)) × IsAlike store.header content × (¬ (IsAmong content (number_of store)))
-IsDueOn store content _ = IsAlike store.header content × IsAmong content (number_of store) × All (λ lines. length lines ≤ most_lines store.header) (due content (number_of store))
+IsDueOn store content _ = IsAlike store.header content × IsAmong content (number_of store) × AllFit store.header content (number_of store)
 
 -- the bytes show a store for which the status is due
 pub record IsDue {W : Type 0} (G : Ghosts W) (content : Content) (before : W) (now : Status) : Type 0 where

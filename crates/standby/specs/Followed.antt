@@ -12,7 +12,7 @@ use Rattle.outside.specs.Causes.{Rose}
 use Rattle.outside.specs.Moments.{Elapses}
 use Rattle.outside.specs.Runs.{Leaves, held_of}
 use Rattle.store.specs.Held.{HoldsAtLeast, IsMoreBy}
-use Rattle.store.specs.KeptStore.{KeptStore}
+use Rattle.store.specs.KeptStore.{KeptStore, number_of}
 use Rattle.store.specs.Shows.{TracksStore}
 use Rattle.standby.specs.Puts.{CountsPuts}
 use Rattle.standby.specs.State.{laid_by}
@@ -37,6 +37,10 @@ pub record IsAlike (header : Header) (content : Content) : Type 0 where
 -- just so many of the lines behind a number stand whole in so many bytes of all that is told
 abbrev pub StandWhole : (number all count whole : ℕ) → Type 0
 StandWhole number all count whole = (i : ℕ) → i ≤ all → (length (kept_text number i) ≤ count) ↔ (i ≤ whole)
+
+-- this holds of each store that is tracked and for which the bytes stand
+abbrev pub OfTracked : {W : Type 0} → Ghosts W → KeptStore → W → (FlatStore → Type 0) → Type 0
+OfTracked G durable now P = (store : FlatStore) → TracksStore G durable now → stands (held_of G now) ≡ Stands (number_of durable) store → P store
 
 -- Seen is what was printed before with a first part of what is told of so many records behind a number, in which the lines of the first few stand
 -- whole, or of all of these but the last.

@@ -1,12 +1,15 @@
 -- What shipping records does.
-use Rattle.std.specs.Prelude.{◌≡◌, ◌<◌, ℕ, List, All, length, map, drop, Result, Ok, Err}
+use Rattle.std.specs.Prelude.{◌≡◌, ◌<◌, ℕ, List, All, length, map, drop, take, slice_get, Some, Result, Ok, Err}
 use Rattle.lines.specs.Lines.{line_count}
 use Rattle.store_format.specs.Bank.{RecordLine}
 use Rattle.lines.specs.Segments.{line_bytes}
 use Rattle.outside.specs.declared.world.Outside.{Ghosts}
 use Rattle.outside.specs.Bytes.{Prints}
 use Rattle.outside.specs.Causes.{Rose}
+use Rattle.outside.specs.Runs.{held_of}
 use Rattle.store.specs.KeptStore.{KeptStore}
+use Rattle.store.specs.Records.{IsRecordAt, area_bytes}
+use Rattle.store.specs.Shows.{IsShown}
 use Rattle.standby.specs.Followed.{well, broken}
 use Rattle.standby.specs.Puts.{CountsPuts}
 use Rattle.standby.specs.Read.{feeds}
@@ -18,6 +21,16 @@ use Rattle.standby.specs.declared.shipping.Shipped.TheVariants.{Done, NotKept, D
 -- a line of a record has so many bytes
 abbrev pub HasBytes : ℕ → RecordLine → Type 0
 HasBytes bytes one = (length one.bytes ≡ bytes) × All (λ byte. byte < 256) one.bytes
+
+-- this holds of the records behind the first few that the bytes show, where these take so many bytes
+abbrev pub OfRecordsAt : {W : Type 0} → Ghosts W → KeptStore → (passed place : ℕ) → W → (List (List RecordLine) → Type 0) → Type 0
+OfRecordsAt G durable passed place now P =
+    (shown : IsShown G durable now) → place ≡ area_bytes durable.bank.page (take passed shown.shows.read.records) → P (drop passed shown.shows.read.records)
+
+-- and this of the line with an index of the record at a place, where the bytes show that and it has so many lines
+abbrev pub OfLineAt : {W : Type 0} → Ghosts W → KeptStore → (place count index : ℕ) → W → (RecordLine → Type 0) → Type 0
+OfLineAt G durable place count index now P =
+    IsShown G durable now → (at : IsRecordAt (held_of G now) durable.bank place) → count ≡ length at.lines → (one : RecordLine) → slice_get at.lines index ≡ Some one → P one
 
 -- what a text of a store holds that ships from a number, by the records of its bank: those behind it
 abbrev pub shipped : KeptStore → List (List RecordLine) → ℕ → Content

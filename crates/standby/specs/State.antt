@@ -2,7 +2,8 @@
 use Rattle.std.specs.Prelude.{◌≡◌, ℕ, ◌+◌, ◌*◌, ◌-◌, ◌%◌, ◌^◌, ◌<◌, ◌≤◌, List, length, take, drop, fold, slice_get, Some, All}
 use Rattle.lines.specs.Overlay.{overlaid}
 use Rattle.lines.specs.FlatStore.{FlatStore}
-use Rattle.standby.specs.Text.{Content, ShipLine}
+use Rattle.store_format.specs.Header.{Header, most_lines}
+use Rattle.standby.specs.Text.{Content, ShipLine, later}
 use Rattle.standby.specs.declared.text.ShipRecord.{ShipRecord}
 
 -- the bytes of a store with the lines of a record laid over them
@@ -35,6 +36,14 @@ pub record IsFirstLong (most : ℕ) (records : List (List ShipLine)) (place : �
   pub there : slice_get records place ≡ Some lines
   pub long : most < length lines
   pub before : All (λ these. length these ≤ most) (take place records)
+
+-- the number is that of the first record of a text behind one that has more lines than a store with such a header takes
+abbrev pub IsTooLong : Header → Content → (from number : ℕ) → Type 0
+IsTooLong header content from number = (place : ℕ) × (number ≡ later from (place + 1)) × IsFirstLong (most_lines header) (due content from) place
+
+-- no record behind a number has more
+abbrev pub AllFit : Header → Content → (from : ℕ) → Type 0
+AllFit header content from = All (λ lines. length lines ≤ most_lines header) (due content from)
 
 -- the same as the code keeps them
 pub record IsLongAt (most : ℕ) (records : List ShipRecord) (place : ℕ) : Type 0 where

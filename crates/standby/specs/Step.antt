@@ -1,5 +1,5 @@
 -- What keeping one record of a text does.
-use Rattle.std.specs.Prelude.{◌≡◌, ◌⊎◌, ℕ, ◌≤◌, List, length, Option, Result, Ok, Err}
+use Rattle.std.specs.Prelude.{◌≡◌, ◌⊎◌, ℕ, ◌≤◌, List, length, map, Option, Result, Ok, Err}
 use Rattle.lines.specs.FlatStore.{FlatStore}
 use Rattle.lines.specs.Lines.{line_count}
 use Rattle.store_format.specs.Bank.{RecordLine}
@@ -26,6 +26,10 @@ pub record IsFitting (header : Header) (kept : ShipRecord) : Type 0 where
   pub packed : IsPacked (line_bytes header.directory.page) kept
   pub lines : AreLines (line_bytes header.directory.page) (line_count header.directory) 0 (record_of (line_bytes header.directory.page) kept)
   pub few : length kept.lines.items ≤ most_lines header
+
+-- records as the lines of a store with such a header
+abbrev pub records_as : Header → List ShipRecord → List (List ShipLine)
+records_as header records = map (record_of (line_bytes header.directory.page)) records
 
 -- a record of these lines is begun, by one line after another
 pub record IsBegun (store now : KeptStore) (lines : List ShipLine) : Type 0 where

@@ -1,18 +1,14 @@
 // The records of a ship text, committed to a store one after another.
-ghost use Rattle.std.specs.Prelude.{◌≡◌, ◌≢◌, ◌↔◌, ◌+◌, ◌≤◌, ◌<◌, ◌^◌, ◌⊎◌, ℕ, List, [], All, length, map, drop, true, false, IsTrue, IsSome, IfSome, IfNone, Err, IfErr, OnOk, OnErr};
-ghost use Rattle.lines.specs.FlatStore.{FlatStore};
-ghost use Rattle.store_format.specs.Header.{total, most_lines};
+ghost use Rattle.std.specs.Prelude.{◌≡◌, ◌≢◌, ◌↔◌, ◌+◌, ◌≤◌, ◌<◌, ◌^◌, ◌⊎◌, ℕ, [], All, length, false, IsTrue, IfSome, IfNone, Err, IfErr, OnOk, OnErr};
+ghost use Rattle.store_format.specs.Header.{total};
 ghost use Rattle.lines.specs.Segments.{line_bytes};
-ghost use Rattle.store_format.specs.Stands.{Stands, stands};
-ghost use Rattle.outside.specs.Runs.{held_of};
 ghost use Rattle.store.specs.Held.{HoldsAtLeast};
 ghost use Rattle.store.specs.KeptStore.{number_of};
-ghost use Rattle.store.specs.Shows.{TracksStore};
 ghost use Rattle.standby.specs.Bank.{bank_with, bank_behind};
-ghost use Rattle.standby.specs.Followed.{IsAlike, OnlyGoesOn, EndsBy, IsStopped, Keeps, Follows};
+ghost use Rattle.standby.specs.Followed.{IsAlike, OfTracked, OnlyGoesOn, EndsBy, IsStopped, Keeps, Follows};
 ghost use Rattle.standby.specs.Puts.{Puts};
-ghost use Rattle.standby.specs.State.{IsAmong, IsFirstLong, IsLongAt, due};
-ghost use Rattle.standby.specs.Step.{IsFitting, IsBegun, Steps, followed_of, put_of};
+ghost use Rattle.standby.specs.State.{AllFit, IsAmong, IsLongAt, IsTooLong, due};
+ghost use Rattle.standby.specs.Step.{IsFitting, IsBegun, Steps, followed_of, put_of, records_as};
 ghost use Rattle.standby.specs.Text.{IsShip, content_of, record_of, later, next};
 
 use super::line::{fill_end, fill_kept};
@@ -48,8 +44,8 @@ pub fn follow<W: Outside>(durable: &mut Durable, ship: &Ship, outside: &mut W) -
     requires room { HoldsAtLeast W.Outside (total durable.old.header) outside.old }
     ensures geometry { result ≡ Followed.Geometry ↔ (¬ (IsAlike durable.old.header (content_of ship.now))) }
     ensures not_kept { result ≡ Followed.NotKept ↔ (IsAlike durable.old.header (content_of ship.now) × (¬ (IsAmong (content_of ship.now) (number_of durable.old)))) }
-    ensures long { (number : ℕ) → result ≡ Followed.Long number → IsAlike durable.old.header (content_of ship.now) × IsAmong (content_of ship.now) (number_of durable.old) × ((place : ℕ) × (number ≡ later (number_of durable.old) (place + 1)) × IsFirstLong (most_lines durable.old.header) (due (content_of ship.now) (number_of durable.old)) place) }
-    ensures fits { (result ≡ Followed.Done) ⊎ (result ≡ Followed.DiskFault) ⊎ (result ≡ Followed.PutFault) → IsAlike durable.old.header (content_of ship.now) × IsAmong (content_of ship.now) (number_of durable.old) × All (λ lines. length lines ≤ most_lines durable.old.header) (due (content_of ship.now) (number_of durable.old)) }
+    ensures long { (number : ℕ) → result ≡ Followed.Long number → IsAlike durable.old.header (content_of ship.now) × IsAmong (content_of ship.now) (number_of durable.old) × IsTooLong durable.old.header (content_of ship.now) (number_of durable.old) number }
+    ensures fits { (result ≡ Followed.Done) ⊎ (result ≡ Followed.DiskFault) ⊎ (result ≡ Followed.PutFault) → IsAlike durable.old.header (content_of ship.now) × IsAmong (content_of ship.now) (number_of durable.old) × AllFit durable.old.header (content_of ship.now) (number_of durable.old) }
     ensures refused { (result ≡ Followed.Geometry) ⊎ (result ≡ Followed.NotKept) ⊎ ((number : ℕ) × (result ≡ Followed.Long number)) → (durable.new ≡ durable.old) × (outside.new ≡ outside.old) }
     ensures only { OnlyGoesOn W.Outside outside.old outside.new }
     ensures ends { EndsBy W.Outside outside.old outside.new result }
@@ -60,7 +56,7 @@ pub fn follow<W: Outside>(durable: &mut Durable, ship: &Ship, outside: &mut W) -
 
     // Of a store that is tracked: whenever a crash comes, it leaves the store at a number of the text from there on, and not
     // one before a number that was told; and how it ended, with what was printed.
-    ensures follows { (store : FlatStore) → TracksStore W.Outside durable.old outside.old → stands (held_of W.Outside outside.old) ≡ Stands (number_of durable.old) store → Follows W.Outside (content_of ship.now).line_bytes (number_of durable.old) store (due (content_of ship.now) (number_of durable.old)) durable.new outside.old outside.new result }
+    ensures follows { OfTracked W.Outside durable.old outside.old (λ store. Follows W.Outside (content_of ship.now).line_bytes (number_of durable.old) store (due (content_of ship.now) (number_of durable.old)) durable.new outside.old outside.new result) }
 {
     if !is_alike(durable, ship) {
         return Followed::Geometry;
@@ -115,8 +111,8 @@ fn keep_all<W: Outside>(
     ensures ends { EndsBy W.Outside outside.old outside.new (followed_of result) }
     ensures stopped { IfErr result IsStopped }
     ensures header { durable.new.header ≡ durable.old.header }
-    ensures kept { OnOk result (durable.new.bank ≡ bank_behind durable.old.bank (map (record_of (line_bytes durable.old.header.directory.page)) records.now)) }
-    ensures follows { (store : FlatStore) → TracksStore W.Outside durable.old outside.old → stands (held_of W.Outside outside.old) ≡ Stands (number_of durable.old) store → Follows W.Outside (line_bytes durable.old.header.directory.page) (number_of durable.old) store (map (record_of (line_bytes durable.old.header.directory.page)) records.now) durable.new outside.old outside.new (followed_of result) }
+    ensures kept { OnOk result (durable.new.bank ≡ bank_behind durable.old.bank (records_as durable.old.header records.now)) }
+    ensures follows { OfTracked W.Outside durable.old outside.old (λ store. Follows W.Outside (line_bytes durable.old.header.directory.page) (number_of durable.old) store (records_as durable.old.header records.now) durable.new outside.old outside.new (followed_of result)) }
 {
     let mut text = TextLine::new();
     match keep_each(durable, records, &mut text, outside) {
@@ -142,8 +138,8 @@ fn keep_each<W: Outside>(
     ensures stopped { IfErr result IsStopped }
     ensures header { durable.new.header ≡ durable.old.header }
     ensures number { OnOk result (number_of durable.new ≡ later (number_of durable.old) (length records.now)) }
-    ensures kept { OnOk result (durable.new.bank ≡ bank_behind durable.old.bank (map (record_of (line_bytes durable.old.header.directory.page)) records.now)) }
-    ensures keeps { (store : FlatStore) → TracksStore W.Outside durable.old outside.old → stands (held_of W.Outside outside.old) ≡ Stands (number_of durable.old) store → Keeps W.Outside (line_bytes durable.old.header.directory.page) (number_of durable.old) store (map (record_of (line_bytes durable.old.header.directory.page)) records.now) durable.new outside.old outside.new (followed_of result) }
+    ensures kept { OnOk result (durable.new.bank ≡ bank_behind durable.old.bank (records_as durable.old.header records.now)) }
+    ensures keeps { OfTracked W.Outside durable.old outside.old (λ store. Keeps W.Outside (line_bytes durable.old.header.directory.page) (number_of durable.old) store (records_as durable.old.header records.now) durable.new outside.old outside.new (followed_of result)) }
 {
     for record in records {
         match keep(durable, record, text, outside) {
@@ -171,7 +167,7 @@ fn keep<W: Outside>(
     ensures usable { OnOk result (durable.new.bank.spoiled ≡ false) }
     ensures number { OnOk result (number_of durable.new ≡ next (number_of durable.old)) }
     ensures kept { OnOk result (durable.new.bank ≡ bank_with durable.old.bank (record_of (line_bytes durable.old.header.directory.page) sent.now)) }
-    ensures steps { (store : FlatStore) → TracksStore W.Outside durable.old outside.old → stands (held_of W.Outside outside.old) ≡ Stands (number_of durable.old) store → Steps W.Outside (line_bytes durable.old.header.directory.page) (number_of durable.old) store (record_of (line_bytes durable.old.header.directory.page) sent.now) durable.new outside.old outside.new result }
+    ensures steps { OfTracked W.Outside durable.old outside.old (λ store. Steps W.Outside (line_bytes durable.old.header.directory.page) (number_of durable.old) store (record_of (line_bytes durable.old.header.directory.page) sent.now) durable.new outside.old outside.new result) }
 {
     begin(durable, sent);
     match durable.commit(outside) {

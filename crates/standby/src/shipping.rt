@@ -1,16 +1,16 @@
 // The records of a bank behind a number, put as a text.
-ghost use Rattle.std.specs.Prelude.{◌≡◌, ◌≢◌, ◌↔◌, ◌+◌, ◌≤◌, ◌<◌, ◌⊎◌, ℕ, All, length, map, drop, take, slice_get, Some, Err, IsSome, IfOk, IfErr, OnOk, OnErr, false};
+ghost use Rattle.std.specs.Prelude.{◌≡◌, ◌≢◌, ◌↔◌, ◌+◌, ◌≤◌, ◌<◌, ◌⊎◌, All, length, map, take, Err, IfOk, IfErr, OnOk, OnErr, false};
 ghost use Rattle.lines.specs.Lines.{line_count};
 ghost use Rattle.lines.specs.Segments.{line_bytes};
 ghost use Rattle.store_format.specs.Header.{total};
-ghost use Rattle.store_format.specs.Bank.{RecordLine, record_bytes};
+ghost use Rattle.store_format.specs.Bank.{record_bytes};
 ghost use Rattle.outside.specs.Causes.{FailsOnlyCounted};
 ghost use Rattle.outside.specs.Runs.{AsksAndPuts, OnlyAsks, held_of};
 ghost use Rattle.store.specs.Held.{HoldsAtLeast};
 ghost use Rattle.store.specs.Records.{IsRecordAt, area_bytes};
 ghost use Rattle.store.specs.Shows.{IsShown};
 ghost use Rattle.standby.specs.Puts.{Puts};
-ghost use Rattle.standby.specs.Shipped.{EndsBy, HasBytes, IsStopped, PrintsBy, ShipsBy, shipped, shipped_of};
+ghost use Rattle.standby.specs.Shipped.{EndsBy, HasBytes, IsStopped, OfLineAt, OfRecordsAt, PrintsBy, ShipsBy, shipped, shipped_of};
 ghost use Rattle.standby.specs.State.{behind};
 ghost use Rattle.standby.specs.Step.{put_of};
 ghost use Rattle.standby.specs.Text.{IsContent, later, line_line, record_text, records_text, told, text_of};
@@ -141,8 +141,8 @@ fn put_records<W: Outside>(
     ensures only { AsksAndPuts W.Outside outside.old outside.new }
     ensures stopped { IfErr result IsStopped }
     ensures ends { EndsBy W.Outside outside.old outside.new (shipped_of result) }
-    ensures prints { (shown : IsShown W.Outside durable.now outside.old) → place ≡ area_bytes durable.now.bank.page (take passed shown.shows.read.records) → PrintsBy W.Outside (records_text (later durable.now.bank.base passed) (map told (drop passed shown.shows.read.records))) outside.old outside.new result }
-    ensures bytes { OnOk result ((shown : IsShown W.Outside durable.now outside.old) → place ≡ area_bytes durable.now.bank.page (take passed shown.shows.read.records) → All (λ lines. All (HasBytes (line_bytes durable.now.header.directory.page)) lines) (drop passed shown.shows.read.records)) }
+    ensures prints { OfRecordsAt W.Outside durable.now passed place outside.old (λ records. PrintsBy W.Outside (records_text (later durable.now.bank.base passed) (map told records)) outside.old outside.new result) }
+    ensures bytes { OnOk result (OfRecordsAt W.Outside durable.now passed place outside.old (λ records. All (λ lines. All (HasBytes (line_bytes durable.now.header.directory.page)) lines) records)) }
 {
     let mut place = place;
     for index in passed..durable.records() {
@@ -205,8 +205,8 @@ fn put_one<W: Outside>(
     ensures only { AsksAndPuts W.Outside outside.old outside.new }
     ensures stopped { IfErr result IsStopped }
     ensures ends { EndsBy W.Outside outside.old outside.new (shipped_of result) }
-    ensures prints { (shown : IsShown W.Outside durable.now outside.old) → (at : IsRecordAt (held_of W.Outside outside.old) durable.now.bank entry.now.place) → entry.now.count ≡ length at.lines → (one : RecordLine) → slice_get at.lines index ≡ Some one → PrintsBy W.Outside (line_line one.line one.bytes) outside.old outside.new result }
-    ensures bytes { OnOk result ((shown : IsShown W.Outside durable.now outside.old) → (at : IsRecordAt (held_of W.Outside outside.old) durable.now.bank entry.now.place) → entry.now.count ≡ length at.lines → (one : RecordLine) → slice_get at.lines index ≡ Some one → HasBytes (line_bytes durable.now.header.directory.page) one) }
+    ensures prints { OfLineAt W.Outside durable.now entry.now.place entry.now.count index outside.old (λ one. PrintsBy W.Outside (line_line one.line one.bytes) outside.old outside.new result) }
+    ensures bytes { OnOk result (OfLineAt W.Outside durable.now entry.now.place entry.now.count index outside.old (HasBytes (line_bytes durable.now.header.directory.page))) }
 {
     let mut room = [0; 256];
     let bytes = &mut room[..durable.header().line_bytes()];
