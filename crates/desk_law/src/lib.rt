@@ -1,5 +1,6 @@
 //! The law of the desk: a desk is consistent at every moment, so programs that run side by side can't see each other's
-//! half-done work. The crate has definitions (docs/MODEL.md), lemmas, and laws that call nothing.
+//! half-done work; and what a crash leaves of a run is a prefix of its commits. The crate has definitions (docs/MODEL.md),
+//! lemmas, and laws that call nothing.
 #![tactic(auto)]
 
 mod asking;

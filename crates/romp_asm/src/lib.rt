@@ -1,4 +1,5 @@
-//! Statements of assembler text as a program (docs/FORMATS.md, "Assembler").
+//! Statements of assembler text as a program, and those of several sources as one (docs/FORMATS.md, "Assembler" and
+//! "Programs of several sources").
 #![tactic(auto)]
 
 mod encoding;

@@ -1,5 +1,5 @@
 //! A finished run checked without scheduler, locks or journal: the commits of its report are run again, one after
-//! another, on the store that it began with (docs/MODEL.md).
+//! another, on the store that it began with; and which lines an activation of it touched (docs/MODEL.md).
 #![tactic(auto)]
 
 mod answer;

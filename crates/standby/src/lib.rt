@@ -1,4 +1,5 @@
-//! A second store that follows the first record by record, through a text (docs/FORMATS.md, "Ship text").
+//! A second store that follows the first record by record, through a text (docs/FORMATS.md, "Ship text"): the words `ship`
+//! and `follow`.
 #![tactic(auto)]
 
 mod follow_call;

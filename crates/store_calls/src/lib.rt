@@ -1,4 +1,5 @@
-//! A store that is made, renewed, shown, or read whole: the words `new`, `new2`, `renew` and `show`, and the store that `try` runs on.
+//! A store that is made, renewed, shown, or read whole, and a finished run that is checked: the words `new`, `new2`, `renew`,
+//! `show`, `audit` and `trace`, and the store that `try` runs on.
 #![tactic(auto)]
 
 mod audit;
