@@ -3,4 +3,5 @@ pub mod Call
 pub mod SourceText
 pub mod Reading
 pub mod Opening
+pub mod Faults
 pub mod Printed

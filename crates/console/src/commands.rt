@@ -3,6 +3,7 @@ ghost use Rattle.outside.specs.Causes.{Rose};
 ghost use Rattle.desk.specs.Answers.{order_told};
 ghost use Rattle.call_status.specs.Call.{given};
 ghost use Rattle.call_status.specs.Reading.{ReadsBy};
+ghost use Rattle.call_status.specs.Faults.{ReadFaultsBy};
 ghost use Rattle.job_calls.specs.Causes.{OpensBy};
 ghost use Rattle.job_calls.specs.Handed.{HandedFits, HandsOn};
 ghost use Rattle.console.specs.Causes.{IsComplete, IsOf};
@@ -33,10 +34,8 @@ pub fn console<S: Source, W: Outside>(
     ensures only { (form : Command) → IsForm form words.now → IsOf form result.status }
     ensures read { ReadsJob words.now → ReadsBy (given S.Source job.old job.new) result.status }
     ensures unread { (¬ (ReadsJob words.now ⊎ ReadsBundle words.now ⊎ ReadsStore words.now ⊎ ReadsText words.now)) → job.new ≡ job.old }
-    ensures unfailed { result.status ≡ Status.Done → (S.faults job.new ≡ S.faults job.old) × (W.put_faults outside.new ≡ W.put_faults outside.old) }
+    ensures faults { ReadFaultsBy W.Outside (given S.Source job.old job.new) outside.old outside.new result.status }
     ensures opened { RunsJob words.now → OpensBy W.Outside outside.old outside.new result.status result.session }
-    ensures put { result.status ≡ Status.PutFault → Rose (W.put_faults outside.old) (W.put_faults outside.new) }
-    ensures disk { result.status ≡ Status.DiskFault → Rose (W.disk_faults outside.old) (W.disk_faults outside.new) }
     ensures did { (form : Command) → IsForm form words.now → Does W.Outside form (given S.Source job.old job.new) outside.old outside.new result }
     ensures handed { OpensSession words.now → HandsOn (order_told result.order.items) result.session result.status }
     ensures fits { HandedFits W.Outside outside.new result.session }

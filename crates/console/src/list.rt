@@ -1,11 +1,11 @@
 // The listing of a job's programs.
 ghost use Rattle.std.specs.Prelude.{◌≡◌, [], length};
-ghost use Rattle.outside.specs.Causes.{Rose};
 ghost use Rattle.listing.specs.Puts.{Puts, PutsTimes};
 ghost use Rattle.job_text.specs.Grammar.{content_of};
 ghost use Rattle.call_status.specs.Call.{call, given};
 ghost use Rattle.call_status.specs.Reading.{ReadsBy};
 ghost use Rattle.call_status.specs.Statuses.{IsOfLines};
+ghost use Rattle.call_status.specs.Faults.{ReadFaultsBy};
 ghost use Rattle.console.specs.Listed.{Listed, listings_of, lines_listed};
 
 use call_status::{Status, job_from};
@@ -18,8 +18,7 @@ use std::alloc::Global;
 pub fn list_source<S: Source, W: Outside>(alloc: Global, source: &mut S, outside: &mut W) -> Status
     ensures read { ReadsBy (given S.Source source.old source.new) result }
     ensures listed { Listed W.Outside (given S.Source source.old source.new) (call outside.old outside.new [] result) }
-    ensures unfailed { result ≡ Status.Done → (S.faults source.new ≡ S.faults source.old) × (W.put_faults outside.new ≡ W.put_faults outside.old) }
-    ensures put { result ≡ Status.PutFault → Rose (W.put_faults outside.old) (W.put_faults outside.new) }
+    ensures faults { ReadFaultsBy W.Outside (given S.Source source.old source.new) outside.old outside.new result }
     ensures only { IsOfLines result }
 {
     match job_from(alloc, source) {

@@ -1,6 +1,5 @@
 // A drill: a job that is stopped at its writes in turn.
 ghost use Rattle.std.specs.Prelude.{◌≡◌, ◌⊎◌, ◌≤◌, ℕ, [], length, MatchOption, IfOk};
-ghost use Rattle.outside.specs.Causes.{Rose};
 ghost use Rattle.lines.specs.FlatStore.{FlatStore};
 ghost use Rattle.store_format.specs.Stands.{Stands, stands};
 ghost use Rattle.listing.specs.Puts.{Puts, PutsTimes};
@@ -10,6 +9,7 @@ ghost use Rattle.call_status.specs.Call.{call, given};
 ghost use Rattle.call_status.specs.Opening.{IsStanding};
 ghost use Rattle.call_status.specs.Reading.{ReadsBy};
 ghost use Rattle.call_status.specs.Statuses.{IsOfLines};
+ghost use Rattle.call_status.specs.Faults.{ReadFaultsBy};
 
 use super::stops::drill_stop;
 use call_status::{Status, job_from};
@@ -45,8 +45,7 @@ pub struct Pair {
 pub fn drill_source<S: Source, W: Outside>(alloc: Global, source: &mut S, outside: &mut W) -> Status
     ensures read { ReadsBy (given S.Source source.old source.new) result }
     ensures drilled { Drilled W.Outside (given S.Source source.old source.new) (call outside.old outside.new [] result) }
-    ensures unfailed { result ≡ Status.Done → (S.faults source.new ≡ S.faults source.old) × (W.put_faults outside.new ≡ W.put_faults outside.old) }
-    ensures put { result ≡ Status.PutFault → Rose (W.put_faults outside.old) (W.put_faults outside.new) }
+    ensures faults { ReadFaultsBy W.Outside (given S.Source source.old source.new) outside.old outside.new result }
     ensures only { IsOfLines result }
 {
     match job_from(alloc, source) {

@@ -1,12 +1,12 @@
 // A load with waits and victims, run without a report.
 ghost use Rattle.std.specs.Prelude.{◌≡◌, ◌≤◌, [], ◌∷◌, ◌++◌, length, vec_capacity};
-ghost use Rattle.outside.specs.Causes.{Rose};
 ghost use Rattle.desk.specs.Answers.{order_told};
 ghost use Rattle.schedule_replay.specs.Asked.{begins_in};
 ghost use Rattle.job_text.specs.Big.{IsBigJob};
 ghost use Rattle.job_text.specs.Ready.{IsReady};
 ghost use Rattle.listing.specs.Puts.{Puts, PutsTimes};
 ghost use Rattle.call_status.specs.Call.{call};
+ghost use Rattle.call_status.specs.Faults.{FaultsBy};
 ghost use Rattle.job_calls.specs.Big.{IsToldBy, Loaded, big_line};
 ghost use Rattle.job_calls.specs.Causes.{IsOfEvents};
 ghost use Rattle.job_calls.specs.Handed.{HandedFits, HandsOn};
@@ -28,9 +28,7 @@ pub fn run_load<W: Outside>(alloc: Global, transfers: u32, outside: &mut W) -> E
     ensures loaded { Loaded W.Outside transfers (call outside.old outside.new (order_told result.order.items) result.status) result.session }
     ensures handed { HandsOn (order_told result.order.items) result.session result.status }
     ensures fits { HandedFits W.Outside outside.new result.session }
-    ensures unfailed { result.status ≡ Status.Done → W.put_faults outside.new ≡ W.put_faults outside.old }
-    ensures put { result.status ≡ Status.PutFault → Rose (W.put_faults outside.old) (W.put_faults outside.new) }
-    ensures disk { result.status ≡ Status.DiskFault → Rose (W.disk_faults outside.old) (W.disk_faults outside.new) }
+    ensures faults { FaultsBy W.Outside outside.old outside.new result.status }
     ensures only { IsOfEvents result.status }
 {
     match big_job(alloc, transfers) {
@@ -46,9 +44,7 @@ fn run_with_order<W: Outside>(alloc: Global, transfers: u32, job: Job, outside: 
     ensures loaded { Loaded W.Outside transfers (call outside.old outside.new (order_told result.order.items) result.status) result.session }
     ensures handed { HandsOn (order_told result.order.items) result.session result.status }
     ensures fits { HandedFits W.Outside outside.new result.session }
-    ensures unfailed { result.status ≡ Status.Done → W.put_faults outside.new ≡ W.put_faults outside.old }
-    ensures put { result.status ≡ Status.PutFault → Rose (W.put_faults outside.old) (W.put_faults outside.new) }
-    ensures disk { result.status ≡ Status.DiskFault → Rose (W.disk_faults outside.old) (W.disk_faults outside.new) }
+    ensures faults { FaultsBy W.Outside outside.old outside.new result.status }
     ensures only { IsOfEvents result.status }
 {
     let begins = begins_in(&job.events);
@@ -75,9 +71,7 @@ fn open_and_run<W: Outside>(
     ensures loaded { Loaded W.Outside transfers (call outside.old outside.new (order_told result.order.items) result.status) result.session }
     ensures handed { HandsOn (order_told result.order.items) result.session result.status }
     ensures fits { HandedFits W.Outside outside.new result.session }
-    ensures unfailed { result.status ≡ Status.Done → W.put_faults outside.new ≡ W.put_faults outside.old }
-    ensures put { result.status ≡ Status.PutFault → Rose (W.put_faults outside.old) (W.put_faults outside.new) }
-    ensures disk { result.status ≡ Status.DiskFault → Rose (W.disk_faults outside.old) (W.disk_faults outside.new) }
+    ensures faults { FaultsBy W.Outside outside.old outside.new result.status }
     ensures only { IsOfEvents result.status }
 {
     let mut session = match Session::open(alloc, outside, job.programs, job.frames, begins) {

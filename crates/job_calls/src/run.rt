@@ -1,11 +1,11 @@
 // A job that runs on the store of a disk.
 ghost use Rattle.std.specs.Prelude.{◌≡◌, ◌≤◌, [], length, vec_capacity};
-ghost use Rattle.outside.specs.Causes.{Rose};
 ghost use Rattle.desk.specs.Answers.{order_told};
 ghost use Rattle.job_text.specs.Ready.{IsReady};
 ghost use Rattle.schedule_replay.specs.Asked.{begins_in};
 ghost use Rattle.call_status.specs.Call.{call, given};
 ghost use Rattle.call_status.specs.Reading.{ReadsBy};
+ghost use Rattle.call_status.specs.Faults.{FaultsBy, ReadFaultsBy};
 ghost use Rattle.job_calls.specs.Causes.{IsOfEvents, IsOfRun, OpensBy, status_of_replay};
 ghost use Rattle.job_calls.specs.Handed.{HandedFits, HandedRuns, HandsOn};
 ghost use Rattle.job_calls.specs.Headline.{Happened, HappenedTo};
@@ -23,9 +23,7 @@ use supervisor::Session;
 pub fn run_source<S: Source, W: Outside>(alloc: Global, source: &mut S, outside: &mut W) -> Ended
     ensures read { ReadsBy (given S.Source source.old source.new) result.status }
     ensures opened { OpensBy W.Outside outside.old outside.new result.status result.session }
-    ensures unfailed { result.status ≡ Status.Done → (S.faults source.new ≡ S.faults source.old) × (W.put_faults outside.new ≡ W.put_faults outside.old) }
-    ensures put { result.status ≡ Status.PutFault → Rose (W.put_faults outside.old) (W.put_faults outside.new) }
-    ensures disk { result.status ≡ Status.DiskFault → Rose (W.disk_faults outside.old) (W.disk_faults outside.new) }
+    ensures faults { ReadFaultsBy W.Outside (given S.Source source.old source.new) outside.old outside.new result.status }
     ensures happened { Happened W.Outside (given S.Source source.old source.new) (call outside.old outside.new (order_told result.order.items) result.status) result.session }
     ensures handed { HandsOn (order_told result.order.items) result.session result.status }
     ensures fits { HandedFits W.Outside outside.new result.session }
@@ -41,9 +39,7 @@ pub fn run_source<S: Source, W: Outside>(alloc: Global, source: &mut S, outside:
 pub fn try_job<W: Outside>(alloc: Global, job: Job, outside: &mut W) -> Ended
     requires { IsReady job }
     ensures opened { OpensBy W.Outside outside.old outside.new result.status result.session }
-    ensures unfailed { result.status ≡ Status.Done → W.put_faults outside.new ≡ W.put_faults outside.old }
-    ensures put { result.status ≡ Status.PutFault → Rose (W.put_faults outside.old) (W.put_faults outside.new) }
-    ensures disk { result.status ≡ Status.DiskFault → Rose (W.disk_faults outside.old) (W.disk_faults outside.new) }
+    ensures faults { FaultsBy W.Outside outside.old outside.new result.status }
     ensures happened { HappenedTo W.Outside job (call outside.old outside.new (order_told result.order.items) result.status) result.session }
     ensures handed { HandsOn (order_told result.order.items) result.session result.status }
     ensures runs { HandedRuns job.programs.items result.session }
@@ -70,9 +66,7 @@ fn run_job<W: Outside>(
     requires none { order.items ≡ [] }
     requires room { begins ≤ vec_capacity order }
     ensures opened { OpensBy W.Outside outside.old outside.new result.status result.session }
-    ensures unfailed { result.status ≡ Status.Done → W.put_faults outside.new ≡ W.put_faults outside.old }
-    ensures put { result.status ≡ Status.PutFault → Rose (W.put_faults outside.old) (W.put_faults outside.new) }
-    ensures disk { result.status ≡ Status.DiskFault → Rose (W.disk_faults outside.old) (W.disk_faults outside.new) }
+    ensures faults { FaultsBy W.Outside outside.old outside.new result.status }
     ensures happened { HappenedTo W.Outside job (call outside.old outside.new (order_told result.order.items) result.status) result.session }
     ensures handed { HandsOn (order_told result.order.items) result.session result.status }
     ensures runs { HandedRuns job.programs.items result.session }

@@ -4,6 +4,7 @@ ghost use Rattle.outside.specs.Causes.{Rose};
 ghost use Rattle.outside.specs.Moments.{Elapses};
 ghost use Rattle.outside.specs.Runs.{OnlyAsks};
 ghost use Rattle.call_status.specs.Call.{call, given};
+ghost use Rattle.call_status.specs.Faults.{ReadFaultsBy};
 ghost use Rattle.standby.specs.Text.{IsShip, content_of};
 ghost use Rattle.standby.specs.FollowCalled.{FollowedFrom, IsNoText, IsOfFollow, IsOfText, IsRefusal, IsShipFrom, OnStore};
 
@@ -29,9 +30,7 @@ pub fn follow_source<S: Source, W: Outside>(
     outside: &mut W,
 ) -> Status
     ensures followed { FollowedFrom W.Outside (given S.Source source.old source.new) (call outside.old outside.new [] result) }
-    ensures unfailed { result ≡ Status.Done → (S.faults source.new ≡ S.faults source.old) × (W.put_faults outside.new ≡ W.put_faults outside.old) }
-    ensures put { result ≡ Status.PutFault → Rose (W.put_faults outside.old) (W.put_faults outside.new) }
-    ensures disk { result ≡ Status.DiskFault → Rose (W.disk_faults outside.old) (W.disk_faults outside.new) }
+    ensures faults { ReadFaultsBy W.Outside (given S.Source source.old source.new) outside.old outside.new result }
     ensures only { IsOfFollow result }
 {
     match ship_from(alloc, source) {

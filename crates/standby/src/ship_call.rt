@@ -1,7 +1,7 @@
 // The records of a store behind a number, shipped.
 ghost use Rattle.std.specs.Prelude.{◌≡◌, []};
-ghost use Rattle.outside.specs.Causes.{Rose};
 ghost use Rattle.call_status.specs.Call.{call};
+ghost use Rattle.call_status.specs.Faults.{FaultsBy};
 ghost use Rattle.standby.specs.ShipCalled.{IsOfShip, ShippedFrom};
 
 use super::shipping::{Shipped, ship};
@@ -13,9 +13,7 @@ use store::Durable;
 /// Prints the records that the disk's store keeps after a number, as a ship text (docs/FORMATS.md, "Ship text").
 pub fn ship_store<W: Outside>(alloc: Global, from: u64, outside: &mut W) -> Status
     ensures shipped { ShippedFrom W.Outside from (call outside.old outside.new [] result) }
-    ensures unfailed { result ≡ Status.Done → W.put_faults outside.new ≡ W.put_faults outside.old }
-    ensures put { result ≡ Status.PutFault → Rose (W.put_faults outside.old) (W.put_faults outside.new) }
-    ensures disk { result ≡ Status.DiskFault → Rose (W.disk_faults outside.old) (W.disk_faults outside.new) }
+    ensures faults { FaultsBy W.Outside outside.old outside.new result }
     ensures only { IsOfShip result }
 {
     let store = match Durable::open(alloc, outside) {

@@ -3,6 +3,7 @@ ghost use Rattle.std.specs.Prelude.{◌≡◌, ◌⊎◌, ◌≤◌, ◌<◌, �
 ghost use Rattle.outside.specs.Causes.{Rose};
 ghost use Rattle.listing.specs.Puts.{Puts, PutsTimes};
 ghost use Rattle.call_status.specs.Call.{call, given};
+ghost use Rattle.call_status.specs.Faults.{FaultsBy, ReadFaultsBy};
 ghost use Rattle.store_calls.specs.Audited.{Audited, AuditedBy, CanAudit, IsChecked, IsOfAudit, IsUnchecked, verdict_line};
 
 use super::bundle::{open_bundle, part, store_in};
@@ -26,8 +27,7 @@ pub struct Audit {
 pub fn audit_source<S: Source, W: Outside>(alloc: Global, source: &mut S, outside: &mut W) -> Status
     ensures audited { Audited W.Outside (given S.Source source.old source.new) (call outside.old outside.new [] result) }
     ensures only { IsOfAudit result }
-    ensures unfailed { result ≡ Status.Done → (S.faults source.new ≡ S.faults source.old) × (W.put_faults outside.new ≡ W.put_faults outside.old) }
-    ensures put { result ≡ Status.PutFault → Rose (W.put_faults outside.old) (W.put_faults outside.new) }
+    ensures faults { ReadFaultsBy W.Outside (given S.Source source.old source.new) outside.old outside.new result }
     ensures complete { CanAudit (S.left source.old) → (¬ (Rose (S.faults source.old) (S.faults source.new))) → (¬ (Rose (W.put_faults outside.old) (W.put_faults outside.new))) → (result ≡ Status.Done) ⊎ (result ≡ Status.NoMemory) }
 {
     match read_text(alloc, source, MOST_OF_BUNDLE) {
@@ -41,8 +41,7 @@ fn audit_text<W: Outside>(alloc: Global, bytes: &[u8], outside: &mut W) -> Statu
     requires { length bytes.now ≤ 33554432 }
     ensures audited { AuditedBy W.Outside bytes.now outside.old outside.new result }
     ensures only { IsOfAudit result }
-    ensures unfailed { result ≡ Status.Done → W.put_faults outside.new ≡ W.put_faults outside.old }
-    ensures put { result ≡ Status.PutFault → Rose (W.put_faults outside.old) (W.put_faults outside.new) }
+    ensures faults { FaultsBy W.Outside outside.old outside.new result }
 {
     match checked(alloc, bytes) {
         Ok(found) => match put_verdict(&found, outside) {

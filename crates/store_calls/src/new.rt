@@ -1,7 +1,7 @@
 // A store that is made.
 ghost use Rattle.std.specs.Prelude.{◌≡◌, ◌++◌, [], codes, decimal, length};
-ghost use Rattle.outside.specs.Causes.{Rose};
 ghost use Rattle.call_status.specs.Call.{call};
+ghost use Rattle.call_status.specs.Faults.{FaultsBy};
 ghost use Rattle.store_calls.specs.New.{IsOfNew, Made};
 
 use super::written::{ask_empty, write_store};
@@ -14,9 +14,7 @@ use text_line::TextLine;
 /// Makes a store with nothing in it but this header on an empty disk, and prints how many bytes it has.
 pub fn make_store<W: Outside>(alloc: Global, header: &Header, outside: &mut W) -> Status
     ensures made { Made W.Outside header.now (call outside.old outside.new [] result) }
-    ensures unfailed { result ≡ Status.Done → W.put_faults outside.new ≡ W.put_faults outside.old }
-    ensures put { result ≡ Status.PutFault → Rose (W.put_faults outside.old) (W.put_faults outside.new) }
-    ensures disk { result ≡ Status.DiskFault → Rose (W.disk_faults outside.old) (W.disk_faults outside.new) }
+    ensures faults { FaultsBy W.Outside outside.old outside.new result }
     ensures only { IsOfNew result }
 {
     if let Err(status) = ask_empty(outside) {

@@ -2,9 +2,9 @@
 ghost use Rattle.std.specs.Prelude.{◌≡◌, ◌≢◌, ◌≤◌, ◌++◌, [], length, sum_by, IfOk, IfErr, MatchResult, OnOk};
 ghost use Rattle.lines.specs.Segments.{bytes_of};
 ghost use Rattle.lines.specs.declared.line_geometry.PageSize.TheVariants.{Two};
-ghost use Rattle.outside.specs.Causes.{Rose};
 ghost use Rattle.serial_audit.specs.Audit.{flat_of};
 ghost use Rattle.call_status.specs.Call.{call, given};
+ghost use Rattle.call_status.specs.Faults.{ReadFaultsBy};
 ghost use Rattle.store_calls.specs.Renewed.{HasOne, IsNoOne, IsOfRenew, Renewed, renew_line, renewed_image, widened_bytes, widened_segments};
 
 use super::kept::{KeptFault, kept_image};
@@ -33,9 +33,7 @@ pub fn renew_store<S: Source, W: Outside>(
     requires least { 4096 ≤ bank_bytes }
     requires most { bank_bytes ≤ 131072 }
     ensures renewed { Renewed W.Outside bank_bytes (given S.Source source.old source.new) (call outside.old outside.new [] result) }
-    ensures unfailed { result ≡ Status.Done → (S.faults source.new ≡ S.faults source.old) × (W.put_faults outside.new ≡ W.put_faults outside.old) }
-    ensures put { result ≡ Status.PutFault → Rose (W.put_faults outside.old) (W.put_faults outside.new) }
-    ensures disk { result ≡ Status.DiskFault → Rose (W.disk_faults outside.old) (W.disk_faults outside.new) }
+    ensures faults { ReadFaultsBy W.Outside (given S.Source source.old source.new) outside.old outside.new result }
     ensures only { IsOfRenew result }
 {
     let old = match old_store(alloc, source) {

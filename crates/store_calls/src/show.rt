@@ -4,11 +4,12 @@ ghost use Rattle.lines.specs.Directory.{length_of, start_of, byte_count};
 ghost use Rattle.lines.specs.Segments.{is_named, page_bytes};
 ghost use Rattle.store_format.specs.Header.{total};
 ghost use Rattle.store_format.specs.Stands.{stands};
-ghost use Rattle.outside.specs.Causes.{Rose, FailsOnlyCounted};
+ghost use Rattle.outside.specs.Causes.{FailsOnlyCounted};
 ghost use Rattle.outside.specs.Runs.{OnlyAsks, held_of};
 ghost use Rattle.store.specs.Held.{HoldsAtLeast};
 ghost use Rattle.store.specs.Shows.{IsShown};
 ghost use Rattle.call_status.specs.Call.{call};
+ghost use Rattle.call_status.specs.Faults.{FaultsBy};
 ghost use Rattle.store_calls.specs.Show.{HasRead, IsInside, IsOfShow, PutsBytes, RangeShown, bytes_in};
 
 use call_status::Status;
@@ -36,9 +37,7 @@ pub struct Range {
 /// Prints bytes of the store that the disk holds, in rows of sixteen, each by one put.
 pub fn show_range<W: Outside>(alloc: Global, range: Range, outside: &mut W) -> Status
     ensures shown { RangeShown W.Outside range (call outside.old outside.new [] result) }
-    ensures unfailed { result ≡ Status.Done → W.put_faults outside.new ≡ W.put_faults outside.old }
-    ensures put { result ≡ Status.PutFault → Rose (W.put_faults outside.old) (W.put_faults outside.new) }
-    ensures disk { result ≡ Status.DiskFault → Rose (W.disk_faults outside.old) (W.disk_faults outside.new) }
+    ensures faults { FaultsBy W.Outside outside.old outside.new result }
     ensures only { IsOfShow result }
 {
     let store = match Durable::open(alloc, outside) {

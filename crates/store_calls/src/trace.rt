@@ -4,6 +4,7 @@ ghost use Rattle.std.specs.List.{flat_map};
 ghost use Rattle.outside.specs.Causes.{Rose};
 ghost use Rattle.listing.specs.Puts.{Puts, PutsTimes};
 ghost use Rattle.call_status.specs.Call.{call, given};
+ghost use Rattle.call_status.specs.Faults.{FaultsBy, ReadFaultsBy};
 ghost use Rattle.store_calls.specs.Traced.{CanTrace, IsOfTrace, IsTraced, IsUntraced, TracedBy, TracedFrom, status_of_trace, steps_line, touch_line, trace_lines};
 
 use super::bundle::open_bundle;
@@ -22,8 +23,7 @@ pub fn trace_source<S: Source, W: Outside>(
 ) -> Status
     ensures traced { TracedFrom W.Outside activation (given S.Source source.old source.new) (call outside.old outside.new [] result) }
     ensures only { IsOfTrace result }
-    ensures unfailed { result ≡ Status.Done → (S.faults source.new ≡ S.faults source.old) × (W.put_faults outside.new ≡ W.put_faults outside.old) }
-    ensures put { result ≡ Status.PutFault → Rose (W.put_faults outside.old) (W.put_faults outside.new) }
+    ensures faults { ReadFaultsBy W.Outside (given S.Source source.old source.new) outside.old outside.new result }
     ensures complete { CanTrace activation (S.left source.old) → (¬ (Rose (S.faults source.old) (S.faults source.new))) → (¬ (Rose (W.put_faults outside.old) (W.put_faults outside.new))) → (result ≡ Status.Done) ⊎ (result ≡ Status.NoMemory) }
 {
     match read_text(alloc, source, MOST_OF_BUNDLE) {
@@ -37,8 +37,7 @@ fn trace_text<W: Outside>(alloc: Global, bytes: &[u8], activation: u32, outside:
     requires { length bytes.now ≤ 33554432 }
     ensures traced { TracedBy W.Outside bytes.now activation outside.old outside.new result }
     ensures only { IsOfTrace result }
-    ensures unfailed { result ≡ Status.Done → W.put_faults outside.new ≡ W.put_faults outside.old }
-    ensures put { result ≡ Status.PutFault → Rose (W.put_faults outside.old) (W.put_faults outside.new) }
+    ensures faults { FaultsBy W.Outside outside.old outside.new result }
 {
     match trace_in(alloc, bytes, activation) {
         Ok(trace) => match put_trace(activation, &trace, outside) {

@@ -1,12 +1,13 @@
 // An image that is written on an empty disk, and a line that tells it.
 ghost use Rattle.std.specs.Prelude.{◌≡◌, ◌⊎◌, ◌≤◌, [], codes, length, replicate, take, IsSome, IfOk, IfErr, OnOk};
 ghost use Rattle.std.specs.Option.{ForSome};
-ghost use Rattle.outside.specs.Causes.{Rose, FailsOnlyCounted};
+ghost use Rattle.outside.specs.Causes.{FailsOnlyCounted};
 ghost use Rattle.outside.specs.Durable.{IsSure};
 ghost use Rattle.outside.specs.Runs.{CallsDisk, Leaves, OnlyAsks, held_of};
 ghost use Rattle.listing.specs.Puts.{Puts, PutsTimes};
 ghost use Rattle.call_status.specs.Call.{call};
 ghost use Rattle.call_status.specs.Printed.{put_of};
+ghost use Rattle.call_status.specs.Faults.{FaultsBy};
 ghost use Rattle.store_calls.specs.New.{IsFilled, IsNoEmpty, IsOfWriting, IsOnTheWay, IsPutDown, IsTornAt, IsTornBy, IsWrittenWhole, LeavesTorn, LeavesTornAt, LeavesWhole, Written};
 
 use call_status::Status;
@@ -50,9 +51,7 @@ pub(super) fn write_store<W: Outside>(image: &[u8], line: &[u8], outside: &mut W
     requires named { take 8 image.now ≡ codes "801STORE" }
     requires empty { IsSome (W.held outside.old) → held_of W.Outside outside.old ≡ [] }
     ensures written { Written W.Outside image.now line.now (call outside.old outside.new [] result) }
-    ensures unfailed { result ≡ Status.Done → W.put_faults outside.new ≡ W.put_faults outside.old }
-    ensures put { result ≡ Status.PutFault → Rose (W.put_faults outside.old) (W.put_faults outside.new) }
-    ensures disk { result ≡ Status.DiskFault → Rose (W.disk_faults outside.old) (W.disk_faults outside.new) }
+    ensures faults { FaultsBy W.Outside outside.old outside.new result }
     ensures only { IsOfWriting result }
 {
     match write(image, outside) {

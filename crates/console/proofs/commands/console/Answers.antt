@@ -21,7 +21,7 @@ returns-in-Renew-clause-complete g c = λ complete calm disk put.
     let did = c.renew_store.ensures in
     subst (λ (status : Status). (status ≡ Status.Done) ⊎ (status ≡ Status.NoMemory)) (sym ended.status)
     (renewal_promise g.W.Outside c.args.words.now c.in-Renew.bank_bytes asked (given g.S.Source c.args.job.now c.renew_store.new.source) c.args.outside.now c.renew_store.new.outside []
-    c.renew_store.result did.renewed did.only complete calm (λ is. disk (did.disk is)) (λ is. put (did.put is)))
+    c.renew_store.result did.renewed did.only complete calm (λ is. disk (did.faults.outside.disk is)) (λ is. put (did.faults.outside.put is)))
 
 pub returns-in-Ship-clause-complete : goal.returns-in-Ship-clause-complete
 returns-in-Ship-clause-complete g c = λ complete calm disk put.
@@ -29,7 +29,7 @@ returns-in-Ship-clause-complete g c = λ complete calm disk put.
     let ended = c.without_events-in-Ship.ensures in
     let did = c.ship_store.ensures in
     subst (λ (status : Status). (status ≡ Status.Done) ⊎ (status ≡ Status.NoMemory)) (sym ended.status)
-    (ship_promise g.W.Outside (g.S.Source.left c.args.job.now) c.args.outside.now c.ship_store.new.outside [] c.args.words.now c.in-Ship.from asked c.ship_store.result did.shipped did.only complete (λ is. disk (did.disk is)) (λ is. put (did.put is)))
+    (ship_promise g.W.Outside (g.S.Source.left c.args.job.now) c.args.outside.now c.ship_store.new.outside [] c.args.words.now c.in-Ship.from asked c.ship_store.result did.shipped did.only complete (λ is. disk (did.faults.disk is)) (λ is. put (did.faults.put is)))
 
 pub returns-in-Follow-clause-complete : goal.returns-in-Follow-clause-complete
 returns-in-Follow-clause-complete g c = λ complete calm disk put.
@@ -38,7 +38,7 @@ returns-in-Follow-clause-complete g c = λ complete calm disk put.
     let did = c.follow_source.ensures in
     subst (λ (status : Status). (status ≡ Status.Done) ⊎ (status ≡ Status.NoMemory)) (sym ended.status)
     (follow_promise g.W.Outside (g.S.Source.left c.args.job.now) c.args.outside.now c.follow_source.new.outside [] c.args.words.now asked (g.S.Source.left c.follow_source.new.source) (g.S.Source.faults c.args.job.now) (g.S.Source.faults c.follow_source.new.source)
-    c.follow_source.result did.followed did.only complete calm (λ is. disk (did.disk is)) (λ is. put (did.put is)))
+    c.follow_source.result did.followed did.only complete calm (λ is. disk (did.faults.outside.disk is)) (λ is. put (did.faults.outside.put is)))
 
 pub returns-in-Audit-clause-complete : goal.returns-in-Audit-clause-complete
 returns-in-Audit-clause-complete g c = λ complete calm disk put.

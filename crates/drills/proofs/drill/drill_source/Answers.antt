@@ -13,8 +13,14 @@ returns-in-Ok-clause-drilled g c =
       by_status = drilled-text g.W.Outside c.in-Ok.job c.args.outside.now c.drill.new.outside (given g.S.Source c.args.source.now c.job_from.new.source) text c.drill.result whole means c.drill.ensures.did;
     }
 
-pub returns-in-Ok-clause-unfailed : goal.returns-in-Ok-clause-unfailed
-returns-in-Ok-clause-unfailed g c = λ is. (c.in-Ok.ensures.unfailed, drill-same g.W.Outside c.in-Ok.job c.args.outside.now c.drill.new.outside c.drill.result c.drill.ensures.did is)
-
-pub returns-in-Ok-clause-put : goal.returns-in-Ok-clause-put
-returns-in-Ok-clause-put g c = λ is. drill-rose g.W.Outside c.in-Ok.job c.args.outside.now c.drill.new.outside c.drill.result c.drill.ensures.did is
+pub returns-in-Ok-clause-faults : goal.returns-in-Ok-clause-faults
+returns-in-Ok-clause-faults g c =
+    let did = c.drill.ensures.did in
+    record {
+      source = λ is. c.in-Ok.ensures.unfailed;
+      outside = record {
+            disk = λ is. absurd (search (is, c.drill.ensures));
+            put = λ is. drill-rose g.W.Outside c.in-Ok.job c.args.outside.now c.drill.new.outside c.drill.result did is;
+            unfailed = λ is. drill-same g.W.Outside c.in-Ok.job c.args.outside.now c.drill.new.outside c.drill.result did is;
+          };
+    }

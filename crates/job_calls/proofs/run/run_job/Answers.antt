@@ -63,14 +63,20 @@ returns-clause-opened g c =
     subst (λ (those : Replayed). Replays ghosts G (first_opening G c.args.job.frames before start c.in-Ok.session opens c.in-Ok.ensures.asks (map (λ name. name.items) c.deref.result.now)) c.deref-2.result.now c.replay-replayed.new.desk (span start after) those) is
     (c.replay-replayed.ensures.replays (first_desk G c.args.job.frames before start c.in-Ok.session opens c.in-Ok.ensures.asks) (has-opened G c.args.job.frames before start c.in-Ok.session opens c.in-Ok.ensures.asks))))
 
-pub returns-clause-put : goal.returns-clause-put
-returns-clause-put g c = λ is.
-    let rose = put-rose g.W.Outside c.open.new.outside c.replay-replayed.new.outside c.in-Ok.session c.replay-replayed.new.desk c.replay-replayed.result c.replay-replayed.ensures.ends (sym c.status_of_replay.ensures ∙ is) in
-    omega (arith, rose, c.in-Ok.ensures.asks.calls.put)
-
-pub returns-clause-unfailed : goal.returns-clause-unfailed
-returns-clause-unfailed g c = λ is.
-    put-same g.W.Outside c.open.new.outside c.replay-replayed.new.outside c.in-Ok.session c.replay-replayed.new.desk c.replay-replayed.result c.replay-replayed.ensures.ends (λ put. let both = sym is ∙ c.status_of_replay.ensures ∙ put in cc) ∙ c.in-Ok.ensures.asks.calls.put
+pub returns-clause-faults : goal.returns-clause-faults
+returns-clause-faults g c =
+    let same = sym c.status_of_replay.ensures in
+    let asks = c.in-Ok.ensures.asks.calls in
+    let ends = c.replay-replayed.ensures.ends in
+    let start = c.open.new.outside in
+    let after = c.replay-replayed.new.outside in
+    let new = c.replay-replayed.new.desk in
+    let result = c.replay-replayed.result in
+    record {
+      disk = λ is. let rose = disk-rose g.W.Outside start after c.in-Ok.session new result c.in-Ok.ensures.new.still_open ends (same ∙ is) in omega (arith, rose, asks.disk);
+      put = λ is. let rose = put-rose g.W.Outside start after c.in-Ok.session new result ends (same ∙ is) in omega (arith, rose, asks.put);
+      unfailed = λ is. put-same g.W.Outside start after c.in-Ok.session new result ends (λ put. let both = sym is ∙ c.status_of_replay.ensures ∙ put in cc) ∙ asks.put;
+    }
 
 pub returns-clause-happened : goal.returns-clause-happened
 returns-clause-happened g c =
@@ -89,11 +95,6 @@ returns-clause-happened g c =
     c.replay-replayed.ensures.honest c.replay-replayed.ensures.time c.replay-replayed.ensures.told c.in-Ok.ensures.unfailed result did c.in-Ok.ensures.new.none_committed result refl c.replay-replayed.ensures.ends
     (subst (λ (names : List (List ℕ)). TellsBy G names job.events.items (order_of desk) (order_of new) start after result) (ap (map (λ name. name.items)) c.deref.ensures.value)
     (subst (λ (events : List Event). TellsBy G (map (λ name. name.items) c.deref.result.now) events (order_of desk) (order_of new) start after result) c.deref-2.ensures.value c.replay-replayed.ensures.tells))))
-
-pub returns-clause-disk : goal.returns-clause-disk
-returns-clause-disk g c = λ is.
-    let rose = disk-rose g.W.Outside c.open.new.outside c.replay-replayed.new.outside c.in-Ok.session c.replay-replayed.new.desk c.replay-replayed.result c.in-Ok.ensures.new.still_open c.replay-replayed.ensures.ends (sym c.status_of_replay.ensures ∙ is) in
-    omega (arith, rose, c.in-Ok.ensures.asks.calls.disk)
 
 pub returns-clause-fits : goal.returns-clause-fits
 returns-clause-fits g c =
