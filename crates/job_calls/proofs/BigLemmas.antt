@@ -1,12 +1,17 @@
 -- A load on the store that a disk stands for.
-use Rattle.job_calls.proofs.Common.{◌≡◌, ℕ, ◌≤◌, ⊎_elim, true, false, List, [], ◌∷◌, ◌++◌, length, refl, sym, ◌∙◌, ap, subst, arith, append-nil, append_assoc, Option, Ghosts, Failed, AreTold, Prints, IsSure, Elapses, CallsDisk, FewerLater, OnlyAsks, held_of, elapses-trans, FlatStore, Activation, Event, begun, is_commit, commit_lines, serial_lines, IsSerial, Desk, Word, Line, printed, spaced, run, faulted, Header, total, IsSessionOpened, activity, order_of, Session, ghosts, IsLasting, RunsQuietly, Tells, is_rollback, is_shut, out_after, InDoubt, PrintedNow, to_later, Job, Status, HasBigRun, IsToldBy, Loaded, LoadedBy, RanBig, big_line, last_out, line_for, Call, call, RunsFrom, IsStanding, TellsStore, StillTold, codes, decimal, All, Bool, Some, Result, Ok, Err, IsSome, IsTrue, count_by, HoldsStore, FailsOnlyCounted, span, Opening, end_of, lines_of, opening_of, fixed_of}
+use Rattle.job_calls.proofs.Common.{◌≡◌, ℕ, ◌≤◌, ⊎_elim, true, false, List, [], ◌∷◌, ◌++◌, length, refl, sym, ◌∙◌, ap, subst, arith, append-nil, append_assoc, Option, Ghosts, Failed, AreTold, Prints, IsSure, Elapses, CallsDisk, FewerLater, OnlyAsks, held_of, elapses-trans, FlatStore, Activation, Event, begun, is_commit, commit_lines, serial_lines, IsSerial, Desk, Word, Line, printed, spaced, faulted, Header, total, IsSessionOpened, activity, order_of, Session, ghosts, IsLasting, RunsQuietly, Tells, is_rollback, is_shut, out_after, InDoubt, PrintedNow, to_later, Job, Status, HasBigRun, IsToldBy, Loaded, LoadedBy, RanBig, big_line, last_out, line_for, Call, call, RunsFrom, IsStanding, TellsStore, StillTold, codes, decimal, All, Bool, Some, Result, Ok, Err, IsSome, IsTrue, count_by, HoldsStore, FailsOnlyCounted, span, Opening, end_of, lines_of, opening_of, fixed_of}
 use Rattle.std.specs.List.{fold}
 use Rattle.std.specs.Option.{ForSome}
+use Rattle.std.specs.Prelude.{OnErr}
+use Rattle.outside.specs.Causes.{Rose}
 use Rattle.hex.specs.Hex.{encode_lower}
 use Rattle.schedule_replay.specs.declared.quietly.Quiet.{Quiet}
 use Rattle.listing.specs.Puts.{Puts, PutsTimes}
 use Rattle.job_text.specs.Big.{IsBigJob, big_events}
 use Rattle.job_text.proofs.BigLemmas.{events_all}
+use Rattle.schedule_replay.specs.Answered.{GoesBy}
+use Rattle.schedule_replay.specs.Quiet.{going_of}
+use Rattle.call_status.specs.Faults.{FaultsBy}
 use Rattle.call_status.specs.Statuses.{WentThrough}
 use Rattle.call_status.specs.Printed.{put_of, PrintsBy}
 use Rattle.desk.specs.Lines as line
@@ -207,3 +212,19 @@ big_text a b c d e f m n k transfers commits rollbacks out first second third fo
     ap (λ (t : List ℕ). t ++ 10 ∷ []) whole ∙ joined (decimal m) (decimal n) (decimal k) (encode_lower out)
     ∙ ap (λ (t : List ℕ). spaced (codes "big" ∷ decimal m ∷ codes "commits" ∷ decimal n ∷ codes "rollbacks" ∷ decimal k ∷ codes "out" ∷ t ∷ [])) (shown_hex out some)
     ∙ ap (λ (x : ℕ). big_line x n k out) same_m ∙ ap (λ (x : ℕ). big_line transfers x k out) same_n ∙ ap (λ (x : ℕ). big_line transfers commits x out) same_k
+
+-- what is told of faults where a load was told so
+pub faults_told : {W : Type 0} (G : Ghosts W) (transfers : ℕ) (last : List ℕ) (before start between after : W) (desk new : Session) → OnlyAsks G before start → CallsDisk G start between → desk.closed ≡ false
+    → (quiet : Quiet) → GoesBy ghosts G desk new start between (going_of quiet) → (now : Status) → IsToldBy G transfers quiet last (call between after [] now) → FaultsBy G before after now
+faults_told G transfers last before start between after desk new asks calls still (quiet.Ended commits rollbacks) goes now (past, puts, times) = record {
+  disk = λ is. absurd (subst WentThrough is past);
+  put = λ is.
+      let rose = subst (λ (so : Status). OnErr (put_of so) (Rose (G.put_faults between) (G.put_faults after))) is puts.only.cause.failed in
+      omega (arith, rose, calls.put, asks.calls.put);
+  unfailed = λ is. put_calm G between after now past (λ put. cc) puts.only.cause ∙ calls.put ∙ asks.calls.put;
+}
+faults_told G transfers last before start between after desk new asks calls still quiet.Closed goes now (shut, same) = record {
+  disk = λ is. let rose = goes.1 still in let faults = ap G.disk_faults same in omega (arith, rose, faults, asks.calls.disk);
+  put = λ is. absurd (cc);
+  unfailed = λ is. absurd (cc);
+}

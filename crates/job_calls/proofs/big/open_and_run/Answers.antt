@@ -1,6 +1,6 @@
 use Rattle.job_calls.proofs.Common.{◌≡◌, ◌≤◌, ◌∙◌, ap, sym, subst, arith, length, vec_len, get_or, All, List, ℕ, Some, length-map, count_by-le-length, [], Program, Fixed, order_told, Desk, Event, IsSure, held_of, IsEventAmong, activity, ghosts, is_turn, begins_in, turns_in, IsLasting, RunsQuietly, call, Loaded, fixed_of, opening_of, span}
 use Rattle.job_calls.proofs.NameLemmas.{asked-among}
-use Rattle.job_calls.proofs.BigLemmas.{lasting, loaded, still-holds}
+use Rattle.job_calls.proofs.BigLemmas.{faults_told, lasting, loaded, still-holds}
 use Rattle.job_calls.proofs.big.open_and_run.Goals as goal
 
 pub run_quiet-quiet-requires-clause-ready : goal.run_quiet-quiet-requires-clause-ready
@@ -58,3 +58,9 @@ returns-clause-fits g c =
     let ran = c.run_quiet-quiet.ensures in
     let few : length c.deref.result.now ≡ length c.args.job.events.items = ap (λ (these : List Event). length these) c.deref.ensures.value in
     record { sound = ran.sound; bytes = still-holds g.W.Outside c.run_quiet-quiet.new.desk.store.header c.args.transfers c.run_quiet-quiet.result c.as_slice.result.now c.run_quiet-quiet.new.outside c.tell.new.outside c.tell.result c.tell.ensures ran.bytes; turns = omega (arith, ran.turns, few, c.requires.ready.few, c.in-Ok.ensures.new.no_turns) }
+
+pub returns-clause-faults : goal.returns-clause-faults
+returns-clause-faults g c =
+    let ran = c.run_quiet-quiet in
+    faults_told g.W.Outside c.args.transfers c.as_slice.result.now c.args.outside.now c.open.new.outside ran.new.outside c.tell.new.outside c.in-Ok.session ran.new.desk c.in-Ok.ensures.asks ran.ensures.calls c.in-Ok.ensures.new.still_open
+    ran.result ran.ensures.goes c.tell.result c.tell.ensures
