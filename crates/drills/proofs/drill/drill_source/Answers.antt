@@ -1,4 +1,4 @@
-use Rattle.drills.proofs.Lemmas.{refl, given, drill-rose, drill-same, drilled-text, drilled-unread}
+use Rattle.drills.proofs.Lemmas.{arith, refl, given, drill-rose, drill-same, drilled-text, drilled-unread}
 use Rattle.drills.proofs.drill.drill_source.Goals as goal
 
 pub returns-in-Err-clause-drilled : goal.returns-in-Err-clause-drilled
@@ -19,8 +19,8 @@ returns-in-Ok-clause-faults g c =
     record {
       source = λ is. c.in-Ok.ensures.unfailed;
       outside = record {
-            disk = λ is. absurd (search (is, c.drill.ensures));
-            put = λ is. drill-rose g.W.Outside c.in-Ok.job c.args.outside.now c.drill.new.outside c.drill.result did is;
-            unfailed = λ is. drill-same g.W.Outside c.in-Ok.job c.args.outside.now c.drill.new.outside c.drill.result did is;
-          };
+        disk = λ is. grind (arith, is, c.drill.ensures.only);
+        put = λ is. drill-rose g.W.Outside c.in-Ok.job c.args.outside.now c.drill.new.outside c.drill.result did is;
+        unfailed = λ is. drill-same g.W.Outside c.in-Ok.job c.args.outside.now c.drill.new.outside c.drill.result did is;
+      };
     }
