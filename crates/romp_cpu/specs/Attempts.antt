@@ -9,14 +9,18 @@ use Rattle.flat_machine.specs.declared.machine.Located.TheVariants.{Private, Sha
 use Rattle.flat_machine.specs.declared.machine.Plain.{Plain}
 use Rattle.flat_machine.specs.Plans.{Plan, Does, Fails}
 use Rattle.flat_machine.specs.declared.machine.Program.{Program}
-use Rattle.flat_machine.specs.Row.{Outcome, On, Commit, Check, plan_at, located, row_by, stored_bytes}
+use Rattle.flat_machine.specs.Row.{Outcome, On, Commit, Check, plan, plan_at, located, row_by, stored_bytes}
 use Rattle.flat_machine.specs.Touched.{lines_at, touched_by}
 use Rattle.romp_cpu.specs.declared.cpu.Attempt.{Attempt}
 use Rattle.romp_cpu.specs.declared.cpu.Cpu.{Cpu}
 use Rattle.romp_cpu.specs.declared.storage.Access.{Access}
 use Rattle.romp_cpu.specs.declared.storage.Probe.{Probe}
-use Rattle.romp_cpu.specs.Shown.{access_to}
+use Rattle.romp_cpu.specs.Shown.{access_to, halfword_of}
 use Rattle.romp_cpu.specs.Tried.{Seen, Tried}
+
+-- the plan of a processor's next instruction, from the bytes that are shown
+abbrev pub next_plan : (byte_at : ℕ → ℕ) → Cpu → Plan
+next_plan byte_at cpu = plan (halfword_of byte_at) cpu.regs cpu.cs cpu.iar
 
 -- the access of an act
 abbrev pub access_of : Act → Option Access

@@ -17,6 +17,10 @@ pub record Tried (S : Type 0) : Type 0 where
   pub cpu : Cpu
   pub state : S
 
+-- a processor with this address of its next instruction
+abbrev pub at : Cpu → (iar : ℕ) → Cpu
+at cpu iar = record cpu { iar = iar }
+
 -- what a storage in a state shows of a range, answers to an access, and is after a store
 pub record Seen (S : Type 0) : Type 0 where
   pub state : S

@@ -4,11 +4,10 @@ ghost use Rattle.flat_machine.specs.Access.{FitsFrom, IsAccess};
 ghost use Rattle.flat_machine.specs.Pending.{planned, IsSoundPending};
 ghost use Rattle.flat_machine.specs.Plans.{Does};
 ghost use Rattle.flat_machine.specs.declared.machine.Act.{Act};
-ghost use Rattle.flat_machine.specs.Row.{plan};
 ghost use Rattle.romp_cpu.specs.Shown.{halfword_of};
 ghost use Rattle.romp_cpu.specs.Answers.{answer_in};
-ghost use Rattle.romp_cpu.specs.Tried.{linked, seen_in, tried, tried_act, IsDoneIf};
-ghost use Rattle.romp_cpu.specs.Attempts.{GivesEveryRow, UndoesUnlessWent, IsOfFewBytes, StoresAll};
+ghost use Rattle.romp_cpu.specs.Tried.{at, linked, seen_in, tried, tried_act, IsDoneIf};
+ghost use Rattle.romp_cpu.specs.Attempts.{next_plan, GivesEveryRow, UndoesUnlessWent, IsOfFewBytes, StoresAll};
 
 use super::storage::{Access, Fault, Probe, Storage};
 use flat_machine::{Act, Cs, Fetch, Pending, do_alone, start_row, start_wanting};
@@ -61,31 +60,46 @@ impl Cpu {
     /// that is the answer, with the access that was asked (docs/MODEL.md).
     #[inline(always)]
     pub fn attempt<S: Storage>(&mut self, storage: &mut S) -> Attempt
-        ensures tried { record { attempt = result; cpu = self.new; state = S.state storage.new } ≡ tried (seen_in S.byte_at (answer_in S.registers S.is_in_frame S.refuses) S.stored (S.state storage.old)) self.old (plan (halfword_of (S.byte_at (S.state storage.old))) self.old.regs self.old.cs self.old.iar) }
+        ensures tried { record { attempt = result; cpu = self.new; state = S.state storage.new } ≡ tried (seen_in S.byte_at (answer_in S.registers S.is_in_frame S.refuses) S.stored (S.state storage.old)) self.old (next_plan (S.byte_at (S.state storage.old)) self.old) }
         ensures row { GivesEveryRow self.old (seen_in S.byte_at (answer_in S.registers S.is_in_frame S.refuses) S.stored (S.state storage.old)) (record { attempt = result; cpu = self.new; state = S.state storage.new }) }
         ensures undone { UndoesUnlessWent result self.old self.new (S.state storage.old) (S.state storage.new) }
         ensures few { IsOfFewBytes result }
-        ensures whole { StoresAll (plan (halfword_of (S.byte_at (S.state storage.old))) self.old.regs self.old.cs self.old.iar) }
+        ensures whole { StoresAll (next_plan (S.byte_at (S.state storage.old)) self.old) }
     {
-        self.carry_out(storage)
+        let mut iar = self.iar;
+        let went = self.step(storage, &mut iar);
+        self.iar = iar;
+        went
     }
 
-    /// Does what the next instruction is to do, as far as the storage permits.
+    /// The attempt of the instruction at an address that the caller keeps, so that it needn't go through memory from one row to
+    /// the next. The processor's own is any after it.
     #[inline(always)]
-    fn carry_out<S: Storage>(&mut self, storage: &mut S) -> Attempt
-        ensures tried { record { attempt = result; cpu = self.new; state = S.state storage.new } ≡ tried (seen_in S.byte_at (answer_in S.registers S.is_in_frame S.refuses) S.stored (S.state storage.old)) self.old (plan (halfword_of (S.byte_at (S.state storage.old))) self.old.regs self.old.cs self.old.iar) }
+    pub fn step<S: Storage>(&mut self, storage: &mut S, iar: &mut u32) -> Attempt
+        ensures tried { record { attempt = result; cpu = at self.new iar.new; state = S.state storage.new } ≡ tried (seen_in S.byte_at (answer_in S.registers S.is_in_frame S.refuses) S.stored (S.state storage.old)) (at self.old iar.old) (next_plan (S.byte_at (S.state storage.old)) (at self.old iar.old)) }
+        ensures row { GivesEveryRow (at self.old iar.old) (seen_in S.byte_at (answer_in S.registers S.is_in_frame S.refuses) S.stored (S.state storage.old)) (record { attempt = result; cpu = at self.new iar.new; state = S.state storage.new }) }
         ensures few { IsOfFewBytes result }
-        ensures whole { StoresAll (plan (halfword_of (S.byte_at (S.state storage.old))) self.old.regs self.old.cs self.old.iar) }
+        ensures whole { StoresAll (next_plan (S.byte_at (S.state storage.old)) (at self.old iar.old)) }
     {
-        if let Some(row) = storage.ready(self.iar) {
-            if let Some(next) = do_alone(row, &mut self.regs, &mut self.cs, self.iar) {
-                self.iar = next;
+        self.carry_out(storage, iar)
+    }
+
+    /// Does what the instruction at an address is to do, as far as the storage permits.
+    #[inline(always)]
+    fn carry_out<S: Storage>(&mut self, storage: &mut S, iar: &mut u32) -> Attempt
+        ensures tried { record { attempt = result; cpu = at self.new iar.new; state = S.state storage.new } ≡ tried (seen_in S.byte_at (answer_in S.registers S.is_in_frame S.refuses) S.stored (S.state storage.old)) (at self.old iar.old) (next_plan (S.byte_at (S.state storage.old)) (at self.old iar.old)) }
+        ensures few { IsOfFewBytes result }
+        ensures whole { StoresAll (next_plan (S.byte_at (S.state storage.old)) (at self.old iar.old)) }
+    {
+        self.iar = *iar;
+        if let Some(row) = storage.ready(*iar) {
+            if let Some(next) = do_alone(row, &mut self.regs, &mut self.cs, *iar) {
+                *iar = next;
                 return Attempt::Went;
             }
-            if let Some(Pending::Does { act, next, link }) = start_wanting(
-                row, &self.regs, self.iar,
-            ) {
+            if let Some(Pending::Does { act, next, link }) = start_wanting(row, &self.regs, *iar) {
                 if self.act_at_once(storage, act, next, link) {
+                    *iar = self.iar;
                     return Attempt::Went;
                 }
                 match (act, link) {
@@ -97,7 +111,11 @@ impl Cpu {
                             sign,
                         },
                         None,
-                    ) => return self.load(storage, address, bytes, to, sign, next, None),
+                    ) => {
+                        let went = self.load(storage, address, bytes, to, sign, next, None);
+                        *iar = self.iar;
+                        return went;
+                    }
                     (
                         Act::Store {
                             address,
@@ -105,12 +123,18 @@ impl Cpu {
                             from,
                         },
                         None,
-                    ) => return self.store(storage, address, bytes, from, next, None),
+                    ) => {
+                        let went = self.store(storage, address, bytes, from, next, None);
+                        *iar = self.iar;
+                        return went;
+                    }
                     _ => {}
                 }
             }
         }
-        self.carry_out_anew(storage)
+        let went = self.carry_out_anew(storage);
+        *iar = self.iar;
+        went
     }
 
     /// What is left of an instruction, where it is known at once that its access is permitted. Else nothing changes.
@@ -208,9 +232,9 @@ impl Cpu {
     /// The same where no row made ready is known there: one is asked for, and this time the instruction is decoded.
     #[inline(never)]
     fn carry_out_anew<S: Storage>(&mut self, storage: &mut S) -> Attempt
-        ensures tried { record { attempt = result; cpu = self.new; state = S.state storage.new } ≡ tried (seen_in S.byte_at (answer_in S.registers S.is_in_frame S.refuses) S.stored (S.state storage.old)) self.old (plan (halfword_of (S.byte_at (S.state storage.old))) self.old.regs self.old.cs self.old.iar) }
+        ensures tried { record { attempt = result; cpu = self.new; state = S.state storage.new } ≡ tried (seen_in S.byte_at (answer_in S.registers S.is_in_frame S.refuses) S.stored (S.state storage.old)) self.old (next_plan (S.byte_at (S.state storage.old)) self.old) }
         ensures few { IsOfFewBytes result }
-        ensures whole { StoresAll (plan (halfword_of (S.byte_at (S.state storage.old))) self.old.regs self.old.cs self.old.iar) }
+        ensures whole { StoresAll (next_plan (S.byte_at (S.state storage.old)) self.old) }
     {
         storage.prepare(self.iar);
         let pending = start_row(

@@ -3,15 +3,6 @@ use Rattle.romp_cpu.proofs.AttemptLemmas.{attempt-row}
 use Rattle.romp_cpu.proofs.UndoneLemmas.{tried_undoes}
 use Rattle.romp_cpu.proofs.cpu.Cpu.attempt.Goals as goal
 
-pub returns-clause-row : goal.returns-clause-row
-returns-clause-row g c =
-    let s = g.S.Storage in
-    let before = s.state c.args.storage.now in
-    subst
-    (λ (result : Tried g.row.S-State.Denot). GivesEveryRow c.args.self.now (seen_in s.byte_at (answer_in s.registers s.is_in_frame s.refuses) s.stored before) result)
-    (sym c.carry_out.ensures.tried)
-    (attempt-row s.byte_at (answer_in s.registers s.is_in_frame s.refuses) s.stored before c.args.self.now)
-
 pub returns-clause-undone : goal.returns-clause-undone
 returns-clause-undone g c =
     let s = g.S.Storage in
@@ -19,6 +10,6 @@ returns-clause-undone g c =
     let cpu = c.args.self.now in
     subst
     (λ (result : Tried g.row.S-State.Denot). UndoesUnlessWent result.attempt cpu result.cpu before result.state)
-    (sym c.carry_out.ensures.tried)
+    (sym c.step-went.ensures.tried)
     (tried_undoes (seen_in s.byte_at (answer_in s.registers s.is_in_frame s.refuses) s.stored before) cpu
     (plan (halfword_of (s.byte_at before)) cpu.regs cpu.cs cpu.iar))

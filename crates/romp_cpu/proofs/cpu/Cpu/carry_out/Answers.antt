@@ -1,7 +1,7 @@
 use Rattle.romp_cpu.proofs.Common.{◌≡◌, sym, subst, ap, ◌∙◌, Bool, false, List, length, ℕ, Cpu, Attempt, Plan, Does, StoresAll, Seen, Tried, Act, Cs, Pending, Option, IsSoundPending, answer_in, seen_in, plan, planned, tried, tried_act, halfword_of}
 use Rattle.flat_machine.specs.Ready.{IsReadyAt, done}
 use Rattle.flat_machine.specs.declared.ready.Ready.{Ready}
-use Rattle.romp_cpu.specs.Tried.{IsDoneIf}
+use Rattle.romp_cpu.specs.Tried.{at, IsDoneIf}
 use Rattle.romp_cpu.proofs.WholeLemmas.{pending-stores}
 use Rattle.romp_cpu.proofs.PendingLemmas.{plan_of_ready, whole}
 use Rattle.romp_cpu.proofs.cpu.Cpu.carry_out.Goals.{in-Some+in_default-do_alone+in-Some-Does+else-act_at_once+in-Load+in-Some-link, in-Some+in_default-do_alone+in-Some-Does+else-act_at_once+in-Store+in-Some-this, in-Some+in_default-do_alone+in-Some-Does+else-act_at_once+in-Nothing-1, in-Some+in_default-do_alone+in-Some+in-Fails-1, in-Some+in_default-do_alone+in-None-1, in_default}
@@ -54,7 +54,7 @@ again {S = S} seen_of plan_in state after old new result same told =
 pub returns-then-act_at_once-clause-tried : goal.returns-then-act_at_once-clause-tried
 returns-then-act_at_once-clause-tried g c =
     let s = g.S.Storage in
-    let cpu = c.args.self.now in
+    let cpu = at c.args.self.now c.args.iar.now in
     let state = s.state c.args.storage.now in
     let half = halfword_of (s.byte_at state) in
     let seen = seen_in s.byte_at (answer_in s.registers s.is_in_frame s.refuses) s.stored state in
@@ -68,18 +68,18 @@ returns-then-act_at_once-clause-tried g c =
 
 pub returns-then-act_at_once-clause-whole : goal.returns-then-act_at_once-clause-whole
 returns-then-act_at_once-clause-whole g c =
-    stores c.in-Some.row.now (halfword_of (g.S.Storage.byte_at (g.S.Storage.state c.args.storage.now))) c.args.self.now c.do_alone.new.regs c.in-Some-Does.field-0 c.in-Some.ensures
+    stores c.in-Some.row.now (halfword_of (g.S.Storage.byte_at (g.S.Storage.state c.args.storage.now))) (at c.args.self.now c.args.iar.now) c.do_alone.new.regs c.in-Some-Does.field-0 c.in-Some.ensures
     c.in_default-do_alone.ensures.stays.0 c.in-Some-Does.ensures.value c.start_wanting.ensures.long c.in-Some-Does.ensures.sound
 
 pub returns-in-Store-None-clause-whole : goal.returns-in-Store-None-clause-whole
 returns-in-Store-None-clause-whole g c =
-    stores c.in-Some.row.now (halfword_of (g.S.Storage.byte_at (g.S.Storage.state c.args.storage.now))) c.args.self.now c.do_alone.new.regs c.in-Some-Does.field-0 c.in-Some.ensures
+    stores c.in-Some.row.now (halfword_of (g.S.Storage.byte_at (g.S.Storage.state c.args.storage.now))) (at c.args.self.now c.args.iar.now) c.do_alone.new.regs c.in-Some-Does.field-0 c.in-Some.ensures
     c.in_default-do_alone.ensures.stays.0 c.in-Some-Does.ensures.value c.start_wanting.ensures.long c.in-Some-Does.ensures.sound
 
 pub returns-in-Load-None-clause-tried : goal.returns-in-Load-None-clause-tried
 returns-in-Load-None-clause-tried g c =
     let s = g.S.Storage in
-    let cpu = c.args.self.now in
+    let cpu = at c.args.self.now c.args.iar.now in
     let state = s.state c.args.storage.now in
     let half = halfword_of (s.byte_at state) in
     let seen_of = seen_in s.byte_at (answer_in s.registers s.is_in_frame s.refuses) s.stored in
@@ -89,12 +89,12 @@ returns-in-Load-None-clause-tried g c =
     let value = wanted c.in-Some.row.now half cpu c.do_alone.new.regs c.in-Some-Does.field-0 c.in-Some.ensures stays.0 c.in-Some-Does.ensures.value ∙ ap (planned cpu.regs cpu.cs) c.in-Some-Does.field-0-is in
     asked seen_of state (s.state told.new.storage) cpu before told.new.self (plan half cpu.regs cpu.cs cpu.iar) c.in-Some-Does.act c.in-Some-Does.next c.in-Some-Does.link _
     (whole cpu c.do_alone.new.regs c.do_alone.new.cs stays) (idle told.result (seen_of state) before told.new.self (s.state told.new.storage) _ c.if-act_at_once.false told.ensures) value
-    (rw c.in-Load-None.is-0 (rw c.in-Load-None.is-1 c.load.ensures.tried))
+    (rw c.in-Load-None.is-0 (rw c.in-Load-None.is-1 c.load-went.ensures.tried))
 
 pub returns-in-Store-None-clause-tried : goal.returns-in-Store-None-clause-tried
 returns-in-Store-None-clause-tried g c =
     let s = g.S.Storage in
-    let cpu = c.args.self.now in
+    let cpu = at c.args.self.now c.args.iar.now in
     let state = s.state c.args.storage.now in
     let half = halfword_of (s.byte_at state) in
     let seen_of = seen_in s.byte_at (answer_in s.registers s.is_in_frame s.refuses) s.stored in
@@ -104,12 +104,12 @@ returns-in-Store-None-clause-tried g c =
     let value = wanted c.in-Some.row.now half cpu c.do_alone.new.regs c.in-Some-Does.field-0 c.in-Some.ensures stays.0 c.in-Some-Does.ensures.value ∙ ap (planned cpu.regs cpu.cs) c.in-Some-Does.field-0-is in
     asked seen_of state (s.state told.new.storage) cpu before told.new.self (plan half cpu.regs cpu.cs cpu.iar) c.in-Some-Does.act c.in-Some-Does.next c.in-Some-Does.link _
     (whole cpu c.do_alone.new.regs c.do_alone.new.cs stays) (idle told.result (seen_of state) before told.new.self (s.state told.new.storage) _ c.if-act_at_once.false told.ensures) value
-    (rw c.in-Store-None.is-0 (rw c.in-Store-None.is-1 c.store.ensures.tried))
+    (rw c.in-Store-None.is-0 (rw c.in-Store-None.is-1 c.store-went.ensures.tried))
 
 pub returns-clause-tried : goal.returns-clause-tried
 returns-clause-tried g c =
     let s = g.S.Storage in
-    let cpu = c.args.self.now in
+    let cpu = at c.args.self.now c.args.iar.now in
     let state = s.state c.args.storage.now in
     let seen_of = seen_in s.byte_at (answer_in s.registers s.is_in_frame s.refuses) s.stored in
     let same : (c.match-ready.self ≡ cpu) × (s.state c.match-ready.storage ≡ state) = elim c.match-ready.branch [
@@ -126,4 +126,4 @@ returns-clause-tried g c =
       | in-Some+in_default-do_alone+in-None-1 w ↦ (w.self-is ∙ whole cpu w.do_alone.new.regs w.do_alone.new.cs w.in_default-do_alone.ensures.stays, ap s.state w.storage-is)
       | in_default w ↦ (w.self-is, ap s.state w.storage-is)
     ] in
-    again seen_of (λ (at : g.row.S-State.Denot) (now : Cpu). plan (halfword_of (s.byte_at at)) now.regs now.cs now.iar) state (s.state c.match-ready.storage) cpu c.match-ready.self _ same c.carry_out_anew.ensures.tried
+    again seen_of (λ (at : g.row.S-State.Denot) (now : Cpu). plan (halfword_of (s.byte_at at)) now.regs now.cs now.iar) state (s.state c.match-ready.storage) cpu c.match-ready.self _ same c.carry_out_anew-went.ensures.tried
