@@ -13,6 +13,7 @@ ghost use Rattle.flat_machine.specs.Access.{FitsFrom};
 ghost use Rattle.flat_machine.specs.Effect.{filled};
 ghost use Rattle.flat_machine.specs.Row.{stored_bytes};
 ghost use Rattle.romp_cpu.specs.Attempts.{IsOfFewBytes};
+ghost use Rattle.romp_cpu.specs.Tried.{at};
 ghost use Rattle.romp_cpu.specs.declared.storage.Probe.{Probe};
 ghost use Rattle.romp_cpu.specs.declared.storage.Access.{Access};
 ghost use Rattle.storage_unit.specs.Places.{is_private, offset_of, place_of, on};
@@ -900,18 +901,18 @@ impl Unit {
         probe
     }
 
-    /// One attempt of the next instruction of a processor over this unit. What comes follows from the instruction's plan and
-    /// the unit's answer to its access alone. Whatever bytes are committed, it is the program's
+    /// One attempt of the instruction at an address by a processor over this unit. What comes follows from the instruction's
+    /// plan and the unit's answer to its access alone. Whatever bytes are committed, it is the program's
     /// row on the private bytes of the seat and the bytes of the store that the unit shows over them (docs/MODEL.md).
     #[inline(always)]
-    pub fn attempt(&mut self, cpu: &mut Cpu) -> Attempt
-        ensures tried { record { attempt = result; cpu = cpu.new; state = reach_of self.new } ≡ tried_over (reach_of self.old) cpu.old }
-        ensures row { GivesRows result cpu.old cpu.new (reach_of self.old) (reach_of self.new) }
+    pub fn step(&mut self, cpu: &mut Cpu, iar: &mut u32) -> Attempt
+        ensures tried { record { attempt = result; cpu = at cpu.new iar.new; state = reach_of self.new } ≡ tried_over (reach_of self.old) (at cpu.old iar.old) }
+        ensures row { GivesRows result (at cpu.old iar.old) (at cpu.new iar.new) (reach_of self.old) (reach_of self.new) }
         ensures kept { ChangesBytes (reach_of self.old) (reach_of self.new) }
         ensures clean { StaysClean (reach_of self.old) (reach_of self.new) }
         ensures seats { LeavesSeats (reach_of self.old) (reach_of self.new) }
         ensures few { IsOfFewBytes result }
     {
-        cpu.attempt(self)
+        cpu.step(self, iar)
     }
 }

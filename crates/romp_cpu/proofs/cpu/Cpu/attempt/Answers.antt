@@ -1,5 +1,4 @@
-use Rattle.romp_cpu.proofs.Common.{subst, sym, plan, halfword_of, answer_in, Tried, seen_in, GivesEveryRow, UndoesUnlessWent}
-use Rattle.romp_cpu.proofs.AttemptLemmas.{attempt-row}
+use Rattle.romp_cpu.proofs.Common.{subst, sym, plan, halfword_of, answer_in, Tried, seen_in, UndoesUnlessWent}
 use Rattle.romp_cpu.proofs.UndoneLemmas.{tried_undoes}
 use Rattle.romp_cpu.proofs.cpu.Cpu.attempt.Goals as goal
 
