@@ -1,17 +1,79 @@
 -- A program begins.
-use Rattle.activations.proofs.Common.{ne_eqb, or-false, ◌≡◌, ◌≢◌, refl, ℕ, zero, suc, ◌+◌, ◌*◌, ◌/◌, ◌%◌, ◌<◌, ◌≤◌, ◌==◌, ◌⊎◌, nat_lt, if◌then◌else◌, Bool, true, false, List, [], ◌∷◌, ◌++◌, All, length, map, slice_index_or, Option, Some, None, list_any, arith, ap, sym, ◌∙◌, subst, inl, inr, get_or-set_same, get_or-set_other, eqb-false, eq-eqb, both_ways, or_left, or_right, or_parts, nat_tests, length-map, length-set, map-append, get_or_read, All-from_get_or, list_any-append, FlatStore, has, no_lines, has-append, no_lines_of, Authority, unowned, Program, start, registers_of_program, Begun, Entry, nobody, Fine, AreAlike, AreMarked, IsState, requested, due_to, IsCurrent, IsOrderly, current-begun, first_entry, with_first, begins-consistent, refused-consistent, told-taken, Seat, IsSeating, sitter, number_in, newcomer, next_seat, all-has, none-free, some-free, has-at, few-taken, taken-below, kept-seated, apart-taken, is_line_marked, Fits, private_segment, Live, Activity, no_program, program_at, live_in, entry_for, entry_in, entries, number_under, authority_under, authority_told, store_over, desk_over, lines_held, locks_in, request_for, request_in, state_in, shown, given, started, begun_in, IsBegin, IsSound, IsSetUp, IsIdentified, IsKept, KeepsDesk, Grant}
+use Rattle.activations.proofs.Common.{range-long, ◌≡◌, refl, ℕ, ◌+◌, ◌-◌, ◌*◌, ◌%◌, ◌<◌, ◌≤◌, ◌==◌, ◌⊎◌, false, List, ◌++◌, length, map, replicate, slice_index, if◌then◌else◌, Option, Some, None, range_with_len, option_map_or, arith, ap, sym, ◌∙◌, subst, inl, inr, cases_lt, same_number_lists, length-overlaid, overlaid_before, overlaid_within, overlaid_behind, PageSize, Layout, byte_count, page_of, page_bytes, Pool, frame_at, with_bytes, private_frames, byte_in_frame, byte_over, bytes_over, private_bytes, is_marked, Fits, frame-high, in-range, nat_tests, length-append, length-replicate, ne_eqb, or-false, ◌≢◌, zero, suc, nat_lt, Bool, true, [], ◌∷◌, All, slice_index_or, list_any, get_or-set_same, get_or-set_other, eqb-false, eq-eqb, both_ways, or_left, or_right, or_parts, length-map, length-set, map-append, get_or_read, All-from_get_or, list_any-append, FlatStore, has, no_lines, has-append, no_lines_of, Authority, unowned, Program, start, registers_of_program, Begun, Entry, nobody, Fine, AreAlike, AreMarked, IsState, requested, due_to, IsCurrent, IsOrderly, current-begun, first_entry, with_first, begins-consistent, refused-consistent, told-taken, Seat, IsSeating, sitter, number_in, newcomer, next_seat, all-has, none-free, some-free, has-at, few-taken, taken-below, kept-seated, apart-taken, is_line_marked, private_segment, Live, Activity, no_program, program_at, live_in, entry_for, entry_in, entries, number_under, authority_under, authority_told, store_over, desk_over, lines_held, locks_in, request_for, request_in, state_in, shown, given, started, begun_in, IsBegin, IsSound, IsSetUp, IsIdentified, IsKept, KeepsDesk, Grant, absent_segment}
 use Rattle.std.proofs.lemmas.Option.{slice_get-get_or}
 use Rattle.flat_machine.specs.Serial.{Activation}
 use Rattle.desk.specs.declared.event.Event.TheVariants.{Begin}
-use Rattle.desk.specs.Run.{absent_segment, begin, begins, begin_if, step, Busy, Begun as Began}
+use Rattle.desk.specs.Run.{begin, begins, begin_if, step, Busy, Begun as Began}
 use Rattle.desk.specs.declared.answers.Begun.TheVariants as answer
 use Rattle.activations.specs.Begins as begun
-use Rattle.activations.proofs.BeginBytes.{private-there, private-other, store-frame, shown-same}
+use Rattle.activations.proofs.PoolLemmas.{private-all}
 use Rattle.activations.proofs.HoldingLemmas.{held-flat}
-use Rattle.activations.proofs.SittingLemmas.{sitter-there, sitter-other, live-other, live-there}
-use Rattle.activations.proofs.SoundLemmas.{sound-beside}
-use Rattle.activations.proofs.TableLemmas.{under-page}
-use Rattle.activations.proofs.VacateLemmas.{none-of-page, none-of-pages}
+use Rattle.activations.proofs.GrantLemmas.{flat-alike}
+use Rattle.activations.proofs.SittingLemmas.{sitter-there, sitter-other, live-other, live-there, sound-beside, state-by}
+use Rattle.activations.proofs.TableLemmas.{under-page, none-of-page, none-of-pages}
+
+-- an image and zeros after it
+abbrev pub first_bytes : List ℕ → List ℕ
+first_bytes image = image ++ replicate (16384 - length image) 0
+
+long-first : (image : List ℕ) → length image ≤ 16384 → length (first_bytes image) ≡ 16384
+long-first image few = length-append image (replicate (16384 - length image) 0) ∙ ap (λ (n : ℕ). length image + n) (length-replicate (16384 - length image) 0) ∙ omega (arith, few)
+
+module _ (directory : Layout) (pool : Pool) (fits : Fits directory pool) (seat : ℕ) (below : seat < 16) (image : List ℕ) (few : length image ≤ 16384) where
+  abbrev pub filled : Pool
+  filled = with_bytes pool (seat * 16384) (first_bytes image)
+
+  long-part : length (first_bytes image) ≡ 16384
+  long-part = long-first image few
+
+  -- the private bytes of all seats are there
+  long-all : 262144 ≤ length pool.bytes
+  long-all = private-all pool.page pool.frames (length pool.bytes) fits.seen.bytes
+
+  long-filled : length filled.bytes ≡ length pool.bytes
+  long-filled = length-overlaid pool.bytes (seat * 16384) (first_bytes image) (omega (arith, long-part, long-all, below))
+
+  pub private-there : private_bytes filled seat ≡ first_bytes image
+  private-there = same_number_lists (private_bytes filled seat) (first_bytes image)
+      (range-long filled.bytes (seat * 16384) 16384 (omega (arith, long-filled, long-all, below)) ∙ sym long-part)
+      (λ k inside.
+      let short : k < 16384 = omega (arith, inside, range-long filled.bytes (seat * 16384) 16384 (omega (arith, long-filled, long-all, below))) in
+      let rest : seat * 16384 + k - seat * 16384 ≡ k = omega arith in in-range filled.bytes (seat * 16384) 16384 k short
+      ∙ overlaid_within pool.bytes (seat * 16384) (first_bytes image) (seat * 16384 + k) 0 (omega (arith, long-all, below)) (omega arith) (omega (arith, long-part, short))
+      ∙ ap (slice_index (first_bytes image)) rest)
+
+  pub private-other : (at : ℕ) → at < 16 → (at == seat) ≡ false → private_bytes filled at ≡ private_bytes pool at
+  private-other at other differs = same_number_lists (private_bytes filled at) (private_bytes pool at)
+      (range-long filled.bytes (at * 16384) 16384 (omega (arith, long-filled, long-all, other)) ∙ sym (range-long pool.bytes (at * 16384) 16384 (omega (arith, long-all, other))))
+      (λ k inside.
+      let short : k < 16384 = omega (arith, inside, range-long filled.bytes (at * 16384) 16384 (omega (arith, long-filled, long-all, other))) in
+      in-range filled.bytes (at * 16384) 16384 k short ∙ stays k short (cases_lt at seat) ∙ sym (in-range pool.bytes (at * 16384) 16384 k short))
+    where
+      stays : (k : ℕ) → k < 16384 → (at < seat) ⊎ (seat ≤ at) → slice_index filled.bytes (at * 16384 + k) ≡ slice_index pool.bytes (at * 16384 + k)
+      stays k short (inl before) =
+          overlaid_before pool.bytes (seat * 16384) (first_bytes image) (at * 16384 + k) 0 (omega (arith, long-all, below)) (omega (arith, before, short))
+      stays k short (inr after) =
+          let apart : seat < at = grind (arith, nat_tests, after, differs) in
+          overlaid_behind pool.bytes (seat * 16384) (first_bytes image) (at * 16384 + k) 0 (omega (arith, long-all, below)) (omega (arith, long-part, apart))
+
+  -- a frame of a page of the store has what it had
+  pub store-frame : (place frame : ℕ) → frame_at pool (page_of directory place) ≡ Some frame → byte_in_frame directory filled place frame ≡ byte_in_frame directory pool place frame
+  store-frame place frame there =
+      let first : private_frames directory.page ≤ frame =
+      subst (λ (s : PageSize). private_frames s ≤ frame) fits.size (fits.seen.above (page_of directory place) frame (fits.seen.there (page_of directory place) frame there)) in
+      let behind = frame-high directory.page frame first in
+      overlaid_behind pool.bytes (seat * 16384) (first_bytes image) (frame * page_bytes directory.page + place % page_bytes directory.page) 0 (omega (arith, long-all, below)) (omega (arith, long-part, behind, below))
+
+  -- and all see what they saw
+  pub shown-same : (committed : List ℕ) → bytes_over directory filled committed ≡ bytes_over directory pool committed
+  shown-same committed = λ i. map (λ place. one place i) (range_with_len 0 (byte_count directory))
+    where
+      one : (place : ℕ) → byte_over directory filled committed place ≡ byte_over directory pool committed place
+      one place = by_frame (if is_marked directory pool place then slice_index pool.kept place else slice_index committed place) (frame_at pool (page_of directory place)) refl
+        where
+          by_frame : (rest : ℕ) (frame : Option ℕ) → frame_at pool (page_of directory place) ≡ frame → option_map_or (byte_in_frame directory filled place) frame rest ≡ option_map_or (byte_in_frame directory pool place) frame rest
+          by_frame rest None e = refl
+          by_frame rest (Some frame) e = store-frame place frame e
 
 pub all-of : (P : ℕ → Type 0) (xs : List ℕ) → ((x : ℕ) → has xs x ≡ true → P x) → All P xs
 all-of P xs each = All-from_get_or P xs 0 (λ k within. each (slice_index_or xs k 0) (has-at xs k 0 within))
@@ -22,23 +84,14 @@ map-same f g (x ∷ xs) same = λ i. same x (or_left (x == x) (has xs x) (eq-eqb
 
 -- nothing that is held is no line
 pub held-none : (pages : ℕ) → AreAlike (lines_held (no_lines_of pages)) no_lines
-held-none pages = record {
-  reads = λ line.
-      let whole : line ≡ line / 16 * 16 + line % 16 = omega arith in
-      ap (has (lines_held (no_lines_of pages)).reads) whole
-      ∙ sym ((held-flat (no_lines_of pages) (none-of-pages pages)).reads (line / 16) (line % 16) (omega arith))
-      ∙ ap (λ (held : List ℕ × List ℕ). has held.0 (line % 16)) (none-of-page pages (line / 16));
-  writes = λ line.
-      let whole : line ≡ line / 16 * 16 + line % 16 = omega arith in
-      ap (has (lines_held (no_lines_of pages)).writes) whole
-      ∙ sym ((held-flat (no_lines_of pages) (none-of-pages pages)).writes (line / 16) (line % 16) (omega arith))
-      ∙ ap (λ (held : List ℕ × List ℕ). has held.1 (line % 16)) (none-of-page pages (line / 16));
-}
+held-none pages = flat-alike (no_lines_of pages) (lines_held (no_lines_of pages)) no_lines (held-flat (no_lines_of pages) (none-of-pages pages)) (record {
+  reads = λ page line few. ap (λ (held : List ℕ × List ℕ). has held.0 line) (none-of-page pages page);
+  writes = λ page line few. ap (λ (held : List ℕ × List ℕ). has held.1 line) (none-of-page pages page);
+})
 
 -- a number that is given to nobody
 pub sound-given : (a : Activity) → IsSound a → IsSound (given a)
-sound-given a sound =
-    sound-beside a (a.next + 1) a.reach.pool sound
+sound-given a sound = sound-beside a (a.next + 1) a.reach.pool sound
     (all-of (λ seat. number_in a.seating seat < a.next + 1) a.seating.taken (λ seat inside. let was = all-has (λ seat. number_in a.seating seat < a.next) a.seating.taken seat sound.numbers inside in omega (arith, was)))
 
 pub follows-given : (a : Activity) (committed : List ℕ) → KeepsDesk a committed → KeepsDesk (given a) committed
@@ -79,8 +132,7 @@ module _ (a : Activity) (program : ℕ) (args : List ℕ) (seat : ℕ) (sound : 
   entry-old at differs = ap (entry_for a.programs) (sitter-other a.seating seat who at differs)
 
   entries-begun : entries new ≡ entries a ++ first_entry a.next runs ∷ []
-  entries-begun =
-      map-append (entry_in new) a.seating.taken (seat ∷ [])
+  entries-begun = map-append (entry_in new) a.seating.taken (seat ∷ [])
       ∙ (λ i. map-same (entry_in new) (entry_in a) a.seating.taken (λ at inside. entry-old at (elsewhere at inside)) i ++ entry-last i ∷ [])
 
   -- who is there now
@@ -132,10 +184,7 @@ module _ (a : Activity) (program : ℕ) (args : List ℕ) (seat : ℕ) (sound : 
     ];
     begun = length-set a.reach.begun seat true ∙ sound.begun;
     entries = sound.entries;
-    set_up = λ at inside. elim (seated-old at inside) [
-      | inl old ↦ set-up-old at old
-      | inr last ↦ subst (IsSetUp new) last set-up-last
-    ];
+    set_up = λ at inside. elim (seated-old at inside) [ inl old ↦ set-up-old at old | inr last ↦ subst (IsSetUp new) last set-up-last ];
     free = λ at gone.
         let none = or_parts (has a.seating.taken at) (has (seat ∷ []) at) (sym (has-append a.seating.taken (seat ∷ []) at) ∙ gone) in
         get_or-set_other a.reach.begun seat at true false (λ same. both_ways (has new.seating.taken at) gone (has-append a.seating.taken (seat ∷ []) at ∙ or_right (has a.seating.taken at) (has (seat ∷ []) at) (or_left (seat == at) false (eq-eqb seat at (sym same)))))
@@ -151,8 +200,7 @@ module _ (a : Activity) (program : ℕ) (args : List ℕ) (seat : ℕ) (sound : 
 
       set-up-old : (at : ℕ) → has a.seating.taken at ≡ true → IsSetUp new at
       set-up-old at old =
-          let was = sound.set_up at old in
-          let differs = elsewhere at old in
+          let was = sound.set_up at old in let differs = elsewhere at old in
           let sitter_is : sitter new.seating at ≡ sitter a.seating at = sitter-other a.seating seat who at differs in
           let live_is : live_in new at ≡ live_in a at = live-other a.live seat (started a program args seat) at differs in
           record {
@@ -189,8 +237,7 @@ module _ (a : Activity) (program : ℕ) (args : List ℕ) (seat : ℕ) (sound : 
           begins-consistent (desk_over a committed []) runs follows.orderly (let long : length (entries a) ≡ length a.seating.taken = length-map a.seating.taken (entry_in a) in omega (arith, room, long)) present
 
       state-last : IsState store (entry_in new seat) (state_in new seat)
-      state-last =
-          subst (λ (e : Entry). IsState store e (state_in new seat)) (sym entry-last)
+      state-last = subst (λ (e : Entry). IsState store e (state_in new seat)) (sym entry-last)
           (record {
             bytes = committed;
             at = λ i. Some (record (start code args store) {
@@ -203,23 +250,12 @@ module _ (a : Activity) (program : ℕ) (args : List ℕ) (seat : ℕ) (sound : 
           })
 
       state-old : (at : ℕ) → has a.seating.taken at ≡ true → state_in a at ≡ state_in new at
-      state-old at old i = record {
-        regs = (sym live_is i).cpu.regs;
-        cs = (sym live_is i).cpu.cs;
-        iar = (sym live_is i).cpu.iar;
-        private = sym (private-other a.reach.directory a.reach.pool fits seat below code.image code.image_fits at (taken-below a.seating sound.seating at old) (elsewhere at old)) i;
-        store = [];
-        out = (sym live_is i).out;
-      }
-        where
-          live_is : live_in new at ≡ live_in a at
-          live_is = live-other a.live seat (started a program args seat) at (elsewhere at old)
+      state-old at old =
+          state-by a.reach.pool new.reach.pool at (live_in a at) (live_in new at) (live-other a.live seat (started a program args seat) at (elsewhere at old))
+          (sym (private-other a.reach.directory a.reach.pool fits seat below code.image code.image_fits at (taken-below a.seating sound.seating at old) (elsewhere at old)))
 
       by_seat : {P : ℕ → Type 0} → P seat → ((at : ℕ) → has a.seating.taken at ≡ true → P at) → (at : ℕ) → has new.seating.taken at ≡ true → P at
-      by_seat {P} this others at inside = elim (seated-old at inside) [
-        | inl old ↦ others at old
-        | inr it ↦ subst P it this
-      ]
+      by_seat {P} this others at inside = elim (seated-old at inside) [ inl old ↦ others at old | inr it ↦ subst P it this ]
 
       kept-begun : IsKept new committed
       kept-begun = record {
@@ -236,8 +272,7 @@ module _ (a : Activity) (program : ℕ) (args : List ℕ) (seat : ℕ) (sound : 
             (follows.kept.asked at old (sym (ap (λ (e : Entry). e.waiting) (entry-old at (elsewhere at old))) ∙ waits))));
         stand = by_seat {P = λ at. IsState store (entry_in new at) (state_in new at)} state-last
             (λ at old. subst (λ (e : Entry). IsState store e (state_in new at)) (sym (entry-old at (elsewhere at old))) (subst (IsState store (entry_in a at)) (state-old at old) (follows.kept.stand at old)));
-        is_current =
-            subst (λ (these : List Entry). IsCurrent store these (shown new committed)) (sym entries-begun)
+        is_current = subst (λ (these : List Entry). IsCurrent store these (shown new committed)) (sym entries-begun)
             (subst (IsCurrent store (entries a ++ last ∷ [])) (sym (shown-same a.reach.directory a.reach.pool fits seat below code.image code.image_fits committed))
             (current-begun store a.most_lines a.next (entries a) follows.orderly.active (shown a committed) last refl orderly-begun.active follows.kept.is_current));
         marked =
@@ -283,13 +318,10 @@ module _ (a : Activity) (program : ℕ) (args : List ℕ) (sound : IsSound a) (k
     pub is-begin : IsBegin a (begun.begins a program args).1 program args (begun.begins a program args).0 committed
     is-begin = by_cases (next_seat a.seating) refl (absent_segment a.reach.directory (program_at a.programs program).windows) refl
       where
-        long : length (entries a) ≡ length a.seating.taken
-        long = length-map a.seating.taken (entry_in a)
-
         with_room : (order : List (ℕ × ℕ)) (absent : Option ℕ) → length a.seating.taken < 16 → absent_segment a.reach.directory (program_at a.programs program).windows ≡ absent
             → step a.programs (Begin program args) Fine (desk_over a committed order) ≡ begins absent program this (desk_over a committed order)
         with_room order absent room e =
-            let some : nat_lt (length (entries a)) 16 ≡ true = grind (arith, nat_tests, room, long) in
+            let some : nat_lt (length (entries a)) 16 ≡ true = grind (arith, nat_tests, room, length-map a.seating.taken (entry_in a)) in
             begin-is order
             ∙ ap (λ (b : Bool). if b then begins (absent_segment a.reach.directory (program_at a.programs program).windows) program this (desk_over a committed order)
             else record { desk = desk_over (given a) committed order; happening = Busy a.next program }) some
@@ -300,7 +332,7 @@ module _ (a : Activity) (program : ℕ) (args : List ℕ) (sound : IsSound a) (k
         by_cases None e absent lacks = record {
           is_step = λ order.
               let none = none-next a sound e in
-              let full : nat_lt (length (entries a)) 16 ≡ false = grind (arith, nat_tests, none, long) in
+              let full : nat_lt (length (entries a)) 16 ≡ false = grind (arith, nat_tests, none, length-map a.seating.taken (entry_in a)) in
               begin-is order
               ∙ ap (λ (b : Bool). if b then begins (absent_segment a.reach.directory (program_at a.programs program).windows) program this (desk_over a committed order)
               else record { desk = desk_over (given a) committed order; happening = Busy a.next program }) full;
@@ -349,6 +381,14 @@ module _ (a : Activity) (program : ℕ) (args : List ℕ) (sound : IsSound a) wh
   begin-goes now told known fits is_told is_new committed follows =
       subst (λ (n : Activity). IsBegin a n program args told committed) (sym is_new)
       (subst (λ (t : Begun). IsBegin a (begun.begins a program args).1 program args t committed) (sym is_told) (is-begin a program args sound known committed follows fits))
+
+-- and all that a begin says of what it answers and leaves
+pub begun-so : (a : Activity) (program : ℕ) (args : List ℕ) (told : Begun) (now : Activity) → IsSound a → program < length a.programs → Fits a.reach.directory a.reach.pool → begun.begins a program args ≡ (told, now)
+    → (told ≡ (begun.begins a program args).0) × (now ≡ (begun.begins a program args).1) × IsSound now × ((committed : List ℕ) → KeepsDesk a committed → IsBegin a now program args told committed)
+begun-so a program args told now sound known fits is =
+    let answer : told ≡ (begun.begins a program args).0 = sym (ap (λ (b : Begun × Activity). b.0) is) in
+    let left : now ≡ (begun.begins a program args).1 = sym (ap (λ (b : Begun × Activity). b.1) is) in
+    (answer, left, subst IsSound (sym left) (sound-begins a program args sound known), begin-goes a program args sound now told known fits answer left)
 
 -- the program that was read at a place
 pub is-code : (programs : List Program) (place at : ℕ) (code : Program) → place < length programs → at ≡ place → code ≡ slice_index_or programs at code → code ≡ program_at programs place

@@ -1,18 +1,14 @@
 -- The code of a program check is one of eight.
-use Rattle.activations.proofs.Common.{◌≡◌, ℕ, ◌+◌, Bool, true, false, if◌then◌else◌, List, Option, Result, Ok, Err, arith, subst, Layout, Plain, Program, Outcome, Check, in_register, row}
+use Rattle.activations.proofs.Common.{◌≡◌, ℕ, ◌+◌, Bool, true, false, if◌then◌else◌, List, Option, Result, Ok, Err, arith, subst, Layout, Plain, Program, Outcome, Check, in_register, row, Located, Refused, acts, moved, plan_at, row_by, halfword, fetched, fetched_from, plan_of_pair, plan_of_branch, plan_alone, plan_by, IsCheckCode, cond_both}
 use Rattle.romp_table.specs.declared.inst.Op.{Op}
 use Rattle.romp_table.specs.declared.inst.Inst.{Inst}
 use Rattle.flat_machine.specs.declared.machine.Act.{Act}
 use Rattle.flat_machine.specs.declared.machine.Branch.{Branch}
 use Rattle.flat_machine.specs.declared.machine.Cs.{Cs}
-use Rattle.flat_machine.specs.declared.machine.Located.{Located}
-use Rattle.flat_machine.specs.declared.machine.Located.TheVariants.{Refused}
-use Rattle.flat_machine.specs.Branches.{is_branch, branch_of}
+use Rattle.flat_machine.specs.Branches.{is_branch, branch_of, may_be_subject}
 use Rattle.flat_machine.specs.Effect.{effect_of}
 use Rattle.flat_machine.specs.Plans.{Plan, Does, Fails, Work, Want}
-use Rattle.flat_machine.specs.Row.{acts, moved, plan_at, row_by, halfword, fetched, fetched_from, plan_of_pair, plan_of_branch, plan_alone, plan_by}
 use Rattle.flat_machine.specs.Work.{work_of, work_of_s, work_of_x, work_of_r, work_of_d, access_of_d, logic_of_d, work_with_count, traps, called}
-use Rattle.activations.specs.Causes.{IsCheckCode}
 
 -- what is wanted, worked, planned, located, fetched and come to is no check, or one with such a code
 abbrev ActNamed : Act → Type 0
@@ -79,7 +75,8 @@ from-named halfword_at address first = grind arith
 
 pair-named : (branch : Branch) (subject : Result (Inst × ℕ) ℕ) (r : List ℕ) (cs : Cs) (address : ℕ) → FetchNamed subject → PlanNamed (plan_of_pair branch subject r cs address)
 pair-named branch (Err code) r cs address named = named
-pair-named branch (Ok subject) r cs address named = let effect = effect-named subject.0 r cs in grind (arith, effect)
+pair-named branch (Ok subject) r cs address named =
+    cond_both (may_be_subject subject.0) _ _ PlanNamed (λ _. effect-named subject.0 r cs) (λ _. (omega arith, omega arith))
 
 branch-named : (branch : Branch) (subject : Result (Inst × ℕ) ℕ) (r : List ℕ) (cs : Cs) (after : ℕ) → FetchNamed subject → PlanNamed (plan_of_branch branch subject r cs after)
 branch-named branch subject r cs after named = let pair = pair-named branch subject r cs after named in grind (arith, pair)
@@ -105,7 +102,6 @@ row_by-named p d s (Fails code) named = named
 row_by-named p d s (Does registers status act next link) named = let outcome = acts-named p d (moved s registers status next) act named in grind (arith, outcome)
 
 pub checks-named : (p : Program) (d : Layout) (s : Plain) (code : ℕ) → row p d s ≡ Check code → IsCheckCode code
-checks-named p d s code is =
-    subst OutcomeNamed is
+checks-named p d s code is = subst OutcomeNamed is
     (row_by-named p d s (plan_at s)
     (plan-named (halfword s.private) _ s.regs s.cs s.iar (from-named (halfword s.private) s.iar (halfword s.private s.iar))))

@@ -2,11 +2,9 @@
 use Rattle.activations.proofs.Common.{◌≡◌, ℕ, ◌%◌, ◌<◌, ◌==◌, ◌&&◌, not, Bool, true, List, [], ◌∷◌, ◌++◌, length, slice_index, Some, ap, sym, ◌∙◌, subst, length-map-range_with_len, Layout, byte_count, page_count, FlatStore, line_of, line-bytes-pos, has, Lines, page_of_line, no_lines, Plain, after, Pool, settled, Commit, row, Entry, Counts, no_counts, AreAlike, AreMarked, IsState, IsTold, requested, by_number, over_all, left_by, committed_at, IsAmong, due_to, IsCurrent, IsOrderly, place-laid, marked-commit, others, seat-told, told-seat, at-number, kept-seats, commit-ends, is_line_marked, bytes_over, byte_over, Fits, SettleKeeps, Keeps, Activity, program_in, entry_in, entries, store_over, desk_over, locks_in, request_in, state_for, state_in, live_in, shown, IsSound, IsKept, KeepsDesk, wrote, is_of, AreWritten, WereSettled, rolled, Commits, nat_tests, arith}
 use Rattle.flat_machine.proofs.Agreement.{after-whole}
 use Rattle.desk_law.proofs.EntriesEnd as law
-use Rattle.activations.proofs.RollbackLemmas.{wrote-due, locks-left, of-written}
+use Rattle.activations.proofs.RollbackLemmas.{wrote-held, locks-left, of-held, neither-of, of-then, settled-marks}
 use Rattle.activations.proofs.RowLemmas.{orderly-order}
-use Rattle.activations.proofs.TableLemmas.{stands-for}
-use Rattle.activations.proofs.UndoLemmas.{neither-of, of-then, settled-marks}
-use Rattle.activations.proofs.VacateLemmas.{left-taken, entries-left, authority-left}
+use Rattle.activations.proofs.TableLemmas.{stands-for, left-taken, entries-left, authority-left}
 
 -- what is kept by seat, told by number
 module _ (a : Activity) (committed : List ℕ) (sound : IsSound a) (kept : IsKept a committed) where
@@ -59,26 +57,19 @@ module _ (a : Activity) (seat : ℕ) (pool : Pool) (pages : List ℕ) (committed
   here : IsAmong (entries a) entry
   here = seat-told a.seating.taken (entry_in a) seat taken
 
-  kept : IsKept a committed
-  kept = follows.kept
-
   -- what the commit call comes to
   pub ends : (order : List (ℕ × ℕ)) (counts : Counts) → law.Commits (desk_over a committed order) counts entry now
       (by_number a.seating.taken (entry_in a) (locks_in a) no_lines) (by_number a.seating.taken (entry_in a) (request_in a) no_lines)
       (by_number a.seating.taken (entry_in a) (state_in a) (state_in a 16)) (shown a committed)
-  ends order counts =
-      commit-ends (desk_over a committed order) counts entry now
+  ends order counts = commit-ends (desk_over a committed order) counts entry now
       (by_number a.seating.taken (entry_in a) (locks_in a) no_lines) (by_number a.seating.taken (entry_in a) (request_in a) no_lines)
       (by_number a.seating.taken (entry_in a) (state_in a) (state_in a 16)) (shown a committed)
-      (orderly-order a committed order follows.orderly) here at (told-kept a committed sound kept) call
+      (orderly-order a committed order follows.orderly) here at (told-kept a committed sound follows.kept) call
 
   first : law.Commits (desk_over a committed []) no_counts entry now
       (by_number a.seating.taken (entry_in a) (locks_in a) no_lines) (by_number a.seating.taken (entry_in a) (request_in a) no_lines)
       (by_number a.seating.taken (entry_in a) (state_in a) (state_in a 16)) (shown a committed)
   first = ends [] no_counts
-
-  now-long : length now.store ≡ byte_count a.reach.directory
-  now-long = after-whole entry.runs.program entry.runs.args store entry.rows now follows.orderly.whole at
 
   shown-long : length (shown a committed) ≡ byte_count a.reach.directory
   shown-long = length-map-range_with_len (byte_over a.reach.directory a.reach.pool committed) 0 (byte_count a.reach.directory)
@@ -88,7 +79,7 @@ module _ (a : Activity) (seat : ℕ) (pool : Pool) (pages : List ℕ) (committed
       → slice_index (shown a committed) place ≡ slice_index now.store place
   wrote-seen place within wrote_it =
       sym (place-laid store (due_to store entry).writes (shown a committed) committed now.store (line-bytes-pos a.reach.directory) first.record_lines place
-      (sym (wrote-due a seat committed sound (kept.held seat taken) (line_of a.reach.directory place)) ∙ wrote_it))
+      (sym (wrote-held a seat (due_to (store_over a committed) (entry_in a seat)) sound (follows.kept.held seat taken) (line_of a.reach.directory place)) ∙ wrote_it))
 
   module _ (written : AreWritten a.seating.holding seat pages) (were : WereSettled (wrote a seat) pages a.reach.pool pool)
       (keeps : Keeps a.reach.directory a.reach.pool pool now.store) (unseen : bytes_over a.reach.directory a.reach.pool now.store ≡ shown a committed) where
@@ -109,7 +100,7 @@ module _ (a : Activity) (seat : ℕ) (pool : Pool) (pages : List ℕ) (committed
 
     kept-left : IsKept left now.store
     kept-left = record {
-      long = now-long;
+      long = after-whole entry.runs.program entry.runs.args store entry.rows now follows.orderly.whole at;
       held = λ other inside.
           let (there, differs) = left-taken a seat sound taken other inside in
           subst (λ (l : Lines). AreAlike l (due_to (left_by store now) (entry_in a other))) (sym (locks-left a seat pool sound other differs))
@@ -128,8 +119,8 @@ module _ (a : Activity) (seat : ℕ) (pool : Pool) (pages : List ℕ) (committed
           (subst (IsCurrent (left_by store now) (others entry (entries a))) (sym (keeps.same ∙ unseen)) first.told.is_current);
       marked =
           subst (λ (these : List Entry). AreMarked (left_by store now) these (is_line_marked pool)) (sym (entries-left a seat sound taken))
-          (marked-commit store a.most_lines a.next (entries a) follows.orderly.active (is_line_marked a.reach.pool) kept.marked entry now (is_line_marked pool) follows.orderly.whole here at
-          (λ line. were.marks line ∙ ap (λ (b : Bool). is_line_marked a.reach.pool line && not b) (of-written a seat pages committed sound (kept.held seat taken) written line)));
+          (marked-commit store a.most_lines a.next (entries a) follows.orderly.active (is_line_marked a.reach.pool) follows.kept.marked entry now (is_line_marked pool) follows.orderly.whole here at
+          (λ line. were.marks line ∙ ap (λ (b : Bool). is_line_marked a.reach.pool line && not b) (of-held a seat pages (due_to (store_over a committed) (entry_in a seat)) sound (follows.kept.held seat taken) written line)));
       clean = keeps.clean;
     }
       where

@@ -1,15 +1,14 @@
 -- The names that most proofs cite, passed on from one place. Declares nothing.
 pub use Rattle.std.proofs.Common.{ap, append_assoc, arith, get_or, get_or-set_other, get_or-set_same, inl, inr, length-append, set-set, subst, sym, take, ◌∙◌, rules}
-pub use Rattle.std.proofs.lemmas.Bool.{and_cases, and_from, and_parts, and_right, both_ways, cases_lt, eq-eqb, eqb-false, eqb-true, false_from_ne_true, leb-true, ltb-false, ne_eqb, not-false, not-true, or_cases, or_from, or_left, or_parts, or_right, and_left, cases_Bool, cases_eq, cond_both}
+pub use Rattle.std.proofs.lemmas.Bool.{and_from, and_parts, both_ways, cases_lt, eq-eqb, eqb-false, eqb-true, false_from_ne_true, ltb-false, ne_eqb, not-false, not-true, or_cases, or_from, or_left, or_parts, or_right, and_left, cases_Bool, cases_eq, cond_both}
 pub use Rattle.std.proofs.Math.Bool.{and-false, and-true, or-false}
 pub use Rattle.std.proofs.lemmas.Bool.Decides.{nat_tests}
-pub use Rattle.std.proofs.lemmas.Grind.{same_number_lists, common_steps}
-pub use Rattle.std.proofs.lemmas.List.{append-nil, get_or-map, get_or-replicate, get_or_default, get_or_past, get_or_read, length-drop, length-map, length-replicate, length-set, length-take-le, map-append, nil_from_length, set-get_or, take_all, take_more, length-take, take-append-le, take-take}
+pub use Rattle.std.proofs.lemmas.Grind.{same_number_lists}
+pub use Rattle.std.proofs.lemmas.List.{append-nil, get_or-map, get_or-replicate, get_or_default, get_or_past, get_or_read, length-map, length-replicate, length-set, map-append, nil_from_length, set-get_or, take_all, take_more, length-take, take-append-le, take-take}
 pub use Rattle.std.proofs.lemmas.List.Elements.{All-append, All-cons, All-filter, All-from_get_or, All-get_or, All-head, All-nil, All-replicate, All-set, All-tail, filter-append}
 pub use Rattle.std.proofs.lemmas.List.Folds.{list_any-append}
 pub use Rattle.std.proofs.lemmas.List.FromFn.{get_or-map-range_with_len, length-map-range_with_len, length-range_with_len}
 pub use Rattle.std.proofs.lemmas.List.Sums.{sum_by-cons, sum_by-le}
-pub use Rattle.std.proofs.lemmas.Result.{err_from_is_err_and}
 pub use Rattle.std.specs.List.{AllPairs, flat_map, list_any, position_or_len, range_with_len, sum_by}
 pub use Rattle.std.specs.Option.{ForSome, option_map, option_map_or}
 pub use Rattle.std.specs.Prelude.{All, Bool, Err, IfErr, IsErrAnd, IsSome, List, None, Ok, OnErr, OnOk, Option, Result, Some, [], cond, drop, false, filter, find, fold, if◌then◌else◌, is_some, length, map, nat_le, nat_lt, not, option_to_list, position, refl, remove, replicate, slice_index, slice_index_or, slice_range, slice_set, suc, true, unwrap_or, zero, ℕ, ◌%◌, ◌&&◌, ◌^◌, ◌*◌, ◌++◌, ◌+◌, ◌-◌, ◌/◌, ◌<◌, ◌==◌, ◌||◌, ◌∷◌, ◌≡◌, ◌≢◌, ◌≤◌, ◌⊎◌}
@@ -39,23 +38,23 @@ pub use Rattle.desk_law.proofs.MarkedLines.{marked-commit, marked-end, marked-ma
 pub use Rattle.desk_law.proofs.Others.{others}
 pub use Rattle.desk_law.proofs.RowsThere.{open-due, within-most}
 pub use Rattle.desk_law.proofs.Seats.{at-number, conflicts-seats, kept-seats, seat-told, told-found, told-others, told-replaced, told-seat, waits-seats}
-pub use Rattle.desk_law.proofs.ServedEffect.{got, served-there}
+pub use Rattle.desk_law.proofs.ServedEffect.{got}
 pub use Rattle.desk_law.proofs.ServedRows.{WentOn, contest-begins, free-gets, free-none, gets-goes}
 pub use Rattle.desk_law.proofs.ServesConflicts.{IsContesting, contesting-consistent, contesting-gets, contesting-loses, contesting-ready, contesting-turn, contesting-victim, contesting-waits}
-pub use Rattle.desk_law.proofs.TurnsStay.{resident-consistent, resident-granted}
+pub use Rattle.desk_law.proofs.TurnsStay.{resident-consistent}
 pub use Rattle.desk_law.proofs.Waiting.{among-any, any-among}
-pub use Rattle.desk_law.specs.Beside.{AreAlike, AreMarked, AreThere, IsLaid, IsState, IsThere, IsTold, Reads, StandsFor, by_number, kept_conflict, kept_waits, over_all, owner_told, owners_told}
+pub use Rattle.desk_law.specs.Beside.{AreAlike, AreMarked, IsLaid, IsState, IsThere, IsTold, Reads, StandsFor, by_number, kept_conflict, kept_waits, over_all, owner_told, owners_told}
 pub use Rattle.desk_law.specs.Changes.{committed_at, gone_on, left_by, row_done}
 pub use Rattle.desk_law.specs.Consistent.{AreConsistent, AreDistinct, Ascend, IsAmong}
 pub use Rattle.desk_law.specs.Current.{IsCurrent}
 pub use Rattle.desk_law.specs.Orderly.{IsOrderly}
 pub use Rattle.desk_law.specs.UnderWay.{IsReady, IsUnderWay, KeepsPages, contest, marked, served_attempt, touched_of}
 pub use Rattle.flat_machine.specs.After.{after, clear, first_registers, start}
-pub use Rattle.flat_machine.specs.Row.{Check, Commit, On, Outcome, in_register, in_segment, in_window, located, row}
-pub use Rattle.flat_machine.specs.Touched.{lines_at, touched}
+pub use Rattle.flat_machine.specs.Row.{Check, Commit, On, Outcome, in_register, in_segment, in_window, located, row, plan_at, acts, moved, row_by, halfword, fetched, fetched_from, plan_of_pair, plan_of_branch, plan_alone, plan_by}
+pub use Rattle.flat_machine.specs.Touched.{lines_at, touched, touched_by}
 pub use Rattle.flat_machine.specs.declared.machine.Plain.{Plain}
 pub use Rattle.flat_machine.specs.declared.machine.Program.{Program}
-pub use Rattle.frame_pool.proofs.SeenLemmas.{Stays, pool-seen}
+pub use Rattle.frame_pool.proofs.SeenLemmas.{Stays, pool-seen, gone-stays}
 pub use Rattle.frame_pool.specs.Pool.{emptied, frame_at, gone, line_in_frame, line_kept, line_shown, marks_at, settled, undone, with_bytes, Brought, line_laid}
 pub use Rattle.frame_pool.specs.Seen.{IsSeen}
 pub use Rattle.frame_pool.specs.Sizes.{frame_count, line_place, line_size, private_frames}
@@ -111,7 +110,7 @@ pub use Rattle.seats.specs.Waiting.{AreOfPage, cycle_of, holders, seat_waits}
 pub use Rattle.seats.specs.declared.seat.Seat.{Seat}
 pub use Rattle.page_table.specs.Registers.{Registers, located_by, virtual_at}
 pub use Rattle.storage_unit.proofs.ByteLemmas.{byte-of-all, in-range, over-none, over-some}
-pub use Rattle.storage_unit.proofs.LeaveLemmas.{clean-shows, emptied-frame}
+pub use Rattle.storage_unit.proofs.LeaveLemmas.{clean-shows}
 pub use Rattle.storage_unit.proofs.LeftLemmas.{range-long}
 pub use Rattle.storage_unit.proofs.SizeLemmas.{frame-high, page-of-line}
 pub use Rattle.storage_unit.proofs.StateLemmas.{emptied-stays, laid-bytes, room-stays}
@@ -119,7 +118,7 @@ pub use Rattle.storage_unit.proofs.UnitLemmas.{program-reached, sound-fits, unit
 pub use Rattle.storage_unit.specs.Bytes.{IsClean, byte_in_frame, byte_over, bytes_over, is_line_marked, is_marked, private_bytes}
 pub use Rattle.storage_unit.specs.Laws.{Fits, Keeps, SettleKeeps, UndoForgets, filled, is_among, page_in}
 pub use Rattle.storage_unit.specs.Places.{is_private, offset_of, place_at, private_segment}
-pub use Rattle.storage_unit.specs.Rows.{ChangesBytes, GivesRows, GoesOpen, HasWindows, IsOpen, IsOpenLine, IsRow, IsShutOut, LeavesSeats, StaysClean, plain_over}
+pub use Rattle.storage_unit.specs.Rows.{ChangesBytes, GivesRows, GoesOpen, HasWindows, IsOpen, IsOpenLine, IsRow, LeavesSeats, StaysClean, plain_over}
 pub use Rattle.storage_unit.specs.View.{reach_of}
 pub use Rattle.storage_unit.specs.declared.model.Reach.{Reach}
 pub use Rattle.store_format.specs.Bank.{RecordLine, record_bytes}
@@ -129,24 +128,23 @@ unfoldable pub use Rattle.store_format.specs.Stands.{stands}
 pub use Rattle.activations.specs.Activity.{Activity, authority_at, flat_authority, authority_told, authority_under, desk_over, entries, entry_for, entry_in, lines_held, live_in, locks_in, no_program, nothing_runs, number_under, program_at, program_in, request_for, request_in, shown, state_for, state_in, store_over}
 pub use Rattle.activations.specs.Attempted.{CameTo, IsSelected, IsShut, IsStopped, Strode, TookEffect, WasAttempted, WillTouch, attempted, plain_in, printed_after}
 pub use Rattle.activations.specs.Begins.{Begins, IsBegin, begun_in, given, idle, started, begins}
-pub use Rattle.activations.specs.Ends.{HasSettled, HasUndone, IsDeserted, IsRestarted, WereRolled, reprinted}
+pub use Rattle.activations.specs.Steps.{HasSettled, HasUndone, IsDeserted, IsRestarted, WereRolled, reprinted, AreAsCommitted, AreWritten, Commits, GoesOn, HasExecuted, IsMoved, RollsBack, Strides, WereSettled, WereUndone, counted, executed, is_of, rolled, vacated, with_pool, wrote, IsRolledBack, IsCommitted}
 pub use Rattle.activations.specs.Fetching.{HasBrokenOff, IsBrokenOff, IsIn, IsStoreOf, IsUnread, KeepsStore}
 pub use Rattle.activations.specs.Follows.{AreOfPages, KeepsDesk, IsIdentified, IsKept, IsSetUp, IsSound}
-pub use Rattle.activations.specs.Instructed.{GoesUncounted, IsAsked, IsEndOfRows, IsInstruction, IsPrepared, IsServed, Prepares, Serves}
-pub use Rattle.activations.specs.Kept.{AreRowsWithin, KeepsParts, StandsStill, StaysSeated}
+pub use Rattle.activations.specs.Turning.{GoesUncounted, IsAsked, IsEndOfRows, IsInstruction, IsPrepared, IsServed, Prepares, Serves, Contests, HasBroken, HasEnded, tally_counts, FromContest, AreTurns, ComesBack, IsAtCommit, IsStep, IsTurning, MayBeShut, commit_call, selected_in, turn_in}
+pub use Rattle.activations.specs.Kept.{KeepsParts, StandsStill, StaysSeated, RunsAt, StrodeTo, with_live}
 pub use Rattle.activations.specs.Recorded.{HasWritten, IsRecordOf, LeavesCommitted, line_told, recorded, with_lines, written_of}
-pub use Rattle.activations.specs.Serves.{AreTouched, IsFetched, IsToServe, attempt_in, counted_with, lines_with}
-pub use Rattle.activations.specs.Serving.{AreGranted, AreLowered, AreSet, Goes, IsContested, IsFree, ComesToEnd, WereRefused, asking, authority_given, authority_to_read, instruction_in, is_lowered, locked, pages_lowered, with_entries}
-pub use Rattle.activations.specs.Steps.{AreAsCommitted, AreWritten, Commits, GoesOn, HasExecuted, IsMoved, RollsBack, Strides, WereSettled, WereUndone, counted, executed, is_of, rolled, vacated, with_pool, wrote}
-pub use Rattle.activations.specs.Striding.{RunsAt, StrodeTo, with_live}
+pub use Rattle.activations.specs.Serving.{AreTouched, IsFetched, IsToServe, attempt_in, counted_with, lines_with, AreGranted, AreLowered, AreSet, Goes, IsContested, IsFree, ComesToEnd, WereRefused, asking, authority_given, authority_to_read, instruction_in, is_lowered, locked, pages_lowered, with_entries}
 pub use Rattle.activations.specs.Touched.{AreLetBut, AreWanted, IsApart, each_refused, is_granted, lines_between, page_if, pages_picked, pages_refused, pages_wanted, refuses_want, stores_into, wants_of, with_whole_page}
-pub use Rattle.activations.specs.Turning.{Contests, HasBroken, HasEnded, IsContestEnd, tally_counts}
-pub use Rattle.activations.specs.Turns.{AreTurns, ComesBack, IsAtCommit, IsStep, IsTurning, MayBeShut, commit_call, selected_in, turn_in}
 pub use Rattle.activations.specs.View.{activity_of}
 pub use Rattle.activations.specs.declared.live.Live.{Live}
 pub use Rattle.activations.specs.declared.tally.Tally.{Tally}
 pub use Rattle.activations.specs.declared.touch.Touch.{Touch}
-pub use Rattle.activations.specs.Stages.{EndsByDisk, EndsContest, EndsRows, Fetches, HasFetched, KeepsAll, KeepsSound}
+pub use Rattle.activations.specs.Stages.{EndsByDisk, EndsContest, EndsRows, Fetches, HasFetched, KeepsAll, KeepsSound, EndsServing, IsCheckCode, IsNoLimit}
 pub use Rattle.frame_pool.proofs.ApartLemmas.{differs, has-remove_other, turned}
 pub use Rattle.store.proofs.WriteLemmas.{asks_only}
 pub use Rattle.std.proofs.lemmas.Simd.{map-map}
+pub use Rattle.flat_machine.specs.Agreement.{SameWay, all_of}
+pub use Rattle.flat_machine.specs.Plans.{Plan, Does, Fails}
+pub use Rattle.flat_machine.specs.declared.machine.Located.{Located}
+pub use Rattle.flat_machine.specs.declared.machine.Located.TheVariants.{Refused, Private, Shared}

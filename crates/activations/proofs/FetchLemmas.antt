@@ -1,7 +1,238 @@
--- Pages of a touch that came in, one after the other, or that broke off.
-use Rattle.activations.proofs.Common.{◌≡◌, refl, ℕ, ◌+◌, ◌<◌, ◌≤◌, ◌==◌, ◌||◌, if◌then◌else◌, Bool, true, false, List, [], ◌∷◌, Option, Some, None, option_to_list, Result, Ok, Err, IsErrAnd, OnErr, OnOk, arith, ap, sym, ◌∙◌, inl, inr, eqb-true, eq-eqb, ne_eqb, or_cases, brought, has, has_right, Pool, Layout, Ghosts, OnlyAsks, FewerLater, KeptStore, IsClean, Word, Fine, ReadFailed, Fetching, Fetched, Broken, can't_be_read, fetches, Activity, IsStoreOf, IsIn, IsUnread, IsBrokenOff, IsFetched, IsMoved, Touch, Want, pages_wanted, wants_of, subst, nat_tests, KeepsStore, Fetches, HasFetched}
-use Rattle.activations.proofs.BringLemmas.{store-on, keeps-then, moved-then}
-use Rattle.activations.proofs.PoolLemmas.{brought-one, brought-first, brought-second}
+-- Pages of a touch that come in from the store on the disk, one after the other, or that break off.
+use Rattle.activations.proofs.Common.{asks_none, length-replicate, replicate, ◌⊎◌, inr, inl, not-true, or_parts, option_map_or, arith, ap, sym, ◌∙◌, subst, ltb-false, PageSize, Layout, byte_count, page_count, page_bytes, byte_count-lines, brought, has, has_left, overlaid, Ghosts, OnlyAsks, FewerLater, held_of, Standing, Stands, NotAStore, Damaged, stands, KeptStore, Pool, pool_of, private_frames, line_place, reach_of, IsClean, private_bytes, Fits, Keeps, filled, page_in, frame-high, unit-sound, sound-fits, laid-bytes, room-stays, emptied-stays, IsStoreOf, IsIn, IsMoved, ◌≡◌, refl, ℕ, ◌+◌, ◌-◌, ◌*◌, ◌<◌, ◌≤◌, ◌==◌, ◌++◌, not, nat_lt, if◌then◌else◌, Bool, true, false, List, [], ◌∷◌, length, take, drop, fold, remove, position, unwrap_or, slice_index, Option, Some, None, option_to_list, Result, Ok, Err, OnOk, OnErr, take-append-le, take-take, length-append, length-take, Brought, frame_at, marks_at, with_bytes, emptied, line_laid, line_kept, has-remove_other, turned, KeepsStore, ◌||◌, IsErrAnd, eqb-true, eq-eqb, ne_eqb, or_cases, has_right, Word, Fine, ReadFailed, Fetching, Fetched, Broken, can't_be_read, fetches, Activity, IsUnread, IsBrokenOff, Touch, Want, pages_wanted, wants_of, nat_tests, Fetches, HasFetched}
+use Rattle.std.proofs.lemmas.List.Quantifiers.{position-Some}
+use Rattle.store_format.proofs.Fronts.{shorter_front, later_front}
+use Rattle.store_format.proofs.Stores.{stands_is}
+use Rattle.store.proofs.Newest.{store_agrees}
+use Rattle.store.specs.Shows.{Shows}
+use Rattle.store.proofs.ShowLemmas.{sure_on, shown_store}
+use Rattle.frame_pool.specs.declared.pages.StorePages.{StorePages}
+use Rattle.frame_pool.specs.Places.{index_out}
+use Rattle.frame_pool.specs.PlacesView.{places_of}
+use Rattle.frame_pool.proofs.PlaceLemmas.{none-room}
+use Rattle.storage_unit.specs.declared.unit.Unit.{Unit}
+use Rattle.storage_unit.specs.Incoming.{IsFilled, IsKept, HasGoneOut}
+use Rattle.storage_unit.proofs.BringKeeps.{bring-keeps, page_in-long}
+use Rattle.storage_unit.proofs.FailedBringKeeps.{failed-bring-keeps}
+use Rattle.store.specs.Shows as restart
+use Rattle.activations.proofs.PoolLemmas.{private-all, brought-one, brought-first, brought-second}
+
+-- a store stays open, with the same bytes, while the disk is only asked
+pub store-on : {W : Type 0} (G : Ghosts W) (fewer_later : FewerLater G) (store : KeptStore) (old new : W) (committed : List ℕ) → OnlyAsks G old new
+    → IsStoreOf G store old committed → IsStoreOf G store new committed
+store-on G fewer_later store old new committed asks is = record {
+  tracks = record {
+    sure = sure_on G fewer_later old new is.tracks.sure asks;
+    shows = subst (λ (those : Option (List ℕ)). Shows (unwrap_or those []) store) (sym asks.held) is.tracks.shows;
+  };
+  number = is.number;
+  stood = ap (λ (those : Option (List ℕ)). stands (unwrap_or those [])) asks.held ∙ is.stood;
+}
+
+-- the bytes of what stands
+abbrev bytes_in : Standing → List ℕ
+bytes_in (Stands number store) = store.bytes
+bytes_in (NotAStore offset) = []
+bytes_in (Damaged offset) = []
+
+-- what is committed in an open store is as long as its directory says
+pub committed-long : {W : Type 0} (G : Ghosts W) (store : KeptStore) (outside : W) (committed : List ℕ) → IsStoreOf G store outside committed
+    → length committed ≡ byte_count store.header.directory
+committed-long G store outside committed is =
+    let stored = shown_store (held_of G outside) store is.tracks.shows in
+    let agree = store_agrees (held_of G outside) store.header store.bank.which store.bank.base store.bank.gate is.tracks.shows.read.records stored in
+    ap (λ (standing : Standing). length (bytes_in standing))
+    (sym is.stood ∙ stands_is (held_of G outside) store.header store.bank.which store.bank.base store.bank.gate is.tracks.shows.read.records stored)
+    ∙ agree.long ∙ sym (byte_count-lines store.header.directory)
+
+-- a page that is read is that part of what is committed
+pub page-read : (standing : Standing) (number : ℕ) (directory : Layout) (committed : List ℕ) (page : ℕ) → standing ≡ Stands number (record { directory = directory; bytes = committed })
+    → restart.page_in standing page ≡ page_in directory committed page
+page-read standing number directory committed page stood =
+    let rest : page_bytes directory.page ≡ page * page_bytes directory.page + page_bytes directory.page - page * page_bytes directory.page = omega arith in
+    ap (λ (s : Standing). restart.page_in s page) stood
+    ∙ ap (λ (n : ℕ). take n (drop (page * page_bytes directory.page) committed)) rest
+
+-- bytes in front of a part that is written over stay
+front-over : (xs : List ℕ) (at : ℕ) (part : List ℕ) (low : ℕ) → low ≤ at → low ≤ length xs → (take low (overlaid xs at part) ≡ take low xs) × (low ≤ length (overlaid xs at part))
+front-over xs at part low before inside =
+    let long : low ≤ length (take at xs) = omega (arith, length-take at xs, inside, before) in (
+      take-append-le low (take at xs ++ part) (drop (at + length part) xs) (omega (arith, long, length-append (take at xs) part))
+          ∙ take-append-le low (take at xs) part long ∙ take-take low at xs before,
+      omega (arith, long, length-append (take at xs) part, length-append (take at xs ++ part) (drop (at + length part) xs)),
+    )
+
+-- kept lines that are laid over a frame leave the bytes in front of it
+front-laid : (page frame low : ℕ) (lines : List ℕ) (pool : Pool) → low ≤ frame * page_bytes pool.page → low ≤ length pool.bytes
+    → take low (fold (line_laid page frame) pool lines).bytes ≡ take low pool.bytes
+front-laid page frame low [] pool before inside = refl
+front-laid page frame low (line ∷ lines) pool before inside =
+    let one = front-over pool.bytes (line_place pool.page frame line) (line_kept pool page line) low (omega (arith, before)) inside in
+    front-laid page frame low lines (line_laid page frame pool line) before one.1 ∙ one.0
+
+-- The pool once a page came into a frame that was filled with these bytes, and its kept lines lie over them.
+module _ (directory : Layout) (old new : Pool) (page : ℕ) (keep : Option ℕ) (frame : ℕ) (bytes : List ℕ)
+    (fits : Fits directory old) (also : Fits directory new) (came : Brought old new page keep frame) where
+  abbrev read : Pool
+  read = with_bytes new (frame * page_bytes new.page) bytes
+
+  -- the first bytes are private
+  all-private : 262144 ≤ length new.bytes
+  all-private = private-all new.page new.frames (length new.bytes) also.seen.bytes
+
+  behind : (other : ℕ) → private_frames new.page ≤ other → 262144 ≤ other * page_bytes new.page
+  behind other above = frame-high new.page other above
+
+  front-read : (take 262144 read.bytes ≡ take 262144 new.bytes) × (262144 ≤ length read.bytes)
+  front-read = front-over new.bytes (frame * page_bytes new.page) bytes 262144 (behind frame (subst (λ (s : PageSize). private_frames s ≤ frame) (fits.size ∙ sym also.size) came.above)) all-private
+
+  front-filled : take 262144 (filled new page frame bytes).bytes ≡ take 262144 read.bytes
+  front-filled = by_frame (frame_at new page) refl
+    where
+      by_frame : (o : Option ℕ) → frame_at new page ≡ o
+          → take 262144 (option_map_or (λ f. fold (line_laid page f) read (marks_at new page)) o read).bytes ≡ take 262144 read.bytes
+      by_frame None is = refl
+      by_frame (Some other) is = front-laid page other 262144 (marks_at new page) read (behind other (also.seen.above page other (also.seen.there page other is))) front-read.1
+
+  pub moved-filled : IsMoved old (filled new page frame bytes)
+  moved-filled =
+      let stays = (room-stays old keep fits.seen).1 in let is = laid-bytes read page in
+      record {
+        marked = ap (λ (pool : Pool). pool.marked) is ∙ ap (λ (pool : Pool). pool.marked) came.rest ∙ stays.marked;
+        private = λ seat few.
+            let count : ℕ = seat * 16384 + 16384 - seat * 16384 in
+            later_front (seat * 16384) count (filled new page frame bytes).bytes old.bytes
+            (shorter_front (seat * 16384 + count) 262144 (filled new page frame bytes).bytes old.bytes
+            (front-filled ∙ front-read.0 ∙ ap (λ (pool : Pool). take 262144 pool.bytes) came.rest ∙ ap (λ (these : List ℕ). take 262144 these) stays.bytes) (omega (arith, few)));
+        size = ap (λ (pool : Pool). pool.page) is ∙ ap (λ (pool : Pool). pool.page) came.rest ∙ stays.page;
+        frames = ap (λ (pool : Pool). pool.frames) is ∙ ap (λ (pool : Pool). pool.frames) came.rest ∙ stays.frames;
+      }
+
+-- pages that all go out
+pub moved-emptied : (old pool : Pool) → IsMoved old pool → IsMoved old (emptied pool)
+moved-emptied old pool moved =
+    let stays = emptied-stays pool in
+    record {
+      marked = stays.marked ∙ moved.marked;
+      private = λ seat few. ap (λ (bytes : List ℕ). private_bytes (record pool { bytes = bytes }) seat) stays.bytes ∙ moved.private seat few;
+      size = stays.page ∙ moved.size;
+      frames = stays.frames ∙ moved.frames;
+    }
+
+-- pages that move twice
+pub moved-then : (old mid new : Pool) → IsMoved old mid → IsMoved mid new → IsMoved old new
+moved-then old mid new first second = record {
+  marked = second.marked ∙ first.marked;
+  private = λ seat few. second.private seat few ∙ first.private seat few;
+  size = second.size ∙ first.size;
+  frames = second.frames ∙ first.frames;
+}
+
+-- a page that is to stay, stays: of at least two frames another can be had
+pub keeps-other : (p : StorePages) (other page : ℕ) → has p.resident.items other ≡ true → has (brought p.frames (other ∷ []) p.resident.items page) other ≡ true
+keeps-other p other page inside = by_room (nat_lt (length p.resident.items) p.frames) refl
+  where
+    by_room : (room : Bool) → nat_lt (length p.resident.items) p.frames ≡ room
+        → has ((if room then p.resident.items else remove p.resident.items (unwrap_or (position (λ x. not (has (other ∷ []) x)) p.resident.items) 0)) ++ page ∷ []) other ≡ true
+    by_room true e = has_left p.resident.items (page ∷ []) other inside
+    by_room false e = by_place (position (λ x. not (has (other ∷ []) x)) p.resident.items) refl
+      where
+        out : index_out (places_of p) (Some other) ≡ position (λ x. not (has (other ∷ []) x)) p.resident.items
+        out = ap (λ (room : Bool). if room then None else position (λ x. not (has (other ∷ []) x)) p.resident.items) e
+
+        by_place : (place : Option ℕ) → position (λ x. not (has (other ∷ []) x)) p.resident.items ≡ place → has (remove p.resident.items (unwrap_or place 0) ++ page ∷ []) other ≡ true
+        by_place None is = absurd (omega (arith, none-room p (Some other) (out ∙ is), ltb-false (length p.resident.items) p.frames e, p.resident.ok.0))
+        by_place (Some at) is = has_left (remove p.resident.items at) (page ∷ []) other
+            (has-remove_other p.resident.items at other (apart (slice_index p.resident.items at) (position-Some (λ x. not (has (other ∷ []) x)) p.resident.items at 0 is).1) ∙ inside)
+          where
+            apart : (x : ℕ) → not (has (other ∷ []) x) ≡ true → (x == other) ≡ false
+            apart x is = turned other x (or_parts (other == x) false (not-true _ is)).0
+
+-- a page that wasn't resident has come in and is counted
+pub came-in : (unit now : Unit) (page : ℕ) (keep : Option ℕ) (counted : ℕ) → has unit.pool.places.resident.items page ≡ false
+    → now.pool.places.resident.items ≡ brought unit.pool.places.frames (option_to_list keep) unit.pool.places.resident.items page → IsIn (pool_of unit.pool) (pool_of now.pool) page keep counted (counted + 1)
+came-in unit now page keep counted absent came =
+    let places = unit.pool.places in
+    record {
+      resident = came ∙ sym (ap (λ (there : Bool). if there then places.resident.items else brought places.frames (option_to_list keep) places.resident.items page) absent);
+      counted = sym (ap (λ (there : Bool). if there then counted else counted + 1) absent);
+      stays = λ other is inside.
+          ap (λ (these : List ℕ). has these other) came
+          ∙ ap (λ (kept : Option ℕ). has (brought places.frames (option_to_list kept) places.resident.items page) other) is
+          ∙ keeps-other places other page inside;
+    }
+
+pub on-ok : {T E : Type 0} (P Q : Type 0) (result : Result T E) → OnOk result P → (P → Q) → OnOk result Q
+on-ok P Q (Ok value) is leads = leads is
+on-ok P Q (Err fault) is leads = is
+
+-- what follows either way
+pub either-way : {T E : Type 0} (P Q R : Type 0) (result : Result T E) → OnOk result P → OnErr result Q → (P → R) → (Q → R) → R
+either-way P Q R (Ok value) is not leads others = leads is
+either-way P Q R (Err fault) is not leads others = others not
+
+-- A unit into which a page comes.
+module _ (unit : Unit) (page : ℕ) (keep : Option ℕ) where
+  fits_first : Fits unit.directory (reach_of unit).pool
+  fits_first = sound-fits (reach_of unit) (unit-sound unit)
+
+  filled-moved : (bytes : List ℕ) (new : Pool) → IsFilled (reach_of unit) page keep bytes new → IsMoved (reach_of unit).pool new
+  filled-moved bytes new filling = subst (IsMoved (reach_of unit).pool) (sym filling.is) (moved-filled unit.directory (reach_of unit).pool filling.room page keep filling.frame bytes fits_first filling.fits filling.came)
+
+  -- it came in so: these bytes were read, or nothing was asked and each of its lines is kept
+  module _ {W : Type 0} (G : Ghosts W) (store : KeptStore) (old after : W) (new : Pool) where
+    abbrev Came : Type 0
+    Came =
+        ((bytes : List ℕ)
+        × (OnlyAsks G old after × (G.disk_faults after ≡ G.disk_faults old) × (restart.IsShown G store old → bytes ≡ restart.page_in (stands (held_of G old)) page))
+        × IsFilled (reach_of unit) page keep bytes new)
+        ⊎ ((after ≡ old) × IsKept (reach_of unit) page keep new)
+
+    pub came-asked : Came → OnlyAsks G old after × (G.disk_faults after ≡ G.disk_faults old)
+    came-asked (inl (_, asked, _)) = (asked.0, asked.1)
+    came-asked (inr (same, kept)) = (subst (OnlyAsks G old) (sym same) (asks_none G old), ap G.disk_faults same)
+
+    came-filled : Came → (bytes : List ℕ) × IsFilled (reach_of unit) page keep bytes new
+    came-filled (inl (bytes, _, filling)) = (bytes, filling)
+    came-filled (inr (same, kept)) =
+        let size : ℕ = page_bytes unit.directory.page in (replicate size 0, kept.any (replicate size 0) (length-replicate size 0))
+
+    pub came-moved : Came → IsMoved (reach_of unit).pool new
+    came-moved came = let (bytes, filling) = came-filled came in filled-moved bytes new filling
+
+    pub came-resident : Came → new.resident ≡ brought (reach_of unit).pool.frames (option_to_list keep) (reach_of unit).pool.resident page
+    came-resident came = (came-filled came).1.resident
+
+    pub came-keeps : store.header.directory ≡ unit.directory → page < page_count unit.directory → has unit.pool.places.resident.items page ≡ false → Came
+        → KeepsStore G store old unit.directory (reach_of unit).pool new
+    came-keeps same below absent came committed is clean = by_way came
+      where
+        long : length committed ≡ byte_count unit.directory
+        long = committed-long G store old committed is ∙ ap byte_count same
+
+        filled-keeps : (bytes : List ℕ) → bytes ≡ page_in unit.directory committed page → IsFilled (reach_of unit) page keep bytes new → Keeps unit.directory (reach_of unit).pool new committed
+        filled-keeps bytes was filling =
+            subst (λ (pool : Pool). Keeps unit.directory (reach_of unit).pool pool committed)
+            (sym (filling.is ∙ ap (filled filling.room page filling.frame) was))
+            (bring-keeps unit.directory (reach_of unit).pool filling.room committed page keep filling.frame fits_first filling.fits long clean below absent filling.came)
+
+        by_way : Came → Keeps unit.directory (reach_of unit).pool new committed
+        by_way (inl (bytes, asked, filling)) = filled-keeps bytes
+            (asked.2 (record { told = is.tracks.sure.told; shows = is.tracks.shows }) ∙ page-read (stands (held_of G old)) is.number store.header.directory committed page is.stood ∙ ap (λ (d : Layout). page_in d committed page) same)
+            filling
+        by_way (inr (unasked, kept)) = filled-keeps (page_in unit.directory committed page) refl (kept.any (page_in unit.directory committed page) (page_in-long unit.directory committed page long below))
+
+  -- it couldn't be read, and all pages went out
+  module _ (new : Pool) (gone : HasGoneOut (reach_of unit) page keep new) where
+    pub out-moved : IsMoved (reach_of unit).pool new
+    out-moved = subst (IsMoved (reach_of unit).pool) (sym gone.out) (moved-emptied (reach_of unit).pool gone.between (filled-moved gone.bytes gone.between gone.was))
+
+    pub out-keeps : page < page_count unit.directory → has unit.pool.places.resident.items page ≡ false → (committed : List ℕ) → IsClean unit.directory (reach_of unit).pool committed
+        → Keeps unit.directory (reach_of unit).pool new committed
+    out-keeps below absent committed clean =
+        subst (λ (pool : Pool). Keeps unit.directory (reach_of unit).pool pool committed)
+        (sym (gone.out ∙ ap emptied gone.was.is))
+        (failed-bring-keeps unit.directory (reach_of unit).pool gone.was.room committed gone.bytes page keep gone.was.frame fits_first gone.was.fits clean below absent gone.was.came gone.was.long)
 
 -- what a page of several comes to, by whether it is resident and can be read
 abbrev fetched_by : (there fails : Bool) → Word → (frames : ℕ) → (kept pages resident : List ℕ) → (page counted : ℕ) → Fetching
@@ -15,16 +246,16 @@ fetched_by there fails word frames kept pages resident page counted =
 -- A page came in: the others are fetched from there on.
 module _ (old new : Pool) (page : ℕ) (keep : Option ℕ) (before after : ℕ) (came : IsIn old new page keep before after) where
   -- it is there then
-  pub in-there : has new.resident page ≡ true
+  in-there : has new.resident page ≡ true
   in-there = let is = came.resident in grind (arith, nat_tests, is, has_right)
 
-  pub one-there : (other : ℕ) → has (page ∷ []) other ≡ true → has new.resident other ≡ true
+  one-there : (other : ℕ) → has (page ∷ []) other ≡ true → has new.resident other ≡ true
   one-there other inside = grind (arith, nat_tests, in-there)
 
-  pub in-later : before ≤ after
+  in-later : before ≤ after
   in-later = let is = came.counted in grind (arith, is)
 
-  pub in-fetched : (word : Word) (kept pages : List ℕ) → (has old.resident page ≡ false → brought old.frames (option_to_list keep) old.resident page ≡ brought old.frames kept old.resident page)
+  in-fetched : (word : Word) (kept pages : List ℕ) → (has old.resident page ≡ false → brought old.frames (option_to_list keep) old.resident page ≡ brought old.frames kept old.resident page)
       → (has old.resident page ≡ false → can't_be_read word (before + 1) ≡ false)
       → fetches word old.frames kept (page ∷ pages) old.resident before ≡ fetches word old.frames kept pages new.resident after
   in-fetched word kept pages same reads = by_there (has old.resident page) refl came.resident came.counted
@@ -37,36 +268,23 @@ module _ (old new : Pool) (page : ℕ) (keep : Option ℕ) (before after : ℕ) 
           ∙ (λ i. fetches word old.frames kept pages (sym (is ∙ same e) i) (sym counted i))
 
 -- A page couldn't be read.
-pub unread-later : (old new : Pool) (page before after : ℕ) → IsUnread old new page before after → before < after
-unread-later old new page before after unread = omega (arith, unread.counted)
-
-pub unread-broken : (old new : Pool) (page before after : ℕ) (kept pages : List ℕ) → IsUnread old new page before after
+unread-broken : (old new : Pool) (page before after : ℕ) (kept pages : List ℕ) → IsUnread old new page before after
     → fetches (ReadFailed after) old.frames kept (page ∷ pages) old.resident before ≡ Broken after
 unread-broken old new page before after kept pages unread =
     ap (λ (there : Bool). fetched_by there (can't_be_read (ReadFailed after) (before + 1)) (ReadFailed after) old.frames kept pages old.resident page before) unread.absent
     ∙ ap (λ (fails : Bool). fetched_by false fails (ReadFailed after) old.frames kept pages old.resident page before) (eq-eqb after (before + 1) unread.counted)
     ∙ ap Broken (sym unread.counted)
 
-pub both-later : (old mid : Pool) (first : ℕ) (keep : Option ℕ) (before between : ℕ) → IsIn old mid first keep before between → (new : Pool) (second after : ℕ) → IsUnread mid new second between after → before < after
-both-later old mid first keep before between came new second after unread = omega (arith, in-later old mid first keep before between came, unread.counted)
-
--- One page.
-pub one-in : (old new : Pool) (page before after : ℕ) → IsIn old new page None before after → fetches Fine old.frames (page ∷ []) (page ∷ []) old.resident before ≡ Fetched new.resident after
-one-in old new page before after came = in-fetched old new page None before after came Fine (page ∷ []) [] (brought-one old.frames page old.resident) (λ out. refl)
-
-pub one-unread : (old new : Pool) (page before after : ℕ) → IsUnread old new page before after → fetches (ReadFailed after) old.frames (page ∷ []) (page ∷ []) old.resident before ≡ Broken after
-one-unread old new page before after unread = unread-broken old new page before after (page ∷ []) [] unread
-
 -- Two pages, of which each stays while the other comes in.
 module _ (old mid : Pool) (first second before between : ℕ) (came : IsIn old mid first (Some second) before between) (frames : mid.frames ≡ old.frames) where
-  pub two-in : (new : Pool) (after : ℕ) → IsIn mid new second (Some first) between after
+  two-in : (new : Pool) (after : ℕ) → IsIn mid new second (Some first) between after
       → fetches Fine old.frames (first ∷ second ∷ []) (first ∷ second ∷ []) old.resident before ≡ Fetched new.resident after
   two-in new after later =
       in-fetched old mid first (Some second) before between came Fine (first ∷ second ∷ []) (second ∷ []) (brought-first old.frames first second old.resident) (λ out. refl)
       ∙ ap (λ (n : ℕ). fetches Fine n (first ∷ second ∷ []) (second ∷ []) mid.resident between) (sym frames)
       ∙ in-fetched mid new second (Some first) between after later Fine (first ∷ second ∷ []) [] (brought-second mid.frames second first mid.resident) (λ out. refl)
 
-  pub two-unread : (new : Pool) (after : ℕ) → IsUnread mid new second between after
+  two-unread : (new : Pool) (after : ℕ) → IsUnread mid new second between after
       → fetches (ReadFailed after) old.frames (first ∷ second ∷ []) (first ∷ second ∷ []) old.resident before ≡ Broken after
   two-unread new after unread =
       in-fetched old mid first (Some second) before between came (ReadFailed after) (first ∷ second ∷ []) (second ∷ []) (brought-first old.frames first second old.resident)
@@ -75,41 +293,39 @@ module _ (old mid : Pool) (first second before between : ℕ) (came : IsIn old m
       ∙ unread-broken mid new second between after (first ∷ second ∷ []) [] unread
 
   -- both are resident then
-  pub both-there : (new : Pool) (after : ℕ) → IsIn mid new second (Some first) between after
+  both-there : (new : Pool) (after : ℕ) → IsIn mid new second (Some first) between after
       → (page : ℕ) → has (first ∷ second ∷ []) page ≡ true → has new.resident page ≡ true
   both-there new after later page inside = elim (or_cases (first == page) (second == page || false) inside) [
     | inl here ↦ ap (has new.resident) (sym (eqb-true first page here)) ∙ later.stays first refl (in-there old mid first (Some second) before between came)
     | inr rest ↦ one-there mid new second (Some first) between after later page rest
   ]
 
--- A touch over what runs, whose frames came to another pool.
+-- Over what runs, whose frames came to another pool, pages came in, or broke off.
 module _ {W : Type 0} (G : Ghosts W) (store : KeptStore) (outside : W) (a : Activity) (pages : List ℕ) (before after : ℕ) (new : Pool) (moved : IsMoved a.reach.pool new)
     (keeps : KeepsStore G store outside a.reach.directory a.reach.pool new) where
-  -- what came in
-  pub is-fetched : fetches Fine a.reach.pool.frames pages pages a.reach.pool.resident before ≡ Fetched new.resident after
-      → (committed : List ℕ) (order : List (ℕ × ℕ)) → IsStoreOf G store outside committed → IsClean a.reach.directory a.reach.pool committed → IsFetched a committed order pages before new after
-  is-fetched fetched committed order is clean = record { moved = moved; keeps = keeps committed is clean; fetched = fetched }
+  is-fetched : ((page : ℕ) → has pages page ≡ true → has new.resident page ≡ true)
+      → fetches Fine a.reach.pool.frames pages pages a.reach.pool.resident before ≡ Fetched new.resident after → HasFetched G store outside a pages before new after
+  is-fetched there fetched = record { moved = moved; resident = there; fetched = λ committed order is clean. record { moved = moved; keeps = keeps committed is clean; fetched = fetched } }
 
-  -- or broke off
-  pub is-broken : new.resident ≡ [] → before < after → fetches (ReadFailed after) a.reach.pool.frames pages pages a.reach.pool.resident before ≡ Broken after
+  is-broken : new.resident ≡ [] → before < after → fetches (ReadFailed after) a.reach.pool.frames pages pages a.reach.pool.resident before ≡ Broken after
       → (committed : List ℕ) (order : List (ℕ × ℕ)) → IsStoreOf G store outside committed → IsClean a.reach.directory a.reach.pool committed → IsBrokenOff a committed order pages before new after
   is-broken none counted broken committed order is clean = record { moved = moved; keeps = keeps committed is clean; none = none; counted = counted; broken = broken }
 
 -- no page
-pub none-fetched : (a : Activity) (pages : List ℕ) (before : ℕ) → pages ≡ [] → (committed : List ℕ) (order : List (ℕ × ℕ)) → IsClean a.reach.directory a.reach.pool committed
-    → IsFetched a committed order pages before a.reach.pool before
-none-fetched a pages before is committed order clean = record {
-  moved = record { marked = refl; private = λ seat few. refl; size = refl; frames = refl };
-  keeps = record { same = refl; clean = clean };
-  fetched = ap (λ (these : List ℕ). fetches Fine a.reach.pool.frames these these a.reach.pool.resident before) is;
-}
+pub none-fetched : {W : Type 0} (G : Ghosts W) (store : KeptStore) (outside : W) (a : Activity) (touch : Touch) (before : ℕ) → touch ≡ Touch.Nothing
+    → HasFetched G store outside a (pages_wanted (wants_of touch)) before a.reach.pool before
+none-fetched G store outside a touch before is =
+    subst (λ (t : Touch). HasFetched G store outside a (pages_wanted (wants_of t)) before a.reach.pool before) (sym is)
+    (is-fetched G store outside a [] before before a.reach.pool (record { marked = refl; private = λ seat few. refl; size = refl; frames = refl }) (λ committed is clean. record { same = refl; clean = clean })
+    (λ page inside. absurd (cc (inside))) refl)
 
 -- pages of two steps keep what all see
 pub keeps-both : {W : Type 0} (G : Ghosts W) (fewer_later : FewerLater G) (store : KeptStore) (outside between : W) (directory : Layout) (old mid new : Pool) → OnlyAsks G outside between
     → KeepsStore G store outside directory old mid → KeepsStore G store between directory mid new → KeepsStore G store outside directory old new
 keeps-both G fewer_later store outside between directory old mid new asks first second committed is clean =
     let one = first committed is clean in
-    keeps-then directory old mid new committed one (second committed (store-on G fewer_later store outside between committed asks is) one.clean)
+    let two = second committed (store-on G fewer_later store outside between committed asks is) one.clean in
+    record { same = two.same ∙ one.same; clean = two.clean }
 
 pub fetch-fails : {T E W : Type 0} (result : Result T E) (failed : E) → IsErrAnd result (λ told. told ≡ failed) → (G : Ghosts W) (store : KeptStore) (outside : W) (a : Activity) (pages : List ℕ) (before : ℕ) (new : Pool) (after : ℕ)
     → Fetches {T = T} (Err failed) G store outside a pages before new after → Fetches result G store outside a pages before new after
@@ -121,72 +337,45 @@ if-err P Q (Ok value) is leads = is
 if-err P Q (Err fault) is leads = leads is
 
 -- A touch of one page.
-module _ {W : Type 0} (G : Ghosts W) (store : KeptStore) (outside : W) (a : Activity) (new : Pool) (touch : Touch) (only : Want) (is : touch ≡ Touch.One only) (before after : ℕ)
-    (moved : IsMoved a.reach.pool new) (keeps : KeepsStore G store outside a.reach.directory a.reach.pool new) where
-  pages-one : pages_wanted (wants_of touch) ≡ only.page ∷ []
-  pages-one = ap (λ (t : Touch). pages_wanted (wants_of t)) is
+one-comes : {T E W : Type 0} (G : Ghosts W) (store : KeptStore) (outside : W) (a : Activity) (new : Pool) (page before after : ℕ) → IsMoved a.reach.pool new → KeepsStore G store outside a.reach.directory a.reach.pool new
+    → (result : Result T E) → OnOk result (IsIn a.reach.pool new page None before after) → OnErr result (IsUnread a.reach.pool new page before after) → Fetches result G store outside a (page ∷ []) before new after
+one-comes G store outside a new page before after moved keeps (Ok it) came not =
+    is-fetched G store outside a (page ∷ []) before after new moved keeps (one-there a.reach.pool new page None before after came)
+    (in-fetched a.reach.pool new page None before after came Fine (page ∷ []) [] (brought-one a.reach.pool.frames page a.reach.pool.resident) (λ out. refl))
+one-comes G store outside a new page before after moved keeps (Err failed) came not =
+    is-broken G store outside a (page ∷ []) before after new moved keeps not.none (omega (arith, not.counted)) (unread-broken a.reach.pool new page before after (page ∷ []) [] not)
 
-  one-fetched : IsIn a.reach.pool new only.page None before after → HasFetched G store outside a (pages_wanted (wants_of touch)) before new after
-  one-fetched came = record {
-    moved = moved;
-    resident = λ page inside. one-there a.reach.pool new only.page None before after came page (ap (λ (these : List ℕ). has these page) (sym pages-one) ∙ inside);
-    fetched =
-        is-fetched G store outside a (pages_wanted (wants_of touch)) before after new moved keeps
-        (subst (λ (these : List ℕ). fetches Fine a.reach.pool.frames these these a.reach.pool.resident before ≡ Fetched new.resident after) (sym pages-one) (one-in a.reach.pool new only.page before after came));
-  }
-
-  one-broken : IsUnread a.reach.pool new only.page before after
-      → (committed : List ℕ) (order : List (ℕ × ℕ)) → IsStoreOf G store outside committed → IsClean a.reach.directory a.reach.pool committed → IsBrokenOff a committed order (pages_wanted (wants_of touch)) before new after
-  one-broken unread =
-      is-broken G store outside a (pages_wanted (wants_of touch)) before after new moved keeps unread.none (unread-later a.reach.pool new only.page before after unread)
-      (subst (λ (these : List ℕ). fetches (ReadFailed after) a.reach.pool.frames these these a.reach.pool.resident before ≡ Broken after) (sym pages-one) (one-unread a.reach.pool new only.page before after unread))
-
-  pub one-fetches : {T E : Type 0} (result : Result T E) → OnOk result (IsIn a.reach.pool new only.page None before after) → OnErr result (IsUnread a.reach.pool new only.page before after)
-      → Fetches result G store outside a (pages_wanted (wants_of touch)) before new after
-  one-fetches (Ok it) came not = one-fetched came
-  one-fetches (Err failed) came not = one-broken not
+pub one-fetches : {T E W : Type 0} (G : Ghosts W) (store : KeptStore) (outside : W) (a : Activity) (new : Pool) (touch : Touch) (only : Want) → touch ≡ Touch.One only → (before after : ℕ)
+    → IsMoved a.reach.pool new → KeepsStore G store outside a.reach.directory a.reach.pool new → (result : Result T E) → OnOk result (IsIn a.reach.pool new only.page None before after)
+    → OnErr result (IsUnread a.reach.pool new only.page before after) → Fetches result G store outside a (pages_wanted (wants_of touch)) before new after
+one-fetches G store outside a new touch only is before after moved keeps result came not =
+    subst (λ (t : Touch). Fetches result G store outside a (pages_wanted (wants_of t)) before new after) (sym is) (one-comes G store outside a new only.page before after moved keeps result came not)
 
 -- And of two, the first of which came to a pool.
 module _ {W : Type 0} (G : Ghosts W) (store : KeptStore) (outside : W) (a : Activity) (mid : Pool) (touch : Touch) (first second : Want) (is : touch ≡ Touch.Two first second) (before between : ℕ)
     (moved : IsMoved a.reach.pool mid) (keeps : KeepsStore G store outside a.reach.directory a.reach.pool mid) where
-  pages-two : pages_wanted (wants_of touch) ≡ first.page ∷ second.page ∷ []
-  pages-two = ap (λ (t : Touch). pages_wanted (wants_of t)) is
-
   pub first-broken : IsUnread a.reach.pool mid first.page before between
       → (committed : List ℕ) (order : List (ℕ × ℕ)) → IsStoreOf G store outside committed → IsClean a.reach.directory a.reach.pool committed → IsBrokenOff a committed order (pages_wanted (wants_of touch)) before mid between
-  first-broken unread =
-      is-broken G store outside a (pages_wanted (wants_of touch)) before between mid moved keeps unread.none (unread-later a.reach.pool mid first.page before between unread)
-      (subst (λ (these : List ℕ). fetches (ReadFailed between) a.reach.pool.frames these these a.reach.pool.resident before ≡ Broken between) (sym pages-two)
-      (unread-broken a.reach.pool mid first.page before between (first.page ∷ second.page ∷ []) (second.page ∷ []) unread))
+  first-broken unread committed order is_store clean =
+      subst (λ (t : Touch). IsBrokenOff a committed order (pages_wanted (wants_of t)) before mid between) (sym is)
+      (is-broken G store outside a (first.page ∷ second.page ∷ []) before between mid moved keeps unread.none (omega (arith, unread.counted))
+      (unread-broken a.reach.pool mid first.page before between (first.page ∷ second.page ∷ []) (second.page ∷ []) unread) committed order is_store clean)
 
   -- then the second
   module _ (fewer_later : FewerLater G) (later : W) (asks : OnlyAsks G outside later) (came : IsIn a.reach.pool mid first.page (Some second.page) before between) (directory : Layout) (same : directory ≡ a.reach.directory)
       (new : Pool) (after : ℕ) (also : IsMoved mid new) (still : KeepsStore G store later directory mid new) where
-    both-moved : IsMoved a.reach.pool new
-    both-moved = moved-then a.reach.pool mid new moved also
-
     both-keep : KeepsStore G store outside a.reach.directory a.reach.pool new
     both-keep = keeps-both G fewer_later store outside later a.reach.directory a.reach.pool mid new asks keeps (subst (λ (d : Layout). KeepsStore G store later d mid new) same still)
 
-    two-fetched : IsIn mid new second.page (Some first.page) between after → HasFetched G store outside a (pages_wanted (wants_of touch)) before new after
-    two-fetched came_then = record {
-      moved = both-moved;
-      resident = λ page inside. both-there a.reach.pool mid first.page second.page before between came moved.frames new after came_then page (ap (λ (these : List ℕ). has these page) (sym pages-two) ∙ inside);
-      fetched =
-          is-fetched G store outside a (pages_wanted (wants_of touch)) before after new both-moved both-keep
-          (subst (λ (these : List ℕ). fetches Fine a.reach.pool.frames these these a.reach.pool.resident before ≡ Fetched new.resident after) (sym pages-two)
-          (two-in a.reach.pool mid first.page second.page before between came moved.frames new after came_then));
-    }
-
-    two-broken : IsUnread mid new second.page between after
-        → (committed : List ℕ) (order : List (ℕ × ℕ)) → IsStoreOf G store outside committed → IsClean a.reach.directory a.reach.pool committed → IsBrokenOff a committed order (pages_wanted (wants_of touch)) before new after
-    two-broken unread =
-        is-broken G store outside a (pages_wanted (wants_of touch)) before after new both-moved both-keep
-        unread.none (both-later a.reach.pool mid first.page (Some second.page) before between came new second.page after unread)
-        (subst (λ (these : List ℕ). fetches (ReadFailed after) a.reach.pool.frames these these a.reach.pool.resident before ≡ Broken after) (sym pages-two)
-        (two-unread a.reach.pool mid first.page second.page before between came moved.frames new after unread))
+    two-come : {T E : Type 0} (result : Result T E) → OnOk result (IsIn mid new second.page (Some first.page) between after) → OnErr result (IsUnread mid new second.page between after)
+        → Fetches result G store outside a (first.page ∷ second.page ∷ []) before new after
+    two-come (Ok it) came_then not =
+        is-fetched G store outside a (first.page ∷ second.page ∷ []) before after new (moved-then a.reach.pool mid new moved also) both-keep
+        (both-there a.reach.pool mid first.page second.page before between came moved.frames new after came_then) (two-in a.reach.pool mid first.page second.page before between came moved.frames new after came_then)
+    two-come (Err failed) came_then not =
+        is-broken G store outside a (first.page ∷ second.page ∷ []) before after new (moved-then a.reach.pool mid new moved also) both-keep not.none
+        (omega (arith, in-later a.reach.pool mid first.page (Some second.page) before between came, not.counted)) (two-unread a.reach.pool mid first.page second.page before between came moved.frames new after not)
 
     pub two-fetch : {T E : Type 0} (result : Result T E) → OnOk result (IsIn mid new second.page (Some first.page) between after) → OnErr result (IsUnread mid new second.page between after)
         → Fetches result G store outside a (pages_wanted (wants_of touch)) before new after
-    two-fetch (Ok it) came_then not = two-fetched came_then
-    two-fetch (Err failed) came_then not = two-broken not
+    two-fetch result came_then not = subst (λ (t : Touch). Fetches result G store outside a (pages_wanted (wants_of t)) before new after) (sym is) (two-come result came_then not)

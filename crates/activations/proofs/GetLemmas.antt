@@ -1,16 +1,63 @@
--- What is asked for is got: the pages come in once more, and the row is served; or one can't be read.
-use Rattle.activations.proofs.Common.{false_from_ne_true, ◌≡◌, refl, ℕ, ◌+◌, ◌<◌, ◌%◌, ◌==◌, if◌then◌else◌, not, Bool, true, false, List, [], ◌∷◌, ◌++◌, filter, length, map, slice_index_or, Result, Ok, Err, OnOk, IfErr, list_any, arith, ap, sym, ◌∙◌, subst, inl, inr, set-set, both_ways, eqb-true, ne_eqb, or_cases, or_left, nat_tests, All-head, All-tail, is_fine_page, FlatStore, has, Lines, both, page_of_line, pages_of, with_whole_pages, taken_out, has-append, has_right, Want, lines_wanted, AreWithin, with_wants, no_lines_of, of_seat, Authority, Plain, On, Pool, Ghosts, KeptStore, TurnEnd, Desk, Entry, rolled_back, wanted, Word, ReadFailed, Fine, Counts, Attempt, Turning, Over, Disk, Fetched, Broken, fetches, goes_on, locks_with, touched_pages, with_grants, AreAlike, owners_told, gone_on, IsAmong, AreConsistent, due_to, IsOrderly, granted-rolled, new-among, one-entry, replaced, replaced-among, due-more, grants-held, row-goes-on, touched_of, seat-told, resident-consistent, any-among, Seating, sitter, left, IsClean, is_line_marked, Touch, Activity, entry_in, entries, store_over, desk_over, authority_told, number_under, authority_under, locks_in, HasUndone, IsBrokenOff, IsStoreOf, HasBrokenOff, IsSound, IsKept, IsServed, Serves, IsFetched, AreGranted, IsFree, locked, with_entries, KeepsParts, rolled, with_pool, wrote, AreWanted, page_if, pages_picked, pages_wanted, wants_of, with_whole_page, HasBroken, HasEnded, HasFetched, Grant, nobody}
-use Rattle.flat_machine.specs.Agreement.{all_of}
+-- What is asked for, waited for and got: the pages come in once more, and the row is served; or one can't be read.
+use Rattle.activations.proofs.Common.{◌≡◌, refl, ℕ, ◌<◌, ◌==◌, true, false, List, [], ◌∷◌, length, map, Some, IsSome, arith, sym, subst, Layout, has, AreWithin, Request, Want, Seat, sitter, number_in, waiting_for, taken-below, AreOfPage, Activity, IsSound, KeepsParts, StandsStill, asking, ap, program_at, with_whole_page, AreWanted, nat_tests, false_from_ne_true, ◌+◌, ◌%◌, if◌then◌else◌, not, Bool, ◌++◌, filter, slice_index_or, Result, Ok, Err, OnOk, IfErr, list_any, ◌∙◌, inl, inr, set-set, both_ways, eqb-true, ne_eqb, or_cases, or_left, All-head, All-tail, is_fine_page, FlatStore, Lines, both, page_of_line, pages_of, with_whole_pages, taken_out, has-append, has_right, lines_wanted, with_wants, no_lines_of, of_seat, Authority, Plain, On, Pool, Ghosts, KeptStore, TurnEnd, Desk, Entry, rolled_back, wanted, Word, ReadFailed, Fine, Counts, Attempt, Turning, Over, Disk, Fetched, Broken, fetches, goes_on, locks_with, touched_pages, with_grants, AreAlike, owners_told, gone_on, IsAmong, due_to, IsOrderly, granted-rolled, new-among, one-entry, replaced-among, due-more, grants-held, row-goes-on, touched_of, seat-told, resident-consistent, any-among, Seating, left, IsClean, is_line_marked, Touch, entry_in, entries, store_over, desk_over, authority_told, number_under, authority_under, locks_in, HasUndone, IsBrokenOff, IsStoreOf, HasBrokenOff, IsKept, IsServed, Serves, IsFetched, AreGranted, IsFree, locked, with_entries, rolled, with_pool, wrote, page_if, pages_picked, pages_wanted, wants_of, HasBroken, HasEnded, HasFetched, Grant, nobody, all_of, zero, suc, ◌&&◌, granted, lowered, page_count, long-seat, AreLowered, is_lowered, pages_lowered}
 use Rattle.desk.specs.declared.answers.TurnEnd.TheVariants as end
+use Rattle.activations.proofs.GrantLemmas.{within-whole, taken-alike, granted-all, lowered-all}
+use Rattle.activations.proofs.HoldingLemmas.{whole-of-page}
+use Rattle.activations.proofs.SittingLemmas.{sound-reseated, sitter-there, sitter-other, number-there}
 use Rattle.activations.proofs.ContestLemmas.{orderly-other}
-use Rattle.activations.proofs.EndLemmas.{sound-pool}
+use Rattle.activations.proofs.EndingLemmas.{sound-pool}
 use Rattle.activations.proofs.KeptLemmas.{keeps-locked, keeps-rolled}
-use Rattle.activations.proofs.GrantedLemmas.{granted-free, lowered-free, under-locked}
 use Rattle.activations.proofs.PoolLemmas.{moved-kept}
 use Rattle.activations.proofs.RollbackLemmas.{WereForgotten, were-forgotten, forgotten-fewer, of-held, kept-left}
 use Rattle.activations.proofs.ServedLemmas.{served}
-use Rattle.activations.proofs.TableLemmas.{stands-for}
-use Rattle.activations.proofs.VacateLemmas.{entries-left, authority-left}
+use Rattle.activations.proofs.TableLemmas.{stands-for, entries-left, authority-left}
+
+module _ (a : Activity) (seat : ℕ) (request : Request) (sound : IsSound a) (taken : has a.seating.taken seat ≡ true) where
+  abbrev who : Seat
+  who = record (sitter a.seating seat) { waits = Some request }
+
+  numbers : (at : ℕ) → number_in (waiting_for a.seating seat request) at ≡ number_in a.seating at
+  numbers = number-there a.seating seat who sound.seating.sixteen (taken-below a.seating sound.seating seat taken) refl
+
+  pub asks-now : IsSome (sitter (waiting_for a.seating seat request) seat).waits
+  asks-now = subst (λ (s : Seat). IsSome s.waits) (sym (sitter-there a.seating seat who sound.seating.sixteen (taken-below a.seating sound.seating seat taken))) (cc)
+
+  -- who sits there waits
+  pub sound-asking : AreWithin a.seating.holding.pages request.wants.items → AreOfPage request.wants.items → IsSound (asking a seat request)
+  sound-asking within sets =
+      sound-reseated a seat who sound taken refl refl (λ other is. subst (λ (r : Request). AreWithin a.seating.holding.pages r.wants.items) (cc (is)) within)
+      (λ other is. subst (λ (r : Request). AreOfPage r.wants.items) (cc (is)) sets)
+
+  -- and all else is as it was
+  pub keeps-asking : KeepsParts a (asking a seat request) 0
+  keeps-asking = record {
+    programs = refl;
+    most_lines = refl;
+    next = refl;
+    directory = refl;
+    fewer = omega arith;
+    rows = λ rows within at less.
+        let own = within seat (taken-below a.seating sound.seating seat taken) in let here = within at less in
+        let other = sitter-other a.seating seat who at in
+        grind (arith, nat_tests, sitter-there a.seating seat who sound.seating.sixteen (taken-below a.seating sound.seating seat taken), own, here, other);
+  }
+
+  pub still-asking : StandsStill a (asking a seat request) seat
+  still-asking = record {
+    seated = record { taken = taken; number = numbers seat; selected = λ is. record { runner = is.runner; registers = is.registers } };
+    program = ap (λ (s : Seat). program_at a.programs s.program) (sitter-there a.seating seat who sound.seating.sixteen (taken-below a.seating sound.seating seat taken));
+    live = refl;
+    private = refl;
+    own = λ page its. refl;
+  }
+
+-- a request for whole pages
+pub asked-within : (a : Activity) (wants asked : List Want) → IsSound a → AreWanted a.reach.directory wants → asked ≡ map (with_whole_page a.reach.directory) wants → AreWithin a.seating.holding.pages asked
+asked-within a wants asked sound wanted is = subst (AreWithin a.seating.holding.pages) (sym is)
+    (within-whole a.reach.directory a.seating.holding.pages wants (subst (λ (n : ℕ). AreWithin n wants) (sym sound.pages) wanted.within))
+
+pub asked-whole : (directory : Layout) (wants asked : List Want) → AreOfPage wants → asked ≡ map (with_whole_page directory) wants → AreOfPage asked
+asked-whole directory wants asked sets is = subst AreOfPage (sym is) (whole-of-page directory wants sets)
 
 -- a page that is picked is one of those of its touch
 if-below : (picked : Bool) (at pages page : ℕ) → at < pages → has (page_if picked at) page ≡ true → page < pages
@@ -56,6 +103,22 @@ left-locked a seat wants owned i =
       };
     }
 
+-- the numbers under identifiers are those of who sits there, whatever is held
+under-locked : (a : Activity) (seat : ℕ) (wants : List Want) (owned : List Authority) → number_under (locked a seat wants owned) ≡ number_under a
+under-locked a seat wants owned i tid = at tid i
+  where
+    at : (tid : ℕ) → number_under (locked a seat wants owned) tid ≡ number_under a tid
+    at zero = refl
+    at (suc seat) = refl
+
+-- some of the pages of which lines are wanted are pages of the store
+lowered-below : (some : Want → Bool) (pages : ℕ) (wants : List Want) → AreWithin pages wants → (page : ℕ) → has (pages_wanted (filter some wants)) page ≡ true → page < pages
+lowered-below some pages [] within page inside = absurd (cc)
+lowered-below some pages (want ∷ wants) within page inside =
+    let first = All-head (λ (w : Want). w.page < pages) want wants within in
+    let rest = lowered-below some pages wants (All-tail (λ (w : Want). w.page < pages) want wants within) page in
+    grind (arith, nat_tests, first, rest)
+
 module _ (begins : Word → Turning) (attempt : Attempt) (refused : List ℕ) (a : Activity) (seat : ℕ) (committed : List ℕ) (order : List (ℕ × ℕ)) (counts : Counts)
     (wants : List Want) (owned : List Authority)
     (sound : IsSound a) (taken : has a.seating.taken seat ≡ true) (later : IsSound (locked a seat wants owned)) (wanted_here : AreWanted a.reach.directory wants)
@@ -72,9 +135,43 @@ module _ (begins : Word → Turning) (attempt : Attempt) (refused : List ℕ) (a
   touched-are : touched_pages attempt ≡ pages_wanted wants
   touched-are = ap (λ (l : Lines). pages_of (l.reads ++ l.writes)) lines ∙ sym wanted_here.pages
 
-  got-free : AreAlike (locks_in (locked a seat wants owned) seat) (locks_with attempt old)
-      × (owners_told (number_under a) (authority_under owned) ≡ (with_grants attempt refused old).authority)
-  got-free = granted-free begins attempt refused a seat committed order counts wants owned sound taken later wanted_here number free lines below_pages grants
+  below : seat < 16
+  below = taken-below a.seating sound.seating seat taken
+
+  -- the entry of the attempt is the seat's, but for its mark
+  same : entry_in a seat ≡ record attempt.entry { waiting = free.ready.mark }
+  same =
+      one-entry 0 a.next (entries a) (entry_in a seat) (record attempt.entry { waiting = free.ready.mark }) free.follows.orderly.active.ascend
+      (seat-told a.seating.taken (entry_in a) seat taken) free.ready.here (sym number)
+
+  held : AreAlike (locks_in a seat) (with_whole_pages (is_fine_page a.reach.directory) (touched_of store attempt.entry))
+  held = subst (λ (e : Entry). AreAlike (locks_in a seat) (due_to store e)) same (free.follows.kept.held seat taken)
+
+  inside : AreWithin (length (of_seat a.seating.holding seat)) wants
+  inside =
+      subst (λ (n : ℕ). AreWithin n wants) (sym (long-seat a.seating.holding seat (of_seat a.seating.holding seat) sound.seating.whole seat below ∙ sound.pages)) wanted_here.within
+
+  granted-locks : AreAlike (locks_in (locked a seat wants owned) seat) (locks_with attempt (desk_over a committed order))
+  granted-locks =
+      subst (λ (l : Lines). AreAlike (locks_in (locked a seat wants owned) seat) (with_whole_pages (is_fine_page a.reach.directory) (both (touched_of store attempt.entry) l))) (sym lines)
+      (taken-alike a seat wants owned (touched_of store attempt.entry) sound below wanted_here.sets (within-whole a.reach.directory (length (of_seat a.seating.holding seat)) wants inside) (later.lines seat) held)
+
+  granted-entries : owners_told (number_under a) (authority_under owned) ≡ granted (is_fine_page a.reach.directory) attempt (locks_with attempt (desk_over a committed order)) refused (desk_over a committed order).authority
+  granted-entries =
+      ap (λ (numbers : ℕ → ℕ). owners_told numbers (authority_under owned)) (sym (under-locked a seat wants owned))
+      ∙ granted-all (locked a seat wants owned) seat attempt (locks_with attempt old) wants later number lines wanted_here.sets granted-locks refused a.reach.entries owned below_pages grants
+      ∙ ap (λ (numbers : ℕ → ℕ). granted (is_fine_page a.reach.directory) attempt (locks_with attempt old) refused (owners_told numbers (authority_under a.reach.entries))) (under-locked a seat wants owned)
+
+  -- Once the row has taken effect, its write bits go off as on the desk.
+  lowered-free : (eased : List Authority) → AreLowered (locked a seat wants owned) seat (pages_lowered (locked a seat wants owned) seat wants) owned eased
+      → owners_told (number_under a) (authority_under eased)
+      ≡ lowered (is_fine_page a.reach.directory) attempt (locks_with attempt (desk_over a committed order)) (with_grants attempt refused (desk_over a committed order)).authority
+  lowered-free eased is =
+      ap (λ (numbers : ℕ → ℕ). owners_told numbers (authority_under eased)) (sym (under-locked a seat wants owned))
+      ∙ lowered-all (locked a seat wants owned) seat attempt (locks_with attempt old) wants later number lines wanted_here.sets granted-locks owned eased
+      (λ page inside. subst (λ (n : ℕ). page < n) (sym later.entries) (lowered-below (λ want. not (length want.writes == 0) && is_lowered (locked a seat wants owned) seat want.page) (page_count a.reach.directory) wants wanted_here.within page inside)) is
+      ∙ ap (lowered (is_fine_page a.reach.directory) attempt (locks_with attempt old))
+      (ap (λ (numbers : ℕ → ℕ). owners_told numbers (authority_under owned)) (under-locked a seat wants owned) ∙ granted-entries)
 
   -- The pages came in: it is served.
   module _ (pool : Pool) (counted : ℕ) (runner : a.reach.runner ≡ seat + 1)
@@ -92,8 +189,7 @@ module _ (begins : Word → Turning) (attempt : Attempt) (refused : List ℕ) (a
       clean = came.keeps.clean;
       goes = λ live bytes marked eased went lowers.
           served begins attempt refused a seat committed order counts wants owned eased pool live bytes marked counted next sound taken runner number free goes
-          fetched-here.moved fetched-here.keeps fetched-here.fetched got-free.0
-          (lowered-free begins attempt refused a seat committed order counts wants owned sound taken later wanted_here number free lines below_pages grants eased lowers) went;
+          fetched-here.moved fetched-here.keeps fetched-here.fetched granted-locks (lowered-free eased lowers) went;
     }
 
   -- One couldn't be read, and it was rolled back: the turn is over.
@@ -102,18 +198,12 @@ module _ (begins : Word → Turning) (attempt : Attempt) (refused : List ℕ) (a
     abbrev after : Activity
     after = rolled (with_pool (locked a seat wants owned) off) seat pool
 
-    -- the entry of the attempt is the seat's, but for its mark
-    same : entry_in a seat ≡ record attempt.entry { waiting = free.ready.mark }
-    same =
-        one-entry 0 a.next (entries a) (entry_in a seat) (record attempt.entry { waiting = free.ready.mark }) free.follows.orderly.active.ascend
-        (seat-told a.seating.taken (entry_in a) seat taken) free.ready.here (sym number)
-
     -- what the seat holds now is due once the row has gone on
     due-next : due_to store (gone_on attempt.entry) ≡ locks_with attempt old
     due-next = due-more store attempt.entry ∙ ap (λ (l : Lines). with_whole_pages (is_fine_page a.reach.directory) (both (touched_of store attempt.entry) l)) (sym free.ready.lines)
 
     holds : AreAlike (locks_in (locked a seat wants owned) seat) (due_to store (gone_on attempt.entry))
-    holds = subst (AreAlike (locks_in (locked a seat wants owned) seat)) (sym due-next) got-free.0
+    holds = subst (AreAlike (locks_in (locked a seat wants owned) seat)) (sym due-next) granted-locks
 
     abbrev more : List ℕ
     more = (due_to store (gone_on attempt.entry)).writes
@@ -122,20 +212,14 @@ module _ (begins : Word → Turning) (attempt : Attempt) (refused : List ℕ) (a
     written = (due_to store (entry_in a seat)).writes
 
     written-more : (line : ℕ) → has written line ≡ true → has more line ≡ true
-    written-more line inside =
-        ap (λ (l : Lines). has l.writes line) (due-more store attempt.entry)
+    written-more line inside = ap (λ (l : Lines). has l.writes line) (due-more store attempt.entry)
         ∙ has-append (touched_of store attempt.entry).writes (wanted old attempt.entry).writes line
         ∙ or_left (has (touched_of store attempt.entry).writes line) (has (wanted old attempt.entry).writes line) (sym (ap (λ (e : Entry). has (due_to store e).writes line) same) ∙ inside)
-
-    -- those of them that it hasn't written yet nobody has
-    apart : AreConsistent store a.most_lines a.next (replaced (gone_on attempt.entry) (entries a))
-    apart = (row-goes-on (with_grants attempt refused old) attempt next (grants-held old attempt refused free.ready free.free) goes).active
 
     by-nobody : (line : ℕ) → has more line ≡ true → has written line ≡ false → is_line_marked off line ≡ false
     by-nobody line inside out =
         ap (λ (marked : List (List ℕ)). has (slice_index_or marked (page_of_line line) []) (line % 16)) broken.moved.marked
-        ∙ free.follows.kept.marked.is line
-        ∙ nobody-wrote
+        ∙ free.follows.kept.marked.is line ∙ nobody-wrote
       where
         by_number : (entry : Entry) → IsAmong (entries a) entry → has (due_to store entry).writes line ≡ true → (mine : Bool) → (entry.number == attempt.entry.number) ≡ mine → ⊥
         by_number entry among wrote_it true e =
@@ -143,17 +227,15 @@ module _ (begins : Word → Turning) (attempt : Attempt) (refused : List ℕ) (a
             one-entry 0 a.next (entries a) (entry_in a seat) entry free.follows.orderly.active.ascend (seat-told a.seating.taken (entry_in a) seat taken) among
             (sym number ∙ sym (eqb-true entry.number attempt.entry.number e)) in
             both_ways (has written line) out (ap (λ (x : Entry). has (due_to store x).writes line) mine ∙ wrote_it)
-        by_number entry among wrote_it false e =
-            both_ways (has (all_of (due_to store entry)) line)
-            ((apart.apart (gone_on attempt.entry) entry
+        by_number entry among wrote_it false e = both_ways (has (all_of (due_to store entry)) line)
+            ((((row-goes-on (with_grants attempt refused old) attempt next (grants-held old attempt refused free.ready free.free) goes).active).apart (gone_on attempt.entry) entry
             (new-among (gone_on attempt.entry) (entries a) (record attempt.entry { waiting = free.ready.mark }) free.ready.here refl)
             (replaced-among (gone_on attempt.entry) (entries a) entry among e)
             (eqb-turned entry.number attempt.entry.number ∙ e)).first_writes line inside)
             (has_right (due_to store entry).reads (due_to store entry).writes line wrote_it)
 
         nobody-wrote : list_any (λ (entry : Entry). has (due_to store entry).writes line) (entries a) ≡ false
-        nobody-wrote =
-            false_from_ne_true _
+        nobody-wrote = false_from_ne_true _
             (λ some. let (entry, among, wrote_it) = any-among (λ (entry : Entry). has (due_to store entry).writes line) (entries a) some in by_number entry among wrote_it (entry.number == attempt.entry.number) refl)
 
     -- so the lines that it has written were forgotten
@@ -188,7 +270,7 @@ module _ (begins : Word → Turning) (attempt : Attempt) (refused : List ℕ) (a
             authority-left (locked a seat wants owned) seat later taken (stands-for (locked a seat wants owned) later committed free.follows.orderly.active.ascend seat taken)
             ∙ ap (λ (n : ℕ). cleared n (authority_told (locked a seat wants owned))) (sym number)
             ∙ ap (cleared attempt.entry.number)
-            (ap (λ (numbers : ℕ → ℕ). owners_told numbers (authority_under owned)) (under-locked a seat wants owned) ∙ got-free.1)
+            (ap (λ (numbers : ℕ → ℕ). owners_told numbers (authority_under owned)) (under-locked a seat wants owned) ∙ granted-entries)
 
     pub got-broken : HasBroken begins after committed order (record counts { pages = counted })
     got-broken = record {

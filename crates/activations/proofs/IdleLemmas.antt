@@ -1,8 +1,7 @@
 -- Nobody sits anywhere: as at first, and as after a crash.
 use Rattle.activations.proofs.Common.{◌≡◌, refl, ℕ, zero, suc, ◌+◌, ◌%◌, ◌<◌, nat_lt, if◌then◌else◌, Bool, true, false, List, [], ◌∷◌, length, map, replicate, slice_index, slice_index_or, Option, Some, None, range_with_len, option_map_or, ForSome, arith, ap, sym, ◌∙◌, subst, inl, inr, both_ways, nat_tests, same_number_lists, get_or_past, get_or-replicate, length-replicate, All-nil, All-replicate, get_or-map-range_with_len, length-map-range_with_len, Layout, byte_count, page_count, line_of, page_of, has, page_of_line, AreWithin, of_seat, no_lines_of, nothing_held, Authority, unowned, Program, Pool, frame_at, nobody, opened, restarted, owner_told, owners_told, IsCurrent, current-quiet, quiet-consistent, Seat, IsSeating, newcomer, nobody_sits, byte_in_frame, byte_over, is_line_marked, is_marked, Keeps, Live, Activity, authority_at, flat_authority, authority_told, entry_in, number_under, store_over, desk_over, shown, idle, WereRolled, IsRestarted, IsSound, IsKept, KeepsDesk, IsIdentified, AreOfPages, IsMoved, with_pool, Grant, grant_of}
 use Rattle.activations.proofs.PoolLemmas.{moved-follows}
-use Rattle.activations.proofs.TableLemmas.{nobody-page}
-use Rattle.activations.proofs.VacateLemmas.{none-of-pages}
+use Rattle.activations.proofs.TableLemmas.{nobody-page, none-of-pages}
 
 at-replicate : {X : Type 0} (n k : ℕ) (x : X) → slice_index_or (replicate n x) k x ≡ x
 at-replicate zero k x = refl

@@ -1,5 +1,5 @@
 -- What stays while those that run are served: of a rollback of another, and one after another.
-use Rattle.activations.proofs.Common.{◌≡◌, refl, ℕ, ◌+◌, ◌≤◌, ◌==◌, not, if◌then◌else◌, Bool, true, false, List, [], ◌∷◌, filter, length, None, replicate, Result, Ok, Err, OnOk, arith, ap, sym, ◌∙◌, subst, has, has-filter, ArrayVec, Cycle, Pool, Tally, Activity, sitter, IsSelected, TookEffect, HasUndone, KeepsParts, StandsStill, StaysSeated, Want, Authority, cleared_entry, unowned, map, slice_index_or, slice_range, zero, suc, ◌*◌, locked, rolled, with_pool, Ghosts, FewerLater, asks_on, nat_tests, KeepsAll, KeepsSound}
+use Rattle.activations.proofs.Common.{◌≡◌, refl, ℕ, ◌+◌, ◌≤◌, ◌==◌, not, if◌then◌else◌, Bool, true, false, List, [], ◌∷◌, filter, length, None, replicate, Result, Ok, Err, OnOk, arith, ap, sym, ◌∙◌, subst, has, has-filter, ArrayVec, Cycle, Pool, Tally, Activity, sitter, IsSelected, TookEffect, HasUndone, KeepsParts, StandsStill, StaysSeated, Want, Authority, cleared_entry, unowned, map, slice_index_or, slice_range, zero, suc, ◌*◌, locked, rolled, with_pool, Ghosts, FewerLater, asks_on, nat_tests, KeepsAll, KeepsSound, IfErr, IsErrAnd, Rose, TurnEnd, EndsRows, EndsByDisk}
 
 -- none more are left of those but one
 pub no-more : (taken : List ℕ) (seat : ℕ) → length (filter (λ other. not (other == seat)) taken) ≤ length taken
@@ -71,8 +71,7 @@ still-rolled first a seat loser pool undone still inside = record {
   live = still.live;
   private = ap (λ (bytes : List ℕ). slice_range bytes (seat * 16384) (seat * 16384 + 16384)) undone.were.bytes ∙ still.private;
   own = λ page its.
-      let same = still.own page its in
-      let left = has-filter (λ other. not (other == loser)) a.seating.taken seat in
+      let same = still.own page its in let left = has-filter (λ other. not (other == loser)) a.seating.taken seat in
       let other : ((slice_index_or a.reach.entries page unowned).tid == loser + 1) ≡ false =
       ap (λ (one : Authority). one.tid == loser + 1) same ∙ ap (λ (tid : ℕ). tid == loser + 1) its ∙ grind (arith, nat_tests, left, inside) in
       cleared-at (loser + 1) a.reach.entries page
@@ -94,17 +93,9 @@ ok-both (Err fault) follows one other = one
 
 -- a row that took effect
 pub keeps-took : (a after : Activity) (seat : ℕ) → TookEffect a seat after → KeepsParts a after 0
-keeps-took a after seat took = record {
-  programs = ap (λ (x : Activity). x.programs) took.shape;
-  most_lines = ap (λ (x : Activity). x.most_lines) took.shape;
-  next = ap (λ (x : Activity). x.next) took.shape;
-  directory = ap (λ (x : Activity). x.reach.directory) took.shape;
-  fewer = let same : length after.seating.taken ≡ length a.seating.taken = ap (λ (x : Activity). length x.seating.taken) took.shape in omega (arith, same);
-  rows = λ rows within at less.
-      let here = within at less in
-      let same : (sitter after.seating at).rows ≡ (sitter a.seating at).rows = ap (λ (x : Activity). (sitter x.seating at).rows) took.shape in
-      omega (arith, here, same);
-}
+keeps-took a after seat took =
+    let same = keeps-itself a in
+    subst (λ (x : Activity). KeepsParts a x 0) (sym took.shape) (record { programs = refl; most_lines = refl; next = refl; directory = refl; fewer = same.fewer; rows = same.rows })
 
 -- one was rolled back, perhaps after other pages came into the frames
 pub keeps-left : (a after : Activity) (seat : ℕ) (pool : Pool) → after ≡ rolled a seat pool → KeepsParts a after 0
@@ -145,3 +136,22 @@ keeps-all-on G fewer_later a b c u v w first second =
 
 pub keeps-all-then : {W : Type 0} (G : Ghosts W) (a b c : Activity) (u v : W) → KeepsAll G a b 0 u v → KeepsSound b c 0 → KeepsAll G a c 0 u v
 keeps-all-then G a b c u v first second = record { sound = second.sound; asks = first.asks; parts = keeps-two a b c first.parts second.parts }
+
+-- what is to be said of an end that is handed on
+pub handed : {T : Type 0} (P : Result T TurnEnd → Type 0) (result : Result T TurnEnd) (end : TurnEnd) → IsErrAnd result (λ told. told ≡ end) → P (Err end) → P result
+handed P (Ok it) end is said = absurd is
+handed P (Err told) end is said = subst (λ (how : TurnEnd). P (Err how)) (sym is) said
+
+-- a page couldn't be read, where the disk's count had stayed before and no page was counted that isn't now
+pub ended-by-disk : {U W : Type 0} (G : Ghosts W) (number : ℕ) (a : Activity) (before mid after : W) (old between new : Tally) (result : Result U TurnEnd) (how : TurnEnd) → IsErrAnd result (λ told. told ≡ how)
+    → G.disk_faults mid ≡ G.disk_faults before → old.pages ≤ between.pages → EndsByDisk G mid after between new how → IfErr result (EndsRows G number a before after old new)
+ended-by-disk {U} G number a before mid after old between new result how told calm more off =
+    let less = off.counted in
+    handed (λ (r : Result U TurnEnd). IfErr r (EndsRows G number a before after old new)) result how told
+    (subst (EndsRows G number a before after old new) (sym off.is)
+    (record { disk = (subst (λ (n : ℕ). Rose n (G.disk_faults after)) calm off.rose, omega (arith, more, less)); waits = tt; checked = tt; journal = tt; victim = tt }))
+
+-- where some are, there is a first
+pub some-holders : (numbers : List ℕ) → (length numbers == 0) ≡ false → (holder : ℕ) × (others : List ℕ) × (numbers ≡ holder ∷ others)
+some-holders [] none = absurd (cc (none))
+some-holders (holder ∷ others) some = (holder, others, refl)

@@ -1,19 +1,12 @@
 -- A row that goes on, and whose access was served: it goes on still, and its lines are open.
-use Rattle.activations.proofs.Common.{◌≡◌, refl, ℕ, ◌+◌, ◌-◌, ◌*◌, ◌%◌, ◌<◌, ◌==◌, ◌&&◌, ◌||◌, not, Bool, true, false, List, [], ◌∷◌, All, length, replicate, list_any, map, slice_index_or, slice_set, arith, ap, sym, ◌∙◌, subst, inl, inr, eqb-true, eqb-false, eq-eqb, and_parts, or_cases, or_left, or_parts, or_right, nat_tests, get_or-set_other, get_or-set_same, length-replicate, length-set, All-cons, All-head, All-nil, All-tail, cases_Bool, Layout, byte_count, has, both, page_of_line, has_left, has_right, Want, AreWithin, lines_wanted, held_at, of_seat, of_page-below, AreAlike, AreOfPage, IsFlat, IsOfPage, Authority, unowned, grant_of, lets, Plain, Program, Outcome, On, Commit, Check, row, touched, Reach, IsOpen, IsOpenLine, bytes_over, private_bytes, lines_of_access, Access, Activity, live_in, locks_in, program_in, Pool, IsMoved, with_pool, taken-below, long-seat, plain_in, IsShut, TookEffect, WasAttempted, WillTouch, CameTo, IsSound, AreGranted, AreSet, authority_given, locked, AreWanted, IsApart, AreLetBut, pages_refused, pages_wanted, refuses_want, stores_into, with_whole_page, refuses, Grant}
-use Rattle.flat_machine.specs.Agreement.{SameWay}
-use Rattle.flat_machine.specs.Plans.{Plan, Does, Fails}
-use Rattle.flat_machine.specs.Row.{plan_at}
-use Rattle.flat_machine.specs.Touched.{touched_by}
+use Rattle.activations.proofs.Common.{◌≡◌, refl, ℕ, ◌+◌, ◌-◌, ◌*◌, ◌%◌, ◌<◌, ◌==◌, ◌&&◌, ◌||◌, not, Bool, true, false, List, [], ◌∷◌, All, length, replicate, list_any, map, slice_index_or, slice_set, arith, ap, sym, ◌∙◌, subst, inl, inr, eqb-true, eqb-false, eq-eqb, and_parts, or_cases, or_left, or_parts, or_right, nat_tests, get_or-set_other, get_or-set_same, length-replicate, length-set, All-cons, All-head, All-nil, All-tail, cases_Bool, Layout, byte_count, has, page_of_line, has_left, has_right, Want, AreWithin, lines_wanted, held_at, of_seat, of_page-below, AreOfPage, IsFlat, IsOfPage, Authority, unowned, grant_of, lets, Plain, Program, Outcome, On, Commit, Check, row, touched, Reach, IsOpen, IsOpenLine, bytes_over, private_bytes, lines_of_access, Access, Activity, live_in, locks_in, program_in, Pool, IsMoved, with_pool, taken-below, long-seat, plain_in, IsShut, TookEffect, WasAttempted, WillTouch, CameTo, IsSound, AreGranted, AreSet, authority_given, locked, AreWanted, IsApart, AreLetBut, pages_refused, pages_wanted, refuses_want, stores_into, with_whole_page, refuses, Grant, SameWay, Plan, Does, Fails, plan_at, touched_by, IsCheckCode}
 use Rattle.flat_machine.proofs.SameWay.{on, row-way}
 use Rattle.desk_law.proofs.Granted.{lets-loads, lets-stores}
 use Rattle.desk_law.proofs.Permitted.{any-none}
 use Rattle.romp_cpu.specs.declared.cpu.Attempt.{Attempt}
-use Rattle.activations.specs.Causes.{IsCheckCode}
 use Rattle.activations.proofs.CheckCodes.{checks-named}
-use Rattle.activations.proofs.HoldingLemmas.{held-flat}
-use Rattle.activations.proofs.GrantingLemmas.{within-whole}
-use Rattle.activations.proofs.RequestLemmas.{asked-alike, has-wanted}
-use Rattle.activations.proofs.TakenLemmas.{taken-both}
+use Rattle.activations.proofs.HoldingLemmas.{held-flat, asked-alike, has-wanted}
+use Rattle.activations.proofs.GrantLemmas.{within-whole, taken-both}
 
 -- what goes the same way as a row that goes on goes on
 way-on : (first second : Outcome) (next : Plain) → SameWay first second → first ≡ On next → (other : Plain) × (second ≡ On other)
@@ -41,11 +34,9 @@ touch-on a b seat wants directory here there program live private will = record 
       let before = will.goes committed (long ∙ ap byte_count directory) in
       let on_there = way-on _ _ before.0 (row-way (program_in a seat) a.reach.directory (plain_in a seat committed) (store committed)) before.1 in
       let of_plan = λ (outcome : Outcome). touched_by (program_in a seat) a.reach.directory outcome (plan_at (plain_in a seat committed)) in
-      (λ i. touched (program i) (directory i) (shows committed i))
-      ∙ ap of_plan on_there.1
+      (λ i. touched (program i) (directory i) (shows committed i)) ∙ ap of_plan on_there.1
       ∙ touches-same (program_in a seat) a.reach.directory (plan_at (plain_in a seat committed)) on_there.0 before.0
-      ∙ sym (ap of_plan before.1)
-      ∙ will.touches committed (long ∙ ap byte_count directory);
+      ∙ sym (ap of_plan before.1) ∙ will.touches committed (long ∙ ap byte_count directory);
 }
   where
     store : List ℕ → List ℕ
@@ -129,15 +120,12 @@ let-on old new tid pages (want ∷ wants) same free =
     (let-on old new tid pages wants same (All-tail (λ (w : Want). has pages w.page ≡ false → refuses_want old tid w ≡ false) want wants free))
 
 -- none is refused but those that are
-let-but : (owned : List Authority) (tid : ℕ) (pages : List ℕ) (wants : List Want) → ((page : ℕ) → has (pages_refused owned tid wants) page ≡ true → has pages page ≡ true) → AreLetBut owned tid pages wants
+pub let-but : (owned : List Authority) (tid : ℕ) (pages : List ℕ) (wants : List Want) → ((page : ℕ) → has (pages_refused owned tid wants) page ≡ true → has pages page ≡ true) → AreLetBut owned tid pages wants
 let-but owned tid pages [] among = All-nil (λ (w : Want). has pages w.page ≡ false → refuses_want owned tid w ≡ false)
 let-but owned tid pages (want ∷ wants) among =
     All-cons (λ (w : Want). has pages w.page ≡ false → refuses_want owned tid w ≡ false) want wants
     (λ out. let here = among want.page in grind (arith, nat_tests, here, out))
     (let-but owned tid pages wants (λ page inside. let here = among page in grind (arith, nat_tests, here, inside)))
-
-pub let-refused : (owned : List Authority) (tid : ℕ) (wants : List Want) → AreLetBut owned tid (pages_refused owned tid wants) wants
-let-refused owned tid wants = let-but owned tid (pages_refused owned tid wants) wants (λ page inside. inside)
 
 module _ (a : Activity) (seat page : ℕ) (storing : Bool) where
   given-loads : (line : ℕ) → has (held_at a.seating.holding seat page).0 line ≡ true → lets (authority_given a seat storing page) (seat + 1) line false ≡ true
@@ -172,22 +160,19 @@ module _ (a : Activity) (seat : ℕ) (wants : List Want) (owned : List Authority
   abbrev now : Activity
   now = locked a seat wants owned
 
-  both-held : AreAlike (locks_in now seat) (both (locks_in a seat) (lines_wanted (map (with_whole_page a.reach.directory) wants)))
-  both-held = taken-both a seat wants owned sound below wanted.sets inside (later.lines seat)
-
   flat : IsFlat (of_seat now.seating.holding seat) (locks_in now seat)
   flat = held-flat (of_seat now.seating.holding seat) (later.lines seat)
 
   -- a line that is wanted is held
   held-read : (page line : ℕ) → line < 16 → has (lines_wanted wants).reads (page * 16 + line) ≡ true → has (held_at now.seating.holding seat page).0 line ≡ true
   held-read page line few is =
-      flat.reads page line few ∙ both-held.reads (page * 16 + line)
+      flat.reads page line few ∙ (taken-both a seat wants owned sound below wanted.sets inside (later.lines seat)).reads (page * 16 + line)
       ∙ has_right (locks_in a seat).reads (lines_wanted (map (with_whole_page a.reach.directory) wants)).reads (page * 16 + line)
       ((asked-alike a.reach.directory wants wanted.sets).reads (page * 16 + line) ∙ has_left (lines_wanted wants).reads _ (page * 16 + line) is)
 
   held-write : (page line : ℕ) → line < 16 → has (lines_wanted wants).writes (page * 16 + line) ≡ true → has (held_at now.seating.holding seat page).1 line ≡ true
   held-write page line few is =
-      flat.writes page line few ∙ both-held.writes (page * 16 + line)
+      flat.writes page line few ∙ (taken-both a seat wants owned sound below wanted.sets inside (later.lines seat)).writes (page * 16 + line)
       ∙ has_right (locks_in a seat).writes (lines_wanted (map (with_whole_page a.reach.directory) wants)).writes (page * 16 + line)
       ((asked-alike a.reach.directory wants wanted.sets).writes (page * 16 + line) ∙ is)
 

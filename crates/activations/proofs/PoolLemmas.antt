@@ -1,6 +1,49 @@
--- Pages that come in and go out, of which those that run see nothing.
-use Rattle.activations.proofs.Common.{◌≡◌, ℕ, ◌%◌, ◌==◌, ◌||◌, not, nat_lt, if◌then◌else◌, Bool, true, false, List, [], ◌∷◌, ◌++◌, length, slice_index_or, Option, Some, None, option_to_list, remove, unwrap_or, ap, sym, ◌∙◌, subst, has, page_of_line, brought, Pool, IsState, IsCurrent, IsOrderly, taken-below, Keeps, Activity, entry_in, entries, store_over, desk_over, state_in, IsSound, IsKept, KeepsDesk, IsMoved, with_pool, differs}
-use Rattle.activations.proofs.PositionLemmas.{position-same}
+-- Frames, pages and lines by the size of a page, and pages that come in and go out, of which those that run see nothing.
+use Rattle.activations.proofs.Common.{PageSize, page_bytes, line_bytes, frame_count, line_place, entry_bytes, record_bytes, ◌≡◌, ℕ, ◌+◌, ◌-◌, ◌*◌, ◌/◌, ◌%◌, ◌<◌, ◌≤◌, arith, refl, ◌==◌, nat_lt, not, cond, Bool, true, List, [], ◌∷◌, length, position, Some, None, position_or_len, ap, eq-eqb, or_left, or_right, has, ◌||◌, if◌then◌else◌, false, ◌++◌, slice_index_or, Option, option_to_list, remove, unwrap_or, sym, ◌∙◌, subst, page_of_line, brought, Pool, IsState, IsCurrent, IsOrderly, taken-below, Keeps, Activity, entry_in, entries, store_over, desk_over, state_in, IsSound, IsKept, KeepsDesk, IsMoved, with_pool, differs}
+
+-- the private frames have the first bytes
+pub private-all : (size : PageSize) (frames bytes : ℕ) → bytes ≡ frame_count size frames * page_bytes size → 262144 ≤ bytes
+private-all size frames bytes is = grind arith
+
+-- a line of one of so many pages lies in them
+pub line-there :
+    (size : PageSize) (whole line count bytes : ℕ) → whole < count → line < 16 → bytes ≡ count * page_bytes size → line_place size whole line + line_bytes size ≤ bytes
+line-there size whole line count bytes below few is = grind arith
+
+-- where a place is in its page and in its line
+pub place-in-page : (size : PageSize) (place : ℕ) → place / line_bytes size / 16 * page_bytes size + place % page_bytes size ≡ place
+place-in-page size place = grind arith
+
+pub place-in-line :
+    (size : PageSize) (whole place : ℕ) → line_place size whole (place / line_bytes size % 16) + place % line_bytes size ≡ whole * page_bytes size + place % page_bytes size
+place-in-line size whole place = grind arith
+
+pub rest-of-place : (size : PageSize) (place : ℕ) → place % line_bytes size < line_bytes size
+rest-of-place size place = grind arith
+
+-- a place of a line
+pub place-of-line : (size : PageSize) (line place : ℕ) → line ≡ place / line_bytes size → line * line_bytes size + place % line_bytes size ≡ place
+place-of-line size line place is = grind arith
+
+pub line-of-place : (size : PageSize) (line j place : ℕ) → j < line_bytes size → line * line_bytes size + j ≡ place → line ≡ place / line_bytes size
+line-of-place size line j place below is = grind arith
+
+-- a line of so many pages ends in them
+pub line-ends : (size : PageSize) (line pages bytes : ℕ) → line < pages * 16 → bytes ≡ pages * page_bytes size → line * line_bytes size + line_bytes size ≤ bytes
+line-ends size line pages bytes below is = grind arith
+
+-- as many lines as a record may have fit a bank
+pub lines-fit : (size : PageSize) (bank count : ℕ) → count + 1 ≤ (bank - 12) / entry_bytes size → record_bytes size (count + 1) + 1 ≤ bank
+lines-fit size bank count few = grind arith
+
+-- the first that passes is the same for tests that say the same of each
+place-same : (p q : ℕ → Bool) (xs : List ℕ) → ((x : ℕ) → has xs x ≡ true → p x ≡ q x) → position_or_len p xs ≡ position_or_len q xs
+place-same p q [] same = refl
+place-same p q (x ∷ xs) same =
+    λ i. cond (not (same x (or_left (x == x) (has xs x) (eq-eqb x x refl)) i)) (1 + place-same p q xs (λ y inside. same y (or_right (x == y) (has xs y) inside)) i) 0
+
+pub position-same : (p q : ℕ → Bool) (xs : List ℕ) → ((x : ℕ) → has xs x ≡ true → p x ≡ q x) → position p xs ≡ position q xs
+position-same p q xs same = ap (λ (n : ℕ). cond (nat_lt n (length xs)) (Some n) None) (place-same p q xs same)
 
 -- what follows the desk follows it with other pages in its frames
 pub moved-kept : (a : Activity) (pool : Pool) (committed : List ℕ) → IsSound a → IsMoved a.reach.pool pool → Keeps a.reach.directory a.reach.pool pool committed

@@ -1,6 +1,6 @@
 -- A row of one that takes effect, over what all see.
-use Rattle.activations.proofs.Common.{open-due, ◌≡◌, ℕ, ◌+◌, ◌-◌, ◌<◌, ◌==◌, ◌||◌, true, false, List, [], Some, arith, ap, sym, ◌∙◌, subst, eq-eqb, both_ways, FlatStore, has, Lines, Plain, row, touched, Desk, Entry, with_entry, wanted, Counts, Going, no_counts, AreAlike, IsState, over_all, owners_told, AreMarked, requested, gone_on, IsAmong, due_to, IsCurrent, IsOrderly, HasGone, attempt-goes, wanted-is, replaced, alike-then, alike-back, marked-row, seat-told, told-replaced, Seat, taken-below, is_line_marked, private_bytes, plain_over, Live, Activity, live_in, program_in, entry_in, entries, store_over, desk_over, authority_under, locks_in, request_for, request_in, state_in, shown, IsSound, IsKept, KeepsDesk, counted, executed, HasExecuted, GoesOn}
-use Rattle.activations.proofs.SittingLemmas.{by_seat, state-shows, sitter-other, entry-counted, entry-other, under-counted, live-other, live-there}
+use Rattle.activations.proofs.Common.{open-due, ◌≡◌, ℕ, ◌+◌, ◌-◌, ◌==◌, ◌||◌, true, false, List, [], Some, arith, ap, sym, ◌∙◌, subst, eq-eqb, both_ways, FlatStore, has, Lines, Plain, row, touched, Desk, Entry, with_entry, wanted, Counts, Going, no_counts, AreAlike, IsState, over_all, owners_told, AreMarked, requested, gone_on, IsAmong, due_to, IsCurrent, IsOrderly, HasGone, attempt-goes, wanted-is, replaced, alike-then, alike-back, marked-row, seat-told, told-replaced, Seat, taken-below, is_line_marked, private_bytes, plain_over, Live, Activity, live_in, program_in, entry_in, entries, store_over, desk_over, authority_under, locks_in, request_for, request_in, state_in, shown, IsSound, IsKept, KeepsDesk, counted, executed, HasExecuted, GoesOn}
+use Rattle.activations.proofs.SittingLemmas.{by_seat, state-shows, sitter-other, entry-counted, entry-other, under-counted, live-other, live-there, state-by, plain-by}
 use Rattle.activations.proofs.TableLemmas.{there}
 
 -- a consistent desk is so whatever its order
@@ -19,27 +19,17 @@ module _ (a : Activity) (seat : ℕ) (live : Live) (bytes : List ℕ) (marked : 
   abbrev entry : Entry
   entry = entry_in a seat
 
-  -- the state before, over the bytes of all, and the state that the attempt left
-  abbrev before : Plain
-  before = plain_over committed (live_in a seat).cpu a.reach (live_in a seat).out
-
   abbrev left : Plain
   left = plain_over committed live.cpu next.reach live.out
 
-  below : seat < 16
-  below = taken-below a.seating sound.seating seat taken
-
   here : IsAmong (entries a) entry
   here = seat-told a.seating.taken (entry_in a) seat taken
-
-  runs_here : a.reach.runner - 1 ≡ seat
-  runs_here = ap (λ (n : ℕ). n - 1) runner ∙ omega arith
 
   -- the state of the entry is what the seat has
   state : IsState store entry (state_in a seat)
   state = follows.kept.stand seat taken
 
-  shows : over_all (over_all (state_in a seat) state.bytes) (shown a committed) ≡ before
+  shows : over_all (over_all (state_in a seat) state.bytes) (shown a committed) ≡ (plain_over committed (live_in a seat).cpu a.reach (live_in a seat).out)
   shows = state-shows a seat committed state.bytes runner
 
   gone : (order : List (ℕ × ℕ)) (counts : Counts) → HasGone (desk_over a committed order) counts entry left
@@ -54,21 +44,20 @@ module _ (a : Activity) (seat : ℕ) (live : Live) (bytes : List ℕ) (marked : 
 
   -- the entries after the row
   entry-next : entry_in next seat ≡ gone_on entry
-  entry-next = entry-counted (executed a seat live bytes marked) seat 1 sound.seating.sixteen below
+  entry-next = entry-counted (executed a seat live bytes marked) seat 1 sound.seating.sixteen (taken-below a.seating sound.seating seat taken)
 
   entry-others : (at : ℕ) → (at == seat) ≡ false → entry_in next at ≡ entry_in a at
   entry-others at differs = entry-other (executed a seat live bytes marked) seat 1 at differs
 
   entries-next : entries next ≡ replaced (gone_on entry) (entries a)
-  entries-next =
-      told-replaced a.seating.taken (entry_in a) (entry_in next) seat
+  entries-next = told-replaced a.seating.taken (entry_in a) (entry_in next) seat
       (λ at inside. ap (λ (e : Entry). (entry_in a at).number == e.number) entry-next ∙ sound.seats.apart at seat inside taken) entry-others
       ∙ ap (λ (e : Entry). replaced e (entries a)) entry-next
 
   desk-next : (order : List (ℕ × ℕ)) → desk_over next committed order ≡ with_entry (desk_over a committed order) (gone_on entry)
   desk-next order i = record (desk_over a committed order) {
     active = entries-next i;
-    authority = owners_told (under-counted (executed a seat live bytes marked) seat 1 sound.seating.sixteen below i) (authority_under a.reach.entries);
+    authority = owners_told (under-counted (executed a seat live bytes marked) seat 1 sound.seating.sixteen (taken-below a.seating sound.seating seat taken) i) (authority_under a.reach.entries);
   }
 
   -- the store after the rows of the entry, and what the seat has then
@@ -76,17 +65,10 @@ module _ (a : Activity) (seat : ℕ) (live : Live) (bytes : List ℕ) (marked : 
   first = gone [] no_counts
 
   live-now : live_in next seat ≡ live
-  live-now = live-there a.live seat live (omega (arith, sound.live, below))
+  live-now = live-there a.live seat live (omega (arith, sound.live, taken-below a.seating sound.seating seat taken))
 
   left-is : left ≡ over_all (state_in next seat) (shown next committed)
-  left-is i = record {
-    regs = (sym live-now i).cpu.regs;
-    cs = (sym live-now i).cpu.cs;
-    iar = (sym live-now i).cpu.iar;
-    private = private_bytes next.reach.pool (runs_here i);
-    store = shown next committed;
-    out = (sym live-now i).out;
-  }
+  left-is = plain-by committed next.reach seat live (live_in next seat) runner live-now
 
   next-is : first.next ≡ over_all (state_in next seat) first.next.store
   next-is = ap (λ (s : Plain). over_all s first.next.store) (sym first.shows ∙ left-is)
@@ -97,23 +79,10 @@ module _ (a : Activity) (seat : ℕ) (live : Live) (bytes : List ℕ) (marked : 
   state-others : (at : ℕ) → has a.seating.taken at ≡ true → (at == seat) ≡ false → IsState store (entry_in next at) (state_in next at)
   state-others at inside differs =
       subst (λ (e : Entry). IsState store e (state_in next at)) (sym (entry-others at differs))
-      (subst (IsState store (entry_in a at)) (λ i. state_for-at i) (follows.kept.stand at inside))
-    where
-      private-same : private_bytes next.reach.pool at ≡ private_bytes a.reach.pool at
-      private-same = went.seats at (taken-below a.seating sound.seating at inside) (λ same. both_ways (at == seat) differs (eq-eqb at seat (omega (arith, runner, same))))
-
-      live-same : live_in next at ≡ live_in a at
-      live-same = live-other a.live seat live at differs
-
-      state_for-at : state_in a at ≡ state_in next at
-      state_for-at i = record {
-        regs = (sym live-same i).cpu.regs;
-        cs = (sym live-same i).cpu.cs;
-        iar = (sym live-same i).cpu.iar;
-        private = sym private-same i;
-        store = [];
-        out = (sym live-same i).out;
-      }
+      (subst (IsState store (entry_in a at))
+      (state-by a.reach.pool next.reach.pool at (live_in a at) (live_in next at) (live-other a.live seat live at differs)
+      (sym (went.seats at (taken-below a.seating sound.seating at inside) (λ same. both_ways (at == seat) differs (eq-eqb at seat (omega (arith, runner, same)))))))
+      (follows.kept.stand at inside))
 
   kept-next : IsKept next committed
   kept-next = record {
@@ -137,7 +106,7 @@ module _ (a : Activity) (seat : ℕ) (live : Live) (bytes : List ℕ) (marked : 
     clean = went.clean;
   }
     where
-      wants : wanted (desk_over a committed []) entry ≡ touched (program_in a seat) a.reach.directory before
+      wants : wanted (desk_over a committed []) entry ≡ touched (program_in a seat) a.reach.directory (plain_over committed (live_in a seat).cpu a.reach (live_in a seat).out)
       wants =
           wanted-is (desk_over a committed []) entry (over_all (state_in a seat) state.bytes) left (shown a committed) state.at
           (ap (row (program_in a seat) a.reach.directory) shows ∙ went.goes.goes)
@@ -147,8 +116,5 @@ module _ (a : Activity) (seat : ℕ) (live : Live) (bytes : List ℕ) (marked : 
   goes-on = record {
     is_instruction = λ word order counts.
         (gone order counts).is_instruction word ∙ ap (λ (d : Desk). Going d (record counts { ran = counts.ran + 1 })) (sym (desk-next order));
-    follows = record {
-      orderly = subst IsOrderly (sym (desk-next [])) first.consistent;
-      kept = kept-next;
-    };
+    follows = record { orderly = subst IsOrderly (sym (desk-next [])) first.consistent; kept = kept-next };
   }

@@ -3,7 +3,7 @@ use Rattle.activations.proofs.Common.{◌≡◌, refl, ℕ, ◌+◌, ◌-◌, �
 use Rattle.flat_machine.specs.Due.{touched_within}
 use Rattle.activations.proofs.CommitLemmas.{told-kept}
 use Rattle.activations.proofs.ContestLemmas.{locks_told, orderly-other, requests_told, states_told}
-use Rattle.activations.proofs.SittingLemmas.{by_seat, sitter-other, entry-counted, entry-other, under-counted, live-other, live-there}
+use Rattle.activations.proofs.SittingLemmas.{by_seat, sitter-other, entry-counted, entry-other, under-counted, live-other, live-there, state-by, plain-by, state-shows}
 
 module _ (begins : Word → Turning) (attempt : Attempt) (refused : List ℕ) (a : Activity) (seat : ℕ) (committed : List ℕ) (order : List (ℕ × ℕ)) (counts : Counts)
     (wants : List Want) (owned eased : List Authority) (pool : Pool) (live : Live) (bytes : List ℕ) (marked : List (List ℕ)) (counted_pages : ℕ) (next : Plain)
@@ -41,9 +41,6 @@ module _ (begins : Word → Turning) (attempt : Attempt) (refused : List ℕ) (a
   same : entry ≡ record attempt.entry { waiting = free.ready.mark }
   same = one-entry 0 a.next (entries a) entry (record attempt.entry { waiting = free.ready.mark }) free.follows.orderly.active.ascend here free.ready.here (sym number)
 
-  gone-same : gone_on entry ≡ gone_on attempt.entry
-  gone-same = ap gone_on same
-
   state : IsState store entry (state_in a seat)
   state = free.follows.kept.stand seat taken
 
@@ -55,22 +52,11 @@ module _ (begins : Word → Turning) (attempt : Attempt) (refused : List ℕ) (a
       (alike : AreAlike (locks_in (locked a seat wants owned) seat) (locks_with attempt old))
       (grants : owners_told (number_under a) (authority_under eased) ≡ lowered (is_fine_page a.reach.directory) attempt (locks_with attempt old) (with_grants attempt refused old).authority)
       (went : HasExecuted before seat live bytes marked committed) where
-    runs_here : a.reach.runner - 1 ≡ seat
-    runs_here = ap (λ (n : ℕ). n - 1) runner ∙ omega arith
-
     -- the attempt ran over the bytes of all
     shows : over_all attempt.now (shown a committed) ≡ plain_over committed (live_in before seat).cpu before.reach (live_in before seat).out
-    shows = ap (λ (s : Plain). over_all s (shown a committed)) now-is ∙ then-same
-      where
-        then-same : over_all (over_all (state_in a seat) state.bytes) (shown a committed) ≡ plain_over committed (live_in before seat).cpu before.reach (live_in before seat).out
-        then-same i = record {
-          regs = (live_in a seat).cpu.regs;
-          cs = (live_in a seat).cpu.cs;
-          iar = (live_in a seat).cpu.iar;
-          private = (sym (moved.private seat below) ∙ ap (private_bytes pool) (sym runs_here)) i;
-          store = sym keeps.same i;
-          out = (live_in a seat).out;
-        }
+    shows = ap (λ (s : Plain). over_all s (shown a committed)) now-is
+        ∙ (λ i. over_all (state-by a.reach.pool pool seat (live_in a seat) (live_in before seat) refl (sym (moved.private seat below)) i) (sym keeps.same i))
+        ∙ state-shows before seat committed [] runner
 
     abbrev more : ℕ → Lines
     more at = if at == attempt.entry.number then locks_in (locked a seat wants owned) seat else locks_told a at
@@ -101,14 +87,13 @@ module _ (begins : Word → Turning) (attempt : Attempt) (refused : List ℕ) (a
 
     -- the entries and the desk after it
     entry-done : entry_in done seat ≡ gone_on attempt.entry
-    entry-done = entry-counted (with_entries (executed before seat live bytes marked) eased) seat 1 sound.seating.sixteen below ∙ gone-same
+    entry-done = entry-counted (with_entries (executed before seat live bytes marked) eased) seat 1 sound.seating.sixteen below ∙ (ap gone_on same)
 
     entry-others : (at : ℕ) → (at == seat) ≡ false → entry_in done at ≡ entry_in a at
     entry-others at differs = entry-other (with_entries (executed before seat live bytes marked) eased) seat 1 at differs
 
     entries-done : entries done ≡ replaced (gone_on attempt.entry) (entries a)
-    entries-done =
-        told-replaced a.seating.taken (entry_in a) (entry_in done) seat
+    entries-done = told-replaced a.seating.taken (entry_in a) (entry_in done) seat
         (λ at inside. ap (λ (e : Entry). (entry_in a at).number == e.number) (entry-counted (with_entries (executed before seat live bytes marked) eased) seat 1 sound.seating.sixteen below) ∙ sound.seats.apart at seat inside taken) entry-others
         ∙ ap (λ (e : Entry). replaced e (entries a)) entry-done
 
@@ -150,14 +135,7 @@ module _ (begins : Word → Turning) (attempt : Attempt) (refused : List ℕ) (a
     live-now = live-there a.live seat live (omega (arith, sound.live, below))
 
     left-is : left ≡ over_all (state_in done seat) left.store
-    left-is i = record {
-      regs = (sym live-now i).cpu.regs;
-      cs = (sym live-now i).cpu.cs;
-      iar = (sym live-now i).cpu.iar;
-      private = private_bytes done.reach.pool (runs_here i);
-      store = left.store;
-      out = (sym live-now i).out;
-    }
+    left-is = plain-by committed done.reach seat live (live_in done seat) runner live-now
 
     shown-as : (s t : Plain) (over : FlatStore) (e : Entry) → s ≡ over_all t s.store → IsState over e s → IsState over e t
     shown-as s t over e is stands = record { bytes = stands.bytes; at = stands.at ∙ ap (λ (p : Plain). Some (over_all p stands.bytes)) is }
@@ -171,29 +149,22 @@ module _ (begins : Word → Turning) (attempt : Attempt) (refused : List ℕ) (a
         (ap (λ (b : Bool). if b then left else states_told a (entry_in done at).number) (other-number at inside differs)
         ∙ ap (λ (e : Entry). states_told a e.number) (entry-others at differs)
         ∙ at-number a.seating.taken (entry_in a) (state_in a) (state_in a 16) at sound.seats inside
-        ∙ state-other at inside differs)
-        (went-on.told.stand (entry_in done at) (among-done at inside)))
+        ∙ state-other at inside differs) (went-on.told.stand (entry_in done at) (among-done at inside)))
       where
         state-other : (at : ℕ) → has a.seating.taken at ≡ true → (at == seat) ≡ false → state_in a at ≡ state_in done at
-        state-other at inside differs i = record {
-          regs = (sym (live-other a.live seat live at differs) i).cpu.regs;
-          cs = (sym (live-other a.live seat live at differs) i).cpu.cs;
-          iar = (sym (live-other a.live seat live at differs) i).cpu.iar;
-          private = (sym (moved.private at (taken-below a.seating sound.seating at inside)) ∙ sym (went.seats at (taken-below a.seating sound.seating at inside) (λ it. both_ways (at == seat) differs (eq-eqb at seat (omega (arith, runner, it)))))) i;
-          store = [];
-          out = (sym (live-other a.live seat live at differs) i).out;
-        }
+        state-other at inside differs =
+            state-by a.reach.pool done.reach.pool at (live_in a at) (live_in done at) (live-other a.live seat live at differs)
+            (sym (moved.private at (taken-below a.seating sound.seating at inside)) ∙ sym (went.seats at (taken-below a.seating sound.seating at inside) (λ it. both_ways (at == seat) differs (eq-eqb at seat (omega (arith, runner, it))))))
 
     wants-is : wanted old entry ≡ touched (program_in a seat) a.reach.directory (plain_over committed (live_in before seat).cpu before.reach (live_in before seat).out)
-    wants-is =
-        ap (wanted old) same ∙ wanted-is old attempt.entry attempt.now left (shown a committed) free.ready.now
+    wants-is = ap (wanted old) same ∙ wanted-is old attempt.entry attempt.now left (shown a committed) free.ready.now
         (ap (row attempt.entry.runs.program a.reach.directory) shows ∙ ap (λ (e : Entry). row e.runs.program a.reach.directory (plain_over committed (live_in before seat).cpu before.reach (live_in before seat).out)) (sym same) ∙ went.goes.goes)
         ∙ ap (touched attempt.entry.runs.program a.reach.directory) shows
         ∙ ap (λ (e : Entry). touched e.runs.program a.reach.directory (plain_over committed (live_in before seat).cpu before.reach (live_in before seat).out)) (sym same)
 
     marks-done : AreMarked store (entries done) (is_line_marked done.reach.pool)
     marks-done =
-        subst (λ (these : List Entry). AreMarked store these (is_line_marked done.reach.pool)) (ap (λ (e : Entry). replaced e (entries a)) gone-same ∙ sym entries-done)
+        subst (λ (these : List Entry). AreMarked store these (is_line_marked done.reach.pool)) (ap (λ (e : Entry). replaced e (entries a)) (ap gone_on same) ∙ sym entries-done)
         (marked-row store a.most_lines a.next (entries a) free.follows.orderly.active (is_line_marked a.reach.pool) free.follows.kept.marked entry (is_line_marked done.reach.pool) here
         (λ line. went.goes.marks line ∙ (λ i. has (slice_index_or (moved.marked i) (page_of_line line) []) (line % 16) || has (sym wants-is i).writes line)))
 

@@ -1,6 +1,7 @@
--- The authority of pages under identifiers of seats, and the state in a seat beside its entry.
-use Rattle.activations.proofs.Common.{not-false, ◌≡◌, refl, ℕ, suc, ◌+◌, ◌*◌, ◌/◌, ◌%◌, ◌<◌, ◌==◌, Bool, true, false, List, slice_index_or, arith, ap, sym, ◌∙◌, inl, inr, nat_tests, get_or_past, get_or-map-range_with_len, length-map-range_with_len, passing, has, page_of_line, permits, flat_lines, has-page, Authority, grant_of, lets, unowned, nobody, IsThere, StandsFor, Ascend, permitted-told, seat-told, sitter, IsOpenLine, Activity, flat_authority, authority_at, authority_under, number_under, entry_in, entries, desk_over, IsSound, KeepsDesk, IsIdentified, Grant}
+-- The authority of pages under identifiers of seats, and a seat that is left: its entry goes, and its pages are nobody's.
+use Rattle.activations.proofs.Common.{not-false, ◌≡◌, refl, ℕ, suc, ◌+◌, ◌*◌, ◌/◌, ◌%◌, ◌<◌, ◌==◌, Bool, true, false, List, slice_index_or, arith, ap, sym, ◌∙◌, inl, inr, nat_tests, get_or_past, get_or-map-range_with_len, length-map-range_with_len, passing, has, page_of_line, permits, flat_lines, has-page, Authority, grant_of, lets, unowned, nobody, IsThere, StandsFor, Ascend, permitted-told, seat-told, sitter, IsOpenLine, Activity, flat_authority, authority_at, authority_under, number_under, entry_in, entries, desk_over, IsSound, KeepsDesk, IsIdentified, Grant, zero, ◌≤◌, not, nat_lt, if◌then◌else◌, [], ◌∷◌, length, map, slice_set, range_with_len, subst, get_or-set_same, get_or-set_other, eqb-false, and_parts, and_from, not-true, length-map, length-set, get_or-map, All-filter, IsOfPage, has-filter, cleared_entry, owners_told, freed-told, others, told-others, number_in, left, taken-below, kept-left, same-with, other-with, of_page, nothing, of_seat, no_lines_of, released, authority_told, AreOfPages, vacated, cond_both, map-map}
 use Rattle.desk_law.proofs.Entries.{between}
+use Rattle.activations.proofs.SittingLemmas.{each_seat}
 
 pub nobody-page : (page : ℕ) → flat_authority page (grant_of unowned) ≡ nobody
 unfolding passing
@@ -15,19 +16,16 @@ pub permits-flat : (owned : List Authority) (line tid : ℕ) (store : Bool)
     → lets (slice_index_or (authority_under owned) (page_of_line line) nobody) tid line store
     ≡ lets (grant_of (slice_index_or owned (page_of_line line) unowned)) tid (line % 16) store
 permits-flat owned line tid store =
+    let whole : line ≡ line / 16 * 16 + line % 16 = omega arith in
     ap (λ (one : Grant). lets one tid line store) (under-page owned (line / 16))
     ∙ ap (λ (bit : Bool). permits ((grant_of (slice_index_or owned (line / 16) unowned)).owner == tid) (grant_of (slice_index_or owned (line / 16) unowned)).write bit store)
     (ap (has (flat_lines (line / 16) (grant_of (slice_index_or owned (line / 16) unowned)).lines)) whole
     ∙ has-page (line / 16) (line % 16) (grant_of (slice_index_or owned (line / 16) unowned)).lines)
-  where
-    whole : line ≡ line / 16 * 16 + line % 16
-    whole = omega arith
 
 module _ (a : Activity) (sound : IsSound a) (committed : List ℕ) (ascend : Ascend 0 (entries a) a.next) where
   -- those that sit have numbers from 1 on
   pub number-some : (seat : ℕ) → has a.seating.taken seat ≡ true → 0 < (sitter a.seating seat).number
-  number-some seat taken =
-      (between 0 a.next (entries a) (entry_in a seat) ascend (seat-told a.seating.taken (entry_in a) seat taken)).0
+  number-some seat taken = (between 0 a.next (entries a) (entry_in a seat) ascend (seat-told a.seating.taken (entry_in a) seat taken)).0
 
   -- on each page the identifier of a taken seat stands where its number is told
   pub stands-for : (seat : ℕ) → has a.seating.taken seat ≡ true → StandsFor (number_under a) (seat + 1) (sitter a.seating seat).number (authority_under a.reach.entries)
@@ -39,13 +37,11 @@ module _ (a : Activity) (sound : IsSound a) (committed : List ℕ) (ascend : Asc
   }
     where
       by_owner : (one : Authority) → IsIdentified a.seating.taken one → (one.tid == seat + 1) ≡ (number_under a one.tid == (sitter a.seating seat).number)
-      by_owner one (inl none) =
-          ap (λ (e : Authority). e.tid == seat + 1) none
+      by_owner one (inl none) = ap (λ (e : Authority). e.tid == seat + 1) none
           ∙ (let some = number-some seat taken in
           let left : (0 == seat + 1) ≡ false = grind (arith, nat_tests) in
           let right : (0 == (sitter a.seating seat).number) ≡ false = grind (arith, nat_tests, some) in
-          left ∙ sym right)
-          ∙ sym (ap (λ (e : Authority). number_under a e.tid == (sitter a.seating seat).number) none)
+          left ∙ sym right) ∙ sym (ap (λ (e : Authority). number_under a e.tid == (sitter a.seating seat).number) none)
       by_owner one (inr (other, inside, is)) =
           let next : other + 1 ≡ suc other = omega arith in
           let shift : (other + 1 == seat + 1) ≡ (other == seat) = grind (arith, nat_tests) in
@@ -64,3 +60,95 @@ module _ (a : Activity) (sound : IsSound a) (committed : List ℕ) (follows : Ke
         ∙ ap (λ (tid : ℕ). lets (grant_of (slice_index_or a.reach.entries (page_of_line line) unowned)) tid (line % 16) store) (sym runner)
         ∙ not-false (lets (grant_of (slice_index_or a.reach.entries (page_of_line line) unowned)) a.reach.runner (line % 16) store) is.permits;
   }
+
+-- an entry that is cleared is told as a page that is freed
+cleared-told : (page tid : ℕ) (one : Authority) → flat_authority page (grant_of (cleared_entry tid one)) ≡ (if (flat_authority page (grant_of one)).owner == tid then nobody else flat_authority page (grant_of one))
+cleared-told page tid one = grind (arith, nobody-page)
+
+pub map-range : (f g : ℕ → Grant) (from count : ℕ) → ((page : ℕ) → from ≤ page → page < from + count → f page ≡ g page) → map f (range_with_len from count) ≡ map g (range_with_len from count)
+map-range f g from zero same = refl
+map-range f g from (suc count) same =
+    λ i. same from (omega arith) (omega arith) i ∷ map-range f g (from + 1) count (λ page above below. same page (omega (arith, above)) (omega (arith, below))) i
+
+-- the pages of an identifier that is cleared are nobody's
+pub cleared-under : (owned : List Authority) (tid : ℕ) → authority_under (map (cleared_entry tid) owned) ≡ map (λ (one : Grant). if one.owner == tid then nobody else one) (authority_under owned)
+cleared-under owned tid =
+    ap (λ (n : ℕ). map (authority_at (map (cleared_entry tid) owned)) (range_with_len 0 n)) (length-map owned (cleared_entry tid))
+    ∙ map-range (authority_at (map (cleared_entry tid) owned)) (λ page. if (authority_at owned page).owner == tid then nobody else authority_at owned page) 0 (length owned)
+    (λ page above below. ap (λ (one : Authority). flat_authority page (grant_of one)) (get_or-map (cleared_entry tid) owned page unowned unowned (omega (arith, below))) ∙ cleared-told page tid (slice_index_or owned page unowned))
+    ∙ sym (map-map (λ (one : Grant). if one.owner == tid then nobody else one) (authority_at owned) (range_with_len 0 (length owned)))
+
+-- nothing is of pages
+pub none-of-page : (pages page : ℕ) → of_page (no_lines_of pages) page ≡ nothing
+none-of-page zero page = refl
+none-of-page (suc pages) zero = refl
+none-of-page (suc pages) (suc page) = none-of-page pages page
+
+no-line-of-page : IsOfPage []
+unfolding passing
+no-line-of-page = refl
+
+pub none-of-pages : (pages : ℕ) → AreOfPages (no_lines_of pages)
+none-of-pages pages = record {
+  reads = λ page. subst (λ (held : List ℕ × List ℕ). IsOfPage held.0) (sym (none-of-page pages page)) no-line-of-page;
+  writes = λ page. subst (λ (held : List ℕ × List ℕ). IsOfPage held.1) (sym (none-of-page pages page)) no-line-of-page;
+}
+
+module _ (a : Activity) (seat : ℕ) (sound : IsSound a) (taken : has a.seating.taken seat ≡ true) where
+  below : seat < 16
+  below = taken-below a.seating sound.seating seat taken
+
+  -- those that are left
+  pub left-taken : (at : ℕ) → has (left a.seating seat).taken at ≡ true → (has a.seating.taken at ≡ true) × ((at == seat) ≡ false)
+  left-taken at inside =
+      let parts = and_parts (has a.seating.taken at) (not (at == seat)) (sym (has-filter (λ other. not (other == seat)) a.seating.taken at) ∙ inside) in
+      (parts.0, not-true (at == seat) parts.1)
+
+  pub entries-left : entries (vacated a seat) ≡ others (entry_in a seat) (entries a)
+  entries-left = told-others a.seating.taken (entry_in a) seat (λ at inside. sound.seats.apart at seat inside taken)
+
+  pub authority-left : StandsFor (number_under a) (seat + 1) (sitter a.seating seat).number (authority_under a.reach.entries)
+      → authority_told (vacated a seat) ≡ map (λ (one : Grant). if one.owner == (sitter a.seating seat).number then nobody else one) (authority_told a)
+  authority-left stands = ap (owners_told (number_under a)) (cleared-under a.reach.entries (seat + 1))
+      ∙ freed-told (number_under a) refl (seat + 1) (sitter a.seating seat).number (authority_under a.reach.entries) stands
+
+  begun-other : (at : ℕ) → (at == seat) ≡ false → slice_index_or (slice_set a.reach.begun seat false) at false ≡ slice_index_or a.reach.begun at false
+  begun-other at differs = get_or-set_other a.reach.begun seat at false false (eqb-false at seat differs)
+
+  identified-left : (one : Authority) → IsIdentified a.seating.taken one → IsIdentified (left a.seating seat).taken (cleared_entry (seat + 1) one)
+  identified-left one (inl none) = inl (grind arith)
+  identified-left one (inr (other, inside, same)) = cond_both (one.tid == seat + 1) _ _ (IsIdentified (left a.seating seat).taken) (λ _. inl refl) (λ e.
+      let differs : (other == seat) ≡ false = grind (arith, nat_tests, e, same) in
+      inr (other, has-filter (λ other. not (other == seat)) a.seating.taken other ∙ and_from (has a.seating.taken other) (not (other == seat)) inside (ap not differs), same))
+
+  pub sound-left : IsSound (vacated a seat)
+  sound-left = record {
+    seating = kept-left a.seating sound.seating seat below;
+    seats = record { apart = λ at other inside there. sound.seats.apart at other (left-taken at inside).0 (left-taken other there).0 };
+    numbers = All-filter (λ other. not (other == seat)) (λ at. number_in a.seating at < a.next) a.seating.taken sound.numbers;
+    live = sound.live;
+    pages = sound.pages;
+    lines = each_seat {P = λ at. AreOfPages (of_seat (released a.seating.holding seat) at)} seat
+        (subst AreOfPages (sym (same-with a.seating.holding seat (no_lines_of a.seating.holding.pages) sound.seating.whole below)) (none-of-pages a.seating.holding.pages))
+        (λ at e. subst AreOfPages (sym (other-with a.seating.holding seat (no_lines_of a.seating.holding.pages) sound.seating.whole at e)) (sound.lines at));
+    requests = λ at request inside waits. sound.requests at request (left-taken at inside).0 waits;
+    begun = length-set a.reach.begun seat false ∙ sound.begun;
+    entries = length-map a.reach.entries (cleared_entry (seat + 1)) ∙ sound.entries;
+    set_up = λ at inside.
+        let (there, differs) = left-taken at inside in let was = sound.set_up at there in
+        record { program = was.program; begun = begun-other at differs ∙ was.begun; registers = was.registers; printed = was.printed; few = was.few };
+    free = λ at gone.
+        let there = get_or-set_same a.reach.begun seat false false (omega (arith, sound.begun, below)) in
+        let is = has-filter (λ other. not (other == seat)) a.seating.taken at in let was = sound.free at in
+        let other = begun-other at in grind (arith, nat_tests, there, is, was, other);
+    identified = λ page. by_page page (nat_lt page (length a.reach.entries)) refl;
+  }
+    where
+      out : (page : ℕ) → nat_lt page (length a.reach.entries) ≡ false → length (map (cleared_entry (seat + 1)) a.reach.entries) ≤ page
+      out page e = let n : length (map (cleared_entry (seat + 1)) a.reach.entries) ≡ length a.reach.entries = length-map a.reach.entries (cleared_entry (seat + 1)) in grind (arith, nat_tests, e, n)
+
+      by_page : (page : ℕ) → (within : Bool) → nat_lt page (length a.reach.entries) ≡ within → IsIdentified (left a.seating seat).taken (slice_index_or (map (cleared_entry (seat + 1)) a.reach.entries) page unowned)
+      by_page page true e =
+          subst (IsIdentified (left a.seating seat).taken) (sym (get_or-map (cleared_entry (seat + 1)) a.reach.entries page unowned unowned (grind (arith, nat_tests, e))))
+          (identified-left (slice_index_or a.reach.entries page unowned) (sound.identified page))
+      by_page page false e = inl (get_or_past (map (cleared_entry (seat + 1)) a.reach.entries) page unowned (out page e))

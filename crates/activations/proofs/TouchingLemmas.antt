@@ -1,16 +1,80 @@
 -- The lines that an access touches, page by page, and how many will have been written with them.
-use Rattle.activations.proofs.Common.{or_parts, range_with_len, arith, ap, sym, ◌∙◌, subst, eq-eqb, ne_eqb, both_ways, nat_tests, append-nil, length-range_with_len, sum_by-le, All-nil, All-cons, All-head, All-tail, All-get_or, All-from_get_or, PageSize, Two, Four, Layout, start_of, length_of, byte_count, page_count, IsLegal, line_of, line_count, passing, between, difference, IsOfPage, line_bytes, of_page_where, line-below, segment-within, has, Lines, no_lines, pages_of, Want, lines_wanted, nothing, write_count, AreWithin, of_seat, held_at, Plain, Program, in_segment, in_window, in_register, located, lines_at, Registers, located_by, virtual_at, Access, lines_of_access, registers_of_program, TurnEnd, ending_told, Counts, AreConsistent, AreDistinct, filter-short, AreOfPage, Reach, private_segment, is_private, offset_of, place_at, Activity, live_in, program_in, entries, store_over, AreOfPages, IsSound, IsKept, IsToServe, AreTouched, attempt_in, lines_with, ComesToEnd, instruction_in, rolled, RollsBack, HasEnded, Touch, lines_between, pages_wanted, wants_of, AreWanted, ◌≡◌, refl, ℕ, zero, suc, ◌+◌, ◌-◌, ◌/◌, ◌%◌, ◌^◌, ◌<◌, ◌≤◌, ◌==◌, ◌||◌, ◌&&◌, nat_le, nat_lt, if◌then◌else◌, Bool, true, false, List, [], ◌∷◌, ◌++◌, length, slice_index_or, Option, Some, None, Result, Ok, Err}
-use Rattle.flat_machine.specs.declared.machine.Located.{Located}
-use Rattle.flat_machine.specs.declared.machine.Located.TheVariants.{Private, Shared, Refused}
+use Rattle.activations.proofs.Common.{◌==◌, range_with_len, nat_tests, passing, between, append-nil, get_or-map-range_with_len, flat_lines, lines_wanted, lines_between, pages_of, ◌≡◌, ℕ, ◌+◌, ◌-◌, ◌*◌, ◌/◌, ◌%◌, ◌<◌, ◌≤◌, Bool, true, false, List, [], ◌∷◌, ◌++◌, refl, sym, ◌∙◌, ap, arith, map, get_or, inl, inr, cases_eq, or_parts, subst, eq-eqb, ne_eqb, both_ways, length-range_with_len, sum_by-le, All-nil, All-cons, All-head, All-tail, All-get_or, All-from_get_or, PageSize, Two, Four, Layout, start_of, length_of, byte_count, page_count, IsLegal, line_of, line_count, difference, IsOfPage, line_bytes, of_page_where, line-below, segment-within, has, Lines, no_lines, Want, nothing, write_count, AreWithin, of_seat, held_at, Program, in_segment, in_window, in_register, located, lines_at, Registers, located_by, virtual_at, Access, lines_of_access, registers_of_program, AreDistinct, filter-short, AreOfPage, private_segment, is_private, offset_of, place_at, Activity, live_in, program_in, AreOfPages, IsSound, lines_with, Touch, pages_wanted, wants_of, AreWanted, zero, suc, ◌^◌, ◌||◌, ◌&&◌, nat_le, if◌then◌else◌, length, slice_index_or, Option, Some, None, Result, Ok, Err, Located, Private, Shared, Refused}
 use Rattle.flat_machine.specs.declared.machine.Window.{Window}
 use Rattle.page_table.specs.declared.segment_regs.Check.{Check}
 use Rattle.page_table.specs.declared.segment_regs.Virtual.{Virtual}
 use Rattle.storage_unit.proofs.PlaceLemmas.{under, offset-is}
 use Rattle.storage_unit.proofs.LocatedLemmas.{lies-where}
-use Rattle.activations.proofs.LimitLemmas.{written-none, written-one, written-two}
-use Rattle.activations.proofs.RefusedLemmas.{apart-one, apart-two}
-use Rattle.activations.proofs.StartLemmas.{lines-are, journal}
-use Rattle.activations.proofs.TouchLemmas.{sets_between, page-between}
+use Rattle.activations.proofs.HoldingLemmas.{written-none, written-one, written-two}
+use Rattle.activations.proofs.GrantLemmas.{apart-one, apart-two}
+
+-- two functions that are the same on the first numbers, as a table of them tells
+tabled : (f g : ℕ → List ℕ) (n i : ℕ) → map f (range_with_len 0 n) ≡ map g (range_with_len 0 n) → i < n → f i ≡ g i
+tabled f g n i same below = sym (get_or-map-range_with_len f 0 n i i [] below (omega arith)) ∙ ap (λ (values : List (List ℕ)). get_or values i []) same ∙ get_or-map-range_with_len g 0 n i i [] below (omega arith)
+
+between-one : (line : ℕ) → line < 16 → between line line ≡ line ∷ []
+unfolding passing
+between-one line small = tabled (λ line. between line line) (λ line. line ∷ []) 16 line refl small
+
+between-two : (line : ℕ) → line + 1 < 16 → between line (line + 1) ≡ line ∷ (line + 1) ∷ []
+unfolding passing
+between-two line small = tabled (λ line. between line (line + 1)) (λ line. line ∷ (line + 1) ∷ []) 15 line refl (omega (arith, small))
+
+-- one line, or two neighbours in a page, are its lines of that page
+pub flat-between : (first last : ℕ) → first ≤ last → last ≤ first + 1 → first / 16 ≡ last / 16
+    → flat_lines (first / 16) (between (first % 16) (last % 16)) ≡ range_with_len first (last + 1 - first)
+flat-between first last order near one = by_test (last == first) refl
+  where
+    by_test : (same : Bool) → (last == first) ≡ same → flat_lines (first / 16) (between (first % 16) (last % 16)) ≡ range_with_len first (last + 1 - first)
+    by_test true e =
+        let count : last + 1 - first ≡ 1 = grind (arith, nat_tests) in
+        let at : last % 16 ≡ first % 16 = grind (arith, nat_tests) in
+        let whole : first / 16 * 16 + first % 16 ≡ first = omega arith in
+        ap (λ (n : ℕ). flat_lines (first / 16) (between (first % 16) n)) at
+        ∙ ap (flat_lines (first / 16)) (between-one (first % 16) (omega arith)) ∙ ap (λ (n : ℕ). n ∷ []) whole
+        ∙ sym (ap (λ (n : ℕ). range_with_len first n) count)
+    by_test false e =
+        let count : last + 1 - first ≡ 2 = grind (arith, nat_tests) in
+        let at : last % 16 ≡ first % 16 + 1 = grind (arith, nat_tests) in
+        let whole : first / 16 * 16 + first % 16 ≡ first = omega arith in
+        let next : first / 16 * 16 + (first % 16 + 1) ≡ first + 1 = omega arith in
+        ap (λ (n : ℕ). flat_lines (first / 16) (between (first % 16) n)) at
+        ∙ ap (flat_lines (first / 16)) (between-two (first % 16) (grind (arith, nat_tests)))
+        ∙ (λ i. whole i ∷ next i ∷ []) ∙ sym (ap (λ (n : ℕ). range_with_len first n) count)
+
+-- what is wanted of one page, and of two, in flat lines
+wanted-flat : (page : ℕ) (reads writes : List ℕ)
+    → lines_wanted (record { page = page; reads = reads; writes = writes } ∷ []) ≡ record { reads = flat_lines page reads; writes = flat_lines page writes }
+wanted-flat page reads writes i = record { reads = append-nil (flat_lines page reads) i; writes = append-nil (flat_lines page writes) i }
+
+-- the lines from a first to a last of one page, as those to read and those to write
+abbrev pub sets_between : (first last : ℕ) → Bool → List ℕ × List ℕ
+sets_between first last true = ([], between (first % 16) (last % 16))
+sets_between first last false = (between (first % 16) (last % 16), [])
+
+pub one-page : (first last : ℕ) (store : Bool) (sets : List ℕ × List ℕ) → first ≤ last → last ≤ first + 1 → first / 16 ≡ last / 16 → sets ≡ sets_between first last store
+    → lines_wanted (record { page = first / 16; reads = sets.0; writes = sets.1 } ∷ []) ≡ lines_between first last store
+one-page first last true sets order near one is =
+    ap (λ (pair : List ℕ × List ℕ). lines_wanted (record { page = first / 16; reads = pair.0; writes = pair.1 } ∷ [])) is
+    ∙ wanted-flat (first / 16) [] (between (first % 16) (last % 16)) ∙ ap (λ (lines : List ℕ). record { reads = []; writes = lines }) (flat-between first last order near one)
+one-page first last false sets order near one is =
+    ap (λ (pair : List ℕ × List ℕ). lines_wanted (record { page = first / 16; reads = pair.0; writes = pair.1 } ∷ [])) is
+    ∙ wanted-flat (first / 16) (between (first % 16) (last % 16)) [] ∙ ap (λ (lines : List ℕ). record { reads = lines; writes = [] }) (flat-between first last order near one)
+
+-- one line, or two neighbours in a page, have that page
+same_page : (first last : ℕ) → first ≤ last → last ≤ first + 1 → first / 16 ≡ last / 16 → pages_of (range_with_len first (last + 1 - first)) ≡ first / 16 ∷ []
+same_page first last order near one = elim (cases_eq last first) [
+  | inl same ↦ let count : last + 1 - first ≡ 1 = omega arith in ap (λ (n : ℕ). pages_of (range_with_len first n)) count
+  | inr apart ↦
+      let count : last + 1 - first ≡ 2 = omega arith in let next : (first + 1) / 16 ≡ first / 16 = omega arith in
+      ap (λ (n : ℕ). pages_of (range_with_len first n)) count ∙ grind (arith, nat_tests, next)
+]
+
+pub page-between : (first last : ℕ) (store : Bool) → first ≤ last → last ≤ first + 1 → first / 16 ≡ last / 16
+    → first / 16 ∷ [] ≡ pages_of ((lines_between first last store).reads ++ (lines_between first last store).writes)
+page-between first last true order near one = sym (same_page first last order near one)
+page-between first last false order near one =
+    sym (same_page first last order near one) ∙ ap pages_of (sym (append-nil (range_with_len first (last + 1 - first))))
 
 -- no line is a set of lines
 of-none : IsOfPage []
@@ -23,9 +87,6 @@ pub sets-one : (page first last : ℕ) (store : Bool) (sets : List ℕ × List �
 sets-one page first last store sets is =
     subst (λ (pair : List ℕ × List ℕ). AreOfPage (record { page = page; reads = pair.0; writes = pair.1 } ∷ [])) (sym is) (by_store store)
   where
-    of-between : IsOfPage (between (first % 16) (last % 16))
-    of-between = of_page_where (λ line. nat_le (first % 16) line && nat_le line (last % 16))
-
     alone : (want : Want) → IsOfPage want.reads → IsOfPage want.writes → AreOfPage (want ∷ [])
     alone want reads writes = record {
       reads = All-cons (λ (w : Want). IsOfPage w.reads) want [] reads (All-nil (λ (w : Want). IsOfPage w.reads));
@@ -33,8 +94,8 @@ sets-one page first last store sets is =
     }
 
     by_store : (store : Bool) → AreOfPage (record { page = page; reads = (sets_between first last store).0; writes = (sets_between first last store).1 } ∷ [])
-    by_store true = alone (record { page = page; reads = []; writes = between (first % 16) (last % 16) }) of-none of-between
-    by_store false = alone (record { page = page; reads = between (first % 16) (last % 16); writes = [] }) of-between of-none
+    by_store true = alone (record { page = page; reads = []; writes = between (first % 16) (last % 16) }) of-none (of_page_where (λ line. nat_le (first % 16) line && nat_le line (last % 16)))
+    by_store false = alone (record { page = page; reads = between (first % 16) (last % 16); writes = [] }) (of_page_where (λ line. nat_le (first % 16) line && nat_le line (last % 16))) of-none
 
 -- lines of one page of the store
 pub wanted-one : (d : Layout) (want : Want) (first last : ℕ) (store : Bool) → want.page ≡ first / 16 → AreOfPage (want ∷ [])
@@ -45,16 +106,13 @@ wanted-one d want first last store page sets lines order near one below = record
   sets = sets;
   apart = apart-one want sets;
   once = (refl, tt);
-  pages =
-      ap (λ (p : ℕ). p ∷ []) page ∙ page-between first last store order near one
-      ∙ ap (λ (l : Lines). pages_of (l.reads ++ l.writes)) (sym lines);
+  pages = ap (λ (p : ℕ). p ∷ []) page ∙ page-between first last store order near one ∙ ap (λ (l : Lines). pages_of (l.reads ++ l.writes)) (sym lines);
 }
 
 -- two neighbours on different pages have these pages
 two-pages : (first last : ℕ) → first ≤ last → last ≤ first + 1 → (first / 16 ≡ last / 16 → ⊥) → first / 16 ∷ last / 16 ∷ [] ≡ pages_of (range_with_len first (last + 1 - first))
 two-pages first last order near differs =
-    let next : last ≡ first + 1 = omega arith in
-    let count : last + 1 - first ≡ 2 = omega arith in
+    let next : last ≡ first + 1 = omega arith in let count : last + 1 - first ≡ 2 = omega arith in
     let away : ((first + 1) / 16 == first / 16) ≡ false = grind (arith, nat_tests, next) in
     ap (λ (n : ℕ). first / 16 ∷ n / 16 ∷ []) next
     ∙ sym (ap (λ (again : Bool). if again || false then (first + 1) / 16 ∷ [] else first / 16 ∷ (first + 1) / 16 ∷ []) away)
@@ -71,14 +129,12 @@ pub wanted-two : (d : Layout) (one two : Want) (first last : ℕ) (store : Bool)
     → lines_wanted (one ∷ two ∷ []) ≡ lines_between first last store → first ≤ last → last ≤ first + 1 → (first / 16 ≡ last / 16 → ⊥) → last < line_count d
     → AreWanted d (one ∷ two ∷ [])
 wanted-two d one two first last store page page' set set' lines order near differs below = record {
-  within =
-      All-cons (λ (w : Want). w.page < page_count d) one (two ∷ []) (omega (arith, page, order, below))
+  within = All-cons (λ (w : Want). w.page < page_count d) one (two ∷ []) (omega (arith, page, order, below))
       (All-cons (λ (w : Want). w.page < page_count d) two [] (omega (arith, page', below)) (All-nil (λ (w : Want). w.page < page_count d)));
   sets = sets;
   apart = apart-two one two sets others;
   once = (ap (λ (same : Bool). same || false) (ne_eqb two.page one.page (λ same. others (sym same))), (refl, tt));
-  pages =
-      (λ i. page i ∷ page' i ∷ []) ∙ two-between first last store order near differs
+  pages = (λ i. page i ∷ page' i ∷ []) ∙ two-between first last store order near differs
       ∙ ap (λ (l : Lines). pages_of (l.reads ++ l.writes)) (sym lines);
 }
   where
@@ -133,23 +189,17 @@ empty false = refl
 
 -- The access of who sits in a seat.
 module _ (a : Activity) (seat : ℕ) (sound : IsSound a) (taken : has a.seating.taken seat ≡ true) (legal : IsLegal a.reach.directory.segments) (access : Access) where
-  -- the unit with the seat's registers
-  abbrev selected : Reach
-  selected = record a.reach { registers = (live_in a seat).registers; runner = seat + 1 }
-
   found-where : (found : Result Virtual Check) → located_by (live_in a seat).registers access.address access.bytes access.store ≡ found
       → place_at a.reach.directory found ≡ located (program_in a seat) a.reach.directory access.address access.bytes access.store
   found-where found is =
-      let here : seat + 1 - 1 ≡ seat = omega arith in
-      ap (place_at a.reach.directory) (sym is)
-      ∙ lies-where selected (program_in a seat) legal
+      let here : seat + 1 - 1 ≡ seat = omega arith in ap (place_at a.reach.directory) (sym is)
+      ∙ lies-where (record a.reach { registers = (live_in a seat).registers; runner = seat + 1 }) (program_in a seat) legal
       (record { selected = omega arith; registers = (sound.set_up seat taken).registers ∙ ap (λ (s : ℕ). registers_of_program (program_in a seat) a.reach.directory (private_segment s)) (sym here) })
       access.address access.bytes access.store
 
   nowhere : (place : Located) → located (program_in a seat) a.reach.directory access.address access.bytes access.store ≡ place → lines_at a.reach.directory place access.bytes ≡ []
       → no_lines ≡ lines_of_access (program_in a seat) a.reach.directory access
-  nowhere place is none =
-      empty access.store ∙ sym (ap (by_store access.store) none)
+  nowhere place is none = empty access.store ∙ sym (ap (by_store access.store) none)
       ∙ sym (ap (λ (at : Located). by_store access.store (lines_at a.reach.directory at access.bytes)) is)
 
   -- it touches none where it is refused, or lies in private storage
@@ -159,8 +209,7 @@ module _ (a : Activity) (seat : ℕ) (sound : IsSound a) (taken : has a.seating.
 
   module _ (first : Virtual) (is : located_by (live_in a seat).registers access.address access.bytes access.store ≡ Ok first) where
     pub touches-private : is_private first.segment ≡ true → no_lines ≡ lines_of_access (program_in a seat) a.reach.directory access
-    touches-private own =
-        nowhere (Private (offset_of a.reach.directory.page first))
+    touches-private own = nowhere (Private (offset_of a.reach.directory.page first))
         (sym (found-where (Ok first) is) ∙ ap (λ (b : Bool). if b then Private (offset_of a.reach.directory.page first) else Shared (start_of a.reach.directory first.segment + offset_of a.reach.directory.page first)) own) refl
 
     -- the offset of its first byte is what its address has below the register's number
@@ -177,41 +226,25 @@ module _ (a : Activity) (seat : ℕ) (sound : IsSound a) (taken : has a.seating.
     module _ (low : is_private first.segment ≡ false) where
       shared : located (program_in a seat) a.reach.directory access.address access.bytes access.store ≡ Shared place
       shared =
-          let start = start_of a.reach.directory first.segment in
-          sym (found-where (Ok first) is)
+          let start = start_of a.reach.directory first.segment in sym (found-where (Ok first) is)
           ∙ ap (λ (b : Bool). if b then Private (offset_of a.reach.directory.page first) else Shared (start + offset_of a.reach.directory.page first)) low
           ∙ ap (λ (offset : ℕ). Shared (start + offset)) kept
 
       -- and else those from its first byte's to its last byte's, all in the store
       pub touches-shared : 0 < access.bytes
           → lines_between (line_of a.reach.directory place) (line_of a.reach.directory (place + access.bytes - 1)) access.store ≡ lines_of_access (program_in a seat) a.reach.directory access
-      touches-shared some =
-          ap (by_store access.store) (lines-of a.reach.directory place access.bytes some)
+      touches-shared some = ap (by_store access.store) (lines-of a.reach.directory place access.bytes some)
           ∙ sym (ap (λ (at : Located). by_store access.store (lines_at a.reach.directory at access.bytes)) shared)
 
       pub touches-within : place + access.bytes ≤ byte_count a.reach.directory
       touches-within = shared-ends (program_in a seat) a.reach.directory (access.address / 2 ^ 28) (access.address % 2 ^ 28) access.bytes access.store place shared
 
--- The lines that a row touches, told page by page, are those of the instruction under way.
-pub are-touched : (a : Activity) (seat : ℕ) (committed : List ℕ) (order : List (ℕ × ℕ)) (wants : List Want) (next : Plain) (to : IsToServe a seat committed wants next)
-    → AreWanted a.reach.directory wants → AreTouched (attempt_in a seat committed order wants next to) wants
-are-touched a seat committed order wants next to wanted = record {
-  pages =
-      ap (λ (l : Lines). pages_of (l.reads ++ l.writes))
-      (lines-are a seat committed order (record { ran = 0; pages = 0; locks = 0; cycles = [] }) wants next to.sound to.taken to.runner to.follows to.goes to.touches)
-      ∙ sym wanted.pages;
-  apart = wanted.apart;
-  sets = wanted.sets;
-}
-
 -- a set of a page has at most sixteen lines
 few-of-page : (set : List ℕ) → IsOfPage set → length set ≤ 16
 unfolding passing
 few-of-page set of =
-    let all = length-range_with_len 0 16 in
-    let kept = filter-short (λ line. has set line) (range_with_len 0 16) in
-    let same = ap length of in
-    omega (arith, all, kept, same)
+    let all = length-range_with_len 0 16 in let kept = filter-short (λ line. has set line) (range_with_len 0 16) in
+    let same = ap length of in omega (arith, all, kept, same)
 
 -- so what is held of so few pages is few
 pub few-written : (pages : List (List ℕ × List ℕ)) → AreOfPages pages → length pages ≤ 1024 → write_count pages ≤ 16384
@@ -247,16 +280,12 @@ module _ (a : Activity) (seat : ℕ) (sound : IsSound a) where
         ∙ ap (λ (t : Touch). lines_with a seat (wants_of t)) (sym is)
 
     module _ (first second : Want) (is : touch ≡ Touch.Two first second) where
-      within-two : AreWithin (page_count a.reach.directory) (first ∷ second ∷ [])
-      within-two = subst (λ (t : Touch). AreWithin (page_count a.reach.directory) (wants_of t)) is wanted.within
-
       pub first-within : first.page < page_count a.reach.directory
-      first-within = All-head (λ (w : Want). w.page < page_count a.reach.directory) first (second ∷ []) within-two
+      first-within = All-head (λ (w : Want). w.page < page_count a.reach.directory) first (second ∷ []) (subst (λ (t : Touch). AreWithin (page_count a.reach.directory) (wants_of t)) is wanted.within)
 
       pub second-within : second.page < page_count a.reach.directory
-      second-within =
-          All-head (λ (w : Want). w.page < page_count a.reach.directory) second []
-          (All-tail (λ (w : Want). w.page < page_count a.reach.directory) first (second ∷ []) within-two)
+      second-within = All-head (λ (w : Want). w.page < page_count a.reach.directory) second []
+          (All-tail (λ (w : Want). w.page < page_count a.reach.directory) first (second ∷ []) (subst (λ (t : Touch). AreWithin (page_count a.reach.directory) (wants_of t)) is wanted.within))
 
       pub counts-two : write_count pages
           + (length (difference first.writes (held_at a.seating.holding seat first.page).1) + length (difference second.writes (held_at a.seating.holding seat second.page).1))
@@ -266,18 +295,5 @@ module _ (a : Activity) (seat : ℕ) (sound : IsSound a) where
           ∙ ap (λ (t : Touch). lines_with a seat (wants_of t)) (sym is)
         where
           others : first.page ≡ second.page → ⊥
-          others same =
-              both_ways (second.page == first.page)
+          others same = both_ways (second.page == first.page)
               (or_parts (second.page == first.page) false (subst (λ (t : Touch). AreDistinct (pages_wanted (wants_of t))) is wanted.once).0).0 (eq-eqb second.page first.page (sym same))
-
--- Past the limit who sits in the seat is rolled back, and the turn ends with that.
-pub over-limit : (a now : Activity) (seat : ℕ) (wants : List Want) (end : TurnEnd) → now ≡ rolled a seat now.reach.pool
-    → ((committed : List ℕ) → AreConsistent (store_over a committed) a.most_lines a.next (entries a) → IsKept a committed → RollsBack a seat now.reach.pool committed)
-    → nat_lt a.most_lines (lines_with a seat wants) ≡ true → end ≡ TurnEnd.Journal (lines_with a seat wants) a.most_lines
-    → (committed : List ℕ) (order : List (ℕ × ℕ)) (counts : Counts) (next : Plain) → IsToServe a seat committed wants next
-    → HasEnded end (instruction_in a seat committed order counts) now committed order counts
-over-limit a now seat wants end shape rolls over is committed order counts next to =
-    subst (λ (how : TurnEnd). HasEnded how (instruction_in a seat committed order counts) now committed order counts) (sym is)
-    (λ printed.
-    subst (λ (left : Activity). ComesToEnd (instruction_in a seat committed order counts) left committed order counts (ending_told (TurnEnd.Journal (lines_with a seat wants) a.most_lines) printed)) (sym shape)
-    (journal a seat committed order counts wants next to.sound to.taken to.runner to.follows to.goes to.touches now.reach.pool (rolls committed to.follows.orderly.active to.follows.kept) over))

@@ -3,7 +3,7 @@ use Rattle.activations.proofs.Common.{◌≡◌, refl, ℕ, suc, ◌+◌, ◌-�
 use Rattle.desk_law.proofs.TurnLoop.{turning-goes, turning-ends, turning-commits, turning-limit}
 use Rattle.desk.specs.declared.answers.TurnEnd.TheVariants as end
 use Rattle.desk_law.proofs.TurnLoop as law
-use Rattle.activations.proofs.BringLemmas.{store-on}
+use Rattle.activations.proofs.FetchLemmas.{store-on}
 use Rattle.activations.proofs.KeptLemmas.{keeps-less, keeps-on, keeps-two}
 use Rattle.activations.proofs.RowLemmas.{orderly-order}
 use Rattle.activations.proofs.SittingLemmas.{number-counted}
@@ -26,11 +26,8 @@ turn-strides begins a after seat rows ran left committed order counts sound take
   follows = strode.follows committed 1 turning.follows;
 }
   where
-    below : seat < 16
-    below = taken-below a.seating sound.seating seat taken
-
     number : number_in (counted a seat 1).seating seat ≡ number_in a.seating seat
-    number = number-counted a seat 1 sound.seating.sixteen below seat
+    number = number-counted a seat 1 sound.seating.sixteen (taken-below a.seating sound.seating seat taken) seat
 
     first : rows ≡ ran
     first = omega (arith, same)
@@ -39,9 +36,8 @@ turn-strides begins a after seat rows ran left committed order counts sound take
     sum = omega arith
 
     later : number_in a.seating seat ≡ number_in (counted after seat (1 + ran)).seating seat
-    later =
-        ap (λ (s : Seating). number_in s seat) (sym strode.seating)
-        ∙ sym (number-counted after seat (1 + ran) (ap (λ (s : Seating). length s.sitters) strode.seating ∙ sound.seating.sixteen) below seat)
+    later = ap (λ (s : Seating). number_in s seat) (sym strode.seating)
+        ∙ sym (number-counted after seat (1 + ran) (ap (λ (s : Seating). length s.sitters) strode.seating ∙ sound.seating.sixteen) (taken-below a.seating sound.seating seat taken) seat)
 
 -- pages before one that can't be read can be
 unread : (counted page : ℕ) → counted < page → Reads (ReadFailed page) counted
@@ -131,8 +127,7 @@ keeps-far first old mid new limit left rows few within so_far step more =
     subst (KeepsParts first new) (omega (arith, few, within)) (keeps-on first mid new (limit - left + 0) rows (keeps-on first old mid (limit - left) 0 so_far step) more)
 
 pub keeps-within : (a first old back new : Activity) (seat limit left : ℕ) → first ≡ selected_in a seat → KeepsParts first old (limit - left) → KeepsParts old back 0 → KeepsParts back new 0 → KeepsParts a new limit
-keeps-within a first old back new seat limit left shape so_far step more =
-    keeps-selected a new seat limit
+keeps-within a first old back new seat limit left shape so_far step more = keeps-selected a new seat limit
     (subst (λ (x : Activity). KeepsParts x new limit) shape (keeps-less first new (limit - left + 0) limit (omega arith) (keeps-on first old new (limit - left) 0 so_far (keeps-two old back new step more))))
 
 -- and of all that a turn keeps

@@ -3,7 +3,7 @@ use Rattle.activations.proofs.Common.{and-true, arith, ap, sym, ◌∙◌, subst
 use Rattle.storage_unit.proofs.UndoForgets.{undo-forgets}
 use Rattle.storage_unit.proofs.SettleKeeps.{settle-keeps}
 use Rattle.activations.proofs.CommitLemmas.{were-settled, settled-unseen}
-use Rattle.activations.proofs.UndoLemmas.{filter-all, were-undone, are-as-committed}
+use Rattle.activations.proofs.RollbackLemmas.{filter-all, were-undone, are-as-committed}
 
 -- the lines of a page that a seat holds to write
 abbrev pub lines_of : Holding → (seat page : ℕ) → List ℕ
@@ -80,8 +80,7 @@ module _ (lines : ℕ → List ℕ) (old : Reach) where
 -- one page more that is gone over
 pub written-more : (lines : ℕ → List ℕ) (pages : List ℕ) (at : ℕ) → at < length pages → (some : Bool) → (not (length (lines (slice_index_or pages at 0)) == 0)) ≡ some
     → written_in lines (take (at + 1) pages) ≡ written_in lines (take at pages) ++ (if some then slice_index_or pages at 0 ∷ [] else [])
-written-more lines pages at before some wrote =
-    ap (written_in lines) (take_more pages at 0 before)
+written-more lines pages at before some wrote = ap (written_in lines) (take_more pages at 0 before)
     ∙ filter-append (λ page. not (length (lines page) == 0)) (take at pages) (slice_index_or pages at 0 ∷ [])
     ∙ ap (λ (b : Bool). written_in lines (take at pages) ++ (if b then slice_index_or pages at 0 ∷ [] else [])) wrote
 
@@ -89,8 +88,7 @@ written-more lines pages at before some wrote =
 pub held-below : (holding : Holding) (seat page : ℕ) → IsWhole holding → seat < 16 → holds_some (held_at holding seat page) ≡ true → page < holding.pages
 held-below holding seat page whole below some =
     let long = All-get_or (λ one. length one ≡ holding.pages) holding.seats seat [] (omega (arith, below, whole.0)) whole.1 in
-    let past = get_or_past (of_seat holding seat) page nothing in
-    grind (arith, long, past, some)
+    let past = get_or_past (of_seat holding seat) page nothing in grind (arith, long, past, some)
 
 pub page-held : (holding locks : Holding) (seat : ℕ) (pages : List ℕ) (at : ℕ) → locks ≡ holding → IsWhole holding → seat < 16 → at < length pages
     → ((page : ℕ) → has pages page ≡ holds_some (held_at locks seat page)) → slice_index_or pages at 0 < holding.pages
@@ -128,8 +126,7 @@ module _ (holding : Holding) (seat : ℕ) (pages : List ℕ) (each : (page : ℕ
       (each page ∙ or_right (not (length (held_at holding seat page).0 == 0)) (not (length (lines_of holding seat page) == 0)) some) some
 
   only : (page : ℕ) → has (written_in (lines_of holding seat) pages) page ≡ true → (line : ℕ) × (has (lines_of holding seat page) line ≡ true)
-  only page inside =
-      first-line (lines_of holding seat page)
+  only page inside = first-line (lines_of holding seat page)
       (and_parts (has pages page) (not (length (lines_of holding seat page) == 0)) (sym (has-filter (λ page. not (length (lines_of holding seat page) == 0)) pages page) ∙ inside)).1
 
   are-written : AreWritten holding seat (written_in (lines_of holding seat) pages)
@@ -163,11 +160,9 @@ module _ (lines : ℕ → List ℕ) (pages : List ℕ) (at : ℕ) (before : at <
 
     module _ (some : (length writes == 0) ≡ false) (fits : Fits now.directory now.pool) (below : page < page_count old.directory) where
       pub undone-step : committed ≡ false → next ≡ record now { pool = undone now.pool page writes } → WrittenSo committed lines (written_in lines (take (at + 1) pages)) old next
-      undone-step not went =
-          subst (λ (these : List ℕ). WrittenSo committed lines these old next) (one-more some)
+      undone-step not went = subst (λ (these : List ℕ). WrittenSo committed lines these old next) (one-more some)
           (written-undone lines old (written_in lines (take at pages)) now next page fits below so.rest not (went ∙ (λ i. record now { pool = undone now.pool page (is i) })) so)
 
       pub settled-step : committed ≡ true → next ≡ record now { pool = settled now.pool page writes } → WrittenSo committed lines (written_in lines (take (at + 1) pages)) old next
-      settled-step here went =
-          subst (λ (these : List ℕ). WrittenSo committed lines these old next) (one-more some)
+      settled-step here went = subst (λ (these : List ℕ). WrittenSo committed lines these old next) (one-more some)
           (written-settled lines old (written_in lines (take at pages)) now next page fits below so.rest here (went ∙ (λ i. record now { pool = settled now.pool page (is i) })) so)

@@ -1,5 +1,5 @@
 -- What runs side by side, and the desk that it is over committed bytes.
-use Rattle.std.specs.Prelude.{refl, ℕ, zero, suc, false, List, [], length, map, replicate, slice_index_or, None, is_some}
+use Rattle.std.specs.Prelude.{[], refl, ℕ, zero, suc, false, List, length, map, replicate, slice_index_or, None, is_some}
 use Rattle.std.proofs.Common.{lit<, lit≤}
 use Rattle.std.specs.List.{flat_map, range_with_len}
 use Rattle.std.specs.Option.{option_map_or}

@@ -1,5 +1,5 @@
 -- What a begin makes of those that run.
-use Rattle.std.specs.Prelude.{◌≡◌, ℕ, ◌+◌, List, [], Option, Some, None, slice_set}
+use Rattle.std.specs.Prelude.{[], ◌≡◌, ℕ, ◌+◌, List, Option, Some, None, slice_set}
 use Rattle.lines.specs.Directory.{Layout, page_count}
 use Rattle.flat_machine.specs.declared.machine.Program.{Program}
 use Rattle.flat_machine.specs.After.{first_registers, clear}

@@ -1,5 +1,5 @@
 -- Pages of a touch that come in from the store on the disk.
-use Rattle.std.specs.Prelude.{◌≡◌, ℕ, ◌+◌, ◌<◌, if◌then◌else◌, true, false, List, [], Option, Some, option_to_list}
+use Rattle.std.specs.Prelude.{[], ◌≡◌, ℕ, ◌+◌, ◌<◌, if◌then◌else◌, true, false, List, Option, Some, option_to_list}
 use Rattle.lines.specs.Directory.{Layout}
 use Rattle.lines.specs.Resident.{brought}
 use Rattle.lines.specs.Sets.{has}
@@ -12,11 +12,8 @@ use Rattle.store.specs.Shows.{TracksStore}
 use Rattle.desk.specs.Instruction.{ReadFailed, Broken, fetches}
 use Rattle.storage_unit.specs.Laws.{Keeps}
 use Rattle.storage_unit.specs.Bytes.{IsClean}
-use Rattle.desk_law.specs.Consistent.{AreConsistent}
-use Rattle.activations.specs.Activity.{Activity, entries, store_over, desk_over}
-use Rattle.activations.specs.Ends.{HasUndone}
-use Rattle.activations.specs.Follows.{IsKept}
-use Rattle.activations.specs.Steps.{IsMoved, RollsBack, with_pool, rolled}
+use Rattle.activations.specs.Activity.{Activity, desk_over}
+use Rattle.activations.specs.Steps.{HasUndone, IsMoved, IsRolledBack, with_pool, rolled}
 
 -- these bytes are committed in a store that is open
 pub record IsStoreOf {W : Type 0} (G : Ghosts W) (store : KeptStore) (outside : W) (committed : List ℕ) : Type 0 where
@@ -53,5 +50,5 @@ pub record HasBrokenOff {W : Type 0} (G : Ghosts W) (store : KeptStore) (outside
   pub pool : Pool
   pub shape : new ≡ rolled (with_pool old pool) seat new.reach.pool
   pub undone : HasUndone old.seating.holding seat (with_pool old pool).reach (record old.reach { pool = new.reach.pool })
-  pub rolls : (committed : List ℕ) → AreConsistent (store_over old committed) old.most_lines old.next (entries old) → IsKept (with_pool old pool) committed → RollsBack (with_pool old pool) seat new.reach.pool committed
+  pub rolls : IsRolledBack (with_pool old pool) seat new.reach.pool
   pub off : (committed : List ℕ) (order : List (ℕ × ℕ)) → IsStoreOf G store outside committed → IsClean old.reach.directory old.reach.pool committed → IsBrokenOff old committed order pages before pool after

@@ -1,5 +1,5 @@
 -- What holds of those that run side by side at every moment.
-use Rattle.std.specs.Prelude.{◌≡◌, ℕ, ◌+◌, ◌<◌, ◌≤◌, ◌⊎◌, true, false, List, [], All, length, slice_index_or, Some}
+use Rattle.std.specs.Prelude.{[], ◌≡◌, ℕ, ◌+◌, ◌<◌, ◌≤◌, ◌⊎◌, true, false, List, All, length, slice_index_or, Some}
 use Rattle.lines.specs.Directory.{byte_count, page_count}
 use Rattle.lines.specs.Sets.{has}
 use Rattle.lines.specs.LineSets.{IsOfPage}

@@ -1,11 +1,14 @@
--- What stays while those that run are served.
-use Rattle.std.specs.Prelude.{◌≡◌, ℕ, ◌+◌, ◌≤◌, ◌<◌, true, length, slice_index_or}
+-- What stays while those that run are served, and rows of what runs in a seat beside what it reaches.
+use Rattle.std.specs.Prelude.{◌≡◌, ℕ, ◌+◌, ◌≤◌, ◌<◌, true, length, slice_index_or, slice_set}
 use Rattle.lines.specs.Sets.{has}
 use Rattle.seats.specs.Seating.{sitter, number_in}
 use Rattle.page_table.specs.Placed.{unowned}
 use Rattle.storage_unit.specs.Bytes.{private_bytes}
 use Rattle.activations.specs.Activity.{Activity, live_in, program_in}
-use Rattle.activations.specs.Attempted.{IsSelected}
+use Rattle.activations.specs.Attempted.{IsSelected, Strode}
+use Rattle.storage_unit.specs.declared.model.Reach.{Reach}
+use Rattle.activations.specs.declared.live.Live.{Live}
+use Rattle.activations.specs.Follows.{IsSound}
 
 -- in each seat at most so many rows were done
 abbrev pub AreRowsWithin : Activity → (rows : ℕ) → Type 0
@@ -34,3 +37,21 @@ pub record StandsStill (old new : Activity) (seat : ℕ) : Type 0 where
   pub private : private_bytes new.reach.pool seat ≡ private_bytes old.reach.pool seat
   pub own : (page : ℕ) → (slice_index_or old.reach.entries page unowned).tid ≡ seat + 1
       → slice_index_or new.reach.entries page unowned ≡ slice_index_or old.reach.entries page unowned
+
+-- this runs in a seat that is selected, and reaches this
+pub record RunsAt (a : Activity) (seat : ℕ) (reach : Reach) (live : Live) : Type 0 where
+  pub sound : IsSound a
+  pub taken : has a.seating.taken seat ≡ true
+  pub selected : IsSelected a seat
+  pub reached : a.reach ≡ reach
+  pub runs : live_in a seat ≡ live
+
+-- this runs in the seat, and reaches this
+abbrev pub with_live : Activity → (seat : ℕ) → Live → Reach → Activity
+with_live a seat live reach = record a { live = slice_set a.live seat live; reach = reach }
+
+-- so many rows came to this
+pub record StrodeTo (a : Activity) (seat rows : ℕ) (live : Live) (reach : Reach) : Type 0 where
+  pub runs : RunsAt (with_live a seat live reach) seat reach live
+  pub strode : Strode a seat rows (with_live a seat live reach)
+  pub parts : KeepsParts a (with_live a seat live reach) 0

@@ -8,12 +8,6 @@ pub mod Serving
 pub mod Turning
 pub mod View
 pub mod Begins
-pub mod Ends
 pub mod Fetching
-pub mod Serves
-pub mod Instructed
-pub mod Turns
 pub mod Recorded
-pub mod Causes
-pub mod Striding
 pub mod Stages

@@ -1,5 +1,5 @@
 -- The record of a commit: the lines that who sits in a seat holds to write, as all see them.
-use Rattle.std.specs.Prelude.{◌≡◌, ℕ, ◌+◌, ◌<◌, ◌%◌, List, [], ◌∷◌, ◌++◌, All, length, map, Some}
+use Rattle.std.specs.Prelude.{[], ◌≡◌, ℕ, ◌+◌, ◌<◌, ◌%◌, List, ◌∷◌, ◌++◌, All, length, map, Some}
 use Rattle.std.specs.List.{AllPairs, flat_map}
 use Rattle.lines.specs.declared.line_geometry.PageSize.{PageSize}
 use Rattle.flat_machine.specs.declared.machine.Plain.{Plain}

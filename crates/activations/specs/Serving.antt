@@ -1,5 +1,5 @@
--- An instruction that is served, from where it began.
-use Rattle.std.specs.Prelude.{◌≡◌, ℕ, ◌+◌, ◌==◌, ◌&&◌, not, if◌then◌else◌, Bool, length, Some, List, [], ◌∷◌, filter, map, slice_index_or, slice_set}
+-- An instruction that is served, from where it began, step by step.
+use Rattle.std.specs.Prelude.{[], ◌≡◌, ℕ, ◌+◌, ◌==◌, ◌&&◌, not, if◌then◌else◌, Bool, length, Some, List, ◌∷◌, filter, map, slice_index_or, slice_set, ◌≢◌, nat_lt, true, false, ◌++◌, All}
 use Rattle.seats.specs.declared.request.Want.{Want}
 use Rattle.seats.specs.Holding.{held_at}
 use Rattle.page_table.specs.Entries.{grant_of}
@@ -8,15 +8,28 @@ use Rattle.lines.specs.Directory.{is_fine_page}
 use Rattle.lines.specs.Conflicts.{is_whole_page}
 use Rattle.lines.specs.Access.{nobody, Grant, grant_by, fine_grant_by}
 use Rattle.seats.specs.declared.request.Request.{Request}
-use Rattle.seats.specs.Seating.{took, waiting_for}
-use Rattle.activations.specs.Touched.{with_whole_page, stores_into, pages_wanted}
-use Rattle.desk.specs.Desk.{Desk}
+use Rattle.seats.specs.Seating.{took, waiting_for, sitter}
+use Rattle.activations.specs.Touched.{with_whole_page, stores_into, pages_wanted, IsApart, pages_refused}
+use Rattle.desk.specs.Desk.{Desk, rolled_back}
 use Rattle.desk.specs.Holdings.{conflicts_of}
-use Rattle.desk.specs.Instruction.{Word, Counts, Attempt, Turning, Over, Going, Ending, instruction, contest_ends, gets, refuses, lines_within, touched_pages}
-use Rattle.desk_law.specs.Beside.{Reads}
-use Rattle.desk_law.specs.UnderWay.{KeepsPages, contest, IsUnderWay, IsReady, marked}
-use Rattle.activations.specs.Activity.{Activity, entry_in, desk_over}
-use Rattle.activations.specs.Follows.{IsKept, KeepsDesk}
+use Rattle.desk.specs.Instruction.{Word, Counts, Attempt, Turning, Over, Going, Ending, instruction, contest_ends, gets, refuses, lines_within, touched_pages, Fetched, Broken, Fine, Journal, Disk, fetches, with_grants, lowered, locks_with}
+use Rattle.desk_law.specs.Beside.{Reads, AreAlike, over_all, owners_told}
+use Rattle.desk_law.specs.UnderWay.{KeepsPages, contest, IsUnderWay, IsReady, marked, served_attempt}
+use Rattle.activations.specs.Activity.{Activity, entry_in, desk_over, program_in, number_under, authority_under, lines_held, locks_in, state_in, shown}
+use Rattle.activations.specs.Follows.{IsKept, KeepsDesk, AreOfPages, IsSound}
+use Rattle.lines.specs.Sets.{has, size}
+use Rattle.seats.specs.Flat.{lines_wanted}
+use Rattle.seats.specs.Held.{of_page, write_count}
+use Rattle.lines.specs.LineSets.{difference}
+use Rattle.flat_machine.specs.declared.machine.Plain.{Plain}
+use Rattle.flat_machine.specs.Row.{On, row}
+use Rattle.flat_machine.specs.Touched.{touched}
+use Rattle.frame_pool.specs.declared.model.Pool.{Pool}
+use Rattle.seats.specs.Waiting.{holders, AreOfPage}
+use Rattle.storage_unit.specs.Laws.{Keeps}
+use Rattle.activations.specs.declared.live.Live.{Live}
+use Rattle.activations.specs.Attempted.{plain_in}
+use Rattle.activations.specs.Steps.{counted, executed, with_pool, rolled, IsMoved, RollsBack, HasExecuted}
 
 -- These are the pages of an attempt whose authority refused it once, and of those that it owned then the authority is as it was.
 pub record WereRefused (attempt : Attempt) (refused : List ℕ) (now : Desk) : Type 0 where
@@ -97,3 +110,87 @@ pub record Goes (begins : Word → Turning) (a : Activity) (committed : List ℕ
 -- who sits in a seat waits for what he asked for
 abbrev pub asking : Activity → (seat : ℕ) → Request → Activity
 asking a seat request = record a { seating = waiting_for a.seating seat request }
+
+-- The next row of who sits in a seat goes on and touches these lines; its access is to be served.
+pub record IsToServe (a : Activity) (seat : ℕ) (committed : List ℕ) (wants : List Want) (next : Plain) : Type 0 where
+  pub sound : IsSound a
+  pub taken : has a.seating.taken seat ≡ true
+  pub runner : a.reach.runner ≡ seat + 1
+  pub follows : KeepsDesk a committed
+  pub goes : row (program_in a seat) a.reach.directory (plain_in a seat committed) ≡ On next
+  pub touches : touched (program_in a seat) a.reach.directory (plain_in a seat committed) ≡ lines_wanted wants
+
+-- the instruction under way in a seat, over the bytes that all see
+abbrev pub attempt_in : (a : Activity) (seat : ℕ) (committed : List ℕ) (order : List (ℕ × ℕ)) (wants : List Want) (next : Plain) → IsToServe a seat committed wants next → Attempt
+attempt_in a seat committed order wants next to =
+    served_attempt (desk_over a committed order) (entry_in a seat) (over_all (state_in a seat) (to.follows.kept.stand seat to.taken).bytes) (shown a committed)
+
+-- how many lines it will have written
+abbrev pub lines_with : Activity → (seat : ℕ) → List Want → ℕ
+lines_with a seat wants = size ((locks_in a seat).writes ++ (lines_wanted wants).writes)
+
+-- Pages came in from here, and of what all see nothing changed: the pool is this one, and so many pages are counted.
+pub record IsFetched (a : Activity) (committed : List ℕ) (order : List (ℕ × ℕ)) (pages : List ℕ) (before : ℕ) (pool : Pool) (after : ℕ) : Type 0 where
+  pub moved : IsMoved a.reach.pool pool
+  pub keeps : Keeps a.reach.directory a.reach.pool pool committed
+  pub fetched : fetches Fine (desk_over a committed order).frames pages pages (desk_over a committed order).resident before ≡ Fetched pool.resident after
+
+-- what is wanted of each page is of it, and the pages are those that are touched
+pub record AreTouched (attempt : Attempt) (wants : List Want) : Type 0 where
+  pub pages : touched_pages attempt ≡ pages_wanted wants
+  pub apart : All (IsApart wants) wants
+  pub sets : AreOfPage wants
+
+-- the pages came in and the refused ones are counted
+abbrev pub counted_with : Counts → (pages : ℕ) → (refused : List ℕ) → Counts
+counted_with counts pages refused = record counts { pages = pages; locks = counts.locks + length refused }
+
+-- Too many lines: it is rolled back, and the turn ends. A page that can't be read: it is rolled back, and nothing is resident.
+-- Where nobody holds what is asked for, it is free, and else its contest begins, with what it asks for.
+pub record Starts (a : Activity) (seat : ℕ) (committed : List ℕ) (order : List (ℕ × ℕ)) (counts : Counts) (wants : List Want) (next : Plain) (to : IsToServe a seat committed wants next) : Type 0 where
+  pub journal : (pool : Pool) → RollsBack a seat pool committed → nat_lt a.most_lines (lines_with a seat wants) ≡ true
+      → ComesToEnd (instruction_in a seat committed order counts) (rolled a seat pool) committed order counts (Journal (lines_with a seat wants) a.most_lines)
+  pub breaks : nat_lt a.most_lines (lines_with a seat wants) ≡ false → (word : Word) (pages : ℕ)
+      → fetches word (desk_over a committed order).frames (touched_pages (attempt_in a seat committed order wants next to)) (touched_pages (attempt_in a seat committed order wants next to)) (desk_over a committed order).resident counts.pages ≡ Broken pages
+      → instruction_in a seat committed order counts word ≡ Over (record (rolled_back (desk_over a committed order) (entry_in a seat)) { resident = [] }) (record counts { pages = pages }) Disk
+  pub free : nat_lt a.most_lines (lines_with a seat wants) ≡ false → (pool : Pool) (pages : ℕ) → IsFetched a committed order (touched_pages (attempt_in a seat committed order wants next to)) counts.pages pool pages
+      → AreTouched (attempt_in a seat committed order wants next to) wants → holders a.seating seat (map (with_whole_page a.reach.directory) wants) ≡ []
+      → IsFree (instruction_in a seat committed order counts) (attempt_in a seat committed order wants next to) (pages_refused a.reach.entries (seat + 1) wants) (with_pool a pool) committed order
+      (counted_with counts pages (pages_refused a.reach.entries (seat + 1) wants))
+  pub contested : nat_lt a.most_lines (lines_with a seat wants) ≡ false → (pool : Pool) (pages : ℕ) → IsFetched a committed order (touched_pages (attempt_in a seat committed order wants next to)) counts.pages pool pages
+      → AreTouched (attempt_in a seat committed order wants next to) wants → (request : Request) → request.wants.items ≡ map (with_whole_page a.reach.directory) wants → (holder : ℕ) (others : List ℕ)
+      → holders a.seating seat (map (with_whole_page a.reach.directory) wants) ≡ holder ∷ others
+      → IsContested (instruction_in a seat committed order counts) (attempt_in a seat committed order wants next to) (pages_refused a.reach.entries (seat + 1) wants) (desk_over (with_pool a pool) committed order)
+      (asking (with_pool a pool) seat request) committed order (counted_with counts pages (pages_refused a.reach.entries (seat + 1) wants))
+
+-- the law of it
+abbrev pub ServingStarts : Type 0
+ServingStarts =
+    (a : Activity) (seat : ℕ) (committed : List ℕ) (order : List (ℕ × ℕ)) (counts : Counts) (wants : List Want) (next : Plain) (to : IsToServe a seat committed wants next)
+    → Starts a seat committed order counts wants next to
+
+-- What is free takes its lines, is granted its refused pages, brings in its pages once more, and goes on, and the write bits of fine pages go off
+-- that it wrote into: that is the desk's instruction, wherever it began.
+abbrev pub ServedGoesOn : Type 0
+ServedGoesOn =
+    (begins : Word → Turning) (attempt : Attempt) (refused : List ℕ) (a : Activity) (seat : ℕ) (committed : List ℕ) (order : List (ℕ × ℕ)) (counts : Counts)
+    (wants : List Want) (owned eased : List Authority) (pool : Pool) (live : Live) (bytes : List ℕ) (marked : List (List ℕ)) (pages : ℕ) (next : Plain)
+    → IsSound a → has a.seating.taken seat ≡ true → a.reach.runner ≡ seat + 1 → attempt.entry.number ≡ (sitter a.seating seat).number
+    → IsFree begins attempt refused a committed order counts → attempt.outcome ≡ On next → IsFetched a committed order (touched_pages attempt) counts.pages pool pages
+    → AreAlike (locks_in (locked a seat wants owned) seat) (locks_with attempt (desk_over a committed order))
+    → owners_told (number_under a) (authority_under eased)
+    ≡ lowered (is_fine_page a.reach.directory) attempt (locks_with attempt (desk_over a committed order)) (with_grants attempt refused (desk_over a committed order)).authority
+    → HasExecuted (with_pool (locked a seat wants owned) pool) seat live bytes marked committed
+    → Goes begins (counted (with_entries (executed (with_pool (locked a seat wants owned) pool) seat live bytes marked) eased) seat 1) committed order (record counts { pages = pages; ran = counts.ran + 1 })
+
+-- With the lines of no want, of one, and of two of different pages, as many lines are written as are counted page by page.
+pub record AreCounted (pages : List (List ℕ × List ℕ)) : Type 0 where
+  pub none : size ((lines_held pages).writes ++ (lines_wanted []).writes) ≡ write_count pages
+  pub one : (want : Want) → AreOfPage (want ∷ []) → size ((lines_held pages).writes ++ (lines_wanted (want ∷ [])).writes) ≡ write_count pages + length (difference want.writes (of_page pages want.page).1)
+  pub two : (first second : Want) → AreOfPage (first ∷ second ∷ []) → first.page ≢ second.page
+      → size ((lines_held pages).writes ++ (lines_wanted (first ∷ second ∷ [])).writes)
+      ≡ write_count pages + (length (difference first.writes (of_page pages first.page).1) + length (difference second.writes (of_page pages second.page).1))
+
+-- so the lines that a row would have written are counted from what is held of its pages
+abbrev pub LinesAreCounted : Type 0
+LinesAreCounted = (pages : List (List ℕ × List ℕ)) → AreOfPages pages → AreCounted pages

@@ -1,5 +1,8 @@
--- What the stages of a turn ask for, and what each leaves.
-use Rattle.std.specs.Prelude.{◌≡◌, ℕ, ◌+◌, ◌<◌, ◌≤◌, true, false, List, length, Result, Ok, Err}
+-- What the stages of a turn ask for, what each leaves, and why a turn ended before its commit call.
+use Rattle.std.specs.Prelude.{[], ◌≡◌, ℕ, ◌<◌, ◌≤◌, ◌++◌, ◌∷◌, List, ◌+◌, true, false, length, Result, Ok, Err}
+use Rattle.lines.specs.Waits.{victim_of}
+use Rattle.desk.specs.declared.answers.Cycle.{Cycle}
+use Rattle.desk.specs.declared.answers.TurnEnd.{TurnEnd}
 use Rattle.arrayvec.specs.ArrayVec.{array_vec_len}
 use Rattle.lines.specs.Sets.{has}
 use Rattle.frame_pool.specs.declared.model.Pool.{Pool}
@@ -9,20 +12,52 @@ use Rattle.outside.specs.Runs.{OnlyAsks}
 use Rattle.store.specs.Held.{HoldsAtLeast}
 use Rattle.store_format.specs.Header.{total}
 use Rattle.store.specs.KeptStore.{KeptStore}
-use Rattle.desk.specs.declared.answers.TurnEnd.{TurnEnd}
-use Rattle.desk.specs.declared.answers.TurnEnd.TheVariants as end
+use Rattle.desk.specs.Instruction.{Word, Counts, Attempt, Turning}
+use Rattle.flat_machine.specs.declared.machine.Plain.{Plain}
+use Rattle.flat_machine.specs.Row.{Check, On, row}
+use Rattle.seats.specs.declared.request.Want.{Want}
+use Rattle.seats.specs.Flat.{lines_wanted}
+use Rattle.seats.specs.Seating.{number_in}
 use Rattle.storage_unit.specs.Bytes.{IsClean}
 use Rattle.activations.specs.declared.tally.Tally.{Tally}
-use Rattle.activations.specs.Activity.{Activity}
-use Rattle.activations.specs.Attempted.{IsSelected}
-use Rattle.activations.specs.Causes.{IfChecked, IfJournal, IfVictim}
+use Rattle.activations.specs.Activity.{Activity, program_in}
+use Rattle.activations.specs.Attempted.{IsSelected, plain_in}
 use Rattle.activations.specs.Fetching.{IsStoreOf, IsBrokenOff}
-use Rattle.activations.specs.Follows.{IsSound}
-use Rattle.activations.specs.Instructed.{TalliesMore, IsEndOfRows, IfWaits}
+use Rattle.activations.specs.Follows.{IsSound, KeepsDesk}
+use Rattle.activations.specs.Turning.{TalliesMore, IsEndOfRows, IfWaits, IsAsked, Serves, IsContestEnd, IsSettled, HasEnded, tally_counts, AreTurns, ComesBack, IsTurning, turn_in}
 use Rattle.activations.specs.Kept.{KeepsParts, StaysSeated}
-use Rattle.activations.specs.Serves.{IsFetched}
-use Rattle.activations.specs.Steps.{IsMoved}
-use Rattle.activations.specs.Turning.{IsContestEnd}
+use Rattle.activations.specs.Serving.{IsFetched, IsToServe, IsFree, instruction_in}
+use Rattle.activations.specs.Steps.{IsMoved, counted}
+use Rattle.desk.specs.declared.answers.TurnEnd.TheVariants as end
+
+-- a code of a program check
+abbrev pub IsCheckCode : ℕ → Type 0
+IsCheckCode code = (1 ≤ code) × (code ≤ 8)
+
+-- where it met a program check, that has such a code
+abbrev pub IfChecked : TurnEnd → Type 0
+IfChecked (end.Checked code address) = IsCheckCode code
+IfChecked _ = Unit {0}
+
+-- where it wrote too many lines, the most that is told is that of a record, and they are more
+abbrev pub IfJournal : (most : ℕ) → TurnEnd → Type 0
+IfJournal most (end.Journal lines limit) = (limit ≡ most) × (most < lines)
+IfJournal most _ = Unit {0}
+
+-- where it ran as many rows as it may, these are so many
+abbrev pub IfLimit : (limit ran : ℕ) → TurnEnd → Type 0
+IfLimit limit ran end.Limit = ran ≡ limit
+IfLimit limit ran _ = Unit {0}
+
+-- it didn't end since it ran as many rows as it may
+abbrev pub IsNoLimit : TurnEnd → Type 0
+IsNoLimit end.Limit = ⊥
+IsNoLimit _ = Unit {0}
+
+-- where it was a victim, it is that of the cycle that was recorded last
+abbrev pub IfVictim : (number : ℕ) → List Cycle → TurnEnd → Type 0
+IfVictim number cycles end.Victim = (earlier : List Cycle) × (last : Cycle) × (cycles ≡ earlier ++ last ∷ []) × (victim_of last.members.items ≡ number)
+IfVictim number cycles _ = Unit {0}
 
 -- pages may be fetched from this store
 pub record CanFetch {W : Type 0} (G : Ghosts W) (a : Activity) (store : KeptStore) (outside : W) : Type 0 where
@@ -105,3 +140,54 @@ pub record CountsCycles (a : Activity) (old new : Tally) : Type 0 where
 pub record EndsContest (number : ℕ) (counts : Tally) (how : TurnEnd) : Type 0 where
   pub ends : IsContestEnd number how
   pub victim : IfVictim number counts.cycles.items how
+
+-- what is asked for in a seat is settled so
+abbrev pub SettlesAsked : {U : Type 0} → (seat : ℕ) → List Want → (old new : Activity) → (before after : Tally) → Result U TurnEnd → Type 0
+SettlesAsked seat wants old new before after result =
+    (begins : Word → Turning) (attempt : Attempt) (refused : List ℕ) (committed : List ℕ) (order : List (ℕ × ℕ))
+    → IsAsked begins attempt refused old seat wants committed order (tally_counts before) → IsSettled result begins attempt refused new committed order (tally_counts after)
+
+-- what is got in a seat, once nobody holds it, is served so
+abbrev pub ServesFree : {U W : Type 0} → Ghosts W → KeptStore → W → (seat : ℕ) → List Want → (refused : List ℕ) → (old new : Activity) → (before after : Tally) → Result U TurnEnd → Type 0
+ServesFree G store outside seat wants refused old new before after result =
+    (begins : Word → Turning) (attempt : Attempt) (next : Plain) (committed : List ℕ) (order : List (ℕ × ℕ)) → IsStoreOf G store outside committed
+    → attempt.entry.number ≡ number_in old.seating seat → attempt.outcome ≡ On next → attempt.lines ≡ lines_wanted wants
+    → IsFree begins attempt refused old committed order (tally_counts before) → Serves result begins new seat wants committed order (tally_counts after)
+
+-- a check of who sits in a seat ends his turn so
+abbrev pub EndsChecked : (seat code : ℕ) → (old new : Activity) → TurnEnd → Type 0
+EndsChecked seat code old new how =
+    (committed : List ℕ) (order : List (ℕ × ℕ)) (counts : Counts) → IsSelected old seat → KeepsDesk old committed
+    → row (program_in old seat) old.reach.directory (plain_in old seat committed) ≡ Check code → HasEnded how (instruction_in old seat committed order counts) new committed order counts
+
+-- an access that is to be served ends the turn so
+abbrev pub EndsServing : (seat : ℕ) → List Want → (old new : Activity) → TurnEnd → Type 0
+EndsServing seat wants old new how =
+    (committed : List ℕ) (order : List (ℕ × ℕ)) (counts : Counts) (next : Plain) → IsToServe old seat committed wants next
+    → HasEnded how (instruction_in old seat committed order counts) new committed order counts
+
+-- over whatever is committed in the store, an instruction of who sits in a seat comes to this
+abbrev pub Instructs :
+    {W : Type 0} → Ghosts W → KeptStore → W → (seat : ℕ) → (old new : Activity) → (before after : Tally) → ((Word → Turning) → Activity → ℕ → List ℕ → List (ℕ × ℕ) → Counts → Type 0) → Type 0
+Instructs G store outside seat old new before after comes =
+    (committed : List ℕ) (order : List (ℕ × ℕ)) → IsStoreOf G store outside committed → KeepsDesk old committed
+    → comes (instruction_in old seat committed order (tally_counts before)) new seat committed order (tally_counts after)
+
+-- and so do the rows of a turn
+abbrev pub Turns : {U W : Type 0} → Ghosts W → KeptStore → W → (seat limit : ℕ) → (old new : Activity) → (before after : Tally) → Result U TurnEnd → Type 0
+Turns G store outside seat limit old new before after result =
+    (committed : List ℕ) (order : List (ℕ × ℕ)) → IsStoreOf G store outside committed → KeepsDesk old committed
+    → AreTurns result (turn_in old seat limit committed order (tally_counts before)) new seat committed order (tally_counts after)
+
+-- a turn that comes to some rows more comes to as many still, or to its end
+abbrev pub KeepsTurning : {U W : Type 0} → Ghosts W → KeptStore → W → (seat : ℕ) → (old new : Activity) → (before after : Tally) → Result U TurnEnd → Type 0
+KeepsTurning G store outside seat old new before after result =
+    (begins : Word → Turning) (left : ℕ) (committed : List ℕ) (order : List (ℕ × ℕ)) → 0 < left → IsStoreOf G store outside committed
+    → IsTurning begins old seat left committed order (tally_counts before) → ComesBack result begins new seat left committed order (tally_counts after)
+
+-- so many rows of a turn went, of which the first took effect before
+abbrev pub GoesFar : (seat ran : ℕ) → (old new : Activity) → Type 0
+GoesFar seat ran old new =
+    (begins : Word → Turning) (committed : List ℕ) (order : List (ℕ × ℕ)) (counts : Counts) (rows left : ℕ) → ran ≡ 1 + rows
+    → IsTurning begins (counted old seat 1) seat (rows + left) committed order (record counts { ran = counts.ran + 1 })
+    → IsTurning begins new seat left committed order (record counts { ran = counts.ran + ran })

@@ -1,5 +1,5 @@
--- What a row of one does to all.
-use Rattle.std.specs.Prelude.{◌≡◌, ℕ, ◌+◌, ◌<◌, ◌%◌, ◌&&◌, not, if◌then◌else◌, Bool, List, slice_index, slice_set, true, Some}
+-- What a row of one does to all, and what endings leave: one rolled back or committed, and everybody rolled back.
+use Rattle.std.specs.Prelude.{◌≡◌, ℕ, ◌+◌, ◌<◌, ◌%◌, ◌&&◌, not, if◌then◌else◌, Bool, List, slice_index, slice_set, true, Some, [], length}
 use Rattle.lines.specs.Directory.{Layout, byte_count}
 use Rattle.lines.specs.Lines.{line_of}
 use Rattle.lines.specs.Sets.{has}
@@ -8,8 +8,11 @@ use Rattle.lines.specs.Resident.{taken_out}
 use Rattle.seats.specs.Holding.{Holding, held_at}
 use Rattle.frame_pool.specs.declared.model.Pool.{Pool}
 use Rattle.flat_machine.specs.declared.machine.Plain.{Plain}
-use Rattle.desk_law.specs.Beside.{IsLaid}
+use Rattle.flat_machine.specs.After.{after}
+use Rattle.flat_machine.specs.Row.{Commit, row}
+use Rattle.desk_law.specs.Beside.{IsLaid, over_all}
 use Rattle.desk_law.specs.Changes.{committed_at}
+use Rattle.desk_law.specs.Consistent.{AreConsistent}
 use Rattle.desk.specs.Desk.{rolled_back}
 use Rattle.desk.specs.Instruction.{Word, Counts, Going, instruction}
 use Rattle.desk.specs.Holdings.{due_to}
@@ -18,8 +21,11 @@ use Rattle.storage_unit.specs.Served.{ended, released}
 use Rattle.storage_unit.specs.Rows.{GoesOpen, LeavesSeats, plain_over}
 use Rattle.storage_unit.specs.Bytes.{IsClean, is_line_marked, bytes_over, private_bytes}
 use Rattle.activations.specs.declared.live.Live.{Live}
-use Rattle.activations.specs.Activity.{Activity, live_in, program_in, entry_in, store_over, desk_over, shown}
+use Rattle.activations.specs.Activity.{Activity, live_in, program_in, entry_in, entries, store_over, desk_over, shown}
 use Rattle.activations.specs.Follows.{IsKept, KeepsDesk}
+use Rattle.storage_unit.specs.declared.model.Reach.{Reach}
+use Rattle.storage_unit.specs.Laws.{Keeps}
+use Rattle.desk.specs.Run.{restarted}
 
 -- who sits in a seat has done so many rows more, and waits for nothing
 abbrev pub counted : Activity → (seat rows : ℕ) → Activity
@@ -80,6 +86,10 @@ pub record RollsBack (a : Activity) (seat : ℕ) (pool : Pool) (committed : List
   pub kept : IsKept (rolled a seat pool) committed
   pub laid : IsLaid (store_over a committed) (due_to (store_over a committed) (entry_in a seat)).writes committed (shown a committed) (shown (rolled a seat pool) committed)
 
+-- that, over whatever is committed that is kept beside consistent entries
+abbrev pub IsRolledBack : Activity → (seat : ℕ) → Pool → Type 0
+IsRolledBack a seat pool = (committed : List ℕ) → AreConsistent (store_over a committed) a.most_lines a.next (entries a) → IsKept a committed → RollsBack a seat pool committed
+
 -- Lines of these pages of a pool are marked no more, and all else stays.
 pub record WereSettled (lines : ℕ → List ℕ) (pages : List ℕ) (old new : Pool) : Type 0 where
   pub marks : (line : ℕ) → is_line_marked new line ≡ (is_line_marked old line && not (is_of pages lines line))
@@ -89,6 +99,12 @@ pub record WereSettled (lines : ℕ → List ℕ) (pages : List ℕ) (old new : 
 pub record Commits (a : Activity) (seat : ℕ) (pool : Pool) (committed : List ℕ) (now : Plain) : Type 0 where
   pub desk : (order : List (ℕ × ℕ)) → desk_over (rolled a seat pool) now.store order ≡ committed_at (desk_over a committed order) (entry_in a seat) now
   pub follows : KeepsDesk (rolled a seat pool) now.store
+
+-- that, wherever he is at his commit call
+abbrev pub IsCommitted : Activity → (seat : ℕ) → Pool → Type 0
+IsCommitted a seat pool =
+    (committed : List ℕ) (now : Plain) → KeepsDesk a committed → after (program_in a seat) (entry_in a seat).runs.args (store_over a committed) (entry_in a seat).rows ≡ Some now
+    → row (program_in a seat) a.reach.directory (over_all now (shown a committed)) ≡ Commit → Commits a seat pool committed now
 
 -- frames have other bytes and pages: what was marked and private stays, whatever is committed
 pub record IsMoved (old new : Pool) : Type 0 where
@@ -114,3 +130,48 @@ pub record Strides (a : Activity) (seat rows : ℕ) (live : Live) (bytes : List 
       → instruction word (Some (entry_in (counted a seat rows) seat)) (desk_over (counted a seat rows) committed order) counts
       ≡ Going (desk_over (counted (executed a seat live bytes marked) seat (rows + 1)) committed order) (record counts { ran = counts.ran + 1 })
   pub follows : KeepsDesk (counted (executed a seat live bytes marked) seat (rows + 1)) committed
+
+-- some were rolled back: what is left follows the desk, of which a crash leaves what it left before
+pub record WereRolled (old new : Activity) (committed : List ℕ) : Type 0 where
+  pub restarts : (order : List (ℕ × ℕ)) → restarted (desk_over new committed order) ≡ restarted (desk_over old committed order)
+  pub follows : KeepsDesk new committed
+
+-- it is the desk that a crash leaves
+pub record IsRestarted (old new : Activity) (committed : List ℕ) : Type 0 where
+  pub desk : (order : List (ℕ × ℕ)) → desk_over new committed order ≡ restarted (desk_over old committed order)
+  pub follows : KeepsDesk new committed
+
+-- nobody sits anywhere, what was told of each seat is still there, and any of the same programs may begin, with the same next
+-- number, over the same store
+pub record IsDeserted (old new : Activity) : Type 0 where
+  pub taken : new.seating.taken ≡ []
+  pub sitters : new.seating.sitters ≡ old.seating.sitters
+  pub programs : new.programs ≡ old.programs
+  pub most_lines : new.most_lines ≡ old.most_lines
+  pub next : new.next ≡ old.next
+  pub directory : new.reach.directory ≡ old.reach.directory
+
+-- Pages of the store have gone out: those in which a seat holds lines to write, and those lines are forgotten, whatever is
+-- committed.
+pub record HasUndone (holding : Holding) (seat : ℕ) (old new : Reach) : Type 0 where
+  pub pages : List ℕ
+  pub written : AreWritten holding seat pages
+  pub rest : new ≡ record old { pool = new.pool }
+  pub were : WereUndone (λ page. (held_at holding seat page).1) pages old.pool new.pool
+  pub are : (committed : List ℕ) → length committed ≡ byte_count old.directory → IsClean old.directory old.pool committed
+      → AreAsCommitted old.directory (λ page. (held_at holding seat page).1) pages old.pool new.pool committed
+
+-- the lines that a seat holds to write are marked no more; where they are as committed then, nothing is seen of it
+pub record HasSettled (holding : Holding) (seat : ℕ) (old new : Reach) : Type 0 where
+  pub pages : List ℕ
+  pub written : AreWritten holding seat pages
+  pub rest : new ≡ record old { pool = new.pool }
+  pub were : WereSettled (λ page. (held_at holding seat page).1) pages old.pool new.pool
+  pub keeps : (committed : List ℕ) → IsClean old.directory old.pool committed
+      → ((place : ℕ) → place < byte_count old.directory → has (held_at holding seat (page_of_line (line_of old.directory place))).1 (line_of old.directory place % 16) ≡ true
+      → slice_index (bytes_over old.directory old.pool committed) place ≡ slice_index committed place)
+      → Keeps old.directory old.pool new.pool committed
+
+-- bytes stand where what was printed in a seat stood
+abbrev pub reprinted : Activity → (seat : ℕ) → (out : List ℕ) → Activity
+reprinted a seat out = record a { live = slice_set a.live seat (record (live_in a seat) { out = out }) }

@@ -1,5 +1,5 @@
 -- The lines that an access touches, page by page.
-use Rattle.std.specs.Prelude.{ℕ, ◌+◌, ◌-◌, ◌*◌, ◌<◌, ◌==◌, ◌&&◌, ◌||◌, ◌≡◌, not, if◌then◌else◌, Bool, true, false, filter, slice_index_or, List, [], ◌∷◌, ◌++◌, All, length, map}
+use Rattle.std.specs.Prelude.{[], ℕ, ◌+◌, ◌-◌, ◌*◌, ◌<◌, ◌==◌, ◌&&◌, ◌≡◌, not, if◌then◌else◌, Bool, false, filter, slice_index_or, List, ◌∷◌, ◌++◌, All, length, map}
 use Rattle.seats.specs.Flat.{lines_wanted}
 use Rattle.seats.specs.Held.{AreWithin}
 use Rattle.lines.specs.Directory.{Layout, page_count, is_fine_page}

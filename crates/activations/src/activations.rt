@@ -1,5 +1,5 @@
 // Who runs, what each has, and the storage that they share.
-ghost use Rattle.std.specs.Prelude.{◌≡◌, ℕ, ◌-◌, ◌^◌, ◌≤◌, List, length, IfOk, ◌<◌, true};
+ghost use Rattle.std.specs.Prelude.{◌≡◌, ℕ, ◌-◌, ◌^◌, ◌≤◌, List, length, IfOk, ◌<◌};
 ghost use Rattle.store_format.specs.Header.{most_lines};
 ghost use Rattle.desk.specs.Run.{absent_segment};
 ghost use Rattle.desk.specs.Desk.{opened};

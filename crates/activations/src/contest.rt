@@ -1,10 +1,8 @@
 // Who waits for whom, and the cycles that are broken.
-ghost use Rattle.std.specs.Prelude.{◌≡◌, ◌≤◌, ◌+◌, ◌==◌, true, ℕ, List, [], ◌∷◌, ◌++◌, length, map, IsSome, Some, ◌<◌, OnOk, IfErr};
+ghost use Rattle.std.specs.Prelude.{◌≡◌, ◌≤◌, ◌+◌, ◌==◌, true, length, IsSome, Some, ◌<◌, OnOk, IfErr};
 ghost use Rattle.arrayvec.specs.ArrayVec.{array_vec_len};
 ghost use Rattle.lines.specs.Sets.{has};
 ghost use Rattle.lines.specs.Waits.{victim_of};
-ghost use Rattle.desk.specs.Desk.{Desk};
-ghost use Rattle.desk.specs.Instruction.{Word, Attempt, Turning};
 
 use super::activations::Activations;
 use super::tally::Tally;
@@ -12,13 +10,11 @@ use arrayvec::ArrayVec;
 use desk::{Cycle, TurnEnd};
 
 impl Activations {
-    ghost use Rattle.activations.specs.Activity.{Activity};
     ghost use Rattle.activations.specs.Follows.{IsSound};
     ghost use Rattle.activations.specs.Kept.{StandsStill};
-    ghost use Rattle.activations.specs.Serving.{IsContested};
     ghost use Rattle.activations.specs.Stages.{CountsCycles, EndsContest, KeepsSound};
-    ghost use Rattle.activations.specs.Turning.{tally_counts, IsSettled};
     ghost use Rattle.activations.specs.View.{activity_of};
+    ghost use Rattle.activations.specs.Turning.{Settles};
     ghost use Rattle.seats.specs.declared.request.Request.{Request};
     ghost use Rattle.seats.specs.Seating.{number_in, sitter};
     ghost use Rattle.seats.specs.Waiting.{holders};
@@ -34,7 +30,7 @@ impl Activations {
         ensures counts { CountsCycles (activity_of self.new) tally.old tally.new }
         ensures stays { OnOk result (StandsStill (activity_of self.old) (activity_of self.new) seat) }
         ensures ends { IfErr result (EndsContest (number_in (activity_of self.old).seating seat) tally.new) }
-        ensures settled { (begins : Word → Turning) (attempt : Attempt) (refused : List ℕ) (first : Desk) (committed : List ℕ) (order : List (ℕ × ℕ)) → attempt.entry.number ≡ number_in (activity_of self.old).seating seat → IsContested begins attempt refused first (activity_of self.old) committed order (tally_counts tally.old) → IsSettled result begins attempt refused (activity_of self.new) committed order (tally_counts tally.new) }
+        ensures settled { Settles seat (activity_of self.old) (activity_of self.new) tally.old tally.new result }
     {
         let number = self.seats.sitter(seat).number;
         while let Some(members) = self.seats.cycle_from(seat) {

@@ -1,15 +1,10 @@
 // How an activation ends.
-ghost use Rattle.std.specs.Prelude.{◌≡◌, ◌<◌, true, false, ℕ, List, Some};
+ghost use Rattle.std.specs.Prelude.{◌≡◌, ◌<◌, true, false, ℕ, List};
 ghost use Rattle.lines.specs.Directory.{page_count};
 ghost use Rattle.lines.specs.Sets.{has};
 ghost use Rattle.seats.specs.Holding.{IsWhole};
-ghost use Rattle.flat_machine.specs.declared.machine.Plain.{Plain};
-ghost use Rattle.flat_machine.specs.After.{after};
-ghost use Rattle.flat_machine.specs.Row as row;
-ghost use Rattle.desk_law.specs.Consistent.{AreConsistent};
-ghost use Rattle.desk_law.specs.Beside.{over_all};
 ghost use Rattle.storage_unit.specs.View.{reach_of};
-ghost use Rattle.activations.specs.Ends.{HasUndone, HasSettled};
+ghost use Rattle.activations.specs.Steps.{HasUndone, HasSettled};
 
 use super::activations::Activations;
 use arrayvec::ArrayVec;
@@ -19,11 +14,10 @@ use std::mem::swap;
 use storage_unit::Unit;
 
 impl Activations {
-    ghost use Rattle.activations.specs.Activity.{entries, entry_in, live_in, program_in, store_over, shown};
-    ghost use Rattle.activations.specs.Ends.{IsDeserted, IsRestarted, reprinted};
+    ghost use Rattle.activations.specs.Activity.{live_in};
+    ghost use Rattle.activations.specs.Steps.{IsDeserted, IsRestarted, reprinted, rolled, vacated, IsRolledBack, IsCommitted};
     ghost use Rattle.seats.specs.Seating.{numbers, seat_of, sitter};
-    ghost use Rattle.activations.specs.Follows.{IsSound, IsKept, KeepsDesk};
-    ghost use Rattle.activations.specs.Steps.{rolled, vacated, RollsBack, Commits};
+    ghost use Rattle.activations.specs.Follows.{IsSound, KeepsDesk};
     ghost use Rattle.activations.specs.View.{activity_of};
 
     /// Who sits in a seat is rolled back: the pages that he wrote into go out, and the lines that he wrote are forgotten.
@@ -33,7 +27,7 @@ impl Activations {
         ensures shape { activity_of self.new ≡ rolled (activity_of self.old) seat (activity_of self.new).reach.pool }
         ensures sound { IsSound (activity_of self.new) }
         ensures undone { HasUndone (activity_of self.old).seating.holding seat (activity_of self.old).reach (record (activity_of self.old).reach { pool = (activity_of self.new).reach.pool }) }
-        ensures rolls { (committed : List ℕ) → AreConsistent (store_over (activity_of self.old) committed) (activity_of self.old).most_lines (activity_of self.old).next (entries (activity_of self.old)) → IsKept (activity_of self.old) committed → RollsBack (activity_of self.old) seat (activity_of self.new).reach.pool committed }
+        ensures rolls { IsRolledBack (activity_of self.old) seat (activity_of self.new).reach.pool }
     {
         self.end(seat, false);
     }
@@ -44,7 +38,7 @@ impl Activations {
         requires taken { has (activity_of self.old).seating.taken seat ≡ true }
         ensures shape { activity_of self.new ≡ rolled (activity_of self.old) seat (activity_of self.new).reach.pool }
         ensures sound { IsSound (activity_of self.new) }
-        ensures commits { (committed : List ℕ) (now : Plain) → KeepsDesk (activity_of self.old) committed → after (program_in (activity_of self.old) seat) (entry_in (activity_of self.old) seat).runs.args (store_over (activity_of self.old) committed) (entry_in (activity_of self.old) seat).rows ≡ Some now → row.row (program_in (activity_of self.old) seat) (activity_of self.old).reach.directory (over_all now (shown (activity_of self.old) committed)) ≡ row.Commit → Commits (activity_of self.old) seat (activity_of self.new).reach.pool committed now }
+        ensures commits { IsCommitted (activity_of self.old) seat (activity_of self.new).reach.pool }
     {
         self.end(seat, true);
     }

@@ -1,5 +1,5 @@
 // Pages come in from the store on the disk.
-ghost use Rattle.std.specs.Prelude.{◌≡◌, ◌+◌, ◌<◌, ◌^◌, false, [], OnOk, OnErr, option_to_list};
+ghost use Rattle.std.specs.Prelude.{[], ◌≡◌, ◌+◌, ◌<◌, ◌^◌, false, OnOk, OnErr, option_to_list};
 ghost use Rattle.lines.specs.Directory.{page_count};
 ghost use Rattle.lines.specs.Resident.{brought};
 ghost use Rattle.lines.specs.Sets.{has};

@@ -1,5 +1,5 @@
 // Lines are locked, the pages whose entries refused them are granted, and write bits of fine pages go off again.
-ghost use Rattle.std.specs.Prelude.{◌≡◌, ◌<◌, ◌∷◌, [], map, true};
+ghost use Rattle.std.specs.Prelude.{[], ◌≡◌, ◌<◌, ◌∷◌, map, true};
 ghost use Rattle.lines.specs.Directory.{page_count};
 ghost use Rattle.seats.specs.Held.{AreWithin};
 ghost use Rattle.lines.specs.Sets.{has};
@@ -42,7 +42,7 @@ impl Activations {
 
     /// The pages of a touch that are picked are granted to a seat.
     #[inline(always)]
-    #[tactic(auto, using(crate::proofs::GrantingLemmas::one_within, crate::proofs::GrantingLemmas::first_within, crate::proofs::GrantingLemmas::second_within))]
+    #[tactic(auto, using(crate::proofs::GrantLemmas::one_within, crate::proofs::GrantLemmas::first_within, crate::proofs::GrantLemmas::second_within))]
     fn grant_picked(&mut self, seat: u8, touch: &Touch, picked: (bool, bool))
         requires seat { seat < 16 }
         requires same { (activity_of self.old).seating.holding.pages ≡ page_count (activity_of self.old).reach.directory }
@@ -95,7 +95,7 @@ impl Activations {
 
     /// The write bits of the fine pages that a touch wrote into go off, but for those of which a seat holds all lines.
     #[inline(always)]
-    #[tactic(auto, using(crate::proofs::GrantingLemmas::one_within, crate::proofs::GrantingLemmas::first_within, crate::proofs::GrantingLemmas::second_within))]
+    #[tactic(auto, using(crate::proofs::GrantLemmas::one_within, crate::proofs::GrantLemmas::first_within, crate::proofs::GrantLemmas::second_within))]
     pub(super) fn lower(&mut self, seat: u8, touch: &Touch)
         requires seat { seat < 16 }
         requires same { (activity_of self.old).seating.holding.pages ≡ page_count (activity_of self.old).reach.directory }

@@ -1,13 +1,10 @@
 // One instruction of who sits in a seat: it takes effect, once its access has been served where it must be.
-ghost use Rattle.std.specs.Prelude.{◌≡◌, ◌+◌, ◌<◌, ◌≤◌, ◌^◌, ℕ, List, true, length, map, IfErr, IfOk, OnOk};
+ghost use Rattle.std.specs.Prelude.{◌≡◌, ◌+◌, ◌<◌, ◌≤◌, ◌^◌, ℕ, List, true, length, IfErr, IfOk, OnOk};
 ghost use Rattle.arrayvec.specs.ArrayVec.{array_vec_len};
 ghost use Rattle.lines.specs.Sets.{has};
 ghost use Rattle.outside.specs.Runs.{OnlyAsks};
 ghost use Rattle.desk.specs.Instruction.{Word, Turning, Counts};
-ghost use Rattle.desk.specs.Instruction as desk;
 ghost use Rattle.desk.specs.declared.answers.TurnEnd.TheVariants as end;
-ghost use Rattle.flat_machine.specs.Row as row;
-ghost use Rattle.flat_machine.specs.declared.machine.Plain.{Plain};
 ghost use Rattle.seats.specs.Flat.{lines_wanted};
 ghost use Rattle.storage_unit.specs.Rows.{IsOpen};
 ghost use Rattle.activations.specs.Touched.{wants_of, pages_picked, pages_wanted, AreLetBut, AreWanted};
@@ -30,18 +27,14 @@ pub enum Went {
 }
 
 impl Activations {
-    ghost use Rattle.activations.specs.Activity.{live_in, program_in};
-    ghost use Rattle.activations.specs.Causes.{IsNoLimit};
-    ghost use Rattle.activations.specs.Attempted.{IsSelected, IsShut, WillTouch, plain_in};
-    ghost use Rattle.activations.specs.Fetching.{IsStoreOf, HasBrokenOff};
-    ghost use Rattle.activations.specs.Follows.{IsSound, KeepsDesk};
-    ghost use Rattle.activations.specs.Instructed.{GoesUncounted, IsInstruction, IsAsked, IsServed, Prepares, Serves};
+    ghost use Rattle.activations.specs.Activity.{live_in};
+    ghost use Rattle.activations.specs.Stages.{IsNoLimit, CanFetch, CanServe, CountsCycles, CountsOne, CountsPages, EndsByDisk, EndsContest, EndsRows, HasFetched, HasRoom, KeepsAll, KeepsSound, StaysCalm, Instructs, SettlesAsked, ServesFree, EndsChecked};
+    ghost use Rattle.activations.specs.Attempted.{IsSelected, IsShut, WillTouch};
+    ghost use Rattle.activations.specs.Fetching.{HasBrokenOff};
+    ghost use Rattle.activations.specs.Follows.{IsSound};
+    ghost use Rattle.activations.specs.Turning.{GoesUncounted, IsInstruction, IsServed, Prepares, IsStep, MayBeShut};
     ghost use Rattle.activations.specs.Kept.{KeepsParts, StandsStill, StaysSeated};
-    ghost use Rattle.activations.specs.Stages.{CanFetch, CanServe, CountsCycles, CountsOne, CountsPages, EndsByDisk, EndsContest, EndsRows, HasFetched, HasRoom, KeepsAll, KeepsSound, StaysCalm};
-    ghost use Rattle.activations.specs.Serving.{IsFree, instruction_in};
     ghost use Rattle.activations.specs.Steps.{rolled, with_pool};
-    ghost use Rattle.activations.specs.Turning.{tally_counts, HasEnded, IsSettled};
-    ghost use Rattle.activations.specs.Turns.{IsStep, MayBeShut};
     ghost use Rattle.activations.specs.View.{activity_of};
     ghost use Rattle.seats.specs.Seating.{number_in};
 
@@ -67,7 +60,7 @@ impl Activations {
         ensures on { OnOk result (StaysCalm W.Outside (activity_of self.old) (activity_of self.new) seat outside.old outside.new) }
         ensures over { IfErr result (EndsRows W.Outside (number_in (activity_of self.old).seating seat) (activity_of self.new) outside.old outside.new tally.old tally.new) }
         ensures no_limit { IfErr result IsNoLimit }
-        ensures step { (committed : List ℕ) (order : List (ℕ × ℕ)) → IsStoreOf W.Outside store.now outside.old committed → KeepsDesk (activity_of self.old) committed → IsStep result (instruction_in (activity_of self.old) seat committed order (tally_counts tally.old)) (activity_of self.new) seat committed order (tally_counts tally.new) }
+        ensures step { Instructs W.Outside store.now outside.old seat (activity_of self.old) (activity_of self.new) tally.old tally.new (IsStep result) }
     {
         if let Some(access) = shut {
             self.serve(store, outside, seat, access, tally)?;
@@ -106,7 +99,7 @@ impl Activations {
         ensures on { OnOk result (StaysCalm W.Outside (activity_of self.old) (activity_of self.new) seat outside.old outside.new) }
         ensures over { IfErr result (EndsRows W.Outside (number_in (activity_of self.old).seating seat) (activity_of self.new) outside.old outside.new tally.old tally.new) }
         ensures no_limit { IfErr result IsNoLimit }
-        ensures served { (committed : List ℕ) (order : List (ℕ × ℕ)) → IsStoreOf W.Outside store.now outside.old committed → KeepsDesk (activity_of self.old) committed → IsInstruction result (instruction_in (activity_of self.old) seat committed order (tally_counts tally.old)) (activity_of self.new) seat committed order (tally_counts tally.new) }
+        ensures served { Instructs W.Outside store.now outside.old seat (activity_of self.old) (activity_of self.new) tally.old tally.new (IsInstruction result) }
     {
         let (touch, refused) = self.prepare(store, outside, seat, access, tally)?;
         self.ask(seat, &touch, tally)?;
@@ -141,7 +134,7 @@ impl Activations {
         ensures on { OnOk result (StaysCalm W.Outside (activity_of self.old) (activity_of self.new) seat outside.old outside.new) }
         ensures over { IfErr result (EndsRows W.Outside (number_in (activity_of self.old).seating seat) (activity_of self.new) outside.old outside.new tally.old tally.new) }
         ensures no_limit { IfErr result IsNoLimit }
-        ensures prepared { (committed : List ℕ) (order : List (ℕ × ℕ)) → IsStoreOf W.Outside store.now outside.old committed → KeepsDesk (activity_of self.old) committed → Prepares result (instruction_in (activity_of self.old) seat committed order (tally_counts tally.old)) (activity_of self.new) seat committed order (tally_counts tally.new) }
+        ensures prepared { Instructs W.Outside store.now outside.old seat (activity_of self.old) (activity_of self.new) tally.old tally.new (Prepares result) }
     {
         let touch = self.touch_of(seat, access);
         self.keep_limit(seat, &touch)?;
@@ -202,7 +195,7 @@ impl Activations {
         ensures counts { CountsCycles (activity_of self.new) tally.old tally.new }
         ensures stays { OnOk result (StandsStill (activity_of self.old) (activity_of self.new) seat) }
         ensures ends { IfErr result (EndsContest (number_in (activity_of self.old).seating seat) tally.new) }
-        ensures settled { (begins : Word → Turning) (attempt : desk.Attempt) (refused : List ℕ) (committed : List ℕ) (order : List (ℕ × ℕ)) → IsAsked begins attempt refused (activity_of self.old) seat (wants_of touch.now) committed order (tally_counts tally.old) → IsSettled result begins attempt refused (activity_of self.new) committed order (tally_counts tally.new) }
+        ensures settled { SettlesAsked seat (wants_of touch.now) (activity_of self.old) (activity_of self.new) tally.old tally.new result }
     {
         let request = self.request(touch);
         if self.seats.holders(seat, &request).is_empty() {
@@ -239,7 +232,7 @@ impl Activations {
         ensures counts { CountsPages tally.old tally.new }
         ensures on { OnOk result (StaysCalm W.Outside (activity_of self.old) (activity_of self.new) seat outside.old outside.new) }
         ensures ends { IfErr result (EndsByDisk W.Outside outside.old outside.new tally.old tally.new) }
-        ensures served { (begins : Word → Turning) (attempt : desk.Attempt) (next : Plain) (committed : List ℕ) (order : List (ℕ × ℕ)) → IsStoreOf W.Outside store.now outside.old committed → attempt.entry.number ≡ number_in (activity_of self.old).seating seat → attempt.outcome ≡ row.On next → attempt.lines ≡ lines_wanted (wants_of touch.now) → IsFree begins attempt (pages_picked touch.now refused) (activity_of self.old) committed order (tally_counts tally.old) → Serves result begins (activity_of self.new) seat (wants_of touch.now) committed order (tally_counts tally.new) }
+        ensures served { ServesFree W.Outside store.now outside.old seat (wants_of touch.now) (pages_picked touch.now refused) (activity_of self.old) (activity_of self.new) tally.old tally.new result }
     {
         self.take(seat, touch, refused);
         self.bring(store, outside, seat, touch, tally)
@@ -271,7 +264,7 @@ impl Activations {
         ensures sound { IsSound (activity_of self.new) }
         ensures end { result ≡ end.Checked code (live_in (activity_of self.old) seat).cpu.iar }
         ensures shape { activity_of self.new ≡ rolled (activity_of self.old) seat (activity_of self.new).reach.pool }
-        ensures checked { (committed : List ℕ) (order : List (ℕ × ℕ)) (counts : Counts) → IsSelected (activity_of self.old) seat → KeepsDesk (activity_of self.old) committed → row.row (program_in (activity_of self.old) seat) (activity_of self.old).reach.directory (plain_in (activity_of self.old) seat committed) ≡ row.Check code → HasEnded result (instruction_in (activity_of self.old) seat committed order counts) (activity_of self.new) committed order counts }
+        ensures checked { EndsChecked seat code (activity_of self.old) (activity_of self.new) result }
     {
         let address = self.live[usize::from(seat)].cpu.iar;
         self.roll_back(seat);

@@ -1,5 +1,5 @@
 // Laws of an access that isn't permitted. They call nothing.
-ghost use Rattle.activations.specs.Serves.{ServingStarts, ServedGoesOn, LinesAreCounted};
+ghost use Rattle.activations.specs.Serving.{ServingStarts, ServedGoesOn, LinesAreCounted};
 
 /// Wherever the serving of an access begins: too many lines, a page that can't be read, nobody who holds what is asked for, or
 /// a contest.

@@ -1,5 +1,5 @@
 // What an activation has beside its seat.
-ghost use Rattle.std.specs.Prelude.{◌≡◌, [], IfOk};
+ghost use Rattle.std.specs.Prelude.{[], ◌≡◌, IfOk};
 ghost use Rattle.flat_machine.specs.After.{clear};
 ghost use Rattle.flat_machine.specs.After as first;
 ghost use Rattle.activations.specs.Activity.{nothing_over};

@@ -1,5 +1,5 @@
 // The record of a commit.
-ghost use Rattle.std.specs.Prelude.{◌≡◌, ◌+◌, ◌*◌, ◌<◌, ◌≤◌, ℕ, List, [], All, length, map, true, Some, IsSome, IsOk, OnOk, OnErr, IfErr};
+ghost use Rattle.std.specs.Prelude.{[], ◌≡◌, ◌+◌, ◌*◌, ◌<◌, ◌≤◌, ℕ, List, All, length, true, Some, IsSome, IsOk, OnOk, OnErr, IfErr};
 ghost use Rattle.lines.specs.Sets.{has, size};
 ghost use Rattle.lines.specs.Directory.{page_count};
 ghost use Rattle.seats.specs.Flat.{flat_lines};

@@ -2,7 +2,7 @@
 ghost use Rattle.std.specs.Prelude.{◌≡◌, ◌≤◌, ◌<◌, ℕ, true, Some, None};
 ghost use Rattle.activations.specs.Activity.{Activity};
 ghost use Rattle.activations.specs.Attempted.{WasAttempted, IsShut, IsStopped};
-ghost use Rattle.activations.specs.Striding.{RunsAt, StrodeTo, with_live};
+ghost use Rattle.activations.specs.Kept.{RunsAt, StrodeTo, with_live};
 ghost use Rattle.activations.specs.Follows.{IsSound};
 ghost use Rattle.storage_unit.specs.View.{reach_of};
 ghost use Rattle.lines.specs.Sets.{has};

@@ -18,7 +18,7 @@ impl Activations {
 
     /// Of the first and the second page of a touch, whether its entry refuses who sits in a seat a line of it.
     #[inline(always)]
-    #[tactic(auto, using(crate::proofs::GrantingLemmas::one_within, crate::proofs::GrantingLemmas::first_within, crate::proofs::GrantingLemmas::second_within))]
+    #[tactic(auto, using(crate::proofs::GrantLemmas::one_within, crate::proofs::GrantLemmas::first_within, crate::proofs::GrantLemmas::second_within))]
     pub fn refused(&self, seat: u8, touch: &Touch) -> (bool, bool)
         requires seat { seat < 16 }
         requires pages { AreWithin (page_count (activity_of self.now).reach.directory) (wants_of touch.now) }
@@ -33,7 +33,7 @@ impl Activations {
 
     /// Whether a touch is of one page, whose entry refuses who sits in a seat none of its lines.
     #[inline(always)]
-    #[tactic(auto, using(crate::proofs::GrantingLemmas::one_within))]
+    #[tactic(auto, using(crate::proofs::GrantLemmas::one_within))]
     pub(super) fn is_granted(&self, seat: u8, touch: &Touch) -> bool
         requires seat { seat < 16 }
         requires pages { AreWithin (page_count (activity_of self.now).reach.directory) (wants_of touch.now) }

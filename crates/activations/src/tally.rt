@@ -1,5 +1,5 @@
 // What a turn has counted.
-ghost use Rattle.std.specs.Prelude.{◌≡◌, ◌+◌, []};
+ghost use Rattle.std.specs.Prelude.{[], ◌≡◌, ◌+◌};
 
 use arrayvec::ArrayVec;
 use desk::Cycle;

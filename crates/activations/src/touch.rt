@@ -1,5 +1,5 @@
 // The lines that an access touches, page by page.
-ghost use Rattle.std.specs.Prelude.{◌≡◌, ◌+◌, ◌/◌, ◌<◌, ◌≤◌, ◌^◌, ◌∷◌, [], map};
+ghost use Rattle.std.specs.Prelude.{[], ◌≡◌, ◌+◌, ◌/◌, ◌<◌, ◌≤◌, ◌^◌, ◌∷◌, map};
 ghost use Rattle.lines.specs.Directory.{Layout};
 ghost use Rattle.lines.specs.Lines.{line_count};
 ghost use Rattle.seats.specs.Flat.{lines_wanted};

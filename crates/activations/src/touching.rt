@@ -1,5 +1,5 @@
 // The lines of the store that an access touches, and the most that are written.
-ghost use Rattle.std.specs.Prelude.{◌≡◌, ◌+◌, ◌-◌, ◌<◌, ◌≤◌, true, false, nat_lt, ℕ, List, length, OnOk, IfErr};
+ghost use Rattle.std.specs.Prelude.{◌≡◌, ◌+◌, ◌-◌, ◌<◌, ◌≤◌, true, false, nat_lt, length, OnOk, IfErr};
 ghost use Rattle.lines.specs.Sets.{has};
 ghost use Rattle.lines.specs.Directory.{start_of, byte_count, page_count};
 ghost use Rattle.lines.specs.Lines.{line_of};
@@ -9,8 +9,6 @@ ghost use Rattle.seats.specs.Held.{write_count};
 ghost use Rattle.seats.specs.Holding.{of_seat, held_at};
 ghost use Rattle.page_table.specs.Registers.{located_by};
 ghost use Rattle.romp_cpu.specs.Attempts.{lines_of_access};
-ghost use Rattle.flat_machine.specs.declared.machine.Plain.{Plain};
-ghost use Rattle.desk.specs.Instruction.{Counts};
 ghost use Rattle.activations.specs.Touched.{lines_between, wants_of, AreWanted};
 
 use super::activations::Activations;
@@ -25,11 +23,10 @@ use storage_unit::PRIVATE;
 impl Activations {
     ghost use Rattle.activations.specs.Activity.{live_in, program_in};
     ghost use Rattle.activations.specs.Follows.{IsSound};
-    ghost use Rattle.activations.specs.Serves.{lines_with, IsToServe};
-    ghost use Rattle.activations.specs.Serving.{instruction_in};
+    ghost use Rattle.activations.specs.Serving.{lines_with};
     ghost use Rattle.activations.specs.Steps.{rolled};
-    ghost use Rattle.activations.specs.Turning.{HasEnded};
     ghost use Rattle.activations.specs.View.{activity_of};
+    ghost use Rattle.activations.specs.Stages.{EndsServing};
 
     /// The lines of the store that an access of who sits in a seat touches.
     #[inline(always)]
@@ -77,7 +74,7 @@ impl Activations {
         ensures kept { OnOk result ((activity_of self.new ≡ activity_of self.old) × (nat_lt (activity_of self.old).most_lines (lines_with (activity_of self.old) seat (wants_of touch.now)) ≡ false)) }
         ensures journal { IfErr result (λ end. (end ≡ TurnEnd.Journal (lines_with (activity_of self.old) seat (wants_of touch.now)) (activity_of self.old).most_lines) × ((activity_of self.old).most_lines < lines_with (activity_of self.old) seat (wants_of touch.now))) }
         ensures rolled { IfErr result (λ end. activity_of self.new ≡ rolled (activity_of self.old) seat (activity_of self.new).reach.pool) }
-        ensures over { IfErr result (λ end. (committed : List ℕ) (order : List (ℕ × ℕ)) (counts : Counts) (next : Plain) → IsToServe (activity_of self.old) seat committed (wants_of touch.now) next → HasEnded end (instruction_in (activity_of self.old) seat committed order counts) (activity_of self.new) committed order counts) }
+        ensures over { IfErr result (EndsServing seat (wants_of touch.now) (activity_of self.old) (activity_of self.new)) }
     {
         let lines = self.lines_with(seat, touch);
         if lines > self.most_lines {

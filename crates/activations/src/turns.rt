@@ -1,8 +1,7 @@
 // The rows of a turn, one after another.
-ghost use Rattle.std.specs.Prelude.{◌≡◌, ◌+◌, ◌<◌, ◌≤◌, ◌^◌, ℕ, List, true, length, IfErr, IfOk, OnOk};
+ghost use Rattle.std.specs.Prelude.{◌≡◌, ◌+◌, ◌<◌, ◌≤◌, ◌^◌, true, length, IfErr, IfOk, OnOk};
 ghost use Rattle.arrayvec.specs.ArrayVec.{array_vec_len};
 ghost use Rattle.lines.specs.Sets.{has};
-ghost use Rattle.desk.specs.Instruction.{Word, Counts, Turning};
 
 use super::activations::Activations;
 use super::instructions::Went;
@@ -14,14 +13,11 @@ use store::Durable;
 
 impl Activations {
     ghost use Rattle.activations.specs.Attempted.{IsSelected};
-    ghost use Rattle.activations.specs.Causes.{IfLimit};
-    ghost use Rattle.activations.specs.Fetching.{IsStoreOf};
-    ghost use Rattle.activations.specs.Follows.{IsSound, KeepsDesk};
+    ghost use Rattle.activations.specs.Stages.{IfLimit, CanFetch, CanServe, CountsPages, EndsByDisk, EndsRows, KeepsAll, StaysCalm, Turns, KeepsTurning, GoesFar};
+    ghost use Rattle.activations.specs.Follows.{IsSound};
     ghost use Rattle.activations.specs.Kept.{KeepsParts, AreRowsWithin, StaysSeated};
-    ghost use Rattle.activations.specs.Stages.{CanFetch, CanServe, CountsPages, EndsByDisk, EndsRows, KeepsAll, StaysCalm};
     ghost use Rattle.activations.specs.Steps.{counted};
-    ghost use Rattle.activations.specs.Turning.{tally_counts};
-    ghost use Rattle.activations.specs.Turns.{AreTurns, ComesBack, IsTurning, MayBeShut, turn_in, selected_in};
+    ghost use Rattle.activations.specs.Turning.{MayBeShut, selected_in};
     ghost use Rattle.activations.specs.View.{activity_of};
     ghost use Rattle.seats.specs.Seating.{number_in};
 
@@ -50,7 +46,7 @@ impl Activations {
         ensures on { OnOk result (StaysCalm W.Outside (activity_of self.old) (activity_of self.new) seat outside.old outside.new) }
         ensures over { IfErr result (EndsRows W.Outside (number_in (activity_of self.old).seating seat) (activity_of self.new) outside.old outside.new tally.old tally.new) }
         ensures limit { IfErr result (IfLimit limit tally.new.ran) }
-        ensures turned { (committed : List ℕ) (order : List (ℕ × ℕ)) → IsStoreOf W.Outside store.now outside.old committed → KeepsDesk (activity_of self.old) committed → AreTurns result (turn_in (activity_of self.old) seat limit committed order (tally_counts tally.old)) (activity_of self.new) seat committed order (tally_counts tally.new) }
+        ensures turned { Turns W.Outside store.now outside.old seat limit (activity_of self.old) (activity_of self.new) tally.old tally.new result }
     {
         self.select(seat);
         let mut left = limit;
@@ -92,7 +88,7 @@ impl Activations {
         ensures on { OnOk result (StaysCalm W.Outside (activity_of self.old) (activity_of self.new) seat outside.old outside.new) }
         ensures ends { IfErr result (EndsByDisk W.Outside outside.old outside.new tally.old tally.new) }
         ensures shut { IfOk result (λ still. MayBeShut (activity_of self.new) seat still) }
-        ensures turns { (begins : Word → Turning) (left : ℕ) (committed : List ℕ) (order : List (ℕ × ℕ)) → 0 < left → IsStoreOf W.Outside store.now outside.old committed → IsTurning begins (activity_of self.old) seat left committed order (tally_counts tally.old) → ComesBack result begins (activity_of self.new) seat left committed order (tally_counts tally.new) }
+        ensures turns { KeepsTurning W.Outside store.now outside.old seat (activity_of self.old) (activity_of self.new) tally.old tally.new result }
     {
         let Some(access) = shut else {
             return Ok(None);
@@ -131,7 +127,7 @@ impl Activations {
         ensures stays { StaysSeated (activity_of self.old) (activity_of self.new) seat }
         ensures taken { (activity_of self.new).seating.taken ≡ (activity_of self.old).seating.taken }
         ensures shut { MayBeShut (activity_of self.new) seat result.1 }
-        ensures gone { (begins : Word → Turning) (committed : List ℕ) (order : List (ℕ × ℕ)) (counts : Counts) (rows left : ℕ) → result.0 ≡ 1 + rows → IsTurning begins (counted (activity_of self.old) seat 1) seat (rows + left) committed order (record counts { ran = counts.ran + 1 }) → IsTurning begins (activity_of self.new) seat left committed order (record counts { ran = counts.ran + result.0 }) }
+        ensures gone { GoesFar seat result.0 (activity_of self.old) (activity_of self.new) }
     {
         let (ran, access) = self.stride(seat, limit);
         self.seats.go_on(seat, 1 + ran);

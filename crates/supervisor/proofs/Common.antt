@@ -5,14 +5,11 @@ pub use Rattle.std.proofs.lemmas.List.{get_or_past, map-append, nil_from_length}
 pub use Rattle.std.specs.Prelude.{Bool, IsFalse, false, is_some, not, true, unwrap_or, ◌==◌, IsSome, drop, filter, if◌then◌else◌, map, nat_lt, slice_index, slice_set, vec_capacity, vec_len}
 pub use Rattle.activations.specs.Activity.{Activity, desk_over, entries, entry_in, live_in, program_at, program_in, shown, state_in, store_over}
 pub use Rattle.activations.specs.Begins.{Begins, IsBegin, begins, begins_by, idle}
-pub use Rattle.activations.specs.Causes.{IfJournal, IfVictim}
-pub use Rattle.activations.specs.Ends.{IsRestarted, reprinted, IsDeserted}
+pub use Rattle.activations.specs.Stages.{IfJournal, IfVictim}
+pub use Rattle.activations.specs.Steps.{IsRestarted, reprinted, IsDeserted, rolled}
 pub use Rattle.activations.specs.Follows.{KeepsDesk}
-pub use Rattle.activations.specs.Instructed.{IfWaits, IsEndOfRows}
+pub use Rattle.activations.specs.Turning.{IfWaits, IsEndOfRows, HasEnded, tally_counts, IsAtCommit, commit_call, turn_in}
 pub use Rattle.activations.specs.Kept.{AreRowsWithin}
-pub use Rattle.activations.specs.Steps.{rolled}
-pub use Rattle.activations.specs.Turning.{HasEnded, tally_counts}
-pub use Rattle.activations.specs.Turns.{IsAtCommit, commit_call, turn_in}
 pub use Rattle.activations.specs.View.{activity_of}
 pub use Rattle.activations.specs.declared.activations.Activations.{Activations}
 pub use Rattle.activations.specs.declared.live.Live.{Live}

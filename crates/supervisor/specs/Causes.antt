@@ -23,8 +23,8 @@ use Rattle.desk.specs.Run.{absent_segment}
 use Rattle.seats.specs.Seating.{number_in}
 use Rattle.activations.specs.declared.tally.Tally.{Tally}
 use Rattle.activations.specs.Activity.{Activity, program_at}
-use Rattle.activations.specs.Causes.{IfChecked, IfJournal, IfLimit, IfVictim}
-use Rattle.activations.specs.Instructed.{IfWaits}
+use Rattle.activations.specs.Stages.{IfChecked, IfJournal, IfLimit, IfVictim}
+use Rattle.activations.specs.Turning.{IfWaits}
 use Rattle.activations.specs.Recorded.{IsRecordOf}
 use Rattle.supervisor.specs.declared.session.Session.{Session}
 use Rattle.supervisor.specs.Session.{activity, store_told}

@@ -19,8 +19,7 @@ use Rattle.desk.specs.Run.{Turned}
 use Rattle.desk_law.specs.Beside.{Reads}
 use Rattle.seats.specs.Seating.{number_in}
 use Rattle.activations.specs.declared.tally.Tally.{Tally}
-use Rattle.activations.specs.Turning.{tally_counts}
-use Rattle.activations.specs.Turns.{commit_call}
+use Rattle.activations.specs.Turning.{tally_counts, commit_call}
 use Rattle.supervisor.specs.declared.session.Session.{Session}
 use Rattle.supervisor.specs.Session.{activity, order_of, session_desk}
 use Rattle.supervisor.specs.Shown.{IsOpenOver}

@@ -18,8 +18,8 @@ use outside::Outside;
 use store::Kept;
 
 impl Session {
-    ghost use Rattle.activations.specs.Turns.{IsAtCommit};
-    ghost use Rattle.activations.specs.Causes.{IfJournal};
+    ghost use Rattle.activations.specs.Turning.{IsAtCommit};
+    ghost use Rattle.activations.specs.Stages.{IfJournal};
     ghost use Rattle.store_format.specs.Header.{most_lines};
     ghost use Rattle.supervisor.specs.Session.{IsSound, KeepsParts, activity, order_of};
     ghost use Rattle.supervisor.specs.Shown.{IsOpenOver};

@@ -1,5 +1,5 @@
 use Rattle.activations.proofs.Common.{All-nil, IsOfPage, Want}
-use Rattle.activations.proofs.LimitLemmas.{written-none, written-one, written-two}
+use Rattle.activations.proofs.HoldingLemmas.{written-none, written-one, written-two}
 use Rattle.activations.proofs.laws.lines_are_counted.Goals as goal
 
 pub returns : goal.returns

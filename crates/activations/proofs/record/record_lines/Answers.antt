@@ -1,6 +1,6 @@
-use Rattle.activations.proofs.Lemmas.{IsSome, page_count, line_bytes, LinesOf, pool_of, pool-seen, Header, record_bytes, begun_of, with_line, KeptStore, ◌+◌, ◌*◌, ◌≤◌, ℕ, List, length, refl, sym, ◌∙◌, ap, subst, arith, Adds, adds-all, adds-none, adds-next, adds-one, next-line, next-above, next-room}
-use Rattle.activations.proofs.RecordBytes.{shown-long}
-use Rattle.activations.proofs.SizeLemmas.{lines-fit}
+use Rattle.activations.proofs.Lemmas.{page_count, line_bytes, LinesOf, pool_of, pool-seen, Header, record_bytes, begun_of, with_line, KeptStore, ◌+◌, ◌*◌, ◌≤◌, ℕ, List, length, sym, ◌∙◌, ap, subst, arith, Adds, adds-all, adds-none, adds-next, adds-one, next-line, next-above, next-room}
+use Rattle.activations.proofs.RecordedLemmas.{shown-long}
+use Rattle.activations.proofs.PoolLemmas.{lines-fit}
 use Rattle.activations.proofs.record.record_lines.Goals as goal
 
 pub loop-line-init : goal.loop-line-init
@@ -12,12 +12,8 @@ loop-line-init c =
 pub written_line-requires-clause-line : goal.written_line-requires-clause-line
 written_line-requires-clause-line c = next-line (adds-next c.in-Some.ensures.steps c.loop-line.invariant)
 
-pub record_line-requires-clause-begun : goal.record_line-requires-clause-begun
-record_line-requires-clause-begun c = subst (λ (store : KeptStore). IsSome store.bank.begun) (sym c.loop-line.invariant.shape) refl
-
 pub record_line-requires-clause-whole : goal.record_line-requires-clause-whole
-record_line-requires-clause-whole c =
-    ap (λ (bytes : List ℕ). length bytes) c.written_line.ensures
+record_line-requires-clause-whole c = ap (λ (bytes : List ℕ). length bytes) c.written_line.ensures
     ∙ shown-long (pool_of c.args.pool.now) (pool-seen c.args.pool.now) c.args.page c.in-Some.line c.requires.page (next-line (adds-next c.in-Some.ensures.steps c.loop-line.invariant))
     ∙ ap line_bytes (c.requires.size ∙ sym (ap (λ (store : KeptStore). store.header.directory.page) c.loop-line.invariant.shape))
 
@@ -27,8 +23,7 @@ record_line-requires-clause-below c =
     omega (arith, same, c.requires.below, next-line (adds-next c.in-Some.ensures.steps c.loop-line.invariant), c.from.ensures, c.from-in-loop-line.ensures)
 
 pub record_line-requires-clause-ascending : goal.record_line-requires-clause-ascending
-record_line-requires-clause-ascending c =
-    λ k d within.
+record_line-requires-clause-ascending c = λ k d within.
     let above = next-above (adds-next c.in-Some.ensures.steps c.loop-line.invariant) k d within in
     omega (arith, above, c.from.ensures, c.from-in-loop-line.ensures)
 
@@ -40,12 +35,10 @@ record_line-requires-clause-room c =
     (lines-fit c.args.store.now.header.directory.page c.args.store.now.header.bank_bytes (length (begun_of c.loop-line.store.bank)) room)
 
 pub loop-line-preserved : goal.loop-line-preserved
-loop-line-preserved c =
-    adds-one (adds-next c.in-Some.ensures.steps c.loop-line.invariant) c.record_line.new.self
+loop-line-preserved c = adds-one (adds-next c.in-Some.ensures.steps c.loop-line.invariant) c.record_line.new.self
     (c.record_line.ensures
     ∙ (λ i. record c.loop-line.store { bank = with_line c.loop-line.store.bank (c.from.ensures i * 16 + c.from-in-loop-line.ensures i) (c.written_line.ensures i) }))
 
 pub returns : goal.returns
-returns c =
-    adds-none (pool_of c.args.pool.now) c.args.page c.args.lines c.args.store.now c.loop-line.store
+returns c = adds-none (pool_of c.args.pool.now) c.args.page c.args.lines c.args.store.now c.loop-line.store
     (subst (λ (left : List ℕ). Adds (pool_of c.args.pool.now) c.args.page c.args.lines c.args.store.now left c.loop-line.store) c.in-None.ensures.steps.0 c.loop-line.invariant)

@@ -16,14 +16,12 @@ loop-line-init c =
 
 pub permits-requires : goal.permits-requires
 permits-requires c =
-    let rest = c.next.new.self.left in
-    let line = c.in-Some.line in
+    let rest = c.next.new.self.left in let line = c.in-Some.line in
     c.loop-line.invariant.below line (ap (λ (set : List ℕ). has set line) c.in-Some.ensures.steps ∙ or_left (line == line) (has rest line) (grind (arith, nat_tests)))
 
 pub loop-line-preserved : goal.loop-line-preserved
 loop-line-preserved c =
-    let rest = c.next.new.self.left in
-    let kept = is_kept c.args.entry.now c.args.tid c.args.store in
+    let rest = c.next.new.self.left in let kept = is_kept c.args.entry.now c.args.tid c.args.store in
     record {
       same = ap (λ (here : Bool). here || list_any kept rest) (ap not c.if-not-permits.ensures) ∙ sym (ap (list_any kept) c.in-Some.ensures.steps) ∙ c.loop-line.invariant.same;
       below = λ line inside.

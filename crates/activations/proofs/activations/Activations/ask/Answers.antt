@@ -1,6 +1,6 @@
-use Rattle.activations.proofs.Lemmas.{Seating, sitter, number_in, holders, desk_over, IsSound, KeepsParts, StandsStill, IsContested, tally_counts, activity_of, wants_of, taken-below, ◌≡◌, ℕ, IsSome, ap, sym, ◌∙◌, subst, EndsContest, keeps-two, still-on, ok-then}
+use Rattle.activations.proofs.Lemmas.{Seating, sitter, holders, desk_over, IsSound, KeepsParts, StandsStill, IsContested, tally_counts, activity_of, wants_of, taken-below, ℕ, IsSome, ap, sym, ◌∙◌, subst, EndsContest, keeps-two, still-on, ok-then, some-holders}
 use Rattle.std.specs.Result.{IfErr}
-use Rattle.activations.proofs.AskLemmas.{asked-within, some-holders, sound-asking, asks-now, keeps-asking, still-asking, asked-whole}
+use Rattle.activations.proofs.GetLemmas.{asked-within, sound-asking, asks-now, keeps-asking, still-asking, asked-whole}
 use Rattle.activations.proofs.activations.Activations.ask.Goals as goal
 
 pub holders-requires : goal.holders-requires
@@ -21,42 +21,22 @@ contend-requires-clause-sound c =
     (asked-whole a.reach.directory (wants_of c.args.touch.now) c.request-request.result.wants.items c.requires.wanted.sets c.request-request.ensures))
 
 pub contend-requires-clause-waits : goal.contend-requires-clause-waits
-contend-requires-clause-waits c =
-    subst (λ (s : Seating). IsSome (sitter s c.args.seat).waits) (sym c.wait.ensures)
+contend-requires-clause-waits c = subst (λ (s : Seating). IsSome (sitter s c.args.seat).waits) (sym c.wait.ensures)
     (asks-now (activity_of c.args.self.now) c.args.seat c.request-request.result c.requires.sound c.requires.taken)
 
-pub returns-clause-keeps : goal.returns-clause-keeps
-returns-clause-keeps c =
-    let a = activity_of c.args.self.now in
+pub returns : goal.returns
+returns c =
+    let a = activity_of c.args.self.now in let mid = record a { seating = c.wait.new.self } in
+    let still = subst (λ (s : Seating). StandsStill a (record a { seating = s }) c.args.seat) (sym c.wait.ensures) (still-asking a c.args.seat c.request-request.result c.requires.sound c.requires.taken) in
+    let keeps = subst (λ (s : Seating). KeepsParts a (record a { seating = s }) 0) (sym c.wait.ensures) (keeps-asking a c.args.seat c.request-request.result c.requires.sound c.requires.taken) in
     record {
-      sound = c.contend.ensures.keeps.sound;
-      parts =
-          keeps-two a (record a { seating = c.wait.new.self }) (activity_of c.contend.new.self)
-          (subst (λ (s : Seating). KeepsParts a (record a { seating = s }) 0) (sym c.wait.ensures) (keeps-asking a c.args.seat c.request-request.result c.requires.sound c.requires.taken))
-          c.contend.ensures.keeps.parts;
+      keeps = record { sound = c.contend.ensures.keeps.sound; parts = keeps-two a mid (activity_of c.contend.new.self) keeps c.contend.ensures.keeps.parts };
+      counts = c.contend.ensures.counts;
+      stays = ok-then c.contend.result (still-on a mid (activity_of c.contend.new.self) c.args.seat still) c.contend.ensures.stays;
+      ends = subst (λ (n : ℕ). IfErr c.contend.result (EndsContest n c.contend.new.tally)) still.seated.number c.contend.ensures.ends;
+      settled = λ begins attempt refused committed order asked.
+          let others = some-holders c.holders.result.items (sym c.is_empty.ensures ∙ c.if-is_empty.false) in
+          c.contend.ensures.settled begins attempt refused (desk_over a committed order) committed order (asked.number ∙ sym still.seated.number)
+          (subst (λ (s : Seating). IsContested begins attempt refused (desk_over a committed order) (record a { seating = s }) committed order (tally_counts c.args.tally.now)) (sym c.wait.ensures)
+          (asked.contested c.request-request.result others.0 others.1 c.request-request.ensures (sym (c.holders.ensures ∙ ap (holders c.args.self.now.seats c.args.seat) c.request-request.ensures) ∙ others.2)));
     }
-
-pub returns-clause-stays : goal.returns-clause-stays
-returns-clause-stays c =
-    let a = activity_of c.args.self.now in
-    ok-then c.contend.result
-    (still-on a (record a { seating = c.wait.new.self }) (activity_of c.contend.new.self) c.args.seat
-    (subst (λ (s : Seating). StandsStill a (record a { seating = s }) c.args.seat) (sym c.wait.ensures) (still-asking a c.args.seat c.request-request.result c.requires.sound c.requires.taken)))
-    c.contend.ensures.stays
-
-pub returns-clause-ends : goal.returns-clause-ends
-returns-clause-ends c =
-    subst (λ (n : ℕ). IfErr c.contend.result (EndsContest n c.contend.new.tally))
-    (subst (λ (s : Seating). number_in s c.args.seat ≡ number_in c.args.self.now.seats c.args.seat) (sym c.wait.ensures) (still-asking (activity_of c.args.self.now) c.args.seat c.request-request.result c.requires.sound c.requires.taken).seated.number)
-    c.contend.ensures.ends
-
-pub returns-clause-settled : goal.returns-clause-settled
-returns-clause-settled c begins attempt refused committed order asked =
-    let a = activity_of c.args.self.now in
-    let here = (still-asking a c.args.seat c.request-request.result c.requires.sound c.requires.taken).seated in
-    let others = some-holders c.holders.result.items (sym c.is_empty.ensures ∙ c.if-is_empty.false) in
-    c.contend.ensures.settled begins attempt refused (desk_over a committed order) committed order
-    (asked.number ∙ sym (subst (λ (s : Seating). number_in s c.args.seat ≡ number_in c.args.self.now.seats c.args.seat) (sym c.wait.ensures) here.number))
-    (subst (λ (s : Seating). IsContested begins attempt refused (desk_over a committed order) (record a { seating = s }) committed order (tally_counts c.args.tally.now)) (sym c.wait.ensures)
-    (asked.contested c.request-request.result others.0 others.1 c.request-request.ensures
-    (sym (c.holders.ensures ∙ ap (holders c.args.self.now.seats c.args.seat) c.request-request.ensures) ∙ others.2)))

@@ -1,44 +1,27 @@
-use Rattle.activations.proofs.Common.{Begun, reach_of, absent_segment, unit-sound, sound-fits, Activity, program_at, Program, first_registers, clear, registers_of_program, IsSound, activity_of, ◌≡◌, ◌+◌, length, refl, sym, ap, ◌∙◌, arith, subst, slice_set, [], common_steps, begins, begun_in, given, started}
+use Rattle.activations.proofs.Common.{Begun, reach_of, absent_segment, unit-sound, sound-fits, Activity, program_at, Program, first_registers, clear, registers_of_program, IsSound, activity_of, ◌≡◌, ◌+◌, length, refl, sym, ap, ◌∙◌, arith, subst, slice_set, [], begins, begun_in, started}
 use Rattle.storage_unit.specs.Served.{begun}
 use Rattle.desk.specs.declared.answers.Begun.TheVariants
-use Rattle.activations.proofs.BeginLemmas.{begin-goes, begins-full, begins-refused, begins-started, sound-begins, is-code, is-fresh, has-room, some-next, sound-given}
+use Rattle.activations.proofs.BeginLemmas.{begin-goes, begun-so, begins-full, begins-refused, begins-started, sound-begins, is-code, is-fresh, has-room, some-next}
 use Rattle.activations.proofs.activations.Activations.begin.Goals.{In-Some-sit}
 use Rattle.activations.proofs.activations.Activations.begin.Goals as goal
 
 -- all sixteen are taken
-pub returns-then-taken-eq16-clause-answer : goal.returns-then-taken-eq16-clause-answer
-returns-then-taken-eq16-clause-answer c =
-    sym (ap (λ (b : Begun × Activity). b.0) (begins-full (activity_of c.args.self.now) c.args.program c.args.args c.requires.sound (let long = ap length c.taken.ensures.taken in omega (arith, long, c.if-taken-eq16.true))))
-
-pub returns-then-taken-eq16-clause-left : goal.returns-then-taken-eq16-clause-left
-returns-then-taken-eq16-clause-left c =
-    sym (ap (λ (b : Begun × Activity). b.1) (begins-full (activity_of c.args.self.now) c.args.program c.args.args c.requires.sound (let long = ap length c.taken.ensures.taken in omega (arith, long, c.if-taken-eq16.true))))
-
-pub returns-then-taken-eq16-clause-is_begin : goal.returns-then-taken-eq16-clause-is_begin
-returns-then-taken-eq16-clause-is_begin c =
-    begin-goes (activity_of c.args.self.now) c.args.program c.args.args c.requires.sound _ _ c.requires.known
-    (sound-fits (reach_of c.args.self.now.unit) (unit-sound c.args.self.now.unit))
-    (returns-then-taken-eq16-clause-answer c) (returns-then-taken-eq16-clause-left c)
+pub returns-then-taken-eq16 : goal.returns-then-taken-eq16
+returns-then-taken-eq16 c =
+    let a = activity_of c.args.self.now in
+    let so = begun-so a c.args.program c.args.args _ _ c.requires.sound c.requires.known (sound-fits (reach_of c.args.self.now.unit) (unit-sound c.args.self.now.unit))
+    (begins-full a c.args.program c.args.args c.requires.sound (let long = ap length c.taken.ensures.taken in omega (arith, long, c.if-taken-eq16.true))) in
+    record { answer = so.0; left = so.1; sound = so.2; is_begin = so.3 }
 
 -- a segment is absent
-refused : (c : goal.In-Some) → begins (activity_of c.args.self.now) c.args.program c.args.args ≡ (TheVariants.NoSegment c.args.self.now.next c.in-Some.segment, given (activity_of c.args.self.now))
-refused c =
-    begins-refused (activity_of c.args.self.now) c.args.program c.args.args c.requires.sound c.in-Some.segment
-    (has-room (activity_of c.args.self.now) c.requires.sound (λ same. c.if-taken-eq16.false (ap length c.taken.ensures.taken ∙ same)))
+pub returns-in-Some : goal.returns-in-Some
+returns-in-Some c =
+    let a = activity_of c.args.self.now in
+    let so = begun-so a c.args.program c.args.args _ _ c.requires.sound c.requires.known (sound-fits (reach_of c.args.self.now.unit) (unit-sound c.args.self.now.unit))
+    (begins-refused a c.args.program c.args.args c.requires.sound c.in-Some.segment (has-room a c.requires.sound (λ same. c.if-taken-eq16.false (ap length c.taken.ensures.taken ∙ same)))
     ((λ i. absent_segment (c.args.self.now.same i) (sym (is-code c.args.self.now.programs.items c.args.program c.from.result c.index-code.result.now c.requires.known c.from.ensures c.index-code.ensures) i).windows)
-    ∙ sym c.absent_segment.ensures ∙ c.in-Some.is)
-
-pub returns-in-Some-clause-answer : goal.returns-in-Some-clause-answer
-returns-in-Some-clause-answer c = sym (ap (λ (b : Begun × Activity). b.0) (refused c))
-
-pub returns-in-Some-clause-left : goal.returns-in-Some-clause-left
-returns-in-Some-clause-left c = sym (ap (λ (b : Begun × Activity). b.1) (refused c))
-
-pub returns-in-Some-clause-is_begin : goal.returns-in-Some-clause-is_begin
-returns-in-Some-clause-is_begin c =
-    begin-goes (activity_of c.args.self.now) c.args.program c.args.args c.requires.sound _ _ c.requires.known
-    (sound-fits (reach_of c.args.self.now.unit) (unit-sound c.args.self.now.unit))
-    (returns-in-Some-clause-answer c) (returns-in-Some-clause-left c)
+    ∙ sym c.absent_segment.ensures ∙ c.in-Some.is)) in
+    record { answer = so.0; left = so.1; sound = so.2; is_begin = so.3 }
 
 -- it sat down, since not all are taken
 pub returns-in_default-sit-clause-sound : goal.returns-in_default-sit-clause-sound
@@ -90,12 +73,3 @@ returns-clause-is_begin c =
     begin-goes (activity_of c.args.self.now) c.args.program c.args.args c.requires.sound _ _ c.requires.known
     (sound-fits (reach_of c.args.self.now.unit) (unit-sound c.args.self.now.unit))
     (returns-clause-answer c) (returns-clause-left c)
-
-pub returns-in-Some-clause-sound : goal.returns-in-Some-clause-sound
-returns-in-Some-clause-sound c = sound-given (activity_of c.args.self.now) c.requires.sound
-
-pub returns-then-taken-eq16-clause-sound : goal.returns-then-taken-eq16-clause-sound
-returns-then-taken-eq16-clause-sound c = sound-given (activity_of c.args.self.now) c.requires.sound
-
-pub returns-in_default-sit-clause-is_begin : goal.returns-in_default-sit-clause-is_begin
-returns-in_default-sit-clause-is_begin c = grind (arith, common_steps)

@@ -1,16 +1,12 @@
-use Rattle.activations.proofs.Lemmas.{sym, subst, Live, Activity, live_in, ComesToEnd, instruction_in, activity_of, arith, common_steps, checked, runs-there}
+use Rattle.activations.proofs.Lemmas.{sym, subst, Live, Activity, live_in, ComesToEnd, instruction_in, activity_of, checked, runs-there}
 use Rattle.desk.specs.Instruction as desk
 use Rattle.activations.proofs.activations.Activations.check.Goals as goal
 
 pub returns-clause-checked : goal.returns-clause-checked
 returns-clause-checked c committed order counts selected follows goes printed =
-    let a = activity_of c.args.self.now in
-    let seat = c.args.seat in
+    let a = activity_of c.args.self.now in let seat = c.args.seat in
     let pool = (activity_of c.roll_back.new.self).reach.pool in
     let was = runs-there a seat c.requires.sound c.requires.taken c.index.result.now c.from.result c.from.ensures c.index.ensures in
     subst (λ (live : Live). ComesToEnd (instruction_in a seat committed order counts) (activity_of c.roll_back.new.self) committed order counts (desk.Checked c.args.code live.cpu.iar)) (sym was)
     (subst (λ (after : Activity). ComesToEnd (instruction_in a seat committed order counts) after committed order counts (desk.Checked c.args.code (live_in a seat).cpu.iar)) (sym c.roll_back.ensures.shape)
     (checked a seat pool c.args.code committed order counts c.requires.taken selected.runner follows goes (c.roll_back.ensures.rolls committed follows.orderly.active follows.kept)))
-
-pub index-requires : goal.index-requires
-index-requires c = grind (arith, common_steps)

@@ -1,6 +1,6 @@
 use Rattle.activations.proofs.Lemmas.{refl, Result, sym, ◌∙◌, subst, TurnEnd, Activity, Tally, IsTurning, ComesBack, HasEnded, HasBroken, wants_of, instruction_in, with_pool, tally_counts, activity_of, keeps-broke, is-to-serve, prepare-broke, handed, turn-ends}
 use Rattle.desk.specs.declared.answers.TurnEnd.TheVariants as end
-use Rattle.activations.proofs.BackLemmas.{under, turn-back}
+use Rattle.activations.proofs.StartLemmas.{under, turn-back}
 use Rattle.activations.proofs.activations.Activations.come_back.Goals as goal
 
 pub returns-in_err-bring-clause-keeps : goal.returns-in_err-bring-clause-keeps
@@ -10,10 +10,8 @@ returns-in_err-bring-clause-keeps g c =
 
 pub returns-in_err-bring-clause-turns : goal.returns-in_err-bring-clause-turns
 returns-in_err-bring-clause-turns g c begins left committed order some store turning =
-    let a = activity_of c.args.self.now in
-    let new = activity_of c.bring.new.self in
-    let counts = tally_counts c.args.tally.now in
-    let touch = c.touch_of-touch.result in
+    let a = activity_of c.args.self.now in let new = activity_of c.bring.new.self in
+    let counts = tally_counts c.args.tally.now in let touch = c.touch_of-touch.result in
     let to = is-to-serve a c.args.seat c.in-Some.access (wants_of touch) c.requires.can.fetch.sound c.requires.can.taken c.requires.can.selected (c.requires.shut c.in-Some.access c.in-Some.is) c.touch_of-touch.ensures.lines committed turning.follows in
     let broke = prepare-broke a c.args.seat committed order counts touch to.0 to.1 c.touch_of-touch.ensures.wanted (under a c.args.seat committed order touch to.0 to.1 c.touch_of-touch.ensures.wanted (sym c.is_granted.ensures ∙ c.if-not-is_granted.false))
     g.W.Outside c.args.store.now c.args.outside.now new c.bring.new.tally.pages store c.in_err-bring.ensures.broke in
@@ -25,8 +23,7 @@ returns-in_err-bring-clause-turns g c begins left committed order some store tur
 
 pub returns-clause-turns : goal.returns-clause-turns
 returns-clause-turns g c begins left committed order some store turning =
-    let a = activity_of c.args.self.now in
-    let touch = c.touch_of-touch.result in
+    let a = activity_of c.args.self.now in let touch = c.touch_of-touch.result in
     let to = is-to-serve a c.args.seat c.in-Some.access (wants_of touch) c.requires.can.fetch.sound c.requires.can.taken c.requires.can.selected (c.requires.shut c.in-Some.access c.in-Some.is) c.touch_of-touch.ensures.lines committed turning.follows in
     subst (λ (x : Activity). IsTurning begins x c.args.seat left committed order (tally_counts c.bring.new.tally)) (sym (c.look_up.ensures ∙ c.in_ok-bring.ensures.shape))
     (subst (λ (t : Tally). IsTurning begins (with_pool a (activity_of c.bring.new.self).reach.pool) c.args.seat left committed order (tally_counts t)) (sym c.bring.ensures.counts.rest)

@@ -1,5 +1,5 @@
-use Rattle.activations.proofs.Lemmas.{eq-eqb, ne_eqb, option_map, victim_of, number_in, seat_of, sitter, Seat, cycle_of, seat-found, Victim, Activity, activity_of, Cycle, has, rolled, ComesToEnd, Contests, tally_counts, KeepsParts, StandsStill, ◌≡◌, ◌<◌, ◌==◌, true, false, ℕ, List, length, map, IsSome, refl, Some, sym, ◌∙◌, ap, arith, subst, common_steps, keeps-itself, keeps-rolled, still-itself, still-rolled, tally-on}
-use Rattle.activations.proofs.ContendLemmas.{fewer, contests-on, contests-lost, stays-taken, recorded, victim-sits, told-settles, told-stays}
+use Rattle.activations.proofs.Lemmas.{eq-eqb, ne_eqb, option_map, victim_of, number_in, seat_of, sitter, Seat, cycle_of, seat-found, Victim, Activity, activity_of, Cycle, has, rolled, ComesToEnd, Contests, tally_counts, KeepsParts, StandsStill, ◌≡◌, ◌<◌, ◌==◌, true, false, ℕ, List, length, map, IsSome, refl, Some, sym, ◌∙◌, ap, arith, subst, keeps-itself, keeps-rolled, still-itself, still-rolled, tally-on}
+use Rattle.activations.proofs.ContestLemmas.{fewer, contests-on, contests-lost, stays-taken, recorded, victim-sits, told-settles, told-stays}
 use Rattle.activations.proofs.activations.Activations.contend.Goals.{in-Some+in_default-seat_of, in_default}
 use Rattle.activations.proofs.activations.Activations.contend.Goals as goal
 
@@ -8,33 +8,31 @@ roll_back-requires-clause-taken c =
     let sits = ap (seat_of (activity_of c.loop-members.self).seating) (sym c.greatest-victim.ensures) ∙ sym c.seat_of.ensures ∙ c.in-Some-seat_of.is in
     (seat-found (activity_of c.loop-members.self).seating c.loop-members.invariant.0.seating (victim_of c.in-Some.members.items) c.in-Some-seat_of.loser sits).0
 
-pub returns-then-victim-number-clause-counts : goal.returns-then-victim-number-clause-counts
-returns-then-victim-number-clause-counts c =
-    let sits = ap (seat_of (activity_of c.loop-members.self).seating) (sym c.greatest-victim.ensures) ∙ sym c.seat_of.ensures ∙ c.in-Some-seat_of.is in
-    let few = fewer (activity_of c.loop-members.self).seating.taken c.in-Some-seat_of.loser
-    (seat-found (activity_of c.loop-members.self).seating c.loop-members.invariant.0.seating (victim_of c.in-Some.members.items) c.in-Some-seat_of.loser sits).0 in
-    let less : length (activity_of c.roll_back.new.self).seating.taken < length (activity_of c.loop-members.self).seating.taken = subst (λ (a : Activity). length a.seating.taken < length (activity_of c.loop-members.self).seating.taken) (sym c.roll_back.ensures.shape) few in
-    record { cycles = omega (arith, less, c.loop-members.invariant.4, c.push.ensures.len); rest = tally-on c.args.tally.now c.loop-members.tally _ c.loop-members.invariant.8 }
-
-pub returns-then-victim-number-clause-settled : goal.returns-then-victim-number-clause-settled
-returns-then-victim-number-clause-settled c begins attempt refused first committed order number contested printed =
-    let found : cycle_of (activity_of c.loop-members.self).seating c.args.seat ≡ Some c.in-Some.members.items = sym c.cycle_from.ensures ∙ ap (option_map (λ cycle. cycle.items)) c.in-Some.is in
-    let sits = ap (seat_of (activity_of c.loop-members.self).seating) (sym c.greatest-victim.ensures) ∙ sym c.seat_of.ensures ∙ c.in-Some-seat_of.is in
-    let its : (victim_of c.in-Some.members.items == number_in (activity_of c.loop-members.self).seating c.args.seat) ≡ true =
-    eq-eqb (victim_of c.in-Some.members.items) (number_in (activity_of c.loop-members.self).seating c.args.seat) (sym c.greatest-victim.ensures ∙ c.if-victim-number.true ∙ sym c.loop-members.invariant.2) in
-    let lost = contests-lost c.args.seat (activity_of c.args.self.now) (activity_of c.loop-members.self) (tally_counts c.args.tally.now) (tally_counts c.loop-members.tally) c.in-Some.members.items c.in-Some-seat_of.loser (activity_of c.roll_back.new.self).reach.pool
-    c.loop-members.invariant.0 c.loop-members.invariant.1 (c.loop-members.invariant.2 ∙ ap (λ (who : _). who.number) c.sitter.ensures) c.loop-members.invariant.5 found sits c.roll_back.ensures.rolls its begins attempt refused first committed order number contested in
-    let cycles = recorded c.loop-members.tally.cycles.items c.in-Some.members.items c.push.new.self.items _ refl c.push.ensures.items in
-    subst (λ (a : Activity). ComesToEnd begins a committed order (record (tally_counts c.loop-members.tally) { cycles = map (λ (cycle : Cycle). cycle.members.items) c.push.new.self.items }) Victim) (sym c.roll_back.ensures.shape)
-    (subst (λ (these : List (List ℕ)). ComesToEnd begins (rolled (activity_of c.loop-members.self) c.in-Some-seat_of.loser (activity_of c.roll_back.new.self).reach.pool) committed order (record (tally_counts c.loop-members.tally) { cycles = these }) Victim) (sym cycles) lost)
-
-pub returns-then-victim-number-clause-keeps : goal.returns-then-victim-number-clause-keeps
-returns-then-victim-number-clause-keeps c = record {
-  sound = c.roll_back.ensures.sound;
-  parts =
-      subst (λ (a : Activity). KeepsParts (activity_of c.args.self.now) a 0) (sym c.roll_back.ensures.shape)
-      (keeps-rolled (activity_of c.args.self.now) (activity_of c.loop-members.self) c.in-Some-seat_of.loser 0 (activity_of c.roll_back.new.self).reach.pool c.loop-members.invariant.6);
-}
+pub returns-then-victim-number : goal.returns-then-victim-number
+returns-then-victim-number c =
+    let a = activity_of c.loop-members.self in let first = activity_of c.args.self.now in
+    let pool = (activity_of c.roll_back.new.self).reach.pool in let counts = tally_counts c.loop-members.tally in
+    let found : cycle_of a.seating c.args.seat ≡ Some c.in-Some.members.items = sym c.cycle_from.ensures ∙ ap (option_map (λ cycle. cycle.items)) c.in-Some.is in
+    let sits = ap (seat_of a.seating) (sym c.greatest-victim.ensures) ∙ sym c.seat_of.ensures ∙ c.in-Some-seat_of.is in
+    let few = fewer a.seating.taken c.in-Some-seat_of.loser (seat-found a.seating c.loop-members.invariant.0.seating (victim_of c.in-Some.members.items) c.in-Some-seat_of.loser sits).0 in
+    let less : length (activity_of c.roll_back.new.self).seating.taken < length a.seating.taken = subst (λ (x : Activity). length x.seating.taken < length a.seating.taken) (sym c.roll_back.ensures.shape) few in
+    let its : (victim_of c.in-Some.members.items == number_in a.seating c.args.seat) ≡ true =
+    eq-eqb (victim_of c.in-Some.members.items) (number_in a.seating c.args.seat) (sym c.greatest-victim.ensures ∙ c.if-victim-number.true ∙ sym c.loop-members.invariant.2) in
+    record {
+      keeps = record {
+        sound = c.roll_back.ensures.sound;
+        parts = subst (λ (x : Activity). KeepsParts first x 0) (sym c.roll_back.ensures.shape) (keeps-rolled first a c.in-Some-seat_of.loser 0 pool c.loop-members.invariant.6);
+      };
+      counts = record { cycles = omega (arith, less, c.loop-members.invariant.4, c.push.ensures.len); rest = tally-on c.args.tally.now c.loop-members.tally _ c.loop-members.invariant.8 };
+      stays = tt;
+      ends = record { ends = tt; victim = (c.loop-members.tally.cycles.items, _, c.push.ensures.items, sym c.greatest-victim.ensures ∙ c.if-victim-number.true ∙ ap (λ (who : Seat). who.number) c.sitter.ensures) };
+      settled = λ begins attempt refused desk committed order number contested printed.
+          let lost = contests-lost c.args.seat first a (tally_counts c.args.tally.now) counts c.in-Some.members.items c.in-Some-seat_of.loser pool
+          c.loop-members.invariant.0 c.loop-members.invariant.1 (c.loop-members.invariant.2 ∙ ap (λ (who : _). who.number) c.sitter.ensures) c.loop-members.invariant.5 found sits c.roll_back.ensures.rolls its begins attempt refused desk committed order number contested in
+          let cycles = recorded c.loop-members.tally.cycles.items c.in-Some.members.items c.push.new.self.items _ refl c.push.ensures.items in
+          subst (λ (x : Activity). ComesToEnd begins x committed order (record counts { cycles = map (λ (cycle : Cycle). cycle.members.items) c.push.new.self.items }) Victim) (sym c.roll_back.ensures.shape)
+          (subst (λ (these : List (List ℕ)). ComesToEnd begins (rolled a c.in-Some-seat_of.loser pool) committed order (record counts { cycles = these }) Victim) (sym cycles) lost);
+    }
 
 pub loop-members-smaller : goal.loop-members-smaller
 loop-members-smaller c =
@@ -114,15 +112,3 @@ returns-else-is_empty-clause-settled c begins attempt refused first committed or
       c.loop-members.invariant.3 (sym c.cycle_from.ensures ∙ ap (option_map (λ cycle. cycle.items)) w.in_default.is) c.awaited-holders.result.items c.awaited-holders.ensures
       (sym c.is_empty.ensures ∙ c.if-is_empty.false) begins attempt refused first committed order number contested
 ]
-
-pub returns-then-victim-number-clause-ends : goal.returns-then-victim-number-clause-ends
-returns-then-victim-number-clause-ends c = record {
-  ends = tt;
-  victim = (c.loop-members.tally.cycles.items, _, c.push.ensures.items, sym c.greatest-victim.ensures ∙ c.if-victim-number.true ∙ ap (λ (who : Seat). who.number) c.sitter.ensures);
-}
-
-pub awaited-holders-requires-clause-seat : goal.awaited-holders-requires-clause-seat
-awaited-holders-requires-clause-seat c = grind (arith, common_steps)
-
-pub sitter-requires : goal.sitter-requires
-sitter-requires c = grind (arith, common_steps)

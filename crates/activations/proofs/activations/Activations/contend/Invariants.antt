@@ -2,8 +2,7 @@ use Rattle.activations.proofs.Common.{array_vec_len, has, number_in, sitter, IsS
 use Rattle.activations.proofs.activations.Activations.contend.Given as goal
 
 abbrev pub invariant-loop-members : goal.invariant-loop-members
-invariant-loop-members l =
-    IsSound (activity_of l.self)
+invariant-loop-members l = IsSound (activity_of l.self)
     × (has (activity_of l.self).seating.taken l.seat ≡ true)
     × (number_in (activity_of l.self).seating l.seat ≡ l.number)
     × IsSome (sitter (activity_of l.self).seating l.seat).waits

@@ -1,13 +1,8 @@
-use Rattle.activations.proofs.Lemmas.{Layout, page_count, AreWithin, has, asks_on, pool_of, Touch, Activity, IsSound, pages_wanted, wants_of, activity_of, ◌≡◌, ◌∙◌, refl, true, false, ◌<◌, [], ◌∷◌, sym, ap, subst, arith, sound-pool, none-fetched, one-fetches, first-broken, two-fetch, fetch-fails}
+use Rattle.activations.proofs.Lemmas.{Layout, page_count, AreWithin, asks_on, pool_of, Touch, Activity, IsSound, pages_wanted, wants_of, activity_of, ◌<◌, [], ◌∷◌, sym, ap, subst, arith, sound-pool, none-fetched, one-fetches, first-broken, two-fetch, fetch-fails}
 use Rattle.activations.proofs.activations.Activations.fetch.Goals as goal
 
 pub returns-in-Nothing-clause-fetched : goal.returns-in-Nothing-clause-fetched
-returns-in-Nothing-clause-fetched g c = record {
-  moved = record { marked = refl; private = λ seat few. refl; size = refl; frames = refl };
-  resident = λ page inside. let none : false ≡ true = ap (λ (touch : Touch). has (pages_wanted (wants_of touch)) page) (sym c.in-Nothing.is) ∙ inside in absurd (cc);
-  fetched = λ committed order is clean.
-      none-fetched (activity_of c.args.self.now) (pages_wanted (wants_of c.args.touch.now)) c.args.tally.now.pages (ap (λ (touch : Touch). pages_wanted (wants_of touch)) c.in-Nothing.is) committed order clean;
-}
+returns-in-Nothing-clause-fetched g c = none-fetched g.W.Outside c.args.store.now c.args.outside.now (activity_of c.args.self.now) c.args.touch.now c.args.tally.now.pages c.in-Nothing.is
 
 pub returns-in-One-clause-sound : goal.returns-in-One-clause-sound
 returns-in-One-clause-sound g c =
@@ -47,8 +42,7 @@ returns-in_err-fetch_page-in-Two-clause-fetched g c =
 -- It came in.
 
 pub returns-in_ok-fetch_page-in-Two-clause-sound : goal.returns-in_ok-fetch_page-in-Two-clause-sound
-returns-in_ok-fetch_page-in-Two-clause-sound g c =
-    subst IsSound (sym c.fetch_page-in-Two-2.ensures.shape)
+returns-in_ok-fetch_page-in-Two-clause-sound g c = subst IsSound (sym c.fetch_page-in-Two-2.ensures.shape)
     (sound-pool (activity_of c.fetch_page-in-Two.new.self) (pool_of c.fetch_page-in-Two-2.new.self.unit.pool)
     (subst IsSound (sym c.fetch_page-in-Two.ensures.shape) (sound-pool (activity_of c.args.self.now) (pool_of c.fetch_page-in-Two.new.self.unit.pool) c.requires.can.sound)))
 

@@ -1,70 +1,42 @@
-use Rattle.activations.proofs.Lemmas.{◌∙◌, IsMoved, IsOpen, WillTouch, lines_wanted, with_pool, got-open, got-touch, ok-both, has, page_count, Counts, Activity, IsSound, Serves, locked, pages_picked, pages_wanted, wants_of, tally_counts, activity_of, ◌≡◌, ◌<◌, ℕ, true, length, sym, ap, subst, EndsByDisk, granted-same}
+use Rattle.activations.proofs.Lemmas.{rules, ◌∙◌, IsMoved, IsOpen, WillTouch, lines_wanted, with_pool, got-open, got-touch, ok-both, has, page_count, Counts, Activity, IsSound, Serves, locked, pages_picked, pages_wanted, wants_of, tally_counts, activity_of, ◌≡◌, ◌<◌, ℕ, true, length, sym, ap, subst, EndsByDisk, granted-same}
 use Rattle.activations.proofs.GetLemmas.{picked-below, served-so, broken-so, serves-by, parts-by}
 use Rattle.activations.proofs.activations.Activations.get.Goals as goal
 
-pub returns-clause-keeps : goal.returns-clause-keeps
-returns-clause-keeps g c = record {
-  sound = c.bring.ensures.sound;
-  asks = c.bring.ensures.asks;
-  parts =
-      parts-by c.bring.result g.W.Outside c.args.store.now c.args.outside.now (activity_of c.args.self.now) (activity_of c.take.new.self) (activity_of c.bring.new.self) c.args.seat
-      (wants_of c.args.touch.now) (pages_wanted (wants_of c.args.touch.now)) c.args.tally.now.pages c.bring.new.tally.pages c.take.ensures.shape c.bring.ensures.shape c.bring.ensures.broke;
-}
-
-pub returns-clause-touches : goal.returns-clause-touches
-returns-clause-touches g c =
-    let a = activity_of c.args.self.now in
-    let pool = (activity_of c.bring.new.self).reach.pool in
-    let wants = wants_of c.args.touch.now in
-    let owned = (activity_of c.take.new.self).reach.entries in
-    ok-both c.bring.result
-    (λ shape fetched.
-    subst (λ (x : Activity). WillTouch x c.args.seat wants) (sym (shape ∙ ap (λ (x : Activity). with_pool x pool) c.take.ensures.shape))
-    (got-touch a c.args.seat wants owned (pages_picked c.args.touch.now c.args.refused) pool c.requires.can.fetch.sound c.requires.can.taken c.requires.can.selected.runner
-    (subst (λ (x : Activity). IsMoved x.reach.pool pool) c.take.ensures.shape fetched.moved) c.requires.touches))
-    c.bring.ensures.shape c.bring.ensures.fetched
-
-pub returns-clause-opened : goal.returns-clause-opened
-returns-clause-opened g c =
-    let a = activity_of c.args.self.now in
-    let mid = activity_of c.take.new.self in
-    let pool = (activity_of c.bring.new.self).reach.pool in
-    let seat = c.args.seat in
-    let wants = wants_of c.args.touch.now in
-    let refused = pages_picked c.args.touch.now c.args.refused in
-    let owned = mid.reach.entries in
-    let sound = c.requires.can.fetch.sound in
-    ok-both c.bring.result
-    (λ shape fetched.
-    subst (λ (x : Activity). IsOpen x.reach (lines_wanted wants)) (sym (shape ∙ ap (λ (x : Activity). with_pool x pool) c.take.ensures.shape))
-    (got-open a seat wants owned refused pool sound c.requires.can.taken c.requires.can.selected.runner
-    (subst (λ (x : Activity). IsMoved x.reach.pool pool) c.take.ensures.shape fetched.moved)
-    (subst IsSound c.take.ensures.shape c.take.ensures.sound) c.requires.wanted
-    (λ page inside. subst (λ (n : ℕ). page < n) (sym sound.entries) (picked-below (page_count a.reach.directory) c.args.touch.now c.args.refused c.requires.wanted.within page inside))
-    (granted-same mid (locked a seat wants owned) seat wants refused a.reach.entries owned (ap (λ (x : Activity). x.seating) c.take.ensures.shape) (ap (λ (x : Activity). x.reach.directory) c.take.ensures.shape) c.take.ensures.granted)
-    c.requires.refused fetched.resident))
-    c.bring.ensures.shape c.bring.ensures.fetched
-
-pub returns-clause-served : goal.returns-clause-served
-returns-clause-served g c begins attempt next committed order is_store number goes lines free =
-    let a = activity_of c.args.self.now in
-    let mid = activity_of c.take.new.self in
-    let new = activity_of c.bring.new.self in
-    let seat = c.args.seat in
-    let wants = wants_of c.args.touch.now in
-    let refused = pages_picked c.args.touch.now c.args.refused in
-    let owned = mid.reach.entries in
-    let before = tally_counts c.args.tally.now in
-    let counted = c.bring.new.tally.pages in
-    let sound = c.requires.can.fetch.sound in
-    let later = subst IsSound c.take.ensures.shape c.take.ensures.sound in
+pub returns : goal.returns
+returns g c =
+    let a = activity_of c.args.self.now in let mid = activity_of c.take.new.self in
+    let new = activity_of c.bring.new.self in let pool = new.reach.pool in let seat = c.args.seat in
+    let wants = wants_of c.args.touch.now in let refused = pages_picked c.args.touch.now c.args.refused in
+    let owned = mid.reach.entries in let before = tally_counts c.args.tally.now in
+    let counted = c.bring.new.tally.pages in let sound = c.requires.can.fetch.sound in
+    let runner = c.requires.can.selected.runner in let took = c.take.ensures.shape in
+    let later = subst IsSound took c.take.ensures.sound in
     let below : (page : ℕ) → has refused page ≡ true → page < length a.reach.entries =
     λ page inside. subst (λ (n : ℕ). page < n) (sym sound.entries) (picked-below (page_count a.reach.directory) c.args.touch.now c.args.refused c.requires.wanted.within page inside) in
-    let grants = granted-same mid (locked a seat wants owned) seat wants refused a.reach.entries owned (ap (λ (x : Activity). x.seating) c.take.ensures.shape) (ap (λ (x : Activity). x.reach.directory) c.take.ensures.shape) c.take.ensures.granted in
-    subst (λ (counts : Counts). Serves c.bring.result begins new seat wants committed order counts) (sym (ap tally_counts c.bring.ensures.counts.rest))
-    (serves-by _ _ _ (EndsByDisk g.W.Outside c.args.outside.now c.bring.new.outside c.args.tally.now c.bring.new.tally) c.bring.result begins new seat wants committed order (record before { pages = counted }) c.bring.ensures.shape c.bring.ensures.fetched
-    (served-so begins attempt refused a seat committed order before wants owned sound c.requires.can.taken later c.requires.wanted number free lines below grants next goes
-    g.W.Outside c.args.store.now c.args.outside.now mid new counted c.take.ensures.shape is_store c.requires.can.selected.runner)
-    c.bring.ensures.ends (λ how off. off.is) c.bring.ensures.broke
-    (broken-so begins attempt refused a seat committed order before wants owned sound c.requires.can.taken later c.requires.wanted number free lines below grants next goes
-    g.W.Outside c.args.store.now c.args.outside.now mid new counted c.take.ensures.shape is_store))
+    let grants = granted-same mid (locked a seat wants owned) seat wants refused a.reach.entries owned (ap (λ (x : Activity). x.seating) took) (ap (λ (x : Activity). x.reach.directory) took) c.take.ensures.granted in
+    record {
+      touches = ok-both c.bring.result
+          (λ shape fetched. subst (λ (x : Activity). WillTouch x seat wants) (sym (shape ∙ ap (λ (x : Activity). with_pool x pool) took))
+          (got-touch a seat wants owned refused pool sound c.requires.can.taken runner (subst (λ (x : Activity). IsMoved x.reach.pool pool) took fetched.moved) c.requires.touches))
+          c.bring.ensures.shape c.bring.ensures.fetched;
+      opened = ok-both c.bring.result
+          (λ shape fetched. subst (λ (x : Activity). IsOpen x.reach (lines_wanted wants)) (sym (shape ∙ ap (λ (x : Activity). with_pool x pool) took))
+          (got-open a seat wants owned refused pool sound c.requires.can.taken runner (subst (λ (x : Activity). IsMoved x.reach.pool pool) took fetched.moved) later c.requires.wanted below grants c.requires.refused fetched.resident))
+          c.bring.ensures.shape c.bring.ensures.fetched;
+      keeps = record {
+        sound = c.bring.ensures.sound;
+        asks = c.bring.ensures.asks;
+        parts = parts-by c.bring.result g.W.Outside c.args.store.now c.args.outside.now a mid new seat wants (pages_wanted wants) c.args.tally.now.pages counted took c.bring.ensures.shape c.bring.ensures.broke;
+      };
+      counts = c.bring.ensures.counts;
+      on = search rules;
+      ends = c.bring.ensures.ends;
+      served = λ begins attempt next committed order is_store number goes lines free.
+          subst (λ (counts : Counts). Serves c.bring.result begins new seat wants committed order counts) (sym (ap tally_counts c.bring.ensures.counts.rest))
+          (serves-by _ _ _ (EndsByDisk g.W.Outside c.args.outside.now c.bring.new.outside c.args.tally.now c.bring.new.tally) c.bring.result begins new seat wants committed order (record before { pages = counted }) c.bring.ensures.shape c.bring.ensures.fetched
+          (served-so begins attempt refused a seat committed order before wants owned sound c.requires.can.taken later c.requires.wanted number free lines below grants next goes
+          g.W.Outside c.args.store.now c.args.outside.now mid new counted took is_store runner)
+          c.bring.ensures.ends (λ how off. off.is) c.bring.ensures.broke
+          (broken-so begins attempt refused a seat committed order before wants owned sound c.requires.can.taken later c.requires.wanted number free lines below grants next goes
+          g.W.Outside c.args.store.now c.args.outside.now mid new counted took is_store));
+    }

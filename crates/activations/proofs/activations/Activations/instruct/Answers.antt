@@ -1,6 +1,6 @@
-use Rattle.activations.proofs.Lemmas.{EndsRows, check-named, number_in, TurnEnd, Check, row, Activity, program_in, IsSelected, WasAttempted, plain_in, KeepsDesk, GoesUncounted, instruction_in, HasEnded, tally_counts, IsStep, activity_of, asks_none, refl, ◌≡◌, Result, arith, sym, subst, took-either, keeps-took, keeps-checked, handed}
+use Rattle.activations.proofs.Lemmas.{EndsRows, check-named, number_in, TurnEnd, Check, row, Activity, program_in, IsSelected, WasAttempted, plain_in, KeepsDesk, GoesUncounted, instruction_in, HasEnded, tally_counts, IsStep, activity_of, asks_none, refl, ◌≡◌, Result, arith, sym, subst, took-either, keeps-took, keeps-checked, handed, IsNoLimit}
 use Rattle.romp_cpu.specs.declared.cpu.Attempt.{Attempt}
-use Rattle.activations.proofs.InstructLemmas.{row-goes, at-commit}
+use Rattle.activations.proofs.ExecuteLemmas.{row-goes, at-commit}
 use Rattle.activations.proofs.activations.Activations.instruct.Goals as goal
 
 pub returns-in_err-serve-clause-step : goal.returns-in_err-serve-clause-step
@@ -12,8 +12,7 @@ pub returns-in-Went-clause-keeps : goal.returns-in-Went-clause-keeps
 returns-in-Went-clause-keeps g c = record {
   sound = c.execute.ensures.sound;
   asks = asks_none g.W.Outside c.args.outside.now;
-  parts =
-      keeps-took (activity_of c.args.self.now) (activity_of c.execute.new.self) c.args.seat
+  parts = keeps-took (activity_of c.args.self.now) (activity_of c.execute.new.self) c.args.seat
       (took-either c.execute.result (activity_of c.args.self.now) (activity_of c.execute.new.self) c.args.seat c.in-Went.is c.execute.ensures.went);
 }
 
@@ -42,41 +41,20 @@ returns-in-Commit-clause-step g c committed order store follows =
     at-commit (activity_of c.args.self.now) c.args.seat committed order (tally_counts c.args.tally.now) c.requires.can.fetch.sound c.requires.can.taken c.requires.can.selected follows (activity_of c.execute.new.self)
     (subst (λ (attempt : Attempt). WasAttempted attempt (activity_of c.args.self.now) c.args.seat (activity_of c.execute.new.self)) c.in-Commit.is c.execute.ensures.went)
 
-pub returns-in-Check-clause-keeps : goal.returns-in-Check-clause-keeps
-returns-in-Check-clause-keeps g c = record {
-  sound = c.check.ensures.sound;
-  asks = asks_none g.W.Outside c.args.outside.now;
-  parts =
-      keeps-checked (activity_of c.args.self.now) (activity_of c.execute.new.self) (activity_of c.check.new.self) c.args.seat _
-      (subst (λ (attempt : Attempt). WasAttempted attempt (activity_of c.args.self.now) c.args.seat (activity_of c.execute.new.self)) c.in-Check.is c.execute.ensures.went).0 c.check.ensures.shape;
-}
-
-pub returns-in-Check-clause-counts : goal.returns-in-Check-clause-counts
-returns-in-Check-clause-counts g c =
-    let came = subst (λ (attempt : Attempt). WasAttempted attempt (activity_of c.args.self.now) c.args.seat (activity_of c.execute.new.self)) c.in-Check.is c.execute.ensures.went in
-    let fewer = (keeps-checked (activity_of c.args.self.now) (activity_of c.execute.new.self) (activity_of c.check.new.self) c.args.seat _ came.0 c.check.ensures.shape).fewer in
-    record { cycles = omega (arith, fewer, c.requires.room.cycles); tally = record { ran = refl; pages_before = omega arith; pages = omega arith; locks = omega arith } }
-
-pub returns-in-Check-clause-over : goal.returns-in-Check-clause-over
-returns-in-Check-clause-over g c =
-    subst (EndsRows g.W.Outside (number_in c.args.self.now.seats c.args.seat) (activity_of c.check.new.self) c.args.outside.now c.args.outside.now c.args.tally.now c.args.tally.now) (sym c.check.ensures.end)
-    (record {
-      disk = refl;
-      waits = tt;
-      checked =
-          check-named (activity_of c.args.self.now) (activity_of c.execute.new.self) c.args.seat c.in-Check.code
-          (subst (λ (attempt : Attempt). WasAttempted attempt (activity_of c.args.self.now) c.args.seat (activity_of c.execute.new.self)) c.in-Check.is c.execute.ensures.went);
-      journal = tt;
-      victim = tt;
-    })
-
-pub returns-in-Check-clause-step : goal.returns-in-Check-clause-step
-returns-in-Check-clause-step g c committed order store follows =
-    let came = subst (λ (attempt : Attempt). WasAttempted attempt (activity_of c.args.self.now) c.args.seat (activity_of c.execute.new.self)) c.in-Check.is c.execute.ensures.went in
-    subst (λ (a : Activity). HasEnded c.check.result (instruction_in a c.args.seat committed order (tally_counts c.args.tally.now)) (activity_of c.check.new.self) committed order (tally_counts c.args.tally.now)) came.0
-    (c.check.ensures.checked committed order (tally_counts c.args.tally.now) (subst (λ (a : Activity). IsSelected a c.args.seat) (sym came.0) c.requires.can.selected)
-    (subst (λ (a : Activity). KeepsDesk a committed) (sym came.0) follows)
-    (subst (λ (a : Activity). row (program_in a c.args.seat) a.reach.directory (plain_in a c.args.seat committed) ≡ Check c.in-Check.code) (sym came.0) (came.1 committed follows.kept.long)))
-
-pub returns-in-Some-clause-step : goal.returns-in-Some-clause-step
-returns-in-Some-clause-step g c committed order store follows = c.in_ok-serve.ensures.served committed order store follows
+pub returns-in-Check : goal.returns-in-Check
+returns-in-Check g c =
+    let a = activity_of c.args.self.now in let counts = tally_counts c.args.tally.now in
+    let came = subst (λ (attempt : Attempt). WasAttempted attempt a c.args.seat (activity_of c.execute.new.self)) c.in-Check.is c.execute.ensures.went in
+    let parts = keeps-checked a (activity_of c.execute.new.self) (activity_of c.check.new.self) c.args.seat _ came.0 c.check.ensures.shape in
+    record {
+      keeps = record { sound = c.check.ensures.sound; asks = asks_none g.W.Outside c.args.outside.now; parts = parts };
+      counts = record { cycles = (let fewer = parts.fewer in omega (arith, fewer, c.requires.room.cycles)); tally = record { ran = refl; pages_before = omega arith; pages = omega arith; locks = omega arith } };
+      on = tt;
+      over = subst (EndsRows g.W.Outside (number_in c.args.self.now.seats c.args.seat) (activity_of c.check.new.self) c.args.outside.now c.args.outside.now c.args.tally.now c.args.tally.now) (sym c.check.ensures.end)
+          (record { disk = refl; waits = tt; checked = check-named a (activity_of c.execute.new.self) c.args.seat c.in-Check.code came; journal = tt; victim = tt });
+      no_limit = subst IsNoLimit (sym c.check.ensures.end) tt;
+      step = λ committed order store follows.
+          subst (λ (x : Activity). HasEnded c.check.result (instruction_in x c.args.seat committed order counts) (activity_of c.check.new.self) committed order counts) came.0
+          (c.check.ensures.checked committed order counts (subst (λ (x : Activity). IsSelected x c.args.seat) (sym came.0) c.requires.can.selected) (subst (λ (x : Activity). KeepsDesk x committed) (sym came.0) follows)
+          (subst (λ (x : Activity). row (program_in x c.args.seat) x.reach.directory (plain_in x c.args.seat committed) ≡ Check c.in-Check.code) (sym came.0) (came.1 committed follows.kept.long)));
+    }

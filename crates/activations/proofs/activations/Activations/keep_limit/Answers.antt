@@ -1,4 +1,4 @@
-use Rattle.activations.proofs.Lemmas.{nat_lt, nat_tests, TurnEnd, Activity, lines_with, wants_of, activity_of, ◌≡◌, true, ap, arith, common_steps, over-limit}
+use Rattle.activations.proofs.Lemmas.{nat_lt, nat_tests, TurnEnd, Activity, lines_with, wants_of, activity_of, ◌≡◌, true, ap, arith, over-limit}
 use Rattle.activations.proofs.activations.Activations.keep_limit.Goals as goal
 
 pub returns-then-lines-self-clause-over : goal.returns-then-lines-self-clause-over
@@ -9,6 +9,3 @@ returns-then-lines-self-clause-over c =
     over-limit (activity_of c.args.self.now) (activity_of c.roll_back.new.self) c.args.seat (wants_of c.args.touch.now)
     (TurnEnd.Journal c.lines_with-lines.result c.roll_back.new.self.most_lines) c.roll_back.ensures.shape c.roll_back.ensures.rolls over
     (λ i. TurnEnd.Journal (c.lines_with-lines.ensures i) (most i))
-
-pub lines_with-lines-requires-clause-seat : goal.lines_with-lines-requires-clause-seat
-lines_with-lines-requires-clause-seat c = grind (arith, common_steps)

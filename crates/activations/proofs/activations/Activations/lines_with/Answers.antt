@@ -1,12 +1,6 @@
 use Rattle.activations.proofs.Lemmas.{◌∙◌, arith, activity_of, counts-none, counts-one, counts-two, first-within, second-within}
 use Rattle.activations.proofs.activations.Activations.lines_with.Goals as goal
 
-pub overflow_add-result : goal.overflow_add-result
-overflow_add-result c = omega (arith, c.held_lines-held.ensures.few, c.new_lines.ensures.few)
-
-pub overflow_add-result-in-Two-2 : goal.overflow_add-result-in-Two-2
-overflow_add-result-in-Two-2 c = omega (arith, c.held_lines-held.ensures.few, c.new_lines-in-Two.ensures.few, c.new_lines-in-Two-2.ensures.few)
-
 pub new_lines-requires-in-Two-clause-page : goal.new_lines-requires-in-Two-clause-page
 new_lines-requires-in-Two-clause-page c =
     first-within (activity_of c.args.self.now) c.args.seat c.requires.sound c.args.touch.now c.requires.wanted c.in-Two.first c.in-Two.second c.in-Two.is

@@ -8,6 +8,3 @@ lower_page-requires-in-Two-2-clause-page c =
 
 pub lower_page-requires-in-Two-clause-page : goal.lower_page-requires-in-Two-clause-page
 lower_page-requires-in-Two-clause-page c = grind (arith, one_within, first_within, second_within)
-
-pub lower_page-requires-clause-page : goal.lower_page-requires-clause-page
-lower_page-requires-clause-page c = grind (arith, one_within, first_within, second_within)

@@ -13,8 +13,7 @@ returns-clause-idle c = λ i. record {
 }
 
 pub returns-clause-sound : goal.returns-clause-sound
-returns-clause-sound c =
-    subst IsSound (sym (returns-clause-idle c))
+returns-clause-sound c = subst IsSound (sym (returns-clause-idle c))
     (sound-idle c.args.programs.items _ c.args.frames c.args.header.now.directory c.loop.live.items (omega (arith, c.loop.invariant, c.loop-test.false, c.loop.auto.counter-end)))
 
 pub returns-clause-first : goal.returns-clause-first

@@ -1,4 +1,4 @@
-use Rattle.activations.proofs.Lemmas.{refl, Bool, List, ℕ, AreLetBut, WillTouch, IsMoved, pages_picked, picked-refused, taken-below, let-refused, shut-touches, touch-on, TurnEnd, IsClean, Tally, Activity, HasBrokenOff, IsPrepared, Prepares, IsFetched, instruction_in, with_pool, wants_of, pages_wanted, HasEnded, HasBroken, tally_counts, activity_of, asks_none, ◌+◌, Result, sym, ◌∙◌, ap, subst, keeps-left, keeps-broke, is-to-serve, prepare-broke, prepared-so, handed}
+use Rattle.activations.proofs.Lemmas.{refl, Bool, List, ℕ, AreLetBut, WillTouch, IsMoved, pages_picked, picked-refused, taken-below, let-but, pages_refused, shut-touches, touch-on, TurnEnd, IsClean, Tally, Activity, HasBrokenOff, IsPrepared, Prepares, IsFetched, instruction_in, with_pool, wants_of, pages_wanted, HasEnded, HasBroken, tally_counts, activity_of, asks_none, ◌+◌, Result, sym, ◌∙◌, ap, subst, keeps-left, keeps-broke, is-to-serve, prepare-broke, prepared-so, handed}
 use Rattle.activations.proofs.activations.Activations.prepare.Goals as goal
 
 pub returns-in_err-keep_limit-clause-keeps : goal.returns-in_err-keep_limit-clause-keeps
@@ -28,8 +28,7 @@ returns-in_err-bring-clause-keeps g c =
 
 pub returns-in_err-bring-clause-prepared : goal.returns-in_err-bring-clause-prepared
 returns-in_err-bring-clause-prepared g c committed order is follows =
-    let a = activity_of c.args.self.now in
-    let counts = tally_counts c.args.tally.now in
+    let a = activity_of c.args.self.now in let counts = tally_counts c.args.tally.now in
     let begins = instruction_in a c.args.seat committed order counts in
     let to = is-to-serve a c.args.seat c.args.access (wants_of c.touch_of-touch.result) c.requires.can.fetch.sound c.requires.can.taken c.requires.can.selected c.requires.shut
     c.touch_of-touch.ensures.lines committed follows in
@@ -47,10 +46,8 @@ returns-in_err-bring-clause-prepared g c committed order is follows =
 
 pub returns-clause-touches : goal.returns-clause-touches
 returns-clause-touches g c =
-    let a = activity_of c.args.self.now in
-    let new = activity_of c.bring.new.self in
-    let wants = wants_of c.touch_of-touch.result in
-    let same = c.in_ok-keep_limit.ensures.kept.0 in
+    let a = activity_of c.args.self.now in let new = activity_of c.bring.new.self in
+    let wants = wants_of c.touch_of-touch.result in let same = c.in_ok-keep_limit.ensures.kept.0 in
     let runner = c.requires.can.selected.runner in
     let moved : IsMoved a.reach.pool new.reach.pool = subst (λ (x : Activity). IsMoved x.reach.pool new.reach.pool) same c.in_ok-bring.ensures.fetched.moved in
     subst (λ (x : Activity). WillTouch x c.args.seat wants) (sym (c.in_ok-bring.ensures.shape ∙ ap (λ (x : Activity). with_pool x new.reach.pool) same))
@@ -59,26 +56,22 @@ returns-clause-touches g c =
 
 pub returns-clause-refused : goal.returns-clause-refused
 returns-clause-refused g c =
-    let new = activity_of c.bring.new.self in
-    let touch = c.touch_of-touch.result in
+    let new = activity_of c.bring.new.self in let touch = c.touch_of-touch.result in
     subst (λ (picked : Bool × Bool). AreLetBut new.reach.entries (c.args.seat + 1) (pages_picked touch picked) (wants_of touch)) (sym c.refused-refused.ensures)
     (subst (λ (pages : List ℕ). AreLetBut new.reach.entries (c.args.seat + 1) pages (wants_of touch)) (sym (picked-refused new.reach.entries (c.args.seat + 1) touch))
-    (let-refused new.reach.entries (c.args.seat + 1) (wants_of touch)))
+    (let-but new.reach.entries (c.args.seat + 1) (pages_refused new.reach.entries (c.args.seat + 1) (wants_of touch)) (wants_of touch) (λ page inside. inside)))
 
 pub returns-clause-prepared : goal.returns-clause-prepared
 returns-clause-prepared g c committed order is follows =
-    let a = activity_of c.args.self.now in
-    let new = activity_of c.bring.new.self in
-    let counts = tally_counts c.args.tally.now in
-    let begins = instruction_in a c.args.seat committed order counts in
+    let a = activity_of c.args.self.now in let new = activity_of c.bring.new.self in
+    let counts = tally_counts c.args.tally.now in let begins = instruction_in a c.args.seat committed order counts in
     let to = is-to-serve a c.args.seat c.args.access (wants_of c.touch_of-touch.result) c.requires.can.fetch.sound c.requires.can.taken c.requires.can.selected c.requires.shut
     c.touch_of-touch.ensures.lines committed follows in
     let same = c.in_ok-keep_limit.ensures.kept.0 in
     let fetched : IsFetched a committed order (pages_wanted (wants_of c.touch_of-touch.result)) c.args.tally.now.pages new.reach.pool c.bring.new.tally.pages =
     subst
     (λ (x : Activity). IsClean x.reach.directory x.reach.pool committed → IsFetched x committed order (pages_wanted (wants_of c.touch_of-touch.result)) c.args.tally.now.pages new.reach.pool c.bring.new.tally.pages)
-    same (c.in_ok-bring.ensures.fetched.fetched committed order is) follows.kept.clean in
-    subst
+    same (c.in_ok-bring.ensures.fetched.fetched committed order is) follows.kept.clean in subst
     (λ (t : Tally). IsPrepared begins new c.args.seat c.touch_of-touch.result c.refused-refused.result committed order (record (tally_counts t) { locks = t.locks + (c.from.result + c.from-2.result) }))
     (sym c.bring.ensures.counts.rest)
     (prepared-so a c.args.seat committed order counts c.touch_of-touch.result to.0 to.1 c.touch_of-touch.ensures.wanted c.in_ok-keep_limit.ensures.kept.1 new.reach.pool c.bring.new.tally.pages

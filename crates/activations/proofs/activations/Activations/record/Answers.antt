@@ -1,4 +1,4 @@
-use Rattle.activations.proofs.Common.{nat_lt, nat_tests, TurnEnd, begun_of, KeptStore, taken-below, unit-sound, Activity, HasWritten, activity_of, ◌≡◌, ◌≤◌, ◌∙◌, ℕ, false, ap, subst, arith}
+use Rattle.activations.proofs.Common.{rules, nat_lt, nat_tests, TurnEnd, begun_of, KeptStore, taken-below, unit-sound, Activity, HasWritten, activity_of, ◌≡◌, ◌≤◌, ◌∙◌, ℕ, false, ap, subst, arith}
 use Rattle.activations.proofs.RecordedLemmas.{with-none, never-more, is-record, record-count, record-leaves}
 use Rattle.activations.proofs.activations.Activations.record.Goals as goal
 
@@ -18,36 +18,28 @@ returns-in-Err-clause-journal c =
     )
 
 pub returns-in-Err-clause-never : goal.returns-in-Err-clause-never
-returns-in-Err-clause-never c =
-    λ committed follows.
+returns-in-Err-clause-never c = λ committed follows.
     let lines = with-none (activity_of c.args.self.now) c.args.seat c.requires.sound c.requires.taken in
     let over = c.in-Err.ensures.journal.1 in
     let few = never-more (activity_of c.args.self.now) c.args.seat c.requires.sound c.requires.taken committed follows in
     absurd (omega (arith, over, lines, few))
 
-pub returns-in-Ok-clause-record : goal.returns-in-Ok-clause-record
-returns-in-Ok-clause-record c =
-    is-record (activity_of c.args.self.now) c.args.seat c.requires.sound c.requires.taken c.record_start.new.self c.record_written.new.store
-    (ap (λ (store : KeptStore). begun_of store.bank) c.record_start.ensures)
-    (subst (λ (a : Activity). HasWritten a c.args.seat c.record_start.new.self c.record_written.new.store) c.in-Ok.ensures.kept.0 c.record_written.ensures)
-
-pub returns-in-Ok-clause-count : goal.returns-in-Ok-clause-count
-returns-in-Ok-clause-count c =
-    record-count (activity_of c.args.self.now) c.args.seat c.requires.sound c.requires.taken c.record_start.new.self c.record_written.new.store
-    (ap (λ (store : KeptStore). begun_of store.bank) c.record_start.ensures)
-    (subst (λ (a : Activity). HasWritten a c.args.seat c.record_start.new.self c.record_written.new.store) c.in-Ok.ensures.kept.0 c.record_written.ensures)
-
-pub returns-in-Ok-clause-few : goal.returns-in-Ok-clause-few
-returns-in-Ok-clause-few c =
-    let lines = with-none (activity_of c.args.self.now) c.args.seat c.requires.sound c.requires.taken in
-    let count = record-count (activity_of c.args.self.now) c.args.seat c.requires.sound c.requires.taken c.record_start.new.self c.record_written.new.store
-    (ap (λ (store : KeptStore). begun_of store.bank) c.record_start.ensures)
-    (subst (λ (a : Activity). HasWritten a c.args.seat c.record_start.new.self c.record_written.new.store) c.in-Ok.ensures.kept.0 c.record_written.ensures) in
-    not_over c.args.self.now.most_lines _ _ _ c.in-Ok.ensures.kept.1 lines count
-
-pub returns-in-Ok-clause-laid : goal.returns-in-Ok-clause-laid
-returns-in-Ok-clause-laid c =
-    record-leaves (activity_of c.args.self.now) c.args.seat c.requires.sound c.requires.taken c.record_start.new.self c.record_written.new.store
-    (ap (λ (store : KeptStore). begun_of store.bank) c.record_start.ensures)
-    (subst (λ (a : Activity). HasWritten a c.args.seat c.record_start.new.self c.record_written.new.store) c.in-Ok.ensures.kept.0 c.record_written.ensures)
-    (unit-sound c.args.self.now.unit)
+pub returns-in-Ok : goal.returns-in-Ok
+returns-in-Ok c =
+    let a = activity_of c.args.self.now in
+    let none = ap (λ (store : KeptStore). begun_of store.bank) c.record_start.ensures in
+    let written = subst (λ (x : Activity). HasWritten x c.args.seat c.record_start.new.self c.record_written.new.store) c.in-Ok.ensures.kept.0 c.record_written.ensures in
+    let count = record-count a c.args.seat c.requires.sound c.requires.taken c.record_start.new.self c.record_written.new.store none written in
+    record {
+      sound = search rules;
+      kept = search rules;
+      begun = search rules;
+      «record» = is-record a c.args.seat c.requires.sound c.requires.taken c.record_start.new.self c.record_written.new.store none written;
+      count = count;
+      few = not_over c.args.self.now.most_lines _ _ _ c.in-Ok.ensures.kept.1 (with-none a c.args.seat c.requires.sound c.requires.taken) count;
+      laid = record-leaves a c.args.seat c.requires.sound c.requires.taken c.record_start.new.self c.record_written.new.store none written (unit-sound c.args.self.now.unit);
+      journal = tt;
+      rolled = tt;
+      unwritten = tt;
+      never = search rules;
+    }

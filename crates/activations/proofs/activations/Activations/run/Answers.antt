@@ -23,25 +23,14 @@ loop-left-init g c =
 
 pub loop-left-preserved : goal.loop-left-preserved
 loop-left-preserved g c =
-    let first = activity_of c.select.new.self in
-    let old = activity_of c.loop-left.self in
-    let back = activity_of c.come_back.new.self in
-    let mid = activity_of c.instruct.new.self in
-    let new = activity_of c.go_far-ran.new.self in
-    let seat = c.args.seat in
-    let inv = c.loop-left.invariant in
-    let came = c.in_ok-shut_still.ensures.on.stays in
-    let stays = c.in_ok-instruct.ensures.on.stays in
-    let some = c.go_far-ran.ensures.some in
-    let few = c.go_far-ran.ensures.few in
-    let left = c.loop-left-test.true in
-    let total = inv.8 in
-    let more = c.come_back.ensures.counts.few in
-    let ran = c.instruct.ensures.counts.tally.ran in
-    let pages = c.instruct.ensures.counts.tally.pages in
-    let locks = c.instruct.ensures.counts.tally.locks in
-    let told = c.go_far-ran.ensures.tally in
-    let ran_now = ap (λ (tally : Tally). tally.ran) told in
+    let first = activity_of c.select.new.self in let old = activity_of c.loop-left.self in
+    let back = activity_of c.come_back.new.self in let mid = activity_of c.instruct.new.self in
+    let new = activity_of c.go_far-ran.new.self in let seat = c.args.seat in let inv = c.loop-left.invariant in
+    let came = c.in_ok-shut_still.ensures.on.stays in let stays = c.in_ok-instruct.ensures.on.stays in
+    let some = c.go_far-ran.ensures.some in let few = c.go_far-ran.ensures.few in let left = c.loop-left-test.true in
+    let total = inv.8 in let more = c.come_back.ensures.counts.few in let ran = c.instruct.ensures.counts.tally.ran in
+    let pages = c.instruct.ensures.counts.tally.pages in let locks = c.instruct.ensures.counts.tally.locks in
+    let told = c.go_far-ran.ensures.tally in let ran_now = ap (λ (tally : Tally). tally.ran) told in
     let pages_now = ap (λ (tally : Tally). tally.pages) told in
     let locks_now = ap (λ (tally : Tally). tally.locks) told in (
       c.go_far-ran.ensures.sound,
@@ -127,8 +116,7 @@ returns-in-AtCommit-clause-turned g c committed order store follows =
 pub go_far-ran-requires-clause-rows : goal.go_far-ran-requires-clause-rows
 go_far-ran-requires-clause-rows g c seat below =
     let kept = keeps-within (activity_of c.args.self.now) _ (activity_of c.loop-left.self) _ _ c.args.seat c.args.limit c.loop-left.left c.select.ensures.shape c.loop-left.invariant.6 c.come_back.ensures.keeps.parts c.instruct.ensures.keeps.parts in
-    let here = kept.rows (2 ^ 63) c.requires.rows seat below in
-    omega (arith, here, c.requires.limit)
+    let here = kept.rows (2 ^ 63) c.requires.rows seat below in omega (arith, here, c.requires.limit)
 
 pub returns-clause-keeps : goal.returns-clause-keeps
 returns-clause-keeps g c = record {
@@ -139,9 +127,7 @@ returns-clause-keeps g c = record {
 
 pub returns-clause-turned : goal.returns-clause-turned
 returns-clause-turned g c committed order store follows printed =
-    let old = activity_of c.loop-left.self in
-    let seat = c.args.seat in
-    let inv = c.loop-left.invariant in
+    let old = activity_of c.loop-left.self in let seat = c.args.seat in let inv = c.loop-left.invariant in
     let begins = turn_in (activity_of c.select.new.self) seat c.args.limit committed order (tally_counts c.args.tally.now) in
     let turning = inv.11 committed order store (subst (λ (x : Activity). KeepsDesk x committed) (sym c.select.ensures.shape) (follows-selected (activity_of c.args.self.now) seat committed follows)) in
     let none : c.loop-left.left ≡ 0 = omega (arith, c.loop-left-test.false) in
@@ -164,8 +150,7 @@ come_back-requires-clause-can g c =
 
 pub instruct-requires-clause-can : goal.instruct-requires-clause-can
 instruct-requires-clause-can g c =
-    let inv = c.loop-left.invariant in
-    let keeps = c.come_back.ensures.keeps in
+    let inv = c.loop-left.invariant in let keeps = c.come_back.ensures.keeps in
     let stays = c.in_ok-shut_still.ensures.on.stays in
     let room = (asks_only g.W.Outside c.args.outside.now c.loop-left.outside inv.4).longer (total c.args.store.now.header) c.requires.can.room in
     record {

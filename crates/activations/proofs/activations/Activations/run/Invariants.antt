@@ -3,8 +3,7 @@ use Rattle.activations.proofs.Common.{array_vec_len, OnlyAsks, IsSelected, IsSto
 use Rattle.activations.proofs.activations.Activations.run.Given as goal
 
 abbrev pub invariant-loop-left : goal.invariant-loop-left
-invariant-loop-left g l =
-    IsSound (activity_of l.self)
+invariant-loop-left g l = IsSound (activity_of l.self)
     × StaysSeated (activity_of l.initial.self) (activity_of l.self) l.seat
     × IsSelected (activity_of l.self) l.seat
     × MayBeShut (activity_of l.self) l.seat l.shut

@@ -23,8 +23,7 @@ returns-in_err-get-clause-keeps g c =
 
 pub returns-in_err-get-clause-over : goal.returns-in_err-get-clause-over
 returns-in_err-get-clause-over g c =
-    let asked = ap (λ (tally : Tally). tally.pages) c.ask.ensures.counts.rest in
-    let few = c.prepare.ensures.few.0 in
+    let asked = ap (λ (tally : Tally). tally.pages) c.ask.ensures.counts.rest in let few = c.prepare.ensures.few.0 in
     ended-by-disk g.W.Outside (number_in c.args.self.now.seats c.args.seat) (activity_of c.get.new.self) c.args.outside.now c.prepare.new.outside c.get.new.outside c.args.tally.now c.ask.new.tally c.get.new.tally
     c.from_residual-in_err-get.result c.in_err-get.field-0.0 c.from_residual-in_err-get.ensures.1 c.in_ok-touch.ensures.on.calm (omega (arith, asked, few)) c.in_err-get.ensures.ends
 

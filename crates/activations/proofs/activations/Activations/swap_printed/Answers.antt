@@ -1,5 +1,5 @@
 use Rattle.activations.proofs.Common.{get_or_read, Activity, live_in, nothing_runs, IsSound, KeepsDesk, activity_of, ◌≡◌, ℕ, sym, ap, ◌∙◌, arith, subst, slice_index_or, slice_set}
-use Rattle.activations.proofs.PrintedLemmas.{sound-reprinted, follows-reprinted}
+use Rattle.activations.proofs.SittingLemmas.{sound-reprinted, follows-reprinted}
 use Rattle.activations.proofs.activations.Activations.swap_printed.Goals as goal
 
 pub returns-clause-left : goal.returns-clause-left
@@ -14,6 +14,5 @@ pub returns-clause-sound : goal.returns-clause-sound
 returns-clause-sound c = subst IsSound (sym (returns-clause-left c)) (sound-reprinted (activity_of c.args.self.now) c.args.seat c.args.out.now c.requires.free c.requires.sound)
 
 pub returns-clause-follows : goal.returns-clause-follows
-returns-clause-follows c =
-    λ committed follows.
+returns-clause-follows c = λ committed follows.
     subst (λ (a : Activity). KeepsDesk a committed) (sym (returns-clause-left c)) (follows-reprinted (activity_of c.args.self.now) c.args.seat c.args.out.now c.requires.free committed follows)
