@@ -1,7 +1,7 @@
 -- An attempt in a seat that is selected, and rows that take effect one after another.
-use Rattle.activations.proofs.Common.{◌≡◌, refl, ℕ, ◌<◌, ◌≤◌, ◌==◌, true, false, List, [], ◌∷◌, ◌++◌, length, replicate, slice_set, slice_index_or, arith, ap, sym, ◌∙◌, subst, length-append, length-set, length-replicate, set-get_or, get_or_default, has, byte_count, Cpu, IsOfFewBytes, IsClean, Reach, registers_of_program, private_segment, HasWindows, GoesOpen, IsRow, GivesRows, ChangesBytes, StaysClean, LeavesSeats, plain_over, taken-below, Live, Activity, live_in, program_in, nothing_runs, IsSetUp, IsSound, executed, HasExecuted, IsSelected, TookEffect, WasAttempted, printed_after, attempted, suc, ◌+◌, find, Option, Some, None, option_map, Outcome, row, Program, Desk, Entry, Word, Counts, Going, instruction, turns, told-found, Seat, Seating, sitter, number_in, went_on, seat-of-taken, entry_in, entries, desk_over, Strode, CameTo, plain_in, KeepsDesk, counted, GoesOn, Strides, ◌⊎◌, inl, inr, KeepsParts, RunsAt, StrodeTo, with_live, set-set, Turning, Want, Authority, StaysSeated, GoesUncounted, IsServed, AreLowered, pages_lowered, with_entries, nat_tests, Commit, IsState, over_all, store_over, state_in, shown, instruction_in, IsAtCommit}
+use Rattle.activations.proofs.Common.{◌≡◌, refl, ℕ, ◌<◌, ◌==◌, true, List, [], ◌∷◌, ◌++◌, length, replicate, slice_set, slice_index_or, arith, ap, sym, ◌∙◌, subst, length-append, length-set, length-replicate, set-get_or, get_or_default, has, byte_count, Cpu, IsOfFewBytes, IsClean, Reach, registers_of_program, private_segment, HasWindows, GoesOpen, IsRow, GivesRows, ChangesBytes, StaysClean, LeavesSeats, plain_over, taken-below, Live, Activity, live_in, program_in, nothing_runs, IsSound, executed, HasExecuted, IsSelected, TookEffect, WasAttempted, printed_after, attempted, suc, ◌+◌, find, Option, Some, None, option_map, Outcome, row, Program, Desk, Entry, Word, Counts, Going, instruction, turns, told-found, Seat, Seating, sitter, number_in, went_on, seat-of-taken, entry_in, entries, desk_over, Strode, CameTo, plain_in, KeepsDesk, counted, GoesOn, Strides, ◌⊎◌, inl, inr, KeepsParts, RunsAt, StrodeTo, with_live, set-set, Turning, Want, Authority, StaysSeated, GoesUncounted, IsServed, AreLowered, pages_lowered, with_entries, nat_tests, Commit, IsState, over_all, store_over, state_in, shown, instruction_in, IsAtCommit}
 use Rattle.romp_cpu.specs.declared.cpu.Attempt.{Attempt}
-use Rattle.activations.proofs.SittingLemmas.{live-there, live-other, each_seat, sound-reseated, entry-counted, number-counted, counted-more, sitter-there, sitter-other, state-shows, sound-live}
+use Rattle.activations.proofs.SittingLemmas.{live-there, sound-reseated, entry-counted, number-counted, counted-more, sitter-there, sitter-other, state-shows, sound-live}
 use Rattle.activations.proofs.RowLemmas.{goes-on}
 use Rattle.activations.proofs.KeptLemmas.{keeps-itself, keeps-two, keeps-took}
 use Rattle.activations.proofs.CommitLemmas.{ends}

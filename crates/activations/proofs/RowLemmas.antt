@@ -1,5 +1,5 @@
 -- A row of one that takes effect, over what all see.
-use Rattle.activations.proofs.Common.{open-due, ◌≡◌, ℕ, ◌+◌, ◌-◌, ◌==◌, ◌||◌, true, false, List, [], Some, arith, ap, sym, ◌∙◌, subst, eq-eqb, both_ways, FlatStore, has, Lines, Plain, row, touched, Desk, Entry, with_entry, wanted, Counts, Going, no_counts, AreAlike, IsState, over_all, owners_told, AreMarked, requested, gone_on, IsAmong, due_to, IsCurrent, IsOrderly, HasGone, attempt-goes, wanted-is, replaced, alike-then, alike-back, marked-row, seat-told, told-replaced, Seat, taken-below, is_line_marked, private_bytes, plain_over, Live, Activity, live_in, program_in, entry_in, entries, store_over, desk_over, authority_under, locks_in, request_for, request_in, state_in, shown, IsSound, IsKept, KeepsDesk, counted, executed, HasExecuted, GoesOn}
+use Rattle.activations.proofs.Common.{open-due, ◌≡◌, ℕ, ◌+◌, ◌==◌, ◌||◌, true, false, List, [], Some, arith, ap, sym, ◌∙◌, subst, eq-eqb, both_ways, FlatStore, has, Lines, Plain, row, touched, Desk, Entry, with_entry, wanted, Counts, Going, no_counts, AreAlike, IsState, over_all, owners_told, AreMarked, requested, gone_on, IsAmong, due_to, IsCurrent, IsOrderly, HasGone, attempt-goes, wanted-is, replaced, alike-then, alike-back, marked-row, seat-told, told-replaced, Seat, taken-below, is_line_marked, plain_over, Live, Activity, live_in, program_in, entry_in, entries, store_over, desk_over, authority_under, locks_in, request_for, request_in, state_in, shown, IsSound, IsKept, KeepsDesk, counted, executed, HasExecuted, GoesOn}
 use Rattle.activations.proofs.SittingLemmas.{by_seat, state-shows, sitter-other, entry-counted, entry-other, under-counted, live-other, live-there, state-by, plain-by}
 use Rattle.activations.proofs.TableLemmas.{there}
 

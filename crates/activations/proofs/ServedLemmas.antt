@@ -1,5 +1,5 @@
 -- A row that was served takes effect: its pages are there, its lines are locked and granted, and its second attempt went.
-use Rattle.activations.proofs.Common.{◌≡◌, refl, ℕ, ◌+◌, ◌-◌, ◌%◌, ◌<◌, ◌==◌, ◌||◌, if◌then◌else◌, Bool, true, false, List, [], map, slice_index_or, Some, arith, ap, sym, ◌∙◌, subst, eq-eqb, both_ways, is_fine_page, FlatStore, has, Lines, no_lines, page_of_line, both, with_whole_pages, wanted, Want, with_wants, of_seat, Authority, Plain, On, row, after, touched, Pool, Desk, Entry, Word, Counts, Attempt, Turning, Going, Fetched, Fine, fetches, touched_pages, with_grants, lowered, locks_with, AreAlike, AreMarked, IsState, over_all, requested, owners_told, gone_on, row_done, IsAmong, due_to, IsCurrent, IsOrderly, wanted-is, replaced, one-entry, due-more, marked-row, seat-told, told-replaced, at-number, got, WentOn, gets-goes, sitter, taken-below, other-with, is_line_marked, private_bytes, Keeps, plain_over, Live, Activity, live_in, program_in, entry_in, entries, store_over, desk_over, authority_under, number_under, lines_held, locks_in, request_for, request_in, state_in, shown, IsSound, IsFree, Goes, locked, with_entries, counted, executed, with_pool, IsMoved, HasExecuted, with_whole_page}
+use Rattle.activations.proofs.Common.{◌≡◌, refl, ℕ, ◌+◌, ◌%◌, ◌<◌, ◌==◌, ◌||◌, if◌then◌else◌, Bool, true, false, List, [], map, slice_index_or, Some, arith, ap, sym, ◌∙◌, subst, eq-eqb, both_ways, is_fine_page, FlatStore, has, Lines, no_lines, page_of_line, both, with_whole_pages, wanted, Want, with_wants, of_seat, Authority, Plain, On, row, after, touched, Pool, Desk, Entry, Word, Counts, Attempt, Turning, Going, Fetched, Fine, fetches, touched_pages, with_grants, lowered, locks_with, AreAlike, AreMarked, IsState, over_all, requested, owners_told, gone_on, row_done, IsAmong, due_to, IsCurrent, IsOrderly, wanted-is, replaced, one-entry, due-more, marked-row, seat-told, told-replaced, at-number, got, WentOn, gets-goes, sitter, taken-below, other-with, is_line_marked, Keeps, plain_over, Live, Activity, live_in, program_in, entry_in, entries, store_over, desk_over, authority_under, number_under, lines_held, locks_in, request_for, request_in, state_in, shown, IsSound, IsFree, Goes, locked, with_entries, counted, executed, with_pool, IsMoved, HasExecuted, with_whole_page}
 use Rattle.flat_machine.specs.Due.{touched_within}
 use Rattle.activations.proofs.CommitLemmas.{told-kept}
 use Rattle.activations.proofs.ContestLemmas.{locks_told, orderly-other, requests_told, states_told}

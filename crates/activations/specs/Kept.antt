@@ -1,11 +1,13 @@
 -- What stays while those that run are served, and rows of what runs in a seat beside what it reaches.
-use Rattle.std.specs.Prelude.{◌≡◌, ℕ, ◌+◌, ◌≤◌, ◌<◌, true, length, slice_index_or, slice_set}
+use Rattle.std.specs.Prelude.{◌≡◌, ℕ, ◌+◌, ◌≤◌, ◌<◌, true, Option, Some, None, length, slice_index_or, slice_set}
 use Rattle.lines.specs.Sets.{has}
 use Rattle.seats.specs.Seating.{sitter, number_in}
 use Rattle.page_table.specs.Placed.{unowned}
 use Rattle.storage_unit.specs.Bytes.{private_bytes}
 use Rattle.activations.specs.Activity.{Activity, live_in, program_in}
-use Rattle.activations.specs.Attempted.{IsSelected, Strode}
+use Rattle.activations.specs.Attempted.{IsSelected, IsShut, IsStopped, Strode}
+use Rattle.romp_cpu.specs.Tried.{at}
+use Rattle.romp_cpu.specs.declared.storage.Access.{Access}
 use Rattle.storage_unit.specs.declared.model.Reach.{Reach}
 use Rattle.activations.specs.declared.live.Live.{Live}
 use Rattle.activations.specs.Follows.{IsSound}
@@ -55,3 +57,15 @@ pub record StrodeTo (a : Activity) (seat rows : ℕ) (live : Live) (reach : Reac
   pub runs : RunsAt (with_live a seat live reach) seat reach live
   pub strode : Strode a seat rows (with_live a seat live reach)
   pub parts : KeepsParts a (with_live a seat live reach) 0
+
+-- what runs in a seat, with this address of its next instruction
+abbrev pub standing : Live → (iar : ℕ) → Live
+standing live iar = record live { cpu = at live.cpu iar }
+
+-- so many rows at most of what runs in a seat, whoever else sits: how many, and the access of the next one where it isn't permitted
+pub record HasStrode (result : ℕ × Option Access) (limit : ℕ) (reach : Reach) (live : Live) (new_reach : Reach) (new : Live) : Type 0 where
+  pub few : result.0 ≤ limit
+  pub strode : (a : Activity) (seat : ℕ) → RunsAt a seat reach live → StrodeTo a seat result.0 new new_reach
+  pub stopped : result.1 ≡ None → result.0 < limit → (a : Activity) (seat : ℕ) → RunsAt a seat reach live → IsStopped (with_live a seat new new_reach) seat
+  pub shut : (access : Access) → result.1 ≡ Some access → (a : Activity) (seat : ℕ) → RunsAt a seat reach live → IsShut (with_live a seat new new_reach) seat access
+  pub directory : new_reach.directory ≡ reach.directory

@@ -2,7 +2,7 @@
 ghost use Rattle.std.specs.Prelude.{◌≡◌, ◌≤◌, ◌<◌, ℕ, true, Some, None};
 ghost use Rattle.activations.specs.Activity.{Activity};
 ghost use Rattle.activations.specs.Attempted.{WasAttempted, IsShut, IsStopped};
-ghost use Rattle.activations.specs.Kept.{RunsAt, StrodeTo, with_live};
+ghost use Rattle.activations.specs.Kept.{HasStrode, RunsAt, standing, with_live};
 ghost use Rattle.activations.specs.Follows.{IsSound};
 ghost use Rattle.storage_unit.specs.View.{reach_of};
 ghost use Rattle.lines.specs.Sets.{has};
@@ -56,7 +56,21 @@ fn attempt_on(unit: &mut Unit, live: &mut Live) -> Attempt
     ensures went { (a : Activity) (seat : ℕ) → RunsAt a seat (reach_of unit.old) live.old → WasAttempted result a seat (with_live a seat live.new (reach_of unit.new)) }
     ensures directory { (reach_of unit.new).directory ≡ (reach_of unit.old).directory }
 {
-    let went = unit.attempt(&mut live.cpu);
+    let mut iar = live.cpu.iar;
+    let went = step_on(unit, live, &mut iar);
+    live.cpu.iar = iar;
+    went
+}
+
+/// The same of the instruction at an address that the caller keeps.
+#[inline(always)]
+fn step_on(unit: &mut Unit, live: &mut Live, iar: &mut u32) -> Attempt
+    requires runs { (a : Activity) × (seat : ℕ) × RunsAt a seat (reach_of unit.old) (standing live.old iar.old) }
+    ensures sound { (a : Activity) (seat : ℕ) → RunsAt a seat (reach_of unit.old) (standing live.old iar.old) → IsSound (with_live a seat (standing live.new iar.new) (reach_of unit.new)) }
+    ensures went { (a : Activity) (seat : ℕ) → RunsAt a seat (reach_of unit.old) (standing live.old iar.old) → WasAttempted result a seat (with_live a seat (standing live.new iar.new) (reach_of unit.new)) }
+    ensures directory { (reach_of unit.new).directory ≡ (reach_of unit.old).directory }
+{
+    let went = unit.step(&mut live.cpu, iar);
     if let Attempt::Print(byte) = went {
         live.out.push(byte);
     }
@@ -67,15 +81,23 @@ fn attempt_on(unit: &mut Unit, live: &mut Live) -> Attempt
 #[inline(always)]
 fn stride_on(unit: &mut Unit, live: &mut Live, limit: u32) -> (u32, Option<Access>)
     requires runs { (a : Activity) × (seat : ℕ) × RunsAt a seat (reach_of unit.old) live.old }
-    ensures few { result.0 ≤ limit }
-    ensures strode { (a : Activity) (seat : ℕ) → RunsAt a seat (reach_of unit.old) live.old → StrodeTo a seat result.0 live.new (reach_of unit.new) }
-    ensures stopped { result.1 ≡ None → result.0 < limit → (a : Activity) (seat : ℕ) → RunsAt a seat (reach_of unit.old) live.old → IsStopped (with_live a seat live.new (reach_of unit.new)) seat }
-    ensures shut { (access : Access) → result.1 ≡ Some access → (a : Activity) (seat : ℕ) → RunsAt a seat (reach_of unit.old) live.old → IsShut (with_live a seat live.new (reach_of unit.new)) seat access }
-    ensures directory { (reach_of unit.new).directory ≡ (reach_of unit.old).directory }
+    ensures { HasStrode result limit (reach_of unit.old) live.old (reach_of unit.new) live.new }
+{
+    let mut iar = live.cpu.iar;
+    let strode = stride_from(unit, live, &mut iar, limit);
+    live.cpu.iar = iar;
+    strode
+}
+
+/// The same from an address on. It stays in hand until a row doesn't go on by itself.
+#[inline(always)]
+fn stride_from(unit: &mut Unit, live: &mut Live, iar: &mut u32, limit: u32) -> (u32, Option<Access>)
+    requires runs { (a : Activity) × (seat : ℕ) × RunsAt a seat (reach_of unit.old) (standing live.old iar.old) }
+    ensures { HasStrode result limit (reach_of unit.old) (standing live.old iar.old) (reach_of unit.new) (standing live.new iar.new) }
 {
     let mut ran = 0;
     while ran < limit {
-        match attempt_on(unit, live) {
+        match step_on(unit, live, iar) {
             Attempt::Went | Attempt::Print(_) => ran += 1,
             Attempt::Fault(_, access) => return (ran, Some(access)),
             Attempt::Commit | Attempt::Check(_) => return (ran, None),
