@@ -1,5 +1,5 @@
 -- The statuses of a run on a disk, by how it was opened and how it ended.
-use Rattle.job_calls.proofs.Common.{◌≡◌, ℕ, refl, ◌∙◌, ap, false, Option, Some, IsSome, IsTrue, Ghosts, Rose, held_of, Header, chosen, HasStood, Session, ghosts, Replayed, EndsBy, Status, status_of_replay, OpensBy, IsStanding}
+use Rattle.job_calls.proofs.Common.{◌≡◌, ℕ, refl, ◌∙◌, ap, false, Option, Some, IsSome, IsTrue, Ghosts, Rose, held_of, Header, chosen, HasStood, Session, ghosts, Replayed, IfOk, FailsOnlyCounted, GoesBy, way_of, Status, status_of_replay, OpensBy, IsStanding}
 use Rattle.store_format.specs.Bank.{Faulty, bank_of}
 use Rattle.call_status.specs.Statuses.{WentThrough}
 use Rattle.schedule_replay.specs.declared.events.Replayed.TheVariants as replayed
@@ -18,7 +18,7 @@ opens_past G before after now session other stood = record {
 
 -- a store that was opened, and what was replayed on it
 pub opens-by : {W : Type 0} (G : Ghosts W) (before start now : W) (desk new : Session) (result : Replayed) → (IsSome (G.held before) → HasStood desk.store.header (held_of G before))
-    → EndsBy ghosts G desk new start now result → ((offset : ℕ) → result ≡ Replayed.Damaged offset → IsTrue (G.is_honest before) → IsSome (G.held before) → ⊥) → OpensBy G before now (status_of_replay result) (Some new)
+    → IfOk (way_of result) (GoesBy ghosts G desk new start now) → ((offset : ℕ) → result ≡ Replayed.Damaged offset → IsTrue (G.is_honest before) → IsSome (G.held before) → ⊥) → OpensBy G before now (status_of_replay result) (Some new)
 opens-by G before start now desk new replayed.Ended stood ends undamaged = opens_past G before now Status.Done (Some new) (λ offset same. cc) (λ past told. (stood told).1)
 opens-by G before start now desk new replayed.Closed stood ends undamaged = opens_past G before now Status.DiskFault (Some new) (λ offset same. cc) (λ past. absurd past)
 opens-by G before start now desk new (replayed.Damaged at) stood ends undamaged = record {
@@ -33,20 +33,20 @@ opens-by G before start now desk new (replayed.Damaged at) stood ends undamaged 
 opens-by G before start now desk new replayed.PutFault stood ends undamaged = opens_past G before now Status.PutFault (Some new) (λ offset same. cc) (λ past told. (stood told).1)
 
 -- puts that all went well
-pub put-same : {W : Type 0} (G : Ghosts W) (start now : W) (desk new : Session) (result : Replayed) → EndsBy ghosts G desk new start now result → (status_of_replay result ≡ Status.PutFault → ⊥) → G.put_faults now ≡ G.put_faults start
-put-same G start now desk new replayed.Ended ends un = ends.1
-put-same G start now desk new replayed.Closed ends un = ends.2
-put-same G start now desk new (replayed.Damaged at) ends un = ends.2
-put-same G start now desk new replayed.PutFault ends un = absurd (un refl)
+pub put-same : (start now : ℕ) (result : Replayed) → FailsOnlyCounted start now (way_of result) → (status_of_replay result ≡ Status.PutFault → ⊥) → now ≡ start
+put-same start now replayed.Ended cause un = cause.done
+put-same start now replayed.Closed cause un = cause.done
+put-same start now (replayed.Damaged at) cause un = cause.done
+put-same start now replayed.PutFault cause un = absurd (un refl)
 
 -- a put that failed, and a disk that did
-pub put-rose : {W : Type 0} (G : Ghosts W) (start now : W) (desk new : Session) (result : Replayed) → EndsBy ghosts G desk new start now result → status_of_replay result ≡ Status.PutFault → Rose (G.put_faults start) (G.put_faults now)
-put-rose G start now desk new replayed.Ended ends is = absurd cc
-put-rose G start now desk new replayed.Closed ends is = absurd cc
-put-rose G start now desk new (replayed.Damaged at) ends is = absurd cc
-put-rose G start now desk new replayed.PutFault ends is = ends
+pub put-rose : (start now : ℕ) (result : Replayed) → FailsOnlyCounted start now (way_of result) → status_of_replay result ≡ Status.PutFault → Rose start now
+put-rose start now replayed.Ended cause is = absurd cc
+put-rose start now replayed.Closed cause is = absurd cc
+put-rose start now (replayed.Damaged at) cause is = absurd cc
+put-rose start now replayed.PutFault cause is = cause.failed
 
-pub disk-rose : {W : Type 0} (G : Ghosts W) (start now : W) (desk new : Session) (result : Replayed) → desk.closed ≡ false → EndsBy ghosts G desk new start now result → status_of_replay result ≡ Status.DiskFault → Rose (G.disk_faults start) (G.disk_faults now)
+pub disk-rose : {W : Type 0} (G : Ghosts W) (start now : W) (desk new : Session) (result : Replayed) → desk.closed ≡ false → IfOk (way_of result) (GoesBy ghosts G desk new start now) → status_of_replay result ≡ Status.DiskFault → Rose (G.disk_faults start) (G.disk_faults now)
 disk-rose G start now desk new replayed.Ended still ends is = absurd cc
 disk-rose G start now desk new replayed.Closed still ends is = ends.1 still
 disk-rose G start now desk new (replayed.Damaged at) still ends is = absurd cc

@@ -2,7 +2,7 @@
 pub use Rattle.std.proofs.Common.{All, List, Option, Some, [], ap, append-nil, append_assoc, arith, false, get_or, inr, length, refl, subst, suc, sym, true, vec_len, ℕ, ⊎_elim, ◌++◌, ◌<◌, ◌∙◌, ◌∷◌, ◌≡◌, ◌≢◌, ◌≤◌, None, inl, take, ◌%◌, ◌+◌, ◌^◌, ◌⊎◌}
 pub use Rattle.std.proofs.lemmas.List.{length-map}
 pub use Rattle.std.proofs.lemmas.List.Sums.{count_by-le-length}
-pub use Rattle.std.specs.Prelude.{Err, IsErr, IsSome, IsTrue, Ok, Result, map, unwrap_or, Bool, codes, count_by, decimal}
+pub use Rattle.std.specs.Prelude.{Err, IsErr, IsSome, IsTrue, Ok, Result, map, unwrap_or, Bool, codes, count_by, decimal, IfOk}
 pub use Rattle.call_status.specs.Call.{Call, Given, call, given}
 pub use Rattle.call_status.specs.Opening.{IsOfStart, IsStanding, TellsStore}
 pub use Rattle.call_status.specs.declared.status.Status.{Status}
@@ -35,7 +35,8 @@ pub use Rattle.schedule_replay.proofs.RanToLemmas.{to_later, to_since}
 pub use Rattle.schedule_replay.specs.Asked.{IsAsked, begins_in, is_turn, turns_in}
 pub use Rattle.schedule_replay.specs.Quiet.{IsLasting, RunsQuietly, Tells, is_rollback, is_shut, out_after}
 pub use Rattle.schedule_replay.specs.Ran.{HasOpened, IfInDoubt, InDoubt, PrintsEarlier, text_of}
-pub use Rattle.schedule_replay.specs.Replays.{EndsBy, Replays, Reports}
+pub use Rattle.schedule_replay.specs.Answered.{GoesBy, way_of}
+pub use Rattle.schedule_replay.specs.Replays.{Replays, Reports}
 pub use Rattle.schedule_replay.specs.Runs.{Opening, Span, end_of, lines_of, opening, opening_of, report_lines_of, report_of, span}
 pub use Rattle.schedule_replay.specs.declared.events.Replayed.{Replayed}
 pub use Rattle.store_format.specs.Header.{Header, header_of, most_lines, total}

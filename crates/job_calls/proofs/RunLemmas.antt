@@ -1,5 +1,5 @@
 -- What runs on the store that a disk stands for.
-use Rattle.job_calls.proofs.Common.{Result, Ok, Err, IsErr, IsSome, IsTrue, unwrap_or, Ghosts, Failed, Prints, Rose, Elapses, OnlyAsks, FewerLater, Leaves, held_of, elapses-trans, leaves_on, FlatStore, Activation, serial, header_of, most_lines, Standing, Stands, stands, Event, Desk, opened, Word, Doubt, run, faulted, IsRunOf, Line, line_text, Open, number_after, begun, IsSerial, IsSessionOpened, activity, session_desk, order_of, Session, ghosts, Replayed, PrintsEarlier, HasOpened, InDoubt, text_of, Reports, Replays, PrintedNow, to_since, Job, Status, status_of_replay, Call, Given, call, TellsStore, StillTold, EndsBy, DidBy, JobHasRun, HasRunFrom, DoubtStands, Happened, HappenedTo, IsOfStart, RanJob, RunsFrom, put_by, names_of, job_desk, ◌≡◌, ◌⊎◌, ℕ, ◌+◌, ◌%◌, ◌^◌, inl, inr, Bool, true, false, List, [], ◌∷◌, ◌++◌, length, take, refl, sym, ◌∙◌, ap, subst, arith, append-nil, Option, Some, None, opening, span, Opening, Span, end_of, lines_of, opening_of, report_of, report_lines_of, IfInDoubt, job_opening, fixed_of}
+use Rattle.job_calls.proofs.Common.{Result, Ok, Err, IsErr, IsSome, IsTrue, unwrap_or, Ghosts, Failed, Prints, Rose, Elapses, OnlyAsks, FewerLater, Leaves, held_of, elapses-trans, leaves_on, FlatStore, Activation, serial, header_of, most_lines, Standing, Stands, stands, Event, Desk, opened, Word, Doubt, run, faulted, IsRunOf, Line, line_text, Open, number_after, begun, IsSerial, IsSessionOpened, activity, session_desk, order_of, Session, ghosts, Replayed, PrintsEarlier, HasOpened, InDoubt, text_of, Reports, Replays, PrintedNow, to_since, Job, Status, status_of_replay, Call, Given, call, TellsStore, StillTold, FailsOnlyCounted, way_of, DidBy, JobHasRun, HasRunFrom, DoubtStands, Happened, HappenedTo, IsOfStart, RanJob, RunsFrom, put_by, names_of, job_desk, ◌≡◌, ◌⊎◌, ℕ, ◌+◌, ◌%◌, ◌^◌, inl, inr, Bool, true, false, List, [], ◌∷◌, ◌++◌, length, take, refl, sym, ◌∙◌, ap, subst, arith, append-nil, Option, Some, None, opening, span, Opening, Span, end_of, lines_of, opening_of, report_of, report_lines_of, IfInDoubt, job_opening, fixed_of}
 use Rattle.std.proofs.lemmas.Bool.{cases_lt}
 use Rattle.outside.proofs.Prints.{prints_well, prints_broken}
 use Rattle.store.specs.KeptStore.{number_of}
@@ -8,7 +8,7 @@ use Rattle.desk.proofs.SerialLaw.{run_serial}
 use Rattle.desk_law.specs.Headline.{IsFirst, IsPrefix}
 use Rattle.desk_law.specs.Left.{IsLeft, IsStage}
 use Rattle.desk_law.proofs.HeadlineLemmas.{left_is_prefix, doubt_is_whole, stage_is_first}
-use Rattle.supervisor.specs.ShownLaws.{shown-stands}
+use Rattle.supervisor.specs.ShownLaws.{shown-told}
 use Rattle.schedule_replay.specs.Puts.{PutsTimes, shown_of}
 use Rattle.schedule_replay.specs.RanTo.{RanTo}
 use Rattle.schedule_replay.specs.Told.{TellsBy}
@@ -138,7 +138,7 @@ module _ {W : Type 0} (G : Ghosts W) (fewer_later : FewerLater G) (printed_now :
         let shown = comes-to.still still in
         let none : serial_run.doubt ≡ [] = serial_run.none_open still in
         let all : (order_of new) ≡ serial_run.done = serial_run.order_is ∙ ap (λ (behind : List (ℕ × ℕ)). serial_run.done ++ behind) none ∙ append-nil serial_run.done in
-        let stood : stands (held_of G after) ≡ standing_of new.opened ends = shown-stands new (held_of G after) ends shown.1 in (
+        let stood : stands (held_of G after) ≡ standing_of new.opened ends = (shown-told new (held_of G after) ends shown.1).standing in (
           ends.committed,
           ap (λ (order : List (ℕ × ℕ)). serial commits order store) all ∙ serial_run.leaves,
           stood
@@ -179,7 +179,7 @@ module _ {W : Type 0} (G : Ghosts W) (fewer_later : FewerLater G) (printed_now :
       doubt = doubt-leaves;
     }
 
-  module _ (result : Result Bool Failed) (put : Result ℕ Failed) (now : Status) (reports : Reports ghosts G (given (names_of job)) job.events.items new (span start after) (λ closed. closed) result) where
+  module _ {T : Type 0} {shut : T → Bool} (result : Result T Failed) (put : Result ℕ Failed) (now : Status) (reports : Reports ghosts G (given (names_of job)) job.events.items new (span start after) shut result) where
     abbrev half : RanFrom G (given (names_of job)) job.events.items new (span start after)
     half = record {
       taken = reports.taken;
@@ -254,24 +254,24 @@ module _ {W : Type 0} (G : Ghosts W) (fewer_later : FewerLater G) (printed_now :
   did-by replayed.Ended is = λ number store standing.
       let reports = replayed-as replayed.Ended is number store standing in
       has_run G fewer_later printed_now job before start after desk new number store standing (opens standing.honest standing.told) asks programs_are same_opened same_honest time asks-calm
-      (Ok false) (Ok 0) status.Done reports refl (λ one two bytes prints. prints_well one two bytes false 0 prints) (λ is. is) (λ is. (reports.closed, reports.all refl)) (λ is. absurd (cc))
+      (way_of replayed.Ended) (Ok 0) status.Done reports refl (λ one two bytes prints. prints_well one two bytes _ 0 prints) (λ is. is) (λ is. (reports.closed, reports.all refl)) (λ is. absurd (cc))
   did-by replayed.Closed is = λ number store standing.
       let reports = replayed-as replayed.Closed is number store standing in
       has_run G fewer_later printed_now job before start after desk new number store standing (opens standing.honest standing.told) asks programs_are same_opened same_honest time asks-calm
-      (Ok true) (Ok 0) status.DiskFault reports refl (λ one two bytes prints. prints_well one two bytes true 0 prints) (λ is. is) (λ is. absurd (cc)) (λ is. reports.closed)
+      (way_of replayed.Closed) (Ok 0) status.DiskFault reports refl (λ one two bytes prints. prints_well one two bytes _ 0 prints) (λ is. is) (λ is. absurd (cc)) (λ is. reports.closed)
   did-by (replayed.Damaged offset) is = λ number store standing.
       replayed-as (replayed.Damaged offset) is number store standing
   did-by replayed.PutFault is = λ number store standing.
-      let (failed, reports) = replayed-as replayed.PutFault is number store standing in
+      let reports = replayed-as replayed.PutFault is number store standing in
       has_run G fewer_later printed_now job before start after desk new number store standing (opens standing.honest standing.told) asks programs_are same_opened same_honest time asks-calm
-      (Err failed) (Err failed) status.PutFault reports (failed, refl) (λ one two bytes prints. prints_broken {T = Bool} {U = ℕ} (Err failed) (Err failed) refl refl one two bytes prints) (λ is. is) (λ is. absurd (cc)) (λ is. absurd (cc))
+      (way_of replayed.PutFault) (Err (record {})) status.PutFault reports (record {}, refl) (λ one two bytes prints. prints_broken {U = ℕ} (way_of replayed.PutFault) (Err (record {})) refl refl one two bytes prints) (λ is. is) (λ is. absurd (cc)) (λ is. absurd (cc))
 
-  pub happened-by : order_of desk ≡ [] → (that : Replayed) → result ≡ that → EndsBy ghosts G desk new start after that → TellsBy G (names_of job) job.events.items (order_of desk) (order_of new) start after that → HappenedTo G job (call before after (order_of new) (status_of_replay that)) (Some new)
-  happened-by none that is ends tells = record {
+  pub happened-by : order_of desk ≡ [] → (that : Replayed) → result ≡ that → FailsOnlyCounted (G.put_faults start) (G.put_faults after) (way_of that) → TellsBy G (names_of job) job.events.items (order_of desk) (order_of new) start after that → HappenedTo G job (call before after (order_of new) (status_of_replay that)) (Some new)
+  happened-by none that is cause tells = record {
     honest = same_honest ∙ asks.calls.honest;
     time = elapses-trans G fewer_later before start after asks.calls.time time;
     told = λ told. still (told-since G before start asks told);
-    put = λ un. put-same G start after desk new that ends un ∙ asks.calls.put;
+    put = λ un. put-same (G.put_faults start) (G.put_faults after) that cause un ∙ asks.calls.put;
     by_status = did-by that is;
     put_lines = (that, refl, told_since G (names_of job) job.events.items [] (order_of new) before start after asks.calls.quiet.same asks.calls.puts that (subst (λ (order : List (ℕ × ℕ)). TellsBy G (names_of job) job.events.items order (order_of new) start after that) none tells));
   }

@@ -4,7 +4,7 @@ use Rattle.outside.specs.declared.world.Outside.{Ghosts}
 use Rattle.flat_machine.specs.declared.machine.Program.{Program}
 use Rattle.desk.specs.Kept.{HoldsStore}
 use Rattle.supervisor.specs.declared.session.Session.{Session}
-use Rattle.supervisor.specs.Session.{IsSound, activity, order_of, is_closed, header_of_session, turns_of}
+use Rattle.supervisor.specs.Session.{IsSound, activity, order_of, session_told, header_of_session}
 use Rattle.call_status.specs.declared.status.Status.{Status}
 use Rattle.call_status.specs.declared.status.Status.TheVariants as status
 use Rattle.call_status.specs.Statuses.{WentThrough}
@@ -19,7 +19,7 @@ IsClosedAt _ closed = ⊥
 
 -- a session is handed on with its order, closed as the status says; without one the events were not run to their end
 abbrev pub HandsOn : List (ℕ × ℕ) → Option Session → Status → Type 0
-HandsOn order (Some session) status = (order_of session ≡ order) × IsClosedAt status (is_closed session)
+HandsOn order (Some session) status = (order_of session ≡ order) × IsClosedAt status (session_told session).closed
 HandsOn order None status = ¬ (WentThrough status)
 
 -- A session fits an outside: it is sound, the bytes that are told are enough for its store, and at most 10,000 turns were asked of it. So each of
@@ -27,7 +27,7 @@ HandsOn order None status = ¬ (WentThrough status)
 pub record Fits {W : Type 0} (G : Ghosts W) (outside : W) (s : Session) : Type 0 where
   pub sound : IsSound s
   pub bytes : HoldsStore G (header_of_session s) outside
-  pub turns : turns_of s ≤ 10000
+  pub turns : (session_told s).turns ≤ 10000
 
 -- the session that is handed on, if one is, fits the outside
 abbrev pub HandedFits : {W : Type 0} → Ghosts W → W → Option Session → Type 0

@@ -20,11 +20,11 @@ module _ {D W : Type 0} (S : desk.Ghosts D) (G : Ghosts W) (fewer_later : FewerL
   answered_on xs ys old mid new before between after value result one two = grind (arith, begins_split xs ys, turns_split xs ys, (elapses-trans G fewer_later before between after one.time two.time), cause_since (G.put_faults before) (G.put_faults between) (G.put_faults after) value result one.cause two.cause)
 
   -- nothing was answered yet
-  pub answered_none : (desk : D) (w : W) → S.sound desk → HoldsStore G (S.fixed desk).header w → Answered S G [] desk desk w w done
+  pub answered_none : (desk : D) (w : W) → S.sound desk → HoldsStore G (S.told desk).fixed.header w → Answered S G [] desk desk w w done
   answered_none desk w sound bytes = grind (arith, nat_tests)
 
   -- lines were put
-  pub answered_puts : {T : Type 0} (lines : List Line) (desk : D) (before after : W) (result : Result T Failed) → S.sound desk → HoldsStore G (S.fixed desk).header before → Puts G lines before after result → Answered S G [] desk desk before after result
+  pub answered_puts : {T : Type 0} (lines : List Line) (desk : D) (before after : W) (result : Result T Failed) → S.sound desk → HoldsStore G (S.told desk).fixed.header before → Puts G lines before after result → Answered S G [] desk desk before after result
   answered_puts lines desk before after result sound bytes puts = grind (arith, nat_tests)
 
   module _ (events : List Event) (i : ℕ) (event : Event) (lt : i < length events) (old mid : D) (before between : W) where
@@ -39,6 +39,14 @@ module _ {D W : Type 0} (S : desk.Ghosts D) (G : Ghosts W) (fewer_later : FewerL
   answered_as : {T U : Type 0} (events : List Event) (old new : D) (before after : W) (result : Result T Failed) (other : Result U Failed) → (FailsOnlyCounted (G.put_faults before) (G.put_faults after) result → FailsOnlyCounted (G.put_faults before) (G.put_faults after) other) → Answered S G events old new before after result → Answered S G events old new before after other
   answered_as events old new before after result other turns is = grind (arith, nat_tests)
 
+  -- those of some of the events, as of all of them
+  pub answered_all : {T : Type 0} (events : List Event) (count : ℕ) (old new : D) (before after : W) (result : Result T Failed) → Answered S G (take count events) old new before after result → Answered S G events old new before after result
+  answered_all events count old new before after result some =
+      let whole = take-append-drop count events in
+      let begins = begins_split (take count events) (drop count events) in
+      let turns = turns_split (take count events) (drop count events) in
+      grind (arith, nat_tests, whole, begins, turns, some)
+
   -- another value, or a failure of another type
   pub answered_well : {T U : Type 0} (events : List Event) (old new : D) (before after : W) (value : T) (other : U) → Answered S G events old new before after (Ok value) → Answered S G events old new before after (Ok other)
   answered_well events old new before after value other is = answered_as events old new before after (Ok value) (Ok other) (λ cause. record { later = cause.later; failed = tt; done = cause.done }) is
@@ -50,7 +58,7 @@ module _ {D W : Type 0} (S : desk.Ghosts D) (G : Ghosts W) (fewer_later : FewerL
   answered_broken events old new before after result other one two is = answered_as events old new before after result other (broken_cause (G.put_faults before) (G.put_faults after) result other one two) is
 
 -- it goes on so from an earlier moment, and a supervisor that was open before
-pub goes_since : {D W : Type 0} (S : desk.Ghosts D) (G : Ghosts W) (going : Going) (old mid new : D) (before between after : W) → (S.fixed mid).header ≡ (S.fixed old).header → (S.closed old ≡ false → S.closed mid ≡ false) → G.disk_faults before ≤ G.disk_faults between → GoesBy S G mid new between after going → GoesBy S G old new before after going
+pub goes_since : {D W : Type 0} (S : desk.Ghosts D) (G : Ghosts W) (going : Going) (old mid new : D) (before between after : W) → (S.told mid).fixed.header ≡ (S.told old).fixed.header → ((S.told old).closed ≡ false → (S.told mid).closed ≡ false) → G.disk_faults before ≤ G.disk_faults between → GoesBy S G mid new between after going → GoesBy S G old new before after going
 goes_since S G going old mid new before between after header still disk goes = grind (arith, header)
 
 -- a supervisor that was closed before: an event was asked of it

@@ -18,6 +18,7 @@ pub use Rattle.desk.specs.Lines.{End, Left, Line, Lost, Open, line_text}
 pub use Rattle.desk.specs.Report.{closing_lines, cycle_lines, ending_lines, event_lines, happening_lines, number_after, report, turn_lines}
 pub use Rattle.desk.specs.Run.{Happening, OpenBeforeEach, Step, faulted, run, step, CrashFailed, Crashed, Turned}
 pub use Rattle.desk.specs.Seen.{IsUnbroken, commits_seen}
+pub use Rattle.desk.specs.Told.{TellsDesk, Told, ToldAfterEnd}
 pub use Rattle.desk.specs.declared.answers.Begun.{Begun}
 pub use Rattle.desk.specs.declared.answers.Cycle.{Cycle}
 pub use Rattle.desk.specs.declared.answers.Reopened.{Reopened}
@@ -48,14 +49,14 @@ pub use Rattle.store_format.specs.Bank.{Faulty, bank_of}
 pub use Rattle.store_format.specs.Header.{Header, total}
 pub use Rattle.store_format.specs.Stands.{chosen}
 unfoldable pub use Rattle.store_format.specs.Stands.{stands}
-pub use Rattle.schedule_replay.specs.Answered.{Answered, GoesBy, GoesShut, IsReady}
+pub use Rattle.schedule_replay.specs.Answered.{Answered, GoesBy, GoesShut, IsReady, ToldAfter, is_closed, way_of}
 pub use Rattle.schedule_replay.specs.Asked.{IsAsked, begins_in, is_begin, is_turn, turns_in}
 pub use Rattle.schedule_replay.specs.Puts.{BeginsWith, Puts, PutsTimes, number_told, reopened_number, shown_of, stored_number, unended_told}
 pub use Rattle.schedule_replay.specs.Quiet.{RanQuietly, Tells, WentQuietly, is_rollback, last_by, out_after, tally_begun, tally_by, tally_stored, unput}
 pub use Rattle.schedule_replay.specs.Ran.{HasOpened, InDoubt, PrintsEarlier, Ran, WasStep, text_of, view_of}
 pub use Rattle.schedule_replay.specs.RanTo.{RanTo}
 pub use Rattle.schedule_replay.specs.Runs.{Opening, Span, end_of, lines_of, opening, opening_of, report_lines_of, report_of, span}
-pub use Rattle.schedule_replay.specs.Replays.{RanSome, Reports, WentBy, going_begun, going_by, going_if, is_closed, is_damaged}
+pub use Rattle.schedule_replay.specs.Replays.{RanSome, Reports, WentBy, going_begun, going_by, going_if, is_damaged}
 pub use Rattle.schedule_replay.specs.declared.events.Going.{Going}
 pub use Rattle.std.proofs.lemmas.Bool.Decides.{nat_tests}
 pub use Rattle.std.specs.Result.{result_and}

@@ -1,7 +1,5 @@
 -- What lines tell of the journal and of faults of the disk, and how many puts they are.
 use Rattle.schedule_replay.proofs.Common.{◌≡◌, ℕ, ◌+◌, List, [], ◌∷◌, ◌++◌, map, cond, refl, subst, arith, false, count_by, Result, IsErr, OnOk, flat_map, sum_by-append, Failed, Begun, Turn, TurnEnd, Stored, Reopened, begun_told, turn_told, counts_told, stored_told, reopened_told, Counts, Ending, Journal, JournalAfter, KeepsJournal, journal_emptied, journal_with, tells_fault, turn_fails, stored_fails, reopened_fails, Line, cycle_lines, turn_lines, happening_lines, ending_lines, nat_tests, Happening, Turned, Crashed, CrashFailed}
-use Rattle.desk.specs.declared.answers.TurnEnd.TheVariants as end
-use Rattle.desk.specs.declared.answers.Reopened.TheVariants as reopened
 use Rattle.desk.specs.Instruction as turn
 use Rattle.desk.specs.Lines as line
 

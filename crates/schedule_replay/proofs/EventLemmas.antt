@@ -1,5 +1,5 @@
 -- What one event keeps, how it goes on, and the numbers in its lines.
-use Rattle.schedule_replay.proofs.Common.{◌≡◌, ℕ, ◌+◌, ◌*◌, ◌≤◌, List, [], ◌∷◌, sym, ap, ◌∙◌, subst, arith, true, false, Bool, Option, Result, Ok, IfOk, Failed, Ghosts, IsSure, OnlyAsks, FewerLater, held_of, leaves_held, Program, stands, Event, Begun, Turn, TurnEnd, Stored, Reopened, begun_told, turn_told, stored_told, reopened_told, turn_closes, turn_fails, stored_closes, stored_fails, reopened_closes, reopened_fails, HasNumbers, StoredNumber, IsReopened, TookEvent, standing_of, Desk, numbers, Fine, CallsStore, FailsCounted, Fixed, StaysShut, HoldsStore, IsDamage, WritesMore, writes_due, Line, happening_lines, number_after, step, AreNames, Answered, GoesBy, Going, begins_in, turns_in, Puts, number_told, stored_number, reopened_number, WasStep, WentBy, view_of, going_if, going_begun, going_by, is_closed, is_damaged, nat_tests, result_and, opening, opening_of, span}
+use Rattle.schedule_replay.proofs.Common.{◌≡◌, ℕ, ◌+◌, ◌*◌, ◌≤◌, List, [], ◌∷◌, sym, ap, ◌∙◌, subst, arith, true, false, Bool, Option, Result, Ok, IfOk, Failed, Ghosts, IsSure, OnlyAsks, FewerLater, held_of, leaves_held, Program, Event, Begun, Turn, TurnEnd, Stored, Reopened, begun_told, turn_told, stored_told, reopened_told, turn_closes, turn_fails, stored_closes, stored_fails, reopened_closes, reopened_fails, HasNumbers, StoredNumber, IsReopened, TookEvent, Desk, numbers, Fine, CallsStore, FailsCounted, Fixed, StaysShut, HoldsStore, IsDamage, WritesMore, writes_due, Line, happening_lines, number_after, step, AreNames, Told, ToldAfterEnd, Answered, ToldAfter, GoesBy, Going, Puts, number_told, stored_number, reopened_number, WasStep, WentBy, view_of, going_if, going_begun, going_by, is_closed, is_damaged, nat_tests, result_and, opening, opening_of, span}
 use Rattle.desk.specs.declared.event.Event.TheVariants as event
 use Rattle.desk.specs.declared.answers.Begun.TheVariants as begun
 use Rattle.desk.specs.declared.answers.TurnEnd.TheVariants as end
@@ -11,6 +11,7 @@ use Rattle.schedule_replay.proofs.CountLemmas.{begun_keep, turn_calm, stored_cal
 use Rattle.schedule_replay.proofs.PutsLemmas.{PrintedNow, puts_and}
 use Rattle.schedule_replay.specs.Told.{AreLinesOf}
 use Rattle.schedule_replay.proofs.ToldLemmas.{tells_event}
+use Rattle.schedule_replay.proofs.RanToLemmas.{ShownTold}
 use Rattle.schedule_replay.proofs.WentLemmas.{ran_event}
 use Rattle.schedule_replay.proofs.WriteLemmas.{writes_same, writes_fewer, begin_writes, turn_writes, reopened_writes, stored_writes}
 
@@ -53,34 +54,44 @@ if_closes shut = grind (arith, nat_tests)
 pub crash_closes : (answer : Reopened) → reopened_closes answer ≡ is_closed (going_by answer)
 crash_closes answer = grind arith
 
+-- what a begin, a turn and another event make of what a supervisor tells
+pub after_begin : (program : ℕ) (args : List ℕ) (old new : Told) → new ≡ record old { given = new.given } → new.given ≤ old.given + 1 → ToldAfter (event.Begin program args ∷ []) old new
+after_begin program args old new others given = record { fixed = ap (λ (told : Told). told.fixed) others; given = given; turns = omega (arith, ap (λ (told : Told). told.turns) others) }
+
+pub after_turn : (activation limit : ℕ) (ends : TurnEnd) (old new : Told) → ToldAfterEnd activation ends (record old { turns = new.turns }) new → new.turns ≤ old.turns + 1 → ToldAfter (event.Turn activation limit ∷ []) old new
+after_turn activation limit ends old new told turns = record { fixed = ap (λ (told : Told). told.fixed) told.others; given = omega (arith, ap (λ (told : Told). told.given) told.others); turns = turns }
+
+pub after_other : (event : Event) (closed : Bool) (old new : Told) → new ≡ record old { closed = closed } → ToldAfter (event ∷ []) old new
+after_other event closed old new others = record { fixed = ap (λ (told : Told). told.fixed) others; given = omega (arith, ap (λ (told : Told). told.given) others); turns = omega (arith, ap (λ (told : Told). told.turns) others) }
+
 module _ {D W : Type 0} (S : desk.Ghosts D) (G : Ghosts W) where
   -- the store of a supervisor stays where the disk is only asked
-  pub store_asked : (old new : D) (before after : W) → S.fixed new ≡ S.fixed old → OnlyAsks G before after → HoldsStore G (S.fixed old).header before → CallsStore G (S.fixed new).header before after
+  pub store_asked : (old new : D) (before after : W) → (S.told new).fixed ≡ (S.told old).fixed → OnlyAsks G before after → HoldsStore G (S.told old).fixed.header before → CallsStore G (S.told new).fixed.header before after
   store_asked old new before after fixed asks bytes = grind (arith, nat_tests)
 
-  answered_event : (fewer_later : FewerLater G) {T : Type 0} (events : List Event) (lines : List Line) (old new : D) (before between after : W) (result : Result T Failed) → S.sound new → S.fixed new ≡ S.fixed old → S.given new ≤ S.given old + begins_in events → S.turns new ≤ S.turns old + turns_in events
-      → CallsStore G (S.fixed new).header before between → Puts G lines between after result → Answered S G events old new before after result
-  answered_event fewer_later events lines old new before between after result sound fixed given turns store puts = grind (arith, nat_tests)
+  answered_event : (fewer_later : FewerLater G) {T : Type 0} (events : List Event) (lines : List Line) (old new : D) (before between after : W) (result : Result T Failed) → S.sound new → ToldAfter events (S.told old) (S.told new)
+      → CallsStore G (S.told new).fixed.header before between → Puts G lines between after result → Answered S G events old new before after result
+  answered_event fewer_later events lines old new before between after result sound tells store puts = grind (arith, nat_tests)
 
-  pub goes_if : (shut fails : Bool) {told same : Type 0} (old new : D) (before between after : W) → S.closed new ≡ shut → StaysShut (S.closed old) told same → (shut ≡ true → fails ≡ false → told) → FailsCounted fails (G.disk_faults before) (G.disk_faults between)
+  pub goes_if : (shut fails : Bool) {told same : Type 0} (old new : D) (before between after : W) → (S.told new).closed ≡ shut → StaysShut (S.told old).closed told same → (shut ≡ true → fails ≡ false → told) → FailsCounted fails (G.disk_faults before) (G.disk_faults between)
       → G.disk_faults after ≡ G.disk_faults between → GoesBy S G old new before after (going_if shut)
   goes_if shut fails old new before between after closed stays told rose disk = grind (arith, stays.shut)
 
-  pub goes_crash : (answer : Reopened) (old new : D) (before between after : W) → S.closed new ≡ reopened_closes answer → StaysShut (S.closed old) (answer ≡ reopened.Shut) ((new ≡ old) × (between ≡ before)) → FailsCounted (reopened_fails answer) (G.disk_faults before) (G.disk_faults between) → IsDamage G (S.fixed old).header before answer
+  pub goes_crash : (answer : Reopened) (old new : D) (before between after : W) → (S.told new).closed ≡ reopened_closes answer → StaysShut (S.told old).closed (answer ≡ reopened.Shut) ((new ≡ old) × (between ≡ before)) → FailsCounted (reopened_fails answer) (G.disk_faults before) (G.disk_faults between) → IsDamage G (S.told old).fixed.header before answer
       → G.disk_faults after ≡ G.disk_faults between → G.held after ≡ G.held before → GoesBy S G old new before after (going_by answer)
   goes_crash answer old new before between after closed stays rose damage disk held = grind (arith, nat_tests)
 
   -- a supervisor that closed at a begin was closed before
-  pub goes_begin : (answer : Begun) {same : Type 0} (old new : D) (before after : W) → S.closed new ≡ S.closed old → StaysShut (S.closed old) (answer ≡ begun.Shut) same → GoesBy S G old new before after (going_begun answer)
+  pub goes_begin : (answer : Begun) {same : Type 0} (old new : D) (before after : W) → (S.told new).closed ≡ (S.told old).closed → StaysShut (S.told old).closed (answer ≡ begun.Shut) same → GoesBy S G old new before after (going_begun answer)
   goes_begin answer old new before after closed stays = grind (arith, nat_tests)
 
   module _ (names : List (List ℕ)) (programs : List Program) where
     -- a begin asks no disk
-    pub begin_step : (stands_law : (s : D) (held : List ℕ) (desk : Desk) → S.shows s held desk → stands held ≡ standing_of (S.fixed s).opened desk) (open_law : (s : D) (held : List ℕ) (desk : Desk) → S.shows s held desk → desk.closed ≡ false) (closed_law : (s : D) (held : List ℕ) (desk : Desk) → S.shows s held desk → S.closed s ≡ false) (order_law : (s : D) (held : List ℕ) (desk : Desk) → S.shows s held desk → S.order s ≡ desk.order)
+    pub begin_step : (law : ShownTold S)
         (program : ℕ) (args : List ℕ) (answer : Begun) (start : Desk) (old new : D) (w : W) → IsSure G w → S.shows old (held_of G w) start
         → (next : Desk) × (step programs (event.Begin program args) Fine start ≡ record { desk = next; happening = begun_told program answer }) × S.shows new (held_of G w) next
-        → WasStep S G (opening names programs (S.fixed old).opened start) (event.Begin program args) (happening_lines names 0 (begun_told program answer)) new (span w w)
-    begin_step stands_law open_law closed_law order_law program args answer start old new w sure shows (next, is, shown) = grind (arith, nat_tests, begun_keep, leaves_held, begun_numbered, begin_writes, writes_same)
+        → WasStep S G (opening names programs (S.told old).fixed.opened start) (event.Begin program args) (happening_lines names 0 (begun_told program answer)) new (span w w)
+    begin_step law program args answer start old new w sure shows (next, is, shown) = grind (arith, nat_tests, begun_keep, leaves_held, begun_numbered, begin_writes, writes_same)
 
     module _ (number : ℕ) (start : Desk) (new : D) (before after : W) where
       pub turn_step : (activation limit : ℕ) (answer : Turn) (printed : List ℕ)
@@ -120,25 +131,25 @@ module _ {D W : Type 0} (S : desk.Ghosts D) (G : Ghosts W) where
       }
 
   -- an event whose step is told was asked, and its lines were put: it goes on as the answer says
-  pub went_event : (fewer_later : FewerLater G) (printed_now : PrintedNow G) (stands_law : (s : D) (held : List ℕ) (desk : Desk) → S.shows s held desk → stands held ≡ standing_of (S.fixed s).opened desk) (open_law : (s : D) (held : List ℕ) (desk : Desk) → S.shows s held desk → desk.closed ≡ false)
+  pub went_event : (fewer_later : FewerLater G) (printed_now : PrintedNow G) (law : ShownTold S)
       {T : Type 0} (names : List (List ℕ)) (are : AreNames names) (event one : Event) (lines : List Line) (old new : D) (before between after : W) (put : Result T Failed) (way told : Going) (result : Result Going Failed)
       → event ≡ one → way ≡ told → result ≡ result_and put (Ok way) → Puts G lines between after put
-      → S.sound new → S.fixed new ≡ S.fixed old → S.given new ≤ S.given old + begins_in (one ∷ []) → S.turns new ≤ S.turns old + turns_in (one ∷ []) → CallsStore G (S.fixed new).header before between
-      → (S.closed old ≡ true → told ≡ going.Closed) → S.closed new ≡ is_closed told → (G.disk_faults after ≡ G.disk_faults between → G.held after ≡ G.held between → GoesBy S G old new before after told)
-      → ((start : Desk) → IsSure G before → S.shows old (held_of G before) start → WasStep S G (opening_of names (S.fixed old) start) one lines new (span before between) × (is_damaged told ≡ false))
-      → AreLinesOf names (one ∷ []) lines (S.order old) (S.order new) → WentBy S G names event old new (span before after) result
-  went_event fewer_later printed_now stands_law open_law {T} names are event one lines old new before between after put way told result is_one is is_and puts sound fixed given turns store shut closed goes went told_of =
+      → S.sound new → ToldAfter (one ∷ []) (S.told old) (S.told new) → CallsStore G (S.told new).fixed.header before between
+      → ((S.told old).closed ≡ true → told ≡ going.Closed) → (S.told new).closed ≡ is_closed told → (G.disk_faults after ≡ G.disk_faults between → G.held after ≡ G.held between → GoesBy S G old new before after told)
+      → ((start : Desk) → IsSure G before → S.shows old (held_of G before) start → WasStep S G (opening_of names (S.told old).fixed start) one lines new (span before between) × (is_damaged told ≡ false))
+      → AreLinesOf names (one ∷ []) lines (S.told old).order (S.told new).order → WentBy S G names event old new (span before after) result
+  went_event fewer_later printed_now law {T} names are event one lines old new before between after put way told result is_one is is_and puts sound tells store shut closed goes went told_of =
       subst (λ (e : Event). WentBy S G names e old new (span before after) result) (sym is_one)
       (subst (λ (how : Result Going Failed). WentBy S G names one old new (span before after) how) (sym is_and) (record {
-        answered = answered_event fewer_later (one ∷ []) lines old new before between after _ sound fixed given turns store all;
+        answered = answered_event fewer_later (one ∷ []) lines old new before between after _ sound tells store all;
         goes = if_ok_and (GoesBy S G old new before after) (goes puts.only.disk puts.only.held) put;
         shut = λ was. if_ok_and (λ how. how ≡ going.Closed) (shut was) put;
         ran = λ start sure shows.
-            ran_event S G fewer_later printed_now stands_law names are (S.fixed old).programs (S.fixed old).opened one lines start new before between after _
-            (open_law old (held_of G before) start shows) (ap (λ (fixed : Fixed). fixed.opened) fixed) store.calls (went start sure shows).0 all;
-        closed = if_ok_and (λ how. S.closed new ≡ is_closed how) closed put;
+            ran_event S G fewer_later printed_now law names are (S.told old).fixed.programs (S.told old).fixed.opened one lines start new before between after _
+            (law old (held_of G before) start shows).open_desk (ap (λ (fixed : Fixed). fixed.opened) tells.fixed) store.calls (went start sure shows).0 all;
+        closed = if_ok_and (λ how. (S.told new).closed ≡ is_closed how) closed put;
         undamaged = λ start sure shows. if_ok_and (λ how. is_damaged how ≡ false) (went start sure shows).1 put;
-        tells = tells_event G names one lines (S.order old) (S.order new) (S.fixed new).header before between after _ told_of store all;
+        tells = tells_event G names one lines (S.told old).order (S.told new).order (S.told new).fixed.header before between after _ told_of store all;
       }))
     where
       all : Puts G lines between after (result_and put (Ok way))

@@ -1,13 +1,10 @@
 -- Events without a report, one after another.
 use Rattle.schedule_replay.proofs.Common.{◌≡◌, ℕ, ◌+◌, ◌<◌, List, [], ◌∷◌, ◌++◌, length, cond, take, get_or, refl, sym, ap, ◌∙◌, subst, arith, false, not, count_by, Option, IfSome, flat_map, fold, map-append, length-map, take_more, fold-append, sum_by-append, Ghosts, IsSure, CallsDisk, FewerLater, held_of, leaves_held, Program, stands, Turn, TurnEnd, Event, Begun, begun_told, turn_told, stored_told, counts_told, Stored, is_commit, standing_of, IsEitherOf, Desk, Word, Doubt, Line, cycle_lines, event_lines, happening_lines, Step, run, step, faulted, stage_either, stage_none, run_on, open_on, lines_on, faulted_on, Stepped, counted_quiet, step_by, RanQuietly, Tells, WentQuietly, is_rollback, last_by, out_after, tally_begun, tally_by, tally_stored, InDoubt, RanTo, WasStep, nat_tests, opening, opening_of, span}
 use Rattle.schedule_replay.specs.declared.quietly.Tally.{Tally}
-use Rattle.desk.specs.declared.answers.TurnEnd.TheVariants as end
 use Rattle.desk.specs.declared.supervisor.Supervisor as desk
-use Rattle.desk.specs.declared.answers.Begun.TheVariants as begun
-use Rattle.desk.specs.declared.answers.Stored.TheVariants as stored
 use Rattle.desk.specs.Lines as line
 use Rattle.schedule_replay.proofs.RanLemmas.{images_join, none_last}
-use Rattle.schedule_replay.proofs.RanToLemmas.{to_did, to_none, to_on}
+use Rattle.schedule_replay.proofs.RanToLemmas.{ShownTold, to_did, to_none, to_on}
 use Rattle.schedule_replay.proofs.WentLemmas.{last_is, one_event}
 
 -- the victims of cycles are rolled back
@@ -58,22 +55,22 @@ module _ {D W : Type 0} (S : desk.Ghosts D) (G : Ghosts W) (fewer_later : FewerL
   went_quietly event one lines start new before after old_last new_last last tally told is_one is_last is_told step tells = grind (arith, nat_tests)
 
   -- nothing was run yet
-  pub ran_nothing : (stands_law : (s : D) (held : List ℕ) (desk : Desk) → S.shows s held desk → stands held ≡ standing_of (S.fixed s).opened desk) (open_law : (s : D) (held : List ℕ) (desk : Desk) → S.shows s held desk → desk.closed ≡ false) (closed_law : (s : D) (held : List ℕ) (desk : Desk) → S.shows s held desk → S.closed s ≡ false) (order_law : (s : D) (held : List ℕ) (desk : Desk) → S.shows s held desk → S.order s ≡ desk.order)
-      (start : Desk) (new : D) (w : W) → (S.fixed new).opened ≡ number → IsSure G w → S.shows new (held_of G w) start → (ran : RanQuietly S G (opening [] programs number start) [] new (span w w)) × (event_lines [] programs number ran.taken start ≡ [])
-  ran_nothing stands_law open_law closed_law order_law start new w opened sure shows =
+  pub ran_nothing : (law : ShownTold S)
+      (start : Desk) (new : D) (w : W) → (S.told new).fixed.opened ≡ number → IsSure G w → S.shows new (held_of G w) start → (ran : RanQuietly S G (opening [] programs number start) [] new (span w w)) × (event_lines [] programs number ran.taken start ≡ [])
+  ran_nothing law start new w opened sure shows =
       let ran : RanQuietly S G (opening [] programs number start) [] new (span w w) = record {
         taken = [];
         events_taken = refl;
         each_open = tt;
-        to = to_none S G start new w (closed_law new (held_of G w) start shows) (open_law new (held_of G w) start shows) (order_law new (held_of G w) start shows) sure shows;
+        to = to_none S G start new w (law new (held_of G w) start shows) sure shows;
         images = λ image seen left.
-            stage_none programs number start image (open_law new (held_of G w) start shows) (ap stands (leaves_held G w sure image seen left) ∙ stands_law new (held_of G w) start shows ∙ ap (λ n. standing_of n start) opened);
+            stage_none programs number start image (law new (held_of G w) start shows).open_desk (ap stands (leaves_held G w sure image seen left) ∙ (law new (held_of G w) start shows).standing ∙ ap (λ n. standing_of n start) opened);
         doubt = λ shut front last is. absurd (none_last front (last, Doubt) is);
       } in
       (ran, refl)
 
   -- some events were run, and then one more
-  pub ran_one_more : (xs : List Event) (event : Event) (second : List Line) (start : Desk) (mid new : D) (before between after : W) → S.closed mid ≡ false → CallsDisk G before between → CallsDisk G between after → (one : RanQuietly S G (opening [] programs number start) xs mid (span before between))
+  pub ran_one_more : (xs : List Event) (event : Event) (second : List Line) (start : Desk) (mid new : D) (before between after : W) → (S.told mid).closed ≡ false → CallsDisk G before between → CallsDisk G between after → (one : RanQuietly S G (opening [] programs number start) xs mid (span before between))
       → WasStep S G (opening [] programs number (run programs one.taken start)) event second new (span between after)
       → (ran : RanQuietly S G (opening [] programs number start) (xs ++ event ∷ []) new (span before after)) × (event_lines [] programs number ran.taken start ≡ event_lines [] programs number one.taken start ++ second)
   ran_one_more xs event second start mid new before between after was_open calls_one calls_two one two =
@@ -109,16 +106,16 @@ module _ {D W : Type 0} (S : desk.Ghosts D) (G : Ghosts W) (fewer_later : FewerL
       (ran, lines)
 
   -- the next event is run from where the run is, and tallied
-  pub ran_next_quietly : (events : List Event) (i : ℕ) (event : Event) → i < length events → (start : Desk) (mid new : D) (before between after : W) (old_last new_last : List ℕ) (so_far : Tally) (tally : Option Tally) → S.closed mid ≡ false → (S.fixed mid).programs ≡ programs → (S.fixed mid).opened ≡ number → CallsDisk G before between → CallsDisk G between after
+  pub ran_next_quietly : (events : List Event) (i : ℕ) (event : Event) → i < length events → (start : Desk) (mid new : D) (before between after : W) (old_last new_last : List ℕ) (so_far : Tally) (tally : Option Tally) → (S.told mid).closed ≡ false → (S.told mid).fixed.programs ≡ programs → (S.told mid).fixed.opened ≡ number → CallsDisk G before between → CallsDisk G between after
       → (one : RanQuietly S G (opening [] programs number start) (take i events) mid (span before between)) → Tells so_far [] old_last (event_lines [] programs number one.taken start)
-      → ((desk : Desk) → IsSure G between → S.shows mid (held_of G between) desk → WentQuietly S G (opening_of [] (S.fixed mid) desk) (get_or events i event) new (span between after) old_last new_last tally)
+      → ((desk : Desk) → IsSure G between → S.shows mid (held_of G between) desk → WentQuietly S G (opening_of [] (S.told mid).fixed desk) (get_or events i event) new (span between after) old_last new_last tally)
       → (ran : RanQuietly S G (opening [] programs number start) (take (i + 1) events) new (span before after)) × IfSome tally (λ more. Tells (record { commits = so_far.commits + more.commits; rollbacks = so_far.rollbacks + more.rollbacks }) [] new_last (event_lines [] programs number ran.taken start))
   ran_next_quietly events i event lt start mid new before between after old_last new_last so_far tally was_open same_programs same_number calls_one calls_two one tells next =
       let kept = one.to.still (sym one.to.closes ∙ was_open) in
       let told = next (run programs one.taken start) kept.0 kept.1 in
       let two : WentQuietly S G (opening [] programs number (run programs one.taken start)) (get_or events i event) new (span between after) old_last new_last tally =
       subst (λ (n : ℕ). WentQuietly S G (opening [] programs n (run programs one.taken start)) (get_or events i event) new (span between after) old_last new_last tally) same_number
-      (subst (λ (these : List Program). WentQuietly S G (opening [] these (S.fixed mid).opened (run programs one.taken start)) (get_or events i event) new (span between after) old_last new_last tally) same_programs told) in
+      (subst (λ (these : List Program). WentQuietly S G (opening [] these (S.told mid).fixed.opened (run programs one.taken start)) (get_or events i event) new (span between after) old_last new_last tally) same_programs told) in
       let more = ran_one_more (take i events) (get_or events i event) two.lines start mid new before between after was_open calls_one calls_two one two.step in
       subst (λ (these : List Event). (ran : RanQuietly S G (opening [] programs number start) these new (span before after)) × IfSome tally (λ more. Tells (record { commits = so_far.commits + more.commits; rollbacks = so_far.rollbacks + more.rollbacks }) [] new_last (event_lines [] programs number ran.taken start))) (sym (take_more events i event lt)) (
         more.0,

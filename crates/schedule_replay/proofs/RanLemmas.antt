@@ -1,10 +1,10 @@
 -- The runs of a supervisor, one event after another.
-use Rattle.schedule_replay.proofs.Common.{◌≡◌, ℕ, ◌+◌, ◌<◌, List, [], ◌∷◌, ◌++◌, length, map, get_or, take, drop, refl, sym, ap, ◌∙◌, subst, arith, length-append, append-nil, append_assoc, inl, inr, true, false, Option, Result, Ok, IsErr, IfOk, flat_map, map-append, take_more, take-append-drop, flat_map-append, Failed, Ghosts, Prints, Elapses, IsSure, FewerLater, Leaves, held_of, told_is, leaves_held, stands, standing_of, elapses-trans, leaves_on, prints_same, prints_on, Program, Event, Desk, Word, Doubt, run, faulted, OpenBeforeEach, Line, line_text, event_lines, commits_seen, IsLeft, IsStage, ArePlain, seen_lines, seen_all, AreNames, Grew, run_grew, run_plain, run_on, open_on, lines_on, faulted_on, left_none, left_more, left_behind, stage_behind, stage_more, stage_none, PutsTimes, shown_of, Ran, PrintsEarlier, InDoubt, text_of, Fixed, Going, RanSome, RanTo, is_closed, is_damaged, nat_tests, opening, opening_of, span}
+use Rattle.schedule_replay.proofs.Common.{◌≡◌, ℕ, ◌+◌, ◌<◌, List, [], ◌∷◌, ◌++◌, length, map, get_or, take, drop, refl, sym, ap, ◌∙◌, subst, arith, length-append, append-nil, append_assoc, inl, inr, true, false, Option, Result, Ok, IsErr, IfOk, flat_map, map-append, take_more, take-append-drop, flat_map-append, Failed, Ghosts, Prints, Elapses, IsSure, FewerLater, Leaves, held_of, told_is, leaves_held, stands, elapses-trans, leaves_on, prints_same, prints_on, Program, Event, Desk, Word, Doubt, run, faulted, OpenBeforeEach, Line, line_text, event_lines, commits_seen, IsLeft, IsStage, ArePlain, seen_lines, seen_all, AreNames, Grew, run_grew, run_plain, run_on, open_on, lines_on, faulted_on, left_none, left_more, left_behind, stage_behind, stage_more, stage_none, PutsTimes, shown_of, Ran, PrintsEarlier, InDoubt, text_of, Fixed, Going, RanSome, RanTo, is_closed, is_damaged, nat_tests, opening, opening_of, span}
 use Rattle.desk.specs.declared.supervisor.Supervisor as desk
 use Rattle.schedule_replay.proofs.CountLemmas.{on_ok_as}
 use Rattle.schedule_replay.proofs.PutsLemmas.{PrintedNow, done, no_time, times_on, shown_after, begins_none, begins_on, begins_behind, printed_none}
 use Rattle.schedule_replay.proofs.WentLemmas.{last_is}
-use Rattle.schedule_replay.proofs.RanToLemmas.{to_none, to_on}
+use Rattle.schedule_replay.proofs.RanToLemmas.{ShownTold, to_none, to_on}
 
 -- what is printed of earlier events, with more events behind
 earlier_on : {T U : Type 0} (old mid new : Option (List ℕ)) (text other : List (Event × Word) → List ℕ) (one two : List (Event × Word)) (value : T) (bytes : List ℕ) (result : Result U Failed)
@@ -51,7 +51,7 @@ module _ {D W : Type 0} (S : desk.Ghosts D) (G : Ghosts W) (fewer_later : FewerL
   pub ran_as : {T U : Type 0} (events : List Event) (start : Desk) (new : D) (before after : W) (result : Result T Failed) (other : Result U Failed) → ((one two : Option (List ℕ)) (bytes : List ℕ) → Prints one two bytes result → Prints one two bytes other) → (IsErr result → IsErr other) → Ran S G (opening names programs number start) events new (span before after) result → Ran S G (opening names programs number start) events new (span before after) other
   ran_as events start new before after result other turns fails ran = grind (arith, nat_tests, on_ok_as _ result other fails ran.times)
 
-  pub ran_on : {T U : Type 0} (xs : List Event) (event : Event) (start : Desk) (mid new : D) (before between after : W) (value : T) (result : Result U Failed) → S.closed mid ≡ false → (one : Ran S G (opening names programs number start) xs mid (span before between) (Ok value)) → Ran S G (opening names programs number (run programs one.taken start)) (event ∷ []) new (span between after) result → Ran S G (opening names programs number start) (xs ++ event ∷ []) new (span before after) result
+  pub ran_on : {T U : Type 0} (xs : List Event) (event : Event) (start : Desk) (mid new : D) (before between after : W) (value : T) (result : Result U Failed) → (S.told mid).closed ≡ false → (one : Ran S G (opening names programs number start) xs mid (span before between) (Ok value)) → Ran S G (opening names programs number (run programs one.taken start)) (event ∷ []) new (span between after) result → Ran S G (opening names programs number start) (xs ++ event ∷ []) new (span before after) result
   ran_on {T} {U} xs event start mid new before between after value result was_open one two =
       let middle : Desk = run programs one.taken start in
       let bytes : List (Event × Word) → List ℕ = λ taken. text_of (opening names programs number start) taken in
@@ -93,26 +93,26 @@ module _ {D W : Type 0} (S : desk.Ghosts D) (G : Ghosts W) (fewer_later : FewerL
             subst (λ (these : List (Event × Word)). InDoubt G (opening names programs number start) these last after) ends.0 (subst (λ (e : Event). InDoubt G (opening names programs number start) one.taken e after) that (here.0 ∙ ap (λ (desk : Desk). desk.order) (sym (run_on programs one.taken ((event, Doubt) ∷ []) start)), here.1));
       }
 
-  pub ran_more : {U : Type 0} (events : List Event) (i : ℕ) (event : Event) → i < length events → (start : Desk) (mid new : D) (before between after : W) (result : Result U Failed) → S.closed mid ≡ false → (one : Ran S G (opening names programs number start) (take i events) mid (span before between) done) → Ran S G (opening names programs number (run programs one.taken start)) (get_or events i event ∷ []) new (span between after) result → Ran S G (opening names programs number start) (take (i + 1) events) new (span before after) result
+  pub ran_more : {U : Type 0} (events : List Event) (i : ℕ) (event : Event) → i < length events → (start : Desk) (mid new : D) (before between after : W) (result : Result U Failed) → (S.told mid).closed ≡ false → (one : Ran S G (opening names programs number start) (take i events) mid (span before between) done) → Ran S G (opening names programs number (run programs one.taken start)) (get_or events i event ∷ []) new (span between after) result → Ran S G (opening names programs number start) (take (i + 1) events) new (span before after) result
   ran_more events i event lt start mid new before between after result was_open one two = grind (arith, take_more events i event lt, ran_on (take i events) (get_or events i event) start mid new before between after 0 result was_open one two)
 
   -- the next event is run from where the run is
-  ran_next : {U : Type 0} (events : List Event) (i : ℕ) (event : Event) → i < length events → (start : Desk) (mid new : D) (before between after : W) (result : Result U Failed) → S.closed mid ≡ false → (S.fixed mid).programs ≡ programs → (S.fixed mid).opened ≡ number → Ran S G (opening names programs number start) (take i events) mid (span before between) done
-      → ((desk : Desk) → IsSure G between → S.shows mid (held_of G between) desk → Ran S G (opening_of names (S.fixed mid) desk) (get_or events i event ∷ []) new (span between after) result) → Ran S G (opening names programs number start) (take (i + 1) events) new (span before after) result
+  ran_next : {U : Type 0} (events : List Event) (i : ℕ) (event : Event) → i < length events → (start : Desk) (mid new : D) (before between after : W) (result : Result U Failed) → (S.told mid).closed ≡ false → (S.told mid).fixed.programs ≡ programs → (S.told mid).fixed.opened ≡ number → Ran S G (opening names programs number start) (take i events) mid (span before between) done
+      → ((desk : Desk) → IsSure G between → S.shows mid (held_of G between) desk → Ran S G (opening_of names (S.told mid).fixed desk) (get_or events i event ∷ []) new (span between after) result) → Ran S G (opening names programs number start) (take (i + 1) events) new (span before after) result
   ran_next events i event lt start mid new before between after result was_open same_programs same_number one next = grind (arith, nat_tests, ran_more, get_or)
 
 -- The events so far were run, from a supervisor that was open, and the next one was asked of it.
-module _ {D W : Type 0} (S : desk.Ghosts D) (G : Ghosts W) (fewer_later : FewerLater G) (names : List (List ℕ)) (are : AreNames names) (events : List Event) (i : ℕ) (event : Event) (lt : i < length events) (start : Desk) (old mid new : D) (before between after : W) (was_open : S.closed mid ≡ false) (fixed : S.fixed mid ≡ S.fixed old)
-    {T : Type 0} (result : Result T Failed) (so_far : Ran S G (opening_of names (S.fixed old) start) (take i events) mid (span before between) done)
-    (next : (desk : Desk) → IsSure G between → S.shows mid (held_of G between) desk → Ran S G (opening_of names (S.fixed mid) desk) (get_or events i event ∷ []) new (span between after) result) where
-  pub ran_further : {U : Type 0} (other : Result U Failed) → ((one two : Option (List ℕ)) (bytes : List ℕ) → Prints one two bytes result → Prints one two bytes other) → (IsErr result → IsErr other) → Ran S G (opening_of names (S.fixed old) start) (take (i + 1) events) new (span before after) other
+module _ {D W : Type 0} (S : desk.Ghosts D) (G : Ghosts W) (fewer_later : FewerLater G) (names : List (List ℕ)) (are : AreNames names) (events : List Event) (i : ℕ) (event : Event) (lt : i < length events) (start : Desk) (old mid new : D) (before between after : W) (was_open : (S.told mid).closed ≡ false) (fixed : (S.told mid).fixed ≡ (S.told old).fixed)
+    {T : Type 0} (result : Result T Failed) (so_far : Ran S G (opening_of names (S.told old).fixed start) (take i events) mid (span before between) done)
+    (next : (desk : Desk) → IsSure G between → S.shows mid (held_of G between) desk → Ran S G (opening_of names (S.told mid).fixed desk) (get_or events i event ∷ []) new (span between after) result) where
+  pub ran_further : {U : Type 0} (other : Result U Failed) → ((one two : Option (List ℕ)) (bytes : List ℕ) → Prints one two bytes result → Prints one two bytes other) → (IsErr result → IsErr other) → Ran S G (opening_of names (S.told old).fixed start) (take (i + 1) events) new (span before after) other
   ran_further other turns fails =
-      ran_as S G fewer_later names are (S.fixed old).programs (S.fixed old).opened (take (i + 1) events) start new before after result other turns fails
-      (ran_next S G fewer_later names are (S.fixed old).programs (S.fixed old).opened events i event lt start mid new before between after result was_open (ap (λ (fixed : Fixed). fixed.programs) fixed) (ap (λ (fixed : Fixed). fixed.opened) fixed) so_far next)
+      ran_as S G fewer_later names are (S.told old).fixed.programs (S.told old).fixed.opened (take (i + 1) events) start new before after result other turns fails
+      (ran_next S G fewer_later names are (S.told old).fixed.programs (S.told old).fixed.opened events i event lt start mid new before between after result was_open (ap (λ (fixed : Fixed). fixed.programs) fixed) (ap (λ (fixed : Fixed). fixed.opened) fixed) so_far next)
 
   -- and none is asked behind it
   pub ran_last : (other : Result Going Failed) → ((one two : Option (List ℕ)) (bytes : List ℕ) → Prints one two bytes result → Prints one two bytes other) → (IsErr result → IsErr other)
-      → IfOk other (λ going. S.closed new ≡ is_closed going) → IfOk other (λ going. is_damaged going ≡ false) → IfOk other (λ going. is_closed going ≡ true) → RanSome S G (opening_of names (S.fixed old) start) events new (span before after) other
+      → IfOk other (λ going. (S.told new).closed ≡ is_closed going) → IfOk other (λ going. is_damaged going ≡ false) → IfOk other (λ going. is_closed going ≡ true) → RanSome S G (opening_of names (S.told old).fixed start) events new (span before after) other
   ran_last other turns fails closed sound shut = grind (arith, nat_tests, take (i + 1) events, drop (i + 1) events, take-append-drop (i + 1) events, ran_further other turns fails)
 
 -- no event was run
@@ -120,21 +120,21 @@ pub none_last : (front : List (Event × Word)) (last : Event × Word) → [] ≡
 none_last [] last is = cc
 none_last (first ∷ front) last is = cc
 
-pub ran_none : {D W : Type 0} (S : desk.Ghosts D) (G : Ghosts W) (printed_now : PrintedNow G) (stands_law : (s : D) (held : List ℕ) (desk : Desk) → S.shows s held desk → stands held ≡ standing_of (S.fixed s).opened desk) (open_law : (s : D) (held : List ℕ) (desk : Desk) → S.shows s held desk → desk.closed ≡ false) (closed_law : (s : D) (held : List ℕ) (desk : Desk) → S.shows s held desk → S.closed s ≡ false) (order_law : (s : D) (held : List ℕ) (desk : Desk) → S.shows s held desk → S.order s ≡ desk.order)
-    (names : List (List ℕ)) (programs : List Program) (start : Desk) (new : D) (w : W) → IsSure G w → S.shows new (held_of G w) start → Ran S G (opening names programs (S.fixed new).opened start) [] new (span w w) done
-ran_none S G printed_now stands_law open_law closed_law order_law names programs start new w sure shows = record {
+pub ran_none : {D W : Type 0} (S : desk.Ghosts D) (G : Ghosts W) (printed_now : PrintedNow G) (law : ShownTold S)
+    (names : List (List ℕ)) (programs : List Program) (start : Desk) (new : D) (w : W) → IsSure G w → S.shows new (held_of G w) start → Ran S G (opening names programs (S.told new).fixed.opened start) [] new (span w w) done
+ran_none S G printed_now law names programs start new w sure shows = record {
   taken = [];
   events_taken = refl;
   each_open = tt;
-  to = to_none S G start new w (closed_law new (held_of G w) start shows) (open_law new (held_of G w) start shows) (order_law new (held_of G w) start shows) sure shows;
+  to = to_none S G start new w (law new (held_of G w) start shows) sure shows;
   printed = printed_none G (G.printed w) 0;
   times = λ told. omega arith;
   earlier = inl refl;
   time = no_time G w;
   images = λ image seen left.
-      stage_none programs (S.fixed new).opened start image (open_law new (held_of G w) start shows) (ap stands (leaves_held G w sure image seen left) ∙ stands_law new (held_of G w) start shows);
+      stage_none programs (S.told new).fixed.opened start image (law new (held_of G w) start shows).open_desk (ap stands (leaves_held G w sure image seen left) ∙ (law new (held_of G w) start shows).standing);
   left = λ told image seen left.
-      left_none programs (S.fixed new).opened start [] (shown_of G w) image seen 0 (open_law new (held_of G w) start shows) (ap stands (leaves_held G w sure image seen left) ∙ stands_law new (held_of G w) start shows)
+      left_none programs (S.told new).fixed.opened start [] (shown_of G w) image seen 0 (law new (held_of G w) start shows).open_desk (ap stands (leaves_held G w sure image seen left) ∙ (law new (held_of G w) start shows).standing)
       (told_is (G.printed w) seen told (printed_now w image seen left) ∙ sym (append-nil (shown_of G w))) refl;
   doubt = λ shut front last is. absurd (none_last front (last, Doubt) is);
 }

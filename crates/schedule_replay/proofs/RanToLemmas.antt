@@ -1,8 +1,12 @@
 -- What runs leave, one after another.
-use Rattle.schedule_replay.proofs.Common.{◌≡◌, ℕ, ◌+◌, ◌*◌, ◌≤◌, ◌⊎◌, List, [], ◌∷◌, ◌++◌, sym, ◌∙◌, subst, arith, false, Option, unwrap_or, Ghosts, Rose, RoseBy, IsSure, held_of, Program, Event, Desk, KeepsJournal, WritesMore, journal_in, Line, number_after, faulted, commits_in, commits_on, RanTo, WasStep, nat_tests, Word, Fine, opening, span}
+use Rattle.schedule_replay.proofs.Common.{◌≡◌, ℕ, ◌+◌, ◌*◌, ◌≤◌, ◌⊎◌, List, [], ◌∷◌, ◌++◌, sym, ◌∙◌, subst, arith, false, Option, unwrap_or, Ghosts, Rose, RoseBy, IsSure, held_of, Program, Event, Desk, KeepsJournal, WritesMore, journal_in, Line, number_after, faulted, commits_in, commits_on, RanTo, TellsDesk, WasStep, nat_tests, Word, Fine, opening, span}
 use Rattle.desk.specs.declared.supervisor.Supervisor as desk
 use Rattle.schedule_replay.proofs.CountLemmas.{faults_front, faults_behind, happened_keep, journal_on}
 use Rattle.schedule_replay.proofs.WriteLemmas.{writes_on}
+
+-- what a supervisor tells while it shows a desk is that desk's
+abbrev pub ShownTold : {D : Type 0} → desk.Ghosts D → Type 0
+ShownTold {D} S = (s : D) (held : List ℕ) (desk : Desk) → S.shows s held desk → TellsDesk (S.told s) held desk
 
 -- a word that isn't fine is counted where the disk's faults rose
 word_faults : (event : Event) (word : Word) (before after : ℕ) → before ≤ after → (word ≡ Fine) ⊎ Rose before after → RoseBy (faulted ((event, word) ∷ [])) before after
@@ -10,8 +14,8 @@ word_faults event word before after le cause = grind arith
 
 module _ {D W : Type 0} (S : desk.Ghosts D) (G : Ghosts W) where
   -- nothing was run
-  pub to_none : (start : Desk) (new : D) (w : W) → S.closed new ≡ false → start.closed ≡ false → S.order new ≡ start.order → IsSure G w → S.shows new (held_of G w) start → RanTo S G start [] 0 new (span w w)
-  to_none start new w was_open is_open order sure shows = grind (arith, nat_tests)
+  pub to_none : (start : Desk) (new : D) (w : W) → TellsDesk (S.told new) (held_of G w) start → IsSure G w → S.shows new (held_of G w) start → RanTo S G start [] 0 new (span w w)
+  to_none start new w tells sure shows = grind (arith, nat_tests)
 
   -- an event, by its word
   pub to_did : (programs : List Program) (number : ℕ) (event : Event) (names : List (List ℕ)) (lines : List Line) (start : Desk) (new : D) (before after : W) (was : WasStep S G (opening names programs number start) event lines new (span before after)) → G.disk_faults before ≤ G.disk_faults after → RanTo S G was.did.next lines (faulted ((event, was.did.word) ∷ [])) new (span before after)
@@ -53,7 +57,7 @@ module _ {D W : Type 0} (S : desk.Ghosts D) (G : Ghosts W) where
     }
 
   -- one run and then another
-  pub to_on : (middle end : Desk) (first second lines : List Line) (one two both : ℕ) (mid new : D) (before between after : W) → S.closed mid ≡ false → lines ≡ first ++ second → both ≡ one + two → RanTo S G middle first one mid (span before between) → RanTo S G end second two new (span between after) → RanTo S G end lines both new (span before after)
+  pub to_on : (middle end : Desk) (first second lines : List Line) (one two both : ℕ) (mid new : D) (before between after : W) → (S.told mid).closed ≡ false → lines ≡ first ++ second → both ≡ one + two → RanTo S G middle first one mid (span before between) → RanTo S G end second two new (span between after) → RanTo S G end lines both new (span before after)
   to_on middle end first second lines one two both mid new before between after was_open is sum ran more = record {
     closes = more.closes;
     ordered = more.ordered;

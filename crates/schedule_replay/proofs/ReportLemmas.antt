@@ -1,5 +1,5 @@
 -- The report of a run, from its parts.
-use Rattle.schedule_replay.proofs.Common.{◌≡◌, ℕ, List, [], ◌∷◌, ◌++◌, length, map, refl, sym, ap, ◌∙◌, subst, inl, inr, arith, append-nil, IsSome, Option, Bool, true, false, Result, Ok, Err, IsErr, IfOk, OnOk, flat_map, Failed, Ghosts, Prints, IsSure, Elapses, Leaves, held_of, prints_broken, prints_same, prints_well, prints_on, prints_stop, leaves_held, elapses-trans, leaves_on, Program, stands, Event, standing_of, Desk, Word, Line, Open, Left, line_text, number_after, closing_lines, report, event_lines, run, faulted, commits_seen, IsLeft, IsStage, ArePlain, plain_on, commits_in, commits_on, seen_all, AreNames, Grew, run_grew, run_plain, report_parts, lines_end, left_none, left_more, stage_more, stage_none, Going, Puts, PutsTimes, BeginsWith, shown_of, Ran, HasOpened, PrintsEarlier, text_of, RanSome, Reports, Fixed, is_closed, nat_tests, opening, opening_of, span, Opening, Span, report_of}
+use Rattle.schedule_replay.proofs.Common.{◌≡◌, ℕ, List, [], ◌∷◌, ◌++◌, length, map, refl, sym, ap, ◌∙◌, subst, inl, inr, arith, append-nil, IsSome, Option, true, false, Result, Ok, IsErr, IfOk, OnOk, flat_map, Failed, Ghosts, Prints, IsSure, Elapses, Leaves, held_of, prints_same, prints_well, prints_on, prints_stop, leaves_held, elapses-trans, leaves_on, Program, stands, Event, standing_of, Desk, Word, Line, Open, Left, line_text, number_after, closing_lines, report, event_lines, run, faulted, commits_seen, IsLeft, IsStage, ArePlain, plain_on, commits_in, commits_on, seen_all, AreNames, Grew, run_grew, run_plain, report_parts, lines_end, left_none, left_more, stage_more, stage_none, Going, Puts, PutsTimes, BeginsWith, shown_of, Ran, HasOpened, PrintsEarlier, text_of, RanSome, Reports, Fixed, is_closed, nat_tests, opening, opening_of, span}
 use Rattle.desk.specs.declared.supervisor.Supervisor as desk
 use Rattle.std.proofs.lemmas.Result.{IfOk-weaker}
 use Rattle.schedule_replay.specs.declared.events.Going.TheVariants as going
@@ -53,7 +53,7 @@ open_text number = append-nil (line_text (Open number))
 
 module _ {D W : Type 0} (S : desk.Ghosts D) (G : Ghosts W) (laws : Laws S G) (names : List (List ℕ)) (are : AreNames names) where
   -- the first line tells the number with which the desk was opened
-  opens : {T : Type 0} (old : D) (before after : W) (start : Desk) (number : ℕ) (result : Result T Failed) → number ≡ number_after (S.fixed old).opened start → HasOpened S G old before start → Puts G (Open number ∷ []) before after result → Puts G (Open (S.fixed old).opened ∷ []) before after result
+  opens : {T : Type 0} (old : D) (before after : W) (start : Desk) (number : ℕ) (result : Result T Failed) → number ≡ number_after (S.told old).fixed.opened start → HasOpened S G old before start → Puts G (Open number ∷ []) before after result → Puts G (Open (S.told old).fixed.opened ∷ []) before after result
   opens old before after start number result is opened puts = subst (λ n. Puts G (Open n ∷ []) before after result) (is ∙ opened.number) puts
 
   module _ (programs : List Program) (number : ℕ) where
@@ -64,16 +64,16 @@ module _ {D W : Type 0} (S : desk.Ghosts D) (G : Ghosts W) (laws : Laws S G) (na
         (left_more programs number start taken [] first second printed image seen [] (sym (append-nil (run programs taken start).order)) left)
 
     -- what a crash left while lines without a commit were put, from bytes that were sure and shown
-    left_puts : {T : Type 0} (lines : List Line) (desk : Desk) (new : D) (before after : W) (result : Result T Failed) → (S.fixed new).opened ≡ number → commits_seen (flat_map line_text lines) ≡ 0 → IsSure G before → S.shows new (held_of G before) desk → Puts G lines before after result → IsSome (G.printed before)
+    left_puts : {T : Type 0} (lines : List Line) (desk : Desk) (new : D) (before after : W) (result : Result T Failed) → (S.told new).fixed.opened ≡ number → commits_seen (flat_map line_text lines) ≡ 0 → IsSure G before → S.shows new (held_of G before) desk → Puts G lines before after result → IsSome (G.printed before)
         → Leaves G (IsLeft programs number desk [] (flat_map line_text lines) (shown_of G before)) before after
     left_puts lines desk new before after result opened none sure shows puts told image seen left = grind (arith, nat_tests, image_is, left_none)
 
     -- and the images of it, without a word on the screen
-    images_puts : {T : Type 0} (lines : List Line) (desk : Desk) (new : D) (before after : W) (result : Result T Failed) → (S.fixed new).opened ≡ number → IsSure G before → S.shows new (held_of G before) desk → Puts G lines before after result → Leaves G (λ image seen. IsStage programs number desk [] image) before after
+    images_puts : {T : Type 0} (lines : List Line) (desk : Desk) (new : D) (before after : W) (result : Result T Failed) → (S.told new).fixed.opened ≡ number → IsSure G before → S.shows new (held_of G before) desk → Puts G lines before after result → Leaves G (λ image seen. IsStage programs number desk [] image) before after
     images_puts lines desk new before after result opened sure shows puts image seen left =
         let from = puts.images image seen left in
-        stage_none programs number desk image (laws.open_desk new (held_of G before) desk shows)
-        (ap stands (leaves_held G before sure image from.0 from.1) ∙ laws.standing new (held_of G before) desk shows ∙ ap (λ n. standing_of n desk) opened)
+        stage_none programs number desk image (laws.shown new (held_of G before) desk shows).open_desk
+        (ap stands (leaves_held G before sure image from.0 from.1) ∙ (laws.shown new (held_of G before) desk shows).standing ∙ ap (λ n. standing_of n desk) opened)
 
     -- what was put behind the first line
     record Tail {T : Type 0} (start : Desk) (taken : List (Event × Word)) (rest : List Event) (between after : W) (later : Result T Failed) : Type 0 where
@@ -97,7 +97,7 @@ module _ {D W : Type 0} (S : desk.Ghosts D) (G : Ghosts W) (laws : Laws S G) (na
         }
 
     -- the desk is closed
-    tail_shut : {T U : Type 0} (front rest : List Event) (start : Desk) (new : D) (between after : W) (value : T) (other : U) (ran : Ran S G (opening names programs number start) front new (span between after) (Ok value)) → S.closed new ≡ true → Tail start ran.taken rest between after (Ok other)
+    tail_shut : {T U : Type 0} (front rest : List Event) (start : Desk) (new : D) (between after : W) (value : T) (other : U) (ran : Ran S G (opening names programs number start) front new (span between after) (Ok value)) → (S.told new).closed ≡ true → Tail start ran.taken rest between after (Ok other)
     tail_shut {T} {U} front rest start new between after value other ran shut =
         let put = text_of (opening names programs number start) ran.taken in
         let ends = flat_map line_text (closing_lines number rest (run programs ran.taken start)) in
@@ -111,7 +111,7 @@ module _ {D W : Type 0} (S : desk.Ghosts D) (G : Ghosts W) (laws : Laws S G) (na
         }
 
     -- the lines of the end are put
-    tail_put : {T U : Type 0} (front rest : List Event) (start : Desk) (new : D) (between middle after : W) (value : T) (later : Result U Failed) → (S.fixed new).opened ≡ number → S.closed new ≡ false → rest ≡ [] → (ran : Ran S G (opening names programs number start) front new (span between middle) (Ok value))
+    tail_put : {T U : Type 0} (front rest : List Event) (start : Desk) (new : D) (between middle after : W) (value : T) (later : Result U Failed) → (S.told new).fixed.opened ≡ number → (S.told new).closed ≡ false → rest ≡ [] → (ran : Ran S G (opening names programs number start) front new (span between middle) (Ok value))
         → ((held : List ℕ) (desk : Desk) → S.shows new held desk → Puts G (closing_lines number [] desk) middle after later) → Tail start ran.taken rest between after later
     tail_put front rest start new between middle after value later opened still none ran closing =
         let last = run programs ran.taken start in
@@ -135,9 +135,9 @@ module _ {D W : Type 0} (S : desk.Ghosts D) (G : Ghosts W) (laws : Laws S G) (na
         } in
         subst (λ (these : List Event). Tail start ran.taken these between after later) (sym none) all
 
-    module _ (old : D) (opened_at : (S.fixed old).opened ≡ number) (start : Desk) (before between : W) where
+    module _ (old : D) (opened_at : (S.told old).fixed.opened ≡ number) (start : Desk) (before between : W) where
       -- the first line failed
-      reports_none : {T : Type 0} (events : List Event) (result : Result T Failed) (later : Result Going Failed) → IsErr result → IsErr later → S.closed old ≡ false → HasOpened S G old before start → Puts G (Open number ∷ []) before between result → Reports S G (opening names programs number start) events old (span before between) is_closed later
+      reports_none : {T : Type 0} (events : List Event) (result : Result T Failed) (later : Result Going Failed) → IsErr result → IsErr later → (S.told old).closed ≡ false → HasOpened S G old before start → Puts G (Open number ∷ []) before between result → Reports S G (opening names programs number start) events old (span before between) is_closed later
       reports_none events result later one two was_open opened puts =
           let sure = sure_puts S G laws.later laws.printed (Open number ∷ []) before between result puts opened.sure in
           let first : List ℕ = flat_map line_text (Open number ∷ []) in
@@ -147,24 +147,24 @@ module _ {D W : Type 0} (S : desk.Ghosts D) (G : Ghosts W) (laws : Laws S G) (na
             taken = [];
             rest = events;
             is_run = record { prefix = refl; each_open = tt };
-            to = to_later S G start [] 0 old before before between puts.only.held puts.only.disk puts.only.writes (λ is. sure.0) (to_none S G start old before was_open (laws.open_desk old (held_of G before) start opened.shows) (laws.ordered old (held_of G before) start opened.shows) opened.sure opened.shows);
+            to = to_later S G start [] 0 old before before between puts.only.held puts.only.disk puts.only.writes (λ is. sure.0) (to_none S G start old before (laws.shown old (held_of G before) start opened.shows) opened.sure opened.shows);
             printed = prints_same (G.printed before) (G.printed between) (first ++ more) (report names programs number [] events start) later whole (prints_stop (G.printed before) (G.printed between) first more result later one two puts.printed);
             times = times_failed _ later two;
             earlier = inl refl;
-            closed = if_ok_broken later (λ going. S.closed old ≡ is_closed going) two;
+            closed = if_ok_broken later (λ going. (S.told old).closed ≡ is_closed going) two;
             all = if_ok_broken later (λ going. is_closed going ≡ false → events ≡ []) two;
             images = images_puts (Open number ∷ []) start old before between result opened_at opened.sure opened.shows puts;
             left = λ told image seen left.
                 subst (λ (text : List ℕ). IsLeft programs number start [] text (shown_of G before) image seen) whole
                 (longer start [] first more (shown_of G before) image seen (left_puts (Open number ∷ []) start old before between result opened_at (seen_all (Open number ∷ []) (tt, tt)) opened.sure opened.shows puts told image seen left));
-            doubt = λ shut. absurd (let no = sym (laws.open_desk old (held_of G before) start opened.shows) ∙ shut in let never : ⊥ = cc in never);
+            doubt = λ shut. absurd (let no = sym (laws.shown old (held_of G before) start opened.shows).open_desk ∙ shut in let never : ⊥ = cc in never);
           }
 
       -- the first line is put, then the lines of events and those of the end
       reports_of : {T U : Type 0} (events front rest : List Event) (new : D) (middle after : W) (value : T) (result : Result U Failed) (later : Result Going Failed) → HasOpened S G old before start → Puts G (Open number ∷ []) before between (Ok value) → front ++ rest ≡ events → (ran : Ran S G (opening names programs number start) front new (span between middle) result)
           → Tail start ran.taken rest between after later → (IsSure G middle → IsSure G after)
           → ((image seen : List ℕ) → G.left_since after (G.moment after) image seen → (shown : List ℕ) × G.left_since middle (G.moment middle) image shown) → G.disk_faults after ≡ G.disk_faults middle → G.held after ≡ G.held middle → G.writes after ≡ G.writes middle → BeginsWith (G.printed middle) (G.printed after) []
-          → IfOk later (λ going. S.closed new ≡ is_closed going) → IfOk later (λ going. is_closed going ≡ false → rest ≡ []) → Reports S G (opening names programs number start) events new (span before after) is_closed later
+          → IfOk later (λ going. (S.told new).closed ≡ is_closed going) → IfOk later (λ going. is_closed going ≡ false → rest ≡ []) → Reports S G (opening names programs number start) events new (span before after) is_closed later
       reports_of events front rest new middle after value result later opened puts whole ran tail sure images disk same_held same_writes more closed all =
           let first : List ℕ = flat_map line_text (Open number ∷ []) in
           let put = text_of (opening names programs number start) ran.taken in
@@ -202,8 +202,8 @@ module _ {D W : Type 0} (S : desk.Ghosts D) (G : Ghosts W) (laws : Laws S G) (na
 
       -- and the lines of the end are put
       reports_closing : {T U : Type 0} (events front rest : List Event) (new : D) (middle after : W) (value : T) (result : U) (later : Result Going Failed) → HasOpened S G old before start → Puts G (Open number ∷ []) before between (Ok value) → front ++ rest ≡ events → Ran S G (opening names programs number start) front new (span between middle) (Ok result)
-          → (S.fixed new).opened ≡ number → S.closed new ≡ false → rest ≡ [] → ((held : List ℕ) (desk : Desk) → S.shows new held desk → Puts G (closing_lines number [] desk) middle after later)
-          → IfOk later (λ going. S.closed new ≡ is_closed going) → IfOk later (λ going. is_closed going ≡ false → rest ≡ []) → Reports S G (opening names programs number start) events new (span before after) is_closed later
+          → (S.told new).fixed.opened ≡ number → (S.told new).closed ≡ false → rest ≡ [] → ((held : List ℕ) (desk : Desk) → S.shows new held desk → Puts G (closing_lines number [] desk) middle after later)
+          → IfOk later (λ going. (S.told new).closed ≡ is_closed going) → IfOk later (λ going. is_closed going ≡ false → rest ≡ []) → Reports S G (opening names programs number start) events new (span before after) is_closed later
       reports_closing events front rest new middle after value result later opened puts whole ran opened_new was_open none closing closed all =
           let last = run programs ran.taken start in
           let kept = ran.to.still (sym ran.to.closes ∙ was_open) in
@@ -214,69 +214,51 @@ module _ {D W : Type 0} (S : desk.Ghosts D) (G : Ghosts W) (laws : Laws S G) (na
           ends.only.disk ends.only.held ends.only.writes (begins_none (G.printed middle) (G.printed after) (flat_map line_text (closing_lines number [] last)) later ends.printed) closed all
 
   -- The first line can't be put.
-  pub reports_unopened : {T : Type 0} (old : D) (start : Desk) (before between : W) (number : ℕ) (events : List Event) (result : Result T Failed) (later : Result Going Failed) → HasOpened S G old before start → ((held : List ℕ) (desk : Desk) → S.shows old held desk → number ≡ number_after (S.fixed old).opened desk) → Puts G (Open number ∷ []) before between result
-      → IsErr result → IsErr later → Reports S G (opening_of names (S.fixed old) start) events old (span before between) is_closed later
+  pub reports_unopened : {T : Type 0} (old : D) (start : Desk) (before between : W) (number : ℕ) (events : List Event) (result : Result T Failed) (later : Result Going Failed) → HasOpened S G old before start → ((held : List ℕ) (desk : Desk) → S.shows old held desk → number ≡ number_after (S.told old).fixed.opened desk) → Puts G (Open number ∷ []) before between result
+      → IsErr result → IsErr later → Reports S G (opening_of names (S.told old).fixed start) events old (span before between) is_closed later
   reports_unopened old start before between number events result later opened tells put one two = grind (arith, nat_tests, reports_none, opens)
 
   -- The first line is put, and then the lines of some events.
   module _ (old new : D) (start : Desk) (before between middle : W) (number : ℕ) (events : List Event) {T : Type 0} (value : T) (result : Result Going Failed) (opened : HasOpened S G old before start)
-      (tells : (held : List ℕ) (desk : Desk) → S.shows old held desk → number ≡ number_after (S.fixed old).opened desk) (put : Puts G (Open number ∷ []) before between (Ok value))
-      (ran : (desk : Desk) → IsSure G between → S.shows old (held_of G between) desk → RanSome S G (opening_of names (S.fixed old) desk) events new (span between middle) result) where
-    first_put : Puts G (Open (S.fixed old).opened ∷ []) before between (Ok value)
+      (tells : (held : List ℕ) (desk : Desk) → S.shows old held desk → number ≡ number_after (S.told old).fixed.opened desk) (put : Puts G (Open number ∷ []) before between (Ok value))
+      (ran : (desk : Desk) → IsSure G between → S.shows old (held_of G between) desk → RanSome S G (opening_of names (S.told old).fixed desk) events new (span between middle) result) where
+    first_put : Puts G (Open (S.told old).fixed.opened ∷ []) before between (Ok value)
     first_put = opens old before between start number (Ok value) (tells (held_of G before) start opened.shows) opened put
 
-    pub some_ran : RanSome S G (opening_of names (S.fixed old) start) events new (span between middle) result
+    pub some_ran : RanSome S G (opening_of names (S.told old).fixed start) events new (span between middle) result
     some_ran = grind (arith, nat_tests)
 
     -- nothing is put behind them
-    reports_still : (later : Result Going Failed) → Tail (S.fixed old).programs (S.fixed old).opened start some_ran.ran.taken some_ran.rest between middle later → IfOk later (λ going. S.closed new ≡ is_closed going) → IfOk later (λ going. is_closed going ≡ false → some_ran.rest ≡ [])
-        → Reports S G (opening_of names (S.fixed old) start) events new (span before middle) is_closed later
+    reports_still : (later : Result Going Failed) → Tail (S.told old).fixed.programs (S.told old).fixed.opened start some_ran.ran.taken some_ran.rest between middle later → IfOk later (λ going. (S.told new).closed ≡ is_closed going) → IfOk later (λ going. is_closed going ≡ false → some_ran.rest ≡ [])
+        → Reports S G (opening_of names (S.told old).fixed start) events new (span before middle) is_closed later
     reports_still later tail closed all =
-        reports_of (S.fixed old).programs (S.fixed old).opened old refl start before between events some_ran.front some_ran.rest new middle middle value result later opened first_put some_ran.whole some_ran.ran tail
+        reports_of (S.told old).fixed.programs (S.told old).fixed.opened old refl start before between events some_ran.front some_ran.rest new middle middle value result later opened first_put some_ran.whole some_ran.ran tail
         (λ sure. sure) (λ image seen left. (seen, left)) refl refl refl (begins_same (G.printed middle) (G.printed middle) refl) closed all
 
     -- a put failed among them
-    pub reports_stopped : (later : Result Going Failed) → IsErr result → IsErr later → Reports S G (opening_of names (S.fixed old) start) events new (span before middle) is_closed later
+    pub reports_stopped : (later : Result Going Failed) → IsErr result → IsErr later → Reports S G (opening_of names (S.told old).fixed start) events new (span before middle) is_closed later
     reports_stopped later one two =
-        reports_still later (tail_stop (S.fixed old).programs (S.fixed old).opened some_ran.front some_ran.rest start new between middle result later one two some_ran.ran) (if_ok_broken later _ two) (if_ok_broken later _ two)
+        reports_still later (tail_stop (S.told old).fixed.programs (S.told old).fixed.opened some_ran.front some_ran.rest start new between middle result later one two some_ran.ran) (if_ok_broken later _ two) (if_ok_broken later _ two)
 
   module _ (old new : D) (start : Desk) (before between middle : W) (number : ℕ) (events : List Event) {T : Type 0} (value : T) (how : Going) (opened : HasOpened S G old before start)
-      (tells : (held : List ℕ) (desk : Desk) → S.shows old held desk → number ≡ number_after (S.fixed old).opened desk) (put : Puts G (Open number ∷ []) before between (Ok value))
-      (ran : (desk : Desk) → IsSure G between → S.shows old (held_of G between) desk → RanSome S G (opening_of names (S.fixed old) desk) events new (span between middle) (Ok how)) where
-    abbrev some : RanSome S G (opening_of names (S.fixed old) start) events new (span between middle) (Ok how)
+      (tells : (held : List ℕ) (desk : Desk) → S.shows old held desk → number ≡ number_after (S.told old).fixed.opened desk) (put : Puts G (Open number ∷ []) before between (Ok value))
+      (ran : (desk : Desk) → IsSure G between → S.shows old (held_of G between) desk → RanSome S G (opening_of names (S.told old).fixed desk) events new (span between middle) (Ok how)) where
+    abbrev some : RanSome S G (opening_of names (S.told old).fixed start) events new (span between middle) (Ok how)
     some = some_ran old new start before between middle number events value (Ok how) opened tells put ran
 
     -- one of them closed the desk
-    pub reports_shut : (how ≡ going.On → ⊥) → Reports S G (opening_of names (S.fixed old) start) events new (span before middle) is_closed (Ok how)
+    pub reports_shut : (how ≡ going.On → ⊥) → Reports S G (opening_of names (S.told old).fixed start) events new (span before middle) is_closed (Ok how)
     reports_shut shut =
         reports_still old new start before between middle number events value (Ok how) opened tells put ran (Ok how)
-        (tail_shut (S.fixed old).programs (S.fixed old).opened some.front some.rest start new between middle how how some.ran (some.closed ∙ not_on_closed how shut)) some.closed some.all
+        (tail_shut (S.told old).fixed.programs (S.told old).fixed.opened some.front some.rest start new between middle how how some.ran (some.closed ∙ not_on_closed how shut)) some.closed some.all
 
     -- all were run, and the lines of the end are put
-    pub reports_ended : (after : W) (later : Result Going Failed) → how ≡ going.On → IfOk later (λ going. is_closed going ≡ false) → S.fixed new ≡ S.fixed old
-        → ((held : List ℕ) (desk : Desk) → S.shows new held desk → Puts G (closing_lines (S.fixed new).opened [] desk) middle after later) → Reports S G (opening_of names (S.fixed old) start) events new (span before after) is_closed later
+    pub reports_ended : (after : W) (later : Result Going Failed) → how ≡ going.On → IfOk later (λ going. is_closed going ≡ false) → (S.told new).fixed ≡ (S.told old).fixed
+        → ((held : List ℕ) (desk : Desk) → S.shows new held desk → Puts G (closing_lines (S.told new).fixed.opened [] desk) middle after later) → Reports S G (opening_of names (S.told old).fixed start) events new (span before after) is_closed later
     reports_ended after later is still fixed closing =
-        let same : (S.fixed new).opened ≡ (S.fixed old).opened = ap (λ (fixed : Fixed). fixed.opened) fixed in
-        let was_open : S.closed new ≡ false = some.closed ∙ ap is_closed is in
+        let same : (S.told new).fixed.opened ≡ (S.told old).fixed.opened = ap (λ (fixed : Fixed). fixed.opened) fixed in
+        let was_open : (S.told new).closed ≡ false = some.closed ∙ ap is_closed is in
         let none : some.rest ≡ [] = some.all (ap is_closed is) in
-        reports_closing (S.fixed old).programs (S.fixed old).opened old refl start before between events some.front some.rest new middle after value how later opened (first_put old new start before between middle number events value (Ok how) opened tells put ran) some.whole some.ran same was_open none
+        reports_closing (S.told old).fixed.programs (S.told old).fixed.opened old refl start before between events some.front some.rest new middle after value how later opened (first_put old new start before between middle number events value (Ok how) opened tells put ran) some.whole some.ran same was_open none
         (λ held desk shows. subst (λ (n : ℕ). Puts G (closing_lines n [] desk) middle after later) same (closing held desk shows))
         (IfOk-weaker later _ _ (λ going on. was_open ∙ sym on) still) (IfOk-weaker later _ _ (λ going on goes. none) still)
-
-module _ {D W : Type 0} (S : desk.Ghosts D) (G : Ghosts W) (begins : Opening) (events : List Event) (new : D) (at : Span W) where
-  -- what is told of a result, as of another that says as much
-  reports_as : {T U : Type 0} (shut : T → Bool) (other : U → Bool) (result : Result T Failed) (later : Result U Failed)
-      → ((old now : Option (List ℕ)) (bytes : List ℕ) → Prints old now bytes result → Prints old now bytes later) → ((P : Type 0) → OnOk result P → OnOk later P) → (IfOk result (λ value. S.closed new ≡ shut value) → IfOk later (λ value. S.closed new ≡ other value)) → ((P : Type 0) → IfOk result (λ value. shut value ≡ false → P) → IfOk later (λ value. other value ≡ false → P))
-      → Reports S G begins events new at shut result → Reports S G begins events new at other later
-  reports_as shut other result later prints times closes all reports = grind (arith, (prints (G.printed at.before) (G.printed at.after) (report_of begins reports.taken reports.rest) reports.printed), times _ reports.times, closes reports.closed, all _ reports.all)
-
-  -- what is told of how it goes on, as whether the desk is closed
-  pub reports_told : (how : Going) (shut : Bool) → is_closed how ≡ shut → Reports S G begins events new at is_closed (Ok how) → Reports S G begins events new at (λ closed. closed) (Ok shut)
-  reports_told how shut is =
-      reports_as is_closed (λ closed. closed) (Ok how) (Ok shut)
-      (λ old now bytes prints. prints_well old now bytes how shut prints) (λ P times. times) (λ closes. closes ∙ is) (λ P all going_on. all (is ∙ going_on))
-
-  -- and of a put that failed
-  pub reports_broken : (failed : Failed) → Reports S G begins events new at is_closed (Err failed) → Reports S G begins events new at {T = Bool} (λ closed. closed) (Err failed)
-  reports_broken failed =
-      reports_as is_closed (λ closed. closed) (Err failed) (Err failed) (λ old now bytes prints. prints_broken {T = Going} {U = Bool} (Err failed) (Err failed) refl refl old now bytes prints) (λ P times. times) (λ closes. closes) (λ P all. all)

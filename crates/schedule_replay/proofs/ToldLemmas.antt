@@ -1,10 +1,9 @@
 -- Lines of answers, one after another, whatever stands on the disk.
-use Rattle.schedule_replay.proofs.Common.{◌≡◌, inl, inr, ℕ, ◌+◌, ◌<◌, rules, List, [], ◌∷◌, ◌++◌, length, get_or, take, refl, sym, ap, ◌∙◌, subst, arith, append_assoc, append-nil, take_more, flat_map-append, flat_map, true, false, Bool, Option, IsSome, Result, Ok, Err, IfOk, IsErr, Failed, Ghosts, Prints, prints_broken, prints_on, prints_same, prints_well, Event, Begun, Turn, TurnEnd, Stored, Reopened, begun_told, turn_told, stored_told, reopened_told, Happening, Line, line_text, Open, happening_lines, CallsStore, Header, Puts, PutsTimes}
+use Rattle.schedule_replay.proofs.Common.{◌≡◌, inl, inr, ℕ, ◌+◌, ◌<◌, rules, List, [], ◌∷◌, ◌++◌, length, get_or, take, refl, sym, ap, ◌∙◌, subst, arith, append_assoc, append-nil, take_more, flat_map-append, flat_map, true, false, Bool, Option, IsSome, Result, Ok, Err, IfOk, IsErr, Failed, Ghosts, Prints, prints_broken, prints_on, prints_same, prints_well, Event, Begun, Turn, TurnEnd, Stored, Reopened, begun_told, turn_told, stored_told, reopened_told, Happening, Line, line_text, Open, happening_lines, CallsStore, Header, Puts, PutsTimes, Going, is_closed, way_of}
 use Rattle.std.proofs.lemmas.Bool.{both_ways}
 use Rattle.desk.specs.Answers.{EntersOrder}
 use Rattle.schedule_replay.specs.Told.{IsToldOf, Enters, AreLinesOf, AreOfEnd, Tells, TellsBy, TellsSome, TellsReport}
 use Rattle.schedule_replay.specs.declared.events.Replayed.{Replayed}
-use Rattle.schedule_replay.specs.declared.events.Replayed.TheVariants as replayed
 use Rattle.schedule_replay.proofs.PutsLemmas.{done, times_on}
 use Rattle.schedule_replay.proofs.ReportLemmas.{if_ok_broken}
 
@@ -161,41 +160,12 @@ module _ {W : Type 0} (G : Ghosts W) (names : List (List ℕ)) (events : List Ev
             prints_same (G.printed between) (G.printed after) _ (flat_map line_text (tells.lines ++ end)) result (sym (flat_map-append line_text tells.lines end))
             (prints_on (G.printed between) (G.printed middle) (G.printed after) (flat_map line_text tells.lines) (flat_map line_text end) value result tells.printed puts.printed)
 
-  -- by whether the desk is closed
-  pub told_as : {T : Type 0} (before after : W) (shut : T → Bool) (value : T) (closed : Bool) → shut value ≡ closed → TellsReport G names events old new before after shut (Ok value) → TellsReport G names events old new before after (λ (closed : Bool). closed) (Ok closed)
-  told_as before after shut value closed same told = record {
-    number = told.number;
-    count = told.count;
-    lines = told.lines;
-    are = told.are;
-    end = told.end;
-    end_is = told.end_is;
-    none = λ is. told.none (same ∙ is);
-    all = λ is. told.all (same ∙ is);
-    printed = prints_well (G.printed before) (G.printed after) (flat_map line_text (Open told.number ∷ (told.lines ++ told.end))) value closed told.printed;
-    times = told.times;
-  }
-
-  pub told_failed : {T : Type 0} (before after : W) (shut : T → Bool) (failed : Failed) → TellsReport G names events old new before after {T = T} shut (Err failed) → TellsReport G names events old new before after {T = Bool} (λ closed. closed) (Err failed)
-  told_failed {T} before after shut failed told = record {
-    number = told.number;
-    count = told.count;
-    lines = told.lines;
-    are = told.are;
-    end = told.end;
-    end_is = told.end_is;
-    none = tt;
-    all = tt;
-    printed = prints_broken {T = T} {U = Bool} (Err failed) (Err failed) refl refl (G.printed before) (G.printed after) (flat_map line_text (Open told.number ∷ (told.lines ++ told.end))) told.printed;
-    times = tt;
-  }
-
 -- from an earlier moment on, where nothing was put before
 pub told_since : {W : Type 0} (G : Ghosts W) (names : List (List ℕ)) (events : List Event) (old new : List (ℕ × ℕ)) (before between after : W) → G.printed between ≡ G.printed before → (G.moment between).puts ≡ (G.moment before).puts
     → (how : Replayed) → TellsBy G names events old new between after how → TellsBy G names events old new before after how
-told_since G names events old new before between after same puts = by_how
+told_since G names events old new before between after same puts how = since (way_of how)
   where
-    since : (result : Result Bool Failed) → TellsReport G names events old new between after (λ closed. closed) result → TellsReport G names events old new before after (λ closed. closed) result
+    since : (result : Result Going Failed) → TellsReport G names events old new between after is_closed result → TellsReport G names events old new before after is_closed result
     since result told = record {
       number = told.number;
       count = told.count;
@@ -208,9 +178,3 @@ told_since G names events old new before between after same puts = by_how
       printed = subst (λ (those : Option (List ℕ)). Prints those (G.printed after) (flat_map line_text (Open told.number ∷ (told.lines ++ told.end))) result) same told.printed;
       times = times_since G (length (Open told.number ∷ (told.lines ++ told.end))) before between after same puts result told.times;
     }
-
-    by_how : (how : Replayed) → TellsBy G names events old new between after how → TellsBy G names events old new before after how
-    by_how replayed.Ended told = since (Ok false) told
-    by_how replayed.Closed told = since (Ok true) told
-    by_how (replayed.Damaged offset) told = since (Ok true) told
-    by_how replayed.PutFault (failed, told) = (failed, since (Err failed) told)

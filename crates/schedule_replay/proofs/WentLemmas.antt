@@ -2,7 +2,7 @@
 use Rattle.schedule_replay.proofs.Common.{◌≡◌, ℕ, zero, suc, ◌+◌, ◌≤◌, List, [], ◌∷◌, ◌++◌, length, map, take, refl, sym, ap, ◌∙◌, subst, arith, length-append, ⊎_elim, append-nil, inr, IsSome, true, false, not, Bool, Option, unwrap_or, Result, All, flat_map, Failed, Ghosts, Prints, IsSure, CallsDisk, Leaves, FewerLater, held_of, elapses-trans, leaves_on, told_is, Program, stands, Event, TookEvent, IsEitherOf, standing_of, Desk, Word, Doubt, Step, step, faulted, Line, line_text, number_after, happening_lines, event_lines, commits_seen, IsUnbroken, IsLeft, IsStage, seen_cut, seen_all, commits_in, AreNames, Stepped, step_by, run_plain, left_quiet, left_open, stage_either, Puts, PutsTimes, shown_of, Ran, InDoubt, WasStep, text_of, view_of, RanTo, nat_tests, opening, span}
 use Rattle.desk.specs.declared.supervisor.Supervisor as desk
 use Rattle.schedule_replay.proofs.PutsLemmas.{PrintedNow, puts_same, begins_none}
-use Rattle.schedule_replay.proofs.RanToLemmas.{to_did, to_later}
+use Rattle.schedule_replay.proofs.RanToLemmas.{ShownTold, to_did, to_later}
 
 -- the lines of one event are those of what happened at it
 pub one_event : (names : List (List ℕ)) (programs : List Program) (number : ℕ) (event : Event) (word : Word) (desk : Desk) (after : Step) → step programs event word desk ≡ after → event_lines names programs number ((event, word) ∷ []) desk ≡ happening_lines names (number_after number after.desk) after.happening
@@ -32,10 +32,7 @@ names_are items (name ∷ names) all (suc program) = names_are items names (λ k
 pub record Laws {D W : Type 0} (S : desk.Ghosts D) (G : Ghosts W) : Type 0 where
   pub later : FewerLater G
   pub printed : PrintedNow G
-  pub standing : (s : D) (held : List ℕ) (desk : Desk) → S.shows s held desk → stands held ≡ standing_of (S.fixed s).opened desk
-  pub open_desk : (s : D) (held : List ℕ) (desk : Desk) → S.shows s held desk → desk.closed ≡ false
-  pub open_itself : (s : D) (held : List ℕ) (desk : Desk) → S.shows s held desk → S.closed s ≡ false
-  pub ordered : (s : D) (held : List ℕ) (desk : Desk) → S.shows s held desk → S.order s ≡ desk.order
+  pub shown : ShownTold S
 
 module _ {D W : Type 0} (S : desk.Ghosts D) (G : Ghosts W) (fewer_later : FewerLater G) (printed_now : PrintedNow G) where
   -- bytes that were sure are, after puts
@@ -52,8 +49,8 @@ module _ {D W : Type 0} (S : desk.Ghosts D) (G : Ghosts W) (fewer_later : FewerL
   quiet_is before between calls told image seen left =
       told_is (G.printed before) seen told (⊎_elim (λ was. printed_now before image seen was) (λ is. is) (calls.quiet.crash image seen left))
 
-  module _ (stands_law : (s : D) (held : List ℕ) (desk : Desk) → S.shows s held desk → stands held ≡ standing_of (S.fixed s).opened desk) (names : List (List ℕ)) (are : AreNames names) (programs : List Program) (number : ℕ) where
-    module _ {T : Type 0} (event : Event) (lines : List Line) (start : Desk) (new : D) (before between after : W) (result : Result T Failed) (was_open : start.closed ≡ false) (opened : (S.fixed new).opened ≡ number) (calls : CallsDisk G before between) (was : WasStep S G (opening names programs number start) event lines new (span before between)) (puts : Puts G lines between after result) where
+  module _ (law : ShownTold S) (names : List (List ℕ)) (are : AreNames names) (programs : List Program) (number : ℕ) where
+    module _ {T : Type 0} (event : Event) (lines : List Line) (start : Desk) (new : D) (before between after : W) (result : Result T Failed) (was_open : start.closed ≡ false) (opened : (S.told new).fixed.opened ≡ number) (calls : CallsDisk G before between) (was : WasStep S G (opening names programs number start) event lines new (span before between)) (puts : Puts G lines between after result) where
       abbrev did : TookEvent G (record { programs = programs; number = number; event = event; told = was.told }) (view_of S new) start before between
       did = was.did
 
@@ -118,7 +115,7 @@ module _ {D W : Type 0} (S : desk.Ghosts D) (G : Ghosts W) (fewer_later : FewerL
           let kept = did.still (ap (λ (desk : Desk). desk.closed) (sym next_is) ∙ still) in
           let from = image_is (event_lines names programs number ((event, word) ∷ []) start) between after result lines_put kept.0 (subst (λ (those : Option (List ℕ)). IsSome those) (sym same) told) image seen left in
           left_open programs number event word names start was_open image text (shown_of G before) seen from.1.0 still
-          (ap stands from.0 ∙ stands_law new (held_of G between) did.next kept.1 ∙ ap (λ n. standing_of n did.next) opened ∙ ap (standing_of number) (sym next_is))
+          (ap stands from.0 ∙ (law new (held_of G between) did.next kept.1).standing ∙ ap (λ n. standing_of n did.next) opened ∙ ap (standing_of number) (sym next_is))
           (from.1.1 ∙ ap (λ (these : List ℕ). these ++ take from.1.0 text) shown)
           few
 

@@ -1,9 +1,5 @@
 -- How many writes succeeded, and what one event wants.
 use Rattle.schedule_replay.proofs.Common.{◌≡◌, ℕ, ◌+◌, ◌*◌, ◌≤◌, List, arith, Option, Begun, Turn, TurnEnd, Stored, Reopened, begun_told, turn_told, counts_told, stored_told, reopened_told, WritesMore, writes_due, happening_lines, commits_in, counted_quiet, lost_behind, nat_tests}
-use Rattle.desk.specs.declared.answers.Begun.TheVariants as begun
-use Rattle.desk.specs.declared.answers.TurnEnd.TheVariants as end
-use Rattle.desk.specs.declared.answers.Reopened.TheVariants as reopened
-use Rattle.desk.specs.Lines as line
 
 -- as many as before
 pub writes_same : (told : Option ℕ) → WritesMore told told 0

@@ -1,5 +1,5 @@
 -- What a supervisor and an outside are before and after events.
-use Rattle.std.specs.Prelude.{◌≡◌, ◌+◌, ◌^◌, ◌<◌, ◌≤◌, true, false, List, [], length, All, Result, IsSome}
+use Rattle.std.specs.Prelude.{◌≡◌, ◌+◌, ◌^◌, ◌<◌, ◌≤◌, Bool, true, false, List, [], length, All, Result, Ok, Err, IsSome}
 use Rattle.outside.specs.declared.world.Outside.{Ghosts}
 use Rattle.outside.specs.declared.failed.Failed.{Failed}
 use Rattle.outside.specs.Causes.{Rose, FailsOnlyCounted}
@@ -10,25 +10,32 @@ use Rattle.store_format.specs.Stands.{chosen}
 use Rattle.desk.specs.declared.event.Event.{Event}
 use Rattle.desk.specs.declared.supervisor.Supervisor as desk
 use Rattle.desk.specs.Kept.{HoldsStore, StillTold}
+use Rattle.desk.specs.Told.{Told}
 use Rattle.schedule_replay.specs.declared.events.Going.{Going}
 use Rattle.schedule_replay.specs.declared.events.Going.TheVariants as going
+use Rattle.schedule_replay.specs.declared.events.Replayed.{Replayed}
+use Rattle.schedule_replay.specs.declared.events.Replayed.TheVariants as replayed
 use Rattle.schedule_replay.specs.Asked.{IsAsked, begins_in, turns_in}
 
 -- a supervisor that these events may be asked of, one after another
 pub record IsReady {D W : Type 0} (S : desk.Ghosts D) (G : Ghosts W) (events : List Event) (desk : D) (outside : W) : Type 0 where
   pub sound : S.sound desk
-  pub asked : All (IsAsked (length (S.fixed desk).programs)) events
-  pub begins : S.given desk + begins_in events ≤ (S.fixed desk).begins
-  pub turns : S.turns desk + turns_in events ≤ 2 ^ 32
-  pub bytes : HoldsStore G (S.fixed desk).header outside
+  pub asked : All (IsAsked (length (S.told desk).fixed.programs)) events
+  pub begins : (S.told desk).given + begins_in events ≤ (S.told desk).fixed.begins
+  pub turns : (S.told desk).turns + turns_in events ≤ 2 ^ 32
+  pub bytes : HoldsStore G (S.told desk).fixed.header outside
 
--- events were asked, and lines put: what the supervisor keeps, how its counts rose, and what the outside keeps
+-- what events make of what a supervisor tells: its opening stays, and its counts rose by the begins and the turns among them at most
+pub record ToldAfter (events : List Event) (old new : Told) : Type 0 where
+  pub fixed : new.fixed ≡ old.fixed
+  pub given : new.given ≤ old.given + begins_in events
+  pub turns : new.turns ≤ old.turns + turns_in events
+
+-- events were asked, and lines put: what the supervisor keeps and tells, and what the outside keeps
 pub record Answered {D W : Type 0} (S : desk.Ghosts D) (G : Ghosts W) (events : List Event) (old new : D) (before after : W) {T : Type 0} (result : Result T Failed) : Type 0 where
   pub sound : S.sound new
-  pub fixed : S.fixed new ≡ S.fixed old
-  pub given : S.given new ≤ S.given old + begins_in events
-  pub turns : S.turns new ≤ S.turns old + turns_in events
-  pub bytes : HoldsStore G (S.fixed new).header after
+  pub tells : ToldAfter events (S.told old) (S.told new)
+  pub bytes : HoldsStore G (S.told new).fixed.header after
   pub honest : G.is_honest after ≡ G.is_honest before
   pub told : StillTold G before after
   pub time : Elapses G.moment G.left_since before after
@@ -38,12 +45,24 @@ pub record Answered {D W : Type 0} (S : desk.Ghosts D) (G : Ghosts W) (events : 
 -- Whether the supervisor is closed, and why: one that was open closed where the disk's faults rose, or where the chosen bank of the bytes
 -- that are told has a fault.
 abbrev pub GoesBy : {D W : Type 0} → desk.Ghosts D → Ghosts W → D → D → W → W → Going → Type 0
-GoesBy S G old new before after going.On = S.closed old ≡ false → S.closed new ≡ false
-GoesBy S G old new before after going.Closed = (S.closed new ≡ true) × (S.closed old ≡ false → Rose (G.disk_faults before) (G.disk_faults after))
-GoesBy S G old new before after (going.Damaged offset) = (S.closed new ≡ true) × (IsSome (G.held after) → bank_of (held_of G after) (S.fixed old).header (chosen (held_of G after)) ≡ Faulty offset)
+GoesBy S G old new before after going.On = (S.told old).closed ≡ false → (S.told new).closed ≡ false
+GoesBy S G old new before after going.Closed = ((S.told new).closed ≡ true) × ((S.told old).closed ≡ false → Rose (G.disk_faults before) (G.disk_faults after))
+GoesBy S G old new before after (going.Damaged offset) = ((S.told new).closed ≡ true) × (IsSome (G.held after) → bank_of (held_of G after) (S.told old).fixed.header (chosen (held_of G after)) ≡ Faulty offset)
 
 -- how a supervisor goes on that was closed before: it is closed where there is an event, and nothing was asked of it where there is none
 abbrev pub GoesShut : List Event → Going → Type 0
 GoesShut events going.On = events ≡ []
 GoesShut events going.Closed = 0 < length events
 GoesShut events (going.Damaged offset) = ⊥
+
+-- whether it doesn't go on
+abbrev pub is_closed : Going → Bool
+is_closed going.On = false
+is_closed _ = true
+
+-- how it went on after a replay, or that a put failed
+abbrev pub way_of : Replayed → Result Going Failed
+way_of replayed.Ended = Ok going.On
+way_of replayed.Closed = Ok going.Closed
+way_of (replayed.Damaged offset) = Ok (going.Damaged offset)
+way_of replayed.PutFault = Err (record {})

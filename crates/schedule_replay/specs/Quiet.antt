@@ -131,5 +131,5 @@ pub record RunsQuietly {D W : Type 0} (S : desk.Ghosts D) (G : Ghosts W) (openin
   pub whole : front ++ rest ≡ events
   pub ran : RanQuietly S G opening front new span
   pub tells : TellsAll quiet last (lines_of opening ran.taken)
-  pub closed : S.closed new ≡ is_shut quiet
+  pub closed : (S.told new).closed ≡ is_shut quiet
   pub all : is_shut quiet ≡ false → rest ≡ []

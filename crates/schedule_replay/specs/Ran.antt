@@ -11,12 +11,13 @@ use Rattle.store_format.specs.Stands.{stands}
 use Rattle.desk.specs.declared.event.Event.{Event}
 use Rattle.desk.specs.declared.supervisor.Supervisor as desk
 use Rattle.desk.specs.Commits.{is_commit}
-use Rattle.desk.specs.Crash.{TookEvent, View, standing_of, fine_step, view}
+use Rattle.desk.specs.Crash.{TookEvent, View, standing_of, fine_step}
 use Rattle.desk.specs.Desk.{Desk}
 use Rattle.desk.specs.Instruction.{Word, Doubt}
 use Rattle.desk.specs.Kept.{WritesMore, tells_fault}
 use Rattle.desk.specs.Run.{Happening, faulted, OpenBeforeEach}
 use Rattle.desk.specs.Lines.{Line, line_text}
+use Rattle.desk.specs.Told.{seen}
 use Rattle.desk.specs.Report.{number_after, happening_lines}
 use Rattle.desk_law.specs.Left.{IsLeft, IsStage}
 use Rattle.schedule_replay.specs.Puts.{BeginsWith, PutsTimes, shown_of}
@@ -25,13 +26,13 @@ use Rattle.schedule_replay.specs.Runs.{Opening, Span, end_of, lines_of}
 
 -- what is seen of a supervisor
 abbrev pub view_of : {D : Type 0} → desk.Ghosts D → D → View
-view_of S desk = view (S.closed desk) (S.order desk) (S.shows desk)
+view_of S desk = seen (S.told desk) (S.shows desk)
 
 -- the bytes that are told are sure, and over them the supervisor is this desk, which was opened with the number that it tells
 pub record HasOpened {D W : Type 0} (S : desk.Ghosts D) (G : Ghosts W) (desk : D) (outside : W) (start : Desk) : Type 0 where
   pub sure : IsSure G outside
   pub shows : S.shows desk (held_of G outside) start
-  pub number : number_after (S.fixed desk).opened start ≡ (S.fixed desk).opened
+  pub number : number_after (S.told desk).fixed.opened start ≡ (S.told desk).fixed.opened
 
 -- the lines of all events but the last, if there is one, are printed whole
 abbrev pub PrintsEarlier : (before now : Option (List ℕ)) → (List (Event × Word) → List ℕ) → List (Event × Word) → Type 0

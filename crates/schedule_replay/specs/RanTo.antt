@@ -15,8 +15,8 @@ use Rattle.schedule_replay.specs.Runs.{Span}
 -- order; while the desk is open the bytes are sure and show it, and their journal is what the lines make of the one before. The disk's count of
 -- faults rose by at least the words that aren't fine, and stays where no line tells of a fault; for each commit line two writes succeeded.
 pub record RanTo {D W : Type 0} (S : desk.Ghosts D) (G : Ghosts W) (end : Desk) (lines : List Line) (unfine : ℕ) (new : D) (span : Span W) : Type 0 where
-  pub closes : S.closed new ≡ end.closed
-  pub ordered : S.order new ≡ end.order
+  pub closes : (S.told new).closed ≡ end.closed
+  pub ordered : (S.told new).order ≡ end.order
   pub still : end.closed ≡ false → IsSure G span.after × S.shows new (held_of G span.after) end
   pub journal : end.closed ≡ false → KeepsJournal lines (journal_in (held_of G span.before)) (journal_in (held_of G span.after))
   pub faults : RoseBy unfine (G.disk_faults span.before) (G.disk_faults span.after)

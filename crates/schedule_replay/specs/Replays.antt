@@ -1,13 +1,10 @@
 -- What replaying a schedule did.
-use Rattle.std.specs.Prelude.{◌≡◌, ℕ, ◌<◌, length, Bool, true, false, List, [], ◌∷◌, ◌++◌, Result, Ok, Err, IfOk, IsSome}
+use Rattle.std.specs.Prelude.{◌≡◌, ℕ, length, Bool, true, false, List, [], ◌∷◌, ◌++◌, Result, IfOk, IsSome}
 use Rattle.outside.specs.declared.world.Outside.{Ghosts}
 use Rattle.outside.specs.declared.failed.Failed.{Failed}
 use Rattle.outside.specs.Bytes.{Prints}
-use Rattle.outside.specs.Causes.{Rose}
 use Rattle.outside.specs.Durable.{IsSure}
 use Rattle.outside.specs.Runs.{Leaves, held_of}
-use Rattle.store_format.specs.Bank.{Faulty, bank_of}
-use Rattle.store_format.specs.Stands.{chosen}
 use Rattle.desk.specs.declared.answers.Begun.{Begun}
 use Rattle.desk.specs.declared.answers.Begun.TheVariants as begun
 use Rattle.desk.specs.declared.answers.Reopened.{Reopened}
@@ -23,17 +20,12 @@ use Rattle.schedule_replay.specs.declared.events.Going.{Going}
 use Rattle.schedule_replay.specs.declared.events.Going.TheVariants as going
 use Rattle.schedule_replay.specs.declared.events.Replayed.{Replayed}
 use Rattle.schedule_replay.specs.declared.events.Replayed.TheVariants as replayed
-use Rattle.schedule_replay.specs.Answered.{Answered, GoesBy}
+use Rattle.schedule_replay.specs.Answered.{Answered, GoesBy, is_closed, way_of}
 use Rattle.schedule_replay.specs.Puts.{PutsTimes, shown_of}
 use Rattle.schedule_replay.specs.Ran.{Ran, PrintsEarlier, IfInDoubt, InDoubt, text_of}
 use Rattle.schedule_replay.specs.RanTo.{RanTo}
 use Rattle.schedule_replay.specs.Runs.{Opening, Span, end_of, lines_of, opening_of, report_of, report_lines_of}
 use Rattle.schedule_replay.specs.Told.{Tells}
-
--- whether the desk goes on
-abbrev pub is_closed : Going → Bool
-is_closed going.On = false
-is_closed _ = true
 
 -- whether it was an answer that the bytes are damaged
 abbrev pub is_damaged : Going → Bool
@@ -62,11 +54,11 @@ going_by reopened.Shut = going.Closed
 pub record WentBy {D W : Type 0} (S : desk.Ghosts D) (G : Ghosts W) (names : List (List ℕ)) (event : Event) (old new : D) (span : Span W) (result : Result Going Failed) : Type 0 where
   pub answered : Answered S G (event ∷ []) old new span.before span.after result
   pub goes : IfOk result (λ going. GoesBy S G old new span.before span.after going)
-  pub shut : S.closed old ≡ true → IfOk result (λ how. how ≡ going.Closed)
-  pub ran : (start : Desk) → IsSure G span.before → S.shows old (held_of G span.before) start → Ran S G (opening_of names (S.fixed old) start) (event ∷ []) new span result
-  pub closed : IfOk result (λ going. S.closed new ≡ is_closed going)
+  pub shut : (S.told old).closed ≡ true → IfOk result (λ how. how ≡ going.Closed)
+  pub ran : (start : Desk) → IsSure G span.before → S.shows old (held_of G span.before) start → Ran S G (opening_of names (S.told old).fixed start) (event ∷ []) new span result
+  pub closed : IfOk result (λ going. (S.told new).closed ≡ is_closed going)
   pub undamaged : (start : Desk) → IsSure G span.before → S.shows old (held_of G span.before) start → IfOk result (λ going. is_damaged going ≡ false)
-  pub tells : Tells G names (event ∷ []) (S.order old) (S.order new) span.before span.after result
+  pub tells : Tells G names (event ∷ []) (S.told old).order (S.told new).order span.before span.after result
 
 -- The first of the events were run, and their lines put. All events were run where the desk goes on.
 pub record RanSome {D W : Type 0} (S : desk.Ghosts D) (G : Ghosts W) (opening : Opening) (events : List Event) (new : D) (span : Span W) (result : Result Going Failed) : Type 0 where
@@ -74,7 +66,7 @@ pub record RanSome {D W : Type 0} (S : desk.Ghosts D) (G : Ghosts W) (opening : 
   pub rest : List Event
   pub whole : front ++ rest ≡ events
   pub ran : Ran S G opening front new span result
-  pub closed : IfOk result (λ going. S.closed new ≡ is_closed going)
+  pub closed : IfOk result (λ going. (S.told new).closed ≡ is_closed going)
   pub sound : IfOk result (λ going. is_damaged going ≡ false)
   pub all : IfOk result (λ going. is_closed going ≡ false → rest ≡ [])
 
@@ -90,7 +82,7 @@ pub record Reports {D W : Type 0} (S : desk.Ghosts D) (G : Ghosts W) (opening : 
   pub printed : Prints (G.printed span.before) (G.printed span.after) (report_of opening taken rest) result
   pub times : PutsTimes G (length (report_lines_of opening taken rest)) span.before span.after result
   pub earlier : PrintsEarlier (G.printed span.before) (G.printed span.after) (λ front. line_text (Open opening.number) ++ text_of opening front) taken
-  pub closed : IfOk result (λ value. S.closed new ≡ shut value)
+  pub closed : IfOk result (λ value. (S.told new).closed ≡ shut value)
   pub all : IfOk result (λ value. shut value ≡ false → rest ≡ [])
   pub images : Leaves G (λ image seen. IsStage opening.programs opening.number opening.start taken image) span.before span.after
   pub left : IsSome (G.printed span.before) → Leaves G (IsLeft opening.programs opening.number opening.start taken (report_of opening taken rest) (shown_of G span.before)) span.before span.after
@@ -99,23 +91,5 @@ pub record Reports {D W : Type 0} (S : desk.Ghosts D) (G : Ghosts W) (opening : 
 -- The events were replayed: to the end, to the one that closed the desk, or to the one in whose report a put failed. Bytes that are sure
 -- and shown are never found damaged.
 abbrev pub Replays : {D W : Type 0} → desk.Ghosts D → Ghosts W → Opening → List Event → D → Span W → Replayed → Type 0
-Replays S G opening events new span replayed.Ended = Reports S G opening events new span (λ closed. closed) (Ok false)
-Replays S G opening events new span replayed.Closed = Reports S G opening events new span (λ closed. closed) (Ok true)
 Replays S G opening events new span (replayed.Damaged offset) = ⊥
-Replays S G opening events new span replayed.PutFault = (failed : Failed) × Reports S G opening events new span {T = Bool} (λ closed. closed) (Err failed)
-
--- Why it ended so, without a word on what the supervisor shows: of one that was open a close comes only where the disk's faults rose,
--- and damage only where the chosen bank of the bytes that are told has that fault; a failed put only where the screen's faults rose, and
--- otherwise they stayed.
-abbrev pub EndsBy : {D W : Type 0} → desk.Ghosts D → Ghosts W → D → D → W → W → Replayed → Type 0
-EndsBy S G old new before after replayed.Ended = (S.closed old ≡ false → S.closed new ≡ false) × (G.put_faults after ≡ G.put_faults before)
-EndsBy S G old new before after replayed.Closed = (S.closed new ≡ true) × (S.closed old ≡ false → Rose (G.disk_faults before) (G.disk_faults after)) × (G.put_faults after ≡ G.put_faults before)
-EndsBy S G old new before after (replayed.Damaged offset) = (S.closed new ≡ true) × (IsSome (G.held after) → bank_of (held_of G after) (S.fixed old).header (chosen (held_of G after)) ≡ Faulty offset) × (G.put_faults after ≡ G.put_faults before)
-EndsBy S G old new before after replayed.PutFault = Rose (G.put_faults before) (G.put_faults after)
-
--- What becomes of a supervisor that was closed before, unless a put fails: it ends where there is no event, and is closed where there is one.
-abbrev pub EndsShut : List Event → Replayed → Type 0
-EndsShut events replayed.Ended = events ≡ []
-EndsShut events replayed.Closed = 0 < length events
-EndsShut events (replayed.Damaged offset) = ⊥
-EndsShut events replayed.PutFault = Unit {0}
+Replays S G opening events new span how = Reports S G opening events new span is_closed (way_of how)

@@ -1,5 +1,5 @@
 -- What is put of events that are answered, whatever stands on the disk: the lines of the answers, and the order that these tell of.
-use Rattle.std.specs.Prelude.{◌≡◌, ◌⊎◌, ℕ, Bool, true, false, List, [], ◌∷◌, ◌++◌, length, map, take, Result, Ok, Err, IfOk}
+use Rattle.std.specs.Prelude.{◌≡◌, ◌⊎◌, ℕ, Bool, true, false, List, [], ◌∷◌, ◌++◌, length, map, take, Result, IfOk}
 use Rattle.std.specs.List.{flat_map}
 use Rattle.outside.specs.declared.world.Outside.{Ghosts}
 use Rattle.outside.specs.declared.failed.Failed.{Failed}
@@ -18,7 +18,7 @@ use Rattle.desk.specs.Run as run
 use Rattle.desk.specs.Lines.{Line, Open, Left, End, line_text}
 use Rattle.desk.specs.Report.{happening_lines}
 use Rattle.schedule_replay.specs.declared.events.Replayed.{Replayed}
-use Rattle.schedule_replay.specs.declared.events.Replayed.TheVariants as replayed
+use Rattle.schedule_replay.specs.Answered.{is_closed, way_of}
 
 -- an answer to the event tells that this happened
 abbrev pub IsToldOf : Event → Happening → Type 0
@@ -73,7 +73,4 @@ pub record TellsReport {W : Type 0} (G : Ghosts W) (names : List (List ℕ)) (ev
 
 -- the same by how the events went
 abbrev pub TellsBy : {W : Type 0} → Ghosts W → List (List ℕ) → List Event → (old new : List (ℕ × ℕ)) → (before after : W) → Replayed → Type 0
-TellsBy G names events old new before after replayed.Ended = TellsReport G names events old new before after (λ closed. closed) (Ok false)
-TellsBy G names events old new before after replayed.Closed = TellsReport G names events old new before after (λ closed. closed) (Ok true)
-TellsBy G names events old new before after (replayed.Damaged offset) = TellsReport G names events old new before after (λ closed. closed) (Ok true)
-TellsBy G names events old new before after replayed.PutFault = (failed : Failed) × TellsReport G names events old new before after {T = Bool} (λ closed. closed) (Err failed)
+TellsBy G names events old new before after how = TellsReport G names events old new before after is_closed (way_of how)

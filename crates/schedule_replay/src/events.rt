@@ -1,20 +1,18 @@
 // The events of a schedule, one after another, and their report.
-ghost use Rattle.std.specs.Prelude.{◌≡◌, ◌+◌, ◌≤◌, ℕ, List, [], ◌∷◌, ◌++◌, All, true, false, length, map, take, IfOk};
+ghost use Rattle.std.specs.Prelude.{◌≡◌, ◌≤◌, ℕ, List, [], ◌∷◌, ◌++◌, All, true, false, length, map, IfOk};
 ghost use Rattle.outside.specs.Durable.{IsSure};
-ghost use Rattle.outside.specs.Moments.{Elapses};
 ghost use Rattle.outside.specs.Runs.{held_of, OnlyPuts};
 ghost use Rattle.desk.specs.Answers.{turn_closes, stored_closes};
 ghost use Rattle.desk.specs.Desk.{Desk};
-ghost use Rattle.desk.specs.Kept.{HoldsStore, StillTold};
 ghost use Rattle.desk.specs.Lines.{Left, End};
 ghost use Rattle.desk.specs.Report.{closing_lines};
 ghost use Rattle.desk.specs.Seen.{IsUnbroken};
-ghost use Rattle.schedule_replay.specs.Answered.{IsReady, Answered, GoesBy, GoesShut};
+ghost use Rattle.schedule_replay.specs.Answered.{IsReady, Answered, GoesBy, GoesShut, is_closed, way_of};
 ghost use Rattle.schedule_replay.specs.Puts.{Puts};
 ghost use Rattle.schedule_replay.specs.Ran.{HasOpened};
 ghost use Rattle.schedule_replay.specs.Told.{TellsBy, TellsReport, TellsSome};
 ghost use Rattle.schedule_replay.specs.Runs.{opening_of, span};
-ghost use Rattle.schedule_replay.specs.Replays.{Replays, Reports, RanSome, WentBy, EndsBy, EndsShut, is_closed, is_damaged, going_if, going_begun, going_by};
+ghost use Rattle.schedule_replay.specs.Replays.{Replays, Reports, RanSome, WentBy, is_damaged, going_if, going_begun, going_by};
 
 use super::answer_lines::{
     Unended, put_begun, put_each_and, put_one, put_reopened, put_stored, put_turn,
@@ -53,25 +51,17 @@ pub fn replay<S: Supervisor, W: Outside>(
     outside: &mut W,
 ) -> Replayed
     requires ready { IsReady S.Supervisor W.Outside events.now desk.old outside.old }
-    requires names { length (S.fixed desk.old).programs ≤ length names.now }
+    requires names { length (S.told desk.old).fixed.programs ≤ length names.now }
     requires unbroken { All (λ name. IsUnbroken name.items) names.now }
 
     // From bytes that are sure, over which a desk is shown: what was run, that what was printed is its report, or a prefix of
     // it after a failed put, and what a crash left at any moment.
-    ensures replays { (start : Desk) → HasOpened S.Supervisor W.Outside desk.old outside.old start → Replays S.Supervisor W.Outside (opening_of (map (λ name. name.items) names.now) (S.fixed desk.old) start) events.now desk.new (span outside.old outside.new) result }
+    ensures replays { (start : Desk) → HasOpened S.Supervisor W.Outside desk.old outside.old start → Replays S.Supervisor W.Outside (opening_of (map (λ name. name.items) names.now) (S.told desk.old).fixed start) events.now desk.new (span outside.old outside.new) result }
     // Whatever stands on the disk: what was printed are the lines of the answers, and the order is the one that they tell of.
-    ensures tells { TellsBy W.Outside (map (λ name. name.items) names.now) events.now (S.order desk.old) (S.order desk.new) outside.old outside.new result }
-    ensures ends { EndsBy S.Supervisor W.Outside desk.old desk.new outside.old outside.new result }
-    ensures shut { S.closed desk.old ≡ true → EndsShut events.now result }
-    ensures sound { S.sound desk.new }
-    ensures honest { W.is_honest outside.new ≡ W.is_honest outside.old }
-    ensures told { StillTold W.Outside outside.old outside.new }
-    ensures time { Elapses W.moment W.left_since outside.old outside.new }
-    ensures disk { W.disk_faults outside.old ≤ W.disk_faults outside.new }
-    ensures put { W.put_faults outside.old ≤ W.put_faults outside.new }
-    ensures bytes { HoldsStore W.Outside (S.fixed desk.new).header outside.new }
-    ensures fixed { S.fixed desk.new ≡ S.fixed desk.old }
-    ensures turns { S.turns desk.new ≤ S.turns desk.old + length events.now }
+    ensures tells { TellsBy W.Outside (map (λ name. name.items) names.now) events.now (S.told desk.old).order (S.told desk.new).order outside.old outside.new result }
+    ensures goes { IfOk (way_of result) (GoesBy S.Supervisor W.Outside desk.old desk.new outside.old outside.new) }
+    ensures shut { (S.told desk.old).closed ≡ true → IfOk (way_of result) (GoesShut events.now) }
+    ensures answered { Answered S.Supervisor W.Outside events.now desk.old desk.new outside.old outside.new (way_of result) }
 {
     match put_report(desk, names, events, outside) {
         Err(Failed) => Replayed::PutFault,
@@ -89,14 +79,14 @@ fn put_report<S: Supervisor, W: Outside>(
     outside: &mut W,
 ) -> Result<Going, Failed>
     requires ready { IsReady S.Supervisor W.Outside events.now desk.old outside.old }
-    requires names { length (S.fixed desk.old).programs ≤ length names.now }
+    requires names { length (S.told desk.old).fixed.programs ≤ length names.now }
     requires unbroken { All (λ name. IsUnbroken name.items) names.now }
-    ensures tells { TellsReport W.Outside (map (λ name. name.items) names.now) events.now (S.order desk.old) (S.order desk.new) outside.old outside.new is_closed result }
-    ensures reports { (start : Desk) → HasOpened S.Supervisor W.Outside desk.old outside.old start → Reports S.Supervisor W.Outside (opening_of (map (λ name. name.items) names.now) (S.fixed desk.old) start) events.now desk.new (span outside.old outside.new) is_closed result }
+    ensures tells { TellsReport W.Outside (map (λ name. name.items) names.now) events.now (S.told desk.old).order (S.told desk.new).order outside.old outside.new is_closed result }
+    ensures reports { (start : Desk) → HasOpened S.Supervisor W.Outside desk.old outside.old start → Reports S.Supervisor W.Outside (opening_of (map (λ name. name.items) names.now) (S.told desk.old).fixed start) events.now desk.new (span outside.old outside.new) is_closed result }
     ensures undamaged { (start : Desk) → HasOpened S.Supervisor W.Outside desk.old outside.old start → IfOk result (λ going. is_damaged going ≡ false) }
     ensures goes { IfOk result (λ going. GoesBy S.Supervisor W.Outside desk.old desk.new outside.old outside.new going) }
-    ensures shut { S.closed desk.old ≡ true → IfOk result (GoesShut events.now) }
-    ensures answered { (count : ℕ) × Answered S.Supervisor W.Outside (take count events.now) desk.old desk.new outside.old outside.new result }
+    ensures shut { (S.told desk.old).closed ≡ true → IfOk result (GoesShut events.now) }
+    ensures answered { Answered S.Supervisor W.Outside events.now desk.old desk.new outside.old outside.new result }
 {
     let mut reporter = Reporter::new();
     put_one(&Line::Open(desk.number()), &mut reporter, outside)?;
@@ -118,7 +108,7 @@ fn put_closing<S: Supervisor, W: Outside>(
     requires sound { S.sound desk.now }
     ensures only { OnlyPuts W.Outside outside.old outside.new result }
     ensures some { (left : List ℕ) × (number : ℕ) × Puts W.Outside (map Left left ++ End number ∷ []) outside.old outside.new result }
-    ensures puts { (held : List ℕ) (start : Desk) → S.shows desk.now held start → Puts W.Outside (closing_lines (S.fixed desk.now).opened [] start) outside.old outside.new result }
+    ensures puts { (held : List ℕ) (start : Desk) → S.shows desk.now held start → Puts W.Outside (closing_lines (S.told desk.now).fixed.opened [] start) outside.old outside.new result }
 {
     let left = desk.active();
     let end = Line::End(desk.number());
@@ -134,13 +124,13 @@ fn put_events<S: Supervisor, W: Outside>(
     outside: &mut W,
 ) -> Result<Going, Failed>
     requires ready { IsReady S.Supervisor W.Outside events.now desk.old outside.old }
-    requires names { length (S.fixed desk.old).programs ≤ length names.now }
+    requires names { length (S.told desk.old).fixed.programs ≤ length names.now }
     requires unbroken { All (λ name. IsUnbroken name.items) names.now }
-    ensures tells { TellsSome W.Outside (map (λ name. name.items) names.now) events.now (S.order desk.old) (S.order desk.new) outside.old outside.new is_closed result }
-    ensures answered { (count : ℕ) × Answered S.Supervisor W.Outside (take count events.now) desk.old desk.new outside.old outside.new result }
+    ensures tells { TellsSome W.Outside (map (λ name. name.items) names.now) events.now (S.told desk.old).order (S.told desk.new).order outside.old outside.new is_closed result }
+    ensures answered { Answered S.Supervisor W.Outside events.now desk.old desk.new outside.old outside.new result }
     ensures goes { IfOk result (λ going. GoesBy S.Supervisor W.Outside desk.old desk.new outside.old outside.new going) }
-    ensures shut { S.closed desk.old ≡ true → IfOk result (GoesShut events.now) }
-    ensures ran { (start : Desk) → IsSure W.Outside outside.old → S.shows desk.old (held_of W.Outside outside.old) start → RanSome S.Supervisor W.Outside (opening_of (map (λ name. name.items) names.now) (S.fixed desk.old) start) events.now desk.new (span outside.old outside.new) result }
+    ensures shut { (S.told desk.old).closed ≡ true → IfOk result (GoesShut events.now) }
+    ensures ran { (start : Desk) → IsSure W.Outside outside.old → S.shows desk.old (held_of W.Outside outside.old) start → RanSome S.Supervisor W.Outside (opening_of (map (λ name. name.items) names.now) (S.told desk.old).fixed start) events.now desk.new (span outside.old outside.new) result }
 {
     for event in events {
         match answer(desk, names, *event, reporter, outside)? {
@@ -160,7 +150,7 @@ fn answer<S: Supervisor, W: Outside>(
     outside: &mut W,
 ) -> Result<Going, Failed>
     requires ready { IsReady S.Supervisor W.Outside (event ∷ []) desk.old outside.old }
-    requires names { length (S.fixed desk.old).programs ≤ length names.now }
+    requires names { length (S.told desk.old).fixed.programs ≤ length names.now }
     requires unbroken { All (λ name. IsUnbroken name.items) names.now }
     ensures { WentBy S.Supervisor W.Outside (map (λ name. name.items) names.now) event desk.old desk.new (span outside.old outside.new) result }
 {

@@ -1,13 +1,11 @@
 // The events of a schedule, one after another, without a report.
-ghost use Rattle.std.specs.Prelude.{◌≡◌, ◌+◌, ◌≤◌, [], ◌∷◌, All, true, length, None, IfSome};
+ghost use Rattle.std.specs.Prelude.{◌≡◌, ◌≤◌, [], ◌∷◌, All, true, length, None, IfSome};
 ghost use Rattle.outside.specs.Durable.{IsSure};
 ghost use Rattle.outside.specs.Runs.{CallsDisk, held_of};
 ghost use Rattle.desk.specs.declared.event.Event.TheVariants as event;
 ghost use Rattle.desk.specs.Desk.{Desk};
-ghost use Rattle.desk.specs.Kept.{HoldsStore, StillTold};
-ghost use Rattle.schedule_replay.specs.Answered.{IsReady, Answered, GoesBy, GoesShut};
+ghost use Rattle.schedule_replay.specs.Answered.{IsReady, Answered, GoesBy, GoesShut, is_closed};
 ghost use Rattle.schedule_replay.specs.Runs.{opening_of, span};
-ghost use Rattle.schedule_replay.specs.Replays.{is_closed};
 ghost use Rattle.schedule_replay.specs.Quiet.{IsLasting, IsSmall, RunsQuietly, WentQuietly, going_of, going_told, last_by, tally_begun, tally_by, tally_stored, unput};
 
 use arrayvec::ArrayVec;
@@ -54,15 +52,11 @@ pub fn run_quiet<S: Supervisor, W: Outside>(
     requires lasting { All IsLasting events.now }
 
     // From bytes that are sure, over which a desk is shown: what was run, its counts, and what a crash left at any moment.
-    ensures runs { (start : Desk) → IsSure W.Outside outside.old → S.shows desk.old (held_of W.Outside outside.old) start → RunsQuietly S.Supervisor W.Outside (opening_of [] (S.fixed desk.old) start) events.now desk.new (span outside.old outside.new) last.new.items result }
+    ensures runs { (start : Desk) → IsSure W.Outside outside.old → S.shows desk.old (held_of W.Outside outside.old) start → RunsQuietly S.Supervisor W.Outside (opening_of [] (S.told desk.old).fixed start) events.now desk.new (span outside.old outside.new) last.new.items result }
     ensures goes { GoesBy S.Supervisor W.Outside desk.old desk.new outside.old outside.new (going_of result) }
-    ensures shut { S.closed desk.old ≡ true → GoesShut events.now (going_of result) }
+    ensures shut { (S.told desk.old).closed ≡ true → GoesShut events.now (going_of result) }
     ensures calls { CallsDisk W.Outside outside.old outside.new }
-    ensures sound { S.sound desk.new }
-    ensures told { StillTold W.Outside outside.old outside.new }
-    ensures bytes { HoldsStore W.Outside (S.fixed desk.new).header outside.new }
-    ensures fixed { S.fixed desk.new ≡ S.fixed desk.old }
-    ensures turns { S.turns desk.new ≤ S.turns desk.old + length events.now }
+    ensures answered { Answered S.Supervisor W.Outside events.now desk.old desk.new outside.old outside.new unput }
 {
     let mut commits = 0;
     let mut rollbacks = 0;
@@ -90,11 +84,11 @@ fn answer<S: Supervisor, W: Outside>(
     requires lasting { IsLasting event }
     ensures answered { Answered S.Supervisor W.Outside (event ∷ []) desk.old desk.new outside.old outside.new unput }
     ensures goes { GoesBy S.Supervisor W.Outside desk.old desk.new outside.old outside.new (going_told result) }
-    ensures shut { S.closed desk.old ≡ true → result ≡ None }
+    ensures shut { (S.told desk.old).closed ≡ true → result ≡ None }
     ensures calls { CallsDisk W.Outside outside.old outside.new }
-    ensures closed { S.closed desk.new ≡ is_closed (going_told result) }
+    ensures closed { (S.told desk.new).closed ≡ is_closed (going_told result) }
     ensures small { IfSome result IsSmall }
-    ensures went { (start : Desk) → IsSure W.Outside outside.old → S.shows desk.old (held_of W.Outside outside.old) start → WentQuietly S.Supervisor W.Outside (opening_of [] (S.fixed desk.old) start) event desk.new (span outside.old outside.new) last.old.items last.new.items result }
+    ensures went { (start : Desk) → IsSure W.Outside outside.old → S.shows desk.old (held_of W.Outside outside.old) start → WentQuietly S.Supervisor W.Outside (opening_of [] (S.told desk.old).fixed start) event desk.new (span outside.old outside.new) last.old.items last.new.items result }
 {
     match event {
         Event::Begin { program, args } => tally_of_begin(desk.begin(program, args)),
@@ -110,7 +104,7 @@ fn answer<S: Supervisor, W: Outside>(
 
 /// What an activation printed that has just committed, in place of what the one before did.
 fn keep_printed<S: Supervisor>(desk: &S, end: &TurnEnd, last: &mut Printed)
-    ensures { last.new.items ≡ last_by end.now (S.printed desk.now) last.old.items }
+    ensures { last.new.items ≡ last_by end.now (S.told desk.now).printed last.old.items }
 {
     if let TurnEnd::Committed(..) = end {
         last.clear();

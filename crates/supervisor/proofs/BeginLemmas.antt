@@ -1,5 +1,5 @@
 -- What a begin leaves of a session.
-use Rattle.supervisor.proofs.Common.{◌≡◌, ℕ, ◌+◌, ◌-◌, ◌*◌, ◌<◌, ◌≤◌, List, [], ◌∷◌, length, refl, sym, ◌∙◌, ap, subst, arith, Option, Some, None, length-append, newcomer, next_seat, Begun, begun_told, Desk, Fine, Step, absent_segment, step, Activations, Activity, program_at, desk_over, IsBegin, begins, begins_by, KeepsDesk, AreRowsWithin, activity_of, Session, IsSound, activity, session_desk, order_of, ShowsDesk}
+use Rattle.supervisor.proofs.Common.{◌≡◌, ℕ, ◌+◌, ◌-◌, ◌*◌, ◌<◌, ◌≤◌, List, [], ◌∷◌, length, refl, sym, ◌∙◌, ap, subst, arith, Option, Some, None, length-append, newcomer, next_seat, Begun, begun_told, Desk, Fine, Step, absent_segment, step, Activations, Activity, program_at, desk_over, IsBegin, begins, begins_by, KeepsDesk, AreRowsWithin, activity_of, Session, IsSound, activity, fixed_of, session_desk, session_told, order_of, ShowsDesk}
 use Rattle.activations.proofs.SittingLemmas.{sitter-there, sitter-other}
 use Rattle.desk.specs.declared.event.Event.TheVariants as event
 use Rattle.activations.specs.Follows as running
@@ -33,6 +33,9 @@ with_activations s activations = record s { activations = activations }
 module _ (s : Session) (new : Activations) (program : ℕ) (args : List ℕ) (sound : IsSound s) (left : activity_of new ≡ (begins (activity s) program args).1) where
   given : HasGiven (activity s) (activity_of new)
   given = subst (HasGiven (activity s)) (sym left) (begins-given (activity s) program args sound.running.seating.sixteen)
+
+  pub told-begun : session_told (with_activations s new) ≡ record (session_told s) { given = (session_told (with_activations s new)).given }
+  told-begun = λ i. record (session_told s) { fixed = record (fixed_of s) { programs = given.programs i }; given = (activity_of new).next - 1 }
 
   pub session-begun : (activity s).next - 1 < s.begins → running.IsSound (activity_of new) → IsSound (with_activations s new)
   session-begun room now = grind (arith, sound, sound.room, given, given.rows (s.turns * 1000000) sound.room.rows, room, now)

@@ -1,34 +1,25 @@
 -- Why a begin is answered so, and where a turn closes.
-use Rattle.supervisor.proofs.Common.{◌≡◌, ◌≤◌, ℕ, length, arith, sym, subst, List, Option, Some, None, refl, true, has, Ghosts, FewerLater, OnlyAsks, asks_none, asks_on, Kept, begun_of, KeptStore, with_begun, next_seat, number_in, few-taken, Header, total, OnlyWrites, HoldsStore, Begun, TurnEnd, CallsStore, FailsCounted, turn_fails, Activity, begins, begins_by, Tally, IsEndOfRows, IfJournal, Session, activity, IsFull, HasPlace, lacking, TellsNumber, IsTurnEnd, answer_of, IsFailedCommit, ClosesInCommit, ClosesAsCommit, IsCommitEnd}
+use Rattle.supervisor.proofs.Common.{◌≡◌, ◌≤◌, ℕ, length, arith, sym, subst, List, Option, Some, None, refl, true, has, Ghosts, FewerLater, OnlyAsks, asks_none, asks_on, Kept, begun_of, KeptStore, with_begun, next_seat, number_in, few-taken, Header, total, OnlyWrites, HoldsStore, Begun, TurnEnd, CallsStore, FailsCounted, turn_fails, Activity, begins, begins_by, Tally, IsEndOfRows, IfJournal, Session, activity, IsBeginAnswer, lacking, TellsNumber, IsTurnEnd, answer_of, IsFailedCommit, ClosesInCommit, LeavesStore, IsCommitEnd}
 use Rattle.seats.proofs.Ascending.{none-free}
 use Rattle.activations.specs.Recorded.{IsRecordOf}
 use Rattle.activations.proofs.BeginLemmas.{some-next}
-use Rattle.desk.specs.declared.answers.Begun.TheVariants as begun
 use Rattle.activations.specs.Follows as running
 
 none-next : (a : Activity) → running.IsSound a → next_seat a.seating ≡ None → 16 ≤ length a.seating.taken
 unfolding next_seat
 none-next a sound none = none-free (number_in a.seating) a.seating.taken sound.seating.ascending none
 
--- each answer to a begin of an open session, and why it comes
-pub record IsAnswered (a : Activity) (program : ℕ) (answer : Begun) : Type 0 where
-  pub busy : (number : ℕ) → answer ≡ begun.Busy number → IsFull a × (number ≡ a.next)
-  pub busy_back : (number : ℕ) → IsFull a → number ≡ a.next → answer ≡ begun.Busy number
-  pub no_segment : (number segment : ℕ) → answer ≡ begun.NoSegment number segment → HasPlace a × (lacking a program ≡ Some segment) × (number ≡ a.next)
-  pub no_segment_back : (number segment : ℕ) → HasPlace a → lacking a program ≡ Some segment → number ≡ a.next → answer ≡ begun.NoSegment number segment
-  pub started : (number : ℕ) → answer ≡ begun.Started number → HasPlace a × (lacking a program ≡ None) × (number ≡ a.next)
-  pub started_back : (number : ℕ) → HasPlace a → lacking a program ≡ None → number ≡ a.next → answer ≡ begun.Started number
-
 module _ (a : Activity) (program : ℕ) (args : List ℕ) (sound : running.IsSound a) where
-  answered-by : (free absent : Option ℕ) → next_seat a.seating ≡ free → lacking a program ≡ absent → IsAnswered a program (begins_by free absent a program args).0
+  answered-by : (free absent : Option ℕ) → next_seat a.seating ≡ free → lacking a program ≡ absent → IsBeginAnswer a program (begins_by free absent a program args).0
   answered-by free absent is lacks =
       let full = none-next a sound in
       let few = few-taken a.seating sound.seating in
       let room = λ (seat : ℕ) (found : next_seat a.seating ≡ Some seat). (some-next a seat sound found).2 in
       grind (arith, full, few, room)
 
-  pub answered : (answer : Begun) → answer ≡ (begins a program args).0 → IsAnswered a program answer
-  answered answer is = subst (IsAnswered a program) (sym is) (answered-by (next_seat a.seating) (lacking a program) refl refl)
+  -- the answer to a begin of an open session has its cause
+  pub answered : (answer : Begun) → answer ≡ (begins a program args).0 → IsBeginAnswer a program answer
+  answered answer is = subst (IsBeginAnswer a program) (sym is) (answered-by (next_seat a.seating) (lacking a program) refl refl)
 
 -- a call that wrote the banks of a store alone keeps it
 pub calls-store : {W : Type 0} (G : Ghosts W) (was now : Header) (before after : W) → now ≡ was → OnlyWrites G before after → HoldsStore G was before → CallsStore G now before after
@@ -57,5 +48,5 @@ module _ {W : Type 0} (G : Ghosts W) (fewer_later : FewerLater G) (activation : 
   closes-later : (answer : Kept) → ClosesInCommit G activation answer store new between after → ClosesInCommit G activation answer store new before after
   closes-later answer closes = grind (arith, asks_on G fewer_later before between closes.begun asks closes.asks, closes, calm)
 
-  pub closes-since : (ends : TurnEnd) → ClosesAsCommit G activation ends store new between after → ClosesAsCommit G activation ends store new before after
-  closes-since ends closes = grind (arith, closes-later)
+  pub leaves-since : (ends : TurnEnd) → LeavesStore G activation ends store new between after → LeavesStore G activation ends store new before after
+  leaves-since ends leaves = grind (arith, closes-later)

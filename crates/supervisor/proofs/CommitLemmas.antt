@@ -4,6 +4,7 @@ use Rattle.lines.proofs.SetLemmas.{has-filter}
 use Rattle.frame_pool.specs.declared.model.Pool.{Pool}
 use Rattle.activations.proofs.ContestLemmas.{fewer}
 use Rattle.supervisor.proofs.DesertedLemmas.{sound-same}
+use Rattle.supervisor.proofs.DidLemmas.{stood-over}
 use Rattle.desk.specs.declared.answers.TurnEnd.TheVariants as end
 use Rattle.desk.specs.Instruction as turn
 use Rattle.activations.specs.Follows as running
@@ -87,10 +88,6 @@ module _ {W : Type 0} (G : Ghosts W) (s : Session) (seat : ℕ) (sound : IsSound
   keeps-is : (bytes : List ℕ) → keeps bytes ≡ store_over (activity s) bytes
   keeps-is bytes = λ i. record { directory = sound.directory i; bytes = bytes }
 
-  -- what stands before it
-  stood-before : stands (held_of G before) ≡ standing_of s.opened (session_desk s over.committed)
-  stood-before = over.stood ∙ (λ i. Stands (over.number i) (keeps-is over.committed i))
-
   -- what stands with the record
   pub stands-more : one_more lines (stands (held_of G before)) ≡ Stands ((number_of s.store + 1) % 2 ^ 64) (keeps now.store)
   stands-more = grind (arith, over.stood)
@@ -107,7 +104,7 @@ module _ {W : Type 0} (G : Ghosts W) (s : Session) (seat : ℕ) (sound : IsSound
   -- each image that a crash in it leaves is one of the two
   either-side : (next : Desk) (image : List ℕ) → fine.order ≡ next.order → (stands image ≡ stands (held_of G before)) ⊎ (stands image ≡ one_more lines (stands (held_of G before)))
       → IsEitherSide s over.committed fine next image
-  either-side next image same sides = ⊎_elim (λ was. inl (was ∙ stood-before)) (λ is. inr (same, is ∙ fine-stands)) sides
+  either-side next image same sides = ⊎_elim (λ was. inl (was ∙ stood-over s (held_of G before) sound over)) (λ is. inr (same, is ∙ fine-stands)) sides
 
   -- the store with the record begun is tracked
   pub tracked : IsSure G before → (store : KeptStore) → store ≡ with_begun s.store lines → TracksStore G store before
@@ -192,6 +189,6 @@ module _ {W : Type 0} (G : Ghosts W) (s : Session) (seat : ℕ) (sound : IsSound
     numbers = ap (λ (n : ℕ). (n + 1) % 2 ^ 64) (is ∙ over.number);
     journal = λ still. absurd (let no : true ≡ false = sym closed ∙ still in cc (no));
     still = λ still. absurd (let no : true ≡ false = sym closed ∙ still in cc (no));
-    crash = λ image seen left. inl (crash image seen left ∙ stood-before);
+    crash = λ image seen left. inl (crash image seen left ∙ stood-over s (held_of G before) sound over);
     doubt = λ doubted. absurd (let no : Unwritten ≡ Doubt = doubted in cc (no));
   }

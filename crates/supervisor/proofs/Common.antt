@@ -24,6 +24,7 @@ unfoldable pub use Rattle.desk.specs.Instruction.{instruction, turns}
 pub use Rattle.desk.specs.Kept.{HoldsStore, Journal, JournalAfter, WritesMore, journal_emptied, journal_in, journal_under, journal_with, records_of, turn_fails, bytes_taken}
 pub use Rattle.desk.specs.Report.{number_after}
 pub use Rattle.desk.specs.Run.{CheckpointFailed, CheckpointMade, CrashFailed, Crashed, Happening, Step, Turned, absent_segment, restarted, run, shut, step, turned}
+pub use Rattle.desk.specs.Told.{Takes, Told, ToldAfterEnd}
 pub use Rattle.desk.specs.declared.answers.Begun.{Begun}
 pub use Rattle.desk.specs.declared.answers.Committed.{Committed}
 pub use Rattle.desk.specs.declared.answers.Cycle.{Cycle}
@@ -57,9 +58,9 @@ pub use Rattle.store_format.specs.Bank.{Faulty, Holds, RecordLine, bank_of, Area
 pub use Rattle.store_format.specs.Header.{HasRanges, Header, header_of, most_lines, total, entry_bytes, number_at}
 pub use Rattle.store_format.specs.Stands.{Standing, Stands, chosen, laid, one_more}
 unfoldable pub use Rattle.store_format.specs.Stands.{stands}
-pub use Rattle.supervisor.specs.Causes.{ClosesAsCommit, ClosesInCommit, HasPlace, IsFailedCommit, IsFull, IsTurnEnd, KeepsStore, TellsNumber, answer_of, lacking}
+pub use Rattle.supervisor.specs.Causes.{ClosesInCommit, IsBeginAnswer, IsFailedCommit, IsTurnEnd, LeavesStore, TellsNumber, answer_of, lacking}
 pub use Rattle.supervisor.specs.Laws.{CyclesWereMet, ShownIsConsistent, ShownIsIsolated, WasMet, WereMet}
-pub use Rattle.supervisor.specs.Session.{IsSound, activity, fixed_of, session_desk, order_of}
+pub use Rattle.supervisor.specs.Session.{IsSound, activity, fixed_of, session_desk, session_told, order_of}
 pub use Rattle.supervisor.specs.Shown.{IsOpenOver, ShowsDesk, view_of}
 pub use Rattle.supervisor.specs.Went.{HasCommitted, TurnHasRun, IsCommitEnd, IsEitherSide, IsTurned, fine_desk}
 pub use Rattle.supervisor.specs.declared.session.Session.{Session}

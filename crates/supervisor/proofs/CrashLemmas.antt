@@ -1,9 +1,8 @@
 -- What a crash of a session did.
 use Rattle.std.proofs.Common.{arith}
-use Rattle.supervisor.proofs.Common.{◌≡◌, inl, inr, ℕ, List, [], refl, sym, ◌∙◌, ap, Option, true, unwrap_or, Ghosts, Rose, IsSure, OnlyAsks, held_of, Header, Faulty, bank_of, Stands, stands, chosen, KeptStore, number_of, TracksStore, shown_stands, shown_store, journal_in, TookEvent, told_event, fixed_of, view_of, standing_of, Desk, numbers, Fine, Failed, number_after, Step, Crashed, CrashFailed, shut, restarted, stepped, Activations, IsRestarted, activity_of, Session, IsSound, activity, session_desk, order_of, IsOpenOver}
-use Rattle.outside.proofs.Durable.{leaves_held}
+use Rattle.supervisor.proofs.Common.{◌≡◌, inl, ℕ, List, [], refl, sym, ◌∙◌, ap, Option, true, unwrap_or, Ghosts, Rose, IsSure, OnlyAsks, held_of, Header, Faulty, bank_of, stands, chosen, KeptStore, number_of, TracksStore, shown_stands, shown_store, journal_in, TookEvent, told_event, fixed_of, view_of, Desk, numbers, Fine, Failed, number_after, Step, Crashed, CrashFailed, shut, restarted, stepped, Activations, IsRestarted, activity_of, Session, IsSound, activity, session_desk, order_of, IsOpenOver}
 use Rattle.desk.specs.declared.event.Event.TheVariants as event
-use Rattle.supervisor.proofs.DidLemmas.{stood-over, fine-sure, failed-sure, open-shut}
+use Rattle.supervisor.proofs.DidLemmas.{asked-stands, did-fail, fine-sure, over-other}
 
 -- a crash
 module _ {W : Type 0} (G : Ghosts W) (s : Session) (store : KeptStore) (header : store.header ≡ s.store.header) (left : Activations) (sound : IsSound s) (before after : W) (sure : IsSure G before) (over : IsOpenOver s (held_of G before)) (gone : IsRestarted (activity s) (activity_of left) over.committed) (asks : OnlyAsks G before after) where
@@ -16,25 +15,12 @@ module _ {W : Type 0} (G : Ghosts W) (s : Session) (store : KeptStore) (header :
   pub same_bytes : held_of G after ≡ held_of G before
   same_bytes = ap (λ (those : Option (List ℕ)). unwrap_or those []) asks.held
 
-  pub crash-leaves : (image seen : List ℕ) → G.left_since after (G.moment before) image seen → stands image ≡ standing_of s.opened (session_desk s over.committed)
-  crash-leaves image seen there = cc (leaves_held G before sure image seen (asks.crash sure.told image seen there), stood-over s (held_of G before) sound over)
-
   module _ (tracks : TracksStore G store after) where
     pub number-same : number_of store ≡ number_of s.store
     number-same = grind (arith, (shown_stands (held_of G after) store tracks.shows).1, same_bytes, over.stood)
 
     abbrev pub over-forgotten : IsOpenOver forgotten (held_of G after)
-    over-forgotten = record {
-      still_open = over.still_open;
-      committed = over.committed;
-      shows = tracks.shows;
-      stood =
-          ap stands same_bytes
-          ∙ over.stood
-          ∙ (λ i. Stands (sym number-same i) (record { directory = (sym header i).directory; bytes = over.committed }));
-      follows = gone.follows;
-      number = number-same ∙ over.number;
-    }
+    over-forgotten = over-other s store left (held_of G before) (held_of G after) header over number-same tracks.shows (ap stands same_bytes) gone.follows
 
     pub directory-forgotten : store.header.directory ≡ (activity_of left).reach.directory
     directory-forgotten = ap (λ (said : Header). said.directory) header ∙ sound.directory ∙ sym (ap (λ (desk : Desk). desk.committed.directory) (gone.desk []))
@@ -54,24 +40,15 @@ module _ {W : Type 0} (G : Ghosts W) (s : Session) (store : KeptStore) (header :
       ordered = refl;
       still = λ still. (tracks.sure, record { over = over-forgotten; directory = directory-forgotten; is = refl });
       journal = λ still. ap journal_in same_bytes;
-      crash = λ image seen there. inl (crash-leaves image seen there);
+      crash = λ image seen there. inl (asked-stands G s sound before after over sure asks image seen there);
       doubt = λ doubted. absurd (fine-sure doubted);
     }
 
   abbrev pub did-fail-crash : Rose (G.disk_faults before) (G.disk_faults after)
       → TookEvent G (told_event (fixed_of s) event.Crash (CrashFailed (numbers (session_desk s over.committed)))) (view_of (record forgotten { closed = true })) (session_desk s over.committed) before after
-  did-fail-crash rose = record {
-    word = Failed;
-    next = shut (restarted (session_desk s over.committed));
-    stepped = stepped (activity s).programs event.Crash Failed (session_desk s over.committed) over.still_open;
-    why = inr rose;
-    closes = refl;
-    ordered = refl;
-    still = λ still. absurd (open-shut still);
-    journal = λ still. absurd (open-shut still);
-    crash = λ image seen there. inl (crash-leaves image seen there);
-    doubt = λ doubted. absurd (failed-sure doubted);
-  }
+  did-fail-crash rose =
+      did-fail G s sound before after over (record forgotten { closed = true }) event.Crash (CrashFailed (numbers (session_desk s over.committed))) (shut (restarted (session_desk s over.committed))) refl refl refl
+      (stepped (activity s).programs event.Crash Failed (session_desk s over.committed) over.still_open) rose (asked-stands G s sound before after over sure asks)
 
 -- bytes that were its store's have no fault
 pub undamaged : (s : Session) (held : List ℕ) → IsOpenOver s held → (offset : ℕ) → bank_of held s.store.header (chosen held) ≡ Faulty offset → ⊥

@@ -1,6 +1,8 @@
 -- What the turns and the checkpoints of a session did.
-use Rattle.supervisor.proofs.Common.{◌≡◌, inl, inr, ℕ, List, refl, sym, ◌∙◌, ap, subst, arith, true, false, Ghosts, Rose, IsSure, Leaves, held_of, Header, Stands, stands, KeptStore, number_of, Shows, TurnEnd, counts_told, ending_told, turn_told, TookEvent, told_event, fixed_of, view_of, IsEitherOf, standing_of, Desk, Fine, Failed, Doubt, Counts, JournalAfter, journal_in, Happening, Step, Turned, CheckpointMade, CheckpointFailed, turned, shut, stepped, Tally, tally_counts, Session, IsSound, activity, session_desk, IsOpenOver, TurnHasRun, IsTurned, Turn}
+use Rattle.supervisor.proofs.Common.{◌≡◌, inl, inr, ℕ, List, refl, sym, ◌∙◌, ap, subst, arith, true, false, Ghosts, Rose, IsSure, Leaves, OnlyAsks, held_of, Header, Stands, stands, KeptStore, number_of, Shows, TurnEnd, counts_told, ending_told, turn_told, TookEvent, told_event, fixed_of, view_of, standing_of, Desk, Fine, Failed, Doubt, Counts, JournalAfter, journal_in, Happening, Step, Turned, CheckpointMade, CheckpointFailed, step, turned, shut, stepped, Tally, tally_counts, Activations, activity_of, KeepsDesk, Session, IsSound, activity, order_of, session_desk, number_after, IsOpenOver, ShowsDesk, Takes, TurnHasRun, IsTurned, Turn}
+use Rattle.outside.proofs.Durable.{leaves_held}
 use Rattle.supervisor.proofs.JournalLemmas.{checkpoint-empties}
+use Rattle.desk.specs.declared.event.Event.{Event}
 use Rattle.desk.specs.declared.event.Event.TheVariants as event
 
 -- these words aren't that of a commit in doubt, and nothing is both closed and open
@@ -21,6 +23,12 @@ stood-over s held sound over = over.stood ∙ (λ i. Stands (over.number i) (rec
 pub told-by : (end : TurnEnd) (activation : ℕ) (answer : Turn) (printed : List ℕ) → IsTurned end
     → Turned activation (counts_told answer) (ending_told end printed) ≡ turn_told activation (record answer { end = end }) printed
 told-by ends activation answer printed is = grind arith
+
+-- what a session did from the desk that it is over it did from each desk that it shows
+module _ {W : Type 0} (G : Ghosts W) (event : Event) (told : Desk → Happening) (numbered : ℕ → Type 0) (s new : Session) (before after : W) where
+  pub takes : ((over : IsOpenOver s (held_of G before)) → IsSure G before → (did : TookEvent G (told_event (fixed_of s) event (told (session_desk s over.committed))) (view_of new) (session_desk s over.committed) before after) × numbered (number_after s.opened did.next))
+      → Takes G event told numbered (fixed_of s) (ShowsDesk s) (view_of new) before after
+  takes took desk sure shown = subst (λ (that : Desk). (did : TookEvent G (told_event (fixed_of s) event (told that)) (view_of new) that before after) × numbered (number_after s.opened did.next)) (sym shown.is) (took shown.over sure)
 
 -- a turn of an open session
 module _ {W : Type 0} (G : Ghosts W) (s new : Session) (activation limit : ℕ) (result : TurnEnd) (tally : Tally) (answer : Turn) (before after : W) (over : IsOpenOver s (held_of G before)) where
@@ -47,21 +55,44 @@ module _ {W : Type 0} (G : Ghosts W) (s new : Session) (activation limit : ℕ) 
         doubt = λ doubted shut_now. ran.doubt doubted (sym ran.closes ∙ shut_now);
       }
 
--- a session over another store with the same header and number, whose bytes stand for the same
-abbrev pub over-stored : (s : Session) (store : KeptStore) (held after : List ℕ) → store.header ≡ s.store.header → IsOpenOver s held → number_of store ≡ number_of s.store → Shows after store → stands after ≡ stands held → IsOpenOver (record s { store = store }) after
-over-stored s store held after header over number shows stood = record {
+-- a session over another store with the same header and number, whose bytes stand for the same, and with other activities over the same committed bytes
+abbrev pub over-other : (s : Session) (store : KeptStore) (left : Activations) (held after : List ℕ) → store.header ≡ s.store.header → (over : IsOpenOver s held) → number_of store ≡ number_of s.store → Shows after store → stands after ≡ stands held
+    → KeepsDesk (activity_of left) over.committed → IsOpenOver (record s { store = store; activations = left }) after
+over-other s store left held after header over number shows stood follows = record {
   still_open = over.still_open;
   committed = over.committed;
   shows = shows;
   stood = stood ∙ over.stood ∙ (λ i. Stands (sym number i) (record { directory = (sym header i).directory; bytes = over.committed }));
-  follows = over.follows;
+  follows = follows;
   number = number ∙ over.number;
 }
 
+module _ {W : Type 0} (G : Ghosts W) (s : Session) (sound : IsSound s) (before after : W) (over : IsOpenOver s (held_of G before)) where
+  -- while the disk was only asked, a crash left what stood
+  pub asked-stands : IsSure G before → OnlyAsks G before after → Leaves G (λ image seen. stands image ≡ standing_of s.opened (session_desk s over.committed)) before after
+  asked-stands sure asks image seen left = cc (leaves_held G before sure image seen (asks.crash sure.told image seen left), stood-over s (held_of G before) sound over)
+
+  -- an event at which the disk failed closed the desk
+  abbrev pub did-fail : (n : Session) (event : Event) (told : Happening) (next : Desk) → n.closed ≡ true → next.closed ≡ true → order_of n ≡ next.order → step (activity s).programs event Failed (session_desk s over.committed) ≡ record { desk = next; happening = told }
+      → Rose (G.disk_faults before) (G.disk_faults after) → Leaves G (λ image seen. stands image ≡ standing_of s.opened (session_desk s over.committed)) before after
+      → TookEvent G (told_event (fixed_of s) event told) (view_of n) (session_desk s over.committed) before after
+  did-fail n event told next closed shut ordered is rose crash = record {
+    word = Failed;
+    next = next;
+    stepped = is;
+    why = inr rose;
+    closes = closed ∙ sym shut;
+    ordered = ordered;
+    still = λ still. absurd (open-shut (sym shut ∙ still));
+    journal = λ still. absurd (open-shut (sym shut ∙ still));
+    crash = λ image seen left. inl (crash image seen left);
+    doubt = λ doubted. absurd (failed-sure doubted);
+  }
+
 -- a checkpoint
 module _ {W : Type 0} (G : Ghosts W) (s : Session) (store : KeptStore) (sound : IsSound s) (before after : W) (over : IsOpenOver s (held_of G before)) (crash : Leaves G (λ image seen. stands image ≡ stands (held_of G before)) before after) where
-  pub either : (image seen : List ℕ) (next : Desk) → G.left_since after (G.moment before) image seen → IsEitherOf (activity s).programs s.opened event.Checkpoint (session_desk s over.committed) next image
-  either image seen next left = inl (crash image seen left ∙ stood-over s (held_of G before) sound over)
+  pub either : Leaves G (λ image seen. stands image ≡ standing_of s.opened (session_desk s over.committed)) before after
+  either image seen left = crash image seen left ∙ stood-over s (held_of G before) sound over
 
   abbrev pub did-checkpoint : store.header ≡ s.store.header → number_of store ≡ number_of s.store → IsSure G after → Shows (held_of G after) store → stands (held_of G after) ≡ stands (held_of G before) → store.bank.count ≡ 0
       → TookEvent G (told_event (fixed_of s) event.Checkpoint CheckpointMade) (view_of (record s { store = store })) (session_desk s over.committed) before after
@@ -72,23 +103,14 @@ module _ {W : Type 0} (G : Ghosts W) (s : Session) (store : KeptStore) (sound : 
     why = inl refl;
     closes = refl;
     ordered = refl;
-    still = λ still. (sure, record { over = over-stored s store (held_of G before) (held_of G after) header over number shows stood; directory = ap (λ (said : Header). said.directory) header ∙ sound.directory; is = refl });
+    still = λ still. (sure, record { over = over-other s store s.activations (held_of G before) (held_of G after) header over number shows stood over.follows; directory = ap (λ (said : Header). said.directory) header ∙ sound.directory; is = refl });
     journal = λ still. checkpoint-empties s.store store (held_of G before) (held_of G after) over.shows shows header none;
-    crash = λ image seen left. either image seen (session_desk s over.committed) left;
+    crash = λ image seen left. inl (either image seen left);
     doubt = λ doubted. absurd (fine-sure doubted);
   }
 
   abbrev pub did-fail-checkpoint : Rose (G.disk_faults before) (G.disk_faults after)
       → TookEvent G (told_event (fixed_of s) event.Checkpoint CheckpointFailed) (view_of (record s { store = store; closed = true })) (session_desk s over.committed) before after
-  did-fail-checkpoint rose = record {
-    word = Failed;
-    next = shut (session_desk s over.committed);
-    stepped = stepped (activity s).programs event.Checkpoint Failed (session_desk s over.committed) over.still_open;
-    why = inr rose;
-    closes = refl;
-    ordered = refl;
-    still = λ still. absurd (open-shut still);
-    journal = λ still. absurd (open-shut still);
-    crash = λ image seen left. either image seen (shut (session_desk s over.committed)) left;
-    doubt = λ doubted. absurd (failed-sure doubted);
-  }
+  did-fail-checkpoint rose =
+      did-fail G s sound before after over (record s { store = store; closed = true }) event.Checkpoint CheckpointFailed (shut (session_desk s over.committed)) refl refl refl
+      (stepped (activity s).programs event.Checkpoint Failed (session_desk s over.committed) over.still_open) rose either

@@ -1,6 +1,6 @@
 -- How a turn of a session ends: over what ran, and then its commit.
-use Rattle.supervisor.proofs.Common.{arith, ap, sym, ◌∙◌, subst, inl, inr, ⊎_elim, has, Ghosts, Rose, IsSure, FewerLater, Leaves, OnlyAsks, held_of, leaves_on, Stands, stands, sure_on, Shows, TurnEnd, ending_told, HasNumbers, OnlyWrites, IsEitherOf, fine_step, standing_of, JournalAfter, journal_in, Turned, Desk, Entry, Word, Fine, ReadFailed, Doubt, Going, Over, no_counts, commits, turn, turn_of, turns, number_after, Step, turned, Reads, seat-told, told-found, stepped, number_in, seat_of, seat-found, Activations, Tally, entries, entry_in, desk_over, KeepsDesk, IsEndOfRows, IfWaits, HasEnded, tally_counts, IsAtCommit, commit_call, turn_in, activity_of, Session, IsSound, activity, order_of, session_desk, IsOpenOver, HasCommitted, TurnHasRun, IsCommitEnd, fine_desk, ◌≡◌, refl, ℕ, ◌+◌, ◌-◌, ◌*◌, ◌<◌, ◌≤◌, ◌⊎◌, true, false, List, [], Option, Some, None, IsSome, unwrap_or}
-use Rattle.outside.specs.Bytes.{AreTold}
+use Rattle.supervisor.proofs.Common.{arith, ap, sym, ◌∙◌, subst, inl, inr, ⊎_elim, has, Ghosts, Rose, IsSure, FewerLater, Leaves, OnlyAsks, held_of, leaves_on, Stands, stands, sure_on, Shows, TurnEnd, ending_told, HasNumbers, OnlyWrites, IsEitherOf, fine_step, standing_of, JournalAfter, journal_in, Turned, Desk, Entry, Word, Fine, ReadFailed, Doubt, Going, Over, no_counts, commits, turn, turn_of, turns, number_after, Step, turned, Reads, seat-told, told-found, stepped, number_in, seat_of, seat-found, Activations, Tally, entries, entry_in, desk_over, KeepsDesk, IsEndOfRows, IfWaits, HasEnded, tally_counts, IsAtCommit, commit_call, turn_in, activity_of, Session, IsSound, activity, order_of, session_desk, IsOpenOver, HasCommitted, TurnHasRun, IsCommitEnd, fine_desk, ◌≡◌, refl, ℕ, ◌+◌, ◌-◌, ◌*◌, ◌<◌, ◌≤◌, ◌⊎◌, true, false, List, [], Option, Some, None, unwrap_or}
+use Rattle.supervisor.proofs.DidLemmas.{asked-stands, over-other}
 use Rattle.desk_law.proofs.Entries.{found-among}
 use Rattle.desk_law.proofs.InstructionStages.{reads-all}
 use Rattle.activations.specs.Fetching.{IsStoreOf}
@@ -19,15 +19,7 @@ sound-ran s ran limit sound few turned rows is parts = grind (arith, sound, soun
 pub open-desk : (s : Session) (committed : List ℕ) → s.closed ≡ false → session_desk s committed ≡ desk_over (activity s) committed (order_of s)
 open-desk s committed still i = record (desk_over (activity s) committed (order_of s)) { closed = still i }
 
--- bytes that are told are those that are held
-pub told-held : (told : Option (List ℕ)) (image : List ℕ) → IsSome told → AreTold told image → image ≡ unwrap_or told []
-told-held told image some is = grind arith
-
 module _ {W : Type 0} (G : Ghosts W) (s : Session) (sound : IsSound s) (before : W) (over : IsOpenOver s (held_of G before)) where
-  -- what the session is over stands
-  pub stood-before : stands (held_of G before) ≡ standing_of s.opened (session_desk s over.committed)
-  stood-before = cc (over.stood, over.number, sound.directory)
-
   -- a store of which activations read
   pub store-over : IsSure G before → IsStoreOf G s.store before over.committed
   store-over sure = record { tracks = record { sure = sure; shows = over.shows }; number = _; stood = over.stood }
@@ -36,18 +28,13 @@ module _ {W : Type 0} (G : Ghosts W) (fewer_later : FewerLater G) (s : Session) 
     (over : IsOpenOver s (held_of G before)) (asks : OnlyAsks G before mid) where
   -- while the disk was only asked, a crash left what stood
   asked : Leaves G (λ image seen. stands image ≡ standing_of s.opened (session_desk s over.committed)) before mid
-  asked image seen left = cc (told-held (G.held before) image sure.told (sure.durable image seen (asks.crash sure.told image seen left)), stood-before G s sound before over)
+  asked = asked-stands G s sound before mid over sure asks
 
   -- other activities over the same bytes
   abbrev pub over-ran : (ran : Activations) → KeepsDesk (activity_of ran) over.committed → IsOpenOver (record s { activations = ran }) (held_of G mid)
-  over-ran ran follows = record {
-    still_open = over.still_open;
-    committed = over.committed;
-    shows = subst (λ (held : List ℕ). Shows held s.store) (sym (ap (λ (told : Option (List ℕ)). unwrap_or told []) asks.held)) over.shows;
-    stood = ap (λ (told : Option (List ℕ)). stands (unwrap_or told [])) asks.held ∙ over.stood;
-    follows = follows;
-    number = over.number;
-  }
+  over-ran ran follows =
+      let same = ap (λ (told : Option (List ℕ)). unwrap_or told []) asks.held in
+      over-other s s.store ran (held_of G before) (held_of G mid) refl over refl (subst (λ (held : List ℕ). Shows held s.store) (sym same) over.shows) (ap stands same) follows
 
   -- and the journal is as before
   kept-journal : journal_in (held_of G mid) ≡ journal_in (held_of G before)

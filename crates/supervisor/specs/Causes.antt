@@ -1,10 +1,11 @@
 -- Why the answers of a session come.
-use Rattle.std.specs.Prelude.{◌≡◌, ℕ, ◌+◌, ◌%◌, ◌<◌, ◌≤◌, ◌^◌, true, List, length, Option, Some, None}
+use Rattle.std.specs.Prelude.{◌≡◌, ◌↔◌, ℕ, ◌+◌, ◌%◌, ◌<◌, ◌≤◌, ◌^◌, true, false, List, length, Option, Some, None}
 use Rattle.lines.specs.Sets.{has}
 use Rattle.outside.specs.declared.world.Outside.{Ghosts}
 use Rattle.outside.specs.Causes.{Rose}
 use Rattle.outside.specs.Runs.{Leaves, OnlyAsks, held_of}
 use Rattle.store_format.specs.Bank.{RecordLine}
+use Rattle.store_format.specs.Header.{most_lines}
 use Rattle.store.specs.declared.keep.Kept.{Kept}
 use Rattle.store.specs.declared.keep.Kept.TheVariants as kept
 use Rattle.store.specs.Appended.{FailedLeaves}
@@ -12,15 +13,19 @@ use Rattle.store.specs.Held.{OnlyWrites}
 use Rattle.store.specs.Kept.{begun_of, with_record}
 use Rattle.store.specs.Tracks.{IsEither}
 use Rattle.store.specs.Committed.{roomy, IsKeptAfter}
-use Rattle.store.specs.KeptStore.{KeptStore, with_begun}
+use Rattle.store.specs.KeptStore.{KeptStore, number_of, with_begun}
 use Rattle.store.specs.Shows.{TracksStore}
+use Rattle.desk.specs.declared.answers.Begun.{Begun}
+use Rattle.desk.specs.declared.answers.Begun.TheVariants as begun
 use Rattle.desk.specs.declared.answers.Reopened.{Reopened}
 use Rattle.desk.specs.declared.answers.Reopened.TheVariants as reopened
 use Rattle.desk.specs.declared.answers.Turn.{Turn}
 use Rattle.desk.specs.declared.answers.TurnEnd.{TurnEnd}
 use Rattle.desk.specs.declared.answers.TurnEnd.TheVariants as end
+use Rattle.desk.specs.Answers.{counts_told}
+use Rattle.desk.specs.Instruction.{no_counts}
 use Rattle.desk.specs.Run.{absent_segment}
-use Rattle.seats.specs.Seating.{number_in}
+use Rattle.seats.specs.Seating.{number_in, seat_of}
 use Rattle.activations.specs.declared.tally.Tally.{Tally}
 use Rattle.activations.specs.Activity.{Activity, program_at}
 use Rattle.activations.specs.Stages.{IfChecked, IfJournal, IfLimit, IfVictim}
@@ -40,6 +45,12 @@ HasPlace a = length a.seating.taken < 16
 -- the first segment of a program's windows that the store lacks
 abbrev pub lacking : Activity → (program : ℕ) → Option ℕ
 lacking a program = absent_segment a.reach.directory (program_at a.programs program).windows
+
+-- The answer to a begin of a program gives the cause, and the next number: sixteen are active, or fewer and the store lacks this segment, or none.
+pub record IsBeginAnswer (a : Activity) (program : ℕ) (answer : Begun) : Type 0 where
+  pub busy : (number : ℕ) → (answer ≡ begun.Busy number) ↔ (IsFull a × (number ≡ a.next))
+  pub no_segment : (number segment : ℕ) → (answer ≡ begun.NoSegment number segment) ↔ (HasPlace a × (lacking a program ≡ Some segment) × (number ≡ a.next))
+  pub started : (number : ℕ) → (answer ≡ begun.Started number) ↔ (HasPlace a × (lacking a program ≡ None) × (number ≡ a.next))
 
 -- The number that a commit tells is the one after the store's; where it is in doubt, it is that of this activation.
 abbrev pub TellsNumber : (activation number : ℕ) → TurnEnd → Type 0
@@ -64,6 +75,13 @@ pub record IsTurnEnd (activation limit most number : ℕ) (answer : Turn) : Type
   pub victim : IfVictim activation answer.cycles.items answer.end
   pub pages : answer.end ≡ end.Disk → 0 < answer.pages
   pub numbered : TellsNumber activation number answer.end
+
+-- The answer to a turn asked of a session gives the true cause: nothing was counted of one that was closed, and one that was open had nobody of that
+-- number exactly where the turn is idle.
+pub record IsTurnAnswer (s : Session) (activation limit : ℕ) (answer : Turn) : Type 0 where
+  pub uncounted : s.closed ≡ true → counts_told answer ≡ no_counts
+  pub idle : s.closed ≡ false → (answer.end ≡ end.Idle) ↔ (seat_of (activity s).seating activation ≡ None)
+  pub caused : IsTurnEnd activation limit (most_lines s.store.header) (number_of s.store) answer
 
 -- the number in the answer to a crash is this one
 abbrev pub ReopenedNumber : Reopened → (number : ℕ) → Type 0
@@ -91,19 +109,15 @@ pub record ClosesInCommit {W : Type 0} (G : Ghosts W) (activation : ℕ) (answer
   pub calm : G.disk_faults begun ≡ G.disk_faults before
   pub failed : IsFailedCommit G answer (with_begun store lines) (store_told new) begun after
 
--- a turn that closes ends as its commit does at Doubt, where the close is in doubt, and else at Unwritten
-abbrev pub ClosesAsCommit : {W : Type 0} → Ghosts W → (activation : ℕ) → TurnEnd → KeptStore → Session → W → W → Type 0
-ClosesAsCommit G activation (end.Closed (Some doubted) told) store new before after = ClosesInCommit G activation kept.Doubt store new before after
-ClosesAsCommit G activation (end.Closed None told) store new before after = ClosesInCommit G activation kept.Unwritten store new before after
-ClosesAsCommit G activation _ store new before after = Unit {0}
-
 -- a bank with one record more than a store's, or where that doesn't fit the one after a checkpoint with just that record
 pub record HasItsRecord (store new : KeptStore) : Type 0 where
   pub lines : List RecordLine
   pub kept : new.bank ≡ with_record (roomy (with_begun store lines).bank)
 
--- what a turn that ends so leaves of its store: a commit adds a record, and no other end touches it; of one that closes the commit tells
-abbrev pub KeepsStore : TurnEnd → (store new : KeptStore) → Type 0
-KeepsStore (end.Committed told steps) store new = HasItsRecord store new
-KeepsStore (end.Closed doubt told) store new = Unit {0}
-KeepsStore _ store new = new ≡ store
+-- What a turn of an activation that ends so does with the store: a commit adds its record; one that closes ends as its commit does, at Doubt where the
+-- close is in doubt, and else at Unwritten; no other end touches it.
+abbrev pub LeavesStore : {W : Type 0} → Ghosts W → (activation : ℕ) → TurnEnd → KeptStore → Session → W → W → Type 0
+LeavesStore G activation (end.Committed told steps) store new before after = HasItsRecord store (store_told new)
+LeavesStore G activation (end.Closed (Some doubted) told) store new before after = ClosesInCommit G activation kept.Doubt store new before after
+LeavesStore G activation (end.Closed None told) store new before after = ClosesInCommit G activation kept.Unwritten store new before after
+LeavesStore G activation _ store new before after = store_told new ≡ store

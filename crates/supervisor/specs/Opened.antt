@@ -9,7 +9,7 @@ use Rattle.store_format.specs.Header.{Header, header_of, most_lines}
 use Rattle.store_format.specs.Stands.{Stands, stands}
 use Rattle.desk.specs.Desk.{opened}
 use Rattle.supervisor.specs.declared.session.Session.{Session}
-use Rattle.supervisor.specs.Session.{IsSound, activity, fixed_of, header_of_session, is_closed, order_of, printed_of, turns_of}
+use Rattle.supervisor.specs.Session.{IsSound, activity, fixed_of, header_of_session, order_of, session_told}
 use Rattle.supervisor.specs.Shown.{ShowsDesk}
 
 -- it is sound and open, for so many begins of these programs, and no number was given
@@ -18,10 +18,10 @@ pub record IsNew (programs : List Program) (begins : ℕ) (s : Session) : Type 0
   pub programs_are : (activity s).programs ≡ programs
   pub begins_are : (fixed_of s).begins ≡ begins
   pub none_given : (activity s).next ≡ 1
-  pub no_turns : turns_of s ≡ 0
-  pub nothing_printed : printed_of s ≡ []
+  pub no_turns : (session_told s).turns ≡ 0
+  pub nothing_printed : (session_told s).printed ≡ []
   pub none_committed : order_of s ≡ []
-  pub still_open : is_closed s ≡ false
+  pub still_open : (session_told s).closed ≡ false
 
 -- the bytes begin with this header, and stand for a number and a store
 abbrev pub HasStood : Header → List ℕ → Type 0

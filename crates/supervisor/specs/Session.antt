@@ -1,10 +1,11 @@
 -- A session, the desk that it is over committed bytes, and what holds of it at every moment.
-use Rattle.std.specs.Prelude.{◌≡◌, ℕ, Bool, ◌+◌, ◌*◌, ◌<◌, ◌≤◌, ◌^◌, false, List, length, vec_len, vec_capacity}
+use Rattle.std.specs.Prelude.{◌≡◌, ℕ, ◌+◌, ◌-◌, ◌*◌, ◌<◌, ◌≤◌, ◌^◌, false, List, length, vec_len, vec_capacity}
 use Rattle.store_format.specs.Header.{Header, HasRanges, most_lines}
 use Rattle.store.specs.KeptStore.{KeptStore, number_of}
 use Rattle.desk.specs.Answers.{order_told}
 use Rattle.desk.specs.Calls.{Fixed}
 use Rattle.desk.specs.Desk.{Desk}
+use Rattle.desk.specs.Told.{Told}
 use Rattle.activations.specs.Activity.{Activity, desk_over}
 use Rattle.activations.specs.Follows as running
 use Rattle.activations.specs.Kept.{AreRowsWithin}
@@ -23,10 +24,6 @@ order_of s = order_told s.order.items
 abbrev pub header_of_session : Session → Header
 header_of_session s = s.store.header
 
--- it was closed, by a fault of the disk or by damage
-abbrev pub is_closed : Session → Bool
-is_closed s = s.closed
-
 -- what only its opening sets
 abbrev pub fixed_of : Session → Fixed
 fixed_of s = record { programs = (activity s).programs; opened = s.opened; header = s.store.header; begins = s.begins }
@@ -39,13 +36,9 @@ number_told s = number_of s.store
 abbrev pub store_told : Session → KeptStore
 store_told s = s.store
 
--- how many turns were asked of it
-abbrev pub turns_of : Session → ℕ
-turns_of s = s.turns
-
--- what the last commit had printed
-abbrev pub printed_of : Session → List ℕ
-printed_of s = s.printed
+-- what it tells of itself; it is closed by a fault of the disk or by damage, and counts the turns that were asked of it
+abbrev pub session_told : Session → Told
+session_told s = record { closed = s.closed; fixed = fixed_of s; given = (activity s).next - 1; turns = s.turns; printed = s.printed; order = order_of s }
 
 -- the desk that it is over committed bytes
 abbrev pub session_desk : Session → (committed : List ℕ) → Desk
@@ -69,12 +62,6 @@ pub record IsSound (s : Session) : Type 0 where
   pub most : most_lines s.store.header ≡ (activity s).most_lines
   pub room : HaveRoom s
   pub usable : s.closed ≡ false → s.store.bank.spoiled ≡ false
-
--- the parts that only an opening or a begin sets are as before
-pub record KeepsParts (old new : Session) : Type 0 where
-  pub fixed : fixed_of new ≡ fixed_of old
-  pub turns : new.turns ≡ old.turns
-  pub next : (activity new).next ≡ (activity old).next
 
 -- how many records the chosen bank of its store holds
 abbrev pub records_told : Session → ℕ

@@ -6,9 +6,10 @@ use Rattle.store.specs.Shows.{Shows}
 use Rattle.desk.specs.Crash.{View}
 use Rattle.desk.specs.Desk.{Desk}
 use Rattle.desk.specs.Report.{number_after}
+use Rattle.desk.specs.Told.{seen}
 use Rattle.activations.specs.Follows.{KeepsDesk}
 use Rattle.supervisor.specs.declared.session.Session.{Session}
-use Rattle.supervisor.specs.Session.{activity, order_of, session_desk}
+use Rattle.supervisor.specs.Session.{activity, session_desk, session_told}
 
 -- It is open, and the bytes are its store's: they stand for its number and some bytes, and what runs in it follows the desk
 -- over these.
@@ -28,4 +29,4 @@ pub record ShowsDesk (s : Session) (held : List ℕ) (desk : Desk) : Type 0 wher
 
 -- what is seen of it, as of a supervisor
 abbrev pub view_of : Session → View
-view_of s = record { closed = s.closed; order = order_of s; shows = ShowsDesk s }
+view_of s = seen (session_told s) (ShowsDesk s)

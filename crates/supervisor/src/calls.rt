@@ -1,17 +1,16 @@
 // The calls of a session: what each does, and why each answer comes.
-ghost use Rattle.std.specs.Prelude.{◌≡◌, ◌≢◌, ◌↔◌, ◌+◌, ◌-◌, ◌≤◌, ◌<◌, ◌^◌, true, false, List, ℕ, length, map, Some, None, IsSome};
-ghost use Rattle.outside.specs.Durable.{IsSure};
+ghost use Rattle.std.specs.Prelude.{◌≡◌, ◌≢◌, ◌+◌, ◌≤◌, ◌<◌, ◌^◌, false, List, ℕ, length, map, IsSome};
 ghost use Rattle.outside.specs.Runs.{OnlyAsks, held_of};
 ghost use Rattle.desk.specs.declared.event.Event.TheVariants as event;
 ghost use Rattle.desk.specs.Desk.{Desk};
 ghost use Rattle.desk.specs.Holdings.{numbers};
-ghost use Rattle.desk.specs.Instruction.{Fine, no_counts};
+ghost use Rattle.desk.specs.Instruction.{Fine};
 ghost use Rattle.desk.specs.Run.{step};
 ghost use Rattle.desk.specs.Report.{number_after};
-ghost use Rattle.desk.specs.Answers.{begun_told, turn_told, stored_told, reopened_told, counts_told, turn_closes, stored_closes, reopened_closes, EntersOrder, HasNumbers, KeepsPrinted, StoredNumber, IsReopened};
-ghost use Rattle.desk.specs.Crash.{TookEvent, told_event};
+ghost use Rattle.desk.specs.Answers.{begun_told, turn_told, stored_told, reopened_told, stored_closes, reopened_closes, HasNumbers, StoredNumber, IsReopened};
 ghost use Rattle.desk.specs.Calls.{CallsStore, FailsCounted, StaysShut, reopened_fails, stored_fails};
 ghost use Rattle.desk.specs.Kept.{HoldsStore, IsDamage, WritesMore, writes_due, turn_fails};
+ghost use Rattle.desk.specs.Told.{ToldAfterEnd, Takes};
 ghost use Rattle.supervisor.specs.Causes.{answer_of};
 
 use super::session::Session;
@@ -35,29 +34,22 @@ fn told(tally: Tally, end: TurnEnd) -> Turn
 }
 
 impl Session {
-    ghost use Rattle.supervisor.specs.Session.{IsSound, activity, order_of, records_told, is_closed, fixed_of, turns_of, printed_of, number_told, store_told};
+    ghost use Rattle.supervisor.specs.Session.{IsSound, activity, order_of, records_told, fixed_of, session_told, number_told, store_told};
     ghost use Rattle.supervisor.specs.Shown.{ShowsDesk, view_of};
-    ghost use Rattle.supervisor.specs.Causes.{IsFull, HasPlace, lacking, IsTurnEnd, ReopenedNumber, ClosesAsCommit, KeepsStore};
-    ghost use Rattle.store_format.specs.Header.{most_lines};
-    ghost use Rattle.seats.specs.Seating.{seat_of, numbers as numbers_seated};
+    ghost use Rattle.supervisor.specs.Causes.{IsBeginAnswer, IsTurnAnswer, ReopenedNumber, LeavesStore};
+    ghost use Rattle.seats.specs.Seating.{numbers as numbers_seated};
 
     /// The program with this place begins with four values.
     pub fn begin(&mut self, program: u16, args: [u32; 4]) -> Begun
         requires sound { IsSound self.old }
         requires program { program < length (fixed_of self.old).programs }
-        requires room { (activity self.old).next - 1 < (fixed_of self.old).begins }
+        requires room { (session_told self.old).given < (fixed_of self.old).begins }
         ensures did { (held : List ℕ) (desk : Desk) → ShowsDesk self.old held desk → (next : Desk) × (step (fixed_of self.old).programs (event.Begin program args) Fine desk ≡ record { desk = next; happening = begun_told program result }) × ShowsDesk self.new held next }
-        ensures shut { StaysShut (is_closed self.old) (result ≡ Begun.Shut) (self.new ≡ self.old) }
-        ensures busy { (number : ℕ) → (result ≡ Begun.Busy number) ↔ ((is_closed self.old ≡ false) × IsFull (activity self.old) × (number ≡ (activity self.old).next)) }
-        ensures no_segment { (number segment : ℕ) → (result ≡ Begun.NoSegment number segment) ↔ ((is_closed self.old ≡ false) × HasPlace (activity self.old) × (lacking (activity self.old) program ≡ Some segment) × (number ≡ (activity self.old).next)) }
-        ensures started { (number : ℕ) → (result ≡ Begun.Started number) ↔ ((is_closed self.old ≡ false) × HasPlace (activity self.old) × (lacking (activity self.old) program ≡ None) × (number ≡ (activity self.old).next)) }
-        ensures closed { is_closed self.new ≡ is_closed self.old }
-        ensures order { order_of self.new ≡ order_of self.old }
-        ensures printed { printed_of self.new ≡ printed_of self.old }
+        ensures shut { StaysShut (session_told self.old).closed (result ≡ Begun.Shut) (self.new ≡ self.old) }
+        ensures told { session_told self.new ≡ record (session_told self.old) { given = (session_told self.new).given } }
+        ensures given { (session_told self.new).given ≤ (session_told self.old).given + 1 }
+        ensures answer { (session_told self.old).closed ≡ false → IsBeginAnswer (activity self.old) program result }
         ensures sound { IsSound self.new }
-        ensures fixed { fixed_of self.new ≡ fixed_of self.old }
-        ensures given { (activity self.new).next - 1 ≤ (activity self.old).next - 1 + 1 }
-        ensures turns { turns_of self.new ≡ turns_of self.old }
     {
         if self.closed {
             return Begun::Shut;
@@ -69,25 +61,18 @@ impl Session {
     pub fn turn<W: Outside>(&mut self, outside: &mut W, activation: u32, limit: u32) -> Turn
         requires sound { IsSound self.old }
         requires limit { limit ≤ 1000000 }
-        requires turns { turns_of self.old < 2 ^ 32 }
+        requires turns { (session_told self.old).turns < 2 ^ 32 }
         requires bytes { HoldsStore W.Outside (fixed_of self.old).header outside.old }
-        ensures did { (desk : Desk) → IsSure W.Outside outside.old → ShowsDesk self.old (held_of W.Outside outside.old) desk → (did : TookEvent W.Outside (told_event (fixed_of self.old) (event.Turn activation limit) (turn_told activation result (printed_of self.new))) (view_of self.new) desk outside.old outside.new) × HasNumbers result.end activation (number_after (fixed_of self.old).opened did.next) }
+        ensures did { Takes W.Outside (event.Turn activation limit) (λ desk. turn_told activation result (session_told self.new).printed) (HasNumbers result.end activation) (fixed_of self.old) (ShowsDesk self.old) (view_of self.new) outside.old outside.new }
         ensures writes { WritesMore (W.writes outside.old) (W.writes outside.new) (writes_due result.end) }
-        ensures shut { StaysShut (is_closed self.old) (result.end ≡ TurnEnd.Shut) ((self.new ≡ self.old) × (outside.new ≡ outside.old)) }
-        ensures uncounted { is_closed self.old ≡ true → counts_told result ≡ no_counts }
-        ensures idle { is_closed self.old ≡ false → (result.end ≡ TurnEnd.Idle) ↔ (seat_of (activity self.old).seating activation ≡ None) }
-        ensures end { IsTurnEnd activation limit (most_lines (fixed_of self.old).header) (number_told self.old) result }
-        ensures stored { KeepsStore result.end (store_told self.old) (store_told self.new) }
-        ensures ordered { EntersOrder activation result.end (order_of self.old) (order_of self.new) }
-        ensures printed { KeepsPrinted result.end (printed_of self.old) (printed_of self.new) }
-        ensures closed { is_closed self.new ≡ turn_closes result.end }
-        ensures committing { ClosesAsCommit W.Outside activation result.end (store_told self.old) self.new outside.old outside.new }
+        ensures shut { StaysShut (session_told self.old).closed (result.end ≡ TurnEnd.Shut) ((self.new ≡ self.old) × (outside.new ≡ outside.old)) }
+        ensures told { ToldAfterEnd activation result.end (record (session_told self.old) { turns = (session_told self.new).turns }) (session_told self.new) }
+        ensures turns { (session_told self.new).turns ≤ (session_told self.old).turns + 1 }
+        ensures answer { IsTurnAnswer self.old activation limit result }
+        ensures stored { LeavesStore W.Outside activation result.end (store_told self.old) self.new outside.old outside.new }
         ensures failed { FailsCounted (turn_fails result.end) (W.disk_faults outside.old) (W.disk_faults outside.new) }
         ensures calls { CallsStore W.Outside (fixed_of self.new).header outside.old outside.new }
         ensures sound { IsSound self.new }
-        ensures fixed { fixed_of self.new ≡ fixed_of self.old }
-        ensures given { (activity self.new).next - 1 ≡ (activity self.old).next - 1 }
-        ensures turns { turns_of self.new ≤ turns_of self.old + 1 }
     {
         let mut tally = Tally::new();
         if self.closed {
@@ -102,20 +87,15 @@ impl Session {
     pub fn checkpoint<W: Outside>(&mut self, outside: &mut W) -> Stored
         requires sound { IsSound self.old }
         requires bytes { HoldsStore W.Outside (fixed_of self.old).header outside.old }
-        ensures did { (desk : Desk) → IsSure W.Outside outside.old → ShowsDesk self.old (held_of W.Outside outside.old) desk → (did : TookEvent W.Outside (told_event (fixed_of self.old) event.Checkpoint (stored_told result)) (view_of self.new) desk outside.old outside.new) × StoredNumber result (number_after (fixed_of self.old).opened did.next) }
+        ensures did { Takes W.Outside event.Checkpoint (λ desk. stored_told result) (StoredNumber result) (fixed_of self.old) (ShowsDesk self.old) (view_of self.new) outside.old outside.new }
         ensures writes { WritesMore (W.writes outside.old) (W.writes outside.new) 0 }
-        ensures shut { StaysShut (is_closed self.old) (result ≡ Stored.Shut) ((self.new ≡ self.old) × (outside.new ≡ outside.old)) }
+        ensures shut { StaysShut (session_told self.old).closed (result ≡ Stored.Shut) ((self.new ≡ self.old) × (outside.new ≡ outside.old)) }
+        ensures told { session_told self.new ≡ record (session_told self.old) { closed = stored_closes result } }
         ensures number { StoredNumber result (number_told self.old) }
         ensures emptied { (number : ℕ) → result ≡ Stored.Number number → records_told self.new ≡ 0 }
-        ensures closed { is_closed self.new ≡ stored_closes result }
         ensures failed { FailsCounted (stored_fails result) (W.disk_faults outside.old) (W.disk_faults outside.new) }
         ensures calls { CallsStore W.Outside (fixed_of self.new).header outside.old outside.new }
-        ensures order { order_of self.new ≡ order_of self.old }
-        ensures printed { printed_of self.new ≡ printed_of self.old }
         ensures sound { IsSound self.new }
-        ensures fixed { fixed_of self.new ≡ fixed_of self.old }
-        ensures given { (activity self.new).next - 1 ≡ (activity self.old).next - 1 }
-        ensures turns { turns_of self.new ≡ turns_of self.old }
     {
         if self.closed {
             return Stored::Shut;
@@ -133,20 +113,15 @@ impl Session {
     pub fn forget<W: Outside>(&mut self, outside: &mut W) -> Reopened
         requires sound { IsSound self.old }
         requires bytes { HoldsStore W.Outside (fixed_of self.old).header outside.old }
-        ensures did { (desk : Desk) → IsSure W.Outside outside.old → ShowsDesk self.old (held_of W.Outside outside.old) desk → (did : TookEvent W.Outside (told_event (fixed_of self.old) event.Crash (reopened_told (numbers desk) result)) (view_of self.new) desk outside.old outside.new) × IsReopened result (number_after (fixed_of self.old).opened did.next) }
-        ensures shut { StaysShut (is_closed self.old) (result ≡ Reopened.Shut) ((self.new ≡ self.old) × (outside.new ≡ outside.old)) }
+        ensures did { Takes W.Outside event.Crash (λ desk. reopened_told (numbers desk) result) (IsReopened result) (fixed_of self.old) (ShowsDesk self.old) (view_of self.new) outside.old outside.new }
+        ensures shut { StaysShut (session_told self.old).closed (result ≡ Reopened.Shut) ((self.new ≡ self.old) × (outside.new ≡ outside.old)) }
+        ensures told { session_told self.new ≡ record (session_told self.old) { closed = reopened_closes result } }
         ensures number { ReopenedNumber result (number_told self.new) }
-        ensures closed { is_closed self.new ≡ reopened_closes result }
         ensures failed { FailsCounted (reopened_fails result) (W.disk_faults outside.old) (W.disk_faults outside.new) }
         ensures damage { IsDamage W.Outside (fixed_of self.old).header outside.old result }
         ensures undamaged { (desk : Desk) (offset : ℕ) → IsSome (W.held outside.old) → ShowsDesk self.old (held_of W.Outside outside.old) desk → result ≢ Reopened.Damaged offset }
         ensures asks { OnlyAsks W.Outside outside.old outside.new }
-        ensures order { order_of self.new ≡ order_of self.old }
-        ensures printed { printed_of self.new ≡ printed_of self.old }
         ensures sound { IsSound self.new }
-        ensures fixed { fixed_of self.new ≡ fixed_of self.old }
-        ensures given { (activity self.new).next - 1 ≡ (activity self.old).next - 1 }
-        ensures turns { turns_of self.new ≡ turns_of self.old }
     {
         if self.closed {
             return Reopened::Shut;
@@ -185,7 +160,7 @@ impl Session {
 
     /// What the activation of the last turn that ended by a commit had printed.
     pub fn printed(&self) -> &[u8]
-        ensures bytes { result.now ≡ printed_of self.now }
+        ensures bytes { result.now ≡ (session_told self.now).printed }
         ensures few { length result.now ≤ 4096 }
     {
         self.printed.as_slice()

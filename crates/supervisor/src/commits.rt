@@ -7,7 +7,7 @@ ghost use Rattle.outside.specs.Runs.{held_of};
 ghost use Rattle.store.specs.Held.{OnlyWrites};
 ghost use Rattle.desk.specs.Calls.{FailsCounted};
 ghost use Rattle.desk.specs.Kept.{HoldsStore, WritesMore, writes_due, turn_fails};
-ghost use Rattle.desk.specs.Answers.{EntersOrder, KeepsPrinted, turn_closes};
+ghost use Rattle.desk.specs.Told.{ToldAfterEnd};
 ghost use Rattle.desk.specs.Instruction.{Word, Turning};
 ghost use Rattle.activations.specs.Turning.{tally_counts};
 
@@ -21,9 +21,9 @@ impl Session {
     ghost use Rattle.activations.specs.Turning.{IsAtCommit};
     ghost use Rattle.activations.specs.Stages.{IfJournal};
     ghost use Rattle.store_format.specs.Header.{most_lines};
-    ghost use Rattle.supervisor.specs.Session.{IsSound, KeepsParts, activity, order_of};
+    ghost use Rattle.supervisor.specs.Session.{IsSound, activity, order_of, session_told};
     ghost use Rattle.supervisor.specs.Shown.{IsOpenOver};
-    ghost use Rattle.supervisor.specs.Causes.{TellsNumber, ClosesAsCommit, KeepsStore};
+    ghost use Rattle.supervisor.specs.Causes.{TellsNumber, LeavesStore};
     ghost use Rattle.store.specs.KeptStore.{number_of};
     ghost use Rattle.supervisor.specs.Went.{HasCommitted, IsCommitEnd};
 
@@ -40,18 +40,14 @@ impl Session {
         requires open { self.old.closed ≡ false }
         requires bytes { HoldsStore W.Outside self.old.store.header outside.old }
         ensures sound { IsSound self.new }
-        ensures parts { KeepsParts self.old self.new }
         ensures only { OnlyWrites W.Outside outside.old outside.new }
         ensures writes { WritesMore (W.writes outside.old) (W.writes outside.new) (writes_due result) }
         ensures end { IsCommitEnd result }
         ensures ran { tally.new.ran ≤ tally.old.ran + 1 }
-        ensures stored { KeepsStore result self.old.store self.new.store }
         ensures journal { IfJournal (most_lines self.old.store.header) result }
         ensures numbered { TellsNumber (number_in (activity self.old).seating seat) (number_of self.old.store) result }
-        ensures ordered { EntersOrder (number_in (activity self.old).seating seat) result (order_of self.old) (order_of self.new) }
-        ensures printed { KeepsPrinted result self.old.printed self.new.printed }
-        ensures closed { self.new.closed ≡ turn_closes result }
-        ensures committing { ClosesAsCommit W.Outside (number_in (activity self.old).seating seat) result self.old.store self.new outside.old outside.new }
+        ensures told { ToldAfterEnd (number_in (activity self.old).seating seat) result (session_told self.old) (session_told self.new) }
+        ensures stored { LeavesStore W.Outside (number_in (activity self.old).seating seat) result self.old.store self.new outside.old outside.new }
         ensures failed { FailsCounted (turn_fails result) (W.disk_faults outside.old) (W.disk_faults outside.new) }
         ensures went { (begins : Word → Turning) → IsSure W.Outside outside.old → (over : IsOpenOver self.old (held_of W.Outside outside.old)) → (at : IsAtCommit begins (activity self.old) seat over.committed (order_of self.old) (tally_counts tally.old)) → HasCommitted W.Outside seat at.now result self.old self.new tally.old tally.new outside.old outside.new over.committed }
     {

@@ -1,39 +1,21 @@
 // The session as a supervisor.
-ghost use Rattle.std.specs.Prelude.{◌≡◌, ◌-◌};
-
 use super::session::Session;
 use arrayvec::ArrayVec;
 use desk::{Begun, Committed, Reopened, Stored, Supervisor, Turn};
 use outside::Outside;
 
 impl Supervisor for Session {
-    ghost use Rattle.supervisor.specs.Session.{IsSound, activity, order_of, is_closed, fixed_of, turns_of, printed_of};
+    ghost use Rattle.supervisor.specs.Session.{IsSound, session_told};
     ghost use Rattle.supervisor.specs.Shown.{ShowsDesk};
-    ghost use Rattle.supervisor.specs.ShownLaws.{shown-open, shown-order, shown-closed, shown-stands};
+    ghost use Rattle.supervisor.specs.ShownLaws.{shown-told};
 
     ghost shows = { ShowsDesk };
 
     ghost sound = { IsSound };
 
-    ghost closed = { is_closed };
+    ghost told = { session_told };
 
-    ghost fixed = { fixed_of };
-
-    ghost given = { λ s. (activity s).next - 1 };
-
-    ghost turns = { turns_of };
-
-    ghost printed = { printed_of };
-
-    ghost order = { order_of };
-
-    ghost shown_open = { shown-open };
-
-    ghost order_shown = { shown-order };
-
-    ghost open_shown = { shown-closed };
-
-    ghost shown_stands = { shown-stands };
+    ghost shown_told = { shown-told };
 
     fn begin(&mut self, program: u16, args: [u32; 4]) -> Begun {
         Session::begin(self, program, args)

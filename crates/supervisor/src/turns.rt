@@ -6,7 +6,7 @@ ghost use Rattle.store.specs.Held.{OnlyWrites};
 ghost use Rattle.desk.specs.declared.answers.TurnEnd.TheVariants as end;
 ghost use Rattle.desk.specs.Calls.{FailsCounted};
 ghost use Rattle.desk.specs.Kept.{HoldsStore, WritesMore, writes_due, turn_fails};
-ghost use Rattle.desk.specs.Answers.{EntersOrder, KeepsPrinted, turn_closes};
+ghost use Rattle.desk.specs.Told.{ToldAfterEnd};
 
 use super::session::Session;
 use activations::Tally;
@@ -15,9 +15,9 @@ use outside::Outside;
 
 impl Session {
     ghost use Rattle.activations.specs.Kept.{AreRowsWithin};
-    ghost use Rattle.supervisor.specs.Session.{IsSound, KeepsParts, activity, order_of};
+    ghost use Rattle.supervisor.specs.Session.{IsSound, activity, session_told};
     ghost use Rattle.supervisor.specs.Shown.{IsOpenOver};
-    ghost use Rattle.supervisor.specs.Causes.{IsTurnEnd, answer_of, ClosesAsCommit, KeepsStore};
+    ghost use Rattle.supervisor.specs.Causes.{IsTurnEnd, answer_of, LeavesStore};
     ghost use Rattle.store_format.specs.Header.{most_lines};
     ghost use Rattle.store.specs.KeptStore.{number_of};
     ghost use Rattle.seats.specs.Seating.{seat_of};
@@ -40,17 +40,13 @@ impl Session {
         requires tally { tally.old.ran + tally.old.pages + tally.old.locks ≡ 0 }
         requires cycles { tally.old.cycles.items ≡ [] }
         ensures sound { IsSound self.new }
-        ensures parts { KeepsParts self.old self.new }
         ensures only { OnlyWrites W.Outside outside.old outside.new }
         ensures writes { WritesMore (W.writes outside.old) (W.writes outside.new) (writes_due result) }
         ensures turned { IsTurned result }
         ensures idle { (result ≡ end.Idle) ↔ (seat_of (activity self.old).seating activation ≡ None) }
         ensures end { IsTurnEnd activation limit (most_lines self.old.store.header) (number_of self.old.store) (answer_of tally.new result) }
-        ensures stored { KeepsStore result self.old.store self.new.store }
-        ensures ordered { EntersOrder activation result (order_of self.old) (order_of self.new) }
-        ensures printed { KeepsPrinted result self.old.printed self.new.printed }
-        ensures closed { self.new.closed ≡ turn_closes result }
-        ensures committing { ClosesAsCommit W.Outside activation result self.old.store self.new outside.old outside.new }
+        ensures told { ToldAfterEnd activation result (session_told self.old) (session_told self.new) }
+        ensures stored { LeavesStore W.Outside activation result self.old.store self.new outside.old outside.new }
         ensures failed { FailsCounted (turn_fails result) (W.disk_faults outside.old) (W.disk_faults outside.new) }
         ensures went { IsSure W.Outside outside.old → (over : IsOpenOver self.old (held_of W.Outside outside.old)) → TurnHasRun W.Outside activation limit result self.old self.new tally.new outside.old outside.new over.committed }
     {

@@ -31,8 +31,8 @@ pub filled-requires-clause-room : goal.filled-requires-clause-room
 filled-requires-clause-room g c =
     let new = c.run_quiet-quiet.new.desk in
     let told : length (order_told c.order.result.now) ≡ length (order_told new.order.items) = ap length c.order.ensures in
-    let few : vec_len new.order ≤ new.begins = c.run_quiet-quiet.ensures.sound.room.commits in
-    let begins : new.begins ≡ c.in-Ok.session.begins = ap (λ (fixed : Fixed). fixed.begins) c.run_quiet-quiet.ensures.fixed in
+    let few : vec_len new.order ≤ new.begins = c.run_quiet-quiet.ensures.answered.sound.room.commits in
+    let begins : new.begins ≡ c.in-Ok.session.begins = ap (λ (fixed : Fixed). fixed.begins) c.run_quiet-quiet.ensures.answered.tells.fixed in
     omega (arith, told, length-map {B = ℕ × ℕ} c.order.result.now (λ commit. (commit.activation, commit.steps)), length-map {B = ℕ × ℕ} new.order.items (λ commit. (commit.activation, commit.steps)), new.order.ok.0, few, begins, c.in-Ok.ensures.new.begins_are, c.requires.room)
 
 pub returns-clause-loaded : goal.returns-clause-loaded
@@ -50,14 +50,14 @@ returns-clause-loaded g c =
     subst (λ (bytes : List ℕ). RunsQuietly ghosts G (opening_of [] (fixed_of desk) first) job.events.items new (span start between) bytes quiet) (sym c.as_slice.ensures.value)
     (subst (λ (events : List Event). RunsQuietly ghosts G (opening_of [] (fixed_of desk) first) events new (span start between) c.run_quiet-quiet.new.last.items quiet) c.deref.ensures.value (c.run_quiet-quiet.ensures.runs first sure shows)) in
     subst (λ (order : List (ℕ × ℕ)). Loaded G c.args.transfers (call before c.tell.new.outside order c.tell.result) (Some new)) (sym (ap order_told c.filled.ensures ∙ c.order.ensures))
-    (loaded G g.met.W.Outside.fewer_later g.met.W.Outside.printed_now c.args.transfers job c.requires.load before start between desk new c.in-Ok.ensures.opened c.in-Ok.ensures.asks c.in-Ok.ensures.new.programs_are (ap (λ (fixed : Fixed). fixed.programs) c.run_quiet-quiet.ensures.fixed) (ap (λ (fixed : Fixed). fixed.opened) c.run_quiet-quiet.ensures.fixed) c.in-Ok.ensures.unfailed
-    (λ told. (c.in-Ok.ensures.told told).1) last c.run_quiet-quiet.ensures.calls c.run_quiet-quiet.ensures.told quiet runs c.tell.new.outside c.tell.result c.tell.ensures)
+    (loaded G g.met.W.Outside.fewer_later g.met.W.Outside.printed_now c.args.transfers job c.requires.load before start between desk new c.in-Ok.ensures.opened c.in-Ok.ensures.asks c.in-Ok.ensures.new.programs_are (ap (λ (fixed : Fixed). fixed.programs) c.run_quiet-quiet.ensures.answered.tells.fixed) (ap (λ (fixed : Fixed). fixed.opened) c.run_quiet-quiet.ensures.answered.tells.fixed) c.in-Ok.ensures.unfailed
+    (λ told. (c.in-Ok.ensures.told told).1) last c.run_quiet-quiet.ensures.calls c.run_quiet-quiet.ensures.answered.told quiet runs c.tell.new.outside c.tell.result c.tell.ensures)
 
 pub returns-clause-fits : goal.returns-clause-fits
 returns-clause-fits g c =
-    let ran = c.run_quiet-quiet.ensures in
+    let ran = c.run_quiet-quiet.ensures.answered in
     let few : length c.deref.result.now ≡ length c.args.job.events.items = ap (λ (these : List Event). length these) c.deref.ensures.value in
-    record { sound = ran.sound; bytes = still-holds g.W.Outside c.run_quiet-quiet.new.desk.store.header c.args.transfers c.run_quiet-quiet.result c.as_slice.result.now c.run_quiet-quiet.new.outside c.tell.new.outside c.tell.result c.tell.ensures ran.bytes; turns = omega (arith, ran.turns, few, c.requires.ready.few, c.in-Ok.ensures.new.no_turns) }
+    record { sound = ran.sound; bytes = still-holds g.W.Outside c.run_quiet-quiet.new.desk.store.header c.args.transfers c.run_quiet-quiet.result c.as_slice.result.now c.run_quiet-quiet.new.outside c.tell.new.outside c.tell.result c.tell.ensures ran.bytes; turns = omega (arith, ran.tells.turns, count_by-le-length is_turn c.deref.result.now, few, c.requires.ready.few, c.in-Ok.ensures.new.no_turns) }
 
 pub returns-clause-faults : goal.returns-clause-faults
 returns-clause-faults g c =

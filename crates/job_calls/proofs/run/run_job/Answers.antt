@@ -36,8 +36,8 @@ pub filled-requires-clause-room : goal.filled-requires-clause-room
 filled-requires-clause-room g c =
     let new = c.replay-replayed.new.desk in
     let told : length (order_told c.order.result.now) ≡ length (order_told new.order.items) = ap length c.order.ensures in
-    let few : vec_len new.order ≤ new.begins = c.replay-replayed.ensures.sound.room.commits in
-    let begins : new.begins ≡ c.in-Ok.session.begins = ap (λ (fixed : Fixed). fixed.begins) c.replay-replayed.ensures.fixed in
+    let few : vec_len new.order ≤ new.begins = c.replay-replayed.ensures.answered.sound.room.commits in
+    let begins : new.begins ≡ c.in-Ok.session.begins = ap (λ (fixed : Fixed). fixed.begins) c.replay-replayed.ensures.answered.tells.fixed in
     omega (arith, told, length-map {B = ℕ × ℕ} c.order.result.now (λ commit. (commit.activation, commit.steps)), length-map {B = ℕ × ℕ} new.order.items (λ commit. (commit.activation, commit.steps)), new.order.ok.0, few, begins, c.in-Ok.ensures.new.begins_are, c.requires.room)
 
 -- what was replayed, in the job's words
@@ -57,7 +57,7 @@ returns-clause-opened g c =
     let after = c.replay-replayed.new.outside in
     let result = c.replay-replayed.result in
     subst (λ (now : Status). OpensBy G before after now (Some c.replay-replayed.new.desk)) (sym c.status_of_replay.ensures)
-    (opens-by G before start after c.in-Ok.session c.replay-replayed.new.desk result c.in-Ok.ensures.told c.replay-replayed.ensures.ends
+    (opens-by G before start after c.in-Ok.session c.replay-replayed.new.desk result c.in-Ok.ensures.told c.replay-replayed.ensures.goes
     (λ offset is honest told.
     let opens = c.in-Ok.ensures.opened honest told in
     subst (λ (those : Replayed). Replays ghosts G (first_opening G c.args.job.frames before start c.in-Ok.session opens c.in-Ok.ensures.asks (map (λ name. name.items) c.deref.result.now)) c.deref-2.result.now c.replay-replayed.new.desk (span start after) those) is
@@ -67,15 +67,14 @@ pub returns-clause-faults : goal.returns-clause-faults
 returns-clause-faults g c =
     let same = sym c.status_of_replay.ensures in
     let asks = c.in-Ok.ensures.asks.calls in
-    let ends = c.replay-replayed.ensures.ends in
-    let start = c.open.new.outside in
-    let after = c.replay-replayed.new.outside in
-    let new = c.replay-replayed.new.desk in
-    let result = c.replay-replayed.result in
+    let replayed = c.replay-replayed in
+    let cause = replayed.ensures.answered.cause in
+    let before = g.W.Outside.put_faults c.open.new.outside in
+    let after = g.W.Outside.put_faults replayed.new.outside in
     record {
-      disk = λ is. let rose = disk-rose g.W.Outside start after c.in-Ok.session new result c.in-Ok.ensures.new.still_open ends (same ∙ is) in omega (arith, rose, asks.disk);
-      put = λ is. let rose = put-rose g.W.Outside start after c.in-Ok.session new result ends (same ∙ is) in omega (arith, rose, asks.put);
-      unfailed = λ is. put-same g.W.Outside start after c.in-Ok.session new result ends (λ put. let both = sym is ∙ c.status_of_replay.ensures ∙ put in cc) ∙ asks.put;
+      disk = λ is. let rose = disk-rose g.W.Outside c.open.new.outside replayed.new.outside c.in-Ok.session replayed.new.desk replayed.result c.in-Ok.ensures.new.still_open replayed.ensures.goes (same ∙ is) in omega (arith, rose, asks.disk);
+      put = λ is. let rose = put-rose before after replayed.result cause (same ∙ is) in omega (arith, rose, asks.put);
+      unfailed = λ is. put-same before after replayed.result cause (λ put. let both = sym is ∙ c.status_of_replay.ensures ∙ put in cc) ∙ asks.put;
     }
 
 pub returns-clause-happened : goal.returns-clause-happened
@@ -91,13 +90,13 @@ returns-clause-happened g c =
     let did = replays G _ c.deref-2.result.now job desk new start after result (ap (map (λ name. name.items)) c.deref.ensures.value) c.deref-2.ensures.value c.replay-replayed.ensures.replays in
     subst (λ (now : Status). HappenedTo G job (call before after (order_told c.filled.result.items) now) (Some new)) (sym c.status_of_replay.ensures)
     (subst (λ (order : List (ℕ × ℕ)). HappenedTo G job (call before after order (status_of_replay result)) (Some new)) (sym (ap order_told c.filled.ensures ∙ c.order.ensures))
-    (happened-by G g.met.W.Outside.fewer_later g.met.W.Outside.printed_now job before start after desk new c.in-Ok.ensures.opened c.in-Ok.ensures.asks c.in-Ok.ensures.new.programs_are (ap (λ (fixed : Fixed). fixed.opened) c.replay-replayed.ensures.fixed)
-    c.replay-replayed.ensures.honest c.replay-replayed.ensures.time c.replay-replayed.ensures.told c.in-Ok.ensures.unfailed result did c.in-Ok.ensures.new.none_committed result refl c.replay-replayed.ensures.ends
+    (happened-by G g.met.W.Outside.fewer_later g.met.W.Outside.printed_now job before start after desk new c.in-Ok.ensures.opened c.in-Ok.ensures.asks c.in-Ok.ensures.new.programs_are (ap (λ (fixed : Fixed). fixed.opened) c.replay-replayed.ensures.answered.tells.fixed)
+    c.replay-replayed.ensures.answered.honest c.replay-replayed.ensures.answered.time c.replay-replayed.ensures.answered.told c.in-Ok.ensures.unfailed result did c.in-Ok.ensures.new.none_committed result refl c.replay-replayed.ensures.answered.cause
     (subst (λ (names : List (List ℕ)). TellsBy G names job.events.items (order_of desk) (order_of new) start after result) (ap (map (λ name. name.items)) c.deref.ensures.value)
     (subst (λ (events : List Event). TellsBy G (map (λ name. name.items) c.deref.result.now) events (order_of desk) (order_of new) start after result) c.deref-2.ensures.value c.replay-replayed.ensures.tells))))
 
 pub returns-clause-fits : goal.returns-clause-fits
 returns-clause-fits g c =
-    let ran = c.replay-replayed.ensures in
+    let ran = c.replay-replayed.ensures.answered in
     let few : length c.deref-2.result.now ≡ length c.args.job.events.items = ap (λ (these : List Event). length these) c.deref-2.ensures.value in
-    record { sound = ran.sound; bytes = ran.bytes; turns = omega (arith, ran.turns, few, c.requires.ready.few, c.in-Ok.ensures.new.no_turns) }
+    record { sound = ran.sound; bytes = ran.bytes; turns = omega (arith, ran.tells.turns, count_by-le-length is_turn c.deref-2.result.now, few, c.requires.ready.few, c.in-Ok.ensures.new.no_turns) }

@@ -1,5 +1,5 @@
 use Rattle.schedule_replay.proofs.ToldLemmas.{enters_begun, enters_reopened, enters_stored, enters_turn, lines_one}
-use Rattle.schedule_replay.proofs.Lemmas.{refl, ℕ, List, map, ap, ◌∙◌, arith, asks_none, TurnEnd, Stored, begun_told, turn_told, stored_told, reopened_told, turn_closes, turn_fails, stored_closes, stored_fails, happening_lines, number_told, stored_number, reopened_number, going_begun, going_if, going_by, common_steps, puts_same, names_are, begun_closes, if_closes, crash_closes, turn_shut, stored_shut, undamaged, undamaged_begun, undamaged_if, store_asked, goes_begin, goes_if, goes_crash, begin_step, turn_step, checkpoint_step, crash_step, went_event}
+use Rattle.schedule_replay.proofs.Lemmas.{refl, ℕ, List, map, ap, ◌∙◌, arith, asks_none, TurnEnd, Stored, begun_told, turn_told, stored_told, reopened_told, turn_closes, turn_fails, stored_closes, stored_fails, happening_lines, number_told, stored_number, reopened_number, going_begun, going_if, going_by, common_steps, Told, after_begin, after_other, after_turn, reopened_closes, puts_same, names_are, begun_closes, if_closes, crash_closes, turn_shut, stored_shut, undamaged, undamaged_begun, undamaged_if, store_asked, goes_begin, goes_if, goes_crash, begin_step, turn_step, checkpoint_step, crash_step, went_event}
 use Rattle.desk.specs.declared.event.Event.TheVariants as event
 use Rattle.schedule_replay.proofs.events.answer.Goals as goal
 
@@ -11,12 +11,15 @@ returns-in-Begin g c =
     let w = c.args.outside.now in
     let begun = c.begin-begun in
     let names = map (λ name. name.items) c.args.names.now in
-    went_event S g.W.Outside g.met.W.Outside.fewer_later g.met.W.Outside.printed_now L.shown_stands L.shown_open names (names_are (λ name. name.items) c.args.names.now c.requires.unbroken) c.args.event (event.Begin c.in-Begin.program c.in-Begin.args) (happening_lines names 0 (begun_told c.in-Begin.program begun.result)) old begun.new.self w w c.put_begun-put.new.outside c.put_begun-put.result c.going_after_begin.result (going_begun begun.result) c.and.result
+    let told = begun.ensures.told in
+    let after = after_begin c.in-Begin.program c.in-Begin.args (S.told old) (S.told begun.new.self) told begun.ensures.given in
+    let closed = ap (λ (told : Told). told.closed) told in
+    went_event S g.W.Outside g.met.W.Outside.fewer_later g.met.W.Outside.printed_now L.shown_told names (names_are (λ name. name.items) c.args.names.now c.requires.unbroken) c.args.event (event.Begin c.in-Begin.program c.in-Begin.args) (happening_lines names 0 (begun_told c.in-Begin.program begun.result)) old begun.new.self w w c.put_begun-put.new.outside c.put_begun-put.result c.going_after_begin.result (going_begun begun.result) c.and.result
     c.in-Begin.is c.going_after_begin.ensures c.and.ensures (c.put_begun-put.ensures 0)
-    begun.ensures.sound begun.ensures.fixed (omega (arith, begun.ensures.given)) (omega (arith, begun.ensures.turns)) (store_asked S g.W.Outside old begun.new.self w w begun.ensures.fixed (asks_none g.W.Outside w) c.requires.ready.bytes)
-    (λ was. ap going_begun (begun.ensures.shut.shut.1 was)) (begun_closes begun.result _ _ begun.ensures.closed begun.ensures.shut) (λ disk held. goes_begin S g.W.Outside begun.result old begun.new.self w c.put_begun-put.new.outside begun.ensures.closed begun.ensures.shut)
-    (λ start sure shows. (begin_step S g.W.Outside names (S.fixed old).programs L.shown_stands L.shown_open L.open_shown L.order_shown c.in-Begin.program c.in-Begin.args begun.result start old begun.new.self w sure shows (begun.ensures.did _ start shows), undamaged_begun begun.result))
-    (lines_one names (event.Begin c.in-Begin.program c.in-Begin.args) (begun_told c.in-Begin.program begun.result) 0 (S.order old) (S.order begun.new.self) (begun.result, refl) (enters_begun c.in-Begin.program begun.result _ _ begun.ensures.order))
+    begun.ensures.sound after (store_asked S g.W.Outside old begun.new.self w w after.fixed (asks_none g.W.Outside w) c.requires.ready.bytes)
+    (λ was. ap going_begun (begun.ensures.shut.shut.1 was)) (begun_closes begun.result _ _ closed begun.ensures.shut) (λ disk held. goes_begin S g.W.Outside begun.result old begun.new.self w c.put_begun-put.new.outside closed begun.ensures.shut)
+    (λ start sure shows. (begin_step S g.W.Outside names (S.told old).fixed.programs L.shown_told c.in-Begin.program c.in-Begin.args begun.result start old begun.new.self w sure shows (begun.ensures.did _ start shows), undamaged_begun begun.result))
+    (lines_one names (event.Begin c.in-Begin.program c.in-Begin.args) (begun_told c.in-Begin.program begun.result) 0 (S.told old).order (S.told begun.new.self).order (begun.result, refl) (enters_begun c.in-Begin.program begun.result _ _ (ap (λ (told : Told). told.order) told)))
 
 pub returns-in-Turn : goal.returns-in-Turn
 returns-in-Turn g c =
@@ -26,14 +29,15 @@ returns-in-Turn g c =
     let turn = c.turn-turn in
     let told = turn_told c.in-Turn.activation turn.result in
     let names = map (λ name. name.items) c.args.names.now in
-    went_event S G g.met.W.Outside.fewer_later g.met.W.Outside.printed_now g.met.S.Supervisor.shown_stands g.met.S.Supervisor.shown_open names (names_are (λ name. name.items) c.args.names.now c.requires.unbroken) c.args.event (event.Turn c.in-Turn.activation c.in-Turn.limit) (happening_lines names (number_told turn.result.end) (told (S.printed turn.new.self))) old turn.new.self c.args.outside.now turn.new.outside c.put_turn-put.new.outside c.put_turn-put.result c.going_after_turn.result (going_if (turn_closes turn.result.end)) c.and-in-Turn.result
+    let closed = ap (λ (told : Told). told.closed) turn.ensures.told.others in
+    went_event S G g.met.W.Outside.fewer_later g.met.W.Outside.printed_now g.met.S.Supervisor.shown_told names (names_are (λ name. name.items) c.args.names.now c.requires.unbroken) c.args.event (event.Turn c.in-Turn.activation c.in-Turn.limit) (happening_lines names (number_told turn.result.end) (told (S.told turn.new.self).printed)) old turn.new.self c.args.outside.now turn.new.outside c.put_turn-put.new.outside c.put_turn-put.result c.going_after_turn.result (going_if (turn_closes turn.result.end)) c.and-in-Turn.result
     c.in-Turn.is c.going_after_turn.ensures c.and-in-Turn.ensures
-    (puts_same G turn.new.outside c.put_turn-put.new.outside (happening_lines names (number_told turn.result.end) (told c.printed.result.now)) (happening_lines names (number_told turn.result.end) (told (S.printed turn.new.self))) c.put_turn-put.result (ap (λ (bytes : List ℕ). happening_lines names (number_told turn.result.end) (told bytes)) c.printed.ensures.bytes) (c.put_turn-put.ensures names))
-    turn.ensures.sound turn.ensures.fixed (omega (arith, turn.ensures.given)) (omega (arith, turn.ensures.turns)) turn.ensures.calls
-    (λ was. ap (λ (ends : TurnEnd). going_if (turn_closes ends)) (turn.ensures.shut.shut.1 was)) (turn.ensures.closed ∙ if_closes (turn_closes turn.result.end))
-    (λ disk held. goes_if S G (turn_closes turn.result.end) (turn_fails turn.result.end) old turn.new.self c.args.outside.now turn.new.outside c.put_turn-put.new.outside turn.ensures.closed turn.ensures.shut (turn_shut turn.result.end) turn.ensures.failed disk)
-    (λ start sure shows. (turn_step S G names (S.fixed old).programs (S.fixed old).opened start turn.new.self c.args.outside.now turn.new.outside c.in-Turn.activation c.in-Turn.limit turn.result (S.printed turn.new.self) (turn.ensures.did start sure shows) turn.ensures.writes turn.ensures.failed, undamaged_if (turn_closes turn.result.end)))
-    (lines_one names (event.Turn c.in-Turn.activation c.in-Turn.limit) (told (S.printed turn.new.self)) (number_told turn.result.end) (S.order old) (S.order turn.new.self) (turn.result, S.printed turn.new.self, refl) (enters_turn c.in-Turn.activation turn.result turn.result.end (S.printed turn.new.self) _ _ turn.ensures.ordered))
+    (puts_same G turn.new.outside c.put_turn-put.new.outside (happening_lines names (number_told turn.result.end) (told c.printed.result.now)) (happening_lines names (number_told turn.result.end) (told (S.told turn.new.self).printed)) c.put_turn-put.result (ap (λ (bytes : List ℕ). happening_lines names (number_told turn.result.end) (told bytes)) c.printed.ensures.bytes) (c.put_turn-put.ensures names))
+    turn.ensures.sound (after_turn c.in-Turn.activation c.in-Turn.limit turn.result.end (S.told old) (S.told turn.new.self) turn.ensures.told turn.ensures.turns) turn.ensures.calls
+    (λ was. ap (λ (ends : TurnEnd). going_if (turn_closes ends)) (turn.ensures.shut.shut.1 was)) (closed ∙ if_closes (turn_closes turn.result.end))
+    (λ disk held. goes_if S G (turn_closes turn.result.end) (turn_fails turn.result.end) old turn.new.self c.args.outside.now turn.new.outside c.put_turn-put.new.outside closed turn.ensures.shut (turn_shut turn.result.end) turn.ensures.failed disk)
+    (λ start sure shows. (turn_step S G names (S.told old).fixed.programs (S.told old).fixed.opened start turn.new.self c.args.outside.now turn.new.outside c.in-Turn.activation c.in-Turn.limit turn.result (S.told turn.new.self).printed (turn.ensures.did start sure shows) turn.ensures.writes turn.ensures.failed, undamaged_if (turn_closes turn.result.end)))
+    (lines_one names (event.Turn c.in-Turn.activation c.in-Turn.limit) (told (S.told turn.new.self).printed) (number_told turn.result.end) (S.told old).order (S.told turn.new.self).order (turn.result, (S.told turn.new.self).printed, refl) (enters_turn c.in-Turn.activation turn.result turn.result.end (S.told turn.new.self).printed _ _ turn.ensures.told.ordered))
 
 pub returns-in-Checkpoint : goal.returns-in-Checkpoint
 returns-in-Checkpoint g c =
@@ -42,13 +46,15 @@ returns-in-Checkpoint g c =
     let old = c.args.desk.now in
     let stored = c.checkpoint-stored in
     let names = map (λ name. name.items) c.args.names.now in
-    went_event S G g.met.W.Outside.fewer_later g.met.W.Outside.printed_now g.met.S.Supervisor.shown_stands g.met.S.Supervisor.shown_open names (names_are (λ name. name.items) c.args.names.now c.requires.unbroken) c.args.event event.Checkpoint (happening_lines names (stored_number stored.result) (stored_told stored.result)) old stored.new.self c.args.outside.now stored.new.outside c.put_stored-put.new.outside c.put_stored-put.result c.going_after_checkpoint.result (going_if (stored_closes stored.result)) c.and-in-Checkpoint.result
+    let told = stored.ensures.told in
+    let closed = ap (λ (told : Told). told.closed) told in
+    went_event S G g.met.W.Outside.fewer_later g.met.W.Outside.printed_now g.met.S.Supervisor.shown_told names (names_are (λ name. name.items) c.args.names.now c.requires.unbroken) c.args.event event.Checkpoint (happening_lines names (stored_number stored.result) (stored_told stored.result)) old stored.new.self c.args.outside.now stored.new.outside c.put_stored-put.new.outside c.put_stored-put.result c.going_after_checkpoint.result (going_if (stored_closes stored.result)) c.and-in-Checkpoint.result
     c.in-Checkpoint.is c.going_after_checkpoint.ensures c.and-in-Checkpoint.ensures (c.put_stored-put.ensures names)
-    stored.ensures.sound stored.ensures.fixed (omega (arith, stored.ensures.given)) (omega (arith, stored.ensures.turns)) stored.ensures.calls
-    (λ was. ap (λ (answer : Stored). going_if (stored_closes answer)) (stored.ensures.shut.shut.1 was)) (stored.ensures.closed ∙ if_closes (stored_closes stored.result))
-    (λ disk held. goes_if S G (stored_closes stored.result) (stored_fails stored.result) old stored.new.self c.args.outside.now stored.new.outside c.put_stored-put.new.outside stored.ensures.closed stored.ensures.shut (stored_shut stored.result) stored.ensures.failed disk)
-    (λ start sure shows. (checkpoint_step S G names (S.fixed old).programs (S.fixed old).opened start stored.new.self c.args.outside.now stored.new.outside stored.result (stored.ensures.did start sure shows) stored.ensures.writes stored.ensures.failed, undamaged_if (stored_closes stored.result)))
-    (lines_one names event.Checkpoint (stored_told stored.result) (stored_number stored.result) (S.order old) (S.order stored.new.self) (stored.result, refl) (enters_stored stored.result _ _ stored.ensures.order))
+    stored.ensures.sound (after_other event.Checkpoint (stored_closes stored.result) (S.told old) (S.told stored.new.self) told) stored.ensures.calls
+    (λ was. ap (λ (answer : Stored). going_if (stored_closes answer)) (stored.ensures.shut.shut.1 was)) (closed ∙ if_closes (stored_closes stored.result))
+    (λ disk held. goes_if S G (stored_closes stored.result) (stored_fails stored.result) old stored.new.self c.args.outside.now stored.new.outside c.put_stored-put.new.outside closed stored.ensures.shut (stored_shut stored.result) stored.ensures.failed disk)
+    (λ start sure shows. (checkpoint_step S G names (S.told old).fixed.programs (S.told old).fixed.opened start stored.new.self c.args.outside.now stored.new.outside stored.result (stored.ensures.did start sure shows) stored.ensures.writes stored.ensures.failed, undamaged_if (stored_closes stored.result)))
+    (lines_one names event.Checkpoint (stored_told stored.result) (stored_number stored.result) (S.told old).order (S.told stored.new.self).order (stored.result, refl) (enters_stored stored.result _ _ (ap (λ (told : Told). told.order) told)))
 
 pub returns-in-Crash : goal.returns-in-Crash
 returns-in-Crash g c =
@@ -59,15 +65,18 @@ returns-in-Crash g c =
     let lost = c.as_slice.result.now in
     let reopened = c.forget-reopened in
     let names = map (λ name. name.items) c.args.names.now in
-    went_event S G g.met.W.Outside.fewer_later g.met.W.Outside.printed_now g.met.S.Supervisor.shown_stands g.met.S.Supervisor.shown_open names (names_are (λ name. name.items) c.args.names.now c.requires.unbroken) c.args.event event.Crash (happening_lines names (reopened_number reopened.result) (reopened_told lost reopened.result)) old reopened.new.self w reopened.new.outside c.put_reopened-put.new.outside c.put_reopened-put.result c.going_after_crash.result (going_by reopened.result) c.and-in-Crash.result
+    let told = reopened.ensures.told in
+    let after = after_other event.Crash (reopened_closes reopened.result) (S.told old) (S.told reopened.new.self) told in
+    let closed = ap (λ (told : Told). told.closed) told in
+    went_event S G g.met.W.Outside.fewer_later g.met.W.Outside.printed_now g.met.S.Supervisor.shown_told names (names_are (λ name. name.items) c.args.names.now c.requires.unbroken) c.args.event event.Crash (happening_lines names (reopened_number reopened.result) (reopened_told lost reopened.result)) old reopened.new.self w reopened.new.outside c.put_reopened-put.new.outside c.put_reopened-put.result c.going_after_crash.result (going_by reopened.result) c.and-in-Crash.result
     c.in-Crash.is c.going_after_crash.ensures c.and-in-Crash.ensures (c.put_reopened-put.ensures names)
-    reopened.ensures.sound reopened.ensures.fixed (omega (arith, reopened.ensures.given)) (omega (arith, reopened.ensures.turns)) (store_asked S G old reopened.new.self w reopened.new.outside reopened.ensures.fixed reopened.ensures.asks c.requires.ready.bytes)
-    (λ was. ap going_by (reopened.ensures.shut.shut.1 was)) (reopened.ensures.closed ∙ crash_closes reopened.result)
-    (λ disk held. goes_crash S G reopened.result old reopened.new.self w reopened.new.outside c.put_reopened-put.new.outside reopened.ensures.closed reopened.ensures.shut reopened.ensures.failed reopened.ensures.damage disk (held ∙ reopened.ensures.asks.held))
+    reopened.ensures.sound after (store_asked S G old reopened.new.self w reopened.new.outside after.fixed reopened.ensures.asks c.requires.ready.bytes)
+    (λ was. ap going_by (reopened.ensures.shut.shut.1 was)) (closed ∙ crash_closes reopened.result)
+    (λ disk held. goes_crash S G reopened.result old reopened.new.self w reopened.new.outside c.put_reopened-put.new.outside closed reopened.ensures.shut reopened.ensures.failed reopened.ensures.damage disk (held ∙ reopened.ensures.asks.held))
     (λ start sure shows.
     let did = reopened.ensures.did start sure shows in
-    (crash_step S G names (S.fixed old).programs (S.fixed old).opened start reopened.new.self w reopened.new.outside lost reopened.result (c.as_slice.ensures.value ∙ c.active-lost.ensures _ start shows) did reopened.ensures.asks reopened.ensures.failed, undamaged reopened.result _ did.1))
-    (lines_one names event.Crash (reopened_told lost reopened.result) (reopened_number reopened.result) (S.order old) (S.order reopened.new.self) (lost, reopened.result, refl) (enters_reopened lost reopened.result _ _ reopened.ensures.order))
+    (crash_step S G names (S.told old).fixed.programs (S.told old).fixed.opened start reopened.new.self w reopened.new.outside lost reopened.result (c.as_slice.ensures.value ∙ c.active-lost.ensures _ start shows) did reopened.ensures.asks reopened.ensures.failed, undamaged reopened.result _ did.1))
+    (lines_one names event.Crash (reopened_told lost reopened.result) (reopened_number reopened.result) (S.told old).order (S.told reopened.new.self).order (lost, reopened.result, refl) (enters_reopened lost reopened.result _ _ (ap (λ (told : Told). told.order) told)))
 
 pub put_begun-put-requires : goal.put_begun-put-requires
 put_begun-put-requires g c = grind (arith, common_steps)

@@ -9,7 +9,7 @@ closing_open number desk was_open =
     ap (λ (shut : Bool). if shut then none else lines) (sym was_open)
 
 pub returns-clause-puts : goal.returns-clause-puts
-returns-clause-puts g c = λ held start shows. grind (arith, puts_same, c.as_slice.ensures.value, c.active-left.ensures, c.number.ensures, closing_open, g.met.S.Supervisor.shown_open)
+returns-clause-puts g c = λ held start shows. grind (arith, puts_same, c.as_slice.ensures.value, c.active-left.ensures, c.number.ensures, closing_open, g.met.S.Supervisor.shown_told)
 
 pub returns-clause-some : goal.returns-clause-some
 returns-clause-some g c = (c.as_slice.result.now, c.number.result, c.put_each_and.ensures)

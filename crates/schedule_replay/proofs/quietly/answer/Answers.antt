@@ -7,12 +7,12 @@ returns-in-Begin-clause-went g c =
     λ start sure shows.
     let S = g.S.Supervisor in
     let L = g.met.S.Supervisor in
-    let at = S.fixed c.args.desk.now in
+    let at = (S.told c.args.desk.now).fixed in
     let w = c.args.outside.now in
     let program = c.in-Begin.program in
     let last = c.args.last.now.items in
     went_quietly S g.W.Outside g.met.W.Outside.fewer_later at.programs at.opened c.args.event (event.Begin program c.in-Begin.args) (happening_lines [] 0 (begun_told program c.begin.result)) start c.begin.new.self w w last last last c.tally_of_begin.result (tally_begun c.begin.result) c.in-Begin.is refl c.tally_of_begin.ensures
-    (begin_step S g.W.Outside [] at.programs L.shown_stands L.shown_open L.open_shown L.order_shown program c.in-Begin.args c.begin.result start c.args.desk.now c.begin.new.self w sure shows (c.begin.ensures.did _ start shows))
+    (begin_step S g.W.Outside [] at.programs L.shown_told program c.in-Begin.args c.begin.result start c.args.desk.now c.begin.new.self w sure shows (c.begin.ensures.did _ start shows))
     (begin_tells 0 program c.begin.result last)
 
 pub returns-in-Turn-clause-went : goal.returns-in-Turn-clause-went
@@ -20,8 +20,8 @@ returns-in-Turn-clause-went g c =
     λ start sure shows.
     let S = g.S.Supervisor in
     let turn = c.turn-turn in
-    let printed = S.printed turn.new.self in
-    let at = S.fixed c.args.desk.now in
+    let printed = (S.told turn.new.self).printed in
+    let at = (S.told c.args.desk.now).fixed in
     let ends = turn.result.end in
     let activation = c.in-Turn.activation in
     let last = c.args.last.now.items in
@@ -34,7 +34,7 @@ returns-in-Checkpoint-clause-went g c =
     λ start sure shows.
     let S = g.S.Supervisor in
     let stored = c.checkpoint in
-    let at = S.fixed c.args.desk.now in
+    let at = (S.told c.args.desk.now).fixed in
     let last = c.args.last.now.items in
     went_quietly S g.W.Outside g.met.W.Outside.fewer_later at.programs at.opened c.args.event event.Checkpoint (happening_lines [] (stored_number stored.result) (stored_told stored.result)) start stored.new.self c.args.outside.now stored.new.outside last last last c.tally_of_checkpoint.result (tally_stored stored.result) c.in-Checkpoint.is refl c.tally_of_checkpoint.ensures
     (checkpoint_step S g.W.Outside [] at.programs at.opened start stored.new.self c.args.outside.now stored.new.outside stored.result (stored.ensures.did start sure shows) stored.ensures.writes stored.ensures.failed)

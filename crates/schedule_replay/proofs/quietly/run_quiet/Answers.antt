@@ -1,4 +1,4 @@
-use Rattle.schedule_replay.proofs.Lemmas.{◌≡◌, [], ◌+◌, take, drop, refl, arith, append-nil, ◌∙◌, Ok, Some, None, take-append-drop, take_all, ap, Fixed, calls_none, calls_on, Begin, event_lines, common_steps, answered_none, answered_more, shut_asked, shut_unasked, ran_nothing, ran_next_quietly, tells_nothing}
+use Rattle.schedule_replay.proofs.Lemmas.{◌≡◌, [], ◌+◌, take, drop, refl, arith, append-nil, ◌∙◌, Ok, Some, None, take-append-drop, take_all, ap, Fixed, calls_none, calls_on, Begin, event_lines, common_steps, answered_all, answered_none, answered_more, shut_asked, shut_unasked, ran_nothing, ran_next_quietly, tells_nothing}
 use Rattle.schedule_replay.specs.declared.events.Going.TheVariants as going
 use Rattle.schedule_replay.proofs.quietly.run_quiet.Goals as goal
 
@@ -18,8 +18,8 @@ loop-event-init g c =
       few = omega arith;
       few_back = omega arith;
       ran = λ start sure shows.
-          let it = ran_nothing S G M.fewer_later (S.fixed old).programs (S.fixed old).opened L.shown_stands L.shown_open L.open_shown L.order_shown start old w refl sure shows in
-          (it.0, tells_nothing c.clear.new.self.items (event_lines [] (S.fixed old).programs (S.fixed old).opened it.0.taken start) c.clear.ensures it.1);
+          let it = ran_nothing S G M.fewer_later (S.told old).fixed.programs (S.told old).fixed.opened L.shown_told start old w refl sure shows in
+          (it.0, tells_nothing c.clear.new.self.items (event_lines [] (S.told old).fixed.programs (S.told old).fixed.opened it.0.taken start) c.clear.ensures it.1);
     }
 
 pub loop-event-preserved : goal.loop-event-preserved
@@ -44,8 +44,8 @@ loop-event-preserved g c =
       few_back = omega (arith, now.few_back, c.in-Some.ensures.small.1);
       ran = λ start sure shows.
           let so_far = now.ran start sure shows in
-          ran_next_quietly S G M.fewer_later (S.fixed old).programs (S.fixed old).opened c.args.events.now c.loop-event.event-index (Begin 0 []) c.loop-event-test.true start mid new before between after c.loop-event.last.items c.answer.new.last.items (record { commits = c.loop-event.commits; rollbacks = c.loop-event.rollbacks }) (Some c.in-Some.tally)
-          (now.still (L.open_shown old _ start shows)) (ap (λ (fixed : Fixed). fixed.programs) now.answered.fixed) (ap (λ (fixed : Fixed). fixed.opened) now.answered.fixed) now.calls c.answer.ensures.calls so_far.0 so_far.1 c.in-Some.ensures.went;
+          ran_next_quietly S G M.fewer_later (S.told old).fixed.programs (S.told old).fixed.opened c.args.events.now c.loop-event.event-index (Begin 0 []) c.loop-event-test.true start mid new before between after c.loop-event.last.items c.answer.new.last.items (record { commits = c.loop-event.commits; rollbacks = c.loop-event.rollbacks }) (Some c.in-Some.tally)
+          (now.still (L.shown_told old _ start shows).still_open) (ap (λ (fixed : Fixed). fixed.programs) now.answered.tells.fixed) (ap (λ (fixed : Fixed). fixed.opened) now.answered.tells.fixed) now.calls c.answer.ensures.calls so_far.0 so_far.1 c.in-Some.ensures.went;
     }
 
 pub returns-in-None-clause-runs : goal.returns-in-None-clause-runs
@@ -55,8 +55,8 @@ returns-in-None-clause-runs g c =
     let now = c.loop-event.invariant in
     let old = c.args.desk.now in
     let so_far = now.ran start sure shows in
-    let it = ran_next_quietly S g.W.Outside g.met.W.Outside.fewer_later (S.fixed old).programs (S.fixed old).opened c.args.events.now c.loop-event.event-index (Begin 0 []) c.loop-event-test.true start c.loop-event.desk c.answer.new.desk c.args.outside.now c.loop-event.outside c.answer.new.outside c.loop-event.last.items c.answer.new.last.items (record { commits = c.loop-event.commits; rollbacks = c.loop-event.rollbacks }) None
-    (now.still (g.met.S.Supervisor.open_shown old _ start shows)) (ap (λ (fixed : Fixed). fixed.programs) now.answered.fixed) (ap (λ (fixed : Fixed). fixed.opened) now.answered.fixed) now.calls c.answer.ensures.calls so_far.0 so_far.1 c.in-None.ensures.went in
+    let it = ran_next_quietly S g.W.Outside g.met.W.Outside.fewer_later (S.told old).fixed.programs (S.told old).fixed.opened c.args.events.now c.loop-event.event-index (Begin 0 []) c.loop-event-test.true start c.loop-event.desk c.answer.new.desk c.args.outside.now c.loop-event.outside c.answer.new.outside c.loop-event.last.items c.answer.new.last.items (record { commits = c.loop-event.commits; rollbacks = c.loop-event.rollbacks }) None
+    (now.still (g.met.S.Supervisor.shown_told old _ start shows).still_open) (ap (λ (fixed : Fixed). fixed.programs) now.answered.tells.fixed) (ap (λ (fixed : Fixed). fixed.opened) now.answered.tells.fixed) now.calls c.answer.ensures.calls so_far.0 so_far.1 c.in-None.ensures.went in
     record {
       front = take (c.loop-event.event-index + 1) c.args.events.now;
       rest = drop (c.loop-event.event-index + 1) c.args.events.now;
@@ -79,9 +79,19 @@ returns-clause-runs g c =
       whole = append-nil (take c.loop-event.event-index c.args.events.now) ∙ take_all c.loop-event.event-index c.args.events.now c.loop-event-test.false;
       ran = it.0;
       tells = it.1;
-      closed = now.still (L.open_shown c.args.desk.now _ start shows);
+      closed = now.still (L.shown_told c.args.desk.now _ start shows).still_open;
       all = λ still. refl;
     }
+
+pub returns-in-None-clause-answered : goal.returns-in-None-clause-answered
+returns-in-None-clause-answered g c =
+    let S = g.S.Supervisor in
+    let later = g.met.W.Outside.fewer_later in
+    answered_all S g.W.Outside later c.args.events.now (c.loop-event.event-index + 1) c.args.desk.now c.answer.new.desk c.args.outside.now c.answer.new.outside (Ok 0)
+    (answered_more S g.W.Outside later c.args.events.now c.loop-event.event-index (Begin 0 []) c.loop-event-test.true c.args.desk.now c.loop-event.desk c.args.outside.now c.loop-event.outside c.answer.new.desk c.answer.new.outside (Ok 0) c.loop-event.invariant.answered c.answer.ensures.answered)
+
+pub returns-clause-answered : goal.returns-clause-answered
+returns-clause-answered g c = answered_all g.S.Supervisor g.W.Outside g.met.W.Outside.fewer_later c.args.events.now c.loop-event.event-index c.args.desk.now c.loop-event.desk c.args.outside.now c.loop-event.outside (Ok 0) c.loop-event.invariant.answered
 
 pub returns-in-None-clause-shut : goal.returns-in-None-clause-shut
 returns-in-None-clause-shut g c = λ was. shut_asked c.args.events.now c.loop-event.event-index going.Closed c.loop-event-test.true refl
@@ -89,11 +99,5 @@ returns-in-None-clause-shut g c = λ was. shut_asked c.args.events.now c.loop-ev
 pub returns-clause-shut : goal.returns-clause-shut
 returns-clause-shut g c = λ was. shut_unasked c.args.events.now c.loop-event.event-index (c.loop-event.invariant.shut was).0 c.loop-event-test.false
 
-pub returns-in-None-clause-turns : goal.returns-in-None-clause-turns
-returns-in-None-clause-turns g c = grind (arith, common_steps)
-
 pub answer-requires-clause-ready : goal.answer-requires-clause-ready
 answer-requires-clause-ready g c = grind (arith, common_steps)
-
-pub returns-clause-turns : goal.returns-clause-turns
-returns-clause-turns g c = grind (arith, common_steps)

@@ -1,4 +1,4 @@
-use Rattle.supervisor.proofs.Lemmas.{◌≡◌, ◌+◌, ◌%◌, ◌^◌, ◌∙◌, ◌∷◌, [], length, refl, sym, ap, subst, arith, Some, length-append, true, false, has, Commit, row, begun_of, Kept, KeptStore, number_of, TracksStore, held_of, over_all, committed_at, sitter, number_in, taken-below, Activity, live_in, program_in, entry_in, store_over, desk_over, shown, KeepsDesk, rolled, reprinted, activity_of, Session, activity, with_record, HoldsStore, Header, stored-sound, closes-now}
+use Rattle.supervisor.proofs.Lemmas.{◌≡◌, ◌+◌, ◌-◌, Fixed, session_told, ◌%◌, ◌^◌, ◌∙◌, ◌∷◌, [], length, refl, sym, ap, subst, arith, Some, length-append, true, false, has, Commit, row, begun_of, Kept, KeptStore, number_of, TracksStore, held_of, over_all, committed_at, sitter, number_in, taken-below, Activity, live_in, program_in, entry_in, store_over, desk_over, shown, KeepsDesk, rolled, reprinted, activity_of, Session, activity, with_record, HoldsStore, Header, stored-sound, closes-now}
 use Rattle.flat_machine.specs.After.{after as after_rows}
 use Rattle.store.specs.declared.keep.Kept.TheVariants.{Unwritten, Doubt}
 use Rattle.store.specs.Committed.{roomy, number_after, IsKeptAfter}
@@ -157,15 +157,26 @@ returns-in-Unwritten-clause-went g c = λ begins sure over at.
     went-unwritten G s seat c.requires.sound before after over at.now lines gives c.number-number.result (c.number-number.ensures ∙ ap number_of begun) _
     refl refl c.args.tally.now c.in-Unwritten.ensures.counted (c.in-Unwritten.ensures.left tracks)
 
-pub returns-in-Doubt-clause-ordered : goal.returns-in-Doubt-clause-ordered
-returns-in-Doubt-clause-ordered g c = (
-  _,
-  order-more c.args.self.now.order.items _ c.committed_in-committed.result _ _ c.enter_order-in-Doubt.ensures.order
-      (c.committed_in-committed.ensures.activation ∙ ap (λ (a : Activity). number_in a.seating c.args.seat) c.in_default.ensures.kept) refl,
-)
+pub returns-in-Doubt-clause-told : goal.returns-in-Doubt-clause-told
+returns-in-Doubt-clause-told g c =
+    let entered = c.enter_order-in-Doubt.new.self in
+    let others = c.enter_order-in-Doubt.ensures.others in
+    let there : activity entered ≡ activity c.args.self.now = ap activity others ∙ c.in_default.ensures.kept in
+    let header = ap (λ (n : Session). n.store.header) others ∙ c.commit.ensures.header ∙ ap (λ (store : KeptStore). store.header) c.in_default.ensures.begun in
+    record {
+      others = λ i.
+          let fixed : Fixed = record { programs = (there i).programs; opened = (others i).opened; header = header i; begins = (others i).begins } in
+          record (session_told entered) { closed = true; fixed = fixed; given = (there i).next - 1; turns = (others i).turns };
+      printed = ap (λ (n : Session). n.printed) others;
+      ordered = (
+        _,
+        order-more c.args.self.now.order.items _ c.committed_in-committed.result _ _ c.enter_order-in-Doubt.ensures.order
+            (c.committed_in-committed.ensures.activation ∙ ap (λ (a : Activity). number_in a.seating c.args.seat) c.in_default.ensures.kept) refl,
+      );
+    }
 
-pub returns-in-Doubt-clause-committing : goal.returns-in-Doubt-clause-committing
-returns-in-Doubt-clause-committing g c =
+pub returns-in-Doubt-clause-stored : goal.returns-in-Doubt-clause-stored
+returns-in-Doubt-clause-stored g c =
     let G = g.W.Outside in
     let s = c.args.self.now in
     let there = c.record.new.store in
@@ -180,8 +191,8 @@ returns-in-Doubt-clause-committing g c =
       left = c.in-Doubt.ensures.left;
     })
 
-pub returns-in-Unwritten-clause-committing : goal.returns-in-Unwritten-clause-committing
-returns-in-Unwritten-clause-committing g c =
+pub returns-in-Unwritten-clause-stored : goal.returns-in-Unwritten-clause-stored
+returns-in-Unwritten-clause-stored g c =
     let G = g.W.Outside in
     let s = c.args.self.now in
     let there = c.record.new.store in
@@ -214,9 +225,6 @@ returns-in-Doubt-clause-writes g c = writes-more (g.W.Outside.writes c.args.outs
 
 pub returns-in-Unwritten-clause-writes : goal.returns-in-Unwritten-clause-writes
 returns-in-Unwritten-clause-writes g c = writes-more (g.W.Outside.writes c.args.outside.now) (g.W.Outside.writes c.commit.new.outside) 0 c.commit.ensures.only.writes
-
-pub returns-in-Done-clause-ordered : goal.returns-in-Done-clause-ordered
-returns-in-Done-clause-ordered g c = order-more c.args.self.now.order.items _ c.committed_in-committed.result _ _ c.enter_order.ensures.order (c.committed_in-committed.ensures.activation ∙ ap (λ (a : Activity). number_in a.seating c.args.seat) c.in_default.ensures.kept) refl
 
 pub commit-requires-in-Done-clause-sound : goal.commit-requires-in-Done-clause-sound
 commit-requires-in-Done-clause-sound g c = subst running.IsSound (sym (ap activity c.enter_order.ensures.others ∙ c.in_default.ensures.kept)) c.requires.sound.running

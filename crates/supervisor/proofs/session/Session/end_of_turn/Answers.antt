@@ -1,4 +1,4 @@
-use Rattle.supervisor.proofs.Lemmas.{ℕ, arith, sym, ◌∙◌, subst, sure_on, few-taken, seat-found, TurnEnd, FailsCounted, turn_fails, activity, order_of, IfWaits, IfJournal, IfVictim, IsEndOfRows, number_of, TellsNumber, ClosesAsCommit, asks_none, total, closes-since, commit-told, rows-counted, rows-number}
+use Rattle.supervisor.proofs.Lemmas.{ℕ, arith, sym, ◌∙◌, subst, sure_on, few-taken, seat-found, TurnEnd, FailsCounted, turn_fails, activity, order_of, IfWaits, IfJournal, IfVictim, IsEndOfRows, number_of, TellsNumber, LeavesStore, Told, ToldAfterEnd, session_told, refl, activity_of, number_in, asks_none, total, leaves-since, told-stored, commit-told, rows-counted, rows-number}
 use Rattle.store.proofs.WriteLemmas.{asks_only, writes_on}
 use Rattle.supervisor.proofs.TurnLemmas.{idle, ended, committed, nothing-counted, sound-ran, over-ran, store-over}
 use Rattle.supervisor.proofs.session.Session.end_of_turn.Goals as goal
@@ -45,16 +45,21 @@ returns-in-Ok-clause-went g c sure over =
     (c.commit.ensures.went _ (sure_on G g.met.W.Outside.fewer_later before c.run.new.outside sure asks)
     (over-ran G g.met.W.Outside.fewer_later s c.requires.sound c.args.activation c.args.limit before c.run.new.outside sure over asks c.run.new.self at.follows) at)
 
-pub returns-in-Ok-clause-ordered : goal.returns-in-Ok-clause-ordered
-returns-in-Ok-clause-ordered g c = grind (arith, (seat-found (activity c.args.self.now).seating c.requires.sound.running.seating c.args.activation c.in-Some.seat (sym c.seat_of.ensures ∙ c.in-Some.is)).1, c.in-Ok.ensures.on.stays.number, c.commit.ensures.ordered)
+pub returns-in-Ok-clause-told : goal.returns-in-Ok-clause-told
+returns-in-Ok-clause-told g c =
+    let s = c.args.self.now in
+    let parts = c.run.ensures.keeps.parts in
+    let number = c.in-Ok.ensures.on.stays.number ∙ (seat-found (activity s).seating c.requires.sound.running.seating c.args.activation c.in-Some.seat (sym c.seat_of.ensures ∙ c.in-Some.is)).1 in
+    subst (λ (n : ℕ). ToldAfterEnd n c.commit.result (session_told s) (session_told c.commit.new.self)) number
+    (subst (λ (told : Told). ToldAfterEnd (number_in (activity_of c.run.new.self).seating c.in-Some.seat) c.commit.result told (session_told c.commit.new.self)) (told-stored s s.store c.run.new.self s.closed s.closed refl parts.programs parts.next refl) c.commit.ensures.told)
 
-pub returns-in-Ok-clause-committing : goal.returns-in-Ok-clause-committing
-returns-in-Ok-clause-committing g c =
+pub returns-in-Ok-clause-stored : goal.returns-in-Ok-clause-stored
+returns-in-Ok-clause-stored g c =
     let G = g.W.Outside in
     let s = c.args.self.now in
     let found = (seat-found (activity s).seating c.requires.sound.running.seating c.args.activation c.in-Some.seat (sym c.seat_of.ensures ∙ c.in-Some.is)).1 in
-    closes-since G g.met.W.Outside.fewer_later c.args.activation s.store c.commit.new.self c.args.outside.now c.run.new.outside c.commit.new.outside c.run.ensures.keeps.asks c.in-Ok.ensures.on.calm c.commit.result
-    (subst (λ (n : ℕ). ClosesAsCommit G n c.commit.result s.store c.commit.new.self c.run.new.outside c.commit.new.outside) (c.in-Ok.ensures.on.stays.number ∙ found) c.commit.ensures.committing)
+    leaves-since G g.met.W.Outside.fewer_later c.args.activation s.store c.commit.new.self c.args.outside.now c.run.new.outside c.commit.new.outside c.run.ensures.keeps.asks c.in-Ok.ensures.on.calm c.commit.result
+    (subst (λ (n : ℕ). LeavesStore G n c.commit.result s.store c.commit.new.self c.run.new.outside c.commit.new.outside) (c.in-Ok.ensures.on.stays.number ∙ found) c.commit.ensures.stored)
 
 pub returns-in-Err-clause-end : goal.returns-in-Err-clause-end
 returns-in-Err-clause-end g c =

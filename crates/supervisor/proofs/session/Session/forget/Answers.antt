@@ -1,4 +1,4 @@
-use Rattle.supervisor.proofs.Lemmas.{◌≡◌, sym, ◌∙◌, subst, true, held_of, reopened_holds, TookEvent, told_event, fixed_of, view_of, Desk, numbers, number_after, Crashed, CrashFailed, deserted-sound}
+use Rattle.supervisor.proofs.Lemmas.{◌≡◌, ◌∙◌, subst, true, held_of, reopened_holds, numbers, Crashed, CrashFailed, deserted-sound, takes}
 use Rattle.store.specs.declared.fault.ReopenFault.{ReopenFault}
 use Rattle.store.specs.Faults.{IsStoreReopenFault}
 use Rattle.desk.specs.declared.event.Event.TheVariants as event
@@ -6,23 +6,19 @@ use Rattle.supervisor.proofs.CrashLemmas.{did-crash, did-fail-crash, number-rest
 use Rattle.supervisor.proofs.session.Session.forget.Goals as goal
 
 pub returns-in-Ok-clause-did : goal.returns-in-Ok-clause-did
-returns-in-Ok-clause-did g c = λ desk sure shown.
+returns-in-Ok-clause-did g c =
     let G = g.W.Outside in
     let s = c.args.self.now in
     let store = c.reopen.new.self in
     let left = c.forget.new.self in
     let before = c.args.outside.now in
     let after = c.reopen.new.outside in
-    let over = shown.over in
+    takes G event.Crash (λ desk. Crashed (numbers desk)) (λ number. c.number.result ≡ number) s (record s { store = store; activations = left }) before after (λ over sure.
     let gone = c.forget.ensures.restarts over.committed over.follows in
-    let tracks = c.in-Ok.ensures.tracks over.shows.header sure.honest sure.told in
-    let did = did-crash G s store c.in-Ok.ensures.header left c.requires.sound before after sure over gone c.in-Ok.ensures.asks tracks in
-    let number : c.number.result ≡ number_after s.opened did.next =
-    c.number.ensures ∙ number-restarted G s store c.in-Ok.ensures.header left c.requires.sound before after sure over gone c.in-Ok.ensures.asks tracks in
-    subst
-    (λ (that : Desk). (x : TookEvent G (told_event (fixed_of s) event.Crash (Crashed (numbers that))) (view_of (record s { store = store; activations = left })) that before after) × (c.number.result ≡ number_after s.opened x.next))
-    (sym shown.is)
-    (did, number)
+    let tracks = c.in-Ok.ensures.tracks over.shows.header sure.honest sure.told in (
+      did-crash G s store c.in-Ok.ensures.header left c.requires.sound before after sure over gone c.in-Ok.ensures.asks tracks,
+      c.number.ensures ∙ number-restarted G s store c.in-Ok.ensures.header left c.requires.sound before after sure over gone c.in-Ok.ensures.asks tracks,
+    ))
 
 pub returns-in-Ok-clause-damage : goal.returns-in-Ok-clause-damage
 returns-in-Ok-clause-damage g c = λ told.
@@ -37,21 +33,16 @@ returns-in-Err-Damaged-clause-did g c = λ desk sure shown.
     absurd (undamaged s (held_of G c.args.outside.now) shown.over c.in-Err-Damaged.offset (fault sure.told))
 
 pub returns-in-Err-DiskFault-clause-did : goal.returns-in-Err-DiskFault-clause-did
-returns-in-Err-DiskFault-clause-did g c = λ desk sure shown.
+returns-in-Err-DiskFault-clause-did g c =
     let G = g.W.Outside in
     let s = c.args.self.now in
     let store = c.reopen.new.self in
     let left = c.forget.new.self in
     let before = c.args.outside.now in
     let after = c.reopen.new.outside in
-    let over = shown.over in
-    let gone = c.forget.ensures.restarts over.committed over.follows in
     let fault = subst (λ (fault : ReopenFault). IsStoreReopenFault G before after s.store.header fault) c.in-Err-DiskFault.field-0-is c.in-Err-DiskFault.ensures.fault in
-    let did = did-fail-crash G s store c.in-Err-DiskFault.ensures.header left c.requires.sound before after sure over gone c.in-Err-DiskFault.ensures.asks fault in
-    subst
-    (λ (that : Desk). (x : TookEvent G (told_event (fixed_of s) event.Crash (CrashFailed (numbers that))) (view_of (record s { store = store; activations = left; closed = true })) that before after) × Unit {0})
-    (sym shown.is)
-    (did, tt)
+    takes G event.Crash (λ desk. CrashFailed (numbers desk)) (λ number. Unit {0}) s (record s { store = store; activations = left; closed = true }) before after
+    (λ over sure. (did-fail-crash G s store c.in-Err-DiskFault.ensures.header left c.requires.sound before after sure over (c.forget.ensures.restarts over.committed over.follows) c.in-Err-DiskFault.ensures.asks fault, tt))
 
 pub returns-in-Err-Damaged-clause-undamaged : goal.returns-in-Err-Damaged-clause-undamaged
 returns-in-Err-Damaged-clause-undamaged g c = λ desk offset told shown same.
