@@ -1,9 +1,8 @@
 -- The desk that asks where it is refused does what the desk does.
-use Rattle.desk_law.proofs.Common.{◌≡◌, refl, ℕ, zero, suc, ◌+◌, ◌==◌, not, if◌then◌else◌, List, [], ◌∷◌, ◌++◌, length, map, find, Some, arith, ap, sym, ◌∙◌, subst, and_parts, Plain, after, Program, Event, Begin, Turn, Checkpoint, Crash, Desk, Entry, opened, Word, Counts, Turning, Going, Over, no_counts, attempts, asks, refused_pages, conflicts_of, instruction, turns, step, IsAmong, IsConsistent, IsOrderly, Memory, after_event, after_turns, after_instruction, memory_of, IsMemory, FindTheirOwn, nat_tests, Turned, Committed, Machine, next_attempt, begun, IsSerial, counts_refused, happening_lines, number_after, Step, asks_for, asks_refused, attempts_by, own_event, event_by, step_by, before, run_by, InstructionsAskAlike, IsRunOfDesk, RunsAskAlike, RunsStayConsistentBy, RunsAreIsolatedBy, SideBySideIsSerialBy, CommitsTellTheMachineBy}
+use Rattle.desk_law.proofs.Common.{◌≡◌, refl, ℕ, zero, suc, ◌+◌, ◌==◌, not, if◌then◌else◌, List, [], ◌∷◌, ◌++◌, length, map, find, Some, arith, ap, sym, ◌∙◌, subst, and_parts, Plain, after, Program, Event, Turn, Desk, Entry, opened, Word, Counts, Turning, Going, Over, attempts, asks, refused_pages, conflicts_of, instruction, turns, step, IsAmong, IsConsistent, IsOrderly, Memory, after_event, after_turns, after_instruction, memory_of, IsMemory, FindTheirOwn, nat_tests, Turned, Committed, Machine, next_attempt, begun, IsSerial, counts_refused, happening_lines, number_after, Step, asks_for, asks_refused, attempts_by, step_by, before, run_by, InstructionsAskAlike, IsRunOfDesk, RunsAskAlike, RunsStayConsistentBy, RunsAreIsolatedBy, SideBySideIsSerialBy, CommitsTellTheMachineBy}
 use Rattle.desk.specs.Lines.{Line}
 unfoldable use Rattle.desk_law.specs.Asking.{instruction_by, turns_by}
-use Rattle.desk_law.proofs.Orderly.{orderly}
-use Rattle.desk_law.proofs.Entries.{among-found}
+use Rattle.desk_law.proofs.Entries.{orderly, among-found}
 use Rattle.desk_law.proofs.TurnsStay.{Stays, resident-consistent, stays-instruction}
 use Rattle.desk_law.proofs.ConsistentLaw.{stays-consistent, runs-consistent}
 use Rattle.desk_law.proofs.MemoryLaw.{runs-are-isolated, commit-told, side_by_side_is_serial}
@@ -60,14 +59,8 @@ module _ (word : Word) (number : ℕ) where
   turns-alike (suc left) (Over desk counts ending) memory is = refl
 
 module _ (programs : List Program) (word : Word) (desk : Desk) (memory : Memory) (is : IsOrderly desk) where
-  event-alike : (event : Event) → event_by asks_refused programs event word desk memory ≡ own_event programs event word desk memory
-  event-alike (Begin program args) = refl
-  event-alike Checkpoint = refl
-  event-alike Crash = refl
-  event-alike (Turn activation limit) = grind (arith, turns-alike word activation limit (Going desk no_counts) memory is)
-
   step-alike : (event : Event) → step_by asks_refused programs event word desk memory ≡ (step programs event word desk, if desk.closed then memory else after_event programs event word desk memory)
-  step-alike event = grind (arith, nat_tests, event-alike event)
+  step-alike event = grind (arith, nat_tests, turns-alike)
 
 -- a run of a consistent desk
 run-alike : (names : List (List ℕ)) (programs : List Program) (number : ℕ) (events : List (Event × Word)) (desk : Desk) (memory : Memory) → IsConsistent desk

@@ -1,10 +1,10 @@
 -- What an attempt over the bytes of all says of the entry's own row, and what follows where its lines were there.
-use Rattle.desk_law.proofs.Common.{◌≡◌, refl, ℕ, ◌+◌, List, length, Option, Some, arith, ap, sym, ◌∙◌, subst, Layout, ArePart, Plain, Program, Outcome, On, Commit, Check, plan_at, row, touched, after, SameWay, row-way, lines_of_plan, Desk, Entry, with_entry, wanted, requested, Word, Fine, Counts, Going, Over, instruction, AreThere, over_all, gone_on, IsAmong, due_to, IsCurrent, IsOrderly, nat_tests}
+use Rattle.desk_law.proofs.Common.{◌≡◌, refl, ℕ, ◌+◌, List, length, Option, Some, arith, ap, sym, ◌∙◌, subst, Layout, ArePart, Plain, Program, Outcome, On, row, touched, after, SameWay, row-way, Desk, Entry, with_entry, wanted, requested, Word, Fine, Counts, Going, Over, instruction, AreThere, over_all, gone_on, IsAmong, due_to, IsCurrent, IsOrderly, nat_tests}
 use Rattle.desk_law.proofs.Entries.{replaced, found-among}
 use Rattle.desk_law.proofs.LinesThere.{there-held}
 use Rattle.desk_law.proofs.Permitted.{held-free}
 use Rattle.desk_law.proofs.RowsThere.{open-row}
-use Rattle.desk_law.proofs.SharedBytes.{RunsOn, row-on-current}
+use Rattle.desk_law.proofs.SharedBytes.{RunsOn, row-on-current, lines-of}
 use Rattle.desk_law.proofs.TurnsStay.{Stays, stays-instruction}
 use Rattle.desk_law.proofs.Others.{after-row}
 
@@ -13,9 +13,6 @@ pub record IsOwnRow (program : Program) (directory : Layout) (now : Plain) (byte
   pub next : Plain
   pub went : row program directory now ≡ On next
   pub lines : touched program directory now ≡ touched program directory (over_all now bytes)
-
-lines-of : (p : Program) (d : Layout) (s next : Plain) → row p d s ≡ On next → touched p d s ≡ lines_of_plan p d (plan_at s)
-lines-of p d s next went = grind (arith, nat_tests)
 
 pub own-row : (program : Program) (directory : Layout) (now shown : Plain) (bytes : List ℕ) → row program directory (over_all now bytes) ≡ On shown → IsOwnRow program directory now bytes
 own-row program directory now shown bytes went = by_way (row program directory now) refl (subst (SameWay (row program directory now)) went (row-way program directory now bytes))
@@ -27,12 +24,6 @@ own-row program directory now shown bytes went = by_way (row program directory n
       lines = lines-of program directory now next is ∙ sym (lines-of program directory (over_all now bytes) shown went);
     }
     by_way _ is way = absurd way
-
-pub own-commit : (program : Program) (directory : Layout) (now : Plain) (bytes : List ℕ) → row program directory (over_all now bytes) ≡ Commit → row program directory now ≡ Commit
-own-commit program directory now bytes went = grind (arith, nat_tests, row-way program directory now bytes)
-
-pub own-check : (program : Program) (directory : Layout) (now : Plain) (bytes : List ℕ) (code : ℕ) → row program directory (over_all now bytes) ≡ Check code → row program directory now ≡ Check code
-own-check program directory now bytes code went = grind (arith, nat_tests, row-way program directory now bytes)
 
 -- what the next row touches is what the attempt touched
 pub wanted-is : (desk : Desk) (entry : Entry) (now shown : Plain) (bytes : List ℕ) → after entry.runs.program entry.runs.args desk.committed entry.rows ≡ Some now
@@ -80,6 +71,17 @@ pub attempt-goes :
     → AreThere desk entry.number (touched entry.runs.program desk.committed.directory (over_all now bytes))
     → HasGone desk counts entry shown
 attempt-goes desk counts entry now shown bytes is here at current_now went there =
+    let own : IsOwnRow entry.runs.program desk.committed.directory now bytes = own-row entry.runs.program desk.committed.directory now shown bytes went in
+    let wanted_there : AreThere desk entry.number (wanted desk entry) = subst (AreThere desk entry.number) (sym (wanted-is desk entry now shown bytes at went)) there in
+    let held : ArePart (requested desk.committed entry) (due_to desk.committed entry) = there-held desk entry is here wanted_there in
+    let goes : (word : Word) (some : Counts) → instruction word (Some entry) desk some ≡ Going (with_entry desk (gone_on entry)) (record some { ran = some.ran + 1 }) =
+    λ word some. open-row word desk some entry now own.next is here at own.went wanted_there in
+    let later : IsOrderly (with_entry desk (gone_on entry)) =
+    goes-consistent Fine desk (with_entry desk (gone_on entry)) counts (record counts { ran = counts.ran + 1 }) entry is here (goes Fine counts) in
+    let left : (shown ≡ over_all own.next shown.store) × IsCurrent desk.committed (replaced (gone_on entry) desk.active) shown.store =
+    shown-current desk entry now own.next shown bytes
+    (row-on-current desk desk.most_lines entry now own.next bytes is.whole is.active later.active here at own.went (held-free desk entry is here held) current_now)
+    went in
     record {
       next = own.next;
       shows = left.0;
@@ -89,24 +91,3 @@ attempt-goes desk counts entry now shown bytes is here at current_now went there
       consistent = later;
       is_current = left.1;
     }
-  where
-    own : IsOwnRow entry.runs.program desk.committed.directory now bytes
-    own = own-row entry.runs.program desk.committed.directory now shown bytes went
-
-    wanted_there : AreThere desk entry.number (wanted desk entry)
-    wanted_there = subst (AreThere desk entry.number) (sym (wanted-is desk entry now shown bytes at went)) there
-
-    held : ArePart (requested desk.committed entry) (due_to desk.committed entry)
-    held = there-held desk entry is here wanted_there
-
-    goes : (word : Word) (some : Counts) → instruction word (Some entry) desk some ≡ Going (with_entry desk (gone_on entry)) (record some { ran = some.ran + 1 })
-    goes word some = open-row word desk some entry now own.next is here at own.went wanted_there
-
-    later : IsOrderly (with_entry desk (gone_on entry))
-    later = goes-consistent Fine desk (with_entry desk (gone_on entry)) counts (record counts { ran = counts.ran + 1 }) entry is here (goes Fine counts)
-
-    left : (shown ≡ over_all own.next shown.store) × IsCurrent desk.committed (replaced (gone_on entry) desk.active) shown.store
-    left =
-        shown-current desk entry now own.next shown bytes
-        (row-on-current desk desk.most_lines entry now own.next bytes is.whole is.active later.active here at own.went (held-free desk entry is here held) current_now)
-        went

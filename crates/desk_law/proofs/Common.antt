@@ -42,7 +42,7 @@ pub use Rattle.lines.specs.Conflicts.{Lines, both, conflicts, is_whole_page, lin
 pub use Rattle.lines.specs.Resident.{brought, first_out, taken_out}
 pub use Rattle.lines.specs.Sets.{has, meets, size}
 pub use Rattle.lines.specs.Waits.{leads, next_shown, shown_after, shown_cycle, victim_of}
-pub use Rattle.desk_law.specs.Beside.{AreAlike, AreKept, AreMarked, AreSeats, AreStates, AreStatesBut, AreThere, IsLaid, IsState, IsTableBut, IsTold, Reads, StandsFor, by_number, kept_conflict, kept_waits, over_all, owner_told, owners_told}
+pub use Rattle.desk_law.specs.Beside.{AreAlike, AreKept, AreMarked, AreSeats, AreStates, AreStatesBut, AreThere, IsThere, IsLaid, IsState, IsTableBut, IsTold, Reads, StandsFor, by_number, kept_conflict, kept_waits, over_all, owner_told, owners_told}
 pub use Rattle.desk_law.specs.Causes.{EndsHaveCauses, EndsForCause, IsAccounted, IsOverFor, RowIs, TurnsEndForCause, turn_desk, ends_own, lines_by, turn_counts, waiting_after}
 pub use Rattle.desk_law.specs.Changes.{committed_at, gone_on, left_by, row_done}
 pub use Rattle.desk_law.specs.Consistent.{AreApart, AreConsistent, AreDistinct, AreResident, Ascend, HasNoCycle, IsAmong, IsConsistent, IsCovered, IsHeld, IsLive, IsOwned}
@@ -54,6 +54,7 @@ pub use Rattle.desk_law.specs.UnderWay.{IsContending, IsReady, IsUnderWay, Keeps
 pub use Rattle.desk.specs.Commits.{IsSerial, begun, is_commit}
 pub use Rattle.desk.specs.Report.{event_lines, happening_lines, number_after, closing_lines, cycle_lines, ending_lines, lines_from, report, turn_lines}
 pub use Rattle.desk_law.specs.Asking.{Asking, CommitsTellTheMachineBy, InstructionsAskAlike, IsRunOfDesk, Ran, RunsAreIsolatedBy, RunsAskAlike, RunsStayConsistentBy, SideBySideIsSerialBy, asks_for, asks_refused, attempts_by, before, comes_to_ask, event_by, own_event, run_by, step_by, turned_with}
+pub use Rattle.std.proofs.lemmas.List.Folds.{list_any-append}
 pub use Rattle.std.proofs.lemmas.List.Sums.{sum_by-append}
 pub use Rattle.desk.specs.Crash.{IsEitherOf, fine_step, standing_of}
 pub use Rattle.desk.specs.Lines.{Line, Open, line_text, printed}

@@ -1,7 +1,6 @@
 -- A consistent desk stays so.
-use Rattle.desk_law.proofs.Common.{◌≡◌, refl, ℕ, ◌+◌, ◌<◌, ◌==◌, true, List, [], ◌∷◌, length, find, Option, Some, None, slice_get, arith, eqb-true, eq-eqb, both_ways, ltb-true, page_count, Program, Event, Begin, Turn, Checkpoint, Crash, Desk, Entry, opened, Word, Failed, Counts, Turning, Going, instruction, turns, turn, no_counts, turned, begin_if, restarted, event_of, step, run, IsAmong, Ascend, IsConsistent, turn_desk, StaysConsistent, IsActive, IsNotIdle, IdleWhereInactive, RunsStayConsistent, IsOrderly, nat_tests}
-use Rattle.desk_law.proofs.Orderly.{orderly}
-use Rattle.desk_law.proofs.Entries.{among-found, none-found, found-among}
+use Rattle.desk_law.proofs.Common.{◌≡◌, refl, ℕ, ◌+◌, ◌<◌, ◌==◌, true, List, [], ◌∷◌, length, find, Option, Some, None, slice_get, arith, eqb-true, eq-eqb, both_ways, ltb-true, page_count, Program, Event, Begin, Turn, Checkpoint, Crash, Desk, Entry, opened, Word, Failed, Counts, Turning, Going, instruction, turns, turn, no_counts, turned, begin_if, restarted, event_of, step, run, IsAmong, Ascend, IsConsistent, turn_desk, StaysConsistent, IsActive, IdleWhereInactive, RunsStayConsistent, IsOrderly, nat_tests}
+use Rattle.desk_law.proofs.Entries.{orderly, among-found, none-found, found-among}
 use Rattle.desk_law.proofs.Endings.{begins-consistent, refused-consistent, quiet-consistent, opened-consistent}
 use Rattle.desk_law.proofs.TurnsStay.{Stays, stays-turns, stays-instruction}
 use Rattle.desk_law.proofs.ResidentPages.{none-resident}
@@ -25,11 +24,8 @@ inactive-none desk number inactive =
 turn-stays : (word : Word) (number limit : ℕ) (desk : Desk) → IsOrderly desk → IsActive desk number → Stays number (length desk.active) (turns word number limit (Going desk no_counts))
 turn-stays word number limit desk is active = stays-turns word number (length desk.active) limit (Going desk no_counts) (is, active, omega arith)
 
-not-idle : (number most : ℕ) (turning : Turning) → Stays number most turning → IsNotIdle turning
-not-idle number most turning is = grind (arith, nat_tests)
-
 pub idle-where-inactive : IdleWhereInactive
-idle-where-inactive word number limit desk is = grind (arith, nat_tests, inactive-none, both_ways, none-found, eq-eqb, not-idle, turn-stays, orderly)
+idle-where-inactive word number limit desk is = grind (arith, nat_tests, inactive-none, both_ways, none-found, eq-eqb, turn-stays, orderly)
 
 stays-turned : (activation most : ℕ) (turning : Turning) → Stays activation most turning → TurnFits turning → IsConsistent (turned activation turning).desk
 stays-turned activation most turning is fit = grind (arith, nat_tests, consistent)

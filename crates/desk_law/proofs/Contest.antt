@@ -1,5 +1,5 @@
 -- Cycles of waits and their victims.
-use Rattle.desk_law.proofs.Common.{◌≡◌, refl, ℕ, zero, suc, ◌+◌, ◌<◌, ◌≤◌, ◌==◌, ◌⊎◌, not, max, Bool, true, false, List, [], ◌∷◌, ◌++◌, length, filter, map, find, fold, Option, Some, None, arith, ap, sym, ◌∙◌, subst, inl, inr, length-append, eqb-true, eq-eqb, both_ways, and_parts, and_from, or_left, or_right, not_from_false, false_from_ne_true, cases_lt, not_from_true, has, leads, shown_cycle, victim_of, after-among, Desk, Entry, Grant, rolled_back, numbers, waits_for, Counts, Contest, Contested, Settled, Lost, breaks_cycle, breaks_cycles, IsAmong, IsOrderly, except, IsContending, KeepsPages, nat_tests}
+use Rattle.desk_law.proofs.Common.{◌≡◌, refl, ℕ, zero, suc, ◌+◌, ◌<◌, ◌≤◌, ◌==◌, ◌⊎◌, not, max, Bool, true, false, List, [], ◌∷◌, ◌++◌, length, filter, map, find, fold, Option, Some, None, arith, ap, sym, ◌∙◌, subst, inl, length-append, eqb-true, eq-eqb, and_parts, not_from_false, not_from_true, has, leads, shown_cycle, victim_of, after-among, Desk, Entry, Grant, rolled_back, numbers, waits_for, Counts, Contest, Contested, Settled, Lost, breaks_cycle, breaks_cycles, IsAmong, IsOrderly, except, IsContending, KeepsPages, nat_tests, both, contest}
 use Rattle.desk_law.proofs.Entries.{among-filter, filter-among, among-found, none-found, filter-short}
 use Rattle.desk_law.proofs.Walks.{no-cycle-fewer, no-cycle-from, no-cycle-leaves, walk-short}
 use Rattle.desk_law.proofs.Others.{rollback-leaves}
@@ -21,19 +21,17 @@ filter-shorter test (one ∷ entries) entry among out = grind (arith, nat_tests,
 
 -- a rollback leaves it so
 pub rolled-contending : (one : ℕ) (desk : Desk) (gone : Entry) → IsContending one desk → IsContending one (rolled_back desk gone)
-rolled-contending one desk gone is = record {
-  whole = is.whole;
-  few = omega (arith, is.few, filter-short (λ (other : Entry). not (other.number == gone.number)) desk.active);
-  active = rollback-leaves desk.committed desk.most_lines desk.next desk.active gone is.active;
-  held = held-others desk.committed desk.committed desk.active desk.authority gone refl (λ other among. refl) (held-but gone.number desk.committed desk.active desk.authority is.held);
-  no_cycle =
-      no-cycle-fewer (except one (waits_for (rolled_back desk gone))) (except one (waits_for desk)) (numbers (rolled_back desk gone)) (numbers desk)
-      (λ from to waits.
-      let parts = and_parts (not (from == one)) (waits_for (rolled_back desk gone) from to) waits in
-      and_from (not (from == one)) (waits_for desk from to) parts.0 (rollback-waits desk gone from to parts.1))
-      (λ x inside. fewer-numbers (λ (other : Entry). not (other.number == gone.number)) desk.active x inside)
-      is.no_cycle;
-}
+rolled-contending one desk gone is =
+    grind (
+      arith,
+      nat_tests,
+      filter-short (λ (other : Entry). not (other.number == gone.number)) desk.active,
+      rollback-leaves desk.committed desk.most_lines desk.next desk.active gone is.active,
+      held-others desk.committed desk.committed desk.active desk.authority gone refl (λ other among. refl) (held-but gone.number desk.committed desk.active desk.authority is.held),
+      no-cycle-fewer (except one (waits_for (rolled_back desk gone))) (except one (waits_for desk)) (numbers (rolled_back desk gone)) (numbers desk),
+      rollback-waits desk gone,
+      fewer-numbers (λ (other : Entry). not (other.number == gone.number)) desk.active,
+    )
 
 pub rolled-consistent : (desk : Desk) (gone : Entry) → IsOrderly desk → IsOrderly (rolled_back desk gone)
 rolled-consistent desk gone is =
@@ -50,19 +48,7 @@ rolled-consistent desk gone is =
 -- the members of a shown cycle
 greatest-in : (xs : List ℕ) (least : ℕ) → (fold max least xs ≡ least) ⊎ (has xs (fold max least xs) ≡ true)
 greatest-in [] least = inl refl
-greatest-in (x ∷ xs) least = elim (greatest-in xs (max least x)) [
-  | inl same ↦ elim (either least x) [
-    | inl one ↦ inl (same ∙ one)
-    | inr two ↦ inr (or_left (x == fold max (max least x) xs) (has xs (fold max (max least x) xs)) (eq-eqb x (fold max (max least x) xs) (sym (same ∙ two))))
-  ]
-  | inr later ↦ inr (or_right (x == fold max (max least x) xs) (has xs (fold max (max least x) xs)) later)
-]
-  where
-    either : (a b : ℕ) → (max a b ≡ a) ⊎ (max a b ≡ b)
-    either a b = elim (cases_lt a b) [
-      | inl low ↦ inr (omega arith)
-      | inr high ↦ inl (omega arith)
-    ]
+greatest-in (x ∷ xs) least = grind (arith, nat_tests, greatest-in xs (max least x))
 
 pub shown-victim : (waits : ℕ → ℕ → Bool) (all : List ℕ) (first : ℕ) (cycle : List ℕ) → has all first ≡ true → shown_cycle waits all first ≡ Some cycle → has all (victim_of cycle) ≡ true
 shown-victim waits all first cycle here is = grind (arith, nat_tests, greatest-in, after-among)
@@ -82,19 +68,8 @@ Came one most entry old (Lost desk counts) = IsOrderly desk × (length counts.cy
 
 -- one that has gone is in no cycle
 pub gone-consistent : (one : ℕ) (desk : Desk) → IsContending one desk → ((entry : Entry) → IsAmong desk.active entry → (entry.number == one) ≡ false) → IsOrderly desk
-gone-consistent one desk is gone = record {
-  whole = is.whole;
-  few = is.few;
-  active = is.active;
-  held = is.held;
-  no_cycle =
-      no-cycle-leaves one (waits_for desk) (waits_for desk) (numbers desk)
-      (record {
-        none = λ to. false_from_ne_true (waits_for desk one to) (λ waits. let by = waits-by desk one to waits in both_ways (by.entry.number == one) (gone by.entry by.entry_among) by.is_from);
-        kept = λ from to other waits. waits;
-      })
-      is.no_cycle;
-}
+gone-consistent one desk is gone =
+    grind (arith, nat_tests, waits-by desk one, no-cycle-leaves one (waits_for desk) (waits_for desk) (numbers desk))
 
 pub stays-settled : (left one : ℕ) (desk : Desk) (counts : Counts) → breaks_cycles left one (Settled desk counts) ≡ Settled desk counts
 stays-settled left one desk counts = grind (arith, nat_tests)
@@ -176,3 +151,19 @@ pub breaks-keep : (P : Contest → Type 0) (number : ℕ) → ((desk : Desk) (co
     → (left : ℕ) (contest : Contest) → P contest → P (breaks_cycles left number contest)
 breaks-keep P number round (suc left) (Contested desk counts) is = breaks-keep P number round left (breaks_cycle number (shown_cycle (waits_for desk) (numbers desk) number) desk counts) (round desk counts is)
 breaks-keep P number round _ _ is = is
+
+-- what is known of a contest is known of what each victim leaves of it
+abbrev pub VictimsKeep : (Contest → Type 0) → ℕ → Type 0
+VictimsKeep P number =
+    (desk : Desk) (counts : Counts) (cycle : List ℕ) (victim : Option Entry) (lost : Bool) → P (Contested desk counts)
+    → find (λ (entry : Entry). entry.number == victim_of cycle) desk.active ≡ victim → (victim_of cycle == number) ≡ lost
+    → P (left_over desk (record counts { cycles = counts.cycles ++ cycle ∷ [] }) victim lost)
+
+-- so it is known of what the contest comes to
+pub victims-keep : (P : Contest → Type 0) (number : ℕ) → ((desk : Desk) (counts : Counts) → P (Contested desk counts) → P (Settled desk counts)) → VictimsKeep P number
+    → (left : ℕ) (contest : Contest) → P contest → P (breaks_cycles left number contest)
+victims-keep P number none some left contest is = breaks-keep P number (λ desk counts is. by_cycle desk counts is (shown_cycle (waits_for desk) (numbers desk) number)) left contest is
+  where
+    by_cycle : (desk : Desk) (counts : Counts) → P (Contested desk counts) → (cycle : Option (List ℕ)) → P (breaks_cycle number cycle desk counts)
+    by_cycle desk counts is None = none desk counts is
+    by_cycle desk counts is (Some cycle) = some desk counts cycle (find (λ (entry : Entry). entry.number == victim_of cycle) desk.active) (victim_of cycle == number) is refl refl

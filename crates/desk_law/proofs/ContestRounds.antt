@@ -1,10 +1,11 @@
 -- A contest round by round: a loop that looks for one cycle at a time goes through the same desks as the definition.
-use Rattle.desk_law.proofs.Common.{◌≡◌, refl, ℕ, zero, suc, ◌≤◌, ◌<◌, ◌==◌, not, Bool, true, false, List, [], ◌∷◌, ◌++◌, length, find, Option, Some, None, arith, ap, sym, ◌∙◌, eqb-true, eq-eqb, ne_eqb, both_ways, not_from_false, not-true, shown_cycle, victim_of, Desk, Entry, with_entry, rolled_back, numbers, waits_for, Word, Counts, Attempt, Contested, Settled, Lost, breaks_cycle, breaks_cycles, contest_ends, asks, IsAmong, contest, IsUnderWay, IsOrderly, nat_tests}
-use Rattle.desk_law.proofs.Contest.{contending, settled, rolled-contending, gone-consistent, freed-keeps, stays-settled, stays-lost, filter-shorter, some-active, shown-victim, shown-none, without, left_over}
-use Rattle.desk_law.proofs.Entries.{among-found, none-found, filter-among, among-filter, new-among}
+use Rattle.desk_law.proofs.Common.{◌≡◌, refl, ℕ, zero, suc, ◌≤◌, ◌<◌, ◌==◌, not, Bool, true, false, List, [], ◌∷◌, ◌++◌, length, find, Option, Some, None, arith, ap, sym, ◌∙◌, shown_cycle, victim_of, Desk, Entry, with_entry, rolled_back, numbers, waits_for, Word, Counts, Attempt, Contested, Settled, Lost, breaks_cycle, breaks_cycles, contest_ends, asks, IsAmong, contest, IsUnderWay, IsOrderly, nat_tests}
+use Rattle.desk_law.proofs.Contest.{contending, settled, rolled-contending, gone-consistent, freed-keeps, stays-settled, stays-lost, filter-shorter, some-active, shown-victim, shown-none, left_over}
+use Rattle.desk_law.proofs.Entries.{among-found, none-found, new-among}
 use Rattle.desk_law.proofs.GoesOn.{length-replaced, marked-contending}
 use Rattle.desk_law.proofs.Waiting.{number-of, has-number}
 use Rattle.desk_law.proofs.Walks.{walk-short}
+use Rattle.desk_law.proofs.Others.{among-others, others-among}
 
 -- the counts with one cycle more
 abbrev pub with_cycle : Counts → List ℕ → Counts
@@ -17,22 +18,21 @@ entry_with number desk = find (λ entry. entry.number == number) desk.active
 -- there is one, and it is the victim of a shown cycle
 pub victim-there : (desk : Desk) (entry : Entry) (cycle : List ℕ) → IsAmong desk.active entry → shown_cycle (waits_for desk) (numbers desk) entry.number ≡ Some cycle
     → (victim : Entry) × (entry_with (victim_of cycle) desk ≡ Some victim)
-victim-there desk entry cycle here shown = by_found (entry_with (victim_of cycle) desk) refl
+victim-there desk entry cycle here shown =
+    let is = λ (entry : Entry). entry.number == victim_of cycle in
+    let among = number-of desk.active (victim_of cycle) (shown-victim (waits_for desk) (numbers desk) entry.number cycle (has-number desk.active entry here) shown) in
+    by_found (entry_with (victim_of cycle) desk) (λ none. grind (arith, nat_tests, among, none-found is desk.active none))
   where
-    by_found : (found : Option Entry) → entry_with (victim_of cycle) desk ≡ found → (victim : Entry) × (entry_with (victim_of cycle) desk ≡ Some victim)
-    by_found (Some victim) found = (victim, found)
-    by_found None none =
-        let (victim, there, same) = number-of desk.active (victim_of cycle) (shown-victim (waits_for desk) (numbers desk) entry.number cycle (has-number desk.active entry here) shown) in
-        absurd (both_ways (victim.number == victim_of cycle) (none-found (λ (entry : Entry). entry.number == victim_of cycle) desk.active none victim there) (eq-eqb victim.number (victim_of cycle) same))
+    by_found : (found : Option Entry) → (found ≡ None → ⊥) → (victim : Entry) × (found ≡ Some victim)
+    by_found (Some victim) never = (victim, refl)
+    by_found None never = absurd (never refl)
 
 -- a victim that isn't the one that asks leaves it
 pub asker-left : (desk : Desk) (entry victim : Entry) (cycle : List ℕ) → IsAmong desk.active entry → entry_with (victim_of cycle) desk ≡ Some victim → (victim_of cycle == entry.number) ≡ false
     → IsAmong (rolled_back desk victim).active entry
 asker-left desk entry victim cycle here found other =
-    let (at, passes) = among-found (λ (entry : Entry). entry.number == victim_of cycle) desk.active victim found in
-    filter-among (λ (other : Entry). not (other.number == victim.number)) desk.active entry here
-    (not_from_false (entry.number == victim.number)
-    (ne_eqb entry.number victim.number (λ same. both_ways (victim_of cycle == entry.number) other (eq-eqb (victim_of cycle) entry.number (sym (eqb-true victim.number (victim_of cycle) passes) ∙ sym same)))))
+    let it = among-found (λ (entry : Entry). entry.number == victim_of cycle) desk.active victim found in
+    others-among victim desk.active entry here (grind (arith, nat_tests, it, other))
 
 -- fewer are left
 pub fewer-left : (desk : Desk) (victim : Entry) (number : ℕ) → entry_with number desk ≡ Some victim → length (rolled_back desk victim).active < length desk.active
@@ -44,19 +44,10 @@ pub enough : (left right : ℕ) (entry : Entry) (desk : Desk) (counts : Counts) 
 enough zero right entry desk counts here few also = absurd (omega (arith, some-active desk.active entry here, few))
 enough (suc left) zero entry desk counts here few also = absurd (omega (arith, some-active desk.active entry here, also))
 enough (suc left) (suc right) entry desk counts here few also =
+    let by_cycle : (cycle : Option (List ℕ)) → shown_cycle (waits_for desk) (numbers desk) entry.number ≡ cycle → ((next : Desk) (more : Counts) → IsAmong next.active entry → length next.active ≤ left → length next.active ≤ right → breaks_cycles left entry.number (Contested next more) ≡ breaks_cycles right entry.number (Contested next more)) → breaks_cycles left entry.number (breaks_cycle entry.number cycle desk counts) ≡ breaks_cycles right entry.number (breaks_cycle entry.number cycle desk counts) =
+    λ cycle shown later. grind (arith, nat_tests, stays-settled, left_over, stays-lost, victim-there, fewer-left, asker-left) in
     by_cycle (shown_cycle (waits_for desk) (numbers desk) entry.number) refl
     (λ next more there few_left few_right. enough left right entry next more there few_left few_right)
-  where
-    by_cycle : (cycle : Option (List ℕ)) → shown_cycle (waits_for desk) (numbers desk) entry.number ≡ cycle
-        → ((next : Desk) (more : Counts) → IsAmong next.active entry → length next.active ≤ left → length next.active ≤ right
-        → breaks_cycles left entry.number (Contested next more) ≡ breaks_cycles right entry.number (Contested next more))
-        → breaks_cycles left entry.number (breaks_cycle entry.number cycle desk counts) ≡ breaks_cycles right entry.number (breaks_cycle entry.number cycle desk counts)
-    by_cycle None shown later = stays-settled left entry.number desk counts ∙ sym (stays-settled right entry.number desk counts)
-    by_cycle (Some cycle) shown later = by_victim (entry_with (victim_of cycle) desk) refl (victim_of cycle == entry.number) refl
-      where
-        by_victim : (victim : Option Entry) → entry_with (victim_of cycle) desk ≡ victim → (lost : Bool) → (victim_of cycle == entry.number) ≡ lost
-            → breaks_cycles left entry.number (left_over desk (with_cycle counts cycle) victim lost) ≡ breaks_cycles right entry.number (left_over desk (with_cycle counts cycle) victim lost)
-        by_victim victim found lost e = grind (arith, nat_tests, stays-lost, without, victim-there, fewer-left, asker-left)
 
 module _ (desk : Desk) (counts : Counts) (entry : Entry) (here : IsAmong desk.active entry) where
   first-step : (m : ℕ) × (length desk.active ≡ suc m)
@@ -114,13 +105,14 @@ under-way desk entry is here = record {
 pub round-under_way : (old desk : Desk) (entry victim : Entry) (cycle : List ℕ) → IsUnderWay old desk entry → entry_with (victim_of cycle) desk ≡ Some victim → (victim_of cycle == entry.number) ≡ false
     → IsUnderWay old (rolled_back desk victim) entry
 round-under_way old desk entry victim cycle is found other =
-    let (at, passes) = among-found (λ (entry : Entry). entry.number == victim_of cycle) desk.active victim found in
+    let it = among-found (λ (entry : Entry). entry.number == victim_of cycle) desk.active victim found in
+    let apart : (victim.number == entry.number) ≡ false = grind (arith, nat_tests, it, other) in
     record {
       contending = rolled-contending entry.number desk victim is.contending;
       here = asker-left desk entry victim cycle is.here found other;
       store = is.store;
       limit = is.limit;
-      keeps = freed-keeps entry.number victim.number old.authority desk.authority (ap (λ (n : ℕ). n == entry.number) (eqb-true victim.number (victim_of cycle) passes) ∙ other) is.keeps;
+      keeps = freed-keeps entry.number victim.number old.authority desk.authority apart is.keeps;
     }
 
 -- where it is settled the desk is consistent, with the mark on
@@ -134,9 +126,6 @@ settled-consistent old desk entry is shown =
 pub lost-consistent : (old desk : Desk) (entry victim : Entry) (cycle : List ℕ) → IsUnderWay old desk entry → entry_with (victim_of cycle) desk ≡ Some victim → (victim_of cycle == entry.number) ≡ true
     → IsOrderly (rolled_back desk victim)
 lost-consistent old desk entry victim cycle is found it =
-    let (at, passes) = among-found (λ (entry : Entry). entry.number == victim_of cycle) desk.active victim found in
-    let victim_is : victim.number ≡ entry.number = eqb-true victim.number (victim_of cycle) passes ∙ eqb-true (victim_of cycle) entry.number it in
+    let found_is = among-found (λ (entry : Entry). entry.number == victim_of cycle) desk.active victim found in
     gone-consistent entry.number (rolled_back desk victim) (rolled-contending entry.number desk victim is.contending)
-    (λ other there.
-    ap (λ (n : ℕ). other.number == n) (sym victim_is)
-    ∙ not-true (other.number == victim.number) (among-filter (λ (other : Entry). not (other.number == victim.number)) desk.active other there).1)
+    (λ other there. grind (arith, nat_tests, found_is, it, among-others victim desk.active other there))

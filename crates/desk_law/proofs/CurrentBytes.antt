@@ -1,5 +1,5 @@
 -- All lines as they are now, end to end.
-use Rattle.desk_law.proofs.Common.{Bool, if◌then◌else◌, ◌≡◌, refl, ℕ, zero, suc, ◌+◌, ◌*◌, ◌/◌, ◌<◌, ◌≤◌, List, [], ◌++◌, length, take, drop, slice_range, Option, flat_map, range_with_len, option_map_or, arith, ap, sym, ◌∙◌, length-append, same_number_lists, length-take, length-drop, take_at, line_bytes, Layout, byte_count, FlatStore, IsWhole, line_count, line_in, after-whole, in_line, Desk, Entry, has, laid, bytes_of, IsCurrent, current_bytes, nat_tests}
+use Rattle.desk_law.proofs.Common.{if◌then◌else◌, ◌≡◌, refl, ℕ, zero, suc, ◌+◌, ◌*◌, ◌/◌, ◌<◌, ◌≤◌, List, [], ◌++◌, length, take, drop, slice_range, flat_map, range_with_len, arith, ap, sym, ◌∙◌, length-append, same_number_lists, length-take, length-drop, take_at, line_bytes, Layout, byte_count, FlatStore, IsWhole, line_count, line_in, after-whole, in_line, Desk, Entry, has, laid, IsCurrent, current_bytes, nat_tests}
 use Rattle.std.proofs.Math.ListN.{drop_of_length-le}
 use Rattle.std.proofs.Math.Nat.{mul-le-mul_right}
 use Rattle.std.proofs.Math.Seq.{drop-append-add, take-nil}
@@ -38,10 +38,6 @@ line-long d xs line whole below = grind (arith, nat_tests, mul-le-mul_right, lin
 line-beyond : (d : Layout) (xs : List ℕ) (line : ℕ) → length xs ≡ byte_count d → line_count d ≤ line → line_in d xs line ≡ []
 line-beyond d xs line whole beyond = grind (arith, nat_tests, mul-le-mul_right, line-part, drop_of_length-le, byte_count-lines, take-nil)
 
--- whoever wrote a line has a whole store
-writer-whole : (store : FlatStore) (one : Option Entry) → IsWhole store → length (option_map_or (bytes_of store) one store.bytes) ≡ byte_count store.directory
-writer-whole store one whole = grind (arith, nat_tests, after-whole)
-
 -- pieces that are lines, end to end
 pub lines-joined : (d : Layout) (f : ℕ → List ℕ) → ((line : ℕ) → line < line_count d → length (f line) ≡ line_bytes d.page) → ((line : ℕ) → line_count d ≤ line → f line ≡ [])
     → (length (flat_map f (range_with_len 0 (line_count d))) ≡ byte_count d) × ((line : ℕ) → line_in d (flat_map f (range_with_len 0 (line_count d))) line ≡ f line)
@@ -58,7 +54,7 @@ same-lines d bytes other long also same =
     )
 
 pub bytes-current : (desk : Desk) → IsWhole desk.committed → IsCurrent desk.committed desk.active (current_bytes desk)
-bytes-current desk whole = grind (arith, nat_tests, lines-joined, line-long, line-beyond, writer-whole)
+bytes-current desk whole = grind (arith, nat_tests, lines-joined, line-long, line-beyond, after-whole)
 
 -- two lists of bytes that are current are one
 pub one-current : (store : FlatStore) (entries : List Entry) (bytes other : List ℕ) → IsCurrent store entries bytes → IsCurrent store entries other → bytes ≡ other
@@ -70,9 +66,6 @@ pub laid-is : (d : Layout) (lines from onto new : List ℕ) → length from ≡ 
 laid-is d lines from onto new from_long onto_long long each =
     let (joined_long, joined) =
     lines-joined d (λ line. if has lines line then line_in d from line else line_in d onto line)
-    (λ line below. by_test (λ (part : List ℕ). length part ≡ line_bytes d.page) (has lines line) (line_in d from line) (line_in d onto line) (line-long d from line from_long below) (line-long d onto line onto_long below))
-    (λ line beyond. by_test (λ (part : List ℕ). part ≡ []) (has lines line) (line_in d from line) (line_in d onto line) (line-beyond d from line from_long beyond) (line-beyond d onto line onto_long beyond)) in
+    (λ line below. grind (arith, line-long d from line from_long below, line-long d onto line onto_long below))
+    (λ line beyond. grind (arith, line-beyond d from line from_long beyond, line-beyond d onto line onto_long beyond)) in
     same-lines d (laid d lines from onto) new joined_long long (λ line. joined line ∙ sym (each line))
-  where
-    by_test : (P : List ℕ → Type 0) (b : Bool) (x y : List ℕ) → P x → P y → P (if b then x else y)
-    by_test P b x y p q = grind (arith, nat_tests)

@@ -1,5 +1,5 @@
 -- The laws of the bytes as they are now.
-use Rattle.desk_law.proofs.Common.{◌≡◌, refl, ℕ, ◌+◌, if◌then◌else◌, Bool, true, false, List, [], ◌++◌, Some, arith, ap, ◌∙◌, has, size, Plain, On, row, after, line_in, Desk, Entry, with_entry, wanted, conflicts_of, FlatStore, IsWhole, gone_on, IsAmong, AreConsistent, current, current_bytes, touched_of, nat_tests}
+use Rattle.desk_law.proofs.Common.{◌≡◌, ℕ, ◌+◌, if◌then◌else◌, Bool, List, [], ◌++◌, Some, arith, ap, ◌∙◌, has, size, Plain, On, row, after, line_in, Desk, Entry, with_entry, wanted, conflicts_of, IsWhole, gone_on, IsAmong, AreConsistent, current, current_bytes, touched_of, nat_tests}
 use Rattle.desk_law.specs.CurrentLaws.{OneListIsCurrent, HoldersSeeCurrent, RowsChangeTheirLines, RowsRunOnCurrent, CommitsChangeNoLine, RollbacksGiveBack, CommitsLeaveOthers}
 use Rattle.desk_law.proofs.Entries.{replaced}
 use Rattle.desk_law.proofs.Others.{another-same, after-row}
@@ -7,10 +7,6 @@ use Rattle.desk_law.proofs.GoesOn.{gone-on-active}
 use Rattle.desk_law.proofs.CurrentLines.{current-held, row-writes, row-leaves, commit-current, rollback-written, rollback-others}
 use Rattle.desk_law.proofs.CurrentBytes.{bytes-current, one-current}
 use Rattle.desk_law.proofs.SharedBytes.{RunsOn, row-on-current}
-
--- entries that have written fewer lines than a number have written fewer than a greater one
-pub more-lines : (store : FlatStore) (most more next : ℕ) (entries : List Entry) → AreConsistent store most next entries → AreConsistent store (most + more) next entries
-more-lines store most more next entries are = grind (arith, nat_tests)
 
 -- a row of an entry, whose mark may be another one than it has
 module _ (desk : Desk) (most : ℕ) (entry : Entry) (mark : Bool) (now next : Plain) (whole : IsWhole desk.committed)
@@ -22,19 +18,18 @@ module _ (desk : Desk) (most : ℕ) (entry : Entry) (mark : Bool) (now next : Pl
   many = most + size ((touched_of desk.committed entry).writes ++ (wanted desk entry).writes)
 
   now-active : AreConsistent desk.committed many desk.next desk.active
-  now-active = more-lines desk.committed most (size ((touched_of desk.committed entry).writes ++ (wanted desk entry).writes)) desk.next desk.active are
+  now-active = grind (arith, nat_tests)
 
   then-active : AreConsistent desk.committed many desk.next (replaced (gone_on entry) desk.active)
   then-active = gone-on-active desk many entry mark now next now-active here at went none (omega arith)
 
   pub row-changes : (line : ℕ) → current (with_entry desk (gone_on entry)) line
       ≡ (if has (wanted desk entry).writes line then line_in desk.committed.directory next.store line else current desk line)
-  row-changes line = by_written (has (wanted desk entry).writes line) refl
-    where
-      by_written : (wrote : Bool) → has (wanted desk entry).writes line ≡ wrote
-          → current (with_entry desk (gone_on entry)) line ≡ (if wrote then line_in desk.committed.directory next.store line else current desk line)
-      by_written true e = row-writes desk.committed many desk.next desk.active (record entry { waiting = mark }) next line then-active here (after-row desk.committed entry now next at went) e
-      by_written false e = row-leaves desk.committed many desk.next desk.active (record entry { waiting = mark }) now next line whole now-active then-active here at went (after-row desk.committed entry now next at went) e
+  row-changes line =
+      let gone = after-row desk.committed entry now next at went in
+      let writes = row-writes desk.committed many desk.next desk.active (record entry { waiting = mark }) next line then-active here gone in
+      let leaves = row-leaves desk.committed many desk.next desk.active (record entry { waiting = mark }) now next line whole now-active then-active here at went gone in
+      grind (arith, nat_tests, writes, leaves)
 
   pub row-runs : row entry.runs.program desk.committed.directory (record now { store = current_bytes desk })
       ≡ On (record next { store = current_bytes (with_entry desk (gone_on entry)) })

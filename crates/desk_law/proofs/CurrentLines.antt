@@ -1,8 +1,9 @@
 -- What an entry's row, its commit and its rollback do to the lines as they are now.
-use Rattle.desk_law.proofs.Common.{◌≡◌, refl, ℕ, ◌+◌, ◌==◌, ◌||◌, ◌⊎◌, not, Bool, true, false, List, [], ◌∷◌, length, find, Option, Some, None, option_map_or, arith, ap, sym, ◌∙◌, inl, inr, eqb-true, eq-eqb, both_ways, or_from, or_left, or_right, cases_Bool, not_from_false, not-true, false_from_ne_true, Layout, byte_count, FlatStore, IsWhole, has, Lines, has-append, has_right, Plain, Program, On, plan_at, row, touched, after, touched_next, line_in, AgreeBut, all_of, DoesTheSame, after-whole, after-kept, on, lines_of_plan, row-steps, Entry, gone_on, left_by, IsAmong, due_to, AreConsistent, writer, current_of, touched_of, nat_tests}
-use Rattle.desk_law.proofs.Entries.{among-found, none-found, among-filter, filter-among, among-replaced, replaced-among, new-among, replaced, one-entry}
-use Rattle.desk_law.proofs.Others.{others, another-same, commit-leaves, rollback-leaves}
+use Rattle.desk_law.proofs.Common.{◌≡◌, refl, ℕ, ◌+◌, ◌==◌, ◌||◌, ◌⊎◌, Bool, true, false, List, [], ◌∷◌, length, find, Option, Some, None, option_map_or, arith, ap, sym, ◌∙◌, inl, inr, eqb-true, both_ways, or_right, cases_Bool, false_from_ne_true, Layout, byte_count, FlatStore, IsWhole, has, Lines, has-append, has_right, Plain, Program, On, plan_at, row, touched, after, touched_next, line_in, AgreeBut, all_of, DoesTheSame, after-whole, after-kept, on, lines_of_plan, row-steps, Entry, gone_on, left_by, IsAmong, due_to, AreConsistent, writer, current_of, touched_of, nat_tests}
+use Rattle.desk_law.proofs.Entries.{among-found, none-found, among-replaced, replaced-among, new-among, replaced, one-entry}
+use Rattle.desk_law.proofs.Others.{others, another-same, commit-leaves, rollback-leaves, among-others, others-among}
 use Rattle.desk_law.proofs.GoesOn.{apart-turned}
+use Rattle.desk_law.proofs.LeftLemmas.{went}
 
 -- where none passes, none is found
 none-passes : (test : Entry → Bool) (entries : List Entry) → ((entry : Entry) → IsAmong entries entry → test entry ≡ false) → find test entries ≡ None
@@ -27,20 +28,14 @@ module _ (store : FlatStore) (most_lines next : ℕ) (entries : List Entry) (are
   -- a line that one holds is written by no other
   pub holder-or-none : (entry other : Entry) (line : ℕ) → IsAmong entries entry → IsAmong entries other → has (all_of (due_to store entry)) line ≡ true
       → has (touched_of store other).writes line ≡ true → other ≡ entry
-  holder-or-none entry other line here there holds wrote =
-      elim (cases_Bool (other.number == entry.number)) [
-        | inl same ↦ one-entry 0 next entries other entry are.ascend there here (eqb-true other.number entry.number same)
-        | inr differ ↦ absurd (both_ways (has (all_of (due_to store entry)) line) ((are.apart other entry there here differ).first_writes line wrote) holds)
-      ]
+  holder-or-none entry other line here there holds wrote = grind (arith, nat_tests, one-entry 0 next entries other entry, are.apart other entry there here)
 
   pub writer-is : (entry : Entry) (line : ℕ) → IsAmong entries entry → has (touched_of store entry).writes line ≡ true → writer store entries line ≡ Some entry
   writer-is entry line here wrote = by_found (writer store entries line) refl
     where
       by_found : (found : Option Entry) → writer store entries line ≡ found → found ≡ Some entry
       by_found None none = absurd (both_ways (has (touched_of store entry).writes line) (none-found (λ (one : Entry). has (touched_of store one).writes line) entries none entry here) wrote)
-      by_found (Some other) found =
-          let (there, passes) = among-found (λ (one : Entry). has (touched_of store one).writes line) entries other found in
-          ap Some (holder-or-none entry other line here there (wrote-held entry line wrote) passes)
+      by_found (Some other) found = grind (arith, among-found (λ (one : Entry). has (touched_of store one).writes line) entries other found, holder-or-none entry other line here, wrote-held entry line wrote)
 
   pub current-written : (entry : Entry) (state : Plain) (line : ℕ) → IsAmong entries entry → after entry.runs.program entry.runs.args store entry.rows ≡ Some state
       → has (touched_of store entry).writes line ≡ true → current_of store entries line ≡ line_in store.directory state.store line
@@ -66,40 +61,35 @@ module _ (store : FlatStore) (most_lines next : ℕ) (entries : List Entry) (are
           let (there, passes) = among-found (λ (one : Entry). has (touched_of store one).writes line) entries other found in
           inl (other, there, passes)
 
+  -- bytes that the writer of a line has there, or the committed store where nobody wrote it, are the line as it is now
+  pub by-writer : (line : ℕ) (bytes : List ℕ)
+      → ((entry : Entry) (state : Plain) → IsAmong entries entry → after entry.runs.program entry.runs.args store entry.rows ≡ Some state
+      → has (touched_of store entry).writes line ≡ true → bytes ≡ line_in store.directory state.store line)
+      → (((entry : Entry) → IsAmong entries entry → has (touched_of store entry).writes line ≡ false) → bytes ≡ line_in store.directory store.bytes line)
+      → bytes ≡ current_of store entries line
+  by-writer line bytes written unwritten = elim (somebody line) [
+    | inl some ↦ let live = are.live some.0 some.1 in written some.0 live.state some.1 live.is some.2 ∙ sym (current-written some.0 live.state line some.1 live.is some.2)
+    | inr none ↦ unwritten none ∙ sym (current-unwritten line none)
+  ]
+
 -- (d) a rollback gives the lines that one wrote their committed bytes
 pub rollback-written :
     (store : FlatStore) (most_lines next : ℕ) (entries : List Entry) (entry : Entry) (line : ℕ) → AreConsistent store most_lines next entries → IsAmong entries entry
     → has (touched_of store entry).writes line ≡ true → current_of store (others entry entries) line ≡ line_in store.directory store.bytes line
 rollback-written store most_lines next entries entry line are here wrote =
     current-unwritten store most_lines next (others entry entries) (rollback-leaves store most_lines next entries entry are) line
-    (λ other among.
-    let (there, differ) = among-filter (λ (other : Entry). not (other.number == entry.number)) entries other among in
-    false_from_ne_true (has (touched_of store other).writes line)
-    (λ also.
-    let same : other ≡ entry = holder-or-none store most_lines next entries are entry other line here there (wrote-held store most_lines next entries are entry line wrote) also in
-    both_ways (other.number == entry.number) (not-true (other.number == entry.number) differ) (eq-eqb other.number entry.number (ap (λ (x : Entry). x.number) same))))
+    (λ other among. grind (arith, nat_tests, among-others entry entries other among, holder-or-none store most_lines next entries are entry other line here, wrote-held store most_lines next entries are entry line wrote))
 
 -- and leaves the others
 pub rollback-others :
     (store : FlatStore) (most_lines next : ℕ) (entries : List Entry) (entry : Entry) (line : ℕ) → AreConsistent store most_lines next entries → IsAmong entries entry
     → has (touched_of store entry).writes line ≡ false → current_of store (others entry entries) line ≡ current_of store entries line
 rollback-others store most_lines next entries entry line are here didn't =
-    elim (somebody store most_lines next entries are line) [
-      | inl some ↦
-          let differ : (some.0.number == entry.number) ≡ false =
-          false_from_ne_true (some.0.number == entry.number)
-          (λ same.
-          let it : some.0 ≡ entry = one-entry 0 next entries some.0 entry are.ascend some.1 here (eqb-true some.0.number entry.number same) in
-          both_ways (has (touched_of store entry).writes line) didn't (ap (λ (x : Entry). has (touched_of store x).writes line) (sym it) ∙ some.2)) in
-          let live = are.live some.0 some.1 in
-          current-written store most_lines next (others entry entries) (rollback-leaves store most_lines next entries entry are) some.0 live.state line
-          (filter-among (λ (other : Entry). not (other.number == entry.number)) entries some.0 some.1 (not_from_false (some.0.number == entry.number) differ)) live.is some.2
-          ∙ sym (current-written store most_lines next entries are some.0 live.state line some.1 live.is some.2)
-      | inr none ↦
-          current-unwritten store most_lines next (others entry entries) (rollback-leaves store most_lines next entries entry are) line
-          (λ other among. none other (among-filter (λ (other : Entry). not (other.number == entry.number)) entries other among).0)
-          ∙ sym (current-unwritten store most_lines next entries are line none)
-    ]
+    let leaves = rollback-leaves store most_lines next entries entry are in
+    by-writer store most_lines next entries are line (current_of store (others entry entries) line)
+    (λ some state there at wrote. current-written store most_lines next (others entry entries) leaves some state line
+    (others-among entry entries some there (grind (arith, nat_tests, one-entry 0 next entries some entry are.ascend there here))) at wrote)
+    (λ none. current-unwritten store most_lines next (others entry entries) leaves line (λ other among. none other (among-others entry entries other among).0))
 
 -- (c) a commit changes no line
 pub commit-current :
@@ -108,50 +98,36 @@ pub commit-current :
     → after entry.runs.program entry.runs.args store entry.rows ≡ Some now
     → current_of (left_by store now) (others entry entries) line ≡ current_of store entries line
 commit-current store most_lines next entries entry now line whole are here is =
-    elim (somebody store most_lines next entries are line) [
-      | inl some ↦
-          elim (cases_Bool (some.0.number == entry.number)) [
-            | inl same ↦
-                let it : some.0 ≡ entry = one-entry 0 next entries some.0 entry are.ascend some.1 here (eqb-true some.0.number entry.number same) in
-                let wrote : has (touched_of store entry).writes line ≡ true = ap (λ (x : Entry). has (touched_of store x).writes line) (sym it) ∙ some.2 in
-                current-unwritten (left_by store now) most_lines next (others entry entries) leaves line
-                (λ other among.
-                let (there, differ) = among-filter (λ (other : Entry). not (other.number == entry.number)) entries other among in
-                let differs : (other.number == entry.number) ≡ false = not-true (other.number == entry.number) differ in
-                let (bytes, does) = does_same other there differs in
-                ap (λ (l : Lines). has l.writes line) does.touched
-                ∙ false_from_ne_true (has (touched_of store other).writes line)
-                (λ also.
-                let equal : other ≡ entry = holder-or-none store most_lines next entries are entry other line here there (wrote-held store most_lines next entries are entry line wrote) also in
-                both_ways (other.number == entry.number) differs (eq-eqb other.number entry.number (ap (λ (x : Entry). x.number) equal))))
-                ∙ sym (current-written store most_lines next entries are entry now line here is wrote)
-            | inr differ ↦
-                let live = are.live some.0 some.1 in
-                let (bytes, does) = does_same some.0 some.1 differ in
-                current-written (left_by store now) most_lines next (others entry entries) leaves some.0 (record live.state { store = bytes }) line
-                (filter-among (λ (other : Entry). not (other.number == entry.number)) entries some.0 some.1 (not_from_false (some.0.number == entry.number) differ))
-                does.state_on_other (ap (λ (l : Lines). has l.writes line) does.touched ∙ some.2)
-                ∙ sym (does.agrees line (has_right (touched_of store some.0).reads (touched_of store some.0).writes line some.2))
-                ∙ sym (current-written store most_lines next entries are some.0 live.state line some.1 live.is some.2)
-          ]
-      | inr none ↦
+    let leaves : AreConsistent (left_by store now) most_lines next (others entry entries) = commit-leaves store most_lines next entries entry now whole are here is in
+    let does_same : (other : Entry) (there : IsAmong entries other) → (other.number == entry.number) ≡ false → (bytes : List ℕ) × DoesTheSame other.runs.program other.runs.args store (left_by store now) other.rows (are.live other there).state bytes =
+    λ other there differ. another-same store entry other now (are.live other there).state whole is (are.live other there).is
+    (apart-turned (due_to store other) (due_to store entry) (are.apart other entry there here differ)) in
+    by-writer store most_lines next entries are line (current_of (left_by store now) (others entry entries) line)
+    (λ some state there at wrote. elim (cases_Bool (some.number == entry.number)) [
+      | inl same ↦
+          let it : some ≡ entry = one-entry 0 next entries some entry are.ascend there here (eqb-true some.number entry.number same) in
+          let same_state : now ≡ state = cc in
           current-unwritten (left_by store now) most_lines next (others entry entries) leaves line
           (λ other among.
-          let (there, differ) = among-filter (λ (other : Entry). not (other.number == entry.number)) entries other among in
-          let (bytes, does) = does_same other there (not-true (other.number == entry.number) differ) in
-          ap (λ (l : Lines). has l.writes line) does.touched ∙ none other there)
-          ∙ sym (after-kept entry.runs.program entry.runs.args store entry.rows now whole is line (none entry here))
-          ∙ sym (current-unwritten store most_lines next entries are line none)
-    ]
-  where
-    leaves : AreConsistent (left_by store now) most_lines next (others entry entries)
-    leaves = commit-leaves store most_lines next entries entry now whole are here is
-
-    does_same : (other : Entry) (there : IsAmong entries other) → (other.number == entry.number) ≡ false
-        → (bytes : List ℕ) × DoesTheSame other.runs.program other.runs.args store (left_by store now) other.rows (are.live other there).state bytes
-    does_same other there differ =
-        another-same store entry other now (are.live other there).state whole is (are.live other there).is
-        (apart-turned (due_to store other) (due_to store entry) (are.apart other entry there here differ))
+          let (other_there, differs) = among-others entry entries other among in
+          ap (λ (l : Lines). has l.writes line) (does_same other other_there differs).1.touched
+          ∙ grind (arith, nat_tests, it, holder-or-none store most_lines next entries are some other line there other_there, wrote-held store most_lines next entries are some line wrote))
+          ∙ ap (λ (state : Plain). line_in store.directory state.store line) same_state
+      | inr differ ↦
+          let (bytes, does) = does_same some there differ in
+          let live = are.live some there in
+          let same_state : live.state ≡ state = cc (live.is) in
+          current-written (left_by store now) most_lines next (others entry entries) leaves some (record live.state { store = bytes }) line
+          (others-among entry entries some there differ) does.state_on_other (ap (λ (l : Lines). has l.writes line) does.touched ∙ wrote)
+          ∙ sym (does.agrees line (has_right (touched_of store some).reads (touched_of store some).writes line wrote))
+          ∙ ap (λ (state : Plain). line_in store.directory state.store line) same_state
+    ])
+    (λ none.
+    current-unwritten (left_by store now) most_lines next (others entry entries) leaves line
+    (λ other among.
+    let (there, differs) = among-others entry entries other among in
+    ap (λ (l : Lines). has l.writes line) (does_same other there differs).1.touched ∙ none other there)
+    ∙ sym (after-kept entry.runs.program entry.runs.args store entry.rows now whole is line (none entry here)))
 
 -- (b) a row that goes on writes its lines
 pub row-writes :
@@ -174,33 +150,21 @@ pub row-leaves :
     → has (touched_next entry.runs.program entry.runs.args store entry.rows).writes line ≡ false
     → current_of store (replaced (gone_on entry) entries) line ≡ current_of store entries line
 row-leaves store most_lines next_number entries entry now next line whole are later here is went is_next didn't =
-    elim (somebody store most_lines next_number entries are line) [
-      | inl some ↦
-          elim (cases_Bool (some.0.number == entry.number)) [
-            | inl same ↦
-                let it : some.0 ≡ entry = one-entry 0 next_number entries some.0 entry are.ascend some.1 here (eqb-true some.0.number entry.number same) in
-                let wrote : has (touched_of store entry).writes line ≡ true = ap (λ (x : Entry). has (touched_of store x).writes line) (sym it) ∙ some.2 in
-                current-written store most_lines next_number (replaced (gone_on entry) entries) later (gone_on entry) next line (new-among (gone_on entry) entries entry here refl) is_next
-                (within-more store entry line ∙ or_left (has (touched_of store entry).writes line) (has (touched_next entry.runs.program entry.runs.args store entry.rows).writes line) wrote)
-                ∙ sym (row-kept entry.runs.program store.directory now next (after-whole entry.runs.program entry.runs.args store entry.rows now whole is) went line
-                (ap (λ (l : Lines). has l.writes line) (sym touches) ∙ didn't))
-                ∙ sym (current-written store most_lines next_number entries are entry now line here is wrote)
-            | inr differ ↦
-                let live = are.live some.0 some.1 in
-                current-written store most_lines next_number (replaced (gone_on entry) entries) later some.0 live.state line (replaced-among (gone_on entry) entries some.0 some.1 differ) live.is some.2
-                ∙ sym (current-written store most_lines next_number entries are some.0 live.state line some.1 live.is some.2)
-          ]
-      | inr none ↦
-          current-unwritten store most_lines next_number (replaced (gone_on entry) entries) later line
-          (λ other among. elim (among-replaced (gone_on entry) entries other among) [
-            | inl new ↦
-                ap (λ (x : Entry). has (touched_of store x).writes line) (sym new)
-                ∙ within-more store entry line
-                ∙ or_from (has (touched_of store entry).writes line) (has (touched_next entry.runs.program entry.runs.args store entry.rows).writes line) (none entry here) didn't
-            | inr old ↦ none other old.0
-          ])
-          ∙ sym (current-unwritten store most_lines next_number entries are line none)
-    ]
+    by-writer store most_lines next_number entries are line (current_of store (replaced (gone_on entry) entries) line)
+    (λ some state there at wrote. elim (cases_Bool (some.number == entry.number)) [
+      | inl same ↦
+          let it : some ≡ entry = one-entry 0 next_number entries some entry are.ascend there here (eqb-true some.number entry.number same) in
+          let same_state : now ≡ state = cc in
+          let written : has (touched_of store (gone_on entry)).writes line ≡ true = grind (arith, nat_tests, within-more store entry line, it, wrote) in
+          current-written store most_lines next_number (replaced (gone_on entry) entries) later (gone_on entry) next line (new-among (gone_on entry) entries entry here refl) is_next written
+          ∙ sym (row-kept entry.runs.program store.directory now next (after-whole entry.runs.program entry.runs.args store entry.rows now whole is) went line
+          (ap (λ (l : Lines). has l.writes line) (sym touches) ∙ didn't))
+          ∙ ap (λ (state : Plain). line_in store.directory state.store line) same_state
+      | inr differ ↦ current-written store most_lines next_number (replaced (gone_on entry) entries) later some state line (replaced-among (gone_on entry) entries some there differ) at wrote
+    ])
+    (λ none.
+    current-unwritten store most_lines next_number (replaced (gone_on entry) entries) later line
+    (λ other among. grind (arith, nat_tests, among-replaced (gone_on entry) entries other among, within-more store entry line, none entry here, none other)))
   where
     touches : touched_next entry.runs.program entry.runs.args store entry.rows ≡ touched entry.runs.program store.directory now
     touches = ap (λ (state : Option Plain). option_map_or (touched entry.runs.program store.directory) state (record { reads = []; writes = [] })) is

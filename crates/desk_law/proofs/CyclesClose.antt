@@ -1,11 +1,10 @@
 -- A shown cycle closes, where only the waits of its number close one.
-use Rattle.desk_law.proofs.Common.{◌≡◌, refl, ℕ, zero, suc, ◌≤◌, ◌==◌, ◌&&◌, Bool, true, false, List, [], ◌∷◌, ◌++◌, length, filter, find, Option, Some, None, arith, ap, sym, ◌∙◌, inl, inr, and_from, has, leads, next_shown, shown_after, shown_cycle, victim_of, found-has, found-passes, has-filter, Desk, Entry, with_entry, rolled_back, numbers, waits_for, Counts, Contested, Settled, Lost, breaks_cycle, breaks_cycles, IsAmong, HasNoCycle, EndsWith, ContestedCyclesClose, except, IsContending, nat_tests}
-use Rattle.desk_law.proofs.Entries.{new-among}
-use Rattle.desk_law.proofs.Orderly.{orderly}
+use Rattle.desk_law.proofs.Common.{◌≡◌, refl, ℕ, zero, suc, ◌≤◌, ◌==◌, ◌&&◌, Bool, true, false, List, [], ◌∷◌, length, filter, find, Option, Some, None, arith, ap, ◌∙◌, inl, inr, and_from, has, leads, next_shown, shown_after, shown_cycle, found-has, found-passes, has-filter, Desk, Entry, with_entry, numbers, waits_for, Counts, Contested, breaks_cycles, IsAmong, HasNoCycle, EndsWith, ContestedCyclesClose, except, IsContending, nat_tests, Contest, contest, subst}
+use Rattle.desk_law.proofs.Entries.{orderly, new-among}
 use Rattle.desk_law.proofs.Walks.{first-step, one-step, leads-more, walk-short, all-pass}
 use Rattle.desk_law.proofs.SomebodyGoesOn.{reached, leads-to-fewer}
-use Rattle.desk_law.proofs.Contest.{contending, rolled-contending, stays-settled, stays-lost, left_over}
-use Rattle.desk_law.proofs.ContestRounds.{victim-there, asker-left}
+use Rattle.desk_law.proofs.Contest.{contending, rolled-contending, VictimsKeep, victims-keep}
+use Rattle.desk_law.proofs.ContestRounds.{asker-left}
 use Rattle.desk_law.proofs.GoesOn.{marked-contending}
 use Rattle.desk_law.proofs.Waiting.{has-number}
 
@@ -68,36 +67,19 @@ shown-closes : (waits : ℕ → ℕ → Bool) (all : List ℕ) (first : ℕ) (cy
 shown-closes waits all first cycle none here is = grind (arith, nat_tests, first-closes)
 
 -- every round of a contest leaves only cycles by waits of who asks
+abbrev Contends : Entry → Contest → Type 0
+Contends entry (Contested desk counts) = IsContending entry.number desk × IsAmong desk.active entry
+Contends entry contest = Unit {0}
+
 contest-rounds : (rounds : ℕ) (entry : Entry) (desk met : Desk) (counts counted : Counts) → IsContending entry.number desk → IsAmong desk.active entry
     → breaks_cycles rounds entry.number (Contested desk counts) ≡ Contested met counted → IsContending entry.number met × IsAmong met.active entry
-contest-rounds zero entry desk met counts counted is here comes = grind (arith, nat_tests)
-contest-rounds (suc rounds) entry desk met counts counted is here comes =
-    by_cycle (shown_cycle (waits_for desk) (numbers desk) entry.number) refl comes
-    (λ next more contends there later. contest-rounds rounds entry next met more counted contends there later)
+contest-rounds rounds entry desk met counts counted is here comes =
+    subst (Contends entry) comes (victims-keep (Contends entry) entry.number (λ desk counts is. tt) by_victim rounds (Contested desk counts) (is, here))
   where
-    by_cycle : (cycle : Option (List ℕ)) → shown_cycle (waits_for desk) (numbers desk) entry.number ≡ cycle
-        → breaks_cycles rounds entry.number (breaks_cycle entry.number cycle desk counts) ≡ Contested met counted
-        → ((next : Desk) (more : Counts) → IsContending entry.number next → IsAmong next.active entry → breaks_cycles rounds entry.number (Contested next more) ≡ Contested met counted
-        → IsContending entry.number met × IsAmong met.active entry)
-        → IsContending entry.number met × IsAmong met.active entry
-    by_cycle None shown comes later =
-        let wrong : Settled desk counts ≡ Contested met counted = sym (stays-settled rounds entry.number desk counts) ∙ comes in
-        absurd (cc)
-    by_cycle (Some cycle) shown comes later =
-        let (victim, found) = victim-there desk entry cycle here shown in
-        by_lost victim found (victim_of cycle == entry.number) refl
-        (sym (ap (λ (one : Option Entry). breaks_cycles rounds entry.number (left_over desk (record counts { cycles = counts.cycles ++ cycle ∷ [] }) one (victim_of cycle == entry.number))) found) ∙ comes)
-      where
-        by_lost : (victim : Entry) → find (λ (one : Entry). one.number == victim_of cycle) desk.active ≡ Some victim → (lost : Bool) → (victim_of cycle == entry.number) ≡ lost
-            → breaks_cycles rounds entry.number (left_over desk (record counts { cycles = counts.cycles ++ cycle ∷ [] }) (Some victim) lost) ≡ Contested met counted
-            → IsContending entry.number met × IsAmong met.active entry
-        by_lost victim found true e comes =
-            let wrong : Lost (rolled_back desk victim) (record counts { cycles = counts.cycles ++ cycle ∷ [] }) ≡ Contested met counted =
-            sym (stays-lost rounds entry.number (rolled_back desk victim) (record counts { cycles = counts.cycles ++ cycle ∷ [] })) ∙ comes in
-            absurd (cc)
-        by_lost victim found false e comes =
-            later (rolled_back desk victim) (record counts { cycles = counts.cycles ++ cycle ∷ [] }) (rolled-contending entry.number desk victim is)
-            (asker-left desk entry victim cycle here found e) comes
+    by_victim : VictimsKeep (Contends entry) entry.number
+    by_victim desk counts cycle victim true is found e = tt
+    by_victim desk counts cycle None false is found e = is
+    by_victim desk counts cycle (Some victim) false is found e = (rolled-contending entry.number desk victim is.0, asker-left desk entry victim cycle is.1 found e)
 
 pub contested_cycles_close : ContestedCyclesClose
 contested_cycles_close desk met entry counts counted rounds cycle is here comes shown =

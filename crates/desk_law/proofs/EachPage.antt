@@ -1,5 +1,5 @@
 -- Grant once each of some pages has the one that is told of it.
-use Rattle.desk_law.proofs.Common.{◌≡◌, refl, ℕ, ◌<◌, ◌==◌, ◌⊎◌, suc, true, false, List, [], ◌∷◌, length, slice_index_or, slice_set, arith, sym, ◌∙◌, subst, inl, inr, eqb-true, eq-eqb, both_ways, or_cases, or_parts, cases_Bool, length-set, get_or-set_same, get_or-set_other, get_or_past, has, Grant, nobody, with_each, nat_tests}
+use Rattle.desk_law.proofs.Common.{◌≡◌, refl, ℕ, ◌<◌, suc, true, false, List, [], ◌∷◌, length, slice_index_or, slice_set, arith, ◌∙◌, length-set, get_or-set_same, get_or-set_other, get_or_past, has, Grant, nobody, with_each, nat_tests}
 
 pub length-each : (of : ℕ → Grant) (pages : List ℕ) (authority : List Grant) → length (with_each of pages authority) ≡ length authority
 length-each of [] authority = refl
@@ -8,34 +8,19 @@ length-each of (page ∷ pages) authority = length-each of pages (slice_set auth
 pub each-not : (of : ℕ → Grant) (pages : List ℕ) (authority : List Grant) (page : ℕ) → has pages page ≡ false
     → slice_index_or (with_each of pages authority) page nobody ≡ slice_index_or authority page nobody
 each-not of [] authority page out = refl
-each-not of (one ∷ pages) authority page out =
-    let parts = or_parts (one == page) (has pages page) out in
-    each-not of pages (slice_set authority one (of one)) page parts.1
-    ∙ get_or-set_other authority one page (of one) nobody (λ same. both_ways (one == page) parts.0 (eq-eqb one page (sym same)))
+each-not of (one ∷ pages) authority page out = grind (arith, nat_tests, each-not of pages (slice_set authority one (of one)) page, get_or-set_other authority one page (of one) nobody)
 
 pub each-is : (of : ℕ → Grant) (pages : List ℕ) (authority : List Grant) (page : ℕ) → page < length authority → has pages page ≡ true
     → slice_index_or (with_each of pages authority) page nobody ≡ of page
 each-is of [] authority page below inside = absurd (cc)
 each-is of (one ∷ pages) authority page below inside =
-    elim (cases_Bool (has pages page)) [
-      | inl later ↦ each-is of pages (slice_set authority one (of one)) page (omega (arith, below, length-set authority one (of one))) later
-      | inr not_later ↦
-          elim (or_cases (one == page) (has pages page) inside) [
-            | inl here ↦
-                let same : one ≡ page = eqb-true one page here in
-                each-not of pages (slice_set authority one (of one)) page not_later
-                ∙ subst (λ (p : ℕ). slice_index_or (slice_set authority one (of one)) p nobody ≡ of p) same
-                (get_or-set_same authority one (of one) nobody (omega (arith, below, same)))
-            | inr later ↦ absurd (both_ways (has pages page) not_later later)
-          ]
-    ]
+    let set = slice_set authority one (of one) in
+    grind (arith, nat_tests, each-is of pages set page, each-not of pages set page, length-set authority one (of one), get_or-set_same authority one (of one) nobody)
 
--- A page has what is told of it, or it isn't among these and has what it had, or there is no such page.
-pub each-at : (of : ℕ → Grant) (pages : List ℕ) (authority : List Grant) (page : ℕ)
-    → (has pages page ≡ true × (slice_index_or (with_each of pages authority) page nobody ≡ of page))
-    ⊎ (has pages page ≡ false × (slice_index_or (with_each of pages authority) page nobody ≡ slice_index_or authority page nobody)
-    ⊎ (slice_index_or (with_each of pages authority) page nobody ≡ nobody))
-each-at of pages authority page = grind (arith, nat_tests, each-not, each-is, get_or_past, length-each)
+-- What holds of nobody, of what is told of a page that is among these, and of what any other page had, holds of what the page has.
+pub each-all : (P : Grant → Type 0) (of : ℕ → Grant) (pages : List ℕ) (authority : List Grant) (page : ℕ) → P nobody → (has pages page ≡ true → P (of page))
+    → (has pages page ≡ false → P (slice_index_or authority page nobody)) → P (slice_index_or (with_each of pages authority) page nobody)
+each-all P of pages authority page past is out = grind (arith, nat_tests, each-not, each-is, get_or_past, length-each)
 
 pub each-same : (of other : ℕ → Grant) (pages : List ℕ) (authority : List Grant) → ((page : ℕ) → of page ≡ other page)
     → with_each of pages authority ≡ with_each other pages authority

@@ -1,63 +1,55 @@
 -- A commit, a begin and a crash leave the desk consistent.
-use Rattle.desk_law.proofs.Common.{Some, ◌≡◌, refl, ℕ, zero, suc, ◌+◌, ◌<◌, ◌==◌, not, Bool, true, false, List, [], ◌∷◌, ◌++◌, length, map, replicate, slice_index_or, None, arith, ap, sym, ◌∙◌, subst, inl, inr, eqb-true, both_ways, and_parts, and_from, or_from, and_right, not-true, false_from_ne_true, page_count, is_fine_page, FlatStore, IsWhole, has, meets, Lines, no_lines, conflicts, both, with_whole_pages, append-nil, leads, Plain, start, after, Commit, row, after-whole, Desk, Entry, Grant, nobody, opened, rolled_back, wanted, requested, conflicts_with, numbers, waits_for, Attempt, lowered, locks_with, absent_segment, committed_at, gone_on, left_by, IsAmong, Ascend, due_to, IsLive, AreApart, AreConsistent, IsCovered, IsOwned, IsHeld, IsOrderly, except, touched_of, nat_tests}
+use Rattle.desk_law.proofs.Common.{Some, ◌≡◌, refl, ℕ, zero, suc, ◌+◌, ◌<◌, ◌==◌, not, Bool, true, false, List, [], ◌∷◌, ◌++◌, length, map, replicate, slice_index_or, None, arith, ap, sym, ◌∙◌, subst, inl, inr, both_ways, or_from, and_right, false_from_ne_true, page_count, is_fine_page, FlatStore, IsWhole, has, meets, Lines, no_lines, conflicts, both, with_whole_pages, append-nil, leads, Plain, start, after, Commit, row, after-whole, Desk, Entry, Grant, nobody, opened, rolled_back, ended, wanted, requested, conflicts_with, numbers, waits_for, Attempt, lowered, locks_with, absent_segment, committed_at, gone_on, left_by, IsAmong, Ascend, due_to, IsLive, AreApart, AreConsistent, IsCovered, IsOwned, IsHeld, IsOrderly, except, touched_of, nat_tests}
 use Rattle.flat_machine.specs.Serial.{Activation}
-use Rattle.desk_law.proofs.Entries.{among-filter, among-push, push-among, ascend-push, between, one-entry, among-replaced, replaced-among, new-among, replaced, filter-short}
+use Rattle.desk_law.proofs.Entries.{among-push, push-among, ascend-push, between, one-entry, among-replaced, replaced-among, new-among, replaced, filter-short}
 use Rattle.desk_law.proofs.Walks.{no-cycle-fewer, no-cycle-leaves, first-step, one-step}
-use Rattle.desk_law.proofs.Others.{another-stays, commit-leaves, rollback-leaves}
+use Rattle.desk_law.proofs.Others.{among-others, others, another-stays, commit-leaves, rollback-leaves}
 use Rattle.desk_law.proofs.Waiting.{waits-by, waits-from, has-number, fewer-numbers, rollback-waits, commit-waits}
 use Rattle.desk_law.proofs.Holding.{freed, held-others, other-covers}
 use Rattle.desk_law.proofs.Contest.{gone-consistent}
 use Rattle.desk_law.proofs.GoesOn.{IsGranted, others-replaced, due-more, nobody-conflicts}
+use Rattle.desk_law.proofs.LeftLemmas.{went}
+
+-- One that was granted pages has gone: its store keeps what is due to the others, and whoever waits then did so before.
+granted-gone : (desk : Desk) (attempt : Attempt) (store : FlatStore) (resident : List ℕ) → IsGranted attempt desk → IsWhole store → store.directory ≡ desk.committed.directory
+    → AreConsistent store desk.most_lines desk.next (others attempt.entry desk.active)
+    → ((other : Entry) → IsAmong (others attempt.entry desk.active) other → due_to store other ≡ due_to desk.committed other)
+    → ((from to : ℕ) → waits_for (record (ended desk attempt.entry.number) { committed = store; resident = resident }) from to ≡ true → waits_for desk from to ≡ true)
+    → IsOrderly (record (ended desk attempt.entry.number) { committed = store; resident = resident })
+granted-gone desk attempt store resident is whole one_directory active due waits =
+    let later = record (ended desk attempt.entry.number) { committed = store; resident = resident } in
+    let same = others-replaced attempt.entry (gone_on attempt.entry) desk.active refl in
+    gone-consistent attempt.entry.number later
+    (record {
+      whole = whole;
+      few = omega (arith, is.few, filter-short (λ (other : Entry). not (other.number == attempt.entry.number)) desk.active);
+      active = active;
+      held =
+          subst (λ (these : List Entry). IsHeld store these (map (freed attempt.entry.number) desk.authority)) same
+          (held-others desk.committed store _ desk.authority attempt.entry one_directory (λ other among. due other (subst (λ (these : List Entry). IsAmong these other) same among)) is.held_others);
+      no_cycle =
+          no-cycle-fewer (except attempt.entry.number (waits_for later)) (except attempt.entry.number (waits_for desk)) (numbers later) (numbers desk)
+          (λ from to waited. grind (arith, nat_tests, waits from to)) (λ x inside. fewer-numbers (λ (other : Entry). not (other.number == attempt.entry.number)) desk.active x inside) is.no_cycle;
+    })
+    (λ other among. (among-others attempt.entry desk.active other among).1)
 
 -- a rollback after the pages were granted
 pub granted-rolled : (desk : Desk) (attempt : Attempt) → IsGranted attempt desk → IsOrderly (rolled_back desk attempt.entry)
 granted-rolled desk attempt is =
-    gone-consistent attempt.entry.number (rolled_back desk attempt.entry)
-    (record {
-      whole = is.whole;
-      few = omega (arith, is.few, filter-short (λ (other : Entry). not (other.number == attempt.entry.number)) desk.active);
-      active = rollback-leaves desk.committed desk.most_lines desk.next desk.active attempt.entry is.active;
-      held =
-          subst (λ (these : List Entry). IsHeld desk.committed these (map (freed attempt.entry.number) desk.authority))
-          (others-replaced attempt.entry (gone_on attempt.entry) desk.active refl)
-          (held-others desk.committed desk.committed _ desk.authority attempt.entry refl (λ other among. refl) is.held_others);
-      no_cycle =
-          no-cycle-fewer (except attempt.entry.number (waits_for (rolled_back desk attempt.entry))) (except attempt.entry.number (waits_for desk)) (numbers (rolled_back desk attempt.entry)) (numbers desk)
-          (λ from to waits.
-          let parts = and_parts (not (from == attempt.entry.number)) (waits_for (rolled_back desk attempt.entry) from to) waits in
-          and_from (not (from == attempt.entry.number)) (waits_for desk from to) parts.0 (rollback-waits desk attempt.entry from to parts.1))
-          (λ x inside. fewer-numbers (λ (other : Entry). not (other.number == attempt.entry.number)) desk.active x inside)
-          is.no_cycle;
-    })
-    (λ other among. not-true (other.number == attempt.entry.number) (among-filter (λ (other : Entry). not (other.number == attempt.entry.number)) desk.active other among).1)
+    granted-gone desk attempt desk.committed (rolled_back desk attempt.entry).resident is is.whole refl (rollback-leaves desk.committed desk.most_lines desk.next desk.active attempt.entry is.active)
+    (λ other among. refl) (rollback-waits desk attempt.entry)
 
 -- a commit
 pub granted-commits : (desk : Desk) (attempt : Attempt) → IsGranted attempt desk → IsOrderly (committed_at desk attempt.entry attempt.now)
 granted-commits desk attempt is =
-    gone-consistent attempt.entry.number (committed_at desk attempt.entry attempt.now)
-    (record {
-      whole = after-whole attempt.entry.runs.program attempt.entry.runs.args desk.committed attempt.entry.rows attempt.now is.whole is.now;
-      few = omega (arith, is.few, filter-short (λ (other : Entry). not (other.number == attempt.entry.number)) desk.active);
-      active = commit-leaves desk.committed desk.most_lines desk.next desk.active (record attempt.entry { waiting = is.mark }) attempt.now is.whole is.active is.here is.now;
-      held =
-          subst (λ (these : List Entry). IsHeld (left_by desk.committed attempt.now) these (map (freed attempt.entry.number) desk.authority))
-          (others-replaced attempt.entry (gone_on attempt.entry) desk.active refl)
-          (held-others desk.committed (left_by desk.committed attempt.now) _ desk.authority attempt.entry refl
-          (λ other among.
-          let (there, differ) = among-filter (λ (other : Entry). not (other.number == attempt.entry.number)) desk.active other
-          (subst (λ (these : List Entry). IsAmong these other) (others-replaced attempt.entry (gone_on attempt.entry) desk.active refl) among) in
-          (another-stays desk.committed desk.most_lines desk.next desk.active (record attempt.entry { waiting = is.mark }) other attempt.now is.whole is.active is.here there (not-true (other.number == attempt.entry.number) differ) is.now).due)
-          is.held_others);
-      no_cycle =
-          no-cycle-fewer (except attempt.entry.number (waits_for (committed_at desk attempt.entry attempt.now))) (except attempt.entry.number (waits_for desk)) (numbers (committed_at desk attempt.entry attempt.now)) (numbers desk)
-          (λ from to waits.
-          let parts = and_parts (not (from == attempt.entry.number)) (waits_for (committed_at desk attempt.entry attempt.now) from to) waits in
-          and_from (not (from == attempt.entry.number)) (waits_for desk from to) parts.0
-          (commit-waits desk (record attempt.entry { waiting = is.mark }) attempt.now from to is.whole is.active is.here is.now parts.1))
-          (λ x inside. fewer-numbers (λ (other : Entry). not (other.number == attempt.entry.number)) desk.active x inside)
-          is.no_cycle;
-    })
-    (λ other among. not-true (other.number == attempt.entry.number) (among-filter (λ (other : Entry). not (other.number == attempt.entry.number)) desk.active other among).1)
+    let entry = record attempt.entry { waiting = is.mark } in
+    granted-gone desk attempt (left_by desk.committed attempt.now) desk.resident is
+    (after-whole attempt.entry.runs.program attempt.entry.runs.args desk.committed attempt.entry.rows attempt.now is.whole is.now) refl
+    (commit-leaves desk.committed desk.most_lines desk.next desk.active entry attempt.now is.whole is.active is.here is.now)
+    (λ other among.
+    let (there, differ) = among-others attempt.entry desk.active other among in
+    (another-stays desk.committed desk.most_lines desk.next desk.active entry other attempt.now is.whole is.active is.here there differ is.now).due)
+    (λ from to. commit-waits desk entry attempt.now from to is.whole is.active is.here is.now)
 
 -- the commit call touches nothing
 pub wanted-commit : (desk : Desk) (entry : Entry) (now : Plain) → after entry.runs.program entry.runs.args desk.committed entry.rows ≡ Some now
@@ -70,16 +62,10 @@ granted-closes desk attempt is went = record {
   whole = is.whole;
   few = is.few;
   active = is.active;
-  held = record { pages = held.pages; owned = owned; covered = covered };
-  no_cycle =
-      no-cycle-leaves attempt.entry.number (waits_for desk) (waits_for desk) (numbers desk)
-      (record { none = waits_for_none; kept = λ from to other waits. waits })
-      is.no_cycle;
+  held = record { pages = held.pages; owned = λ page. owned page (held.owned page); covered = covered };
+  no_cycle = no-cycle-leaves attempt.entry.number (waits_for desk) (waits_for desk) (numbers desk) (record { none = waits_for_none; kept = λ from to other waits. waits }) is.no_cycle;
 }
   where
-    it : (entry : Entry) → IsAmong desk.active entry → entry.number ≡ attempt.entry.number → record attempt.entry { waiting = is.mark } ≡ entry
-    it entry among same = one-entry 0 desk.next desk.active (record attempt.entry { waiting = is.mark }) entry is.active.ascend is.here among (sym same)
-
     no_lines_wanted : wanted desk attempt.entry ≡ no_lines
     no_lines_wanted = wanted-commit desk attempt.entry attempt.now is.now (is.went ∙ went)
 
@@ -87,38 +73,32 @@ granted-closes desk attempt is went = record {
     held : IsHeld desk.committed (replaced (gone_on attempt.entry) desk.active) desk.authority
     held =
         subst (IsHeld desk.committed (replaced (gone_on attempt.entry) desk.active))
-        (ap
-        (λ (lines : Lines). lowered (is_fine_page desk.committed.directory) (record attempt { lines = lines }) (locks_with (record attempt { lines = lines }) desk) desk.authority)
-        (is.lines ∙ no_lines_wanted))
+        (ap (λ (lines : Lines). lowered (is_fine_page desk.committed.directory) (record attempt { lines = lines }) (locks_with (record attempt { lines = lines }) desk) desk.authority) (is.lines ∙ no_lines_wanted))
         is.held
 
     due : due_to desk.committed (gone_on attempt.entry) ≡ due_to desk.committed attempt.entry
     due =
         due-more desk.committed attempt.entry
         ∙ ap (λ (lines : Lines). with_whole_pages (is_fine_page desk.committed.directory) (both (touched_of desk.committed attempt.entry) lines)) no_lines_wanted
-        ∙ (λ i. with_whole_pages (is_fine_page desk.committed.directory) (record {
-          reads = append-nil (touched_of desk.committed attempt.entry).reads i;
-          writes = append-nil (touched_of desk.committed attempt.entry).writes i;
-        }))
+        ∙ (λ i. with_whole_pages (is_fine_page desk.committed.directory) (record { reads = append-nil (touched_of desk.committed attempt.entry).reads i; writes = append-nil (touched_of desk.committed attempt.entry).writes i }))
 
-    owned : (page : ℕ) → IsOwned desk.active (slice_index_or desk.authority page nobody)
-    owned page = elim (held.owned page) [
-      | inl none ↦ inl none
-      | inr some ↦
-          elim (among-replaced (gone_on attempt.entry) desk.active some.0 some.1) [
-            | inl new ↦ inr (record attempt.entry { waiting = is.mark }, is.here, some.2 ∙ ap (λ (x : Entry). x.number) (sym new))
-            | inr old ↦ inr (some.0, old.0, some.2)
-          ]
+    owned : (page : ℕ) → IsOwned (replaced (gone_on attempt.entry) desk.active) (slice_index_or desk.authority page nobody) → IsOwned desk.active (slice_index_or desk.authority page nobody)
+    owned page (inl none) = inl none
+    owned page (inr some) = elim (among-replaced (gone_on attempt.entry) desk.active some.0 some.1) [
+      | inl new ↦ inr (record attempt.entry { waiting = is.mark }, is.here, some.2 ∙ ap (λ (x : Entry). x.number) (sym new))
+      | inr old ↦ inr (some.0, old.0, some.2)
     ]
 
     covered : (page : ℕ) (entry : Entry) → IsAmong desk.active entry → IsCovered (slice_index_or desk.authority page nobody) page entry.number (due_to desk.committed entry)
     covered page entry among =
         let new = new-among (gone_on attempt.entry) desk.active (record attempt.entry { waiting = is.mark }) is.here refl in
-        grind (arith, nat_tests, held.covered page, it entry among, due, new, replaced-among (gone_on attempt.entry) desk.active entry among)
+        let it = one-entry 0 desk.next desk.active (record attempt.entry { waiting = is.mark }) entry is.active.ascend is.here among in
+        grind (arith, nat_tests, held.covered page, it, due, new, replaced-among (gone_on attempt.entry) desk.active entry among)
 
     waits_for_none : (to : ℕ) → waits_for desk attempt.entry.number to ≡ false
     waits_for_none to =
         let by = waits-by desk attempt.entry.number to in
+        let it = λ (entry : Entry). one-entry 0 desk.next desk.active (record attempt.entry { waiting = is.mark }) entry is.active.ascend is.here in
         grind (arith, nat_tests, by, it, nobody-conflicts (conflicts_with desk attempt.entry) desk.active is.none)
 
 -- an entry that begins
@@ -154,10 +134,10 @@ begin-waits desk runs from to waits =
     ]
 
 -- whoever is waited for is active
-waited-active : (desk : Desk) (from to : ℕ) → waits_for desk from to ≡ true → has (numbers desk) to ≡ true
+pub waited-active : (desk : Desk) (from to : ℕ) → waits_for desk from to ≡ true → has (numbers desk) to ≡ true
 waited-active desk from to waits =
     let by = waits-by desk from to waits in
-    subst (λ (n : ℕ). has (numbers desk) n ≡ true) (eqb-true by.other.number to by.is_to) (has-number desk.active by.other by.other_among)
+    grind (arith, nat_tests, has-number desk.active by.other by.other_among, by.is_to)
 
 -- waits that end in a set lead as far among its numbers alone
 leads-among : (waits narrow : ℕ → ℕ → Bool) (all set : List ℕ)
@@ -166,11 +146,7 @@ leads-among : (waits narrow : ℕ → ℕ → Bool) (all set : List ℕ)
 leads-among waits narrow all set wide among zero from to walk = absurd (cc)
 leads-among waits narrow all set wide among (suc steps) from to walk =
     let first = first-step waits all steps from to walk in
-    one-step narrow set steps from to first.next (among from first.next (wide from first.next first.step)) (wide from first.next first.step)
-    (elim first.rest [
-      | inl same ↦ inl same
-      | inr later ↦ inr (leads-among waits narrow all set wide among steps first.next to later)
-    ])
+    grind (arith, first.step, first.rest, among from first.next, wide from first.next, one-step narrow set steps from to first.next, leads-among waits narrow all set wide among steps first.next to)
 
 -- An activation begins.
 pub begins-consistent : (desk : Desk) (runs : Activation) → IsOrderly desk → length desk.active < desk.most_active

@@ -1,8 +1,8 @@
 -- Who ends in a turn: victims, and the turn's own activation.
-use Rattle.desk_law.proofs.Common.{◌≡◌, refl, ℕ, zero, suc, ◌==◌, ◌⊎◌, not, Bool, true, false, List, [], ◌∷◌, ◌++◌, length, map, filter, find, Option, Some, None, ap, ◌∙◌, inl, inr, eqb-true, eq-eqb, or_left, or_right, not_from_false, cases_Bool, has, shown_cycle, victim_of, Plain, Outcome, On, Check, after, Desk, Entry, with_entry, numbers, waits_for, Word, Counts, Turning, Going, Over, Attempt, Fetching, Contest, Contested, Settled, Lost, attempts, attempts_at, instruction, turns, limited, is_over_limit, fetched_first, fetches_touched, asks, gets, goes_on, takes_effect, commits, contest_ends, waits_or_gets, with_grants, breaks_cycle, breaks_cycles, gone_on, turn_desk, turn_counts, ends_own, IsAccounted, EndsHaveCauses, nat_tests, arith}
+use Rattle.desk_law.proofs.Common.{◌≡◌, refl, ℕ, zero, suc, ◌==◌, ◌⊎◌, not, Bool, true, false, List, [], ◌∷◌, ◌++◌, length, map, filter, find, Option, Some, None, eqb-true, eq-eqb, not_from_false, cases_Bool, has, victim_of, Plain, Outcome, On, Check, after, Desk, Entry, with_entry, numbers, Word, Counts, Turning, Going, Over, Attempt, Fetching, Contest, Contested, Settled, Lost, attempts, attempts_at, instruction, turns, limited, is_over_limit, fetches_touched, asks, gets, goes_on, takes_effect, contest_ends, waits_or_gets, with_grants, breaks_cycles, gone_on, turn_desk, turn_counts, ends_own, IsAccounted, EndsHaveCauses, nat_tests, arith, before, contest}
 use Rattle.desk_law.proofs.Entries.{among-found, filter-among, numbers-replaced}
 use Rattle.desk_law.proofs.Waiting.{number-of, has-number}
-use Rattle.desk_law.proofs.Contest.{breaks-keep, left_over, without}
+use Rattle.desk_law.proofs.Contest.{without, VictimsKeep, victims-keep}
 
 -- a number is active, or a victim's
 abbrev IsKept : Desk → Counts → ℕ → Type 0
@@ -36,39 +36,30 @@ has-more [] cycle other inside = absurd (cc)
 has-more (one ∷ cycles) cycle other inside = grind (arith, has-more cycles cycle other)
 
 has-last : (cycles : List (List ℕ)) (cycle : List ℕ) (other : ℕ) → (victim_of cycle == other) ≡ true → has (map victim_of (cycles ++ cycle ∷ [])) other ≡ true
-has-last [] cycle other same = or_left (victim_of cycle == other) false same
-has-last (one ∷ cycles) cycle other same = or_right (victim_of one == other) (has (map victim_of (cycles ++ cycle ∷ [])) other) (has-last cycles cycle other same)
+has-last [] cycle other same = grind (arith, same)
+has-last (one ∷ cycles) cycle other same = grind (arith, nat_tests, has-last cycles cycle other same)
 
 -- victims
 breaks-kept : (before : List ℕ) (left number : ℕ) (contest : Contest) → ContestKept before contest → ContestKept before (breaks_cycles left number contest)
-breaks-kept before left number contest kept = breaks-keep (ContestKept before) number round left contest kept
+breaks-kept before left number contest kept = victims-keep (ContestKept before) number (λ desk counts kept. kept) by_victim left contest kept
   where
-    round : (desk : Desk) (counts : Counts) → ContestKept before (Contested desk counts) → ContestKept before (breaks_cycle number (shown_cycle (waits_for desk) (numbers desk) number) desk counts)
-    round desk counts kept = by_cycle (shown_cycle (waits_for desk) (numbers desk) number)
-      where
-        more : (cycle : List ℕ) (victim : Option Entry) → find (λ (entry : Entry). entry.number == victim_of cycle) desk.active ≡ victim
-            → AreKept before (without desk victim) (record counts { cycles = counts.cycles ++ cycle ∷ [] })
-        more cycle None found other inside = grind (arith, kept other inside, has-more counts.cycles cycle other)
-        more cycle (Some victim) found other inside =
-            grind (arith, nat_tests, kept other inside, left-active desk victim.number other, among-found (λ (entry : Entry). entry.number == victim_of cycle) desk.active victim found, has-last counts.cycles cycle other, has-more counts.cycles cycle other)
+    more : (desk : Desk) (counts : Counts) (cycle : List ℕ) (victim : Option Entry) → AreKept before desk counts → find (λ (entry : Entry). entry.number == victim_of cycle) desk.active ≡ victim
+        → AreKept before (without desk victim) (record counts { cycles = counts.cycles ++ cycle ∷ [] })
+    more desk counts cycle None kept found other inside = grind (arith, kept other inside, has-more counts.cycles cycle other)
+    more desk counts cycle (Some victim) kept found other inside =
+        grind (arith, nat_tests, kept other inside, left-active desk victim.number other, among-found (λ (entry : Entry). entry.number == victim_of cycle) desk.active victim found, has-last counts.cycles cycle other, has-more counts.cycles cycle other)
 
-        by_lost : (cycle : List ℕ) (lost : Bool) → ContestKept before (left_over desk (record counts { cycles = counts.cycles ++ cycle ∷ [] }) (find (λ (entry : Entry). entry.number == victim_of cycle) desk.active) lost)
-        by_lost cycle lost = grind (arith, nat_tests, more)
-
-        by_cycle : (cycle : Option (List ℕ)) → ContestKept before (breaks_cycle number cycle desk counts)
-        by_cycle None = kept
-        by_cycle (Some cycle) = by_lost cycle (victim_of cycle == number)
+    by_victim : VictimsKeep (ContestKept before) number
+    by_victim desk counts cycle victim true kept found e = more desk counts cycle victim kept found
+    by_victim desk counts cycle victim false kept found e = more desk counts cycle victim kept found
 
 module _ (word : Word) (attempt : Attempt) (before : List ℕ) where
   accounts : (desk : Desk) (counts : Counts) (other : ℕ) → IsKept desk counts other → IsAccounted attempt.entry.number (Going desk counts) other
   accounts desk counts other out = grind (arith, nat_tests)
 
-  acc-commit : (word : Word) (desk : Desk) (counts : Counts) → AreKept before desk counts → AreAccounted before attempt.entry.number (commits word attempt desk counts)
-  acc-commit word desk counts kept = grind (arith, own-ended before attempt.entry.number desk counts, accounts desk counts)
-
   acc-effect : (desk : Desk) (counts : Counts) (outcome : Outcome) → AreKept before desk counts → AreAccounted before attempt.entry.number (takes_effect word attempt outcome desk counts)
   acc-effect desk counts (On next) kept = grind (arith, nat_tests, numbers-replaced (gone_on attempt.entry) desk.active)
-  acc-effect desk counts outcome kept = grind (arith, acc-commit, own-ended before attempt.entry.number desk counts (takes_effect word attempt outcome desk counts) kept)
+  acc-effect desk counts outcome kept = grind (arith, own-ended, accounts, own-ended before attempt.entry.number desk counts (takes_effect word attempt outcome desk counts) kept)
 
   acc-on : (desk : Desk) (counts : Counts) (fetching : Fetching) → AreKept before desk counts → AreAccounted before attempt.entry.number (goes_on word attempt desk counts fetching)
   acc-on desk counts fetching kept = grind (arith, acc-effect, own-ended before attempt.entry.number desk counts (goes_on word attempt desk counts fetching) kept)
@@ -86,19 +77,13 @@ module _ (word : Word) (attempt : Attempt) (before : List ℕ) where
   acc-ask : (refused holders : List ℕ) (desk : Desk) (counts : Counts) → AreKept before desk counts → AreAccounted before attempt.entry.number (asks word attempt refused holders desk counts)
   acc-ask refused [] desk counts kept = acc-get refused desk counts kept
   acc-ask refused (holder ∷ holders) desk counts kept =
-      acc-contest refused
-      (breaks_cycles (length desk.active) attempt.entry.number (Contested (with_entry desk (record attempt.entry { waiting = true })) counts))
-      (breaks-kept before (length desk.active) attempt.entry.number (Contested (with_entry desk (record attempt.entry { waiting = true })) counts)
-      (λ other inside. elim (kept other inside) [
-        | inl there ↦ inl (ap (λ (these : List ℕ). has these other) (numbers-replaced (record attempt.entry { waiting = true }) desk.active) ∙ there)
-        | inr lost ↦ inr lost
-      ]))
-
-  acc-first : (desk : Desk) (counts : Counts) (fetching : Fetching) → AreKept before desk counts → AreAccounted before attempt.entry.number (fetched_first word attempt desk counts fetching)
-  acc-first desk counts fetching kept = grind (arith, acc-ask, own-ended before attempt.entry.number desk counts (fetched_first word attempt desk counts fetching) kept)
+      let marked = with_entry desk (record attempt.entry { waiting = true }) in
+      acc-contest refused (breaks_cycles (length desk.active) attempt.entry.number (Contested marked counts))
+      (breaks-kept before (length desk.active) attempt.entry.number (Contested marked counts)
+      (λ other inside. grind (arith, kept other inside, numbers-replaced (record attempt.entry { waiting = true }) desk.active)))
 
   acc-limit : (over : Bool) (desk : Desk) (counts : Counts) → AreKept before desk counts → AreAccounted before attempt.entry.number (limited over word attempt desk counts)
-  acc-limit over desk counts kept = grind (arith, acc-first, own-ended before attempt.entry.number desk counts (limited over word attempt desk counts) kept)
+  acc-limit over desk counts kept = grind (arith, acc-ask, own-ended, own-ended before attempt.entry.number desk counts (limited over word attempt desk counts) kept)
 
   acc-attempt : (outcome : Outcome) (desk : Desk) (counts : Counts) → AreKept before desk counts → AreAccounted before attempt.entry.number (attempts word attempt outcome desk counts)
   acc-attempt (Check code) desk counts kept = own-ended before attempt.entry.number desk counts (attempts word attempt (Check code) desk counts) kept refl refl refl

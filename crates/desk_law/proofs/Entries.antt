@@ -1,5 +1,5 @@
 -- Entries among entries, and their numbers.
-use Rattle.desk_law.proofs.Common.{Option, length, ◌≡◌, refl, ℕ, ◌+◌, ◌<◌, ◌≤◌, ◌==◌, ◌⊎◌, if◌then◌else◌, Bool, true, false, List, [], ◌∷◌, ◌++◌, map, filter, find, Some, None, arith, ap, subst, inl, inr, eqb-true, eq-eqb, both_ways, Entry, IsAmong, Ascend, nat_tests}
+use Rattle.desk_law.proofs.Common.{Desk, IsConsistent, IsOrderly, Option, length, ◌≡◌, refl, ℕ, ◌+◌, ◌<◌, ◌≤◌, ◌==◌, ◌⊎◌, if◌then◌else◌, Bool, true, false, List, [], ◌∷◌, ◌++◌, map, filter, find, Some, None, arith, subst, inl, inr, eq-eqb, both_ways, Entry, IsAmong, Ascend, nat_tests}
 
 -- a filter keeps no more than there are
 pub filter-short : {A : Type 0} (test : A → Bool) (xs : List A) → length (filter test xs) ≤ length xs
@@ -101,6 +101,8 @@ found-among below entries entry up here = by_found (find (λ (other : Entry). ot
   where
     by_found : (found : Option Entry) → find (λ (other : Entry). other.number == entry.number) entries ≡ found → found ≡ Some entry
     by_found None none = absurd (both_ways (entry.number == entry.number) (none-found (λ (other : Entry). other.number == entry.number) entries none entry here) (eq-eqb entry.number entry.number refl))
-    by_found (Some other) found =
-        let (there, passes) = among-found (λ (other : Entry). other.number == entry.number) entries other found in
-        ap Some (one-entry 0 below entries other entry up there here (eqb-true other.number entry.number passes))
+    by_found (Some other) found = grind (arith, nat_tests, among-found (λ (other : Entry). other.number == entry.number) entries other found, one-entry 0 below entries other entry up)
+
+-- a consistent desk is orderly
+pub orderly : (desk : Desk) → IsConsistent desk → IsOrderly desk
+orderly desk is = record { whole = is.whole; few = is.few; active = is.active; held = is.held; no_cycle = is.no_cycle }

@@ -1,9 +1,10 @@
 -- The ends of an entry, from what an attempt over the bytes of all tells: its commit call, its program check, and any rollback.
-use Rattle.desk_law.proofs.Common.{◌≡◌, ℕ, ◌+◌, List, Some, Lines, Plain, Commit, Check, row, after, Desk, Entry, ended, rolled_back, Word, Fine, Counts, Over, Checked, Committed, instruction, ordered, commits, IsLaid, IsTold, over_all, IsAmong, due_to, IsOrderly, nat_tests, arith, next_attempt}
-use Rattle.desk_law.proofs.AttemptsOnCurrent.{own-commit, own-check, ends-consistent}
+use Rattle.desk_law.proofs.Common.{◌≡◌, ℕ, ◌+◌, List, Some, Lines, Plain, Commit, Check, row, after, Desk, Entry, ended, rolled_back, Word, Fine, Counts, Over, Checked, Committed, instruction, ordered, commits, IsLaid, IsTold, over_all, IsAmong, due_to, IsOrderly, nat_tests, arith, next_attempt, row-way}
+use Rattle.desk_law.proofs.AttemptsOnCurrent.{ends-consistent}
 use Rattle.desk_law.proofs.Contest.{rolled-consistent}
 use Rattle.desk_law.proofs.RowsThere.{commit-row, check-row}
 use Rattle.desk_law.proofs.ToldSteps.{HasCommitted, told-commit, told-rollback}
+use Rattle.desk_law.proofs.LeftLemmas.{went}
 
 -- the desk after the commit of an entry at a state
 abbrev pub committed_desk : Desk → Entry → Plain → Desk
@@ -23,22 +24,18 @@ pub commit-ends :
     → IsTold desk.committed desk.active locks requests states bytes
     → row entry.runs.program desk.committed.directory (over_all now bytes) ≡ Commit
     → Commits desk counts entry now locks requests states bytes
-commit-ends desk counts entry now locks requests states bytes is here at told went = record {
-  comes = comes;
-  record_lines = done.record_lines;
-  consistent =
-      ends-consistent Fine desk (committed_desk desk entry now) counts (record counts { ran = counts.ran + 1 }) (Committed (entry.rows + 1) now.out) entry is here (comes Fine);
-  told = done.told;
-}
-  where
-    own : row entry.runs.program desk.committed.directory now ≡ Commit
-    own = own-commit entry.runs.program desk.committed.directory now bytes went
-
-    comes : (word : Word) → instruction word (Some entry) desk counts ≡ commits word (next_attempt desk entry now) desk counts
-    comes word = commit-row word desk counts entry now is here at own
-
-    done : HasCommitted desk.committed desk.active locks requests states bytes entry now
-    done = told-commit desk.committed desk.most_lines desk.next desk.active locks requests states bytes entry now is.whole is.active here told at
+commit-ends desk counts entry now locks requests states bytes is here at told went =
+    let own : row entry.runs.program desk.committed.directory now ≡ Commit = grind (arith, nat_tests, row-way entry.runs.program desk.committed.directory now bytes) in
+    let comes : (word : Word) → instruction word (Some entry) desk counts ≡ commits word (next_attempt desk entry now) desk counts = λ word. commit-row word desk counts entry now is here at own in
+    let done : HasCommitted desk.committed desk.active locks requests states bytes entry now =
+    told-commit desk.committed desk.most_lines desk.next desk.active locks requests states bytes entry now is.whole is.active here told at in
+    record {
+      comes = comes;
+      record_lines = done.record_lines;
+      consistent =
+          ends-consistent Fine desk (committed_desk desk entry now) counts (record counts { ran = counts.ran + 1 }) (Committed (entry.rows + 1) now.out) entry is here (comes Fine);
+      told = done.told;
+    }
 
 -- what a rollback of an active entry leaves, of whatever cause: a check, the limit, a failed read or a lost contest
 pub record Rolls (desk : Desk) (gone : Entry) (locks requests : ℕ → Lines) (states : ℕ → Plain) (bytes : List ℕ) : Type 0 where
@@ -58,4 +55,4 @@ pub check-ends :
     → after entry.runs.program entry.runs.args desk.committed entry.rows ≡ Some now
     → row entry.runs.program desk.committed.directory (over_all now bytes) ≡ Check code
     → (word : Word) → instruction word (Some entry) desk counts ≡ Over (rolled_back desk entry) counts (Checked code now.iar)
-check-ends desk counts entry now code bytes at went word = grind (arith, nat_tests, check-row word desk counts entry now code, own-check entry.runs.program desk.committed.directory now bytes code went)
+check-ends desk counts entry now code bytes at went word = grind (arith, nat_tests, check-row word desk counts entry now code, row-way entry.runs.program desk.committed.directory now bytes)

@@ -1,54 +1,37 @@
 -- A row that goes on leaves the desk consistent.
-use Rattle.desk_law.proofs.Common.{◌≡◌, refl, ℕ, suc, ◌≤◌, ◌==◌, not, Bool, true, false, List, [], ◌∷◌, ◌++◌, length, filter, map, Some, slice_index_or, list_any, arith, ap, sym, ◌∙◌, subst, inl, inr, both_ways, or_cases, or_parts, and_cases, not_from_false, false_from_ne_true, is_fine_page, FlatStore, IsWhole, has, size, meets, Lines, both, conflicts, with_whole_pages, has-append, has_left, has_right, any-some, reaches, whole-reached, part-both, part-whole_pages, has-whole_pages, meets-at, Plain, On, row, after, touched_next, all_of, Desk, Entry, nobody, with_entry, wanted, due_to, requested, conflicts_with, conflicts_of, numbers, waits_for, Attempt, with_grants, with_lowered, locks_with, gone_on, row_done, IsAmong, IsLive, AreApart, AreConsistent, IsCovered, IsHeld, HasNoCycle, IsOrderly, except, touched_of, IsContending, IsReady, nat_tests}
+use Rattle.desk_law.proofs.Common.{◌≡◌, refl, ℕ, suc, ◌≤◌, ◌==◌, Bool, true, false, List, [], ◌∷◌, ◌++◌, length, filter, map, Some, slice_index_or, arith, ap, sym, ◌∙◌, subst, inl, inr, or_cases, false_from_ne_true, is_fine_page, FlatStore, IsWhole, has, size, Lines, both, conflicts, with_whole_pages, has-append, has_left, has_right, any-some, reaches, whole-reached, part-both, part-whole_pages, has-whole_pages, meets-at, Plain, On, row, after, touched_next, all_of, Desk, Entry, nobody, with_entry, wanted, due_to, requested, conflicts_with, conflicts_of, numbers, waits_for, Attempt, with_grants, with_lowered, locks_with, gone_on, row_done, IsAmong, IsLive, AreApart, AreConsistent, IsCovered, IsHeld, HasNoCycle, IsOrderly, except, touched_of, IsContending, IsReady, nat_tests, list_any-append, ◌||◌}
 use Rattle.desk_law.proofs.Entries.{replaced, among-replaced, new-among, ascend-replaced, numbers-replaced}
 use Rattle.desk_law.proofs.Walks.{no-cycle-fewer, no-cycle-leaves}
 use Rattle.desk_law.proofs.Others.{others, after-row}
 use Rattle.desk_law.proofs.Waiting.{marked-waits, gone-on}
 use Rattle.desk_law.proofs.Holding.{IsHeldBut, held-but, covered-more, held-replaced, held-granted, held-lowered}
 
+-- what is read of two sets of lines, with whole pages
+pub whole-both : (fine : ℕ → Bool) (mine new : Lines) (line : ℕ)
+    → has (with_whole_pages fine (both mine new)).reads line ≡ (has (with_whole_pages fine mine).reads line || has (with_whole_pages fine new).reads line)
+whole-both fine mine new line =
+    grind (arith, nat_tests, has-whole_pages fine (both mine new) line, has-whole_pages fine mine line, has-whole_pages fine new line, has-append mine.reads new.reads line, list_any-append (reaches fine line) mine.writes new.writes)
+
 -- no conflict keeps two apart
 pub apart-still : (fine : ℕ → Bool) (mine new theirs : Lines) → AreApart (with_whole_pages fine mine) theirs → conflicts (with_whole_pages fine new) theirs ≡ false
     → AreApart (with_whole_pages fine (both mine new)) theirs
-apart-still fine mine new theirs apart none = record {
-  first_writes = λ line inside.
-      elim (or_cases (has mine.writes line) (has new.writes line) (sym (has-append mine.writes new.writes line) ∙ inside)) [
-        | inl old ↦ apart.first_writes line old
-        | inr fresh ↦ false_from_ne_true (has (all_of theirs) line) (λ there. both_ways (meets new.writes (theirs.reads ++ theirs.writes)) parts.0 (meets-at new.writes (theirs.reads ++ theirs.writes) line fresh there))
-      ];
-  second_writes = λ line inside.
-      false_from_ne_true (has (all_of (with_whole_pages fine (both mine new))) line)
-      (λ there.
-      elim (or_cases (has (with_whole_pages fine (both mine new)).reads line) (has (mine.writes ++ new.writes) line) (sym (has-append (with_whole_pages fine (both mine new)).reads (mine.writes ++ new.writes) line) ∙ there)) [
-        | inl read ↦
-            elim (or_cases (has (mine.reads ++ new.reads) line) (list_any (reaches fine line) (mine.writes ++ new.writes)) (sym (has-whole_pages fine (both mine new) line) ∙ read)) [
-              | inl row_read ↦
-                  elim (or_cases (has mine.reads line) (has new.reads line) (sym (has-append mine.reads new.reads line) ∙ row_read)) [
-                    | inl old ↦ no_read line inside (has_left mine.reads _ line old)
-                    | inr fresh ↦ no_new_read line inside (has_left new.reads _ line fresh)
-                  ]
-              | inr reached ↦
-                  let (x, written, here) = any-some (reaches fine line) (mine.writes ++ new.writes) reached in
-                  elim (or_cases (has mine.writes x) (has new.writes x) (sym (has-append mine.writes new.writes x) ∙ written)) [
-                    | inl old ↦ no_read line inside (whole-reached fine mine line x old here)
-                    | inr fresh ↦ no_new_read line inside (whole-reached fine new line x fresh here)
-                  ]
-            ]
-        | inr written ↦
-            elim (or_cases (has mine.writes line) (has new.writes line) (sym (has-append mine.writes new.writes line) ∙ written)) [
-              | inl old ↦ both_ways (has (all_of theirs) line) (apart.first_writes line old) (has_right theirs.reads theirs.writes line inside)
-              | inr fresh ↦ both_ways (meets new.writes (theirs.reads ++ theirs.writes)) parts.0 (meets-at new.writes (theirs.reads ++ theirs.writes) line fresh (has_right theirs.reads theirs.writes line inside))
-            ]
-      ]);
-}
-  where
-    parts : (meets new.writes (theirs.reads ++ theirs.writes) ≡ false) × (meets (with_whole_pages fine new).reads theirs.writes ≡ false)
-    parts = or_parts (meets new.writes (theirs.reads ++ theirs.writes)) (meets (with_whole_pages fine new).reads theirs.writes) none
-
-    no_read : (line : ℕ) → has theirs.writes line ≡ true → has (with_whole_pages fine mine).reads line ≡ true → ⊥
-    no_read line inside read = both_ways (has (all_of (with_whole_pages fine mine)) line) (apart.second_writes line inside) (has_left (with_whole_pages fine mine).reads mine.writes line read)
-
-    no_new_read : (line : ℕ) → has theirs.writes line ≡ true → has (with_whole_pages fine new).reads line ≡ true → ⊥
-    no_new_read line inside read = both_ways (meets (with_whole_pages fine new).reads theirs.writes) parts.1 (meets-at (with_whole_pages fine new).reads theirs.writes line read inside)
+apart-still fine mine new theirs apart none =
+    let no-read : (line : ℕ) → has theirs.writes line ≡ true → (has (with_whole_pages fine mine).reads line ≡ false) × (has (with_whole_pages fine new).reads line ≡ false) =
+    λ line inside. (grind (arith, nat_tests, apart.second_writes line inside, has-append), grind (arith, nat_tests, meets-at (with_whole_pages fine new).reads theirs.writes line)) in
+    let unread : (line : ℕ) → has theirs.writes line ≡ true → has (with_whole_pages fine (both mine new)).reads line ≡ true → ⊥ =
+    λ line inside read. grind (arith, nat_tests, no-read line inside, has-whole_pages fine (both mine new) line, any-some (reaches fine line) (mine.writes ++ new.writes), has-append, has_left, whole-reached fine mine line, whole-reached fine new line) in
+    let unwritten : (line : ℕ) → has theirs.writes line ≡ true → has (mine.writes ++ new.writes) line ≡ true → ⊥ =
+    λ line inside written. grind (arith, nat_tests, has_right theirs.reads theirs.writes line inside, has-append mine.writes new.writes line, apart.first_writes line, meets-at new.writes (theirs.reads ++ theirs.writes) line) in
+    record {
+      first_writes = λ line inside. grind (arith, nat_tests, has-append mine.writes new.writes line, apart.first_writes line, meets-at new.writes (theirs.reads ++ theirs.writes) line);
+      second_writes = λ line inside.
+          false_from_ne_true (has (all_of (with_whole_pages fine (both mine new))) line)
+          (λ there.
+          elim (or_cases (has (with_whole_pages fine (both mine new)).reads line) (has (mine.writes ++ new.writes) line) (sym (has-append (with_whole_pages fine (both mine new)).reads (mine.writes ++ new.writes) line) ∙ there)) [
+            | inl read ↦ unread line inside read
+            | inr written ↦ unwritten line inside written
+          ]);
+    }
 
 pub length-replaced : (new : Entry) (entries : List Entry) → length (replaced new entries) ≡ length entries
 length-replaced new [] = refl
@@ -58,6 +41,11 @@ length-replaced new (one ∷ entries) = ap suc (length-replaced new entries)
 pub nobody-conflicts : (test : Entry → Bool) (entries : List Entry) → map (λ (entry : Entry). entry.number) (filter test entries) ≡ [] → (other : Entry) → IsAmong entries other → test other ≡ false
 nobody-conflicts test [] none other among = absurd among
 nobody-conflicts test (one ∷ entries) none other among = grind (arith, nat_tests, nobody-conflicts test entries)
+
+-- so what an entry asks for conflicts with none of the others
+pub nobody-meets : (desk : Desk) (entry : Entry) → conflicts_of desk entry ≡ [] → (other : Entry) → IsAmong desk.active other → (other.number == entry.number) ≡ false
+    → conflicts (requested desk.committed entry) (due_to desk.committed other) ≡ false
+nobody-meets desk entry none other there differ = grind (arith, nat_tests, nobody-conflicts (conflicts_with desk entry) desk.active none other there)
 
 -- the locks due after the row
 pub due-more : (store : FlatStore) (entry : Entry)
@@ -116,42 +104,40 @@ pub record IsGranted (attempt : Attempt) (desk : Desk) : Type 0 where
 
 pub grants-held : (desk : Desk) (attempt : Attempt) (refused : List ℕ) → IsReady attempt desk → conflicts_of desk attempt.entry ≡ []
     → IsGranted attempt (with_grants attempt refused desk)
-grants-held desk attempt refused ready none = record {
-  whole = ready.contending.whole;
-  few = ready.contending.few;
-  active = ready.contending.active;
-  held_others =
-      held-granted (is_fine_page desk.committed.directory) desk.committed (replaced (gone_on attempt.entry) desk.active) (gone_on attempt.entry) attempt (locks_with attempt desk) refused desk.authority
-      there refl (held-but attempt.entry.number desk.committed (replaced (gone_on attempt.entry) desk.active) desk.authority moved);
-  held =
-      held-lowered (is_fine_page desk.committed.directory) desk.committed desk.next (replaced (gone_on attempt.entry) desk.active) (gone_on attempt.entry) attempt
-      (both (touched_of desk.committed attempt.entry) attempt.lines) refused desk.authority
-      (ascend-replaced (gone_on attempt.entry) 0 desk.next desk.active ready.contending.active.ascend)
-      there refl
-      (ap (λ (l : Lines). with_whole_pages (is_fine_page desk.committed.directory) (both (touched_of desk.committed attempt.entry) l)) ready.lines ∙ sym (due-more desk.committed attempt.entry))
-      moved;
-  no_cycle = ready.contending.no_cycle;
-  mark = ready.mark;
-  here = ready.here;
-  now = ready.now;
-  went = ready.went;
-  none = none;
-  lines = ready.lines;
-  short = ready.short;
-}
-  where
-    there : IsAmong (replaced (gone_on attempt.entry) desk.active) (gone_on attempt.entry)
-    there = new-among (gone_on attempt.entry) desk.active (record attempt.entry { waiting = ready.mark }) ready.here refl
-
-    moved : IsHeld desk.committed (replaced (gone_on attempt.entry) desk.active) desk.authority
-    moved =
-        held-replaced desk.committed desk.active desk.authority (record attempt.entry { waiting = ready.mark }) (gone_on attempt.entry) ready.here refl
-        (λ page.
-        subst (λ (l : Lines). IsCovered (slice_index_or desk.authority page nobody) page attempt.entry.number l) (sym (due-more desk.committed attempt.entry))
-        (covered-more (slice_index_or desk.authority page nobody) page attempt.entry.number (due_to desk.committed attempt.entry) (with_whole_pages (is_fine_page desk.committed.directory) (both (touched_of desk.committed attempt.entry) (wanted desk attempt.entry)))
-        (part-whole_pages (is_fine_page desk.committed.directory) (touched_of desk.committed attempt.entry) (both (touched_of desk.committed attempt.entry) (wanted desk attempt.entry)) (part-both (touched_of desk.committed attempt.entry) (wanted desk attempt.entry)))
-        (ready.contending.held.covered page (record attempt.entry { waiting = ready.mark }) ready.here)))
-        ready.contending.held
+grants-held desk attempt refused ready none =
+    let there : IsAmong (replaced (gone_on attempt.entry) desk.active) (gone_on attempt.entry) =
+    new-among (gone_on attempt.entry) desk.active (record attempt.entry { waiting = ready.mark }) ready.here refl in
+    let moved : IsHeld desk.committed (replaced (gone_on attempt.entry) desk.active) desk.authority =
+    held-replaced desk.committed desk.active desk.authority (record attempt.entry { waiting = ready.mark }) (gone_on attempt.entry) ready.here refl
+    (λ page.
+    subst (λ (l : Lines). IsCovered (slice_index_or desk.authority page nobody) page attempt.entry.number l) (sym (due-more desk.committed attempt.entry))
+    (covered-more (slice_index_or desk.authority page nobody) page attempt.entry.number (due_to desk.committed attempt.entry) (with_whole_pages (is_fine_page desk.committed.directory) (both (touched_of desk.committed attempt.entry) (wanted desk attempt.entry)))
+    (part-whole_pages (is_fine_page desk.committed.directory) (touched_of desk.committed attempt.entry) (both (touched_of desk.committed attempt.entry) (wanted desk attempt.entry)) (part-both (touched_of desk.committed attempt.entry) (wanted desk attempt.entry)))
+    (ready.contending.held.covered page (record attempt.entry { waiting = ready.mark }) ready.here)))
+    ready.contending.held in
+    record {
+      whole = ready.contending.whole;
+      few = ready.contending.few;
+      active = ready.contending.active;
+      held_others =
+          held-granted (is_fine_page desk.committed.directory) desk.committed (replaced (gone_on attempt.entry) desk.active) (gone_on attempt.entry) attempt (locks_with attempt desk) refused desk.authority
+          there refl (held-but attempt.entry.number desk.committed (replaced (gone_on attempt.entry) desk.active) desk.authority moved);
+      held =
+          held-lowered (is_fine_page desk.committed.directory) desk.committed desk.next (replaced (gone_on attempt.entry) desk.active) (gone_on attempt.entry) attempt
+          (both (touched_of desk.committed attempt.entry) attempt.lines) refused desk.authority
+          (ascend-replaced (gone_on attempt.entry) 0 desk.next desk.active ready.contending.active.ascend)
+          there refl
+          (ap (λ (l : Lines). with_whole_pages (is_fine_page desk.committed.directory) (both (touched_of desk.committed attempt.entry) l)) ready.lines ∙ sym (due-more desk.committed attempt.entry))
+          moved;
+      no_cycle = ready.contending.no_cycle;
+      mark = ready.mark;
+      here = ready.here;
+      now = ready.now;
+      went = ready.went;
+      none = none;
+      lines = ready.lines;
+      short = ready.short;
+    }
 
 -- the entries once a row has gone on while nobody conflicted
 pub gone-on-active :
@@ -166,7 +152,7 @@ gone-on-active desk most entry mark now next are here at went none short =
     subst (λ (l : Lines). AreApart l (due_to desk.committed other)) (sym due)
     (apart-still (is_fine_page desk.committed.directory) (touched_of desk.committed entry) (wanted desk entry) (due_to desk.committed other)
     (apart-turned (due_to desk.committed other) (due_to desk.committed entry) (are.apart other (record entry { waiting = mark }) among here differ))
-    (free other among differ)))
+    (nobody-meets desk entry none other among differ)))
   where
     due : due_to desk.committed (gone_on entry) ≡ with_whole_pages (is_fine_page desk.committed.directory) (both (touched_of desk.committed entry) (wanted desk entry))
     due = due-more desk.committed entry
@@ -178,14 +164,6 @@ gone-on-active desk most entry mark now next are here at went none short =
       few = omega (arith, short, ap (λ (l : Lines). size l.writes) due);
       present = (are.live (record entry { waiting = mark }) here).present;
     }
-
-    free : (other : Entry) → IsAmong desk.active other → (other.number == entry.number) ≡ false → conflicts (requested desk.committed entry) (due_to desk.committed other) ≡ false
-    free other among differ =
-        elim (and_cases (not (other.number == entry.number)) (conflicts (requested desk.committed entry) (due_to desk.committed other))
-        (nobody-conflicts (conflicts_with desk entry) desk.active none other among)) [
-          | inl same ↦ absurd (both_ways (not (other.number == entry.number)) same (not_from_false (other.number == entry.number) differ))
-          | inr fine ↦ fine
-        ]
 
 -- the row goes on
 pub row-goes-on : (desk : Desk) (attempt : Attempt) (next : Plain) → IsGranted attempt desk → attempt.outcome ≡ On next

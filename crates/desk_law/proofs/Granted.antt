@@ -1,5 +1,5 @@
 -- Once the refused pages are granted, every line of the row is permitted.
-use Rattle.desk_law.proofs.Common.{◌≡◌, refl, ℕ, ◌<◌, ◌==◌, not, if◌then◌else◌, Bool, true, false, List, [], ◌∷◌, length, filter, slice_index_or, list_any, ap, ◌∙◌, inl, inr, eq-eqb, both_ways, and_from, or_parts, cases_Bool, not-false, false_from_ne_true, has, permits, Lines, within_page, page_of_line, pages_of, any-at, has-filter, has_left, has_right, has-within_page, pages_of-line, all_of, Grant, nobody, Attempt, grant_by, fine_grant_by, given, granted, refuses, lines_within, touched_pages, lets, ArePermitted, KeepsPages, nat_tests, arith}
+use Rattle.desk_law.proofs.Common.{◌≡◌, refl, ℕ, ◌<◌, ◌==◌, not, if◌then◌else◌, Bool, true, false, List, length, filter, slice_index_or, list_any, ap, ◌∙◌, inl, inr, eq-eqb, both_ways, and_from, or_parts, cases_Bool, not-false, false_from_ne_true, has, permits, Lines, within_page, page_of_line, pages_of, any-at, has-filter, has_left, has_right, has-within_page, pages_of-line, all_of, Grant, nobody, Attempt, grant_by, fine_grant_by, given, granted, refuses, lines_within, touched_pages, lets, ArePermitted, KeepsPages, nat_tests, arith, before}
 use Rattle.desk_law.proofs.EachPage.{each-is, each-not}
 
 read-there : (same bit : Bool) → same ≡ true → permits same true bit false ≡ true
@@ -13,12 +13,10 @@ inside-page lines line inside = has-within_page (page_of_line line) lines line �
 
 -- The authority by locks lets its number load what is locked to read, and store to what is locked to write.
 pub lets-loads : (number : ℕ) (reads writes : List ℕ) (line : ℕ) → has reads line ≡ true → lets (grant_by number reads writes) number line false ≡ true
-lets-loads number reads [] line inside = grind (arith, nat_tests, inside)
-lets-loads number reads (x ∷ writes) line inside = grind (arith, nat_tests)
+lets-loads number reads writes line inside = grind (arith, nat_tests)
 
 pub lets-stores : (number : ℕ) (reads writes : List ℕ) (line : ℕ) → has writes line ≡ true → lets (grant_by number reads writes) number line true ≡ true
-lets-stores number reads [] line inside = absurd (cc (inside))
-lets-stores number reads (x ∷ writes) line inside = grind (arith, nat_tests, inside)
+lets-stores number reads writes line inside = grind (arith, nat_tests)
 
 by-reads : (attempt : Attempt) (locks : Lines) (line : ℕ) (writes : List ℕ) → has locks.reads line ≡ true
     → lets (grant_by attempt.entry.number (within_page (page_of_line line) locks.reads) writes) attempt.entry.number line false ≡ true
@@ -66,33 +64,21 @@ granted-permits fine attempt locks before later keeps reads writes below = recor
     refused : List ℕ
     refused = filter (λ page. refuses (slice_index_or before page nobody) attempt.entry.number (lines_within page attempt.lines)) (touched_pages attempt)
 
-    reads_refused : ℕ → Bool
-    reads_refused line = list_any (λ l. not (lets (slice_index_or before (page_of_line line) nobody) attempt.entry.number l false)) (within_page (page_of_line line) attempt.lines.reads)
-
-    writes_refused : ℕ → Bool
-    writes_refused line = list_any (λ l. not (lets (slice_index_or before (page_of_line line) nobody) attempt.entry.number l true)) (within_page (page_of_line line) attempt.lines.writes)
-
-    not_refused : (line : ℕ) → has (all_of attempt.lines) line ≡ true
-        → has (filter (λ page. refuses (slice_index_or before page nobody) attempt.entry.number (lines_within page attempt.lines)) (touched_pages attempt)) (page_of_line line) ≡ false
-        → refuses (slice_index_or before (page_of_line line) nobody) attempt.entry.number (lines_within (page_of_line line) attempt.lines) ≡ false
-    not_refused line there wasn't =
-        false_from_ne_true (refuses (slice_index_or before (page_of_line line) nobody) attempt.entry.number (lines_within (page_of_line line) attempt.lines))
-        (λ refuses_it.
-        both_ways (has (filter (λ page. refuses (slice_index_or before page nobody) attempt.entry.number (lines_within page attempt.lines)) (touched_pages attempt)) (page_of_line line)) wasn't
-        (has-filter (λ page. refuses (slice_index_or before page nobody) attempt.entry.number (lines_within page attempt.lines)) (touched_pages attempt) (page_of_line line)
-        ∙ and_from (has (touched_pages attempt) (page_of_line line)) (refuses (slice_index_or before (page_of_line line) nobody) attempt.entry.number (lines_within (page_of_line line) attempt.lines))
-        (pages_of-line (all_of attempt.lines) line there) refuses_it))
+    refused_among : ℕ → Bool → List ℕ → Bool
+    refused_among line stores lines = list_any (λ l. not (lets (slice_index_or before (page_of_line line) nobody) attempt.entry.number l stores)) (within_page (page_of_line line) lines)
 
     one : (line : ℕ) (stores : Bool) (lines : List ℕ) → has (all_of attempt.lines) line ≡ true → has lines line ≡ true → lets (given fine attempt locks (page_of_line line)) attempt.entry.number line stores ≡ true
-        → ((reads_refused line ≡ false) × (writes_refused line ≡ false) → list_any (λ l. not (lets (slice_index_or before (page_of_line line) nobody) attempt.entry.number l stores)) (within_page (page_of_line line) lines) ≡ false)
+        → ((refused_among line false attempt.lines.reads ≡ false) × (refused_among line true attempt.lines.writes ≡ false) → refused_among line stores lines ≡ false)
         → lets (slice_index_or (granted fine attempt locks refused later) (page_of_line line) nobody) attempt.entry.number line stores ≡ true
     one line stores lines there inside given_here quiet_of = elim (cases_Bool (has refused (page_of_line line))) [
       | inl was ↦ ap (λ (a : Grant). lets a attempt.entry.number line stores) (each-is (given fine attempt locks) refused later (page_of_line line) (below line there) was) ∙ given_here
       | inr wasn't ↦
           let was_there = slice_index_or before (page_of_line line) nobody in
+          let quiet : refuses was_there attempt.entry.number (lines_within (page_of_line line) attempt.lines) ≡ false =
+          grind (arith, nat_tests, has-filter (λ page. refuses (slice_index_or before page nobody) attempt.entry.number (lines_within page attempt.lines)) (touched_pages attempt) (page_of_line line), pages_of-line (all_of attempt.lines) line there, wasn't) in
           let may : lets was_there attempt.entry.number line stores ≡ true =
           not-false (lets was_there attempt.entry.number line stores)
-          (none-there (λ l. not (lets was_there attempt.entry.number l stores)) (within_page (page_of_line line) lines) line (quiet_of (or_parts (reads_refused line) (writes_refused line) (not_refused line there wasn't))) (inside-page lines line inside)) in
+          (none-there (λ l. not (lets was_there attempt.entry.number l stores)) (within_page (page_of_line line) lines) line (quiet_of (or_parts (refused_among line false attempt.lines.reads) (refused_among line true attempt.lines.writes) quiet)) (inside-page lines line inside)) in
           ap (λ (a : Grant). lets a attempt.entry.number line stores)
           (each-not (given fine attempt locks) refused later (page_of_line line) wasn't
           ∙ keeps (page_of_line line) (owns (was_there.owner == attempt.entry.number) was_there.write (has was_there.lines line) stores may))

@@ -1,18 +1,15 @@
 -- What an authority permits is held, as entries and authorities change.
-use Rattle.desk_law.proofs.Common.{◌≡◌, refl, ℕ, zero, suc, ◌==◌, ◌&&◌, not, if◌then◌else◌, Bool, true, false, List, [], ◌∷◌, length, map, slice_index_or, ap, sym, ◌∙◌, subst, inl, inr, eqb-true, eq-eqb, ne_eqb, both_ways, and_from, or_left, cases_Bool, not-true, not_from_false, page_count, FlatStore, has, permits, Lines, with_whole_pages, within_page, is_whole_page, page_of_line, pages_of, has-filter, ArePart, has-within_page, whole-has, whole-reached, reaches-coarse, Entry, Grant, nobody, Attempt, grant_by, fine_grant_by, given, granted, lowered, lowered_pages, to_read, IsAmong, Ascend, due_to, IsCovered, IsOwned, IsHeld, nat_tests, arith}
-use Rattle.desk_law.proofs.EachPage.{length-each, each-at}
-use Rattle.desk_law.proofs.Entries.{among-filter, filter-among, among-replaced, replaced-among, new-among, replaced, one-entry}
-use Rattle.desk_law.proofs.Others.{others}
+use Rattle.desk_law.proofs.Common.{◌≡◌, refl, ℕ, zero, suc, ◌==◌, ◌&&◌, not, if◌then◌else◌, Bool, true, false, List, [], ◌∷◌, length, map, slice_index_or, ap, sym, ◌∙◌, subst, inl, inr, eqb-true, eq-eqb, or_left, cases_Bool, page_count, FlatStore, has, permits, Lines, with_whole_pages, within_page, is_whole_page, page_of_line, pages_of, has-filter, ArePart, has-within_page, whole-has, whole-reached, reaches-coarse, Entry, Grant, nobody, Attempt, grant_by, fine_grant_by, given, granted, lowered, lowered_pages, to_read, IsAmong, Ascend, due_to, IsCovered, IsOwned, IsHeld, nat_tests, arith}
+use Rattle.desk_law.proofs.EachPage.{length-each, each-all}
+use Rattle.desk_law.proofs.Entries.{among-replaced, replaced-among, new-among, replaced, one-entry}
+use Rattle.desk_law.proofs.Others.{others, among-others, others-among}
 
 -- an authority once a number has ended
 abbrev pub freed : ℕ → Grant → Grant
 freed number authority = if authority.owner == number then nobody else authority
 
-freed-nobody : (number : ℕ) → freed number nobody ≡ nobody
-freed-nobody number = grind (arith, nat_tests)
-
 pub freed-at : (number : ℕ) (authority : List Grant) (page : ℕ) → slice_index_or (map (freed number) authority) page nobody ≡ freed number (slice_index_or authority page nobody)
-freed-at number [] page = sym (freed-nobody number)
+freed-at number [] page = sym (grind (arith, nat_tests))
 freed-at number (one ∷ authority) zero = refl
 freed-at number (one ∷ authority) (suc page) = freed-at number authority page
 
@@ -43,33 +40,14 @@ pub held-others :
     → IsHeldBut gone.number store entries authority → IsHeld later (others gone entries) (map (freed gone.number) authority)
 held-others store later entries authority gone one_directory same held = record {
   pages = length-freed gone.number authority ∙ held.pages ∙ sym (ap page_count one_directory);
-  owned = λ page. subst (IsOwned (others gone entries)) (sym (freed-at gone.number authority page)) (owned (slice_index_or authority page nobody) (held.owned page));
-  covered = λ page entry among.
-      subst (λ (a : Grant). IsCovered a page entry.number (due_to later entry)) (sym (freed-at gone.number authority page))
-      (subst (λ (locks : Lines). IsCovered (freed gone.number (slice_index_or authority page nobody)) page entry.number locks) (sym (same entry among))
-      (covered (slice_index_or authority page nobody) page entry.number (due_to store entry)
-      (let (there, differ) = among-filter (λ (other : Entry). not (other.number == gone.number)) entries entry among in
-      held.covered page entry there (not-true (entry.number == gone.number) differ))));
+  owned = λ page. subst (IsOwned (others gone entries)) (sym (freed-at gone.number authority page)) (owned (slice_index_or authority page nobody) _ refl (held.owned page));
+  covered = λ page entry among. grind (arith, nat_tests, freed-at gone.number authority page, same entry among, among-others gone entries entry among, held.covered page entry, nobody-covers page entry.number);
 }
   where
-    owned : (a : Grant) → IsOwned entries a → IsOwned (others gone entries) (freed gone.number a)
-    owned a old = by_test (a.owner == gone.number) refl
-      where
-        by_test : (is_gone : Bool) → (a.owner == gone.number) ≡ is_gone → IsOwned (others gone entries) (if is_gone then nobody else a)
-        by_test true e = inl refl
-        by_test false e = elim old [
-          | inl none ↦ inl none
-          | inr some ↦
-              inr (
-                some.0,
-                filter-among (λ (other : Entry). not (other.number == gone.number)) entries some.0 some.1
-                    (not_from_false (some.0.number == gone.number) (ap (λ (n : ℕ). n == gone.number) (sym some.2) ∙ e)),
-                some.2,
-              )
-        ]
-
-    covered : (a : Grant) (page number : ℕ) (locks : Lines) → IsCovered a page number locks → IsCovered (freed gone.number a) page number locks
-    covered a page number locks old = grind (arith, nat_tests, nobody-covers page number locks)
+    owned : (a : Grant) (is_gone : Bool) → (a.owner == gone.number) ≡ is_gone → IsOwned entries a → IsOwned (others gone entries) (if is_gone then nobody else a)
+    owned a true e old = inl refl
+    owned a false e (inl none) = inl none
+    owned a false e (inr some) = inr (some.0, others-among gone entries some.0 some.1 (ap (λ (n : ℕ). n == gone.number) (sym some.2) ∙ e), some.2)
 
 -- after one entry changed
 pub held-replaced :
@@ -95,9 +73,6 @@ bit_on same bit store h1 = grind (arith, nat_tests)
 no_store : (same bit : Bool) → permits same false bit true ≡ true → ⊥
 no_store same bit h1 = grind (arith, nat_tests)
 
-store_on : (same bit : Bool) → permits same true bit true ≡ true → bit ≡ true
-store_on same bit h1 = grind (arith, nat_tests)
-
 inside : (page line : ℕ) (some : List ℕ) → has (within_page page some) line ≡ true → (page ≡ page_of_line line) × (has some line ≡ true)
 inside page line some there = grind (arith, nat_tests, has-within_page page some line)
 
@@ -110,7 +85,7 @@ pub on-covers : (number page : ℕ) (locks : Lines) (writes : List ℕ)
     → ((line : ℕ) → has writes line ≡ true → has (within_page page locks.writes) line ≡ true)
     → ((line : ℕ) → page_of_line line ≡ page → has locks.reads line ≡ true)
     → IsCovered (record { owner = number; write = true; lines = writes }) page number locks
-on-covers number page locks writes among whole = grind (arith, nat_tests, inside, store_on)
+on-covers number page locks writes among whole = grind (arith, nat_tests, inside)
 
 -- By its locks, where it has written into the page only if all of it is held to read.
 by-covers : (number page : ℕ) (locks : Lines) (writes : List ℕ)
@@ -160,87 +135,47 @@ pub held-granted :
     → IsHeldBut attempt.entry.number store entries (granted fine attempt locks pages authority)
 held-granted fine store entries new attempt locks pages authority here same held = record {
   pages = length-each (given fine attempt locks) pages authority ∙ held.pages;
-  owned = λ at. elim (each-at (given fine attempt locks) pages authority at) [
-    | inl is ↦ subst (IsOwned entries) (sym is.1) (inr (new, here, given-owner fine attempt locks at ∙ same))
-    | inr (inl out) ↦ subst (IsOwned entries) (sym out.1) (held.owned at)
-    | inr (inr past) ↦ subst (IsOwned entries) (sym past) (inl refl)
-  ];
-  covered = λ at entry among other. elim (each-at (given fine attempt locks) pages authority at) [
-    | inl is ↦
-        subst (λ (a : Grant). IsCovered a at entry.number (due_to store entry)) (sym is.1)
-        (other-covers (given fine attempt locks at) at entry.number (due_to store entry)
-        (ap (λ (n : ℕ). n == entry.number) (given-owner fine attempt locks at) ∙ turned entry.number attempt.entry.number other))
-    | inr (inl out) ↦ subst (λ (a : Grant). IsCovered a at entry.number (due_to store entry)) (sym out.1) (held.covered at entry among other)
-    | inr (inr past) ↦ subst (λ (a : Grant). IsCovered a at entry.number (due_to store entry)) (sym past) (nobody-covers at entry.number (due_to store entry))
-  ];
+  owned = λ at. each-all (IsOwned entries) (given fine attempt locks) pages authority at (inl refl) (λ is. inr (new, here, given-owner fine attempt locks at ∙ same)) (λ out. held.owned at);
+  covered = λ at entry among other.
+      each-all (λ a. IsCovered a at entry.number (due_to store entry)) (given fine attempt locks) pages authority at (nobody-covers at entry.number (due_to store entry))
+      (λ is. other-covers (given fine attempt locks at) at entry.number (due_to store entry) (grind (arith, nat_tests, given-owner fine attempt locks at))) (λ out. held.covered at entry among other);
 }
-  where
-    turned : (a b : ℕ) → (a == b) ≡ false → (b == a) ≡ false
-    turned a b differ = ne_eqb b a (λ is. both_ways (a == b) differ (eq-eqb a b (sym is)))
 
 -- Once the row has taken effect: what is permitted is held, to the entry by the locks of its row too.
-pub held-lowered :
-    (fine : ℕ → Bool) (store : FlatStore) (below : ℕ) (entries : List Entry) (new : Entry) (attempt : Attempt) (lines : Lines) (pages : List ℕ) (authority : List Grant)
-    → Ascend 0 entries below → IsAmong entries new → attempt.entry.number ≡ new.number → with_whole_pages fine lines ≡ due_to store new
-    → IsHeld store entries authority
-    → IsHeld store entries (lowered fine attempt (with_whole_pages fine lines) (granted fine attempt (with_whole_pages fine lines) pages authority))
-held-lowered fine store below entries new attempt lines pages authority up here same due held = record {
-  pages = length-each (to_read attempt (with_whole_pages fine lines)) (lowered_pages fine attempt (with_whole_pages fine lines)) (granted fine attempt (with_whole_pages fine lines) pages authority) ∙ but.pages;
-  owned = λ at. elim (each-at (to_read attempt (with_whole_pages fine lines)) (lowered_pages fine attempt (with_whole_pages fine lines)) (granted fine attempt (with_whole_pages fine lines) pages authority) at) [
-    | inl is ↦ subst (IsOwned entries) (sym is.1) (inr (new, here, same))
-    | inr (inl out) ↦ subst (IsOwned entries) (sym out.1) (but.owned at)
-    | inr (inr past) ↦ subst (IsOwned entries) (sym past) (inl refl)
-  ];
-  covered = λ at entry among. elim (cases_Bool (entry.number == attempt.entry.number)) [
-    | inl own ↦
-        let number_is : entry.number ≡ attempt.entry.number = eqb-true entry.number attempt.entry.number own in
-        let is_new : new ≡ entry = one-entry 0 below entries new entry up here among (sym same ∙ sym number_is) in
-        subst (λ (x : Entry). IsCovered (slice_index_or (lowered fine attempt (with_whole_pages fine lines) (granted fine attempt (with_whole_pages fine lines) pages authority)) at nobody) at x.number (due_to store x)) is_new
-        (subst (λ (l : Lines). IsCovered (slice_index_or (lowered fine attempt (with_whole_pages fine lines) (granted fine attempt (with_whole_pages fine lines) pages authority)) at nobody) at new.number l) due
-        (subst (λ (n : ℕ). IsCovered (slice_index_or (lowered fine attempt (with_whole_pages fine lines) (granted fine attempt (with_whole_pages fine lines) pages authority)) at nobody) at n (with_whole_pages fine lines)) same (mine at)))
-    | inr other ↦ elim (each-at (to_read attempt (with_whole_pages fine lines)) (lowered_pages fine attempt (with_whole_pages fine lines)) (granted fine attempt (with_whole_pages fine lines) pages authority) at) [
-      | inl is ↦
-          subst (λ (a : Grant). IsCovered a at entry.number (due_to store entry)) (sym is.1)
-          (other-covers (to_read attempt (with_whole_pages fine lines) at) at entry.number (due_to store entry)
-          (ne_eqb attempt.entry.number entry.number (λ is. both_ways (entry.number == attempt.entry.number) other (eq-eqb entry.number attempt.entry.number (sym is)))))
-      | inr (inl out) ↦ subst (λ (a : Grant). IsCovered a at entry.number (due_to store entry)) (sym out.1) (but.covered at entry among other)
-      | inr (inr past) ↦ subst (λ (a : Grant). IsCovered a at entry.number (due_to store entry)) (sym past) (nobody-covers at entry.number (due_to store entry))
-    ]
-  ];
-}
-  where
-    but : IsHeldBut attempt.entry.number store entries (granted fine attempt (with_whole_pages fine lines) pages authority)
-    but = held-granted fine store entries new attempt (with_whole_pages fine lines) pages authority here same (held-but attempt.entry.number store entries authority held)
+module _ (fine : ℕ → Bool) (store : FlatStore) (below : ℕ) (entries : List Entry) (new : Entry) (attempt : Attempt) (lines : Lines) (pages : List ℕ) (authority : List Grant)
+    (up : Ascend 0 entries below) (here : IsAmong entries new) (same : attempt.entry.number ≡ new.number) (due : with_whole_pages fine lines ≡ due_to store new)
+    (held : IsHeld store entries authority) where
+  abbrev locks : Lines
+  locks = with_whole_pages fine lines
 
-    whole : (at : ℕ) → has (lowered_pages fine attempt (with_whole_pages fine lines)) at ≡ false → fine at ≡ true → has (pages_of attempt.lines.writes) at ≡ true
-        → is_whole_page (within_page at (with_whole_pages fine lines).reads) ≡ true
-    whole at out is_fine written =
-        elim (cases_Bool (is_whole_page (within_page at (with_whole_pages fine lines).reads))) [
-          | inl all ↦ all
-          | inr part ↦
-              absurd (both_ways (has (lowered_pages fine attempt (with_whole_pages fine lines)) at) out
-              (has-filter (λ page. fine page && not (is_whole_page (within_page page (with_whole_pages fine lines).reads))) (pages_of attempt.lines.writes) at
-              ∙ and_from (has (pages_of attempt.lines.writes) at) (fine at && not (is_whole_page (within_page at (with_whole_pages fine lines).reads))) written
-              (and_from (fine at) (not (is_whole_page (within_page at (with_whole_pages fine lines).reads))) is_fine
-              (not_from_false (is_whole_page (within_page at (with_whole_pages fine lines).reads)) part))))
-        ]
+  abbrev after_grants : List Grant
+  after_grants = granted fine attempt locks pages authority
 
-    mine : (at : ℕ)
-        → IsCovered
-        (slice_index_or (lowered fine attempt (with_whole_pages fine lines) (granted fine attempt (with_whole_pages fine lines) pages authority)) at nobody)
-        at attempt.entry.number (with_whole_pages fine lines)
-    mine at = elim (each-at (to_read attempt (with_whole_pages fine lines)) (lowered_pages fine attempt (with_whole_pages fine lines)) (granted fine attempt (with_whole_pages fine lines) pages authority) at) [
-      | inl is ↦ subst (λ (a : Grant). IsCovered a at attempt.entry.number (with_whole_pages fine lines)) (sym is.1) (off-covers attempt.entry.number at (with_whole_pages fine lines))
-      | inr (inr past) ↦ subst (λ (a : Grant). IsCovered a at attempt.entry.number (with_whole_pages fine lines)) (sym past) (nobody-covers at attempt.entry.number (with_whole_pages fine lines))
-      | inr (inl out) ↦
-          subst (λ (a : Grant). IsCovered a at attempt.entry.number (with_whole_pages fine lines)) (sym out.1)
-          (elim (each-at (given fine attempt (with_whole_pages fine lines)) pages authority at) [
-            | inl is ↦
-                subst (λ (a : Grant). IsCovered a at attempt.entry.number (with_whole_pages fine lines)) (sym is.1) (grant-covers fine attempt at lines (whole at out.0))
-            | inr (inr past) ↦ subst (λ (a : Grant). IsCovered a at attempt.entry.number (with_whole_pages fine lines)) (sym past) (nobody-covers at attempt.entry.number (with_whole_pages fine lines))
-            | inr (inl old) ↦
-                subst (λ (a : Grant). IsCovered a at attempt.entry.number (with_whole_pages fine lines)) (sym old.1)
-                (subst (λ (n : ℕ). IsCovered (slice_index_or authority at nobody) at n (with_whole_pages fine lines)) (sym same)
-                (subst (IsCovered (slice_index_or authority at nobody) at new.number) (sym due) (held.covered at new here)))
-          ])
-    ]
+  but : IsHeldBut attempt.entry.number store entries after_grants
+  but = held-granted fine store entries new attempt locks pages authority here same (held-but attempt.entry.number store entries authority held)
+
+  forced : (written fine whole : Bool) → (written && (fine && not whole)) ≡ false → fine ≡ true → written ≡ true → whole ≡ true
+  forced written fine whole out is_fine is = grind (arith, nat_tests)
+
+  whole : (at : ℕ) → has (lowered_pages fine attempt locks) at ≡ false → fine at ≡ true → has (pages_of attempt.lines.writes) at ≡ true → is_whole_page (within_page at locks.reads) ≡ true
+  whole at out = forced (has (pages_of attempt.lines.writes) at) (fine at) (is_whole_page (within_page at locks.reads)) (sym (has-filter (λ page. fine page && not (is_whole_page (within_page page locks.reads))) (pages_of attempt.lines.writes) at) ∙ out)
+
+  -- what is permitted to the entry
+  own-covered : (at : ℕ) → IsCovered (slice_index_or (lowered fine attempt locks after_grants) at nobody) at attempt.entry.number locks
+  own-covered at =
+      each-all (λ a. IsCovered a at attempt.entry.number locks) (to_read attempt locks) (lowered_pages fine attempt locks) after_grants at (nobody-covers at attempt.entry.number locks)
+      (λ is. off-covers attempt.entry.number at locks)
+      (λ out. each-all (λ a. IsCovered a at attempt.entry.number locks) (given fine attempt locks) pages authority at (nobody-covers at attempt.entry.number locks)
+      (λ is. grant-covers fine attempt at lines (whole at out)) (λ old. grind (arith, held.covered at new here, same, due)))
+
+  pub held-lowered : IsHeld store entries (lowered fine attempt locks after_grants)
+  held-lowered = record {
+    pages = length-each (to_read attempt locks) (lowered_pages fine attempt locks) after_grants ∙ but.pages;
+    owned = λ at. each-all (IsOwned entries) (to_read attempt locks) (lowered_pages fine attempt locks) after_grants at (inl refl) (λ is. inr (new, here, same)) (λ out. but.owned at);
+    covered = λ at entry among. elim (cases_Bool (entry.number == attempt.entry.number)) [
+      | inl own ↦ grind (arith, nat_tests, own-covered at, one-entry 0 below entries new entry up here among, due)
+      | inr other ↦
+          each-all (λ a. IsCovered a at entry.number (due_to store entry)) (to_read attempt locks) (lowered_pages fine attempt locks) after_grants at (nobody-covers at entry.number (due_to store entry))
+          (λ is. other-covers (to_read attempt locks at) at entry.number (due_to store entry) (grind (arith, nat_tests, other))) (λ out. but.covered at entry among other)
+    ];
+  }

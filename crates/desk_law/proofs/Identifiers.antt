@@ -34,10 +34,8 @@ module _ (numbers : ℕ → ℕ) (none : numbers 0 ≡ 0) where
       → owners_told numbers (map (freed identifier) authority) ≡ map (freed number) (owners_told numbers authority)
   freed-told identifier number [] stands = refl
   freed-told identifier number (one ∷ authority) stands =
+      let first : (a b : Bool) → a ≡ b → owner_told numbers (if a then nobody else one) ≡ (if b then nobody else owner_told numbers one) = λ a b e. grind (arith, nat_tests, none) in
       λ i. first (one.owner == identifier) (numbers one.owner == number) (stands.alone 0) i ∷ freed-told identifier number authority (record { is = stands.is; alone = λ page. stands.alone (suc page) }) i
-    where
-      first : (a b : Bool) → a ≡ b → owner_told numbers (if a then nobody else one) ≡ (if b then nobody else owner_told numbers one)
-      first a b e = grind (arith, nat_tests, none)
 
   told-set : (authority : List Grant) (page : ℕ) (new : Grant) → owners_told numbers (slice_set authority page new) ≡ slice_set (owners_told numbers authority) page (owner_told numbers new)
   told-set (one ∷ authority) (suc page) new = ap (λ (rest : List Grant). owner_told numbers one ∷ rest) (told-set authority page new)

@@ -1,8 +1,8 @@
 -- What an instruction of an entry does to the entries and to what is committed.
-use Rattle.desk_law.proofs.Common.{◌≡◌, refl, ℕ, ◌+◌, ◌==◌, not, Bool, true, false, List, [], ◌∷◌, ◌++◌, find, Option, Some, None, ap, sym, ◌∙◌, eqb-true, eq-eqb, both_ways, not-true, shown_cycle, victim_of, Plain, On, Desk, Entry, with_entry, rolled_back, numbers, waits_for, Counts, Turning, Going, Over, Committed, Attempt, Contest, Contested, Settled, Lost, breaks_cycle, breaks_cycles, row_done, left_by, IsAmong, AreConsistent, nat_tests, arith}
+use Rattle.desk_law.proofs.Common.{◌≡◌, ℕ, ◌+◌, ◌==◌, Bool, true, false, List, Some, None, eq-eqb, both_ways, victim_of, Plain, On, Desk, Entry, with_entry, rolled_back, Turning, Going, Over, Committed, Attempt, Contest, Contested, Settled, Lost, breaks_cycles, row_done, left_by, IsAmong, AreConsistent, nat_tests, arith, contest}
 use Rattle.desk_law.proofs.Entries.{among-filter, among-found, none-found, among-replaced, one-entry}
-use Rattle.desk_law.proofs.Others.{others}
-use Rattle.desk_law.proofs.Contest.{breaks-keep, left_over}
+use Rattle.desk_law.proofs.Others.{others, among-others}
+use Rattle.desk_law.proofs.Contest.{VictimsKeep, victims-keep}
 use Rattle.desk_law.proofs.GoesOn.{IsGranted}
 
 -- what is committed is as it was, and the entries of other numbers were active before
@@ -52,7 +52,7 @@ pub rolled-from : (number : ℕ) (old desk : Desk) (gone : Entry) → From numbe
 rolled-from number old desk gone from = grind (arith, nat_tests, others, among-filter)
 
 pub rolled-left : (desk : Desk) (gone : Entry) → HasLeft gone.number (rolled_back desk gone)
-rolled-left desk gone other among = not-true (other.number == gone.number) (among-filter (λ (other : Entry). not (other.number == gone.number)) desk.active other among).1
+rolled-left desk gone other among = (among-others gone desk.active other among).1
 
 pub left-before : (entry : Entry) (desk : Desk) → HasLeft entry.number desk → IsAsBefore entry desk
 left-before entry desk left other among same = absurd (both_ways (other.number == entry.number) (left other among) same)
@@ -74,28 +74,14 @@ ContestDid number old (Settled desk counts) = From number old desk
 ContestDid number old (Lost desk counts) = From number old desk × HasLeft number desk
 
 pub breaks-did : (number : ℕ) (old : Desk) (left : ℕ) (contest : Contest) → ContestDid number old contest → ContestDid number old (breaks_cycles left number contest)
-breaks-did number old left contest did = breaks-keep (ContestDid number old) number round left contest did
+breaks-did number old left contest did = victims-keep (ContestDid number old) number (λ desk counts did. did) by_victim left contest did
   where
-    round : (desk : Desk) (counts : Counts) → ContestDid number old (Contested desk counts) → ContestDid number old (breaks_cycle number (shown_cycle (waits_for desk) (numbers desk) number) desk counts)
-    round desk counts did = by_cycle (shown_cycle (waits_for desk) (numbers desk) number)
-      where
-        by_victim : (counts : Counts) (cycle : List ℕ) (victim : Option Entry) → find (λ (entry : Entry). entry.number == victim_of cycle) desk.active ≡ victim
-            → (lost : Bool) → (victim_of cycle == number) ≡ lost → ContestDid number old (left_over desk counts victim lost)
-        by_victim counts cycle None found true is = (
-          did,
-          λ other among.
-              ap (λ (n : ℕ). other.number == n) (sym (eqb-true (victim_of cycle) number is)) ∙ none-found (λ (entry : Entry). entry.number == victim_of cycle) desk.active found other among,
-        )
-        by_victim counts cycle None found false is = did
-        by_victim counts cycle (Some victim) found true is = (
-          rolled-from number old desk victim did,
-          λ other among.
-              let (at, passes) = among-found (λ (entry : Entry). entry.number == victim_of cycle) desk.active victim found in
-              ap (λ (n : ℕ). other.number == n) (sym (eqb-true victim.number (victim_of cycle) passes ∙ eqb-true (victim_of cycle) number is)) ∙ rolled-left desk victim other among,
-        )
-        by_victim counts cycle (Some victim) found false is = rolled-from number old desk victim did
-
-        by_cycle : (cycle : Option (List ℕ)) → ContestDid number old (breaks_cycle number cycle desk counts)
-        by_cycle None = did
-        by_cycle (Some cycle) =
-            by_victim (record counts { cycles = counts.cycles ++ cycle ∷ [] }) cycle (find (λ (entry : Entry). entry.number == victim_of cycle) desk.active) refl (victim_of cycle == number) refl
+    by_victim : VictimsKeep (ContestDid number old) number
+    by_victim desk counts cycle None true did found is =
+        (did, λ other among. grind (arith, nat_tests, is, none-found (λ (entry : Entry). entry.number == victim_of cycle) desk.active found other among))
+    by_victim desk counts cycle (Some victim) true did found is = (
+      rolled-from number old desk victim did,
+      λ other among. grind (arith, nat_tests, is, among-found (λ (entry : Entry). entry.number == victim_of cycle) desk.active victim found, rolled-left desk victim other among),
+    )
+    by_victim desk counts cycle None false did found is = did
+    by_victim desk counts cycle (Some victim) false did found is = rolled-from number old desk victim did

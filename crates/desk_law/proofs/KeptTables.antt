@@ -1,7 +1,8 @@
 -- The locks and the requests of active entries as a supervisor keeps them, and what steps do to them.
-use Rattle.desk_law.proofs.Common.{◌≡◌, refl, ℕ, ◌==◌, ◌&&◌, ◌||◌, not, if◌then◌else◌, Bool, true, List, [], ◌∷◌, filter, map, Some, list_any, ap, sym, ◌∙◌, subst, inl, inr, not-true, is_fine_page, FlatStore, IsWhole, has, meets, Lines, conflicts, with_whole_pages, shown_cycle, has-append, any-some, meets-at, Plain, after, Desk, Entry, requested, conflicts_with, conflicts_of, waits_for, numbers, AreAlike, AreKept, IsTableBut, kept_conflict, kept_waits, left_by, gone_on, IsAmong, due_to, AreConsistent, nat_tests, arith}
+use Rattle.desk_law.proofs.Common.{◌≡◌, refl, ℕ, ◌==◌, ◌&&◌, ◌||◌, if◌then◌else◌, Bool, true, List, [], ◌∷◌, filter, map, Some, list_any, ap, sym, ◌∙◌, inl, inr, FlatStore, IsWhole, has, meets, Lines, conflicts, shown_cycle, has-append, any-some, meets-at, Plain, after, Desk, Entry, requested, conflicts_with, conflicts_of, waits_for, numbers, AreAlike, AreKept, IsTableBut, kept_conflict, kept_waits, left_by, gone_on, IsAmong, due_to, AreConsistent, nat_tests, arith}
 use Rattle.desk_law.proofs.Entries.{replaced, among-replaced, among-filter}
-use Rattle.desk_law.proofs.Others.{others, another-stays, StaysSame}
+use Rattle.desk_law.proofs.Others.{others, another-stays, among-others}
+use Rattle.desk_law.proofs.ConsistentLaw.{consistent}
 
 pub alike-same : (lines : Lines) → AreAlike lines lines
 alike-same lines = record { reads = λ line. refl; writes = λ line. refl }
@@ -79,12 +80,6 @@ module _ (store : FlatStore) (entries : List Entry) (locks requests : ℕ → Li
       → after entry.runs.program entry.runs.args store entry.rows ≡ Some now
       → AreKept (left_by store now) (others entry entries) locks requests
   kept-commit most_lines next entry now whole consistent here is = record {
-    held = λ other among.
-        let (there, differ) = among-filter (λ (other : Entry). not (other.number == entry.number)) entries other among in
-        let same : StaysSame store (left_by store now) other = another-stays store most_lines next entries entry other now whole consistent here there (not-true (other.number == entry.number) differ) is in
-        subst (AreAlike (locks other.number)) (sym same.due) (are.held other there);
-    asked = λ other among waits.
-        let (there, differ) = among-filter (λ (other : Entry). not (other.number == entry.number)) entries other among in
-        let same : StaysSame store (left_by store now) other = another-stays store most_lines next entries entry other now whole consistent here there (not-true (other.number == entry.number) differ) is in
-        subst (λ (lines : Lines). AreAlike (requests other.number) (with_whole_pages (is_fine_page store.directory) lines)) (sym same.wants) (are.asked other there waits);
+    held = λ other among. grind (arith, among-others entry entries other among, another-stays store most_lines next entries entry other now whole consistent here, are.held other);
+    asked = λ other among waits. grind (arith, among-others entry entries other among, another-stays store most_lines next entries entry other now whole consistent here, are.asked other);
   }

@@ -1,5 +1,4 @@
 pub mod Common
-pub mod Orderly
 pub mod Entries
 pub mod Others
 pub mod Walks

@@ -1,5 +1,5 @@
 -- An instruction all of whose lines are on resident pages that permit them: it takes effect at once.
-use Rattle.desk_law.proofs.Common.{◌≡◌, refl, ℕ, ◌==◌, ◌&&◌, not, Bool, true, false, List, [], ◌∷◌, ◌++◌, filter, slice_index_or, list_any, ap, sym, ◌∙◌, subst, inl, inr, eqb-true, and_parts, and_right, or_cases, or_right, or_from, not_from_true, is_fine_page, has, permits, Lines, both, with_whole_pages, within_page, is_whole_page, page_of_line, pages_of, has-append, any-some, ArePart, part-both, part-whole_pages, has-within_page, has-pages_of, has-whole, Desk, Entry, nobody, wanted, requested, Word, Fetched, fetches, refuses, lines_within, Attempt, locks_with, with_each, to_read, lowered_pages, with_lowered, AreThere, IsAmong, due_to, lets, IsOrderly, touched_of, nat_tests, arith}
+use Rattle.desk_law.proofs.Common.{◌≡◌, refl, ℕ, ◌==◌, ◌&&◌, not, Bool, true, false, List, [], ◌∷◌, ◌++◌, filter, slice_index_or, list_any, ap, sym, ◌∙◌, subst, eqb-true, and_right, or_right, or_from, not_from_true, is_fine_page, has, Lines, both, with_whole_pages, within_page, is_whole_page, page_of_line, pages_of, has-append, any-some, ArePart, part-both, part-whole_pages, has-within_page, has-pages_of, has-whole, Desk, Entry, nobody, wanted, requested, Word, Fetched, fetches, refuses, lines_within, Attempt, locks_with, with_each, to_read, lowered_pages, with_lowered, AreThere, IsAmong, due_to, lets, IsOrderly, touched_of, nat_tests, arith, IsThere}
 use Rattle.desk_law.proofs.Permitted.{any-none, permitted-held}
 
 -- where none passes
@@ -18,26 +18,14 @@ module _ (desk : Desk) (number : ℕ) (lines : Lines) (are : AreThere desk numbe
   pub there-resident : (page : ℕ) → has (pages_of (lines.reads ++ lines.writes)) page ≡ true → has desk.resident page ≡ true
   there-resident page inside =
       let (line, there, at) = any-some (λ l. page_of_line l == page) (lines.reads ++ lines.writes) (sym (has-pages_of (lines.reads ++ lines.writes) page) ∙ inside) in
-      subst (λ (p : ℕ). has desk.resident p ≡ true) (eqb-true (page_of_line line) page at)
-      (elim (or_cases (has lines.reads line) (has lines.writes line) (sym (has-append lines.reads lines.writes line) ∙ there)) [
-        | inl read ↦ (are.reads line read).resident
-        | inr written ↦ (are.writes line written).resident
-      ])
+      grind (arith, nat_tests, has-append lines.reads lines.writes line, are.reads line, are.writes line, there, at)
 
   pub there-unrefused : (page : ℕ) → refuses (slice_index_or desk.authority page nobody) number (lines_within page lines) ≡ false
   there-unrefused page =
+      let quiet : (some : List ℕ) (store : Bool) → ((line : ℕ) → has some line ≡ true → IsThere desk number line store) → list_any (λ line. not (lets (slice_index_or desk.authority page nobody) number line store)) (within_page page some) ≡ false =
+      λ some store there. any-none (λ line. not (lets (slice_index_or desk.authority page nobody) number line store)) (within_page page some) (λ line inside. grind (arith, nat_tests, has-within_page page some line, there line)) in
       or_from (list_any (λ line. not (lets (slice_index_or desk.authority page nobody) number line false)) (within_page page lines.reads))
-      (list_any (λ line. not (lets (slice_index_or desk.authority page nobody) number line true)) (within_page page lines.writes))
-      (any-none (λ line. not (lets (slice_index_or desk.authority page nobody) number line false)) (within_page page lines.reads)
-      (λ line inside.
-      let parts = and_parts (page == page_of_line line) (has lines.reads line) (sym (has-within_page page lines.reads line) ∙ inside) in
-      not_from_true (lets (slice_index_or desk.authority page nobody) number line false)
-      (subst (λ (p : ℕ). lets (slice_index_or desk.authority p nobody) number line false ≡ true) (sym (eqb-true page (page_of_line line) parts.0)) (are.reads line parts.1).permits)))
-      (any-none (λ line. not (lets (slice_index_or desk.authority page nobody) number line true)) (within_page page lines.writes)
-      (λ line inside.
-      let parts = and_parts (page == page_of_line line) (has lines.writes line) (sym (has-within_page page lines.writes line) ∙ inside) in
-      not_from_true (lets (slice_index_or desk.authority page nobody) number line true)
-      (subst (λ (p : ℕ). lets (slice_index_or desk.authority p nobody) number line true ≡ true) (sym (eqb-true page (page_of_line line) parts.0)) (are.writes line parts.1).permits)))
+      (list_any (λ line. not (lets (slice_index_or desk.authority page nobody) number line true)) (within_page page lines.writes)) (quiet lines.reads false are.reads) (quiet lines.writes true are.writes)
 
 -- what is permitted is held: the request of a row whose lines are there is among the locks due already
 pub there-held : (desk : Desk) (entry : Entry) → IsOrderly desk → IsAmong desk.active entry → AreThere desk entry.number (wanted desk entry)
@@ -50,34 +38,25 @@ filter-none-here : (test : ℕ → Bool) (xs : List ℕ) → ((x : ℕ) → has 
 filter-none-here test [] none = refl
 filter-none-here test (x ∷ xs) none = grind (arith, nat_tests, filter-none-here test xs (λ y inside. none y (or_right (x == y) (has xs y) inside)))
 
--- who may store to a line of a page may load all its lines
-stores-loads : (same write bit other : Bool) → permits same write bit true ≡ true → permits same write other false ≡ true
-stores-loads same write bit other h1 = grind (arith, nat_tests)
-
 -- No write bit goes off: of a fine page into which it may store all lines are held to read already.
 pub there-lowered : (desk : Desk) (entry : Entry) (attempt : Attempt) → attempt.entry ≡ entry → attempt.lines ≡ wanted desk entry
     → IsOrderly desk → IsAmong desk.active entry → AreThere desk entry.number (wanted desk entry)
     → with_lowered attempt desk ≡ desk
 there-lowered desk entry attempt own lines is here are =
+    let held : (page line : ℕ) → has (wanted desk entry).writes line ≡ true → page_of_line line ≡ page → (other : ℕ) → page_of_line other ≡ page → has (locks_with attempt desk).reads other ≡ true =
+    λ page line written at other here_too. let may : lets (slice_index_or desk.authority page nobody) entry.number line true ≡ true =
+    subst (λ (p : ℕ). lets (slice_index_or desk.authority p nobody) entry.number line true ≡ true) at (are.writes line written).permits in
+    let loads : lets (slice_index_or desk.authority page nobody) entry.number other false ≡ true =
+    grind (arith, nat_tests) in
+    subst (λ (e : Entry). has (with_whole_pages (is_fine_page desk.committed.directory) (both (touched_of desk.committed e) attempt.lines)).reads other ≡ true) (sym own)
+    ((part-whole_pages (is_fine_page desk.committed.directory) (touched_of desk.committed entry) (both (touched_of desk.committed entry) attempt.lines)
+    (part-both (touched_of desk.committed entry) attempt.lines)).reads.among other ((is.held.covered page entry here).loads other here_too loads)) in
+    let none : lowered_pages (is_fine_page desk.committed.directory) attempt (locks_with attempt desk) ≡ [] =
+    filter-none-here (λ page. is_fine_page desk.committed.directory page && not (is_whole_page (within_page page (locks_with attempt desk).reads))) (pages_of attempt.lines.writes)
+    (λ page inside.
+    let (line, written, at) = any-some (λ l. page_of_line l == page) attempt.lines.writes (sym (has-pages_of attempt.lines.writes page) ∙ inside) in
+    and_right (is_fine_page desk.committed.directory page) (not (is_whole_page (within_page page (locks_with attempt desk).reads)))
+    (not_from_true (is_whole_page (within_page page (locks_with attempt desk).reads))
+    (has-whole page (locks_with attempt desk).reads
+    (held page line (sym (ap (λ (l : Lines). has l.writes line) lines) ∙ written) (eqb-true (page_of_line line) page at))))) in
     ap (λ (pages : List ℕ). record desk { authority = with_each (to_read attempt (locks_with attempt desk)) pages desk.authority }) none
-  where
-    held : (page line : ℕ) → has (wanted desk entry).writes line ≡ true → page_of_line line ≡ page → (other : ℕ) → page_of_line other ≡ page
-        → has (locks_with attempt desk).reads other ≡ true
-    held page line written at other here_too =
-        let may : lets (slice_index_or desk.authority page nobody) entry.number line true ≡ true =
-        subst (λ (p : ℕ). lets (slice_index_or desk.authority p nobody) entry.number line true ≡ true) at (are.writes line written).permits in
-        let loads : lets (slice_index_or desk.authority page nobody) entry.number other false ≡ true =
-        stores-loads ((slice_index_or desk.authority page nobody).owner == entry.number) (slice_index_or desk.authority page nobody).write (has (slice_index_or desk.authority page nobody).lines line) (has (slice_index_or desk.authority page nobody).lines other) may in
-        subst (λ (e : Entry). has (with_whole_pages (is_fine_page desk.committed.directory) (both (touched_of desk.committed e) attempt.lines)).reads other ≡ true) (sym own)
-        ((part-whole_pages (is_fine_page desk.committed.directory) (touched_of desk.committed entry) (both (touched_of desk.committed entry) attempt.lines)
-        (part-both (touched_of desk.committed entry) attempt.lines)).reads.among other ((is.held.covered page entry here).loads other here_too loads))
-
-    none : lowered_pages (is_fine_page desk.committed.directory) attempt (locks_with attempt desk) ≡ []
-    none =
-        filter-none-here (λ page. is_fine_page desk.committed.directory page && not (is_whole_page (within_page page (locks_with attempt desk).reads))) (pages_of attempt.lines.writes)
-        (λ page inside.
-        let (line, written, at) = any-some (λ l. page_of_line l == page) attempt.lines.writes (sym (has-pages_of attempt.lines.writes page) ∙ inside) in
-        and_right (is_fine_page desk.committed.directory page) (not (is_whole_page (within_page page (locks_with attempt desk).reads)))
-        (not_from_true (is_whole_page (within_page page (locks_with attempt desk).reads))
-        (has-whole page (locks_with attempt desk).reads
-        (held page line (sym (ap (λ (l : Lines). has l.writes line) lines) ∙ written) (eqb-true (page_of_line line) page at)))))

@@ -1,10 +1,9 @@
 -- The law of isolation.
-use Rattle.desk_law.proofs.Common.{◌≤◌, ◌≡◌, refl, ℕ, zero, suc, ◌+◌, ◌<◌, ◌==◌, ◌||◌, nat_lt, not, if◌then◌else◌, Bool, true, false, List, [], ◌∷◌, ◌++◌, length, map, find, Option, Some, None, slice_get, arith, ap, sym, ◌∙◌, subst, inl, inr, eqb-true, eq-eqb, ne_eqb, ltb-true, or_cases, or_left, or_right, not_from_false, cond-false, FlatStore, IsWhole, has, Program, start, after, Event, Begin, Turn, Checkpoint, Crash, Desk, Entry, opened, numbers, Word, Failed, Counts, Turning, Going, Over, Idle, Committed, Attempt, instruction, turns, turn_of, no_counts, Turned, Busy, Nothing, turned, begin_if, begins, absent_segment, restarted, event_of, step, run, gone_on, row_done, IsAmong, IsConsistent, current_bytes, turn_desk, Machine, Memory, first_machine, with_machine, given_back, row_of, after_instruction, after_turns, after_event, memory_after, memory_of, IsAlone, IsMemory, FindTheirOwn, RunsAreIsolated, CommitsTellTheMachine, SideBySideIsSerial, IsOrderly, nat_tests, next_attempt, begun, IsSerial, event_lines}
+use Rattle.desk_law.proofs.Common.{◌≤◌, ◌≡◌, refl, ℕ, zero, suc, ◌+◌, ◌<◌, ◌==◌, ◌||◌, if◌then◌else◌, Bool, true, false, List, [], ◌∷◌, ◌++◌, length, map, find, Option, Some, None, slice_get, arith, ap, sym, ◌∙◌, subst, inl, inr, eqb-true, ne_eqb, ltb-true, cond-false, FlatStore, IsWhole, has, Program, start, after, Event, Begin, Turn, Checkpoint, Crash, Desk, Entry, opened, numbers, Word, Failed, Counts, Turning, Going, Over, Idle, Committed, Attempt, instruction, turns, turn_of, no_counts, Turned, Nothing, turned, begin_if, absent_segment, restarted, event_of, step, run, gone_on, row_done, IsAmong, IsConsistent, current_bytes, turn_desk, Machine, Memory, first_machine, with_machine, given_back, row_of, after_instruction, after_turns, after_event, memory_after, memory_of, IsAlone, IsMemory, FindTheirOwn, RunsAreIsolated, CommitsTellTheMachine, SideBySideIsSerial, IsOrderly, nat_tests, next_attempt, begun, IsSerial, event_lines, cases_Bool, granted, printed, Activation}
 use Rattle.flat_machine.proofs.Whole.{serial-whole}
 use Rattle.desk.proofs.SerialLaw.{run_serial}
-use Rattle.desk_law.proofs.Orderly.{orderly}
-use Rattle.desk_law.proofs.Entries.{among-found, among-filter, filter-among, new-among, among-push, between, found-among, one-entry, numbers-replaced}
-use Rattle.desk_law.proofs.Others.{others}
+use Rattle.desk_law.proofs.Entries.{orderly, among-found, new-among, among-push, between, found-among, one-entry, numbers-replaced}
+use Rattle.desk_law.proofs.Others.{others, among-others, others-among}
 use Rattle.desk_law.proofs.Waiting.{number-of, has-number}
 use Rattle.desk_law.proofs.GoesOn.{IsGranted}
 use Rattle.desk_law.proofs.Endings.{first_entry, with_first, begins-consistent}
@@ -20,26 +19,26 @@ use Rattle.desk_law.proofs.MemorySteps.{AreFewer, memory-current, given-back, at
 module _ (old : Desk) (attempt : Attempt) (is : IsOrderly old) (here : IsAmong old.active attempt.entry)
     (at : after attempt.entry.runs.program attempt.entry.runs.args old.committed attempt.entry.rows ≡ Some attempt.now) where
   -- the entries at the moment before a row or a commit
-  moment-fewer : (moment : Desk) → IsGranted attempt moment → From attempt.entry.number old moment → AreFewer old moment
-  moment-fewer moment granted from = record { committed = from.committed; was = λ entry among. by_own entry among (entry.number == attempt.entry.number) refl }
-    where
-      by_own : (entry : Entry) → IsAmong moment.active entry → (own : Bool) → (entry.number == attempt.entry.number) ≡ own
-          → (before : Entry) × IsAmong old.active before × (before.number ≡ entry.number) × (before.runs ≡ entry.runs) × (before.rows ≡ entry.rows)
-      by_own entry among true e =
-          let it = one-entry 0 moment.next moment.active (record attempt.entry { waiting = granted.mark }) entry granted.active.ascend granted.here among (sym (eqb-true entry.number attempt.entry.number e)) in
+  fewer-by : (desk : Desk) → From attempt.entry.number old desk
+      → ((entry : Entry) → IsAmong desk.active entry → (entry.number == attempt.entry.number) ≡ true → (mark : Bool) × (record attempt.entry { waiting = mark } ≡ entry)) → AreFewer old desk
+  fewer-by desk from own = record {
+    committed = from.committed;
+    was = λ entry among. elim (cases_Bool (entry.number == attempt.entry.number)) [
+      | inl e ↦
+          let (mark, it) = own entry among e in
           (attempt.entry, here, ap (λ (x : Entry). x.number) it, ap (λ (x : Entry). x.runs) it, ap (λ (x : Entry). x.rows) it)
-      by_own entry among false e = (entry, from.others entry among e, refl, refl, refl)
+      | inr e ↦ (entry, from.others entry among e, refl, refl, refl)
+    ];
+  }
+
+  moment-fewer : (moment : Desk) → IsGranted attempt moment → From attempt.entry.number old moment → AreFewer old moment
+  moment-fewer moment granted from =
+      fewer-by moment from
+      (λ entry among e. (granted.mark, one-entry 0 moment.next moment.active (record attempt.entry { waiting = granted.mark }) entry granted.active.ascend granted.here among (sym (eqb-true entry.number attempt.entry.number e))))
 
   -- and where no row was done
   no-row-fewer : (desk : Desk) → NoRowDone old attempt desk → AreFewer old desk
-  no-row-fewer desk done = record { committed = done.from.committed; was = λ entry among. by_own entry among (entry.number == attempt.entry.number) refl }
-    where
-      by_own : (entry : Entry) → IsAmong desk.active entry → (own : Bool) → (entry.number == attempt.entry.number) ≡ own
-          → (before : Entry) × IsAmong old.active before × (before.number ≡ entry.number) × (before.runs ≡ entry.runs) × (before.rows ≡ entry.rows)
-      by_own entry among true e =
-          let (mark, it) = done.own entry among e in
-          (attempt.entry, here, ap (λ (x : Entry). x.number) it, ap (λ (x : Entry). x.runs) it, ap (λ (x : Entry). x.rows) it)
-      by_own entry among false e = (entry, done.from.others entry among e, refl, refl, refl)
+  no-row-fewer desk done = fewer-by desk done.from done.own
 
   no-row : (desk : Desk) (memory : Memory) → IsOrderly desk → NoRowDone old attempt desk → IsMemory old memory → IsMemory desk (given_back desk.committed.directory (numbers old) (numbers desk) memory)
   no-row desk memory later done of = given-back old desk (numbers desk) memory desk.most_lines is later.active (no-row-fewer desk done) (λ number. refl) of
@@ -48,56 +47,34 @@ module _ (old : Desk) (attempt : Attempt) (is : IsOrderly old) (here : IsAmong o
       → IsMemory desk
       (row_of desk.committed.directory (find (λ (entry : Entry). entry.number == attempt.entry.number) desk.active) (given_back desk.committed.directory (numbers old) (numbers desk) memory))
   the-row desk memory later done of =
+      let then_orderly : IsOrderly (row_done attempt done.moment) = subst IsOrderly done.is later in
+      let found : find (λ (entry : Entry). entry.number == attempt.entry.number) (row_done attempt done.moment).active ≡ Some (gone_on attempt.entry) =
+      found-among done.moment.next (row_done attempt done.moment).active (gone_on attempt.entry) then_orderly.active.ascend
+      (new-among (gone_on attempt.entry) done.moment.active (record attempt.entry { waiting = done.granted.mark }) done.granted.here refl) in
+      let between_is : IsMemory done.moment (given_back done.moment.committed.directory (numbers old) (numbers (row_done attempt done.moment)) memory) =
+      given-back old done.moment (numbers (row_done attempt done.moment)) memory done.moment.most_lines is done.granted.active (moment-fewer done.moment done.granted done.from)
+      (λ number. ap (λ (these : List ℕ). has these number) (numbers-replaced (gone_on attempt.entry) done.moment.active)) of in
       subst
       (λ (d : Desk). IsMemory d (row_of d.committed.directory (find (λ (entry : Entry). entry.number == attempt.entry.number) d.active) (given_back d.committed.directory (numbers old) (numbers d) memory)))
       (sym done.is)
       (subst (IsMemory (row_done attempt done.moment))
       (sym (ap (λ (one : Option Entry). row_of done.moment.committed.directory one (given_back done.moment.committed.directory (numbers old) (numbers (row_done attempt done.moment)) memory)) found))
       (row-done done.moment attempt done.next (given_back done.moment.committed.directory (numbers old) (numbers (row_done attempt done.moment)) memory) done.granted done.went between_is))
-    where
-      then_orderly : IsOrderly (row_done attempt done.moment)
-      then_orderly = subst IsOrderly done.is later
-
-      found : find (λ (entry : Entry). entry.number == attempt.entry.number) (row_done attempt done.moment).active ≡ Some (gone_on attempt.entry)
-      found =
-          found-among done.moment.next (row_done attempt done.moment).active (gone_on attempt.entry) then_orderly.active.ascend
-          (new-among (gone_on attempt.entry) done.moment.active (record attempt.entry { waiting = done.granted.mark }) done.granted.here refl)
-
-      between_is : IsMemory done.moment (given_back done.moment.committed.directory (numbers old) (numbers (row_done attempt done.moment)) memory)
-      between_is =
-          given-back old done.moment (numbers (row_done attempt done.moment)) memory done.moment.most_lines is done.granted.active (moment-fewer done.moment done.granted done.from)
-          (λ number. ap (λ (these : List ℕ). has these number) (numbers-replaced (gone_on attempt.entry) done.moment.active)) of
 
   the-commit : (desk : Desk) (memory : Memory) (steps : ℕ) (printed : List ℕ) → CommitDone old attempt desk steps printed → IsMemory old memory
       → IsMemory desk (after_instruction attempt.entry.number old (Over desk (record { ran = 0; pages = 0; locks = 0; cycles = [] }) (Committed steps printed)) memory)
   the-commit desk memory steps printed done of =
+      let entry : Entry = record attempt.entry { waiting = done.granted.mark } in
+      let same : (number : ℕ) → has (attempt.entry.number ∷ numbers desk) number ≡ has (numbers done.moment) number =
+      λ number. let by_own : (one : Entry) → IsAmong done.moment.active one → one.number ≡ number → (attempt.entry.number == number || has (map (λ (entry : Entry). entry.number) (others attempt.entry done.moment.active)) number) ≡ true =
+      λ one among own. grind (arith, nat_tests, has-number (others attempt.entry done.moment.active) one, others-among attempt.entry done.moment.active one among) in
+      ap (λ (entries : List Entry). attempt.entry.number == number || has (map (λ (entry : Entry). entry.number) entries) number) done.active
+      ∙ both-imply (attempt.entry.number == number || has (map (λ (entry : Entry). entry.number) (others attempt.entry done.moment.active)) number) (has (numbers done.moment) number)
+      (λ inside. grind (arith, nat_tests, number-of (others attempt.entry done.moment.active) number, has-number done.moment.active entry done.granted.here, has-number done.moment.active, among-others attempt.entry done.moment.active))
+      (λ inside. let (one, among, own) = number-of done.moment.active number inside in by_own one among own) in
       commit-done done.moment desk attempt (given_back desk.committed.directory (numbers old) (attempt.entry.number ∷ numbers desk) memory) done.granted done.committed done.active
       (subst (λ (store : FlatStore). IsMemory done.moment (given_back store.directory (numbers old) (attempt.entry.number ∷ numbers desk) memory)) (sym done.committed)
       (given-back old done.moment (attempt.entry.number ∷ numbers desk) memory done.moment.most_lines is done.granted.active (moment-fewer done.moment done.granted done.from) same of))
-    where
-      entry : Entry
-      entry = record attempt.entry { waiting = done.granted.mark }
-
-      same : (number : ℕ) → has (attempt.entry.number ∷ numbers desk) number ≡ has (numbers done.moment) number
-      same number =
-          ap (λ (entries : List Entry). attempt.entry.number == number || has (map (λ (entry : Entry). entry.number) entries) number) done.active
-          ∙ both-imply (attempt.entry.number == number || has (map (λ (entry : Entry). entry.number) (others attempt.entry done.moment.active)) number) (has (numbers done.moment) number)
-          (λ inside. elim (or_cases (attempt.entry.number == number) (has (map (λ (entry : Entry). entry.number) (others attempt.entry done.moment.active)) number) inside) [
-            | inl own ↦
-                subst (λ (n : ℕ). has (numbers done.moment) n ≡ true) (eqb-true attempt.entry.number number own)
-                (has-number done.moment.active (record attempt.entry { waiting = done.granted.mark }) done.granted.here)
-            | inr other ↦
-                let (one, among, own) = number-of (others attempt.entry done.moment.active) number other in
-                subst (λ (n : ℕ). has (numbers done.moment) n ≡ true) own
-                (has-number done.moment.active one (among-filter (λ (other : Entry). not (other.number == attempt.entry.number)) done.moment.active one among).0)
-          ])
-          (λ inside.
-          let (one, among, own) = number-of done.moment.active number inside in
-          by_own one among own (one.number == attempt.entry.number) refl)
-        where
-          by_own : (one : Entry) → IsAmong done.moment.active one → one.number ≡ number → (equal : Bool) → (one.number == attempt.entry.number) ≡ equal
-              → (attempt.entry.number == number || has (map (λ (entry : Entry). entry.number) (others attempt.entry done.moment.active)) number) ≡ true
-          by_own one among own equal e = grind (arith, nat_tests, or_left, entry, others, eq-eqb, eqb-true, or_right, has-number, filter-among, not_from_false)
 
   -- what the machine printed
   told : (memory : Memory) (printed : List ℕ) → IsMemory old memory → printed ≡ attempt.now.out
@@ -170,24 +147,18 @@ memory-begin programs program args word desk memory is of = by_code (slice_get p
     other : (entry : Entry) → IsAmong desk.active entry → (entry.number == desk.next) ≡ false
     other entry among = ne_eqb entry.number desk.next (λ same. omega (arith, same, (between 0 desk.next desk.active entry is.active.ascend among).1))
 
-    by_code : (code : Option Program) → IsMemory (begin_if program args code desk).desk (with_machine desk.next (first_machine args desk.committed code) memory)
-    by_code None = begun-memory desk desk desk.next None memory refl refl other of
-    by_code (Some code) = by_room (nat_lt (length desk.active) desk.most_active) refl
-      where
-        machine : Option Machine
-        machine = first_machine args desk.committed (Some code)
-
-        by_segment : (absent : Option ℕ) → length desk.active < desk.most_active → absent_segment desk.committed.directory code.windows ≡ absent
-            → IsMemory (begins absent program (record { program = code; args = args }) desk).desk (with_machine desk.next (first_machine args desk.committed (Some code)) memory)
-        by_segment (Some segment) few absent = begun-memory desk (record desk { next = desk.next + 1 }) desk.next (first_machine args desk.committed (Some code)) memory refl refl other of
-        by_segment None few present = record {
+    first : (code : Program) → length desk.active < desk.most_active → absent_segment desk.committed.directory code.windows ≡ None
+        → IsMemory (with_first desk (record { program = code; args = args })) (with_machine desk.next (first_machine args desk.committed (Some code)) memory)
+    first code few present =
+        let runs : Activation = record { program = code; args = args } in
+        record {
           committed = of.committed;
           bytes =
-              one-current desk.committed (with_first desk (record { program = code; args = args })).active memory.bytes (current_bytes (with_first desk (record { program = code; args = args })))
-              (current-begun desk.committed desk.most_lines desk.next desk.active is.active memory.bytes (first_entry desk.next (record { program = code; args = args })) refl
-              (begins-consistent desk (record { program = code; args = args }) (orderly desk is) few present).active (memory-current desk memory is.whole of))
-              (bytes-current (with_first desk (record { program = code; args = args })) is.whole);
-          alone = λ entry among. elim (among-push desk.active (first_entry desk.next (record { program = code; args = args })) entry among) [
+              one-current desk.committed (with_first desk runs).active memory.bytes (current_bytes (with_first desk runs))
+              (current-begun desk.committed desk.most_lines desk.next desk.active is.active memory.bytes (first_entry desk.next runs) refl
+              (begins-consistent desk runs (orderly desk is) few present).active (memory-current desk memory is.whole of))
+              (bytes-current (with_first desk runs) is.whole);
+          alone = λ entry among. elim (among-push desk.active (first_entry desk.next runs) entry among) [
             | inl there ↦
                 subst (IsAlone desk.committed entry) (sym (cond-false (entry.number == desk.next) (first_machine args desk.committed (Some code)) (memory.machines entry.number) (other entry there))) (of.alone entry there)
             | inr it ↦
@@ -202,11 +173,11 @@ memory-begin programs program args word desk memory is of = by_code (slice_get p
           ];
         }
 
-        by_room : (room : Bool) → nat_lt (length desk.active) desk.most_active ≡ room
-            → IsMemory (if room then begins (absent_segment desk.committed.directory code.windows) program (record { program = code; args = args }) desk
-            else record { desk = record desk { next = desk.next + 1 }; happening = Busy desk.next program }).desk (with_machine desk.next (first_machine args desk.committed (Some code)) memory)
-        by_room true few = by_segment (absent_segment desk.committed.directory code.windows) (ltb-true (length desk.active) desk.most_active few) refl
-        by_room false full = begun-memory desk (record desk { next = desk.next + 1 }) desk.next (first_machine args desk.committed (Some code)) memory refl refl other of
+    by_code : (code : Option Program) → IsMemory (begin_if program args code desk).desk (with_machine desk.next (first_machine args desk.committed code) memory)
+    by_code None = begun-memory desk desk desk.next None memory refl refl other of
+    by_code (Some code) =
+        let same = begun-memory desk (record desk { next = desk.next + 1 }) desk.next (first_machine args desk.committed (Some code)) memory refl refl other of in
+        grind (arith, nat_tests, same, first code, ltb-true)
 
 -- a turn
 own-turn : (word : Word) (number limit : ℕ) (desk : Desk) (memory : Memory) (entry : Entry) → IsConsistent desk → find (λ (entry : Entry). entry.number == number) desk.active ≡ Some entry
@@ -215,32 +186,20 @@ own-turn word number limit desk memory entry is found of =
     let (here, passes) = among-found (λ (entry : Entry). entry.number == number) desk.active entry found in
     memory-turns word number (length desk.active) limit (Going desk no_counts) memory (orderly desk is, (entry, here, eqb-true entry.number number passes), omega arith) of
 
-turned-desk : (activation : ℕ) (turning : Turning) → (turned activation turning).desk ≡ turn_desk turning
-turned-desk activation turning = grind (arith, nat_tests)
-
 memory-turn : (word : Word) (activation limit : ℕ) (desk : Desk) (memory : Memory) → IsConsistent desk → IsMemory desk memory
     → (one : Option Entry) → find (λ (entry : Entry). entry.number == activation) desk.active ≡ one
     → IsMemory (turned activation (turn_of one word activation limit desk)).desk (after_turns word activation limit (Going desk no_counts) memory)
 memory-turn word activation limit desk memory is of None found = idle-turns word activation limit desk memory (orderly desk is) found of
 memory-turn word activation limit desk memory is of (Some entry) found =
-    grind (
-      arith,
-      nat_tests,
-      turned-desk activation (turns word activation limit (Going desk no_counts)),
-      memory-of-turn activation (turns word activation limit (Going desk no_counts)) (after_turns word activation limit (Going desk no_counts) memory) (own-turn word activation limit desk memory entry is found of),
-      own-turn word activation limit desk memory entry is found of,
-    )
+    let turned_it = own-turn word activation limit desk memory entry is found of in
+    let left = memory-of-turn activation (turns word activation limit (Going desk no_counts)) (after_turns word activation limit (Going desk no_counts) memory) turned_it in
+    grind (arith, nat_tests, left)
 
 -- a crash
 crash-memory : (desk : Desk) (memory : Memory) → IsConsistent desk → IsMemory desk memory → IsMemory (restarted desk) (record memory { bytes = memory.committed })
 crash-memory desk memory is of =
-    grind (
-      arith,
-      nat_tests,
-      one-current desk.committed [] desk.committed.bytes (current_bytes (restarted desk)) (current-quiet desk.committed is.whole) (bytes-current (restarted desk) is.whole),
-      current-quiet desk.committed is.whole,
-      bytes-current (restarted desk) is.whole,
-    )
+    let bytes = one-current desk.committed [] desk.committed.bytes (current_bytes (restarted desk)) (current-quiet desk.committed is.whole) (bytes-current (restarted desk) is.whole) in
+    grind (arith, nat_tests, bytes)
 
 shut-memory : (desk : Desk) (memory : Memory) → IsMemory desk memory → IsMemory (record desk { closed = true }) memory
 shut-memory desk memory of = record { committed = of.committed; bytes = of.bytes; alone = of.alone }
@@ -269,24 +228,14 @@ memory-run programs (event ∷ events) desk memory is of =
 
 opened-memory : (frames most_active most_lines : ℕ) (store : FlatStore) → IsWhole store → IsMemory (opened frames most_active most_lines store) (memory_of store)
 opened-memory frames most_active most_lines store whole =
-    grind (
-      arith,
-      nat_tests,
-      one-current store [] store.bytes (current_bytes (opened frames most_active most_lines store)) (current-quiet store whole) (bytes-current (opened frames most_active most_lines store) whole),
-      current-quiet store whole,
-      bytes-current (opened frames most_active most_lines store) whole,
-    )
+    let bytes = one-current store [] store.bytes (current_bytes (opened frames most_active most_lines store)) (current-quiet store whole) (bytes-current (opened frames most_active most_lines store) whole) in
+    grind (arith, nat_tests, bytes)
 
 memory-runs : (programs : List Program) (frames most_active most_lines : ℕ) (store : FlatStore) (events : List (Event × Word)) → IsWhole store → 2 ≤ frames
     → IsMemory (run programs events (opened frames most_active most_lines store)) (memory_after programs events (opened frames most_active most_lines store) (memory_of store))
 memory-runs programs frames most_active most_lines store events whole two =
-    grind (
-      arith,
-      nat_tests,
-      memory-run programs events (opened frames most_active most_lines store) (memory_of store) (runs-consistent programs frames most_active most_lines store [] whole two) (opened-memory frames most_active most_lines store whole),
-      runs-consistent programs frames most_active most_lines store [] whole two,
-      opened-memory frames most_active most_lines store whole,
-    )
+    memory-run programs events (opened frames most_active most_lines store) (memory_of store) (runs-consistent programs frames most_active most_lines store [] whole two)
+    (opened-memory frames most_active most_lines store whole)
 
 -- an entry's own lines are in the bytes of all
 own-found : (desk : Desk) (memory : Memory) → IsConsistent desk → IsMemory desk memory → FindTheirOwn desk memory
@@ -320,9 +269,7 @@ commit-told programs desk memory number limit word counts steps printed is of ha
         → (turned number (turn_of one word number limit desk)).happening ≡ Turned number counts (Committed steps printed)
         → (machine : Machine) × ((after_turns word number limit (Going desk no_counts) memory).machines number ≡ Some machine) × (machine.state.out ≡ printed)
     by_entry None found happened = absurd (cc)
-    by_entry (Some entry) found happened =
-        printed-by number (turns word number limit (Going desk no_counts)) (after_turns word number limit (Going desk no_counts) memory) counts steps printed
-        (own-turn word number limit desk memory entry is found of) happened
+    by_entry (Some entry) found happened = grind (arith, nat_tests, own-turn word number limit desk memory entry is found of)
 
     by_closed : (closed : Bool)
         → (if closed then record { desk = desk; happening = Nothing } else event_of programs (Turn number limit) word desk).happening ≡ Turned number counts (Committed steps printed)
@@ -341,21 +288,15 @@ commits-tell-the-machine programs frames most_active most_lines store events num
 
 pub side_by_side_is_serial : SideBySideIsSerial
 side_by_side_is_serial names programs number frames most_active most_lines store events taken rest whole two is_run =
+    let serial : IsSerial (begun programs events) number store (run programs taken (opened frames most_active most_lines store)).order (event_lines names programs number taken (opened frames most_active most_lines store)) (run programs taken (opened frames most_active most_lines store)).committed (run programs taken (opened frames most_active most_lines store)).closed =
+    run_serial names programs number frames most_active most_lines store events taken rest is_run in
+    let one_directory : (run programs taken (opened frames most_active most_lines store)).committed.directory ≡ store.directory =
+    (serial-whole (begun programs events) serial.done store (run programs taken (opened frames most_active most_lines store)).committed whole serial.leaves).1 in
+    let bytes : (memory_after programs taken (opened frames most_active most_lines store) (memory_of store)).committed ≡ (run programs taken (opened frames most_active most_lines store)).committed.bytes =
+    (memory-runs programs frames most_active most_lines store taken whole two).committed in
+    let same : (run programs taken (opened frames most_active most_lines store)).committed ≡ record store { bytes = (memory_after programs taken (opened frames most_active most_lines store) (memory_of store)).committed } =
+    λ i. record { directory = one_directory i; bytes = sym bytes i } in
     subst
     (λ (committed : FlatStore). IsSerial (begun programs events) number store (run programs taken (opened frames most_active most_lines store)).order
     (event_lines names programs number taken (opened frames most_active most_lines store)) committed (run programs taken (opened frames most_active most_lines store)).closed)
     same serial
-  where
-    serial : IsSerial (begun programs events) number store (run programs taken (opened frames most_active most_lines store)).order
-        (event_lines names programs number taken (opened frames most_active most_lines store)) (run programs taken (opened frames most_active most_lines store)).committed
-        (run programs taken (opened frames most_active most_lines store)).closed
-    serial = run_serial names programs number frames most_active most_lines store events taken rest is_run
-
-    one_directory : (run programs taken (opened frames most_active most_lines store)).committed.directory ≡ store.directory
-    one_directory = (serial-whole (begun programs events) serial.done store (run programs taken (opened frames most_active most_lines store)).committed whole serial.leaves).1
-
-    bytes : (memory_after programs taken (opened frames most_active most_lines store) (memory_of store)).committed ≡ (run programs taken (opened frames most_active most_lines store)).committed.bytes
-    bytes = (memory-runs programs frames most_active most_lines store taken whole two).committed
-
-    same : (run programs taken (opened frames most_active most_lines store)).committed ≡ record store { bytes = (memory_after programs taken (opened frames most_active most_lines store) (memory_of store)).committed }
-    same = λ i. record { directory = one_directory i; bytes = sym bytes i }

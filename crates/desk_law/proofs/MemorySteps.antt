@@ -1,10 +1,10 @@
 -- What machines side by side do to one memory, step by step.
-use Rattle.desk_law.proofs.Common.{◌≡◌, refl, ℕ, ◌==◌, ◌||◌, not, if◌then◌else◌, Bool, true, false, List, [], ◌∷◌, ◌++◌, length, filter, Option, Some, flat_map, range_with_len, list_any, ap, sym, ◌∙◌, subst, inl, inr, both_ways, and_parts, and_from, cases_Bool, not-true, not_from_false, false_from_ne_true, cond-false, same_Some, Layout, byte_count, FlatStore, IsWhole, line_count, has, Lines, has-append, has-filter, any-at, any-some, Plain, Program, Outcome, On, plan_at, row, touched, after, due_locks, touched_next, line_in, after-whole, Desk, Entry, numbers, Attempt, IsLaid, gone_on, row_done, left_by, IsAmong, due_to, AreConsistent, current_of, current, IsCurrent, current_bytes, Machine, Memory, laid, wrote_by, given_back, went_on, does_row, commit_of, IsAlone, IsMemory, IsOrderly, nat_tests, arith}
+use Rattle.desk_law.proofs.Common.{◌≡◌, refl, ℕ, ◌==◌, ◌||◌, not, if◌then◌else◌, Bool, true, false, List, [], ◌∷◌, ◌++◌, length, filter, Option, Some, flat_map, range_with_len, list_any, ap, sym, ◌∙◌, subst, inl, inr, both_ways, and_parts, cases_Bool, not-true, cond-false, same_Some, Layout, byte_count, FlatStore, IsWhole, line_count, has, Lines, has-append, has-filter, any-at, any-some, Plain, Program, Outcome, On, plan_at, row, touched, after, due_locks, touched_next, line_in, after-whole, Desk, Entry, numbers, Attempt, IsLaid, gone_on, row_done, left_by, IsAmong, due_to, AreConsistent, current_of, current, IsCurrent, current_bytes, Machine, Memory, laid, wrote_by, given_back, went_on, does_row, commit_of, IsAlone, IsMemory, IsOrderly, nat_tests, arith}
 use Rattle.desk_law.proofs.Entries.{replaced, among-filter, among-replaced, one-entry}
 use Rattle.desk_law.proofs.Others.{others, another-same, after-row}
 use Rattle.desk_law.proofs.Waiting.{number-of, has-number}
 use Rattle.desk_law.proofs.GoesOn.{IsGranted, due-more}
-use Rattle.desk_law.proofs.CurrentLines.{somebody, wrote-held, holder-or-none, current-written, current-unwritten, commit-current}
+use Rattle.desk_law.proofs.CurrentLines.{wrote-held, holder-or-none, current-written, current-unwritten, commit-current, by-writer}
 use Rattle.desk_law.proofs.CurrentBytes.{bytes-current, laid-is}
 use Rattle.desk_law.proofs.CurrentLaw.{row-runs}
 use Rattle.desk_law.proofs.CurrentSteps.{commit-laid}
@@ -48,12 +48,8 @@ module _ (old desk : Desk) (stay : List ℕ) (memory : Memory) (most : ℕ) (is_
   -- one that wrote a line now had written it before
   wrote-before : (entry : Entry) (line : ℕ) → IsAmong desk.active entry → Wrote desk entry line → (before : Entry) × IsAmong old.active before × (before.number ≡ entry.number) × Wrote old before line
   wrote-before entry line among wrote =
-      let (before, there, number, runs, rows) = fewer.was entry among in (
-        before,
-        there,
-        number,
-        ap (λ (l : Lines). has l.writes line) (due-alike old.committed before entry runs rows) ∙ ap (λ (store : FlatStore). has (due_to store entry).writes line) (sym fewer.committed) ∙ wrote,
-      )
+      let (before, there, number, runs, rows) = fewer.was entry among in
+      (before, there, number, (λ i. has (due_locks (runs i).program (runs i).args (sym fewer.committed i) (rows i)).writes line) ∙ wrote)
 
   -- one that stays had written before what it has written
   wrote-after : (before : Entry) (line : ℕ) → IsAmong old.active before → has (numbers desk) before.number ≡ true → Wrote old before line
@@ -63,13 +59,8 @@ module _ (old desk : Desk) (stay : List ℕ) (memory : Memory) (most : ℕ) (is_
       let (first, at, number, runs, rows) = fewer.was entry among in
       let same : first ≡ before = one-entry 0 old.next old.active first before is_old.active.ascend at there (number ∙ own) in
       let runs_are : before.runs ≡ entry.runs = ap (λ (x : Entry). x.runs) (sym same) ∙ runs in
-      let rows_are : before.rows ≡ entry.rows = ap (λ (x : Entry). x.rows) (sym same) ∙ rows in (
-        entry,
-        among,
-        runs_are,
-        rows_are,
-        ap (λ (l : Lines). has l.writes line) (sym (due-alike desk.committed before entry runs_are rows_are)) ∙ ap (λ (store : FlatStore). has (due_to store before).writes line) fewer.committed ∙ wrote,
-      )
+      let rows_are : before.rows ≡ entry.rows = ap (λ (x : Entry). x.rows) (sym same) ∙ rows in
+      (entry, among, runs_are, rows_are, (λ i. has (due_locks (sym runs_are i).program (sym runs_are i).args (fewer.committed i) (sym rows_are i)).writes line) ∙ wrote)
 
   -- a line that is given back is as it is committed
   back-line : (line : ℕ) → has (flat_map (wrote_by memory) gone) line ≡ true → current desk line ≡ line_in desk.committed.directory desk.committed.bytes line
@@ -78,47 +69,32 @@ module _ (old desk : Desk) (stay : List ℕ) (memory : Memory) (most : ℕ) (is_
       let parts = and_parts (has (numbers old) number) (not (has stay number)) (sym (has-filter (λ n. not (has stay n)) (numbers old) number) ∙ out) in
       let (one, there, own) = number-of old.active number parts.0 in
       let one_wrote : Wrote old one line = ap (λ (l : List ℕ). has l line) (sym (wrote-is old memory one is there)) ∙ ap (λ (n : ℕ). has (wrote_by memory n) line) own ∙ wrote in
+      let holds = wrote-held old.committed old.most_lines old.next old.active is_old.active one line one_wrote in
       current-unwritten desk.committed most desk.next desk.active are line
       (λ entry among.
-      false_from_ne_true (has (due_to desk.committed entry).writes line)
-      (λ also.
-      let (before, at, same, was) = wrote-before entry line among also in
-      let it : before ≡ one = holder-or-none old.committed old.most_lines old.next old.active is_old.active one before line there at (wrote-held old.committed old.most_lines old.next old.active is_old.active one line one_wrote) was in
-      both_ways (has stay number) (not-true (has stay number) parts.1)
-      (stays number
-      ∙ subst (λ (n : ℕ). has (numbers desk) n ≡ true) (sym same ∙ ap (λ (x : Entry). x.number) it ∙ own) (has-number desk.active entry among))))
+      grind (arith, nat_tests, wrote-before entry line among, λ (before : Entry). holder-or-none old.committed old.most_lines old.next old.active is_old.active one before line there, holds, has-number desk.active entry among, stays number, parts.1, own))
 
   -- any other line is as it was
+  wrote-gone : (some : Entry) (line : ℕ) → IsAmong old.active some → Wrote old some line → has (numbers desk) some.number ≡ false → has (flat_map (wrote_by memory) gone) line ≡ true
+  wrote-gone some line there wrote went =
+      has-joined (wrote_by memory) gone line
+      ∙ any-at (λ x. has (wrote_by memory x) line) gone some.number
+      (grind (arith, nat_tests, has-filter (λ n. not (has stay n)) (numbers old) some.number, has-number old.active some there, stays some.number))
+      (ap (λ (l : List ℕ). has l line) (wrote-is old memory some is there) ∙ wrote)
+
   kept-line : (line : ℕ) → has (flat_map (wrote_by memory) gone) line ≡ false → current desk line ≡ current old line
-  kept-line line out = elim (somebody old.committed old.most_lines old.next old.active is_old.active line) [
-    | inl some ↦
-        elim (cases_Bool (has (numbers desk) some.0.number)) [
-          | inl inside ↦
-              let (entry, among, runs, rows, wrote) = wrote-after some.0 line some.1 inside some.2 in
-              let live = is_old.active.live some.0 some.1 in
-              let at : after entry.runs.program entry.runs.args desk.committed entry.rows ≡ Some live.state =
-              ap (λ (store : FlatStore). after entry.runs.program entry.runs.args store entry.rows) fewer.committed ∙ sym (after-alike old.committed some.0 entry runs rows) ∙ live.is in
-              current-written desk.committed most desk.next desk.active are entry live.state line among at wrote
-              ∙ ap (λ (store : FlatStore). line_in store.directory live.state.store line) fewer.committed
-              ∙ sym (current-written old.committed old.most_lines old.next old.active is_old.active some.0 live.state line some.1 live.is some.2)
-          | inr went ↦
-              absurd (both_ways (has (flat_map (wrote_by memory) gone) line) out
-              (has-joined (wrote_by memory) gone line
-              ∙ any-at (λ x. has (wrote_by memory x) line) gone some.0.number
-              (has-filter (λ n. not (has stay n)) (numbers old) some.0.number
-              ∙ and_from (has (numbers old) some.0.number) (not (has stay some.0.number)) (has-number old.active some.0 some.1) (not_from_false (has stay some.0.number) (stays some.0.number ∙ went)))
-              (ap (λ (l : List ℕ). has l line) (wrote-is old memory some.0 is some.1) ∙ some.2)))
-        ]
-    | inr none ↦
-        current-unwritten desk.committed most desk.next desk.active are line
-        (λ entry among.
-        false_from_ne_true (has (due_to desk.committed entry).writes line)
-        (λ also.
-        let (before, at, same, was) = wrote-before entry line among also in
-        both_ways (has (due_to old.committed before).writes line) (none before at) was))
-        ∙ ap (λ (store : FlatStore). line_in store.directory store.bytes line) fewer.committed
-        ∙ sym (current-unwritten old.committed old.most_lines old.next old.active is_old.active line none)
-  ]
+  kept-line line out =
+      by-writer old.committed old.most_lines old.next old.active is_old.active line (current desk line)
+      (λ some state there at wrote. elim (cases_Bool (has (numbers desk) some.number)) [
+        | inl inside ↦
+            let (entry, among, runs, rows, written) = wrote-after some line there inside wrote in
+            current-written desk.committed most desk.next desk.active are entry state line among ((λ i. after (sym runs i).program (sym runs i).args (fewer.committed i) (sym rows i)) ∙ at) written
+            ∙ ap (λ (store : FlatStore). line_in store.directory state.store line) fewer.committed
+        | inr went ↦ absurd (both_ways (has (flat_map (wrote_by memory) gone) line) out (wrote-gone some line there wrote went))
+      ])
+      (λ none.
+      current-unwritten desk.committed most desk.next desk.active are line (λ entry among. grind (arith, nat_tests, wrote-before entry line among, none))
+      ∙ ap (λ (store : FlatStore). line_in store.directory store.bytes line) fewer.committed)
 
   pub given-back : IsMemory desk (given_back desk.committed.directory (numbers old) stay memory)
   given-back = record { committed = committed; bytes = bytes; alone = alone }

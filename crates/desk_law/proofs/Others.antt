@@ -1,20 +1,16 @@
 -- A commit of one activation leaves the others as they were.
-use Rattle.desk_law.proofs.Common.{◌+◌, ◌≡◌, ℕ, ◌==◌, not, Bool, true, false, List, filter, Some, arith, sym, subst, not-true, FlatStore, IsWhole, has, Lines, with_whole_pages, has-append, has_left, has_right, Plain, after, On, row, touched_next, all_of, DoesTheSame, agreement-enough, after-whole, after-kept, Entry, left_by, IsAmong, due_to, IsLive, AreApart, AreConsistent, nat_tests}
-use Rattle.desk_law.proofs.Entries.{among-filter, ascend-filter}
+use Rattle.desk_law.proofs.Common.{◌+◌, ◌≡◌, ℕ, ◌==◌, not, Bool, true, false, List, filter, Some, arith, not-true, not_from_false, FlatStore, IsWhole, has, Lines, with_whole_pages, has-append, has_left, has_right, Plain, after, On, row, touched_next, all_of, DoesTheSame, agreement-enough, after-whole, after-kept, Entry, left_by, IsAmong, due_to, IsLive, AreApart, AreConsistent, nat_tests}
+use Rattle.desk_law.proofs.Entries.{among-filter, filter-among, ascend-filter}
 
 -- the state after a row more
 pub after-row : (store : FlatStore) (entry : Entry) (now next : Plain) → after entry.runs.program entry.runs.args store entry.rows ≡ Some now
     → row entry.runs.program store.directory now ≡ On next → after entry.runs.program entry.runs.args store (entry.rows + 1) ≡ Some next
 after-row store entry now next at went = grind (arith, nat_tests)
 
--- touched lines are held
-pub touched-held : (fine : ℕ → Bool) (lines : Lines) (line : ℕ) → has (all_of lines) line ≡ true → has (all_of (with_whole_pages fine lines)) line ≡ true
-touched-held fine lines line inside = grind (arith, nat_tests, has-append, has_left, has_right)
-
 -- what one has touched, another that is apart has not written
 pub unwritten : (fine : ℕ → Bool) (first second : Lines) → AreApart (with_whole_pages fine first) (with_whole_pages fine second)
     → (line : ℕ) → has (all_of second) line ≡ true → has first.writes line ≡ false
-unwritten fine first second apart line inside = grind (arith, nat_tests, touched-held)
+unwritten fine first second apart line inside = grind (arith, nat_tests, has-append, has_left, has_right)
 
 -- another does the same over what the commit leaves
 pub another-same :
@@ -41,16 +37,18 @@ another-stays store most_lines next entries entry other now whole are here there
     let (bytes, same) = another-same store entry other now live.state whole is live.is (record { first_writes = apart.second_writes; second_writes = apart.first_writes }) in
     record { due = same.due; wants = same.touches other.rows (omega arith) }
 
-another-live :
-    (store : FlatStore) (most_lines next : ℕ) (entries : List Entry) (entry other : Entry) (now : Plain) → IsWhole store
-    → AreConsistent store most_lines next entries → IsAmong entries entry → IsAmong entries other → (other.number == entry.number) ≡ false
-    → after entry.runs.program entry.runs.args store entry.rows ≡ Some now
-    → IsLive (left_by store now) most_lines other
-another-live store most_lines next entries entry other now whole are here there differ is = grind (arith, nat_tests, another-same)
-
 -- the entries that are left
 abbrev pub others : Entry → List Entry → List Entry
 others entry entries = filter (λ (other : Entry). not (other.number == entry.number)) entries
+
+-- each of them was among all, and has another number
+pub among-others : (gone : Entry) (entries : List Entry) (other : Entry) → IsAmong (others gone entries) other → IsAmong entries other × ((other.number == gone.number) ≡ false)
+among-others gone entries other among =
+    let (there, differ) = among-filter (λ (other : Entry). not (other.number == gone.number)) entries other among in
+    (there, not-true (other.number == gone.number) differ)
+
+pub others-among : (gone : Entry) (entries : List Entry) (other : Entry) → IsAmong entries other → (other.number == gone.number) ≡ false → IsAmong (others gone entries) other
+others-among gone entries other among differ = filter-among (λ (other : Entry). not (other.number == gone.number)) entries other among (not_from_false (other.number == gone.number) differ)
 
 -- the others are consistent over what a commit leaves
 pub commit-leaves :
@@ -59,19 +57,7 @@ pub commit-leaves :
     → after entry.runs.program entry.runs.args store entry.rows ≡ Some now
     → AreConsistent (left_by store now) most_lines next (others entry entries)
 commit-leaves store most_lines next entries entry now whole are here is =
-    record {
-      ascend = ascend-filter (λ (other : Entry). not (other.number == entry.number)) 0 next entries are.ascend;
-      live = λ other among.
-          let (there, differ) = among-filter (λ (other : Entry). not (other.number == entry.number)) entries other among in
-          another-live store most_lines next entries entry other now whole are here there (not-true (other.number == entry.number) differ) is;
-      apart = λ first second among1 among2 differ.
-          let (there1, differ1) = among-filter (λ (other : Entry). not (other.number == entry.number)) entries first among1 in
-          let (there2, differ2) = among-filter (λ (other : Entry). not (other.number == entry.number)) entries second among2 in
-          let same1 = another-stays store most_lines next entries entry first now whole are here there1 (not-true (first.number == entry.number) differ1) is in
-          let same2 = another-stays store most_lines next entries entry second now whole are here there2 (not-true (second.number == entry.number) differ2) is in
-          subst (λ (lines : Lines). AreApart lines (due_to (left_by store now) second)) (sym same1.due)
-          (subst (λ (lines : Lines). AreApart (due_to store first) lines) (sym same2.due) (are.apart first second there1 there2 differ));
-    }
+    grind (arith, nat_tests, ascend-filter, among-others entry entries, another-same, another-stays store most_lines next entries entry)
 
 -- and after a rollback
 pub rollback-leaves :

@@ -1,5 +1,5 @@
 -- The resident pages fit the frames, each once, and are pages of the store.
-use Rattle.desk_law.proofs.Common.{◌≡◌, refl, ℕ, zero, suc, ◌+◌, ◌<◌, ◌≤◌, ◌==◌, ◌||◌, Bool, true, false, List, [], ◌∷◌, ◌++◌, length, filter, remove, arith, ap, sym, ◌∙◌, length-append, eq-eqb, both_ways, or_right, or_parts, or_from, ne_eqb, position-Some, has, first_out, brought, taken_out, has-append, has-filter, Word, Fetching, Fetched, Broken, fetches, AreDistinct, AreResident, nat_tests}
+use Rattle.desk_law.proofs.Common.{◌≡◌, refl, ℕ, zero, suc, ◌+◌, ◌<◌, ◌≤◌, ◌==◌, ◌||◌, Bool, true, false, List, [], ◌∷◌, ◌++◌, length, filter, remove, arith, ap, sym, ◌∙◌, length-append, eq-eqb, both_ways, or_right, or_parts, or_from, ne_eqb, position-Some, has, brought, taken_out, has-append, has-filter, Word, Fetching, Fetched, Broken, fetches, AreDistinct, AreResident, nat_tests}
 use Rattle.desk_law.proofs.Entries.{filter-short}
 
 -- one page more, which isn't there
@@ -35,13 +35,10 @@ remove-shorter [] at within = absurd (omega (arith, within))
 remove-shorter (one ∷ pages) zero within = refl
 remove-shorter (one ∷ pages) (suc at) within = ap suc (remove-shorter pages at (omega (arith, within)))
 
-out-shorter : (kept pages : List ℕ) → 1 ≤ length pages → suc (length (first_out kept pages)) ≡ length pages
-out-shorter kept pages some = grind (arith, nat_tests, remove-shorter, position-Some)
-
 -- a page that comes in
 pub brought-resident : (frames pages : ℕ) (kept resident : List ℕ) (page : ℕ) → 1 ≤ frames → AreResident frames pages resident → has resident page ≡ false → page < pages
     → AreResident frames pages (brought frames kept resident page)
-brought-resident frames pages kept resident page some are new below = grind (arith, nat_tests, length-append, push-distinct, has-append, out-shorter, remove-distinct, remove-has)
+brought-resident frames pages kept resident page some are new below = grind (arith, nat_tests, length-append, push-distinct, has-append, remove-shorter, position-Some, remove-distinct, remove-has)
 
 -- pages that are taken out
 pub taken-resident : (frames pages : ℕ) (gone resident : List ℕ) → AreResident frames pages resident → AreResident frames pages (taken_out gone resident)

@@ -1,6 +1,6 @@
 -- A turn leaves resident pages that fit.
-use Rattle.desk_law.proofs.Common.{◌≡◌, refl, ℕ, zero, suc, ◌<◌, ◌≤◌, ◌==◌, Bool, true, false, List, [], ◌∷◌, ◌++◌, length, find, Option, Some, None, option_map_or, arith, ap, sym, ◌∙◌, eqb-true, Layout, page_count, line_count, has, no_lines, page_of_line, shown_cycle, victim_of, any-some, has-pages_of, Plain, Program, Outcome, row, after, touched, all_of, touched-below, Desk, Entry, with_entry, rolled_back, wanted, numbers, waits_for, Word, Counts, Turning, Going, Over, Attempt, Fetching, Contest, Contested, Settled, Lost, attempts, attempts_at, instruction, turns, touched_pages, limited, fetched_first, fetches_touched, asks, gets, goes_on, takes_effect, commits, contest_ends, waits_or_gets, breaks_cycle, breaks_cycles, AreResident, nat_tests}
-use Rattle.desk_law.proofs.Contest.{breaks-keep, left_over}
+use Rattle.desk_law.proofs.Common.{◌≡◌, refl, ℕ, zero, suc, ◌<◌, ◌≤◌, ◌==◌, true, false, List, [], ◌∷◌, length, find, Option, Some, None, option_map_or, arith, ap, sym, ◌∙◌, eqb-true, Layout, page_count, line_count, has, no_lines, page_of_line, any-some, has-pages_of, Plain, Program, Outcome, row, after, touched, all_of, touched-below, Desk, Entry, with_entry, rolled_back, wanted, Word, Counts, Turning, Going, Over, Attempt, Contest, Contested, Settled, Lost, attempts, attempts_at, instruction, turns, touched_pages, fetches_touched, asks, gets, takes_effect, contest_ends, waits_or_gets, breaks_cycles, AreResident, nat_tests, contest}
+use Rattle.desk_law.proofs.Contest.{VictimsKeep, victims-keep}
 use Rattle.desk_law.proofs.ResidentPages.{FetchFits, fetches-resident, taken-resident, none-resident}
 
 -- there are two frames, and the resident pages fit
@@ -40,20 +40,13 @@ resident-fits desk resident is are = record { frames = is.frames; resident = are
 
 -- victims
 breaks-fits : (directory : Layout) (left one : ℕ) (contest : Contest) → ContestFits directory contest → ContestFits directory (breaks_cycles left one contest)
-breaks-fits directory left one contest is = breaks-keep (ContestFits directory) one round left contest is
+breaks-fits directory left one contest is = victims-keep (ContestFits directory) one (λ desk counts is. is) by_victim left contest is
   where
-    round : (desk : Desk) (counts : Counts) → ContestFits directory (Contested desk counts) → ContestFits directory (breaks_cycle one (shown_cycle (waits_for desk) (numbers desk) one) desk counts)
-    round desk counts is = by_cycle (shown_cycle (waits_for desk) (numbers desk) one)
-      where
-        by_victim : (counts : Counts) (victim : Option Entry) (lost : Bool) → ContestFits directory (left_over desk counts victim lost)
-        by_victim counts None true = is
-        by_victim counts None false = is
-        by_victim counts (Some entry) true = (rolled-fits desk entry is.0, is.1)
-        by_victim counts (Some entry) false = (rolled-fits desk entry is.0, is.1)
-
-        by_cycle : (cycle : Option (List ℕ)) → ContestFits directory (breaks_cycle one cycle desk counts)
-        by_cycle None = is
-        by_cycle (Some cycle) = by_victim (record counts { cycles = counts.cycles ++ cycle ∷ [] }) (find (λ (entry : Entry). entry.number == victim_of cycle) desk.active) (victim_of cycle == one)
+    by_victim : VictimsKeep (ContestFits directory) one
+    by_victim desk counts cycle None true is found e = is
+    by_victim desk counts cycle None false is found e = is
+    by_victim desk counts cycle (Some entry) true is found e = (rolled-fits desk entry is.0, is.1)
+    by_victim desk counts cycle (Some entry) false is found e = (rolled-fits desk entry is.0, is.1)
 
 module _ (word : Word) (attempt : Attempt) (directory : Layout) (below : (page : ℕ) → has (touched_pages attempt) page ≡ true → page < page_count directory) where
   fits-fetched : (desk : Desk) (counts : Counts) → desk.committed.directory ≡ directory → Fits desk → FetchFits desk.frames (page_count desk.committed.directory) (fetches_touched word attempt desk counts)
@@ -61,17 +54,11 @@ module _ (word : Word) (attempt : Attempt) (directory : Layout) (below : (page :
       fetches-resident word desk.frames (page_count desk.committed.directory) (touched_pages attempt) (touched_pages attempt) desk.resident counts.pages (omega (arith, is.frames)) is.resident
       (λ page inside. omega (arith, below page inside, ap page_count same))
 
-  fits-commit : (word : Word) (desk : Desk) (counts : Counts) → Fits desk → TurnFits (commits word attempt desk counts)
-  fits-commit word desk counts is = grind (arith, nat_tests)
-
   fits-effect : (desk : Desk) (counts : Counts) (outcome : Outcome) → Fits desk → TurnFits (takes_effect word attempt outcome desk counts)
-  fits-effect desk counts outcome is = grind (arith, fits-commit, rolled-fits desk attempt.entry)
-
-  fits-on : (desk : Desk) (counts : Counts) (fetching : Fetching) → Fits desk → FetchFits desk.frames (page_count desk.committed.directory) fetching → TurnFits (goes_on word attempt desk counts fetching)
-  fits-on desk counts fetching is are = grind (arith, nat_tests, fits-effect, resident-fits, none-resident)
+  fits-effect desk counts outcome is = grind (arith, nat_tests, rolled-fits desk attempt.entry)
 
   fits-get : (refused : List ℕ) (desk : Desk) (counts : Counts) → desk.committed.directory ≡ directory → Fits desk → TurnFits (gets word attempt refused desk counts)
-  fits-get refused desk counts same is = grind (arith, nat_tests, fits-on, fits-fetched)
+  fits-get refused desk counts same is = grind (arith, nat_tests, fits-effect, resident-fits, none-resident, fits-fetched)
 
   fits-wait : (refused holders : List ℕ) (desk : Desk) (counts : Counts) → desk.committed.directory ≡ directory → Fits desk → TurnFits (waits_or_gets word attempt refused holders desk counts)
   fits-wait refused [] desk counts same is = fits-get refused desk counts same is
@@ -88,15 +75,8 @@ module _ (word : Word) (attempt : Attempt) (directory : Layout) (below : (page :
       (breaks-fits directory (length desk.active) attempt.entry.number (Contested (with_entry desk (record attempt.entry { waiting = true })) counts)
       (record { frames = is.frames; resident = is.resident }, same))
 
-  fits-first : (desk : Desk) (counts : Counts) (fetching : Fetching) → desk.committed.directory ≡ directory → Fits desk → FetchFits desk.frames (page_count desk.committed.directory) fetching
-      → TurnFits (fetched_first word attempt desk counts fetching)
-  fits-first desk counts fetching same is are = grind (arith, nat_tests, fits-ask, resident-fits, none-resident)
-
-  fits-limit : (over : Bool) (desk : Desk) (counts : Counts) → desk.committed.directory ≡ directory → Fits desk → TurnFits (limited over word attempt desk counts)
-  fits-limit over desk counts same is = grind (arith, rolled-fits desk attempt.entry is, fits-first, fits-fetched)
-
   fits-attempt : (outcome : Outcome) (desk : Desk) (counts : Counts) → desk.committed.directory ≡ directory → Fits desk → TurnFits (attempts word attempt outcome desk counts)
-  fits-attempt outcome desk counts same is = grind (arith, rolled-fits desk attempt.entry is, fits-limit)
+  fits-attempt outcome desk counts same is = grind (arith, nat_tests, rolled-fits desk attempt.entry is, rolled-fits, fits-ask, resident-fits, none-resident, fits-fetched)
 
 -- an instruction
 pub fits-instruction : (word : Word) (one : Option Entry) (desk : Desk) (counts : Counts) → Fits desk → TurnFits (instruction word one desk counts)

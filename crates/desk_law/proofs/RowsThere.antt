@@ -1,6 +1,6 @@
 -- An instruction of a consistent desk whose lines are all there: nothing is counted but the row, and nothing else changes.
-use Rattle.desk_law.proofs.Common.{nat_lt, ◌≡◌, refl, ℕ, ◌+◌, Bool, true, false, List, [], ◌++◌, length, filter, Some, slice_index_or, arith, ap, sym, ◌∙◌, subst, inl, inr, list_any, or_cases, is_fine_page, has, size, Lines, both, with_whole_pages, pages_of, has-append, has_left, any-some, ArePart, reaches, whole-reached, part-both, part-whole_pages, has-whole_pages, Plain, On, Commit, Check, row, after, Desk, Entry, nobody, with_entry, rolled_back, wanted, requested, conflicts_of, Word, Counts, Going, Over, Checked, Attempt, Fetched, fetches, instruction, lines_written, refuses, lines_within, gets, takes_effect, commits, nat_tests, AreThere, AreAlike, gone_on, IsAmong, due_to, IsOrderly, touched_of, next_attempt}
-use Rattle.desk_law.proofs.GoesOn.{due-more}
+use Rattle.desk_law.proofs.Common.{nat_lt, ◌≡◌, refl, ℕ, ◌+◌, Bool, true, false, List, [], ◌++◌, length, filter, Some, slice_index_or, arith, ap, sym, ◌∙◌, subst, is_fine_page, has, size, Lines, pages_of, has-append, ArePart, Plain, On, Commit, Check, row, after, Desk, Entry, nobody, with_entry, rolled_back, wanted, requested, conflicts_of, Word, Counts, Going, Over, Checked, Attempt, Fetched, fetches, instruction, lines_written, refuses, lines_within, gets, takes_effect, commits, nat_tests, AreThere, AreAlike, gone_on, IsAmong, due_to, IsOrderly, touched_of, next_attempt, part, ◌||◌}
+use Rattle.desk_law.proofs.GoesOn.{due-more, whole-both}
 use Rattle.desk_law.proofs.InstructionStages.{GoesOn, instruction-at, stage-limit, stage-fetched, stage-gets, stage-on, stage-commit}
 use Rattle.desk_law.proofs.LinesThere.{filter-none, fetches-none, there-resident, there-unrefused, there-held, there-lowered}
 use Rattle.desk_law.proofs.Permitted.{held-free, held-written}
@@ -14,25 +14,19 @@ pub effect-there :
     → nat_lt desk.most_lines (lines_written (next_attempt desk entry now) desk) ≡ false
     → instruction word (Some entry) desk counts ≡ takes_effect word (next_attempt desk entry now) (next_attempt desk entry now).outcome desk counts
 effect-there word desk counts entry now goes at there alone within =
+    let attempt : Attempt = record { entry = entry; now = now; outcome = row entry.runs.program desk.committed.directory now; lines = wanted desk entry } in
+    let all_there : (counted : ℕ) → fetches word desk.frames (pages_of ((wanted desk entry).reads ++ (wanted desk entry).writes)) (pages_of ((wanted desk entry).reads ++ (wanted desk entry).writes)) desk.resident counted ≡ Fetched desk.resident counted =
+    λ counted. fetches-none word desk.frames (pages_of ((wanted desk entry).reads ++ (wanted desk entry).writes)) (pages_of ((wanted desk entry).reads ++ (wanted desk entry).writes)) desk.resident counted
+    (there-resident desk entry.number (wanted desk entry) there) in
+    let nothing : filter (λ page. refuses (slice_index_or desk.authority page nobody) entry.number (lines_within page (wanted desk entry))) (pages_of ((wanted desk entry).reads ++ (wanted desk entry).writes)) ≡ [] =
+    filter-none (λ page. refuses (slice_index_or desk.authority page nobody) entry.number (lines_within page (wanted desk entry))) (pages_of ((wanted desk entry).reads ++ (wanted desk entry).writes))
+    (there-unrefused desk entry.number (wanted desk entry) there) in
     instruction-at word entry desk counts now at
     ∙ stage-limit word attempt desk counts attempt.outcome false goes within
     ∙ stage-fetched word attempt desk counts desk.resident counts.pages [] (all_there counts.pages) alone
     ∙ ap (λ (refused : List ℕ). gets word attempt refused desk (record counts { locks = counts.locks + length refused })) nothing
     ∙ stage-gets word attempt desk (record counts { locks = counts.locks + 0 }) [] desk.authority desk.resident counts.pages refl (all_there counts.pages)
     ∙ ap (λ (locks : ℕ). takes_effect word attempt attempt.outcome desk (record counts { locks = locks })) (omega arith)
-  where
-    attempt : Attempt
-    attempt = record { entry = entry; now = now; outcome = row entry.runs.program desk.committed.directory now; lines = wanted desk entry }
-
-    all_there : (counted : ℕ) → fetches word desk.frames (pages_of ((wanted desk entry).reads ++ (wanted desk entry).writes)) (pages_of ((wanted desk entry).reads ++ (wanted desk entry).writes)) desk.resident counted ≡ Fetched desk.resident counted
-    all_there counted =
-        fetches-none word desk.frames (pages_of ((wanted desk entry).reads ++ (wanted desk entry).writes)) (pages_of ((wanted desk entry).reads ++ (wanted desk entry).writes)) desk.resident counted
-        (there-resident desk entry.number (wanted desk entry) there)
-
-    nothing : filter (λ page. refuses (slice_index_or desk.authority page nobody) entry.number (lines_within page (wanted desk entry))) (pages_of ((wanted desk entry).reads ++ (wanted desk entry).writes)) ≡ []
-    nothing =
-        filter-none (λ page. refuses (slice_index_or desk.authority page nobody) entry.number (lines_within page (wanted desk entry))) (pages_of ((wanted desk entry).reads ++ (wanted desk entry).writes))
-        (there-unrefused desk entry.number (wanted desk entry) there)
 
 -- No active entry is past the limit.
 pub within-most : (desk : Desk) (entry : Entry) → IsOrderly desk → IsAmong desk.active entry → nat_lt desk.most_lines (size (due_to desk.committed entry).writes) ≡ false
@@ -46,58 +40,28 @@ pub open-row :
     → AreThere desk entry.number (wanted desk entry)
     → instruction word (Some entry) desk counts ≡ Going (with_entry desk (gone_on entry)) (record counts { ran = counts.ran + 1 })
 open-row word desk counts entry now next is here at went there =
+    let held : ArePart (requested desk.committed entry) (due_to desk.committed entry) = there-held desk entry is here there in
     effect-there word desk counts entry now (subst GoesOn (sym went) tt) at there (held-free desk entry is here held)
     (ap (nat_lt desk.most_lines) (held-written desk entry held) ∙ within-most desk entry is here)
     ∙ stage-on word (next_attempt desk entry now) desk counts (next_attempt desk entry now).outcome next went
     ∙ ap (λ (d : Desk). Going (with_entry d (gone_on entry)) (record counts { ran = counts.ran + 1 })) (there-lowered desk entry (next_attempt desk entry now) refl refl is here there)
-  where
-    held : ArePart (requested desk.committed entry) (due_to desk.committed entry)
-    held = there-held desk entry is here there
 
 -- The locks that are due after it are those that were due before.
 pub open-due : (desk : Desk) (entry : Entry) → ArePart (requested desk.committed entry) (due_to desk.committed entry)
     → AreAlike (due_to desk.committed (gone_on entry)) (due_to desk.committed entry)
-open-due desk entry part = record { reads = reads; writes = writes }
+open-due desk entry part = record {
+  reads = λ line.
+      ap (λ (l : Lines). has l.reads line) (due-more desk.committed entry)
+      ∙ whole-both (is_fine_page desk.committed.directory) (touched_of desk.committed entry) (wanted desk entry) line
+      ∙ absorbs (has (due_to desk.committed entry).reads line) (has (requested desk.committed entry).reads line) (part.reads.among line);
+  writes = λ line.
+      ap (λ (l : Lines). has l.writes line) (due-more desk.committed entry)
+      ∙ has-append (touched_of desk.committed entry).writes (wanted desk entry).writes line
+      ∙ absorbs (has (touched_of desk.committed entry).writes line) (has (wanted desk entry).writes line) (part.writes.among line);
+}
   where
-    due : due_to desk.committed (gone_on entry) ≡ with_whole_pages (is_fine_page desk.committed.directory) (both (touched_of desk.committed entry) (wanted desk entry))
-    due = due-more desk.committed entry
-
-    alike : (a b : Bool) → (a ≡ true → b ≡ true) → (b ≡ true → a ≡ true) → a ≡ b
-    alike a b there back = grind (arith, nat_tests, there)
-
-    old : ArePart (due_to desk.committed entry) (with_whole_pages (is_fine_page desk.committed.directory) (both (touched_of desk.committed entry) (wanted desk entry)))
-    old = part-whole_pages (is_fine_page desk.committed.directory) (touched_of desk.committed entry) (both (touched_of desk.committed entry) (wanted desk entry)) (part-both (touched_of desk.committed entry) (wanted desk entry))
-
-    writes_part : (line : ℕ) → has ((touched_of desk.committed entry).writes ++ (wanted desk entry).writes) line ≡ true → has (touched_of desk.committed entry).writes line ≡ true
-    writes_part line inside =
-        elim (or_cases (has (touched_of desk.committed entry).writes line) (has (wanted desk entry).writes line) (sym (has-append (touched_of desk.committed entry).writes (wanted desk entry).writes line) ∙ inside)) [
-          | inl one ↦ one
-          | inr new ↦ part.writes.among line new
-        ]
-
-    reads_part : (line : ℕ) → has (with_whole_pages (is_fine_page desk.committed.directory) (both (touched_of desk.committed entry) (wanted desk entry))).reads line ≡ true → has (due_to desk.committed entry).reads line ≡ true
-    reads_part line inside =
-        elim (or_cases (has ((touched_of desk.committed entry).reads ++ (wanted desk entry).reads) line) (list_any (reaches (is_fine_page desk.committed.directory) line) ((touched_of desk.committed entry).writes ++ (wanted desk entry).writes))
-        (sym (has-whole_pages (is_fine_page desk.committed.directory) (both (touched_of desk.committed entry) (wanted desk entry)) line) ∙ inside)) [
-          | inl row_read ↦
-              elim (or_cases (has (touched_of desk.committed entry).reads line) (has (wanted desk entry).reads line) (sym (has-append (touched_of desk.committed entry).reads (wanted desk entry).reads line) ∙ row_read)) [
-                | inl one ↦ has_left (touched_of desk.committed entry).reads _ line one
-                | inr new ↦ part.reads.among line (has_left (wanted desk entry).reads _ line new)
-              ]
-          | inr reached ↦
-              let (x, written, at) = any-some (reaches (is_fine_page desk.committed.directory) line) ((touched_of desk.committed entry).writes ++ (wanted desk entry).writes) reached in
-              whole-reached (is_fine_page desk.committed.directory) (touched_of desk.committed entry) line x (writes_part x written) at
-        ]
-
-    reads : (line : ℕ) → has (due_to desk.committed (gone_on entry)).reads line ≡ has (due_to desk.committed entry).reads line
-    reads line =
-        ap (λ (l : Lines). has l.reads line) due
-        ∙ alike (has (with_whole_pages (is_fine_page desk.committed.directory) (both (touched_of desk.committed entry) (wanted desk entry))).reads line) (has (due_to desk.committed entry).reads line) (reads_part line) (old.reads.among line)
-
-    writes : (line : ℕ) → has (due_to desk.committed (gone_on entry)).writes line ≡ has (due_to desk.committed entry).writes line
-    writes line =
-        ap (λ (l : Lines). has l.writes line) due
-        ∙ alike (has ((touched_of desk.committed entry).writes ++ (wanted desk entry).writes) line) (has (due_to desk.committed entry).writes line) (writes_part line) (old.writes.among line)
+    absorbs : (a b : Bool) → (b ≡ true → a ≡ true) → (a || b) ≡ a
+    absorbs a b part = grind (arith, nat_tests, part)
 
 -- The commit call of an active entry comes to its disk at once.
 pub commit-row :
@@ -106,15 +70,12 @@ pub commit-row :
     → row entry.runs.program desk.committed.directory now ≡ Commit
     → instruction word (Some entry) desk counts ≡ commits word (next_attempt desk entry now) desk counts
 commit-row word desk counts entry now is here at went =
+    let there : AreThere desk entry.number (wanted desk entry) =
+    subst (AreThere desk entry.number) (sym (wanted-commit desk entry now at went)) (record { reads = λ line inside. absurd (cc); writes = λ line inside. absurd (cc) }) in
+    let held : ArePart (requested desk.committed entry) (due_to desk.committed entry) = there-held desk entry is here there in
     effect-there word desk counts entry now (subst GoesOn (sym went) tt) at there (held-free desk entry is here held)
     (ap (nat_lt desk.most_lines) (held-written desk entry held) ∙ within-most desk entry is here)
     ∙ stage-commit word (next_attempt desk entry now) desk counts (next_attempt desk entry now).outcome went
-  where
-    there : AreThere desk entry.number (wanted desk entry)
-    there = subst (AreThere desk entry.number) (sym (wanted-commit desk entry now at went)) (record { reads = λ line inside. absurd (cc); writes = λ line inside. absurd (cc) })
-
-    held : ArePart (requested desk.committed entry) (due_to desk.committed entry)
-    held = there-held desk entry is here there
 
 -- A program check rolls back, whatever is there.
 pub check-row :

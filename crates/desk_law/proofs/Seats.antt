@@ -1,12 +1,12 @@
 -- Entries that are told from seats: what becomes of them as one seat changes or is left, and tables by seat as tables by number.
-use Rattle.desk_law.proofs.Common.{◌≡◌, refl, ℕ, ◌==◌, ◌&&◌, ◌||◌, not, if◌then◌else◌, Bool, true, false, List, [], ◌∷◌, map, filter, find, Some, list_any, option_map, ◌∙◌, inl, inr, eqb-true, eq-eqb, and_from, or_left, or_right, FlatStore, has, Lines, no_lines, conflicts, any-at, any-some, any-named, find-named, Entry, AreAlike, requested, AreKept, AreSeats, by_number, kept_conflict, kept_waits, IsAmong, due_to, nat_tests, arith}
+use Rattle.desk_law.proofs.Common.{◌≡◌, refl, ℕ, ◌==◌, ◌&&◌, not, if◌then◌else◌, Bool, true, false, List, [], ◌∷◌, map, filter, find, Some, list_any, option_map, ◌∙◌, inl, inr, eqb-true, eq-eqb, or_left, or_right, FlatStore, has, Lines, no_lines, conflicts, any-at, any-some, any-named, find-named, Entry, AreAlike, requested, AreKept, AreSeats, by_number, kept_conflict, kept_waits, IsAmong, due_to, nat_tests, arith}
 use Rattle.desk_law.proofs.Entries.{replaced}
 use Rattle.desk_law.proofs.Others.{others}
 
 -- an entry that is told is that of a seat
 pub told-seat : (taken : List ℕ) (entry_of : ℕ → Entry) (entry : Entry) → IsAmong (map entry_of taken) entry → (at : ℕ) × (has taken at ≡ true) × (entry_of at ≡ entry)
 told-seat [] entry_of entry among = absurd among
-told-seat (one ∷ taken) entry_of entry (inl same) = (one, or_left (one == one) (has taken one) (eq-eqb one one refl), same)
+told-seat (one ∷ taken) entry_of entry (inl same) = (one, grind (arith, nat_tests), same)
 told-seat (one ∷ taken) entry_of entry (inr among) = grind (arith, nat_tests, told-seat taken entry_of entry among)
 
 pub seat-told : (taken : List ℕ) (entry_of : ℕ → Entry) (at : ℕ) → has taken at ≡ true → IsAmong (map entry_of taken) (entry_of at)
@@ -29,12 +29,7 @@ find-seat : (taken all : List ℕ) (entry_of : ℕ → Entry) (at : ℕ) → ((o
     → find (λ other. (entry_of other).number == (entry_of at).number) taken ≡ Some at
 find-seat [] all entry_of at apart inside = absurd (cc)
 find-seat (one ∷ taken) all entry_of at apart inside =
-    step (one == at) ((entry_of one).number == (entry_of at).number) refl (apart one (or_left (one == one) (has taken one) (eq-eqb one one refl))) inside
-    (λ later. find-seat taken all entry_of at (λ other among. apart other (or_right (one == other) (has taken other) among)) later)
-  where
-    step : (a b : Bool) → (one == at) ≡ a → b ≡ (one == at) → (a || has taken at) ≡ true → (has taken at ≡ true → find (λ other. (entry_of other).number == (entry_of at).number) taken ≡ Some at)
-        → (if b then Some one else find (λ other. (entry_of other).number == (entry_of at).number) taken) ≡ Some at
-    step a b e same inside rest = grind (arith, nat_tests)
+    grind (arith, nat_tests, apart one, λ (later : has taken at ≡ true). find-seat taken all entry_of at (λ other among. apart other (or_right (one == other) (has taken other) among)) later)
 
 pub at-number : {A : Type 0} → (taken : List ℕ) (entry_of : ℕ → Entry) (table : ℕ → A) (else_this : A) (at : ℕ) → AreSeats taken entry_of → has taken at ≡ true
     → by_number taken entry_of table else_this (entry_of at).number ≡ table at
@@ -56,8 +51,7 @@ told-found taken entry_of number = find-named entry_of (λ entry. entry.number =
 -- where one seat alone may pass, some does where it passes
 one-passes : (p : ℕ → Bool) (value : Bool) (taken : List ℕ) (at : ℕ) → has taken at ≡ true → ((other : ℕ) → has taken other ≡ true → p other ≡ (other == at && value))
     → list_any p taken ≡ value
-one-passes p true taken at inside same = any-at p taken at inside (same at inside ∙ and_from (at == at) true (eq-eqb at at refl) refl)
-one-passes p false taken at inside same = grind (arith, nat_tests, any-some p taken)
+one-passes p value taken at inside same = grind (arith, nat_tests, any-at p taken at inside, any-some p taken, same at inside)
 
 module _ (taken : List ℕ) (entry_of : ℕ → Entry) (are : AreSeats taken entry_of) (locks requests : ℕ → Lines) where
   -- whether what a seat asks for conflicts with what another holds
@@ -93,27 +87,22 @@ module _ (taken : List ℕ) (entry_of : ℕ → Entry) (are : AreSeats taken ent
       → kept_waits (by_number taken entry_of locks no_lines) (by_number taken entry_of requests no_lines) (map entry_of taken) (entry_of from).number (entry_of to).number
       ≡ ((entry_of from).waiting && (not (to == from) && conflicts (requests from) (locks to)))
   waits-seats from to here there =
+      let meets : ℕ → Bool =
+      λ at. list_any (λ (other : Entry). other.number == (entry_of to).number && kept_conflict (by_number taken entry_of requests no_lines (entry_of at).number) (by_number taken entry_of locks no_lines) (entry_of at).number other) (map entry_of taken) in
+      let asks : ℕ → Bool = λ at. (entry_of at).number == (entry_of from).number && (entry_of at).waiting && meets at in
+      let here-meets : meets from ≡ (not (to == from) && conflicts (requests from) (locks to)) =
+      any-named entry_of
+      (λ other. other.number == (entry_of to).number && kept_conflict (by_number taken entry_of requests no_lines (entry_of from).number) (by_number taken entry_of locks no_lines) (entry_of from).number other)
+      (λ other. (entry_of other).number == (entry_of to).number && kept_conflict (by_number taken entry_of requests no_lines (entry_of from).number) (by_number taken entry_of locks no_lines) (entry_of from).number (entry_of other))
+      taken (λ at inside. refl)
+      ∙ one-passes
+      (λ other. (entry_of other).number == (entry_of to).number && kept_conflict (by_number taken entry_of requests no_lines (entry_of from).number) (by_number taken entry_of locks no_lines) (entry_of from).number (entry_of other))
+      (not (to == from) && conflicts (requests from) (locks to)) taken to there
+      (λ other inside.
+      (λ i. are.apart other to inside there i && kept_conflict (at-number taken entry_of requests no_lines from are here i) (by_number taken entry_of locks no_lines) (entry_of from).number (entry_of other))
+      ∙ grind (arith, nat_tests, conflict-seats (requests from) from other here inside)) in
       any-named entry_of
       (λ entry. entry.number == (entry_of from).number && entry.waiting && list_any (λ other. other.number == (entry_of to).number && kept_conflict (by_number taken entry_of requests no_lines entry.number) (by_number taken entry_of locks no_lines) entry.number other) (map entry_of taken))
       asks taken (λ at inside. refl)
       ∙ one-passes asks ((entry_of from).waiting && (not (to == from) && conflicts (requests from) (locks to))) taken from here
       (λ at inside. grind (arith, nat_tests, eqb-true, eq-eqb, here-meets))
-    where
-      meets : ℕ → Bool
-      meets at = list_any (λ (other : Entry). other.number == (entry_of to).number && kept_conflict (by_number taken entry_of requests no_lines (entry_of at).number) (by_number taken entry_of locks no_lines) (entry_of at).number other) (map entry_of taken)
-
-      asks : ℕ → Bool
-      asks at = (entry_of at).number == (entry_of from).number && (entry_of at).waiting && meets at
-
-      here-meets : meets from ≡ (not (to == from) && conflicts (requests from) (locks to))
-      here-meets =
-          any-named entry_of
-          (λ other. other.number == (entry_of to).number && kept_conflict (by_number taken entry_of requests no_lines (entry_of from).number) (by_number taken entry_of locks no_lines) (entry_of from).number other)
-          (λ other. (entry_of other).number == (entry_of to).number && kept_conflict (by_number taken entry_of requests no_lines (entry_of from).number) (by_number taken entry_of locks no_lines) (entry_of from).number (entry_of other))
-          taken (λ at inside. refl)
-          ∙ one-passes
-          (λ other. (entry_of other).number == (entry_of to).number && kept_conflict (by_number taken entry_of requests no_lines (entry_of from).number) (by_number taken entry_of locks no_lines) (entry_of from).number (entry_of other))
-          (not (to == from) && conflicts (requests from) (locks to)) taken to there
-          (λ other inside.
-          (λ i. are.apart other to inside there i && kept_conflict (at-number taken entry_of requests no_lines from are here i) (by_number taken entry_of locks no_lines) (entry_of from).number (entry_of other))
-          ∙ grind (arith, nat_tests, conflict-seats (requests from) from other here inside))

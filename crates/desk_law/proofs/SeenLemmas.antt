@@ -32,10 +32,6 @@ whole_first : (line body rest : List ℕ) → IsUnbroken body → whole_lines li
 whole_first line [] rest is = ap (λ (first : List ℕ). first ∷ whole_lines [] rest) (sym (append-nil line))
 whole_first line (x ∷ body) rest is = grind (arith, nat_tests, whole_first (line ++ x ∷ []) body rest (unbroken_rest x body is), unbroken_first, unbroken_rest, append_assoc)
 
--- a line begins so exactly where it is a commit's
-tells_commit : (one : Line) → tells (body_of one) ≡ is_commit one
-tells_commit one = grind (arith, nat_tests)
-
 -- lines whose names have no line feed
 abbrev pub ArePlain : List Line → Type 0
 ArePlain [] = Unit {0}
@@ -61,7 +57,7 @@ seen_lines (first ∷ lines) rest are =
     append_assoc (line_text first) (flat_map line_text lines) rest ∙ ap (λ (front : List ℕ). front ++ tail) (text_is first) ∙ append_assoc (body_of first) (10 ∷ []) tail in
     let whole : commits_seen (line_text first ++ flat_map line_text lines ++ rest) ≡ count_by tells (body_of first ∷ []) + commits_seen tail =
     ap commits_seen bytes ∙ ap (count_by tells) (whole_first [] (body_of first) tail (body-unbroken first are.0)) ∙ counted_on (body_of first ∷ []) (whole_lines [] tail) in
-    let head : count_by tells (body_of first ∷ []) ≡ commits_in (first ∷ []) = ap (λ (is : Bool). 0 + cond is 1 0) (tells_commit first) in
+    let head : count_by tells (body_of first ∷ []) ≡ commits_in (first ∷ []) = ap (λ (is : Bool). 0 + cond is 1 0) (grind (arith, nat_tests)) in
     let split : commits_in (first ∷ lines) ≡ commits_in (first ∷ []) + commits_in lines = commits_on (first ∷ []) lines in
     omega (arith, whole, head, seen_lines lines rest are.1, split)
 

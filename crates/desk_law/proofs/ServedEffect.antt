@@ -1,5 +1,5 @@
 -- The end of an instruction that was served: its pages are granted and there, and its row goes on over the bytes of all.
-use Rattle.desk_law.proofs.Common.{◌≡◌, refl, ℕ, ◌+◌, ◌<◌, true, List, [], ◌++◌, length, filter, slice_index_or, arith, ap, sym, ◌∙◌, is_fine_page, has, Lines, both, with_whole_pages, page_of_line, has_left, has_right, pages_of-line, Plain, On, row, all_of, touched-below, Desk, Grant, nobody, conflicts_of, Word, Counts, Going, Attempt, Fetched, fetches, touched_pages, refuses, lines_within, granted, locks_with, with_grants, gets, AreThere, over_all, gone_on, row_done, IsCurrent, ArePermitted, KeepsPages, touched_of, IsUnderWay, IsReady, IsOrderly, nat_tests}
+use Rattle.desk_law.proofs.Common.{◌≡◌, refl, ℕ, ◌+◌, ◌<◌, true, List, [], ◌++◌, length, filter, slice_index_or, arith, ap, sym, ◌∙◌, is_fine_page, has, both, with_whole_pages, page_of_line, has_left, has_right, pages_of-line, Plain, On, row, all_of, touched-below, Desk, Grant, nobody, conflicts_of, Word, Counts, Going, Attempt, Fetched, fetches, touched_pages, refuses, lines_within, granted, locks_with, with_grants, gets, AreThere, over_all, gone_on, row_done, IsCurrent, ArePermitted, KeepsPages, touched_of, IsUnderWay, IsReady, IsOrderly, nat_tests, before}
 use Rattle.desk_law.proofs.AttemptsOnCurrent.{shown-current}
 use Rattle.desk_law.proofs.Entries.{replaced}
 use Rattle.desk_law.proofs.GoesOn.{ready-again, grants-held, row-goes-on}
@@ -7,6 +7,7 @@ use Rattle.desk_law.proofs.Granted.{granted-permits}
 use Rattle.desk_law.proofs.InstructionStages.{stage-gets, stage-on}
 use Rattle.desk_law.proofs.SharedBytes.{row-on-current}
 use Rattle.desk_law.proofs.TurnsStay.{resident-granted}
+use Rattle.desk_law.proofs.LeftLemmas.{went}
 
 -- and once a contest is settled
 pub ready-settled : (attempt : Attempt) (old desk : Desk) → IsReady attempt old → IsUnderWay old desk (record attempt.entry { waiting = true }) → IsOrderly desk
@@ -29,34 +30,18 @@ pub served-there :
     → AreThere
     (got attempt (filter (λ page. refuses (slice_index_or before page nobody) attempt.entry.number (lines_within page attempt.lines)) (touched_pages attempt)) resident desk)
     attempt.entry.number attempt.lines
-served-there attempt before desk resident ready keeps there = record {
-  reads = λ line inside. record {
-    resident = there (page_of_line line) (pages_of-line (all_of attempt.lines) line (has_left attempt.lines.reads attempt.lines.writes line inside));
-    permits = permitted_all.reads line inside;
-  };
-  writes = λ line inside. record {
-    resident = there (page_of_line line) (pages_of-line (all_of attempt.lines) line (has_right attempt.lines.reads attempt.lines.writes line inside));
-    permits = permitted_all.writes line inside;
-  };
-}
-  where
-    locks : Lines
-    locks = with_whole_pages (is_fine_page desk.committed.directory) (both (touched_of desk.committed attempt.entry) attempt.lines)
-
-    reads : (line : ℕ) → has attempt.lines.reads line ≡ true → has (with_whole_pages (is_fine_page desk.committed.directory) (both (touched_of desk.committed attempt.entry) attempt.lines)).reads line ≡ true
-    reads line inside =
-        has_left ((touched_of desk.committed attempt.entry).reads ++ attempt.lines.reads) _ line (has_right (touched_of desk.committed attempt.entry).reads attempt.lines.reads line inside)
-
-    writes : (line : ℕ) → has attempt.lines.writes line ≡ true → has ((touched_of desk.committed attempt.entry).writes ++ attempt.lines.writes) line ≡ true
-    writes line inside = has_right (touched_of desk.committed attempt.entry).writes attempt.lines.writes line inside
-
-    permitted_all : ArePermitted
-        (granted (is_fine_page desk.committed.directory) attempt (with_whole_pages (is_fine_page desk.committed.directory) (both (touched_of desk.committed attempt.entry) attempt.lines))
-        (filter (λ page. refuses (slice_index_or before page nobody) attempt.entry.number (lines_within page attempt.lines)) (touched_pages attempt)) desk.authority)
-        attempt.entry.number attempt.lines
-    permitted_all =
-        granted-permits (is_fine_page desk.committed.directory) attempt (with_whole_pages (is_fine_page desk.committed.directory) (both (touched_of desk.committed attempt.entry) attempt.lines)) before desk.authority keeps reads writes
-        (touched-page attempt desk ready)
+served-there attempt before desk resident ready keeps there =
+    let at : (line : ℕ) → has (all_of attempt.lines) line ≡ true → has resident (page_of_line line) ≡ true =
+    λ line inside. there (page_of_line line) (pages_of-line (all_of attempt.lines) line inside) in
+    let permitted_all : ArePermitted (granted (is_fine_page desk.committed.directory) attempt (with_whole_pages (is_fine_page desk.committed.directory) (both (touched_of desk.committed attempt.entry) attempt.lines)) (filter (λ page. refuses (slice_index_or before page nobody) attempt.entry.number (lines_within page attempt.lines)) (touched_pages attempt)) desk.authority) attempt.entry.number attempt.lines =
+    granted-permits (is_fine_page desk.committed.directory) attempt (with_whole_pages (is_fine_page desk.committed.directory) (both (touched_of desk.committed attempt.entry) attempt.lines)) before desk.authority keeps
+    (λ line inside. has_left ((touched_of desk.committed attempt.entry).reads ++ attempt.lines.reads) _ line (has_right (touched_of desk.committed attempt.entry).reads attempt.lines.reads line inside))
+    (λ line inside. has_right (touched_of desk.committed attempt.entry).writes attempt.lines.writes line inside)
+    (touched-page attempt desk ready) in
+    record {
+      reads = λ line inside. record { resident = at line (has_left attempt.lines.reads attempt.lines.writes line inside); permits = permitted_all.reads line inside };
+      writes = λ line inside. record { resident = at line (has_right attempt.lines.reads attempt.lines.writes line inside); permits = permitted_all.writes line inside };
+    }
 
 -- what a served row leaves, with the state that the storage shows after it
 pub record WasServed (attempt : Attempt) (refused resident : List ℕ) (desk : Desk) (counts : Counts) (counted : ℕ) (shown : Plain) : Type 0 where
@@ -73,25 +58,19 @@ pub served-goes :
     → IsReady attempt desk → conflicts_of desk attempt.entry ≡ [] → attempt.outcome ≡ On next → IsCurrent desk.committed desk.active bytes
     → row attempt.entry.runs.program desk.committed.directory (over_all attempt.now bytes) ≡ On shown
     → WasServed attempt refused resident desk counts counted shown
-served-goes attempt refused resident desk counts counted next shown bytes ready none goes current_now went = record {
-  shows = λ other is. let same : other ≡ next = on-same other next (sym is ∙ goes) in left.0 ∙ ap (λ (s : Plain). over_all s shown.store) (sym same);
-  comes = λ word again.
-      stage-gets word attempt desk counts refused (granted (is_fine_page desk.committed.directory) attempt (locks_with attempt desk) refused desk.authority) resident counted refl again
-      ∙ stage-on word attempt (got attempt refused resident desk) (record counts { pages = counted }) attempt.outcome next goes;
-  consistent = later;
-  is_current = left.1;
-}
-  where
-    on-same : (one other : Plain) → On one ≡ On other → one ≡ other
-    on-same one other is = cc
-
-    later : IsOrderly (row_done attempt (got attempt refused resident desk))
-    later =
-        row-goes-on (got attempt refused resident desk) attempt next
-        (resident-granted attempt (with_grants attempt refused desk) resident (grants-held desk attempt refused ready none)) goes
-
-    left : (shown ≡ over_all next shown.store) × IsCurrent desk.committed (replaced (gone_on attempt.entry) desk.active) shown.store
-    left =
-        shown-current desk (record attempt.entry { waiting = ready.mark }) attempt.now next shown bytes
-        (row-on-current desk desk.most_lines (record attempt.entry { waiting = ready.mark }) attempt.now next bytes ready.contending.whole ready.contending.active later.active ready.here ready.now (ready.went ∙ goes) none current_now)
-        went
+served-goes attempt refused resident desk counts counted next shown bytes ready none goes current_now went =
+    let later : IsOrderly (row_done attempt (got attempt refused resident desk)) =
+    row-goes-on (got attempt refused resident desk) attempt next
+    (resident-granted attempt (with_grants attempt refused desk) resident (grants-held desk attempt refused ready none)) goes in
+    let left : (shown ≡ over_all next shown.store) × IsCurrent desk.committed (replaced (gone_on attempt.entry) desk.active) shown.store =
+    shown-current desk (record attempt.entry { waiting = ready.mark }) attempt.now next shown bytes
+    (row-on-current desk desk.most_lines (record attempt.entry { waiting = ready.mark }) attempt.now next bytes ready.contending.whole ready.contending.active later.active ready.here ready.now (ready.went ∙ goes) none current_now)
+    went in
+    record {
+      shows = λ other is. let same : other ≡ next = cc in left.0 ∙ ap (λ (s : Plain). over_all s shown.store) (sym same);
+      comes = λ word again.
+          stage-gets word attempt desk counts refused (granted (is_fine_page desk.committed.directory) attempt (locks_with attempt desk) refused desk.authority) resident counted refl again
+          ∙ stage-on word attempt (got attempt refused resident desk) (record counts { pages = counted }) attempt.outcome next goes;
+      consistent = later;
+      is_current = left.1;
+    }

@@ -1,5 +1,5 @@
 -- The loop that serves a conflict: what it keeps, how it begins, one turn of it, and its ends.
-use Rattle.desk_law.proofs.Common.{◌≡◌, refl, ℕ, ◌==◌, true, false, List, [], ◌∷◌, filter, map, find, Option, Some, None, ap, sym, ◌∙◌, Lines, shown_cycle, victim_of, Plain, Desk, Entry, with_entry, rolled_back, numbers, waits_for, conflicts_of, Word, Counts, Turning, Over, Victim, Waits, Attempt, contest_ends, waits_or_gets, gets, asks, IsLaid, AreAlike, requested, IsTableBut, kept_conflict, kept_waits, IsTold, Reads, IsAmong, due_to, contest, IsUnderWay, IsReady, marked, IsOrderly}
+use Rattle.desk_law.proofs.Common.{◌≡◌, refl, ℕ, ◌==◌, true, false, List, [], ◌∷◌, filter, map, find, Option, Some, None, sym, ◌∙◌, Lines, shown_cycle, victim_of, Plain, Desk, Entry, with_entry, rolled_back, numbers, waits_for, conflicts_of, Word, Counts, Turning, Over, Victim, Waits, Attempt, contest_ends, waits_or_gets, gets, asks, IsLaid, AreAlike, requested, IsTableBut, kept_conflict, kept_waits, IsTold, Reads, IsAmong, due_to, contest, IsUnderWay, IsReady, marked, IsOrderly}
 use Rattle.desk_law.proofs.Contest.{contending}
 use Rattle.desk_law.proofs.ContestRounds.{with_cycle, entry_with, under-way, round-under_way, round-settles, round-breaks, round-loses, asks-contest, settled-consistent, lost-consistent, victim-there}
 use Rattle.desk_law.proofs.Entries.{among-found}
@@ -56,9 +56,7 @@ module _ (begins : Word → Turning) (attempt : Attempt) (refused : List ℕ) (f
     pub contesting-turn : (victim_of cycle == attempt.entry.number) ≡ false
         → IsContesting begins attempt refused first (rolled_back desk victim) (with_cycle counts cycle) locks requests states new
     contesting-turn other = record {
-      comes = λ word reads.
-          is.comes word reads
-          ∙ ap (contest_ends word attempt refused) (round-breaks desk counts (marked attempt) is.under_way.here cycle victim (shown-here (Some cycle) shown) found other);
+      comes = λ word reads. cc (is.comes word reads, round-breaks desk counts (marked attempt) is.under_way.here cycle victim (shown-here (Some cycle) shown) found other);
       ready = is.ready;
       under_way = round-under_way first desk (marked attempt) victim cycle is.under_way found other;
       told = told-left;
@@ -70,9 +68,7 @@ module _ (begins : Word → Turning) (attempt : Attempt) (refused : List ℕ) (f
         × IsOrderly (rolled_back desk victim)
         × IsTold desk.committed (rolled_back desk victim).active locks requests states new
     contesting-loses it = (
-      λ word reads.
-          is.comes word reads
-          ∙ ap (contest_ends word attempt refused) (round-loses desk counts (marked attempt) is.under_way.here cycle victim (shown-here (Some cycle) shown) found it),
+      λ word reads. cc (is.comes word reads, round-loses desk counts (marked attempt) is.under_way.here cycle victim (shown-here (Some cycle) shown) found it),
       lost-consistent first desk (marked attempt) victim cycle is.under_way found it,
       told-left,
     )
@@ -90,9 +86,7 @@ module _ (begins : Word → Turning) (attempt : Attempt) (refused : List ℕ) (f
 
     settles : (word : Word) → Reads word counts.pages → (holders : List ℕ) → conflicts_of desk attempt.entry ≡ holders → begins word ≡ waits_or_gets word attempt refused holders desk counts
     settles word reads holders conflict =
-        is.comes word reads
-        ∙ ap (contest_ends word attempt refused) (round-settles desk counts (marked attempt) is.under_way.here (shown-here None shown))
-        ∙ stage-settled word attempt desk counts refused holders conflict
+        cc (is.comes word reads, round-settles desk counts (marked attempt) is.under_way.here (shown-here None shown), stage-settled word attempt desk counts refused holders conflict)
 
     -- The end where others still hold what it asks for: it waits, marked.
     pub contesting-waits : (holder : ℕ) (holders : List ℕ)

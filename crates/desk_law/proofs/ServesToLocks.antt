@@ -66,18 +66,15 @@ module _ (desk : Desk) (counts : Counts) (entry : Entry) (now shown : Plain) (by
         (record desk { resident = resident })
         (record counts { pages = counted; locks = counts.locks + length (refused_pages (served_attempt desk entry now bytes) desk) })
     serve-asks locks requests resident counted kept fetched word reads =
+        let serve-holders : (locks requests : ℕ → Lines) → AreKept desk.committed desk.active locks requests → map (λ (other : Entry). other.number) (filter (kept_conflict (with_whole_pages (is_fine_page desk.committed.directory) (touched entry.runs.program desk.committed.directory (over_all now bytes))) locks entry.number) desk.active) ≡ conflicts_of desk entry =
+        λ locks requests kept. conflicts-kept desk locks requests kept (with_whole_pages (is_fine_page desk.committed.directory) (touched entry.runs.program desk.committed.directory (over_all now bytes))) entry
+        (subst (λ (l : Lines). AreAlike (with_whole_pages (is_fine_page desk.committed.directory) l) (requested desk.committed entry)) (wanted-is desk entry now shown bytes at went)
+        (record { reads = λ line. refl; writes = λ line. refl })) in
         to-limit word false within
         ∙ stage-fetched word (served_attempt desk entry now bytes) desk counts resident counted
         (map (λ (other : Entry). other.number) (filter (kept_conflict (asked_for desk.committed.directory (served_attempt desk entry now bytes)) locks entry.number) desk.active))
         (fetched-for word desk.frames (touched_pages (served_attempt desk entry now bytes)) (touched_pages (served_attempt desk entry now bytes)) desk.resident resident counts.pages counted fetched reads)
         (sym (serve-holders locks requests kept))
-      where
-        serve-holders : (locks requests : ℕ → Lines) → AreKept desk.committed desk.active locks requests
-            → map (λ (other : Entry). other.number) (filter (kept_conflict (with_whole_pages (is_fine_page desk.committed.directory) (touched entry.runs.program desk.committed.directory (over_all now bytes))) locks entry.number) desk.active) ≡ conflicts_of desk entry
-        serve-holders locks requests kept =
-            conflicts-kept desk locks requests kept (with_whole_pages (is_fine_page desk.committed.directory) (touched entry.runs.program desk.committed.directory (over_all now bytes))) entry
-            (subst (λ (l : Lines). AreAlike (with_whole_pages (is_fine_page desk.committed.directory) l) (requested desk.committed entry)) (wanted-is desk entry now shown bytes at went)
-            (record { reads = λ line. refl; writes = λ line. refl }))
 
     -- and what follows may begin there
     pub serve-ready : (resident : List ℕ) → IsReady (served_attempt desk entry now bytes) (record desk { resident = resident })

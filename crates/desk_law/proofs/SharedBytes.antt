@@ -1,8 +1,8 @@
 -- One store of bytes for all entries: it holds every line as it is now, and each row may run over it.
-use Rattle.desk_law.proofs.Common.{◌≡◌, ℕ, ◌+◌, ◌==◌, not, true, false, List, [], ◌++◌, length, Option, Some, option_map_or, ap, sym, ◌∙◌, subst, inl, inr, eqb-true, both_ways, or_cases, or_parts, and_cases, cases_Bool, not_from_false, false_from_ne_true, byte_count, FlatStore, IsWhole, has, meets, Lines, conflicts, has-append, has_left, has_right, meets-at, Plain, Plan, Outcome, On, plan_at, row, touched, touched_by, after, line_in, all_of, after-whole, after-kept, on, Keeps, Steps, lines_of_plan, row-steps, Desk, Entry, wanted, requested, due_to, conflicts_with, conflicts_of, gone_on, IsAmong, AreConsistent, current_of, current, IsCurrent, touched_of, arith, nat_tests}
+use Rattle.desk_law.proofs.Common.{◌≡◌, ℕ, ◌+◌, ◌==◌, true, false, List, [], ◌++◌, length, Option, Some, option_map_or, ap, sym, ◌∙◌, subst, inl, inr, or_parts, cases_Bool, byte_count, FlatStore, IsWhole, has, meets, Lines, conflicts, has-append, has_left, has_right, meets-at, Plain, Outcome, On, plan_at, row, touched, after, line_in, all_of, after-whole, after-kept, on, Keeps, Steps, lines_of_plan, row-steps, Desk, Entry, wanted, requested, due_to, conflicts_of, gone_on, IsAmong, AreConsistent, current_of, current, IsCurrent, touched_of, arith, nat_tests, Layout, Program}
 use Rattle.desk_law.proofs.Entries.{replaced, one-entry}
 use Rattle.desk_law.proofs.Others.{after-row}
-use Rattle.desk_law.proofs.GoesOn.{nobody-conflicts}
+use Rattle.desk_law.proofs.GoesOn.{nobody-meets}
 use Rattle.desk_law.proofs.CurrentLines.{current-written, current-unwritten, row-writes, row-leaves}
 
 -- a line that no other wrote is seen as it is now
@@ -15,12 +15,7 @@ current-seen store most_lines next entries entry state line whole are here is fr
     elim (cases_Bool (has (touched_of store entry).writes line)) [
       | inl wrote ↦ current-written store most_lines next entries are entry state line here is wrote
       | inr didn't ↦
-          current-unwritten store most_lines next entries are line
-          (λ other there. elim (cases_Bool (other.number == entry.number)) [
-            | inl same ↦
-                ap (λ (x : Entry). has (touched_of store x).writes line) (one-entry 0 next entries other entry are.ascend there here (eqb-true other.number entry.number same)) ∙ didn't
-            | inr differ ↦ free other there differ
-          ])
+          current-unwritten store most_lines next entries are line (λ other there. grind (arith, nat_tests, one-entry 0 next entries other entry are.ascend there here, free other there))
           ∙ after-kept entry.runs.program entry.runs.args store entry.rows state whole is line didn't
     ]
 
@@ -32,27 +27,20 @@ pub current-wanted :
     → conflicts_of desk entry ≡ [] → has (all_of (wanted desk entry)) line ≡ true
     → current desk line ≡ line_in desk.committed.directory state.store line
 current-wanted desk most entry state line whole are here is none wants =
-    current-seen desk.committed most desk.next desk.active entry state line whole are here is (λ other there differ. free other there differ)
-  where
-    free : (other : Entry) → IsAmong desk.active other → (other.number == entry.number) ≡ false → has (touched_of desk.committed other).writes line ≡ false
-    free other there differ =
-        elim (and_cases (not (other.number == entry.number)) (conflicts (requested desk.committed entry) (due_to desk.committed other))
-        (nobody-conflicts (conflicts_with desk entry) desk.active none other there)) [
-          | inl same ↦ absurd (both_ways (not (other.number == entry.number)) same (not_from_false (other.number == entry.number) differ))
-          | inr fine ↦
-              let parts = or_parts (meets (requested desk.committed entry).writes ((due_to desk.committed other).reads ++ (due_to desk.committed other).writes)) (meets (requested desk.committed entry).reads (due_to desk.committed other).writes) fine in
-              false_from_ne_true (has (touched_of desk.committed other).writes line)
-              (λ wrote.
-              elim (or_cases (has (wanted desk entry).reads line) (has (wanted desk entry).writes line) (sym (has-append (wanted desk entry).reads (wanted desk entry).writes line) ∙ wants)) [
-                | inl reads ↦
-                    both_ways (meets (requested desk.committed entry).reads (due_to desk.committed other).writes) parts.1
-                    (meets-at (requested desk.committed entry).reads (due_to desk.committed other).writes line
-                    (has_left (wanted desk entry).reads _ line reads) wrote)
-                | inr writes ↦
-                    both_ways (meets (requested desk.committed entry).writes ((due_to desk.committed other).reads ++ (due_to desk.committed other).writes)) parts.0
-                    (meets-at (requested desk.committed entry).writes ((due_to desk.committed other).reads ++ (due_to desk.committed other).writes) line writes (has_right (due_to desk.committed other).reads (due_to desk.committed other).writes line wrote))
-              ])
-        ]
+    let free : (other : Entry) → IsAmong desk.active other → conflicts (requested desk.committed entry) (due_to desk.committed other) ≡ false → has (touched_of desk.committed other).writes line ≡ false =
+    λ other there fine. let asked = requested desk.committed entry in
+    let held = due_to desk.committed other in
+    let parts = or_parts (meets asked.writes (held.reads ++ held.writes)) (meets asked.reads held.writes) fine in
+    let wanted_it = sym (has-append (wanted desk entry).reads (wanted desk entry).writes line) ∙ wants in
+    let read = meets-at asked.reads held.writes line in
+    let write = meets-at asked.writes (held.reads ++ held.writes) line in
+    let locked : has (wanted desk entry).reads line ≡ true → has asked.reads line ≡ true = λ there. has_left (wanted desk entry).reads _ line there in
+    grind (arith, nat_tests, parts, wanted_it, read, write, locked, has_right held.reads held.writes line) in
+    current-seen desk.committed most desk.next desk.active entry state line whole are here is (λ other there differ. free other there (nobody-meets desk entry none other there differ))
+
+-- what a row that goes on touches are the lines of its plan
+pub lines-of : (p : Program) (d : Layout) (s next : Plain) → row p d s ≡ On next → touched p d s ≡ lines_of_plan p d (plan_at s)
+lines-of p d s next went = grind (arith, nat_tests)
 
 -- the row of an entry over the bytes of all
 pub record RunsOn (store : FlatStore) (entries : List Entry) (entry : Entry) (now next : Plain) (bytes : List ℕ) : Type 0 where
@@ -70,6 +58,17 @@ pub row-on-current :
     → conflicts_of desk entry ≡ [] → IsCurrent desk.committed desk.active bytes
     → RunsOn desk.committed desk.active entry now next bytes
 row-on-current desk most entry now next bytes whole are later here is went none current_now =
+    let after_next : after entry.runs.program entry.runs.args desk.committed (entry.rows + 1) ≡ Some next = after-row desk.committed entry now next is went in
+    let lines : wanted desk entry ≡ lines_of_plan entry.runs.program desk.committed.directory (plan_at now) =
+    ap (λ (state : Option Plain). option_map_or (touched entry.runs.program desk.committed.directory) state (record { reads = []; writes = [] })) is
+    ∙ lines-of entry.runs.program desk.committed.directory now next went in
+    let own : length now.store ≡ byte_count desk.committed.directory = after-whole entry.runs.program entry.runs.args desk.committed entry.rows now whole is in
+    let sees : (line : ℕ) → has (all_of (wanted desk entry)) line ≡ true → line_in desk.committed.directory now.store line ≡ line_in desk.committed.directory bytes line =
+    λ line wants. sym (current_now.lines line ∙ current-wanted desk most entry now line whole are here is none wants) in
+    let stepped : (other : List ℕ) × (row entry.runs.program desk.committed.directory (on now bytes) ≡ On (on next other)) × Keeps desk.committed.directory (lines_of_plan entry.runs.program desk.committed.directory (plan_at now)).writes now.store bytes next.store other =
+    subst (λ (outcome : Outcome). Steps desk.committed.directory (lines_of_plan entry.runs.program desk.committed.directory (plan_at now)) now bytes outcome (row entry.runs.program desk.committed.directory (on now bytes))) went
+    (row-steps entry.runs.program desk.committed.directory now bytes own (current_now.long ∙ sym own)
+    (λ line inside. sees line (has_left (wanted desk entry).reads (wanted desk entry).writes line (ap (λ (l : Lines). has l.reads line) lines ∙ inside)))) in
     let (other, second, keeps) = stepped in
     record {
       other = other;
@@ -78,8 +77,7 @@ row-on-current desk most entry now next bytes whole are later here is went none 
         long = keeps.long_on_other ∙ current_now.long;
         lines = λ line. elim (cases_Bool (has (wanted desk entry).writes line)) [
           | inl wrote ↦
-              sym (keeps.equal_stay line (sees line (has_right (wanted desk entry).reads (wanted desk entry).writes line wrote)))
-              ∙ sym (row-writes desk.committed most desk.next desk.active entry next line later here after_next wrote)
+              cc (keeps.equal_stay line (sees line (has_right (wanted desk entry).reads (wanted desk entry).writes line wrote)), row-writes desk.committed most desk.next desk.active entry next line later here after_next wrote)
           | inr didn't ↦
               sym (keeps.kept_on_other line (sym (ap (λ (l : Lines). has l.writes line) lines) ∙ didn't))
               ∙ current_now.lines line
@@ -87,27 +85,3 @@ row-on-current desk most entry now next bytes whole are later here is went none 
         ];
       };
     }
-  where
-    after_next : after entry.runs.program entry.runs.args desk.committed (entry.rows + 1) ≡ Some next
-    after_next = after-row desk.committed entry now next is went
-
-    by_plan : (plan : Plan) → touched_by entry.runs.program desk.committed.directory (On next) plan ≡ lines_of_plan entry.runs.program desk.committed.directory plan
-    by_plan plan = grind (arith, nat_tests)
-
-    lines : wanted desk entry ≡ lines_of_plan entry.runs.program desk.committed.directory (plan_at now)
-    lines =
-        ap (λ (state : Option Plain). option_map_or (touched entry.runs.program desk.committed.directory) state (record { reads = []; writes = [] })) is
-        ∙ ap (λ (outcome : Outcome). touched_by entry.runs.program desk.committed.directory outcome (plan_at now)) went
-        ∙ by_plan (plan_at now)
-
-    own : length now.store ≡ byte_count desk.committed.directory
-    own = after-whole entry.runs.program entry.runs.args desk.committed entry.rows now whole is
-
-    sees : (line : ℕ) → has (all_of (wanted desk entry)) line ≡ true → line_in desk.committed.directory now.store line ≡ line_in desk.committed.directory bytes line
-    sees line wants = sym (current_now.lines line ∙ current-wanted desk most entry now line whole are here is none wants)
-
-    stepped : (other : List ℕ) × (row entry.runs.program desk.committed.directory (on now bytes) ≡ On (on next other)) × Keeps desk.committed.directory (lines_of_plan entry.runs.program desk.committed.directory (plan_at now)).writes now.store bytes next.store other
-    stepped =
-        subst (λ (outcome : Outcome). Steps desk.committed.directory (lines_of_plan entry.runs.program desk.committed.directory (plan_at now)) now bytes outcome (row entry.runs.program desk.committed.directory (on now bytes))) went
-        (row-steps entry.runs.program desk.committed.directory now bytes own (current_now.long ∙ sym own)
-        (λ line inside. sees line (has_left (wanted desk entry).reads (wanted desk entry).writes line (ap (λ (l : Lines). has l.reads line) lines ∙ inside))))

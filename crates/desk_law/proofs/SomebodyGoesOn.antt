@@ -1,7 +1,8 @@
 -- Where nobody waits for himself, somebody waits for nobody.
-use Rattle.desk_law.proofs.Common.{◌≡◌, refl, ℕ, zero, suc, ◌<◌, ◌≤◌, ◌&&◌, not, Bool, true, false, List, length, filter, list_any, arith, ap, sym, ◌∙◌, subst, inl, inr, eqb-true, both_ways, and_from, cases_Bool, false_from_ne_true, not_from_false, has, leads, any-at, any-some, numbers, waits_for, HasNoCycle, SomebodyCanGoOn, nat_tests}
+use Rattle.desk_law.proofs.Common.{◌≡◌, refl, ℕ, zero, suc, ◌<◌, ◌&&◌, not, Bool, true, false, List, length, filter, list_any, arith, inl, inr, and_from, cases_Bool, not_from_false, has, leads, any-at, any-some, numbers, waits_for, HasNoCycle, SomebodyCanGoOn, nat_tests, nobody, step}
 use Rattle.desk_law.proofs.Walks.{one-step, walk-short, count-lt}
-use Rattle.desk_law.proofs.Waiting.{waits-by, number-of, has-number}
+use Rattle.desk_law.proofs.Waiting.{number-of, has-number}
+use Rattle.desk_law.proofs.Endings.{waited-active}
 
 -- the numbers to which waits lead from one
 abbrev pub reached : (ℕ → ℕ → Bool) → List ℕ → ℕ → ℕ → Bool
@@ -24,14 +25,9 @@ leads-to-fewer waits all none from next inside there step =
 abbrev WaitsForNone : (ℕ → ℕ → Bool) → List ℕ → Type 0
 WaitsForNone waits all = (free : ℕ) × (has all free ≡ true) × (list_any (waits free) all ≡ false)
 
-waits-for-none : (waits : ℕ → ℕ → Bool) (all : List ℕ) → HasNoCycle waits all → (most from : ℕ) → has all from ≡ true → length (filter (reached waits all from) all) ≤ most
+waits-for-none : (waits : ℕ → ℕ → Bool) (all : List ℕ) → HasNoCycle waits all → (most from : ℕ) → has all from ≡ true → length (filter (reached waits all from) all) < most
     → WaitsForNone waits all
-waits-for-none waits all none zero from inside few = elim (cases_Bool (list_any (waits from) all)) [
-  | inl some ↦
-      let (next, there, step) = any-some (waits from) all some in
-      absurd (omega (arith, few, leads-to-fewer waits all none from next inside there step))
-  | inr nobody ↦ (from, inside, nobody)
-]
+waits-for-none waits all none zero from inside few = absurd (omega (arith, few))
 waits-for-none waits all none (suc most) from inside few = elim (cases_Bool (list_any (waits from) all)) [
   | inl some ↦
       let (next, there, step) = any-some (waits from) all some in
@@ -42,17 +38,7 @@ waits-for-none waits all none (suc most) from inside few = elim (cases_Bool (lis
 pub somebody-can-go-on : SomebodyCanGoOn
 somebody-can-go-on desk entry is here =
     let (free, inside, none) =
-    waits-for-none (waits_for desk) (numbers desk) is.no_cycle (length (filter (reached (waits_for desk) (numbers desk) entry.number) (numbers desk))) entry.number
+    waits-for-none (waits_for desk) (numbers desk) is.no_cycle (suc (length (filter (reached (waits_for desk) (numbers desk) entry.number) (numbers desk)))) entry.number
     (has-number desk.active entry here) (omega arith) in
-    let (other, there, own) = number-of desk.active free inside in (
-      other,
-      there,
-      λ number.
-          false_from_ne_true (waits_for desk other.number number)
-          (λ waits.
-          let by = waits-by desk other.number number waits in
-          both_ways (list_any (waits_for desk free) (numbers desk)) none
-          (any-at (waits_for desk free) (numbers desk) number
-          (subst (λ (n : ℕ). has (numbers desk) n ≡ true) (eqb-true by.other.number number by.is_to) (has-number desk.active by.other by.other_among))
-          (ap (λ (n : ℕ). waits_for desk n number) (sym own) ∙ waits))),
-    )
+    let (other, there, own) = number-of desk.active free inside in
+    (other, there, λ number. grind (arith, nat_tests, waited-active desk other.number number, any-at (waits_for desk free) (numbers desk) number, own, none))

@@ -1,5 +1,5 @@
 -- What a step of an open desk does to its order, and the lines that it has.
-use Rattle.desk_law.proofs.Common.{◌≡◌, ℕ, ◌+◌, ◌≤◌, List, [], ◌∷◌, ◌++◌, length, map, refl, sym, ap, ◌∙◌, subst, arith, append-nil, append_assoc, length-append, inl, inr, ⊎_elim, ◌⊎◌, flat_map, Program, Activation, Event, Desk, numbers, Word, Fine, Doubt, Failed, Counts, Ending, Idle, Limit, Victim, Committed, CommitUnwritten, CommitDoubted, Turning, Going, Over, turn, Happening, Nothing, Busy, Turned, Crashed, CrashFailed, Step, event_of, step, turned, run, begins, begin_if, absent_segment, OpenBeforeEach, Line, number_after, happening_lines, turn_lines, ending_lines, cycle_lines, event_lines, IsUnbroken, EndsInDoubt, nat_tests, Bool, true, false, not, if◌then◌else◌, Some, None, Option, IsTrue, slice_get, slice_index_or, nat_lt}
+use Rattle.desk_law.proofs.Common.{◌≡◌, ℕ, ◌≤◌, List, [], ◌∷◌, ◌++◌, length, map, refl, sym, ap, ◌∙◌, subst, arith, append-nil, append_assoc, length-append, inl, inr, ⊎_elim, ◌⊎◌, flat_map, Program, Event, Desk, Word, Fine, Doubt, Counts, Ending, Idle, Committed, CommitUnwritten, CommitDoubted, Turning, turn, Turned, Step, event_of, step, turned, run, begin_if, OpenBeforeEach, Line, number_after, happening_lines, turn_lines, ending_lines, cycle_lines, event_lines, IsUnbroken, EndsInDoubt, nat_tests, true, false, not, Option, IsTrue, slice_get, slice_index_or}
 use Rattle.desk.specs.declared.event.Event.TheVariants as event
 use Rattle.desk.specs.Lines as line
 use Rattle.desk_law.proofs.SeenLemmas.{ArePlain, plain_on, commits_in, commits_on}
@@ -61,22 +61,10 @@ module _ (word : Word) (order : List (ℕ × ℕ)) (names : List (List ℕ)) whe
   ended_by activation desk counts ending ended = stayed (record { desk = desk; happening = Turned activation counts ending }) ended (λ number. counted_quiet activation counts (ending_lines number activation ending))
 
   turned_by : (activation : ℕ) (turning : Turning) → Ends word order turning → Stepped word order names (turned activation turning)
-  turned_by activation (Going desk counts) ends = absurd ends
-  turned_by activation (Over desk counts ending) ends = ended_by activation desk counts ending ends
-
-  -- a begin
-  begun_by : (segment : Option ℕ) (program : ℕ) (runs : Activation) (desk : Desk) → StaysOpen order desk → Stepped word order names (begins segment program runs desk)
-  begun_by (Some segment) program runs desk is = stayed (begins (Some segment) program runs desk) is (λ number. refl)
-  begun_by None program runs desk is = stayed (begins None program runs desk) is (λ number. refl)
-
-  room_by : (room : Bool) (program : ℕ) (runs : Activation) (desk : Desk) → StaysOpen order desk
-      → Stepped word order names (if room then begins (absent_segment desk.committed.directory runs.program.windows) program runs desk else record { desk = record desk { next = desk.next + 1 }; happening = Busy desk.next program })
-  room_by true program runs desk is = begun_by (absent_segment desk.committed.directory runs.program.windows) program runs desk is
-  room_by false program runs desk is = stayed (record { desk = record desk { next = desk.next + 1 }; happening = Busy desk.next program }) is (λ number. refl)
+  turned_by activation turning ends = grind (arith, nat_tests, ended_by)
 
   code_by : (program : ℕ) (args : List ℕ) (code : Option Program) (desk : Desk) → StaysOpen order desk → Stepped word order names (begin_if program args code desk)
-  code_by program args None desk is = stayed (record { desk = desk; happening = Nothing }) is (λ number. refl)
-  code_by program args (Some code) desk is = room_by (nat_lt (length desk.active) desk.most_active) program (record { program = code; args = args }) desk is
+  code_by program args code desk is = stayed (begin_if program args code desk) (grind (arith, nat_tests)) (λ number. grind (arith, nat_tests))
 
 -- the lines of lost activations have no commit
 lost_quiet : (lost : List ℕ) → commits_in (map line.Lost lost) ≡ 0
@@ -86,19 +74,11 @@ lost_quiet (activation ∷ lost) = let split = commits_on (line.Lost activation 
 pub lost_behind : (lost : List ℕ) (last : Line) → commits_in (last ∷ []) ≡ 0 → commits_in (map line.Lost lost ++ last ∷ []) ≡ 0
 lost_behind lost last none = let split = commits_on (map line.Lost lost) (last ∷ []) in let rest = lost_quiet lost in omega (arith, split, rest, none)
 
-checkpoint_by : (programs : List Program) (word : Word) (names : List (List ℕ)) (desk : Desk) → desk.closed ≡ false → Stepped word desk.order names (event_of programs event.Checkpoint word desk)
-checkpoint_by programs Failed names desk is = shut_by Failed desk.order names (event_of programs event.Checkpoint Failed desk) refl (λ fine. cc) (λ number. refl)
-checkpoint_by programs word names desk is = stayed word desk.order names (event_of programs event.Checkpoint word desk) (is, refl) (λ number. refl)
-
-crash_by : (programs : List Program) (word : Word) (names : List (List ℕ)) (desk : Desk) → desk.closed ≡ false → Stepped word desk.order names (event_of programs event.Crash word desk)
-crash_by programs Failed names desk is = shut_by Failed desk.order names (event_of programs event.Crash Failed desk) refl (λ fine. cc) (λ number. lost_behind (numbers desk) line.Closed refl)
-crash_by programs word names desk is = stayed word desk.order names (event_of programs event.Crash word desk) (is, refl) (λ number. lost_behind (numbers desk) (line.Open number) refl)
-
 event_by : (programs : List Program) (one : Event) (word : Word) (names : List (List ℕ)) (desk : Desk) → desk.closed ≡ false → Stepped word desk.order names (event_of programs one word desk)
 event_by programs (event.Begin program args) word names desk is = code_by word desk.order names program args (slice_get programs program) desk (is, refl)
 event_by programs (event.Turn activation limit) word names desk is = turned_by word desk.order names activation (turn word activation limit desk) (turn_ends desk.order word activation limit desk (is, refl))
-event_by programs event.Checkpoint word names desk is = checkpoint_by programs word names desk is
-event_by programs event.Crash word names desk is = crash_by programs word names desk is
+event_by programs event.Checkpoint word names desk is = grind (arith, nat_tests, shut_by, stayed)
+event_by programs event.Crash word names desk is = grind (arith, nat_tests, shut_by, lost_behind, stayed)
 
 pub step_by : (programs : List Program) (one : Event) (word : Word) (names : List (List ℕ)) (desk : Desk) → desk.closed ≡ false → Stepped word desk.order names (step programs one word desk)
 step_by programs one word names desk is =
@@ -112,16 +92,9 @@ cycles_plain : (cycles : List (List ℕ)) → ArePlain (flat_map cycle_lines cyc
 cycles_plain [] = tt
 cycles_plain (cycle ∷ cycles) = (tt, (tt, cycles_plain cycles))
 
-endings_plain : (number activation : ℕ) (ending : Ending) → ArePlain (ending_lines number activation ending)
-endings_plain number activation Idle = tt
-endings_plain number activation Limit = tt
-endings_plain number activation Victim = tt
-endings_plain number activation CommitDoubted = (tt, (tt, tt))
-endings_plain number activation _ = (tt, tt)
-
 counted_plain : (number activation : ℕ) (counts : Counts) (ending : Ending) → ArePlain (line.Turn activation counts.ran counts.pages counts.locks ∷ (flat_map cycle_lines counts.cycles ++ ending_lines number activation ending))
 counted_plain number activation counts ending =
-    (tt, plain_on (flat_map cycle_lines counts.cycles) (ending_lines number activation ending) (cycles_plain counts.cycles) (endings_plain number activation ending))
+    (tt, plain_on (flat_map cycle_lines counts.cycles) (ending_lines number activation ending) (cycles_plain counts.cycles) (grind (arith, nat_tests)))
 
 turn_plain : (number activation : ℕ) (counts : Counts) (ending : Ending) → ArePlain (turn_lines number activation counts ending)
 turn_plain number activation counts Idle = (tt, tt)
@@ -131,19 +104,13 @@ lost_plain : (lost : List ℕ) → ArePlain (map line.Lost lost)
 lost_plain [] = tt
 lost_plain (activation ∷ lost) = (tt, lost_plain lost)
 
-pub happening_plain : (names : List (List ℕ)) → AreNames names → (number : ℕ) (happening : Happening) → ArePlain (happening_lines names number happening)
-happening_plain names are number (Turned activation counts ending) = turn_plain number activation counts ending
-happening_plain names are number (Crashed lost) = plain_on (map line.Lost lost) (line.Open number ∷ []) (lost_plain lost) (tt, tt)
-happening_plain names are number (CrashFailed lost) = plain_on (map line.Lost lost) (line.Closed ∷ []) (lost_plain lost) (tt, tt)
-happening_plain names are number _ = grind (arith, are)
-
 module _ (programs : List Program) (names : List (List ℕ)) (number : ℕ) where
   -- the lines of a run have no line feed in a name
   pub run_plain : AreNames names → (taken : List (Event × Word)) (desk : Desk) → ArePlain (event_lines names programs number taken desk)
   run_plain are [] desk = tt
   run_plain are (one ∷ taken) desk =
       let after = step programs one.0 one.1 desk in
-      plain_on (happening_lines names (number_after number after.desk) after.happening) (event_lines names programs number taken after.desk) (happening_plain names are (number_after number after.desk) after.happening) (run_plain are taken after.desk)
+      plain_on (happening_lines names (number_after number after.desk) after.happening) (event_lines names programs number taken after.desk) (grind (arith, nat_tests, turn_plain, plain_on, lost_plain)) (run_plain are taken after.desk)
 
   open_is : (desk : Desk) → IsTrue (not desk.closed) → desk.closed ≡ false
   open_is desk is = grind (arith, nat_tests)

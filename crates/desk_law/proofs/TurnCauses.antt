@@ -1,9 +1,10 @@
 -- Each end of a turn has its cause.
-use Rattle.desk_law.proofs.Common.{◌≡◌, refl, ℕ, zero, suc, ◌+◌, ◌<◌, ◌==◌, Bool, true, false, List, [], ◌∷◌, ◌++◌, length, find, Option, Some, None, arith, ap, sym, ◌∙◌, subst, eqb-true, ltb-true, brought, shown_cycle, victim_of, Plain, Outcome, On, Commit, Check, row, after, Desk, Entry, with_entry, conflicts_of, numbers, waits_for, Word, ReadFailed, Unwritten, Doubt, Counts, Turning, Going, Over, Idle, Limit, Checked, Journal, Disk, Victim, Waits, Committed, CommitUnwritten, CommitDoubted, Attempt, Fetching, Fetched, Broken, Contest, Contested, Settled, Lost, attempts, attempts_at, instruction, turns, turn_of, no_counts, can't_be_read, fetches, limited, is_over_limit, lines_written, fetched_first, asks, gets, goes_on, takes_effect, commits, contest_ends, waits_or_gets, breaks_cycle, breaks_cycles, RowIs, lines_by, EndsForCause, IsOverFor, TurnsEndForCause, turn_desk, gone_on, IsAmong, IsConsistent, nat_tests, next_attempt}
+use Rattle.desk_law.proofs.Common.{◌≡◌, refl, ℕ, zero, suc, ◌+◌, ◌<◌, ◌==◌, Bool, true, false, List, [], ◌∷◌, ◌++◌, length, find, Option, Some, None, arith, ap, sym, ◌∙◌, subst, eqb-true, ltb-true, brought, victim_of, Plain, Outcome, On, Commit, Check, row, after, Desk, Entry, with_entry, conflicts_of, Word, ReadFailed, Unwritten, Doubt, Counts, Turning, Going, Over, Idle, Limit, Checked, Journal, Disk, Victim, Waits, Committed, CommitUnwritten, CommitDoubted, Attempt, Fetching, Fetched, Broken, Contest, Contested, Settled, Lost, attempts, attempts_at, instruction, turns, turn_of, no_counts, can't_be_read, fetches, lines_written, asks, gets, takes_effect, contest_ends, waits_or_gets, breaks_cycles, RowIs, EndsForCause, IsOverFor, TurnsEndForCause, turn_desk, gone_on, IsAmong, IsConsistent, nat_tests, next_attempt, contest}
 use Rattle.desk_law.proofs.Entries.{found-among, new-among}
-use Rattle.desk_law.proofs.Contest.{breaks-keep, left_over}
+use Rattle.desk_law.proofs.Contest.{VictimsKeep, victims-keep}
 use Rattle.desk_law.proofs.ContestRounds.{asker-left}
 use Rattle.desk_law.proofs.ConsistentLaw.{instruction-consistent}
+use Rattle.desk_law.proofs.LeftLemmas.{went}
 
 -- a page that can't be read is the last one counted
 abbrev FetchCause : Word → Fetching → Type 0
@@ -59,30 +60,15 @@ ContestComes old base entry (Settled desk counts) = Marked old base entry desk c
 ContestComes old base entry (Lost desk counts) = LastVictim entry.number counts
 
 contest-comes : (old : Desk) (base : Counts) (entry : Entry) (left : ℕ) (contest : Contest) → ContestComes old base entry contest → ContestComes old base entry (breaks_cycles left entry.number contest)
-contest-comes old base entry left contest is = breaks-keep (ContestComes old base entry) entry.number round left contest is
+contest-comes old base entry left contest is = victims-keep (ContestComes old base entry) entry.number (λ desk counts is. is) by_victim left contest is
   where
-    round : (desk : Desk) (counts : Counts) → ContestComes old base entry (Contested desk counts) → ContestComes old base entry (breaks_cycle entry.number (shown_cycle (waits_for desk) (numbers desk) entry.number) desk counts)
-    round desk counts is = by_cycle (shown_cycle (waits_for desk) (numbers desk) entry.number)
-      where
-        by_victim : (cycle : List ℕ) (victim : Option Entry) → find (λ (one : Entry). one.number == victim_of cycle) desk.active ≡ victim → (lost : Bool) → (victim_of cycle == entry.number) ≡ lost
-            → ContestComes old base entry (left_over desk (record counts { cycles = counts.cycles ++ cycle ∷ [] }) victim lost)
-        by_victim cycle victim found true e = (counts.cycles, cycle, refl, eqb-true (victim_of cycle) entry.number e)
-        by_victim cycle None found false e = record { committed = is.committed; limit = is.limit; ran = is.ran; here = is.here }
-        by_victim cycle (Some victim) found false e = record {
-          committed = is.committed;
-          limit = is.limit;
-          ran = is.ran;
-          here = asker-left desk (record entry { waiting = true }) victim cycle is.here found e;
-        }
-
-        by_cycle : (cycle : Option (List ℕ)) → ContestComes old base entry (breaks_cycle entry.number cycle desk counts)
-        by_cycle None = is
-        by_cycle (Some cycle) = by_victim cycle (find (λ (one : Entry). one.number == victim_of cycle) desk.active) refl (victim_of cycle == entry.number) refl
+    by_victim : VictimsKeep (ContestComes old base entry) entry.number
+    by_victim desk counts cycle victim true is found e = (counts.cycles, cycle, refl, eqb-true (victim_of cycle) entry.number e)
+    by_victim desk counts cycle None false is found e = record { committed = is.committed; limit = is.limit; ran = is.ran; here = is.here }
+    by_victim desk counts cycle (Some victim) false is found e =
+        record { committed = is.committed; limit = is.limit; ran = is.ran; here = asker-left desk (record entry { waiting = true }) victim cycle is.here found e }
 
 module _ (word : Word) (attempt : Attempt) (old : Desk) (base : Counts) where
-  come-commit : (word : Word) (desk : Desk) (counts : Counts) → attempt.outcome ≡ Commit → Stays old base attempt.entry desk counts → Comes word attempt old base (commits word attempt desk counts)
-  come-commit word desk counts went stays = grind (arith, nat_tests)
-
   come-effect : (desk : Desk) (counts : Counts) (outcome : Outcome) → attempt.outcome ≡ outcome → Stays old base attempt.entry desk counts → Comes word attempt old base (takes_effect word attempt outcome desk counts)
   come-effect desk counts (On next) went stays = (
     new-among (gone_on attempt.entry) desk.active (record attempt.entry { waiting = stays.mark }) stays.here refl,
@@ -90,14 +76,11 @@ module _ (word : Word) (attempt : Attempt) (old : Desk) (base : Counts) where
     stays.limit,
     ap (λ (n : ℕ). n + 1) stays.ran,
   )
-  come-effect desk counts Commit went stays = come-commit word desk counts went stays
+  come-effect desk counts Commit went stays = grind (arith, nat_tests)
   come-effect desk counts (Check code) went stays = (stays.ran, went, refl)
 
-  come-on : (desk : Desk) (counts : Counts) (fetching : Fetching) → Stays old base attempt.entry desk counts → FetchCause word fetching → Comes word attempt old base (goes_on word attempt desk counts fetching)
-  come-on desk counts fetching stays cause = grind (arith, nat_tests, come-effect)
-
   come-get : (refused : List ℕ) (desk : Desk) (counts : Counts) → Stays old base attempt.entry desk counts → Comes word attempt old base (gets word attempt refused desk counts)
-  come-get refused desk counts stays = grind (arith, nat_tests, come-on, fetch-cause)
+  come-get refused desk counts stays = grind (arith, nat_tests, come-effect, fetch-cause)
 
   come-wait : (refused holders : List ℕ) (desk : Desk) (counts : Counts) → conflicts_of desk attempt.entry ≡ holders → Marked old base attempt.entry desk counts
       → Comes word attempt old base (waits_or_gets word attempt refused holders desk counts)
@@ -120,14 +103,8 @@ module _ (word : Word) (attempt : Attempt) (old : Desk) (base : Counts) where
         here = new-among (record attempt.entry { waiting = true }) desk.active (record attempt.entry { waiting = stays.mark }) stays.here refl;
       }))
 
-  come-first : (desk : Desk) (counts : Counts) (fetching : Fetching) → Stays old base attempt.entry desk counts → FetchCause word fetching → Comes word attempt old base (fetched_first word attempt desk counts fetching)
-  come-first desk counts fetching stays cause = grind (arith, nat_tests, come-ask)
-
-  come-limit : (over : Bool) → is_over_limit attempt old ≡ over → Stays old base attempt.entry old base → Comes word attempt old base (limited over word attempt old base)
-  come-limit over e stays = grind (arith, nat_tests, ltb-true, come-first, fetch-cause)
-
   come-attempt : (outcome : Outcome) → attempt.outcome ≡ outcome → Stays old base attempt.entry old base → Comes word attempt old base (attempts word attempt outcome old base)
-  come-attempt outcome went stays = grind (arith, nat_tests, come-limit)
+  come-attempt outcome went stays = grind (arith, nat_tests, ltb-true, come-ask, fetch-cause)
 
 -- an instruction of an active entry
 come-instruction : (word : Word) (desk : Desk) (counts : Counts) (entry : Entry) (now : Plain) → IsAmong desk.active entry
@@ -161,9 +138,6 @@ module _ (word : Word) (limit left : ℕ) (start : Desk) (first : Entry) (desk :
   its-row : (ran : ℕ) (outcome : Outcome) → ran ≡ counts.ran → row under.entry.runs.program desk.committed.directory now ≡ outcome → RowIs start.committed first ran now outcome
   its-row ran outcome same went = grind (arith, nat_tests)
 
-  its-lines : (ran : ℕ) → ran ≡ counts.ran → lines_written (next_attempt desk under.entry now) desk ≡ lines_by start.committed first ran
-  its-lines ran same = grind (arith, nat_tests)
-
   cause-instruction : (turning : Turning) → IsConsistent (turn_desk turning) → Comes word (next_attempt desk under.entry now) desk counts turning → IsUnder word limit left start first turning
   cause-instruction (Going later more) is comes = record {
     is = is;
@@ -177,7 +151,7 @@ module _ (word : Word) (limit left : ℕ) (start : Desk) (first : Entry) (desk :
     left_is = omega (arith, under.left_is, comes.3);
   }
   cause-instruction (Over later more (Checked code address)) is comes = (now, its-row more.ran (Check code) comes.0 comes.1, comes.2)
-  cause-instruction (Over later more (Journal lines most)) is comes = (comes.1 ∙ its-lines more.ran comes.0, comes.2 ∙ under.most, comes.3)
+  cause-instruction (Over later more (Journal lines most)) is comes = (comes.1 ∙ (grind (arith, nat_tests)), comes.2 ∙ under.most, comes.3)
   cause-instruction (Over later more Disk) is comes = comes
   cause-instruction (Over later more Victim) is comes = (comes.0, comes.1, comes.2, comes.3 ∙ under.number)
   cause-instruction (Over later more (Waits holders)) is comes = grind (arith, nat_tests)

@@ -1,10 +1,11 @@
 -- A turn leaves a desk orderly.
-use Rattle.desk_law.proofs.Common.{◌≡◌, refl, ℕ, zero, suc, ◌+◌, ◌≤◌, ◌==◌, Bool, true, false, List, [], ◌∷◌, ◌++◌, length, find, Option, Some, None, arith, sym, ◌∙◌, subst, eqb-true, eq-eqb, both_ways, ltb-false, none-some, size, Lines, Plain, Outcome, On, Commit, Check, row, after, Desk, Entry, with_entry, ended, rolled_back, wanted, conflicts_of, Word, Unwritten, Doubt, Counts, Turning, Going, Over, Ending, Idle, Committed, Attempt, Fetching, Fetched, Broken, Contest, Contested, Settled, Lost, attempts, attempts_at, instruction, turns, limited, is_over_limit, lines_written, fetched_first, fetches_touched, asks, gets, goes_on, breaks, ordered, takes_effect, commits, contest_ends, waits_or_gets, with_grants, refused_pages, gone_on, IsAmong, IsActive, IsOrderly, touched_of, IsReady, nat_tests, next_attempt}
+use Rattle.desk_law.proofs.Common.{◌≡◌, refl, ℕ, zero, suc, ◌+◌, ◌≤◌, ◌==◌, Bool, true, false, List, [], ◌∷◌, ◌++◌, length, find, Option, Some, None, arith, sym, ◌∙◌, subst, eqb-true, eq-eqb, both_ways, ltb-false, none-some, size, Lines, Plain, Outcome, On, Commit, Check, row, after, Desk, Entry, with_entry, rolled_back, wanted, conflicts_of, Word, Unwritten, Doubt, Counts, Turning, Going, Over, Ending, Idle, Attempt, Fetching, Fetched, Broken, Contest, Contested, Settled, Lost, attempts, attempts_at, instruction, turns, limited, is_over_limit, lines_written, fetched_first, fetches_touched, asks, gets, goes_on, breaks, takes_effect, commits, contest_ends, waits_or_gets, with_grants, refused_pages, gone_on, IsAmong, IsActive, IsOrderly, touched_of, IsReady, nat_tests, next_attempt}
 use Rattle.desk_law.proofs.Entries.{among-found, none-found, new-among}
 use Rattle.desk_law.proofs.Contest.{contending, rolled-consistent, breaks-all, Came}
 use Rattle.desk_law.proofs.GoesOn.{ready-again, IsGranted, grants-held, row-goes-on, marked-contending, length-replaced}
 use Rattle.desk_law.proofs.Endings.{granted-rolled, granted-commits, granted-closes}
 use Rattle.desk_law.proofs.Instructions.{From, NoRowDone, Did, ContestDid, left-before, rolled-done, marked-before, marked-from, breaks-did}
+use Rattle.desk_law.proofs.LeftLemmas.{went}
 
 -- an ending that isn't idle
 abbrev pub WasBusy : Ending → Type 0
@@ -33,14 +34,6 @@ module _ (word : Word) (attempt : Attempt) (most : ℕ) (old : Desk) where
   abbrev Room : Desk → Counts → Type 0
   Room desk counts = length counts.cycles + length desk.active ≤ most
 
-  goes-done : (desk : Desk) (counts : Counts) → Room desk counts → From attempt.entry.number old desk → IsGranted attempt desk
-      → Goes old attempt most
-      (Over
-      (record (ended (ordered desk attempt) attempt.entry.number) { committed = record desk.committed { bytes = attempt.now.store } })
-      (record counts { ran = counts.ran + 1 })
-      (Committed (attempt.entry.rows + 1) attempt.now.out))
-  goes-done desk counts fits from is = grind (arith, nat_tests, granted-commits desk attempt is)
-
   goes-closed : (desk : Desk) → IsGranted attempt desk → attempt.outcome ≡ Commit → (order : List (ℕ × ℕ)) → IsOrderly (record desk { order = order; closed = true })
   goes-closed desk is went order = grind (arith, nat_tests, granted-closes desk attempt is went)
 
@@ -52,7 +45,7 @@ module _ (word : Word) (attempt : Attempt) (most : ℕ) (old : Desk) where
   goes-commit Doubt desk counts fits from went is =
       let order = desk.order ++ (attempt.entry.number, attempt.entry.rows + 1) ∷ [] in
       ((goes-closed desk is went order, tt, omega (arith, fits)), goes-left desk order from is)
-  goes-commit _ desk counts fits from went is = goes-done desk counts fits from is
+  goes-commit _ desk counts fits from went is = grind (arith, nat_tests, granted-commits desk attempt is)
 
   goes-effect : (desk : Desk) (counts : Counts) (outcome : Outcome) → Room desk counts → From attempt.entry.number old desk → attempt.outcome ≡ outcome → IsGranted attempt desk → Goes old attempt most (takes_effect word attempt outcome desk counts)
   goes-effect desk counts (On next) fits from went is = (

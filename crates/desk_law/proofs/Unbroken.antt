@@ -1,5 +1,5 @@
 -- Bytes without a line feed, and the lines of a report.
-use Rattle.desk_law.proofs.Common.{◌==◌, ◌||◌, if◌then◌else◌, slice_index, decimal, list_any, join_with_byte, Line, line_text, printed, IsUnbroken, nat_tests, ◌≡◌, ℕ, zero, suc, ◌/◌, ◌%◌, Bool, true, false, List, [], ◌∷◌, ◌++◌, map, refl, codes, arith, rules}
+use Rattle.desk_law.proofs.Common.{◌==◌, ◌||◌, slice_index, decimal, list_any, join_with_byte, Line, line_text, printed, IsUnbroken, nat_tests, ◌≡◌, ℕ, zero, suc, ◌/◌, ◌%◌, Bool, false, List, [], ◌∷◌, ◌++◌, map, refl, codes, arith, rules}
 use Rattle.std.specs.Fmt.{digits, digits_onto, digit_glyph}
 use Rattle.byteorder.specs.Endian.{big_bytes}
 use Rattle.hex.specs.Hex.{encode_with, encode_lower, lower_digits}
@@ -8,9 +8,6 @@ use Rattle.desk.specs.Lines as line
 or_parts : (a b : Bool) → a || b ≡ false → (a ≡ false) × (b ≡ false)
 or_parts a b h1 = grind (arith, nat_tests)
 
-or_both : (a b : Bool) → a ≡ false → b ≡ false → a || b ≡ false
-or_both a b h1 h2 = grind (arith, nat_tests)
-
 pub unbroken_first : (x : ℕ) (xs : List ℕ) → IsUnbroken (x ∷ xs) → (x == 10) ≡ false
 unbroken_first x xs is = (or_parts (x == 10) (list_any (λ byte. byte == 10) xs) is).0
 
@@ -18,25 +15,17 @@ pub unbroken_rest : (x : ℕ) (xs : List ℕ) → IsUnbroken (x ∷ xs) → IsUn
 unbroken_rest x xs is = (or_parts (x == 10) (list_any (λ byte. byte == 10) xs) is).1
 
 pub unbroken_more : (x : ℕ) (xs : List ℕ) → (x == 10) ≡ false → IsUnbroken xs → IsUnbroken (x ∷ xs)
-unbroken_more x xs one two = or_both (x == 10) (list_any (λ byte. byte == 10) xs) one two
+unbroken_more x xs one two = grind (arith, nat_tests)
 
 pub unbroken_on : (xs ys : List ℕ) → IsUnbroken xs → IsUnbroken ys → IsUnbroken (xs ++ ys)
 unbroken_on [] ys one two = two
 unbroken_on (x ∷ xs) ys one two = unbroken_more x (xs ++ ys) (unbroken_first x xs one) (unbroken_on xs ys (unbroken_rest x xs one) two)
 
--- digits
-glyph-unbroken : (d : ℕ) → (digit_glyph false d == 10) ≡ false
-glyph-unbroken d = grind (arith, nat_tests)
-
 digits_onto-unbroken : (k n : ℕ) (acc : List ℕ) → IsUnbroken acc → IsUnbroken (digits_onto k 10 false n acc)
 digits_onto-unbroken zero n acc is = is
 digits_onto-unbroken (suc k) n acc is =
-    let more : IsUnbroken (digit_glyph false (n % 10) ∷ acc) = unbroken_more (digit_glyph false (n % 10)) acc (glyph-unbroken (n % 10)) is in
-    by_last (n / 10 == 0) more (digits_onto-unbroken k (n / 10) (digit_glyph false (n % 10) ∷ acc) more)
-  where
-    by_last : (last : Bool) → IsUnbroken (digit_glyph false (n % 10) ∷ acc) → IsUnbroken (digits_onto k 10 false (n / 10) (digit_glyph false (n % 10) ∷ acc)) → IsUnbroken (if last then digit_glyph false (n % 10) ∷ acc else digits_onto k 10 false (n / 10) (digit_glyph false (n % 10) ∷ acc))
-    by_last true one two = one
-    by_last false one two = two
+    let more : IsUnbroken (digit_glyph false (n % 10) ∷ acc) = unbroken_more (digit_glyph false (n % 10)) acc (grind (arith, nat_tests)) is in
+    grind (arith, nat_tests, more, digits_onto-unbroken k (n / 10) (digit_glyph false (n % 10) ∷ acc) more)
 
 pub decimal-unbroken : (n : ℕ) → IsUnbroken (decimal n)
 unfolding digits
@@ -53,8 +42,7 @@ hex-unbroken table [] is = refl
 hex-unbroken table (byte ∷ bytes) is = grind (arith, nat_tests, hex-unbroken table bytes is, unbroken_more, index-unbroken)
 
 printed-unbroken : (bytes : List ℕ) → IsUnbroken (printed bytes)
-printed-unbroken [] = refl
-printed-unbroken (byte ∷ bytes) = hex-unbroken lower_digits (byte ∷ bytes) refl
+printed-unbroken bytes = grind (arith, nat_tests, hex-unbroken)
 
 -- words without line feeds
 abbrev pub AreUnbroken : List (List ℕ) → Type 0

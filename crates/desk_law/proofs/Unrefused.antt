@@ -1,7 +1,7 @@
 -- A row of which no entry refuses a line.
 use Rattle.desk_law.proofs.Common.{◌≡◌, refl, ℕ, ◌<◌, true, List, [], length, Option, Some, option_map_or, arith, ap, sym, ◌∙◌, subst, is_fine_page, line_count, has, Lines, no_lines, page_of_line, Plain, touched, after, all_of, touched-below, Desk, Entry, Grant, conflicts_of, wanted, gets, granted, refused_pages, IsAmong, ArePermitted, IsOrderly, Word, Counts, next_attempt, nat_tests, counts_refused, UnrefusedAsksNothing}
 use Rattle.desk_law.proofs.Granted.{granted-permits}
-use Rattle.desk_law.proofs.Orderly.{orderly}
+use Rattle.desk_law.proofs.Entries.{orderly}
 use Rattle.desk_law.proofs.Permitted.{permitted-held, held-free}
 
 module _ (desk : Desk) (entry : Entry) (now : Plain) (is : IsOrderly desk) (among : IsAmong desk.active entry)

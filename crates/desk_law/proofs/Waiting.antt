@@ -1,36 +1,32 @@
 -- Who waits for whom as entries change.
-use Rattle.desk_law.proofs.Common.{◌≡◌, refl, ℕ, ◌==◌, ◌&&◌, not, Bool, true, false, List, [], ◌∷◌, filter, map, Some, list_any, ap, sym, ◌∙◌, inl, inr, eqb-true, eq-eqb, both_ways, and_parts, and_from, or_cases, or_left, or_right, not-true, false_from_ne_true, is_fine_page, IsWhole, has, conflicts, with_whole_pages, Plain, after, Desk, Entry, with_entry, rolled_back, conflicts_with, waits_for, committed_at, left_by, IsAmong, AreConsistent, except, arith, nat_tests}
+use Rattle.desk_law.proofs.Common.{◌≡◌, refl, ℕ, ◌==◌, ◌&&◌, not, Bool, true, false, List, [], ◌∷◌, filter, map, Some, list_any, sym, ◌∙◌, inl, inr, eqb-true, and_parts, and_from, or_cases, is_fine_page, IsWhole, has, conflicts, with_whole_pages, Plain, after, Desk, Entry, with_entry, rolled_back, conflicts_with, waits_for, committed_at, left_by, IsAmong, AreConsistent, except, arith, nat_tests, meets}
 use Rattle.desk_law.proofs.Entries.{among-filter, among-replaced}
 use Rattle.desk_law.proofs.Walks.{Leaves}
-use Rattle.desk_law.proofs.Others.{another-stays, StaysSame}
+use Rattle.desk_law.proofs.Others.{another-stays, StaysSame, among-others}
 
 -- an entry that passes a test settles it
 pub any-among : (test : Entry → Bool) (entries : List Entry) → list_any test entries ≡ true → (entry : Entry) × IsAmong entries entry × (test entry ≡ true)
 any-among test [] some = absurd (cc)
-any-among test (one ∷ entries) some =
-    elim (or_cases (test one) (list_any test entries) some) [
-      | inl here ↦ (one, inl refl, here)
-      | inr later ↦ let (entry, among, passes) = any-among test entries later in (entry, inr among, passes)
-    ]
+any-among test (one ∷ entries) some = elim (or_cases (test one) (list_any test entries) some) [
+  | inl here ↦ (one, inl refl, here)
+  | inr later ↦ let (entry, among, passes) = any-among test entries later in (entry, inr among, passes)
+]
 
 pub among-any : (test : Entry → Bool) (entries : List Entry) (entry : Entry) → IsAmong entries entry → test entry ≡ true → list_any test entries ≡ true
 among-any test [] entry among passes = absurd among
-among-any test (one ∷ entries) entry (inl same) passes = or_left (test one) (list_any test entries) (ap test same ∙ passes)
-among-any test (one ∷ entries) entry (inr among) passes = or_right (test one) (list_any test entries) (among-any test entries entry among passes)
+among-any test (one ∷ entries) entry among passes = grind (arith, nat_tests, among-any test entries entry)
 
 -- the numbers are those of entries
 pub number-of : (entries : List Entry) (number : ℕ) → has (map (λ (entry : Entry). entry.number) entries) number ≡ true → (entry : Entry) × IsAmong entries entry × (entry.number ≡ number)
 number-of [] number inside = absurd (cc)
-number-of (one ∷ entries) number inside =
-    elim (or_cases (one.number == number) (has (map (λ (entry : Entry). entry.number) entries) number) inside) [
-      | inl here ↦ (one, inl refl, eqb-true one.number number here)
-      | inr later ↦ let (entry, among, same) = number-of entries number later in (entry, inr among, same)
-    ]
+number-of (one ∷ entries) number inside = elim (or_cases (one.number == number) (has (map (λ (entry : Entry). entry.number) entries) number) inside) [
+  | inl here ↦ (one, inl refl, eqb-true one.number number here)
+  | inr later ↦ let (entry, among, same) = number-of entries number later in (entry, inr among, same)
+]
 
 pub has-number : (entries : List Entry) (entry : Entry) → IsAmong entries entry → has (map (λ (entry : Entry). entry.number) entries) entry.number ≡ true
 has-number [] entry among = absurd among
-has-number (one ∷ entries) entry (inl same) = or_left (one.number == entry.number) (has (map (λ (entry : Entry). entry.number) entries) entry.number) (eq-eqb one.number entry.number (ap (λ (x : Entry). x.number) same))
-has-number (one ∷ entries) entry (inr among) = or_right (one.number == entry.number) (has (map (λ (entry : Entry). entry.number) entries) entry.number) (has-number entries entry among)
+has-number (one ∷ entries) entry among = grind (arith, nat_tests, has-number entries entry)
 
 -- one entry waits for another
 pub record WaitsFor (desk : Desk) (from to : ℕ) : Type 0 where
@@ -47,22 +43,18 @@ pub waits-by : (desk : Desk) (from to : ℕ) → waits_for desk from to ≡ true
 waits-by desk from to waits =
     let (entry, among, passes) = any-among (λ entry. entry.number == from && entry.waiting && list_any (λ other. other.number == to && conflicts_with desk entry other) desk.active) desk.active waits in
     let parts = and_parts (entry.number == from && entry.waiting) (list_any (λ other. other.number == to && conflicts_with desk entry other) desk.active) passes in
-    let firsts = and_parts (entry.number == from) entry.waiting parts.0 in
     let (other, there, meets) = any-among (λ other. other.number == to && conflicts_with desk entry other) desk.active parts.1 in
-    let seconds = and_parts (other.number == to) (conflicts_with desk entry other) meets in
-    record {
-      entry = entry;
-      other = other;
-      entry_among = among;
-      other_among = there;
-      is_from = firsts.0;
-      waiting = firsts.1;
-      is_to = seconds.0;
-      conflict = seconds.1;
-    }
+    let (is_from, waiting) = and_parts (entry.number == from) entry.waiting parts.0 in
+    let (is_to, conflict) = and_parts (other.number == to) (conflicts_with desk entry other) meets in
+    record { entry = entry; other = other; entry_among = among; other_among = there; is_from = is_from; waiting = waiting; is_to = is_to; conflict = conflict }
 
 pub waits-from : (desk : Desk) (from to : ℕ) → WaitsFor desk from to → waits_for desk from to ≡ true
 waits-from desk from to by = grind (arith, nat_tests, among-any, and_from)
+
+-- a wait at another desk with the same two in it
+waits-still : (old desk : Desk) (from to : ℕ) (by : WaitsFor old from to) → IsAmong desk.active by.entry → IsAmong desk.active by.other → conflicts_with desk by.entry by.other ≡ true → waits_for desk from to ≡ true
+waits-still old desk from to by one other conflict =
+    waits-from desk from to (record { entry = by.entry; other = by.other; entry_among = one; other_among = other; is_from = by.is_from; waiting = by.waiting; is_to = by.is_to; conflict = conflict })
 
 -- fewer entries have fewer numbers
 pub fewer-numbers : (test : Entry → Bool) (entries : List Entry) (x : ℕ)
@@ -73,17 +65,7 @@ fewer-numbers test entries x inside = grind (arith, nat_tests, number-of, has-nu
 pub rollback-waits : (desk : Desk) (gone : Entry) (from to : ℕ) → waits_for (rolled_back desk gone) from to ≡ true → waits_for desk from to ≡ true
 rollback-waits desk gone from to waits =
     let by = waits-by (rolled_back desk gone) from to waits in
-    waits-from desk from to
-    (record {
-      entry = by.entry;
-      other = by.other;
-      entry_among = (among-filter (λ (other : Entry). not (other.number == gone.number)) desk.active by.entry by.entry_among).0;
-      other_among = (among-filter (λ (other : Entry). not (other.number == gone.number)) desk.active by.other by.other_among).0;
-      is_from = by.is_from;
-      waiting = by.waiting;
-      is_to = by.is_to;
-      conflict = by.conflict;
-    })
+    waits-still (rolled_back desk gone) desk from to by (among-others gone desk.active by.entry by.entry_among).0 (among-others gone desk.active by.other by.other_among).0 by.conflict
 
 -- and after a commit
 pub commit-waits : (desk : Desk) (entry : Entry) (now : Plain) (from to : ℕ) → IsWhole desk.committed
@@ -92,27 +74,12 @@ pub commit-waits : (desk : Desk) (entry : Entry) (now : Plain) (from to : ℕ) �
     → waits_for (committed_at desk entry now) from to ≡ true → waits_for desk from to ≡ true
 commit-waits desk entry now from to whole are here is waits =
     let by = waits-by (committed_at desk entry now) from to waits in
-    let (there1, differ1) = among-filter (λ (other : Entry). not (other.number == entry.number)) desk.active by.entry by.entry_among in
-    let (there2, differ2) = among-filter (λ (other : Entry). not (other.number == entry.number)) desk.active by.other by.other_among in
-    let same1 : StaysSame desk.committed (left_by desk.committed now) by.entry = another-stays desk.committed desk.most_lines desk.next desk.active entry by.entry now whole are here there1 (not-true (by.entry.number == entry.number) differ1) is in
-    let same2 : StaysSame desk.committed (left_by desk.committed now) by.other = another-stays desk.committed desk.most_lines desk.next desk.active entry by.other now whole are here there2 (not-true (by.other.number == entry.number) differ2) is in
-    waits-from desk from to
-    (record {
-      entry = by.entry;
-      other = by.other;
-      entry_among = there1;
-      other_among = there2;
-      is_from = by.is_from;
-      waiting = by.waiting;
-      is_to = by.is_to;
-      conflict =
-          sym (λ i. not (by.other.number == by.entry.number) && conflicts (with_whole_pages (is_fine_page desk.committed.directory) (same1.wants i)) (same2.due i)) ∙ by.conflict;
-    })
-
--- a wait at another desk with the same two in it
-waits-still : (old desk : Desk) (from to : ℕ) (by : WaitsFor old from to) → IsAmong desk.active by.entry → IsAmong desk.active by.other → conflicts_with desk by.entry by.other ≡ true → waits_for desk from to ≡ true
-waits-still old desk from to by one other conflict =
-    waits-from desk from to (record { entry = by.entry; other = by.other; entry_among = one; other_among = other; is_from = by.is_from; waiting = by.waiting; is_to = by.is_to; conflict = conflict })
+    let (there1, differ1) = among-others entry desk.active by.entry by.entry_among in
+    let (there2, differ2) = among-others entry desk.active by.other by.other_among in
+    let same1 : StaysSame desk.committed (left_by desk.committed now) by.entry = another-stays desk.committed desk.most_lines desk.next desk.active entry by.entry now whole are here there1 differ1 is in
+    let same2 : StaysSame desk.committed (left_by desk.committed now) by.other = another-stays desk.committed desk.most_lines desk.next desk.active entry by.other now whole are here there2 differ2 is in
+    waits-still (committed_at desk entry now) desk from to by there1 there2
+    (sym (λ i. not (by.other.number == by.entry.number) && conflicts (with_whole_pages (is_fine_page desk.committed.directory) (same1.wants i)) (same2.due i)) ∙ by.conflict)
 
 -- one that is marked waiting adds waits of its own alone
 pub marked-waits : (desk : Desk) (entry : Entry) (mark : Bool) (from to : ℕ) → IsAmong desk.active entry
@@ -120,53 +87,24 @@ pub marked-waits : (desk : Desk) (entry : Entry) (mark : Bool) (from to : ℕ) �
 marked-waits desk entry mark from to here waits =
     let parts = and_parts (not (from == entry.number)) (waits_for (with_entry desk (record entry { waiting = mark })) from to) waits in
     let by = waits-by (with_entry desk (record entry { waiting = mark })) from to parts.1 in
-    and_from (not (from == entry.number)) (waits_for desk from to) parts.0
-    (elim (among-replaced (record entry { waiting = mark }) desk.active by.entry by.entry_among) [
-      | inl new ↦
-          let same : (entry.number == from) ≡ true = ap (λ (x : Entry). x.number == from) new ∙ by.is_from in
-          absurd (both_ways (from == entry.number) (not-true (from == entry.number) parts.0) (eq-eqb from entry.number (sym (eqb-true entry.number from same))))
-      | inr old ↦
-          elim (among-replaced (record entry { waiting = mark }) desk.active by.other by.other_among) [
-            | inl new ↦
-                waits-from desk from to
-                (record {
-                  entry = by.entry;
-                  other = entry;
-                  entry_among = old.0;
-                  other_among = here;
-                  is_from = by.is_from;
-                  waiting = by.waiting;
-                  is_to = ap (λ (x : Entry). x.number == to) new ∙ by.is_to;
-                  conflict = ap (λ (x : Entry). conflicts_with desk by.entry x) new ∙ by.conflict;
-                })
-            | inr also ↦
-                waits-still (with_entry desk (record entry { waiting = mark })) desk from to by old.0 also.0 by.conflict
-          ]
-    ])
+    let first = among-replaced (record entry { waiting = mark }) desk.active by.entry by.entry_among in
+    let second = among-replaced (record entry { waiting = mark }) desk.active by.other by.other_among in
+    let from-other = λ (other : Entry) (there : IsAmong desk.active other) (is_to : (other.number == to) ≡ true) (conflict : conflicts_with desk by.entry other ≡ true) (old : IsAmong desk.active by.entry).
+    waits-from desk from to (record { entry = by.entry; other = other; entry_among = old; other_among = there; is_from = by.is_from; waiting = by.waiting; is_to = is_to; conflict = conflict }) in
+    grind (arith, nat_tests, first, second, from-other entry here, from-other by.other)
 
 -- one whose row goes on waits for nobody
 pub gone-on : (desk : Desk) (entry new : Entry) → new.number ≡ entry.number → new.waiting ≡ false
     → Leaves entry.number (waits_for (with_entry desk new)) (waits_for desk)
 gone-on desk entry new same not_waiting = record {
-  none = λ to.
-      false_from_ne_true (waits_for (with_entry desk new) entry.number to)
-      (λ waits.
-      let by = waits-by (with_entry desk new) entry.number to waits in
-      elim (among-replaced new desk.active by.entry by.entry_among) [
-        | inl it ↦ both_ways by.entry.waiting (sym (ap (λ (x : Entry). x.waiting) it) ∙ not_waiting) by.waiting
-        | inr old ↦ both_ways (by.entry.number == new.number) old.1 (eq-eqb by.entry.number new.number (eqb-true by.entry.number entry.number by.is_from ∙ sym same))
-      ]);
+  none = λ to. waits_for_none to;
   kept = λ from to other waits.
       let by = waits-by (with_entry desk new) from to waits in
-      elim (among-replaced new desk.active by.entry by.entry_among) [
-        | inl it ↦ absurd (both_ways by.entry.waiting (sym (ap (λ (x : Entry). x.waiting) it) ∙ not_waiting) by.waiting)
-        | inr old ↦
-            elim (among-replaced new desk.active by.other by.other_among) [
-              | inl it ↦
-                  let is_one : to ≡ entry.number = sym (eqb-true by.other.number to by.is_to) ∙ sym (ap (λ (x : Entry). x.number) it) ∙ same in
-                  absurd (both_ways (to == entry.number) other (eq-eqb to entry.number is_one))
-              | inr also ↦
-                  waits-still (with_entry desk new) desk from to by old.0 also.0 by.conflict
-            ]
-      ];
+      let first = among-replaced new desk.active by.entry by.entry_among in
+      let second = among-replaced new desk.active by.other by.other_among in
+      let still = waits-still (with_entry desk new) desk from to by in
+      grind (arith, nat_tests, first, second, still);
 }
+  where
+    waits_for_none : (to : ℕ) → waits_for (with_entry desk new) entry.number to ≡ false
+    waits_for_none to = grind (arith, nat_tests, waits-by (with_entry desk new) entry.number to, among-replaced new desk.active)

@@ -1,5 +1,5 @@
 -- Where waits lead.
-use Rattle.desk_law.proofs.Common.{◌≡◌, ℕ, zero, suc, ◌<◌, ◌≤◌, ◌==◌, ◌&&◌, ◌||◌, ◌⊎◌, not, Bool, true, false, List, [], ◌∷◌, length, filter, list_any, arith, ap, ◌∙◌, subst, inl, inr, eqb-true, both_ways, and_from, cases_Bool, not_from_false, false_from_ne_true, has, leads, any-at, any-some, HasNoCycle, except, nat_tests}
+use Rattle.desk_law.proofs.Common.{◌≡◌, ℕ, zero, suc, ◌<◌, ◌≤◌, ◌==◌, ◌&&◌, ◌||◌, ◌⊎◌, not, Bool, true, false, List, [], ◌∷◌, length, filter, list_any, arith, ap, ◌∙◌, subst, inl, inr, eqb-true, and_from, cases_Bool, not_from_false, has, leads, any-at, any-some, HasNoCycle, except, nat_tests}
 use Rattle.desk_law.proofs.Entries.{filter-short}
 
 -- the first step of a walk
@@ -25,11 +25,7 @@ pub leads-wider : (waits wider : ℕ → ℕ → Bool) (all more : List ℕ)
 leads-wider waits wider all more wide among zero from to walk = absurd (cc)
 leads-wider waits wider all more wide among (suc steps) from to walk =
     let first = first-step waits all steps from to walk in
-    one-step wider more steps from to first.next (among first.next first.there) (wide from first.next first.step)
-    (elim first.rest [
-      | inl same ↦ inl same
-      | inr later ↦ inr (leads-wider waits wider all more wide among steps first.next to later)
-    ])
+    grind (arith, first.there, first.step, first.rest, among first.next, wide from first.next, one-step wider more steps from to first.next, leads-wider waits wider all more wide among steps first.next to)
 
 -- so do more steps
 pub leads-more : (waits : ℕ → ℕ → Bool) (all : List ℕ) (steps more from to : ℕ) → steps ≤ more → leads waits all steps from to ≡ true → leads waits all more from to ≡ true
@@ -37,11 +33,7 @@ leads-more waits all zero more from to le walk = absurd (cc)
 leads-more waits all (suc steps) zero from to le walk = absurd (omega arith)
 leads-more waits all (suc steps) (suc more) from to le walk =
     let first = first-step waits all steps from to walk in
-    one-step waits all more from to first.next first.there first.step
-    (elim first.rest [
-      | inl same ↦ inl same
-      | inr later ↦ inr (leads-more waits all steps more first.next to (omega arith) later)
-    ])
+    grind (arith, first.there, first.step, first.rest, one-step waits all more from to first.next, leads-more waits all steps more first.next to)
 
 -- one walk after another
 pub walk-on : (waits : ℕ → ℕ → Bool) (all : List ℕ) (steps others from middle to : ℕ)
@@ -49,16 +41,10 @@ pub walk-on : (waits : ℕ → ℕ → Bool) (all : List ℕ) (steps others from
 walk-on waits all zero others from middle to one two = absurd (cc)
 walk-on waits all (suc steps) others from middle to one two =
     let first = first-step waits all steps from middle one in
+    let on = λ (sum : ℕ) (rest : leads waits all sum first.next to ≡ true). (let it : (sum : ℕ) × (leads waits all sum from to ≡ true) = (suc sum, one-step waits all sum from to first.next first.there first.step (inr rest)) in it) in
     elim first.rest [
-      | inl same ↦ (
-        suc others,
-        one-step waits all others from to first.next first.there first.step (inr (ap (λ (x : ℕ). leads waits all others x to) same ∙ two)),
-      )
-      | inr later ↦
-          let (sum, walk) = walk-on waits all steps others first.next middle to later two in (
-            suc sum,
-            one-step waits all sum from to first.next first.there first.step (inr walk),
-          )
+      | inl same ↦ on others (ap (λ (x : ℕ). leads waits all others x to) same ∙ two)
+      | inr later ↦ let (sum, walk) = walk-on waits all steps others first.next middle to later two in on sum walk
     ]
 
 -- a walk that goes by a number
@@ -109,9 +95,7 @@ no-cycle-from waits all one none not_back steps number =
 pub no-cycle-fewer : (fewer waits : ℕ → ℕ → Bool) (less all : List ℕ)
     → ((from to : ℕ) → fewer from to ≡ true → waits from to ≡ true) → ((x : ℕ) → has less x ≡ true → has all x ≡ true)
     → HasNoCycle waits all → HasNoCycle fewer less
-no-cycle-fewer fewer waits less all wide among none steps number =
-    false_from_ne_true (leads fewer less steps number number)
-    (λ walk. both_ways (leads waits all steps number number) (none steps number) (leads-wider fewer waits less all wide among steps number number walk))
+no-cycle-fewer fewer waits less all wide among none steps number = grind (arith, none steps number, leads-wider fewer waits less all wide among steps number number)
 
 -- one that waits for nobody is in no cycle, whoever waits for it
 pub record Leaves (one : ℕ) (new old : ℕ → ℕ → Bool) : Type 0 where
@@ -132,10 +116,7 @@ stays-away one new old all (suc steps) from to leaves other walk =
 
 pub no-cycle-leaves : (one : ℕ) (new old : ℕ → ℕ → Bool) (all : List ℕ) → Leaves one new old → HasNoCycle (except one old) all → HasNoCycle new all
 no-cycle-leaves one new old all leaves none steps number =
-    false_from_ne_true (leads new all steps number number)
-    (λ walk.
-    both_ways (leads (except one old) all steps number number) (none steps number)
-    (stays-away one new old all steps number number leaves (away-from one new old all steps number number leaves walk) walk))
+    grind (arith, none steps number, stays-away one new old all steps number number leaves, away-from one new old all steps number number leaves)
 
 -- How many pass one test, and how many another that lets more pass.
 count-le : (test wider : ℕ → Bool) (xs : List ℕ) → ((x : ℕ) → test x ≡ true → wider x ≡ true) → length (filter test xs) ≤ length (filter wider xs)
@@ -184,15 +165,13 @@ record StableBy (waits : ℕ → ℕ → Bool) (all : List ℕ) (to most : ℕ) 
 
 stable-by : (waits : ℕ → ℕ → Bool) (all : List ℕ) (to most : ℕ) → StableBy waits all to most ⊎ (most ≤ length (filter (reach waits all to most) all))
 stable-by waits all to zero = inr (omega arith)
-stable-by waits all to (suc most) =
-    elim (stable-by waits all to most) [
-      | inl by ↦ inl (record { steps = by.steps; upto = omega (arith, by.upto); stable = by.stable })
-      | inr many ↦
-          elim (stable-or-more waits all to most) [
-            | inl stable ↦ inl (record { steps = most; upto = omega arith; stable = stable })
-            | inr more ↦ inr (omega (arith, many, more))
-          ]
-    ]
+stable-by waits all to (suc most) = elim (stable-by waits all to most) [
+  | inl by ↦ inl (record { steps = by.steps; upto = omega (arith, by.upto); stable = by.stable })
+  | inr many ↦ elim (stable-or-more waits all to most) [
+    | inl stable ↦ inl (record { steps = most; upto = omega arith; stable = stable })
+    | inr more ↦ inr (omega (arith, many, more))
+  ]
+]
 
 -- a walk needs no more steps than there are numbers
 pub walk-short : (waits : ℕ → ℕ → Bool) (all : List ℕ) (to from steps : ℕ) → has all from ≡ true → leads waits all steps from to ≡ true

@@ -16,9 +16,7 @@ range-shown state sound address n at u =
     (shown-long state (place_of state.directory at) n ∙ sym (length-map-range_with_len (byte_at state) address n))
     (λ k below.
     let small : k < n = omega (arith, below, shown-long state (place_of state.directory at) n) in
-    shown-at state (place_of state.directory at) n k small
-    ∙ sym (byte-on state sound address n at u k small)
-    ∙ sym (get_or-map-range_with_len (byte_at state) address n k (address + k) 0 small refl))
+    cc (shown-at state (place_of state.directory at) n k small, byte-on state sound address n at u k small, get_or-map-range_with_len (byte_at state) address n k (address + k) 0 small refl))
 
 -- bytes that are put are put in frames that have room
 pub private-room : (state : Reach) (sound : IsSound state) (at : Virtual) (n a : ℕ) → Lies state at n → place_of state.directory at ≡ Private a
@@ -130,15 +128,11 @@ module _ (state : Reach) (sound : IsSound state) (address : ℕ) (bytes : List �
     by_place (Private a) (Shared b) v is found v_is = by_frame (frame_at state.pool (page_of state.directory b)) refl
       where
         by_frame : (o : Option ℕ) → frame_at state.pool (page_of state.directory b) ≡ o → byte_of (put_at state (Private a) bytes) (Shared b) ≡ byte_of state (Shared b)
-        by_frame None at_b =
-            ap (λ (o : Option ℕ). option_map_or (byte_in_frame state.directory (put_at state (Private a) bytes).pool b) o 0) at_b
-            ∙ sym (ap (λ (o : Option ℕ). option_map_or (byte_in_frame state.directory state.pool b) o 0) at_b)
+        by_frame None at_b = cc
         by_frame (Some frame) at_b =
             let (room, all) = private-room state sound at n a (lies state sound address n at u) is in
             let high = (frame-below state sound (page_of state.directory b) frame (sound.seen.there (page_of state.directory b) frame at_b)).0 in
-            ap (λ (o : Option ℕ). option_map_or (byte_in_frame state.directory (put_at state (Private a) bytes).pool b) o 0) at_b
-            ∙ over-part state.pool.bytes ((state.runner - 1) * 16384 + a) bytes (frame * page_bytes page + b % page_bytes page) (omega (arith, room, all)) (λ j less same. absurd (omega (arith, same, less, room, frame-high page frame high)))
-            ∙ sym (ap (λ (o : Option ℕ). option_map_or (byte_in_frame state.directory state.pool b) o 0) at_b)
+            cc (over-part state.pool.bytes ((state.runner - 1) * 16384 + a) bytes (frame * page_bytes page + b % page_bytes page) (omega (arith, room, all)) (λ j less same. absurd (omega (arith, same, less, room, frame-high page frame high))))
     by_place (Shared a) (Private b) v is found v_is =
         let spot = (state.runner - 1) * 16384 + b in
         let low = private-spot v b found v_is in
@@ -149,9 +143,7 @@ module _ (state : Reach) (sound : IsSound state) (address : ℕ) (bytes : List �
     by_place (Shared a) (Shared b) v is found v_is = by_frame (frame_at state.pool (page_of state.directory b)) refl
       where
         by_frame : (o : Option ℕ) → frame_at state.pool (page_of state.directory b) ≡ o → byte_of (put_at state (Shared a) bytes) (Shared b) ≡ byte_of state (Shared b)
-        by_frame None at_b =
-            ap (λ (o : Option ℕ). option_map_or (byte_in_frame state.directory (put_at state (Shared a) bytes).pool b) o 0) at_b
-            ∙ sym (ap (λ (o : Option ℕ). option_map_or (byte_in_frame state.directory state.pool b) o 0) at_b)
+        by_frame None at_b = cc
         by_frame (Some frame) at_b =
             shared-after state sound a bytes b frame at_b
             ∙ put-outside bytes a b (byte_of state (Shared b))
@@ -168,14 +160,10 @@ module _ (state : Reach) (sound : IsSound state) (address : ℕ) (bytes : List �
       where
         by_whole : (place : Located) → place_of state.directory at ≡ place → (found : Result Virtual Check) → located_by state.registers other 1 false ≡ found
             → byte_at (put_at state place bytes) other ≡ byte_at state other
-        by_whole (Private a) is (Ok v) found =
-            ap (λ located. byte_of (put_at state (Private a) bytes) (place_at state.directory located)) found ∙ by_place (Private a) (place_of state.directory v) v is found refl ∙ sym (ap (λ located. byte_of state (place_at state.directory located)) found)
-        by_whole (Shared a) is (Ok v) found =
-            ap (λ located. byte_of (put_at state (Shared a) bytes) (place_at state.directory located)) found ∙ by_place (Shared a) (place_of state.directory v) v is found refl ∙ sym (ap (λ located. byte_of state (place_at state.directory located)) found)
-        by_whole (Private a) is (Err check) found =
-            ap (λ located. byte_of (put_at state (Private a) bytes) (place_at state.directory located)) found ∙ sym (ap (λ located. byte_of state (place_at state.directory located)) found)
-        by_whole (Shared a) is (Err check) found =
-            ap (λ located. byte_of (put_at state (Shared a) bytes) (place_at state.directory located)) found ∙ sym (ap (λ located. byte_of state (place_at state.directory located)) found)
+        by_whole (Private a) is (Ok v) found = cc (by_place (Private a) (place_of state.directory v) v is found refl)
+        by_whole (Shared a) is (Ok v) found = cc (by_place (Shared a) (place_of state.directory v) v is found refl)
+        by_whole (Private a) is (Err check) found = cc
+        by_whole (Shared a) is (Err check) found = cc
         by_whole (Refused code) is found same = refl
 
 -- no access gets another answer
@@ -185,21 +173,19 @@ answers-stay state (Private a) bytes access = refl
 answers-stay state (Shared a) bytes access = refl
 answers-stay state (Refused code) bytes access = refl
 
--- so what lies somewhere, and is in frames, stays so
-pub lies-after : (state : Reach) (place : Located) (bytes : List ℕ) (v : Virtual) (m : ℕ) → Lies state v m → Lies (put_at state place bytes) v m
-lies-after state (Private a) bytes v m l = record { within = l.within; few = l.few; private = l.private; shared = l.shared }
-lies-after state (Shared a) bytes v m l = record { within = l.within; few = l.few; private = l.private; shared = l.shared }
-lies-after state (Refused code) bytes v m l = l
-
 pub there-after : (state : Reach) (place : Located) (bytes : List ℕ) (v : Virtual) (m : ℕ) → AreThere state v m → AreThere (put_at state place bytes) v m
-there-after state (Private a) bytes v m all k below = grind (arith, nat_tests)
-there-after state (Shared a) bytes v m all k below = grind (arith, nat_tests)
-there-after state (Refused code) bytes v m all k below = all k below
+there-after state place bytes v m all k below = grind (arith, nat_tests)
 
 -- the first two bytes of a halfword under register 0
 pub own-located : (state : Reach) (seat address bytes : ℕ) → AreReached state.directory seat state.registers → address + bytes ≤ 16384
     → located_by state.registers address bytes false ≡ Ok (virtual_at state.directory.page (private_segment seat) address)
 own-located state seat address bytes reached fits = grind (arith, nat_tests)
+
+-- so what lies somewhere, and is in frames, stays so
+pub lies-after : (state : Reach) (place : Located) (bytes : List ℕ) (v : Virtual) (m : ℕ) → Lies state v m → Lies (put_at state place bytes) v m
+lies-after state (Private a) bytes v m l = record { within = l.within; few = l.few; private = l.private; shared = l.shared }
+lies-after state (Shared a) bytes v m l = record { within = l.within; few = l.few; private = l.private; shared = l.shared }
+lies-after state (Refused code) bytes v m l = l
 
 pub directory-after : (state : Reach) (place : Located) (bytes : List ℕ) → (put_at state place bytes).directory ≡ state.directory
 directory-after state (Private a) bytes = refl

@@ -4,16 +4,6 @@ use Rattle.storage_unit.proofs.FindLemmas.{find-map, find-same, none-passes, non
 use Rattle.storage_unit.proofs.PlaceLemmas.{place-on, registers-page}
 
 module _ (f : Reach) (first : Virtual) (n : ℕ) where
-  -- the first byte that is in no frame, by its place
-  absent-on : find (λ at. not (is_in_frame f at)) (bytes_of_range f.directory.page first n)
-      ≡ option_map (bytes_on f.directory.page first) (find (λ k. not (is_there f (on (place_of f.directory first) k))) (range_with_len 0 n))
-  absent-on = grind (arith, nat_tests, find-map, find-same, place-on)
-
-  -- the first byte that is refused
-  refused-on : (store : Bool) → find (λ at. refuses f at store) (bytes_of_range f.directory.page first n)
-      ≡ option_map (bytes_on f.directory.page first) (find (λ k. is_kept_from f (on (place_of f.directory first) k) store) (range_with_len 0 n))
-  refused-on store = grind (arith, nat_tests, find-map, find-same, place-on)
-
   -- the answer by the places of the bytes
   abbrev pub answer_by : Located → Bool → Probe
   answer_by place store =
@@ -24,8 +14,8 @@ module _ (f : Reach) (first : Virtual) (n : ℕ) where
   pub answered-by : (access : Access) → access.bytes ≡ n → answered_at f.directory.page (is_in_frame f) (refuses f) access (Ok first) ≡ answer_by (place_of f.directory first) access.store
   answered-by access bytes =
       ap (λ m. unless_absent_at (find (λ at. not (is_in_frame f at)) (bytes_of_range f.directory.page first m)) (find (λ at. refuses f at access.store) (bytes_of_range f.directory.page first m))) bytes
-      ∙ ap (λ absent. unless_absent_at absent (find (λ at. refuses f at access.store) (bytes_of_range f.directory.page first n))) absent-on
-      ∙ ap (unless_absent_at (option_map (bytes_on f.directory.page first) (find (λ k. not (is_there f (on (place_of f.directory first) k))) (range_with_len 0 n)))) (refused-on access.store)
+      ∙ ap (λ absent. unless_absent_at absent (find (λ at. refuses f at access.store) (bytes_of_range f.directory.page first n))) (grind (arith, nat_tests, find-map, find-same, place-on))
+      ∙ ap (unless_absent_at (option_map (bytes_on f.directory.page first) (find (λ k. not (is_there f (on (place_of f.directory first) k))) (range_with_len 0 n)))) (grind (arith, nat_tests, find-map, find-same, place-on))
 
   -- in the private storage it is permitted
   pub answered-private : (access : Access) (at : ℕ) → access.bytes ≡ n → place_of f.directory first ≡ Private at

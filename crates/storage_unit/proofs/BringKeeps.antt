@@ -1,5 +1,5 @@
 -- A page that comes in leaves the bytes as they were.
-use Rattle.storage_unit.proofs.Common.{◌≡◌, ℕ, ◌+◌, ◌*◌, ◌%◌, ◌<◌, false, List, length, sym, ◌∙◌, ap, subst, arith, Option, inl, inr, if◌then◌else◌, slice_index, cases_eq, length-take, length-drop, page_bytes, Layout, byte_count, page_count, page_of, byte_count_pages, has, Pool, frame_at, Brought, with_room, page_part, is_marked, byte_over, IsClean, Fits, Keeps, filled, page_in, BringKeeps}
+use Rattle.storage_unit.proofs.Common.{◌≡◌, ℕ, ◌*◌, ◌%◌, ◌<◌, false, List, length, sym, ◌∙◌, ap, subst, arith, Option, inl, inr, if◌then◌else◌, slice_index, cases_eq, length-take, length-drop, page_bytes, Layout, byte_count, page_count, page_of, byte_count_pages, has, Pool, frame_at, Brought, with_room, page_part, is_marked, byte_over, IsClean, Fits, Keeps, filled, page_in, BringKeeps}
 use Rattle.storage_unit.proofs.SizeLemmas.{rest-below, place-is}
 use Rattle.storage_unit.proofs.ByteLemmas.{in-range, same-bytes, over-none}
 use Rattle.storage_unit.proofs.LeaveLemmas.{clean-of, clean-shows}
@@ -34,8 +34,7 @@ module _ (d : Layout) (old new : Pool) (committed : List ℕ) (page : ℕ) (keep
     where
       as-committed : page ≡ page_of d place → slice_index (page_in d committed page) (place % page_bytes d.page) ≡ slice_index committed place
       as-committed here =
-          in-range committed (page * page_bytes d.page) (page_bytes d.page) (place % page_bytes d.page) (rest-below d.page place)
-          ∙ ap (slice_index committed) (ap (λ n. n * page_bytes d.page + place % page_bytes d.page) here ∙ place-is d.page place)
+          cc (in-range committed (page * page_bytes d.page) (page_bytes d.page) (place % page_bytes d.page) (rest-below d.page place), place-is d.page place)
 
   keeps : Keeps d old brought_in committed
   keeps = record {

@@ -1,7 +1,7 @@
 -- The bytes that a pool shows once a page came in and its frame was filled.
-use Rattle.storage_unit.proofs.Common.{◌≡◌, ◌≢◌, ℕ, ◌+◌, ◌*◌, ◌/◌, ◌%◌, ◌<◌, ◌≤◌, false, List, [], length, refl, sym, ◌∙◌, ap, subst, arith, Option, Some, None, All, if◌then◌else◌, slice_index, slice_index_or, slice_set, is_some, option_to_list, option_map_or, get_or-set_same, get_or-set_other, overlaid, length-overlaid, page_bytes, Layout, page_count, line_of, page_of, IsOfPage, has, Pool, frame_count, line_size, frame_at, page_at, marks_at, with_room, Brought, page_part, lines-below, is_marked, byte_in_frame, byte_over, IsClean, Fits, filled, nat_tests}
+use Rattle.storage_unit.proofs.Common.{◌≡◌, ◌≢◌, ℕ, ◌+◌, ◌*◌, ◌/◌, ◌%◌, ◌<◌, ◌≤◌, false, List, [], length, refl, sym, ◌∙◌, ap, subst, arith, Option, Some, None, All, if◌then◌else◌, slice_index, slice_index_or, slice_set, is_some, option_to_list, option_map_or, get_or-set_same, get_or-set_other, overlaid, length-overlaid, page_bytes, Layout, page_count, page_of, IsOfPage, has, Pool, frame_count, line_size, frame_at, page_at, marks_at, with_room, Brought, page_part, lines-below, is_marked, byte_in_frame, byte_over, IsClean, Fits, filled, nat_tests}
 use Rattle.lines.specs.Resident.{brought}
-use Rattle.storage_unit.proofs.SizeLemmas.{rest-below, place-is, spot-same, line-in-page}
+use Rattle.storage_unit.proofs.SizeLemmas.{rest-below, place-is, spot-same}
 use Rattle.storage_unit.proofs.ByteLemmas.{over-some, marked-is}
 use Rattle.storage_unit.proofs.LeaveLemmas.{Fewer, room-fewer}
 use Rattle.storage_unit.proofs.FillLemmas.{over-part, in-part, lines_over, lines-long, lines-here, lines-elsewhere, fold-laid}
@@ -27,8 +27,7 @@ module _ (d : Layout) (old new : Pool) (committed bytes : List ℕ) (page : ℕ)
   not-there = fewer.frames page (by_frame (frame_at old page) (sym (fits.seen.resident page) ∙ absent))
     where
       by_frame : (o : Option ℕ) → is_some o ≡ false → o ≡ None
-      by_frame None is = refl
-      by_frame (Some f) is = absurd (cc)
+      by_frame o is = grind (arith, nat_tests)
 
   -- the marks of the page, its kept lines and its frame
   marks-few : All (λ line. line < 16) (marks_at room page)
@@ -84,16 +83,14 @@ module _ (d : Layout) (old new : Pool) (committed bytes : List ℕ) (page : ℕ)
       let less : o < page_bytes room.page = omega (arith, rest-below d.page place, ap page_bytes size) in
       let at : page * page_bytes room.page + o ≡ place = ap (λ s. page * page_bytes s + o) size ∙ ap (λ n. n * page_bytes d.page + o) here ∙ place-is d.page place in
       let line : has (marks_at room page) (o / line_size room.page) ≡ is_marked d room place =
-      ap (λ s. has (marks_at room page) (o / line_size s)) size
-      ∙ ap (λ n. has (marks_at room page) n) (sym (line-in-page d.page place))
-      ∙ ap (λ n. has (marks_at room n) (line_of d place % 16)) here
-      ∙ sym (marked-is d room place) in
-      over-some d full committed place frame (ap (frame_at full) (sym here) ∙ frame-here)
-      ∙ ap (λ s. slice_index laid_over (frame * page_bytes s + o)) (sym size)
-      ∙ lines-here room.page room.kept page frame kept-there (marks_at room page) (overlaid room.bytes (frame * page_bytes room.page) bytes) o marks-few less front-there
-      ∙ ap (λ b. if b then slice_index room.kept (page * page_bytes room.page + o) else slice_index (overlaid room.bytes (frame * page_bytes room.page) bytes) (frame * page_bytes room.page + o)) line
-      ∙ ap (λ n. if is_marked d room place then slice_index room.kept n else slice_index (overlaid room.bytes (frame * page_bytes room.page) bytes) (frame * page_bytes room.page + o)) at
-      ∙ ap (λ n. if is_marked d room place then slice_index room.kept place else n) (in-part room.bytes (frame * page_bytes room.page) bytes o part-fits (omega (arith, less, long, ap page_bytes size)))
+      grind (arith, nat_tests, marked-is d room place) in
+      grind (
+        arith,
+        nat_tests,
+        over-some d full committed place frame (ap (frame_at full) (sym here) ∙ frame-here),
+        lines-here room.page room.kept page frame kept-there (marks_at room page) (overlaid room.bytes (frame * page_bytes room.page) bytes) o marks-few less front-there,
+        in-part room.bytes (frame * page_bytes room.page) bytes o part-fits (omega (arith, less, long, ap page_bytes size)),
+      )
 
   -- and of others
   pub full-elsewhere : (place : ℕ) → page ≢ page_of d place → byte_over d full committed place ≡ byte_over d room committed place
@@ -106,17 +103,13 @@ module _ (d : Layout) (old new : Pool) (committed bytes : List ℕ) (page : ℕ)
           ≡ option_map_or (byte_in_frame d room place) o (if is_marked d room place then slice_index room.kept place else slice_index committed place)
       by_frame None is = refl
       by_frame (Some f) is =
+          let k : ℕ = f * page_bytes d.page + place % page_bytes d.page in
+          let outside : (o : ℕ) → o < page_bytes room.page → frame * page_bytes room.page + o ≡ f * page_bytes d.page + place % page_bytes d.page → ⊥ =
+          λ o less same. let one : frame ≡ f = (spot-same d.page frame f o (place % page_bytes d.page) (omega (arith, less, ap page_bytes size)) (rest-below d.page place) (sym (ap (λ s. frame * page_bytes s + o) size) ∙ same)).0 in
+          let clash : None ≡ Some (page_of d place) = sym came.free ∙ ap (page_at room) one ∙ fewer.seen.there (page_of d place) f is in
+          cc in
           lines-elsewhere room.page room.kept page frame kept-there (marks_at room page) (overlaid room.bytes (frame * page_bytes room.page) bytes) k marks-few front-there outside
           ∙ over-part room.bytes (frame * page_bytes room.page) bytes k part-fits (λ j less same. outside j (omega (arith, less, long, ap page_bytes size)) same)
-        where
-          k : ℕ
-          k = f * page_bytes d.page + place % page_bytes d.page
-
-          outside : (o : ℕ) → o < page_bytes room.page → frame * page_bytes room.page + o ≡ f * page_bytes d.page + place % page_bytes d.page → ⊥
-          outside o less same =
-              let one : frame ≡ f = (spot-same d.page frame f o (place % page_bytes d.page) (omega (arith, less, ap page_bytes size)) (rest-below d.page place) (sym (ap (λ s. frame * page_bytes s + o) size) ∙ same)).0 in
-              let clash : None ≡ Some (page_of d place) = sym came.free ∙ ap (page_at room) one ∙ fewer.seen.there (page_of d place) f is in
-              cc
 
   pub full-marked : (place : ℕ) → is_marked d full place ≡ is_marked d old place
   full-marked place = fewer.marks place

@@ -1,5 +1,5 @@
 -- The bytes of a store that a pool shows, place by place.
-use Rattle.storage_unit.proofs.Common.{◌≡◌, ◌≢◌, ℕ, ◌+◌, ◌-◌, ◌*◌, ◌%◌, ◌<◌, ◌≤◌, Bool, true, false, List, [], ◌∷◌, length, drop, refl, sym, ◌∙◌, ap, arith, Option, Some, None, ◌==◌, ◌&&◌, not, if◌then◌else◌, slice_index, slice_index_or, slice_range, option_map_or, ne_eqb, eqb-false, get_or-take, get_or-drop, get_or-map-range_with_len, length-map-range_with_len, same_number_lists, overlaid, overlaid_before, overlaid_within, overlaid_behind, page_bytes, Layout, byte_count, line_of, page_of, has, page_of_line, Pool, IsSeen, frame_at, marks_at, frame_bytes, paging_after, gone, gone-from, some-within, gone-frame, gone-stays, gone-absent, frame-long, is_marked, byte_in_frame, byte_over, bytes_over, nat_tests}
+use Rattle.storage_unit.proofs.Common.{◌≡◌, ℕ, ◌+◌, ◌-◌, ◌*◌, ◌%◌, ◌<◌, ◌≤◌, Bool, true, false, List, [], ◌∷◌, length, drop, refl, sym, ◌∙◌, ap, arith, Option, Some, None, ◌==◌, ◌&&◌, not, if◌then◌else◌, slice_index, slice_index_or, slice_range, option_map_or, ne_eqb, eqb-false, get_or-take, get_or-drop, get_or-map-range_with_len, length-map-range_with_len, same_number_lists, overlaid_before, overlaid_within, overlaid_behind, page_bytes, Layout, byte_count, line_of, page_of, has, page_of_line, Pool, IsSeen, frame_at, marks_at, frame_bytes, paging_after, gone, gone-from, some-within, gone-frame, gone-stays, gone-absent, frame-long, is_marked, byte_in_frame, byte_over, bytes_over, nat_tests}
 use Rattle.storage_unit.proofs.SizeLemmas.{rest-below, place-is, spot-same, page-of-line}
 
 -- a byte of a part of a list
@@ -79,30 +79,20 @@ module _ (d : Layout) (pool : Pool) (committed : List ℕ) (page place : ℕ) (s
         let rest = rest-below d.page place in
         let at = at-place here in
         let back : place - page * page_bytes pool.page ≡ place % page_bytes d.page = omega (arith, at, start) in
-        ap (λ (list : List ℕ). slice_index list place) kept-is
-        ∙ ap (λ (b : Bool). slice_index (if b then pool.kept else overlaid pool.kept (page * page_bytes pool.page) (frame_bytes pool frame)) place) some
-        ∙ overlaid_within pool.kept (page * page_bytes pool.page) (frame_bytes pool frame) place 0
-        (omega (arith, room, start)) (omega (arith, at, start)) (omega (arith, at, start, long, rest))
-        ∙ ap (slice_index (frame_bytes pool frame)) back
-        ∙ in-range pool.bytes (frame * page_bytes pool.page) (page_bytes pool.page) (place % page_bytes d.page) (omega (arith, rest, ap page_bytes size))
-        ∙ ap (λ s. slice_index pool.bytes (frame * page_bytes s + place % page_bytes d.page)) size
-
-    kept-elsewhere : page ≢ page_of d place → slice_index (gone pool page).kept place ≡ slice_index pool.kept place
-    kept-elsewhere apart = grind (arith, nat_tests, kept-is, rest-below, place-is, spot-same, overlaid_before, room, start, overlaid_behind, long)
-
-    here-over : (marked : Bool) → (page == page_of d place) ≡ true → is_marked d pool place ≡ marked
-        → byte_over d (gone pool page) committed place ≡ (if not marked then slice_index committed place else byte_over d pool committed place)
-    here-over marked a b = grind (arith, nat_tests, over-none, gone-frame, marks, kept-here, over-some)
+        cc (
+          overlaid_within pool.kept (page * page_bytes pool.page) (frame_bytes pool frame) place 0 (omega (arith, room, start)) (omega (arith, at, start)) (omega (arith, at, start, long, rest)),
+          in-range pool.bytes (frame * page_bytes pool.page) (page_bytes pool.page) (place % page_bytes d.page) (omega (arith, rest, ap page_bytes size)),
+        )
 
     elsewhere-over : (page == page_of d place) ≡ false → byte_over d (gone pool page) committed place ≡ byte_over d pool committed place
-    elsewhere-over a = grind (arith, nat_tests, gone-frame, marks, bytes, kept-elsewhere, eqb-false)
+    elsewhere-over a = grind (arith, nat_tests, gone-frame, marks, bytes, kept-is, rest-below, place-is, spot-same, overlaid_before, room, start, overlaid_behind, long, eqb-false)
 
     present : Leaves (gone pool page)
     present = by_tests (page == page_of d place) (is_marked d pool place) refl refl
       where
         by_tests : (here marked : Bool) → (page == page_of d place) ≡ here → is_marked d pool place ≡ marked
             → byte_over d (gone pool page) committed place ≡ (if here && not marked then slice_index committed place else byte_over d pool committed place)
-        by_tests true marked a b = here-over marked a b
+        by_tests true marked a b = grind (arith, nat_tests, over-none, gone-frame, marks, kept-here, over-some)
         by_tests false marked a b = elsewhere-over a
 
   pub gone-over : byte_over d (gone pool page) committed place ≡ (if page == page_of d place && not (is_marked d pool place) then slice_index committed place else byte_over d pool committed place)
@@ -111,12 +101,4 @@ module _ (d : Layout) (pool : Pool) (committed : List ℕ) (page place : ℕ) (s
 -- what is committed counts only where no line is marked
 unseen : (o : Option ℕ) (marked : Bool) (shown : ℕ → ℕ) (kept first second : ℕ) → (marked ≡ false → first ≡ second)
     → option_map_or shown o (if marked then kept else first) ≡ option_map_or shown o (if marked then kept else second)
-unseen (Some frame) marked shown kept first second same = refl
-unseen None true shown kept first second same = refl
-unseen None false shown kept first second same = same refl
-
-pub byte-unseen :
-    (directory : Layout) (pool : Pool) (committed next : List ℕ) (place : ℕ)
-    → (is_marked directory pool place ≡ false → slice_index next place ≡ slice_index committed place)
-    → byte_over directory pool next place ≡ byte_over directory pool committed place
-byte-unseen directory pool committed next place same = grind (arith, nat_tests)
+unseen o marked shown kept first second same = grind (arith, nat_tests)

@@ -1,5 +1,5 @@
 -- The private bytes behind those that were used stay zeros.
-use Rattle.storage_unit.proofs.Common.{◌≡◌, ℕ, ◌+◌, ◌-◌, ◌*◌, ◌<◌, ◌≤◌, Bool, true, false, List, ◌++◌, length, replicate, refl, sym, ◌∙◌, ap, subst, arith, inl, inr, cases_eq, cases_lt, slice_index, slice_range, slice_set, get_or-set_same, get_or-set_other, get_or-replicate, get_or_past, get_or-append_right, length-set, length-append, length-replicate, length-take, length-drop, overlaid, Virtual, Reach, is_private, offset_of, place_of, put_at, IsSound, Lies, AreClear, AreUsed}
+use Rattle.storage_unit.proofs.Common.{◌≡◌, ℕ, ◌+◌, ◌-◌, ◌*◌, ◌<◌, ◌≤◌, Bool, true, false, List, ◌++◌, length, replicate, refl, ◌∙◌, ap, arith, inl, inr, cases_eq, cases_lt, slice_index, slice_range, slice_set, get_or-set_same, get_or-set_other, get_or-replicate, get_or_past, get_or-append_right, length-set, length-append, length-replicate, length-take, length-drop, overlaid, Virtual, Reach, is_private, offset_of, place_of, put_at, IsSound, Lies, AreClear, AreUsed, nat_tests}
 use Rattle.storage_unit.proofs.ByteLemmas.{in-range}
 use Rattle.storage_unit.proofs.FillLemmas.{over-part, in-part}
 use Rattle.storage_unit.proofs.ReadyLemmas.{put-low}
@@ -20,23 +20,7 @@ pub clear-put :
 clear-put state sound at bytes lies used after clear stays more = by_test (is_private at.segment) refl
   where
     by_test : (own : Bool) → is_private at.segment ≡ own → AreClear after (put_at state (place_of state.directory at) bytes).pool.bytes
-    by_test false shared =
-        subst (λ (list : List ℕ). AreClear list (put_at state (place_of state.directory at) bytes).pool.bytes) (sym (stays shared))
-        (clear-kept used state.pool.bytes _ (λ k low. put-low state sound at bytes lies k low (λ own above under. absurd (let clash : false ≡ true = sym shared ∙ own in cc))) clear)
-    by_test true own =
-        let now = more own in
-        let (mine, runner, few, segment, begun, fits) = lies.private own in
-        record {
-          sixteen = now.sixteen;
-          few = now.few;
-          zeros = λ seat offset low past below.
-              put-low state sound at bytes lies (seat * 16384 + offset) (omega (arith, low, below))
-              (λ again above under.
-              let same : seat ≡ mine = omega (arith, above, under, below, fits, runner) in
-              let used_up : offset_of state.directory.page at + length bytes ≤ slice_index after seat = subst (λ n. offset_of state.directory.page at + length bytes ≤ slice_index after n) (omega (arith, segment, same)) now.upto in
-              omega (arith, under, past, used_up, same, runner))
-              ∙ clear.zeros seat offset low (omega (arith, past, now.more seat)) below;
-        }
+    by_test own shared = grind (arith, nat_tests, clear-kept, put-low)
 
 -- the bytes of one seat
 pub seat-clear :
@@ -51,29 +35,26 @@ seat-clear used bytes seat low clear offset past = elim (cases_lt offset 16384) 
 pub clear-begun :
     (used bytes image : List ℕ) (seat : ℕ) → seat < 16 → length image ≤ 16384 → 262144 ≤ length bytes → AreClear used bytes
     → AreClear (slice_set used seat (length image)) (overlaid bytes (seat * 16384) (image ++ replicate (16384 - length image) 0))
-clear-begun used bytes image seat small short long clear = record {
-  sixteen = length-set used seat (length image) ∙ clear.sixteen;
-  few = λ other. elim (cases_eq other seat) [ inl same ↦ omega (arith, ap (slice_index (slice_set used seat (length image))) same, here, short) | inr apart ↦ omega (arith, get_or-set_other used seat other (length image) 0 apart, clear.few other) ];
-  zeros = λ other offset low past below. elim (cases_eq other seat) [
-    | inl same ↦
-        let behind : length image ≤ offset = omega (arith, past, ap (slice_index (slice_set used seat (length image))) same, here) in
-        ap (λ n. slice_index (overlaid bytes (seat * 16384) (image ++ replicate (16384 - length image) 0)) (n * 16384 + offset)) same
-        ∙ in-part bytes (seat * 16384) (image ++ replicate (16384 - length image) 0) offset (omega (arith, whole-long, small, long)) (omega (arith, whole-long, below))
-        ∙ tail offset behind below
-    | inr apart ↦
-        over-part bytes (seat * 16384) (image ++ replicate (16384 - length image) 0) (other * 16384 + offset) (omega (arith, whole-long, small, long)) (λ j less same. apart (omega (arith, less, whole-long, same, below)))
-        ∙ clear.zeros other offset low (omega (arith, past, get_or-set_other used seat other (length image) 0 apart)) below
-  ];
-}
-  where
-    here : slice_index (slice_set used seat (length image)) seat ≡ length image
-    here = get_or-set_same used seat (length image) 0 (omega (arith, small, clear.sixteen))
-
-    whole-long : length (image ++ replicate (16384 - length image) 0) ≡ 16384
-    whole-long = omega (arith, short, length-append image (replicate (16384 - length image) 0), length-replicate {A = ℕ} (16384 - length image) 0)
-
-    tail : (offset : ℕ) → length image ≤ offset → offset < 16384 → slice_index (image ++ replicate (16384 - length image) 0) offset ≡ 0
-    tail offset behind below = grind (arith, get_or-append_right, get_or-replicate)
+clear-begun used bytes image seat small short long clear =
+    let here : slice_index (slice_set used seat (length image)) seat ≡ length image = get_or-set_same used seat (length image) 0 (omega (arith, small, clear.sixteen)) in
+    let whole-long : length (image ++ replicate (16384 - length image) 0) ≡ 16384 =
+    omega (arith, short, length-append image (replicate (16384 - length image) 0), length-replicate {A = ℕ} (16384 - length image) 0) in
+    let tail : (offset : ℕ) → length image ≤ offset → offset < 16384 → slice_index (image ++ replicate (16384 - length image) 0) offset ≡ 0 =
+    λ offset behind below. grind (arith, get_or-append_right, get_or-replicate) in
+    record {
+      sixteen = length-set used seat (length image) ∙ clear.sixteen;
+      few = λ other. elim (cases_eq other seat) [ inl same ↦ omega (arith, ap (slice_index (slice_set used seat (length image))) same, here, short) | inr apart ↦ omega (arith, get_or-set_other used seat other (length image) 0 apart, clear.few other) ];
+      zeros = λ other offset low past below. elim (cases_eq other seat) [
+        | inl same ↦
+            let behind : length image ≤ offset = omega (arith, past, ap (slice_index (slice_set used seat (length image))) same, here) in
+            ap (λ n. slice_index (overlaid bytes (seat * 16384) (image ++ replicate (16384 - length image) 0)) (n * 16384 + offset)) same
+            ∙ in-part bytes (seat * 16384) (image ++ replicate (16384 - length image) 0) offset (omega (arith, whole-long, small, long)) (omega (arith, whole-long, below))
+            ∙ tail offset behind below
+        | inr apart ↦
+            over-part bytes (seat * 16384) (image ++ replicate (16384 - length image) 0) (other * 16384 + offset) (omega (arith, whole-long, small, long)) (λ j less same. apart (omega (arith, less, whole-long, same, below)))
+            ∙ clear.zeros other offset low (omega (arith, past, get_or-set_other used seat other (length image) 0 apart)) below
+      ];
+    }
 
 -- nothing was used
 zeros-only : (n k : ℕ) → slice_index (replicate n 0) k ≡ 0

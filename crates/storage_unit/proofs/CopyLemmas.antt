@@ -26,14 +26,15 @@ shown-split state place m n =
     element : (k : ℕ) → k < m + n → slice_index (bytes_shown state place m ++ bytes_shown state (on place m) n) k ≡ slice_index (bytes_shown state place (m + n)) k
     element k below = elim (cases_lt k m) [
       | inl less ↦
-          get_or_append_left (bytes_shown state place m) (bytes_shown state (on place m) n) 0 k (omega (arith, less, shown-long state place m))
-          ∙ shown-at state place m k less ∙ sym (shown-at state place (m + n) k below)
+          cc (get_or_append_left (bytes_shown state place m) (bytes_shown state (on place m) n) 0 k (omega (arith, less, shown-long state place m)), shown-at state place m k less, shown-at state place (m + n) k below)
       | inr past ↦
           let back : m + (k - m) ≡ k = omega (arith, past) in
-          get_or-append_right (bytes_shown state place m) (bytes_shown state (on place m) n) m k 0 (shown-long state place m) past
-          ∙ shown-at state (on place m) n (k - m) (omega (arith, past, below))
-          ∙ ap (byte_of state) (on-on place m (k - m) ∙ ap (on place) back)
-          ∙ sym (shown-at state place (m + n) k below)
+          cc (
+            get_or-append_right (bytes_shown state place m) (bytes_shown state (on place m) n) m k 0 (shown-long state place m) past,
+            shown-at state (on place m) n (k - m) (omega (arith, past, below)),
+            on-on place m (k - m),
+            shown-at state place (m + n) k below,
+          )
     ]
 
 -- the frame that the table found is one of the pool's
@@ -57,8 +58,7 @@ module _ (state : Reach) (sound : IsSound state) (at : Virtual) (n : ℕ) (some 
         let page : (place + k) / page_bytes state.directory.page ≡ place / page_bytes state.directory.page = same-page-on state.directory.page place k (omega (arith, first, within)) in
         let rest : (place + k) % page_bytes state.directory.page ≡ at.byte + k = rest-on state.directory.page place k (omega (arith, first, within)) ∙ ap (λ n. n + k) first in
         let there : frame_at state.pool (page_of state.directory (place + k)) ≡ Some frame =
-        ap (frame_at state.pool) page
-        ∙ sym (finds-shared state sound at n some lies other) ∙ is in
+        cc (finds-shared state sound at n some lies other) in
         ap (λ p. byte_of state (on p k)) (shared-is state.directory at other)
         ∙ ap (λ (o : Option ℕ). option_map_or (λ f. slice_index state.pool.bytes (f * page_bytes state.directory.page + (place + k) % page_bytes state.directory.page)) o 0) there
         ∙ ap (slice_index state.pool.bytes) (omega (arith, rest))
@@ -71,26 +71,21 @@ module _ (state : Reach) (sound : IsSound state) (at : Virtual) (n : ℕ) (some 
   pub part-shown : (frame : ℕ) → look_up (table_of state).keys (key_of at) ≡ Some frame → at.byte + n ≤ page_bytes state.directory.page
       → part_of state.pool frame at.byte n ≡ bytes_shown state (place_of state.directory at) n
   part-shown frame is within =
+      let fits : frame * page_bytes state.directory.page + page_bytes state.directory.page ≤ length state.pool.bytes =
+      omega (
+        arith,
+        page_part frame (frame_count state.pool.page state.pool.frames) (page_bytes state.directory.page) (found-below state at frame sound is),
+        sound.seen.bytes,
+        ap (λ s. frame_count state.pool.page state.pool.frames * page_bytes s) sound.size,
+      ) in
+      let long : length (slice_range state.pool.bytes (frame * page_bytes state.directory.page + at.byte) (frame * page_bytes state.directory.page + at.byte + n)) ≡ n =
+      simp (length-take, length-drop) (omega (arith, fits, within)) in
       ap (λ s. slice_range state.pool.bytes (frame * page_bytes s + at.byte) (frame * page_bytes s + at.byte + n)) sound.size
       ∙ same_number_lists (slice_range state.pool.bytes (frame * page_bytes state.directory.page + at.byte) (frame * page_bytes state.directory.page + at.byte + n)) (bytes_shown state (place_of state.directory at) n)
       (long ∙ sym (shown-long state (place_of state.directory at) n))
       (λ k below.
       let small : k < n = omega (arith, below, long) in
-      in-range state.pool.bytes (frame * page_bytes state.directory.page + at.byte) n k small
-      ∙ sym (shown-found frame k is (omega (arith, small, within)))
-      ∙ sym (shown-at state (place_of state.directory at) n k small))
-    where
-      fits : frame * page_bytes state.directory.page + page_bytes state.directory.page ≤ length state.pool.bytes
-      fits =
-          omega (
-            arith,
-            page_part frame (frame_count state.pool.page state.pool.frames) (page_bytes state.directory.page) (found-below state at frame sound is),
-            sound.seen.bytes,
-            ap (λ s. frame_count state.pool.page state.pool.frames * page_bytes s) sound.size,
-          )
-
-      long : length (slice_range state.pool.bytes (frame * page_bytes state.directory.page + at.byte) (frame * page_bytes state.directory.page + at.byte + n)) ≡ n
-      long = simp (length-take, length-drop) (omega (arith, fits, within))
+      cc (in-range state.pool.bytes (frame * page_bytes state.directory.page + at.byte) n k small, shown-found frame k is (omega (arith, small, within)), shown-at state (place_of state.directory at) n k small))
 
   -- bytes that are in frames are found
   pub found-some : AreThere state at n → look_up (table_of state).keys (key_of at) ≡ None → ⊥

@@ -1,5 +1,5 @@
 -- A page whose read failed leaves the bytes as they were.
-use Rattle.storage_unit.proofs.Common.{◌≡◌, ℕ, ◌%◌, ◌<◌, Bool, true, false, List, length, refl, sym, ◌∙◌, ap, subst, Option, inl, inr, if◌then◌else◌, slice_index, cases_eq, page_bytes, Layout, byte_count, page_count, page_of, has, Pool, IsSeen, frame_at, Brought, with_room, emptied, is_marked, byte_over, IsClean, Fits, Keeps, filled, FailedBringKeeps}
+use Rattle.storage_unit.proofs.Common.{◌≡◌, ℕ, ◌<◌, Bool, true, false, List, length, refl, sym, ◌∙◌, ap, subst, Option, inl, inr, if◌then◌else◌, slice_index, cases_eq, page_bytes, Layout, byte_count, page_count, page_of, has, Pool, IsSeen, frame_at, Brought, with_room, emptied, is_marked, byte_over, IsClean, Fits, Keeps, filled, FailedBringKeeps, arith, nat_tests}
 use Rattle.storage_unit.proofs.ByteLemmas.{same-bytes, over-none}
 use Rattle.storage_unit.proofs.LeaveLemmas.{clean-shows, emptied-over, emptied-clean}
 use Rattle.storage_unit.proofs.BringLemmas.{full, fewer, size, not-there, bytes-long, filled-is, full-here, full-elsewhere, full-marked}
@@ -31,21 +31,24 @@ module _ (d : Layout) (old new : Pool) (committed bytes : List ℕ) (page : ℕ)
       let less = fewer d old new committed bytes page keep frame fits clean within absent came long in
       elim (cases_eq page (page_of d place)) [
         | inl here ↦
-            full-here d old new committed bytes page keep frame fits clean within absent came long place here
-            ∙ ap (λ b. if b then slice_index (with_room old keep).kept place else slice_index bytes (place % page_bytes d.page)) (less.marks place ∙ marked)
-            ∙ sym (ap (λ b. if b then slice_index (with_room old keep).kept place else slice_index committed place) (less.marks place ∙ marked))
-            ∙ sym (over-none d (with_room old keep) committed place
-            (ap (frame_at (with_room old keep)) (sym here) ∙ not-there d old new committed bytes page keep frame fits clean within absent came long))
-            ∙ less.over place below
+            grind (
+              arith,
+              nat_tests,
+              full-here d old new committed bytes page keep frame fits clean within absent came long place here,
+              less.marks place,
+              over-none d (with_room old keep) committed place (ap (frame_at (with_room old keep)) (sym here) ∙ not-there d old new committed bytes page keep frame fits clean within absent came long),
+              less.over place below,
+            )
         | inr apart ↦ full-elsewhere d old new committed bytes page keep frame fits clean within absent came long place apart ∙ less.over place below
       ]
 
   each : (place : ℕ) → place < byte_count d → byte_over d (emptied brought_in) committed place ≡ byte_over d old committed place
   each place below =
-      emptied-over d brought_in committed place seen (size d old new committed bytes page keep frame fits clean within absent came long)
-      ∙ ap (λ b. if b then byte_over d brought_in committed place else slice_index committed place)
-      (full-marked d old new committed bytes page keep frame fits clean within absent came long place)
-      ∙ by_mark (is_marked d old place) refl
+      cc (
+        emptied-over d brought_in committed place seen (size d old new committed bytes page keep frame fits clean within absent came long),
+        full-marked d old new committed bytes page keep frame fits clean within absent came long place,
+        by_mark (is_marked d old place) refl,
+      )
     where
       by_mark : (marked : Bool) → is_marked d old place ≡ marked → (if marked then byte_over d brought_in committed place else slice_index committed place) ≡ byte_over d old committed place
       by_mark true is = shows place below is

@@ -1,5 +1,5 @@
 -- The first number of a range that passes a test.
-use Rattle.storage_unit.proofs.Common.{◌≡◌, ℕ, zero, suc, ◌+◌, ◌<◌, ◌≤◌, Bool, true, false, List, [], ◌∷◌, refl, ◌∙◌, ap, arith, Some, None, inl, inr, find, map, option_map, cond, range_with_len, cases_lt, nat_tests}
+use Rattle.storage_unit.proofs.Common.{◌≡◌, ℕ, zero, suc, ◌+◌, ◌<◌, ◌≤◌, Bool, true, false, List, [], ◌∷◌, refl, arith, Some, None, find, map, option_map, range_with_len, nat_tests}
 
 -- the first of what a function gives
 pub find-map : {A B : Type 0} (t : B → Bool) (f : A → B) (xs : List A) → find t (map f xs) ≡ option_map f (find (λ x. t (f x)) xs)
@@ -9,31 +9,18 @@ find-map t f (x ∷ xs) = grind (arith, nat_tests, find-map t f xs)
 -- tests that agree find the same
 pub find-same : {A : Type 0} (p q : A → Bool) (xs : List A) → ((x : A) → p x ≡ q x) → find p xs ≡ find q xs
 find-same p q [] same = refl
-find-same p q (x ∷ xs) same =
-    ap (λ (first : Bool). cond first (Some x) (find p xs)) (same x) ∙ ap (λ rest. cond (q x) (Some x) rest) (find-same p q xs same)
+find-same p q (x ∷ xs) same = grind (arith, nat_tests, same x, find-same p q xs same)
 
 -- where none is found, none passes
 pub none-passes : (p : ℕ → Bool) (start n : ℕ) → find p (range_with_len start n) ≡ None → (k : ℕ) → start ≤ k → k < start + n → p k ≡ false
 none-passes p start zero none k above below = absurd (omega (arith, above, below))
-none-passes p start (suc n) none k above below = by_test (p start) refl none (λ none above below. none-passes p (start + 1) n none k above below)
-  where
-    by_test : (passes : Bool) → p start ≡ passes → cond passes (Some start) (find p (range_with_len (start + 1) n)) ≡ None
-        → (find p (range_with_len (start + 1) n) ≡ None → start + 1 ≤ k → k < start + 1 + n → p k ≡ false) → p k ≡ false
-    by_test true is none rest = absurd (cc)
-    by_test false is none rest =
-        elim (cases_lt start k) [
-          | inl later ↦ rest none (omega (arith, later)) (omega (arith, below))
-          | inr here ↦
-              let same : k ≡ start = omega (arith, here, above) in
-              ap p same ∙ is
-        ]
+none-passes p start (suc n) none k above below = grind (arith, nat_tests, λ (later : find p (range_with_len (start + 1) n) ≡ None). none-passes p (start + 1) n later k)
 
 -- and where none passes, none is found
 pub none-found : (p : ℕ → Bool) (start n : ℕ) → ((k : ℕ) → start ≤ k → k < start + n → p k ≡ false) → find p (range_with_len start n) ≡ None
 none-found p start zero none = refl
 none-found p start (suc n) none =
-    ap (λ (first : Bool). cond first (Some start) (find p (range_with_len (start + 1) n))) (none start (omega arith) (omega arith))
-    ∙ none-found p (start + 1) n (λ k above below. none k (omega (arith, above)) (omega (arith, below)))
+    cc (none start (omega arith) (omega arith), none-found p (start + 1) n (λ k above below. none k (omega (arith, above)) (omega (arith, below))))
 
 -- the first that passes, where none before it does
 pub first-found : (p : ℕ → Bool) (start n at : ℕ) → start ≤ at → at < start + n → ((k : ℕ) → start ≤ k → k < at → p k ≡ false) → p at ≡ true → find p (range_with_len start n) ≡ Some at

@@ -1,6 +1,6 @@
 -- What the table of a unit holds, and where it finds a page.
-use Rattle.storage_unit.proofs.Common.{◌≡◌, ◌≢◌, ℕ, ◌+◌, ◌-◌, ◌*◌, ◌/◌, ◌%◌, ◌<◌, ◌≤◌, Bool, true, false, List, [], ◌∷◌, ◌++◌, length, refl, sym, ◌∙◌, ap, subst, arith, get_or, Option, Some, None, inl, inr, nat_lt, if◌then◌else◌, slice_index_or, slice_set, option_map, cases_lt, cases_eq, nat_tests, same_lists, length-set, length-append, get_or-set_same, get_or-set_other, get_or_past, get_or_append_left, get_or-append_right, get_or-map-range_with_len, length-map-range_with_len, overlaid, overlaid_before, overlaid_within, overlaid_behind, length-overlaid, PageSize, Layout, page_count, IsLegal, Key, key_to, key_in, look_up, look_up-is, Pool, IsSeen, private_frames, frame_at, page_at, some-within, private_segment, key_of_page, seat_pages, held_private, held_in, keys_with}
-use Rattle.storage_unit.proofs.SizeLemmas.{seat-frame, seat-first, seat-rest, seat-is, seat-room, seat-before, seat-behind}
+use Rattle.storage_unit.proofs.Common.{append_assoc, ◌≡◌, ◌≢◌, ℕ, ◌+◌, ◌-◌, ◌*◌, ◌/◌, ◌%◌, ◌<◌, ◌≤◌, Bool, true, List, [], ◌∷◌, ◌++◌, length, refl, sym, ◌∙◌, ap, subst, arith, get_or, Option, Some, None, inl, inr, nat_lt, if◌then◌else◌, slice_index_or, slice_set, option_map, cases_lt, nat_tests, same_lists, length-set, get_or-set_same, get_or-set_other, get_or_past, get_or-map-range_with_len, length-map-range_with_len, overlaid, overlaid_before, overlaid_within, overlaid_behind, length-overlaid, PageSize, Layout, page_count, IsLegal, Key, key_to, key_in, look_up, look_up-is, Pool, IsSeen, private_frames, frame_at, page_at, some-within, private_segment, key_of_page, seat_pages, held_private, held_in, keys_with, page_in, drop, drop-set, overlaid-joined, take, take-append-drop, take-set}
+use Rattle.storage_unit.proofs.SizeLemmas.{seat-frame, seat-first, seat-rest, seat-room, seat-before, seat-behind}
 use Rattle.storage_unit.proofs.KeyLemmas.{same-page, key-low}
 
 -- what a frame holds
@@ -37,8 +37,7 @@ is-private size t frame key is = grind (arith, nat_tests)
 
 -- a frame of the store that holds something holds a page that the pool has there
 has-page : (d : Layout) (o : Option ℕ) (key : Key) → option_map (key_of_page d) o ≡ Some key → (page : ℕ) × (o ≡ Some page) × (key_of_page d page ≡ key)
-has-page d None key is = absurd (cc)
-has-page d (Some page) key is = (page, refl, cc)
+has-page d o key is = grind (arith, nat_tests)
 
 module _ (d : Layout) (legal : IsLegal d.segments) (pool : Pool) (seen : IsSeen pool) (size : pool.page ≡ d.page) (pages : length pool.frame_of ≡ page_count d) (t : ℕ → ℕ) where
   -- a frame that the pool has a page in is one of the store, and so is the page
@@ -53,28 +52,23 @@ module _ (d : Layout) (legal : IsLegal d.segments) (pool : Pool) (seen : IsSeen 
 
   -- the table finds a page of the store where the pool has it
   pub finds-page : (page : ℕ) → page < page_count d → look_up (keys_with d t pool.frames pool.page_in) (key_of_page d page) ≡ frame_at pool page
-  finds-page page inside = look_up-is (keys_with d t pool.frames pool.page_in) (key_of_page d page) (frame_at pool page) there only
-    where
-      there : (frame : ℕ) → frame_at pool page ≡ Some frame → key_in (keys_with d t pool.frames pool.page_in) frame ≡ Some (key_of_page d page)
-      there frame is =
-          let at = seen.there page frame is in
-          key-at d t pool.frames pool.page_in frame (below page frame at)
-          ∙ held-store d t pool.page_in frame (above page frame at)
-          ∙ ap (λ (o : Option ℕ). option_map (key_of_page d) o) at
-
-      only : (frame : ℕ) → key_in (keys_with d t pool.frames pool.page_in) frame ≡ Some (key_of_page d page) → frame_at pool page ≡ Some frame
-      only frame is =
-          let within = key-within d t pool.frames pool.page_in frame (key_of_page d page) is in
-          let held = sym (key-at d t pool.frames pool.page_in frame within) ∙ is in
-          elim (cases_lt frame (private_frames d.page)) [
-            | inl low ↦
-                let own = is-private d.page t frame (key_of_page d page) (sym (held-private d t pool.page_in frame low) ∙ held) in
-                absurd (omega (arith, key-low d legal page inside, own.segment))
-            | inr high ↦
-                let (other, at, same) = has-page d (page_at pool frame) (key_of_page d page) (sym (held-store d t pool.page_in frame high) ∙ held) in
-                let one : other ≡ page = same-page d legal other page (page-there other frame at) inside same in
-                ap (frame_at pool) (sym one) ∙ seen.back other frame at
-          ]
+  finds-page page inside =
+      let there : (frame : ℕ) → frame_at pool page ≡ Some frame → key_in (keys_with d t pool.frames pool.page_in) frame ≡ Some (key_of_page d page) =
+      λ frame is. let at = seen.there page frame is in
+      cc (key-at d t pool.frames pool.page_in frame (below page frame at), held-store d t pool.page_in frame (above page frame at)) in
+      let only : (frame : ℕ) → key_in (keys_with d t pool.frames pool.page_in) frame ≡ Some (key_of_page d page) → frame_at pool page ≡ Some frame =
+      λ frame is. let within = key-within d t pool.frames pool.page_in frame (key_of_page d page) is in
+      let held = sym (key-at d t pool.frames pool.page_in frame within) ∙ is in
+      elim (cases_lt frame (private_frames d.page)) [
+        | inl low ↦
+            let own = is-private d.page t frame (key_of_page d page) (sym (held-private d t pool.page_in frame low) ∙ held) in
+            absurd (omega (arith, key-low d legal page inside, own.segment))
+        | inr high ↦
+            let (other, at, same) = has-page d (page_at pool frame) (key_of_page d page) (sym (held-store d t pool.page_in frame high) ∙ held) in
+            let one : other ≡ page = same-page d legal other page (page-there other frame at) inside same in
+            ap (frame_at pool) (sym one) ∙ seen.back other frame at
+      ] in
+      look_up-is (keys_with d t pool.frames pool.page_in) (key_of_page d page) (frame_at pool page) there only
 
   -- and a private page in the frame of its seat, if it is there
   pub finds-private :
@@ -89,17 +83,7 @@ module _ (d : Layout) (legal : IsLegal d.segments) (pool : Pool) (seen : IsSeen 
       there frame is = by_test (nat_lt index (t seat)) refl is
         where
           by_test : (b : Bool) → nat_lt index (t seat) ≡ b → (if b then Some (seat * seat_pages d.page + index) else None) ≡ Some frame → key_in (keys_with d t pool.frames pool.page_in) frame ≡ Some (key_to (private_segment seat) index)
-          by_test false test is = absurd (cc)
-          by_test true test is =
-              let at : seat * seat_pages d.page + index ≡ frame = cc in
-              let low : frame < private_frames d.page = subst (λ f. f < private_frames d.page) at (seat-frame d.page seat index few small) in
-              let first : frame / seat_pages d.page ≡ seat = ap (λ f. f / seat_pages d.page) (sym at) ∙ seat-first d.page seat index small in
-              let rest : frame % seat_pages d.page ≡ index = ap (λ f. f % seat_pages d.page) (sym at) ∙ seat-rest d.page seat index small in
-              key-at d t pool.frames pool.page_in frame (omega (arith, low))
-              ∙ held-private d t pool.page_in frame low
-              ∙ ap (λ n. if nat_lt n (t (frame / seat_pages d.page)) then Some (key_to (private_segment (frame / seat_pages d.page)) n) else None) rest
-              ∙ ap (λ n. if nat_lt index (t n) then Some (key_to (private_segment n) index) else None) first
-              ∙ ap (λ (b : Bool). if b then Some (key_to (private_segment seat) index) else None) test
+          by_test b test is = grind (arith, nat_tests, seat-frame, seat-first, seat-rest, key-at, held-private)
 
       only : (frame : ℕ) → key_in (keys_with d t pool.frames pool.page_in) frame ≡ Some (key_to (private_segment seat) index) → (if nat_lt index (t seat) then Some (seat * seat_pages d.page + index) else None) ≡ Some frame
       only frame is =
@@ -112,7 +96,7 @@ module _ (d : Layout) (legal : IsLegal d.segments) (pool : Pool) (seen : IsSeen 
                 let rest : frame % seat_pages d.page ≡ index = omega (arith, one.page) in
                 let less : index < t seat = subst (λ n. n < t seat) rest (subst (λ n. frame % seat_pages d.page < t n) first one.among) in
                 let test : nat_lt index (t seat) ≡ true = grind (arith, nat_tests, less) in
-                ap (λ (b : Bool). if b then Some (seat * seat_pages d.page + index) else None) test ∙ ap (λ (n : ℕ). Some n) (ap (λ n. n * seat_pages d.page + index) (sym first) ∙ ap (λ n. frame / seat_pages d.page * seat_pages d.page + n) (sym rest) ∙ seat-is d.page frame)
+                ap (λ (b : Bool). if b then Some (seat * seat_pages d.page + index) else None) test ∙ ap (λ (n : ℕ). Some n) (ap (λ n. n * seat_pages d.page + index) (sym first) ∙ ap (λ n. frame / seat_pages d.page * seat_pages d.page + n) (sym rest) ∙ (grind (arith, nat_tests)))
             | inr high ↦
                 let (other, at, same) = has-page d (page_at pool frame) (key_to (private_segment seat) index) (sym (held-store d t pool.page_in frame high) ∙ held) in
                 let low = key-low d legal other (page-there other frame at) in
@@ -123,76 +107,37 @@ module _ (d : Layout) (legal : IsLegal d.segments) (pool : Pool) (seen : IsSeen 
 pub overlaid-more :
     {X : Type 0} (xs : List X) (at : ℕ) (part : List X) (x : X) → at + length part < length xs
     → slice_set (overlaid xs at part) (at + length part) x ≡ overlaid xs at (part ++ x ∷ [])
-overlaid-more xs at part x room =
-    same_lists (slice_set (overlaid xs at part) (at + length part) x) (overlaid xs at (part ++ x ∷ []))
-    (length-set (overlaid xs at part) (at + length part) x ∙ long ∙ sym longer) (λ k d below. element k d)
-  where
-    one : length (part ++ x ∷ []) ≡ length part + 1
-    one = length-append part (x ∷ []) ∙ omega arith
-
-    long : length (overlaid xs at part) ≡ length xs
-    long = length-overlaid xs at part (omega (arith, room))
-
-    longer : length (overlaid xs at (part ++ x ∷ [])) ≡ length xs
-    longer = length-overlaid xs at (part ++ x ∷ []) (omega (arith, room, one))
-
-    element : (k : ℕ) (d : _) → get_or (slice_set (overlaid xs at part) (at + length part) x) k d ≡ get_or (overlaid xs at (part ++ x ∷ [])) k d
-    element k d = elim (cases_lt k at) [
-      | inl low ↦
-          get_or-set_other (overlaid xs at part) (at + length part) k x d (λ e. absurd (omega (arith, low, e)))
-          ∙ overlaid_before xs at part k d (omega (arith, room)) low
-          ∙ sym (overlaid_before xs at (part ++ x ∷ []) k d (omega (arith, room)) low)
-      | inr high ↦
-          elim (cases_lt k (at + length part)) [
-            | inl within ↦
-                get_or-set_other (overlaid xs at part) (at + length part) k x d (λ e. absurd (omega (arith, within, e)))
-                ∙ overlaid_within xs at part k d (omega (arith, room)) high within
-                ∙ sym (get_or_append_left part (x ∷ []) d (k - at) (omega (arith, within, high)))
-                ∙ sym (overlaid_within xs at (part ++ x ∷ []) k d (omega (arith, room)) high (omega (arith, within, one)))
-            | inr past ↦
-                elim (cases_eq k (at + length part)) [
-                  | inl same ↦
-                      let none : k - at - length part ≡ 0 = omega (arith, same) in
-                      ap (λ n. get_or (slice_set (overlaid xs at part) (at + length part) x) n d) same
-                      ∙ get_or-set_same (overlaid xs at part) (at + length part) x d (omega (arith, long, room))
-                      ∙ sym (get_or-append_right part (x ∷ []) (length part) (k - at) d refl (omega (arith, same)) ∙ ap (λ n. get_or (x ∷ []) n d) none)
-                      ∙ sym (overlaid_within xs at (part ++ x ∷ []) k d (omega (arith, room)) high (omega (arith, same, one)))
-                  | inr apart ↦
-                      get_or-set_other (overlaid xs at part) (at + length part) k x d apart
-                      ∙ overlaid_behind xs at part k d (omega (arith, room)) past
-                      ∙ sym (overlaid_behind xs at (part ++ x ∷ []) k d (omega (arith, room)) (omega (arith, past, apart, one)))
-                ]
-          ]
-    ]
+overlaid-more {X = X} xs at part x room =
+    let all : List X = overlaid xs at part in
+    let end : ℕ = at + length part in
+    let inside : end < length all = omega (arith, room, length-overlaid xs at part (omega (arith, room))) in
+    sym (take-append-drop end (slice_set all end x)) ∙ ap (λ (front : List X). front ++ drop end (slice_set all end x)) (take-set all end x) ∙ ap (λ (back : List X). take end all ++ back) (drop-set all end x inside)
+    ∙ sym (append_assoc (take end all) (x ∷ []) (drop (end + 1) all))
+    ∙ overlaid-joined xs at part (x ∷ []) (omega (arith, room))
 
 -- where a frame of the store holds something else
 pub keys-store :
     (d : Layout) (t : ℕ → ℕ) (frames : ℕ) (page_in : List (Option ℕ)) (frame : ℕ) (o : Option ℕ) → private_frames d.page ≤ frame → frame < private_frames d.page + frames → frame < length page_in
     → slice_set (keys_with d t frames page_in) frame (option_map (key_of_page d) o) ≡ keys_with d t frames (slice_set page_in frame o)
 keys-store d t frames page_in frame o above below inside =
-    same_lists (slice_set (keys_with d t frames page_in) frame (option_map (key_of_page d) o)) (keys_with d t frames (slice_set page_in frame o))
-    (length-set (keys_with d t frames page_in) frame (option_map (key_of_page d) o) ∙ keys-long d t frames page_in ∙ sym (keys-long d t frames (slice_set page_in frame o)))
-    (λ k e less. element k e (omega (arith, less, length-set (keys_with d t frames page_in) frame (option_map (key_of_page d) o), keys-long d t frames page_in)))
-  where
-    there : (k : ℕ) (e : Option Key) → k < private_frames d.page + frames → (in_page : List (Option ℕ)) → get_or (keys_with d t frames in_page) k e ≡ held_in d t in_page k
-    there k e less in_page = get_or-map-range_with_len (held_in d t in_page) 0 (private_frames d.page + frames) k k e less (omega arith)
-
-    element : (k : ℕ) (e : Option Key) → k < private_frames d.page + frames
-        → get_or (slice_set (keys_with d t frames page_in) frame (option_map (key_of_page d) o)) k e ≡ get_or (keys_with d t frames (slice_set page_in frame o)) k e
-    element k e less = elim (cases_eq k frame) [
-      | inl same ↦
-          ap (λ n. get_or (slice_set (keys_with d t frames page_in) frame (option_map (key_of_page d) o)) n e) same
-          ∙ get_or-set_same (keys_with d t frames page_in) frame (option_map (key_of_page d) o) e (omega (arith, below, keys-long d t frames page_in))
-          ∙ ap (λ (p : Option ℕ). option_map (key_of_page d) p) (sym (get_or-set_same page_in frame o None inside))
-          ∙ sym (held-store d t (slice_set page_in frame o) frame above)
-          ∙ sym (there frame e below (slice_set page_in frame o))
-          ∙ ap (λ n. get_or (keys_with d t frames (slice_set page_in frame o)) n e) (sym same)
-      | inr apart ↦
-          get_or-set_other (keys_with d t frames page_in) frame k (option_map (key_of_page d) o) e apart
-          ∙ there k e less page_in
-          ∙ ap (λ (p : Option ℕ). if nat_lt k (private_frames d.page) then held_private d.page t k else option_map (key_of_page d) p) (sym (get_or-set_other page_in frame k o None apart))
-          ∙ sym (there k e less (slice_set page_in frame o))
-    ]
+    let there : (k : ℕ) (e : Option Key) → k < private_frames d.page + frames → (in_page : List (Option ℕ)) → get_or (keys_with d t frames in_page) k e ≡ held_in d t in_page k =
+    λ k e less in_page. get_or-map-range_with_len (held_in d t in_page) 0 (private_frames d.page + frames) k k e less (omega arith) in
+    let element : (k : ℕ) (e : Option Key) → k < private_frames d.page + frames → get_or (slice_set (keys_with d t frames page_in) frame (option_map (key_of_page d) o)) k e ≡ get_or (keys_with d t frames (slice_set page_in frame o)) k e =
+    λ k e less. grind (
+      arith,
+      nat_tests,
+      get_or-set_same (keys_with d t frames page_in) frame (option_map (key_of_page d) o) e,
+      get_or-set_other (keys_with d t frames page_in) frame k (option_map (key_of_page d) o) e,
+      get_or-set_same page_in frame o None,
+      get_or-set_other page_in frame k o None,
+      there k e less page_in,
+      there k e less (slice_set page_in frame o),
+      keys-long d t frames page_in,
+    ) in
+    let set = slice_set (keys_with d t frames page_in) frame (option_map (key_of_page d) o) in
+    let later = keys_with d t frames (slice_set page_in frame o) in
+    let long : length set ≡ private_frames d.page + frames = length-set (keys_with d t frames page_in) frame (option_map (key_of_page d) o) ∙ keys-long d t frames page_in in
+    same_lists set later (long ∙ sym (keys-long d t frames (slice_set page_in frame o))) (λ k e less. element k e (omega (arith, less, long)))
 
 -- where the private pages of a seat come into the table or leave it
 pub keys-seat :

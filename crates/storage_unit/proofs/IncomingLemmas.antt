@@ -1,5 +1,5 @@
 -- A page that comes in: the frame that is lent is filled, and its kept lines are laid over it.
-use Rattle.storage_unit.proofs.Common.{◌≡◌, refl, ℕ, ◌+◌, ◌*◌, ◌<◌, ◌≤◌, ◌==◌, true, List, [], ◌∷◌, length, Option, Some, None, is_some, range_with_len, slice_index, slice_index_or, get_or-set_same, page_count, frame_at, marks_at, with_room, ap, arith, sym, subst, ◌∙◌, eq-eqb, length-take, length-drop, page_bytes, Layout, has, Pool, pool_of, IsSeen, frame_bytes, Brought, emptied, laid, with_bytes, with_frame_part, lent-part, page_part, Fits, filled, private_frames, Reach, reach_of, Unit, nat_tests, both_ways, or_left, bits_of, lines_of_bits, bits_of-lines, laid-anyway, AreReady, AreClear}
+use Rattle.storage_unit.proofs.Common.{◌≡◌, refl, ℕ, ◌+◌, ◌*◌, ◌<◌, ◌≤◌, ◌==◌, true, List, [], ◌∷◌, length, Option, Some, None, is_some, range_with_len, slice_index, get_or-set_same, page_count, frame_at, marks_at, with_room, ap, arith, sym, subst, ◌∙◌, eq-eqb, length-take, length-drop, page_bytes, Layout, has, Pool, pool_of, IsSeen, frame_bytes, Brought, emptied, laid, with_bytes, with_frame_part, lent-part, page_part, Fits, filled, private_frames, Reach, reach_of, Unit, nat_tests, both_ways, or_left, bits_of, lines_of_bits, bits_of-lines, laid-anyway, AreReady, AreClear}
 use Rattle.storage_unit.specs.Incoming.{IsFilled, IsKept, HasGoneOut}
 use Rattle.storage_unit.proofs.SizeLemmas.{frame-high}
 use Rattle.storage_unit.proofs.StoreLemmas.{all-private}
@@ -22,8 +22,7 @@ module _ (unit brought_in : Unit) (page : ℕ) (keep : Option ℕ) (frame : ℕ)
   -- what is marked of it stays as it comes
   marks-stay : marks_at (reach_of brought_in).pool page ≡ marks_at (reach_of unit).pool page
   marks-stay =
-      ap (λ (p : Pool). marks_at p page) came.rest
-      ∙ ap (λ (marked : List (List ℕ)). slice_index_or marked page []) (room-stays (reach_of unit).pool keep (unit-sound unit).seen).1.marked
+      cc (came.rest, (room-stays (reach_of unit).pool keep (unit-sound unit).seen).1.marked)
 
   -- where each of its lines is marked, the bits say so
   pub all-marked : (bits : ℕ) → bits < 65536 → lines_of_bits bits ≡ marks_at (reach_of brought_in).pool page → marks_at (reach_of unit).pool page ≡ range_with_len 0 16 → bits ≡ 65535
@@ -45,14 +44,10 @@ module _ (unit brought_in : Unit) (page : ℕ) (keep : Option ℕ) (frame : ℕ)
   filled-low : (part : List ℕ) → length part ≡ length lent → (k : ℕ) → k < 262144
       → slice_index (pool_of (with_frame_part brought_in.pool (frame * page_bytes brought_in.pool.places.page) part)).bytes k ≡ slice_index (pool_of brought_in.pool).bytes k
   filled-low part keeps_length k low =
+      let page_stays : brought_in.pool.places.page ≡ (reach_of unit).pool.page = ap (λ (p : Pool). p.page) came.rest ∙ (room-stays (reach_of unit).pool keep (unit-sound unit).seen).1.page in
+      let high : 262144 ≤ frame * page_bytes brought_in.pool.places.page = frame-high brought_in.pool.places.page frame (subst (λ s. private_frames s ≤ frame) (sym page_stays) came.above) in
       ap (λ (p : Pool). slice_index p.bytes k) (lent-part brought_in.pool (frame * page_bytes brought_in.pool.places.page) part (omega (arith, inside, whole, keeps_length)))
       ∙ over-low (pool_of brought_in.pool).bytes (frame * page_bytes brought_in.pool.places.page) part k (omega (arith, low, high)) (omega (arith, low, all-private (reach_of brought_in) (unit-sound brought_in)))
-    where
-      page_stays : brought_in.pool.places.page ≡ (reach_of unit).pool.page
-      page_stays = ap (λ (p : Pool). p.page) came.rest ∙ (room-stays (reach_of unit).pool keep (unit-sound unit).seen).1.page
-
-      high : 262144 ≤ frame * page_bytes brought_in.pool.places.page
-      high = frame-high brought_in.pool.places.page frame (subst (λ s. private_frames s ≤ frame) (sym page_stays) came.above)
 
   pub still-ready : (part : List ℕ) → length part ≡ length lent
       → AreReady brought_in.rows (pool_of (with_frame_part brought_in.pool (frame * page_bytes brought_in.pool.places.page) part)).bytes brought_in.runner
@@ -82,12 +77,9 @@ module _ (unit brought_in : Unit) (page : ℕ) (keep : Option ℕ) (frame : ℕ)
           fits = there;
           long = long;
           is =
-              ap (λ (r : Reach). r.pool) lays
-              ∙ laid-anyway page frame pool bytes in_frame all (long ∙ sym (ap page_bytes there.size)) inside kept;
+              cc (laid-anyway page frame pool bytes in_frame all (long ∙ sym (ap page_bytes there.size)) inside kept);
           resident =
-              ap (λ (r : Reach). r.pool.resident) lays
-              ∙ ap (λ (pool : Pool). pool.resident) (laid-bytes pool page)
-              ∙ ap (λ (pool : Pool). pool.resident) came.rest;
+              grind (arith, nat_tests, laid-bytes pool page, came.rest);
         };
       }
 

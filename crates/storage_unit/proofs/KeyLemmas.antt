@@ -1,8 +1,8 @@
 -- The pages of segments and the flat pages of a store, by each other.
-use Rattle.storage_unit.proofs.Common.{not, cond, nat_lt, if◌then◌else◌, find, take_while, sum_by, option_map, slice_index, prefix_len, nat_tests, PageSize, Two, Four, page_bytes, bytes_of, is_named, Layout, length_of, start_of, page_count, IsLegal, Key, key_to, named-low, key_among, key_of_page, ◌≡◌, ℕ, suc, ◌+◌, ◌-◌, ◌*◌, ◌/◌, ◌%◌, ◌<◌, ◌≤◌, Bool, true, false, List, [], ◌∷◌, map, take, refl, ◌∙◌, ap, arith, add-one, Option, Some}
+use Rattle.storage_unit.proofs.Common.{not, cond, nat_lt, if◌then◌else◌, find, take_while, sum_by, option_map, slice_index, prefix_len, nat_tests, PageSize, page_bytes, bytes_of, is_named, Layout, length_of, start_of, page_count, IsLegal, Key, key_to, named-low, key_among, key_of_page, ◌≡◌, ℕ, suc, ◌+◌, ◌-◌, ◌*◌, ◌/◌, ◌%◌, ◌<◌, ◌≤◌, Bool, true, false, List, [], ◌∷◌, map, take, refl, ◌∙◌, ap, arith, add-one, Option, Some}
 use Rattle.std.specs.List.Sorted.{IsStrictlyIncreasing}
 use Rattle.std.proofs.lemmas.List.Sums.{sum_by-cons}
-use Rattle.storage_unit.proofs.SizeLemmas.{pages-past, pages-rest, page-less, page-fits, pages-left}
+use Rattle.storage_unit.proofs.SizeLemmas.{pages-past, pages-left}
 
 -- the bytes of segments, by the size of a page, and where they begin
 abbrev long_of : PageSize → List (ℕ × ℕ) → ℕ → Option ℕ
@@ -38,8 +38,7 @@ module _ (size : PageSize) where
       → key_among segments ((begin_of size segments identifier + offset) / page_bytes size) ≡ key_to identifier (offset / page_bytes size)
   key-of-offset [] identifier bytes offset found below = absurd (cc)
   key-of-offset (x ∷ xs) identifier bytes offset found below =
-      ap (λ s. key_among (x ∷ xs) ((s + offset) / page_bytes size)) (begin-cons identifier x xs)
-      ∙ by_name (is_named identifier x) refl found (λ later. key-of-offset xs identifier bytes offset later below)
+      cc (begin-cons identifier x xs, by_name (is_named identifier x) refl found (λ later. key-of-offset xs identifier bytes offset later below))
     where
       by_name :
           (named : Bool) → is_named identifier x ≡ named → option_map (bytes_of (page_bytes size)) (cond named (Some x) (find (is_named identifier) xs)) ≡ Some bytes
@@ -49,21 +48,14 @@ module _ (size : PageSize) where
           let long : bytes_of (page_bytes size) x ≡ bytes = cc in
           let same : x.0 ≡ identifier = grind (arith, nat_tests, is) in
           let here : (0 + offset) / page_bytes size ≡ offset / page_bytes size = ap (λ n. n / page_bytes size) (omega arith) in
-          let inside : nat_lt (offset / page_bytes size) x.1 ≡ true = let less : offset / page_bytes size < x.1 = page-less size offset x.1 (omega (arith, below, long)) in grind (arith, nat_tests, less) in
-          ap (key_among (x ∷ xs)) here
-          ∙ ap (λ (b : Bool). if b then key_to x.0 (offset / page_bytes size) else key_among xs (offset / page_bytes size - x.1)) inside
-          ∙ ap (λ n. key_to n (offset / page_bytes size)) same
+          let inside : nat_lt (offset / page_bytes size) x.1 ≡ true = let less : offset / page_bytes size < x.1 = grind (arith, nat_tests) in grind (arith, nat_tests, less) in
+          cc
       by_name false is found rest =
           let later : (bytes_of (page_bytes size) x + begin_of size xs identifier + offset) / page_bytes size ≡ x.1 + (begin_of size xs identifier + offset) / page_bytes size =
           ap (λ n. n / page_bytes size) (omega arith) ∙ pages-past size x.1 (begin_of size xs identifier + offset) in
           let past : nat_lt (x.1 + (begin_of size xs identifier + offset) / page_bytes size) x.1 ≡ false = grind (arith, nat_tests) in
           let back : x.1 + (begin_of size xs identifier + offset) / page_bytes size - x.1 ≡ (begin_of size xs identifier + offset) / page_bytes size = omega arith in
-          ap (key_among (x ∷ xs)) later
-          ∙ ap
-          (λ (b : Bool).
-          if b then key_to x.0 (x.1 + (begin_of size xs identifier + offset) / page_bytes size) else key_among xs (x.1 + (begin_of size xs identifier + offset) / page_bytes size - x.1)) past
-          ∙ ap (key_among xs) back
-          ∙ rest found
+          cc (rest found)
 
   -- identifiers ascend behind the first
   behind : (x : ℕ) (xs : List ℕ) (k : ℕ) → slice_index (x ∷ xs) (k + 1) ≡ slice_index xs k
@@ -107,7 +99,7 @@ module _ (size : PageSize) where
           record {
             bytes = bytes_of (page_bytes size) x;
             found = ap (λ (b : Bool). option_map (bytes_of (page_bytes size)) (cond b (Some x) (find (is_named x.0) xs))) (equal x.0);
-            within = page-fits size page x.1 less;
+            within = grind (arith, nat_tests);
             start = omega (arith, begin-cons x.0 x xs ∙ ap (λ (b : Bool). if b then 0 else bytes_of (page_bytes size) x + begin_of size xs x.0) (equal x.0));
           }
       by_test false is rest =
@@ -143,13 +135,11 @@ module _ (d : Layout) (legal : IsLegal d.segments) where
   start-whole segment = whole d.segments
     where
       none : (size : PageSize) → 0 % page_bytes size ≡ 0
-      none Two = refl
-      none Four = refl
+      none size = grind (arith, nat_tests)
 
       whole : (segments : List (ℕ × ℕ)) → begin_of d.page segments segment % page_bytes d.page ≡ 0
       whole [] = none d.page
       whole (x ∷ xs) = ap (λ n. n % page_bytes d.page) (begin-cons d.page segment x xs) ∙ by_name (is_named segment x) (whole xs)
         where
           by_name : (named : Bool) → begin_of d.page xs segment % page_bytes d.page ≡ 0 → (if named then 0 else bytes_of (page_bytes d.page) x + begin_of d.page xs segment) % page_bytes d.page ≡ 0
-          by_name true rest = none d.page
-          by_name false rest = pages-rest d.page x.1 (begin_of d.page xs segment) ∙ rest
+          by_name named rest = grind (arith, nat_tests)

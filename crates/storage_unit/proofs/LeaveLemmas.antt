@@ -67,23 +67,7 @@ pub room-fewer : (d : Layout) (pool : Pool) (committed : List ℕ) (keep : Optio
 room-fewer d pool committed keep seen size clean = by_out (page_out pool keep)
   where
     by_out : (o : Option ℕ) → Fewer d pool (option_map_or (gone pool) o pool) committed
-    by_out None = record {
-      stays = record { page = refl; frames = refl; bytes = refl; marked = refl; frame_of = refl };
-      seen = seen;
-      frames = λ page none. none;
-      over = λ place below. refl;
-      marks = λ place. refl;
-    }
-    by_out (Some page) = record {
-      stays = gone-stays pool page;
-      seen = seen-gone pool page seen;
-      frames = λ other none. let here = gone-frame pool page other in grind (arith, here);
-      over = λ place below.
-          let here = gone-over d pool committed page place seen size in
-          let shows = clean-shows d pool committed place clean below in
-          grind (arith, here, shows);
-      marks = gone-marked d pool page;
-    }
+    by_out o = grind (arith, nat_tests, gone-stays, seen-gone, gone-frame, gone-over, clean-shows, gone-marked)
 
 -- lines that are settled
 module _ (d : Layout) (pool : Pool) (committed : List ℕ) (page : ℕ) (lines : List ℕ) (seen : IsSeen pool) (within : page < length pool.frame_of) where

@@ -1,5 +1,5 @@
 -- What a permitted store leaves of the two lists of plain bytes, and of the marks.
-use Rattle.storage_unit.proofs.Common.{◌≡◌, ◌≢◌, ℕ, ◌+◌, ◌-◌, ◌*◌, ◌/◌, ◌%◌, ◌<◌, ◌≤◌, Bool, true, false, List, [], length, drop, refl, sym, ◌∙◌, ap, arith, Option, Some, None, inl, inr, ◌||◌, if◌then◌else◌, slice_index, slice_range, is_some, cases_lt, get_or_past, length-take, length-drop, same_number_lists, overlaid, length-overlaid, page_bytes, byte_count, line_of, page_of, has, page_of_line, Located, Private, Shared, Refused, lines_at, Virtual, Pool, frame_at, Reach, place_of, byte_in_frame, byte_over, bytes_over, private_bytes, is_line_marked, is_marked, IsClean, seat_of, is_there, put_byte, put_in_store, put_at, IsSound, Lies, ChangesBytes, StaysClean, LeavesSeats, nat_tests}
+use Rattle.storage_unit.proofs.Common.{◌≡◌, ◌≢◌, ℕ, ◌+◌, ◌-◌, ◌*◌, ◌/◌, ◌%◌, ◌<◌, ◌≤◌, Bool, true, false, List, [], length, drop, refl, sym, ◌∙◌, ap, arith, Option, Some, None, inl, inr, ◌||◌, slice_index, slice_range, is_some, cases_lt, get_or_past, length-take, length-drop, same_number_lists, overlaid, length-overlaid, page_bytes, byte_count, line_of, page_of, has, page_of_line, Located, Private, Shared, Refused, lines_at, Virtual, Pool, frame_at, Reach, place_of, byte_in_frame, byte_over, bytes_over, private_bytes, is_line_marked, is_marked, IsClean, seat_of, is_there, put_byte, put_in_store, put_at, IsSound, Lies, StaysClean, LeavesSeats, nat_tests, overlaid_before, overlaid_behind, overlaid_within}
 use Rattle.storage_unit.proofs.SizeLemmas.{rest-below, place-is, frame-high, page-of-line, page-below}
 use Rattle.storage_unit.proofs.ByteLemmas.{in-range, same-bytes, byte-of-all, all-long, over-none, over-some}
 use Rattle.storage_unit.proofs.FillLemmas.{over-part, in-part}
@@ -33,56 +33,36 @@ same-part : (xs ys : List ℕ) (from count : ℕ) → from + count ≤ length xs
     → ((k : ℕ) → k < count → slice_index xs (from + k) ≡ slice_index ys (from + k))
     → slice_range xs from (from + count) ≡ slice_range ys from (from + count)
 same-part xs ys from count fits others same =
-    same_number_lists (slice_range xs from (from + count)) (slice_range ys from (from + count))
-    (range-long xs from count fits ∙ sym (range-long ys from count others))
-    (λ k below.
-    let inside : k < count = omega (arith, below, range-long xs from count fits) in
-    in-range xs from count k inside ∙ same k inside ∙ sym (in-range ys from count k inside))
+    same_number_lists (slice_range xs from (from + count)) (slice_range ys from (from + count)) (range-long xs from count fits ∙ sym (range-long ys from count others))
+    (λ k below. let inside : k < count = omega (arith, below, range-long xs from count fits) in cc (in-range xs from count k inside, same k inside, in-range ys from count k inside))
 
 -- a part of which some bytes are written over
 over-in-part : (xs bytes : List ℕ) (from count a : ℕ) → from + count ≤ length xs → a + length bytes ≤ count
     → slice_range (overlaid xs (from + a) bytes) from (from + count) ≡ overlaid (slice_range xs from (from + count)) a bytes
 over-in-part xs bytes from count a fits inside =
+    let whole : length (slice_range xs from (from + count)) ≡ count = range-long xs from count fits in
+    let long : length (slice_range (overlaid xs (from + a) bytes) from (from + count)) ≡ count =
+    range-long (overlaid xs (from + a) bytes) from count (omega (arith, fits, length-overlaid xs (from + a) bytes (omega (arith, fits, inside)))) in
+    let element : (k : ℕ) → k < count → slice_index (slice_range (overlaid xs (from + a) bytes) from (from + count)) k ≡ slice_index (overlaid (slice_range xs from (from + count)) a bytes) k =
+    λ k below. let part = slice_range xs from (from + count) in
+    let spot = from + k in
+    let same : from + k - (from + a) ≡ k - a = omega arith in
+    grind (
+      arith,
+      in-range (overlaid xs (from + a) bytes) from count k below,
+      in-range xs from count k below,
+      overlaid_before xs (from + a) bytes spot 0,
+      overlaid_within xs (from + a) bytes spot 0,
+      overlaid_behind xs (from + a) bytes spot 0,
+      overlaid_before part a bytes k 0,
+      overlaid_within part a bytes k 0,
+      overlaid_behind part a bytes k 0,
+      same,
+      whole,
+    ) in
     same_number_lists (slice_range (overlaid xs (from + a) bytes) from (from + count)) (overlaid (slice_range xs from (from + count)) a bytes)
     (long ∙ sym (length-overlaid (slice_range xs from (from + count)) a bytes (omega (arith, whole, inside)) ∙ whole))
     (λ k below. element k (omega (arith, below, long)))
-  where
-    whole : length (slice_range xs from (from + count)) ≡ count
-    whole = range-long xs from count fits
-
-    all : from + a + length bytes ≤ length xs
-    all = omega (arith, fits, inside)
-
-    long : length (slice_range (overlaid xs (from + a) bytes) from (from + count)) ≡ count
-    long = range-long (overlaid xs (from + a) bytes) from count (omega (arith, fits, length-overlaid xs (from + a) bytes all))
-
-    room : a + length bytes ≤ length (slice_range xs from (from + count))
-    room = omega (arith, whole, inside)
-
-    outside : (k : ℕ) → k < count → ((j : ℕ) → j < length bytes → a + j ≡ k → ⊥) → slice_index (slice_range (overlaid xs (from + a) bytes) from (from + count)) k ≡ slice_index (overlaid (slice_range xs from (from + count)) a bytes) k
-    outside k below none =
-        in-range (overlaid xs (from + a) bytes) from count k below
-        ∙ over-part xs (from + a) bytes (from + k) all (λ j less same. none j less (omega (arith, same)))
-        ∙ sym (in-range xs from count k below)
-        ∙ sym (over-part (slice_range xs from (from + count)) a bytes k room none)
-
-    element : (k : ℕ) → k < count → slice_index (slice_range (overlaid xs (from + a) bytes) from (from + count)) k ≡ slice_index (overlaid (slice_range xs from (from + count)) a bytes) k
-    element k below = elim (cases_lt k a) [
-      | inl low ↦ outside k below (λ j less same. absurd (omega (arith, low, same)))
-      | inr high ↦
-          elim (cases_lt k (a + length bytes)) [
-            | inl within ↦
-                let less : k - a < length bytes = omega (arith, high, within) in
-                let spot : from + k ≡ from + a + (k - a) = omega (arith, high) in
-                let here : a + (k - a) ≡ k = omega (arith, high) in
-                in-range (overlaid xs (from + a) bytes) from count k below
-                ∙ ap (slice_index (overlaid xs (from + a) bytes)) spot
-                ∙ in-part xs (from + a) bytes (k - a) all less
-                ∙ sym (in-part (slice_range xs from (from + count)) a bytes (k - a) room less)
-                ∙ ap (slice_index (overlaid (slice_range xs from (from + count)) a bytes)) here
-            | inr past ↦ outside k below (λ j less same. absurd (omega (arith, past, less, same)))
-          ]
-    ]
 
 module _ (state : Reach) (sound : IsSound state) where
   -- private bytes stay where the store's are written
@@ -151,10 +131,11 @@ module _ (state : Reach) (sound : IsSound state) where
     marks-written line = elim (cases_lt (page_of_line line) (length state.pool.marked)) [
       | inl below ↦ line-put state.directory state.pool a bytes line below
       | inr past ↦
-          ap (λ (set : List ℕ). has set (line % 16)) (get_or_past put.marked (page_of_line line) [] (omega (arith, past, marks-long state.directory state.pool a bytes)))
-          ∙ sym
-          (ap (λ (set : List ℕ). has set (line % 16) || has (lines_at state.directory (Shared a) (length bytes)) line) (get_or_past state.pool.marked (page_of_line line) [] past)
-          ∙ none (has (lines_at state.directory (Shared a) (length bytes)) line) refl past)
+          cc (
+            get_or_past put.marked (page_of_line line) [] (omega (arith, past, marks-long state.directory state.pool a bytes)),
+            get_or_past state.pool.marked (page_of_line line) [] past,
+            none (has (lines_at state.directory (Shared a) (length bytes)) line) refl past,
+          )
     ]
       where
         none : (b : Bool) → has (lines_at state.directory (Shared a) (length bytes)) line ≡ b → length state.pool.marked ≤ page_of_line line → b ≡ false
@@ -183,11 +164,12 @@ module _ (state : Reach) (sound : IsSound state) where
         inside k below high less =
             let same : a + (k - a) ≡ k = omega (arith, high) in
             let (frame, is) = there-frame state sound k (ap (λ n. is_there state (Shared n)) (sym same) ∙ there (k - a) (omega (arith, high, less))) in
-            over-some state.directory put committed k frame is
-            ∙ frame-after k frame is
-            ∙ put-inside bytes a k (byte_in_frame state.directory state.pool k frame) high less
-            ∙ sym (in-part (bytes_over state.directory state.pool committed) a bytes (k - a) room' (omega (arith, high, less)))
-            ∙ ap (slice_index (overlaid (bytes_over state.directory state.pool committed) a bytes)) same
+            cc (
+              over-some state.directory put committed k frame is,
+              frame-after k frame is,
+              put-inside bytes a k (byte_in_frame state.directory state.pool k frame) high less,
+              in-part (bytes_over state.directory state.pool committed) a bytes (k - a) room' (omega (arith, high, less)),
+            )
 
         -- another place
         outside : (k : ℕ) → k < byte_count state.directory → (a ≤ k → k < a + length bytes → ⊥) → byte_over state.directory put committed k ≡ slice_index (overlaid (bytes_over state.directory state.pool committed) a bytes) k
@@ -209,17 +191,15 @@ module _ (state : Reach) (sound : IsSound state) where
 
             by_frame : (o : Option ℕ) → frame_at state.pool (page_of state.directory k) ≡ o → byte_over state.directory put committed k ≡ byte_over state.directory state.pool committed k
             by_frame None is =
-                over-none state.directory put committed k is
-                ∙ ap (λ (b : Bool). if b then slice_index state.pool.kept k else slice_index committed k)
-                (marked-after k below
-                ∙ ap (λ (b : Bool). is_marked state.directory state.pool k || b) (unmarked (has (lines_at state.directory (Shared a) (length bytes)) (line_of state.directory k)) refl is)
-                ∙ or-false (is_marked state.directory state.pool k))
-                ∙ sym (over-none state.directory state.pool committed k is)
+                cc (
+                  over-none state.directory put committed k is,
+                  marked-after k below,
+                  unmarked (has (lines_at state.directory (Shared a) (length bytes)) (line_of state.directory k)) refl is,
+                  or-false (is_marked state.directory state.pool k),
+                  over-none state.directory state.pool committed k is,
+                )
             by_frame (Some frame) is =
-                over-some state.directory put committed k frame is
-                ∙ frame-after k frame is
-                ∙ put-outside bytes a k (byte_in_frame state.directory state.pool k frame) none
-                ∙ sym (over-some state.directory state.pool committed k frame is)
+                cc (over-some state.directory put committed k frame is, frame-after k frame is, put-outside bytes a k (byte_in_frame state.directory state.pool k frame) none, over-some state.directory state.pool committed k frame is)
 
         element : (k : ℕ) → k < byte_count state.directory → slice_index (bytes_over state.directory put committed) k ≡ slice_index (overlaid (bytes_over state.directory state.pool committed) a bytes) k
         element k below =
@@ -260,12 +240,6 @@ module _ (state : Reach) (sound : IsSound state) where
             right (is_marked state.directory state.pool place) (has (lines_at state.directory (Shared a) (length bytes)) (line_of state.directory place)) both in
             let clash : true ≡ false = sym among ∙ not in
             cc
-
--- what a put changes, and what it leaves
-pub put-changes : (state : Reach) (place : Located) (bytes : List ℕ) → ChangesBytes state (put_at state place bytes)
-put-changes state (Private a) bytes = refl
-put-changes state (Shared a) bytes = refl
-put-changes state (Refused code) bytes = refl
 
 module _ (state : Reach) (sound : IsSound state) (at : Virtual) (bytes : List ℕ) (lies : Lies state at (length bytes)) where
   pub put-clean : StaysClean state (put_at state (place_of state.directory at) bytes)

@@ -16,7 +16,7 @@ pub use Rattle.storage_unit.proofs.PrivateLemmas.{begun-other, first-long, free-
 pub use Rattle.storage_unit.proofs.ProbeLemmas.{absent-first, absent-next, none-absent, none-next, private-kept, same-line}
 pub use Rattle.storage_unit.proofs.ReadyLemmas.{is-ready, ready-kept, ready-none, ready-selected, ready-with, row-found}
 pub use Rattle.storage_unit.proofs.SizeLemmas.{line-in, page-below, page-of-line, rest-on, same-page-on, seat-frame, seat-room}
-pub use Rattle.storage_unit.proofs.StateLemmas.{absent-frame, emptied-stays, fold-long, frames-held, keys-emptied, keys-gone, keys-room, laid-bytes, marks-none, marks-settled, none-of_table, room-none, room-stays, without-entries, without-keys}
+pub use Rattle.storage_unit.proofs.StateLemmas.{emptied-stays, fold-long, frames-held, keys-emptied, keys-gone, keys-room, laid-bytes, marks-none, marks-settled, none-of_table, room-none, room-stays, without-entries, without-keys}
 pub use Rattle.storage_unit.proofs.StoreLemmas.{all-private, marked-of_pages, put-then}
 pub use Rattle.storage_unit.proofs.UnitLemmas.{unit-sound}
 pub use Rattle.storage_unit.proofs.WrittenLemmas.{clear-part, ready-part, stored-part}

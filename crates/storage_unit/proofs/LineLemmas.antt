@@ -56,9 +56,7 @@ module _ (state : Reach) (sound : IsSound state) (first : Virtual) (n : ℕ) (so
         by_test : (own : Bool) → is_private first.segment ≡ own → kept k ≡ kept 0
         by_test true own = own-kept own k ∙ sym (own-kept own 0)
         by_test false own =
-            shared-kept own k
-            ∙ ap (λ l. is_refused state l store) (same-line-on state.directory.page place k (omega (arith, in-line, inside)) ∙ sym (same-line-on state.directory.page place 0 (omega (arith, in-line, inside))))
-            ∙ sym (shared-kept own 0)
+            cc (shared-kept own k, same-line-on state.directory.page place k (omega (arith, in-line, inside)), same-line-on state.directory.page place 0 (omega (arith, in-line, inside)), shared-kept own 0)
 
     far : (rest k : ℕ) → rest + first.byte % line_bytes state.directory.page ≡ line_bytes state.directory.page → rest ≤ k → k < 64 → kept k ≡ kept rest
     far rest k are past short = by_test (is_private first.segment) refl
@@ -66,9 +64,7 @@ module _ (state : Reach) (sound : IsSound state) (first : Virtual) (n : ℕ) (so
         by_test : (own : Bool) → is_private first.segment ≡ own → kept k ≡ kept rest
         by_test true own = own-kept own k ∙ sym (own-kept own rest)
         by_test false own =
-            shared-kept own k
-            ∙ ap (λ l. is_refused state l store) (sym (next-line state.directory.page place rest k (omega (arith, in-line, are)) past short))
-            ∙ sym (shared-kept own rest)
+            cc (shared-kept own k, next-line state.directory.page place rest k (omega (arith, in-line, are)) past short, shared-kept own rest)
 
     module _ (frame : ℕ) (is : look_up (table_of state).keys (key_of first) ≡ Some frame) (within : first.byte + n ≤ page_bytes state.directory.page) where
       -- a byte is refused, and none before it
@@ -80,8 +76,7 @@ module _ (state : Reach) (sound : IsSound state) (first : Virtual) (n : ℕ) (so
 
       pub lock-fault : kept 0 ≡ true → Probe.Fault (Fault.Lock first) ≡ answered_at state.directory.page (is_in_frame state) (refuses state) access (Ok first)
       lock-fault one =
-          ap (λ (v : Virtual). Probe.Fault (Fault.Lock v)) (sym (here-is state first lies.within))
-          ∙ kept-fault 0 some one (λ j less. absurd (omega (arith, less)))
+          cc (here-is state first lies.within, kept-fault 0 some one (λ j less. absurd (omega (arith, less))))
 
       -- no byte is
       pub permitted : ((k : ℕ) → k < n → kept k ≡ false) → Probe.Permitted ≡ answered_at state.directory.page (is_in_frame state) (refuses state) access (Ok first)

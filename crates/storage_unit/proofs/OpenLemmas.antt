@@ -21,8 +21,7 @@ byte-of-line Four at more line above below =
 -- and each byte lies in one of them
 line-of-byte : (page : PageSize) (at more k : ℕ) → k ≤ more
     → (at / line_bytes page ≤ (at + k) / line_bytes page) × ((at + k) / line_bytes page ≤ (at + more) / line_bytes page)
-line-of-byte Two at more k below = (omega arith, omega (arith, below))
-line-of-byte Four at more k below = (omega arith, omega (arith, below))
+line-of-byte page at more k below = grind (arith, nat_tests)
 
 -- a line of a range lies between its ends
 between : (low high line : ℕ) → has (range_with_len low (high + 1 - low)) line ≡ true → (low ≤ line) × (line ≤ high)
@@ -79,9 +78,7 @@ module _ (f : Reach) (sound : IsSound f) (p : Program) (windows : HasWindows f p
   pub open-permitted : (at : Virtual) → located_by f.registers access.address access.bytes access.store ≡ Ok at → IsOpen f (lines_of_access p f.directory access)
       → answered f.registers (is_in_frame f) (refuses f) access ≡ Probe.Permitted
   open-permitted at is opens =
-      ap (answered_at f.registers.page (is_in_frame f) (refuses f) access) is
-      ∙ ap (λ page. answered_at page (is_in_frame f) (refuses f) access (Ok at)) (registers-page f sound)
-      ∙ by_place place (lies-at at is) (by_store access.store (lines_at f.directory place access.bytes) opens)
+      cc (registers-page f sound, by_place place (lies-at at is) (by_store access.store (lines_at f.directory place access.bytes) opens))
     where
       by_store : (store : Bool) (lines : List ℕ) → IsOpen f (if store then record { reads = []; writes = lines } else record { reads = lines; writes = [] })
           → (line : ℕ) → has lines line ≡ true → IsOpenLine f line store

@@ -1,5 +1,5 @@
 -- The lines that a unit knows may be accessed.
-use Rattle.storage_unit.proofs.Common.{cases_lt, inl, inr, ◌≡◌, ℕ, ◌+◌, ◌-◌, ◌*◌, ◌/◌, ◌%◌, ◌<◌, ◌≤◌, ◌^◌, Bool, true, false, refl, sym, ◌∙◌, ap, subst, arith, List, Option, Some, None, Ok, Err, Result, cond, not, ◌&&◌, nat_le, find, option_map, slice_index_or, nat_tests, PageSize, Two, Four, page_bytes, line_bytes, bytes_of, is_named, Layout, length_of, start_of, line_of, page_of_line, grant_of, lets, Key, Placed, entry_at, key_of, look_up, Check, SegmentRegister, Virtual, Registers, virtual_at, located_under, located_by, Access, Probe, answered_at, if_permitted, Reach, is_private, offset_of, place_of, on, table_of, is_kept_from, is_refused, is_in_frame, refuses, IsUnder, IsSound, IsLegal, Lies, bytes_shown, bytes_from, byte_at, eqb-true, ◌==◌, Unit, reach_of, length, length-take, length-drop, slice_range, part_of, pool_of, has, is_marked, [], marked_in, union, slice_set, get_or-set_same, get_or-set_other, get_or_past, is_in_where-below, page_at, with_marks, option_map_or, put_at, Located, Private, Shared, Refused, IsRefusal, OpenLine, lets_at, is_marked_at, IsOpened, AreOpened, AreMarked, IsOpenAt, IsOpenFrom}
+use Rattle.storage_unit.proofs.Common.{cases_lt, inl, inr, ◌≡◌, ℕ, ◌+◌, ◌-◌, ◌*◌, ◌/◌, ◌%◌, ◌<◌, ◌≤◌, ◌^◌, Bool, true, false, refl, sym, ◌∙◌, ap, subst, arith, List, Option, Some, None, Ok, cond, not, ◌&&◌, find, option_map, slice_index_or, nat_tests, PageSize, Two, Four, page_bytes, line_bytes, bytes_of, is_named, Layout, length_of, start_of, line_of, page_of_line, grant_of, lets, Key, Placed, entry_at, key_of, look_up, SegmentRegister, Virtual, Registers, located_under, located_by, Access, Probe, answered_at, if_permitted, Reach, is_private, offset_of, place_of, on, table_of, is_kept_from, is_refused, is_in_frame, refuses, IsSound, IsLegal, Lies, bytes_shown, bytes_from, byte_at, eqb-true, ◌==◌, Unit, reach_of, length, length-take, length-drop, slice_range, pool_of, has, is_marked, [], marked_in, union, slice_set, get_or-set_same, get_or-set_other, get_or_past, is_in_where-below, page_at, with_marks, option_map_or, put_at, Located, IsRefusal, OpenLine, lets_at, is_marked_at, IsOpened, AreOpened, AreMarked, IsOpenAt, IsOpenFrom}
 use Rattle.page_table.specs.declared.open_lines.OpenLines.{OpenLines}
 use Rattle.page_table.specs.KnownLines.{known, KnowsNothing, with_line}
 use Rattle.page_table.specs.LinePlaces.{place_of as line_place}
@@ -7,7 +7,7 @@ use Rattle.storage_unit.proofs.AnswerLemmas.{permitted-lines}
 use Rattle.storage_unit.proofs.KeyLemmas.{start-whole}
 use Rattle.storage_unit.proofs.LineLemmas.{permitted}
 use Rattle.storage_unit.proofs.SizeLemmas.{same-page-on, rest-on}
-use Rattle.storage_unit.proofs.PlaceLemmas.{Under, under, lies, located-offset, one, stands, registers-page, private-is, shared-is}
+use Rattle.storage_unit.proofs.PlaceLemmas.{Under, under, lies, located-offset, stands, registers-page, private-is, shared-is}
 use Rattle.storage_unit.proofs.UnitLemmas.{unit-sound}
 use Rattle.storage_unit.proofs.CopyLemmas.{part-shown}
 use Rattle.storage_unit.proofs.PartLemmas.{room}
@@ -23,13 +23,11 @@ rounded at = record at { byte = at.byte / 128 * 128 }
 -- 128 bytes from a multiple of 128 on lie in one page, and in one line
 part-of-page : (size : PageSize) (o past : ℕ) → o % 128 ≡ 0 → past < 128
     → ((o + past) / page_bytes size ≡ o / page_bytes size) × ((o + past) % page_bytes size ≡ o % page_bytes size + past) × (o % page_bytes size % 128 ≡ 0)
-part-of-page Two o past whole below = (omega (arith, whole, below), omega (arith, whole, below), omega (arith, whole))
-part-of-page Four o past whole below = (omega (arith, whole, below), omega (arith, whole, below), omega (arith, whole))
+part-of-page size o past whole below = grind (arith, nat_tests)
 
 same-line : (size : PageSize) (start page byte past : ℕ) → start % page_bytes size ≡ 0 → byte % 128 ≡ 0 → past < 128
     → (start + (page * page_bytes size + (byte + past))) / line_bytes size ≡ (start + (page * page_bytes size + byte)) / line_bytes size
-same-line Two start page byte past from whole below = omega (arith, from, whole, below)
-same-line Four start page byte past from whole below = omega (arith, from, whole, below)
+same-line size start page byte past from whole below = grind (arith, nat_tests)
 
 -- so they are let alike
 lets-same : (d : Layout) (legal : IsLegal d.segments) (table : Placed) (runner : ℕ) (at : Virtual) (past : ℕ) (store : Bool) → at.byte % 128 ≡ 0 → past < 128
@@ -49,84 +47,39 @@ weaker : (registers : Registers) (address n : ℕ) (store weak : Bool) (at : Vir
 weaker registers address n store weak at less is = grind (arith, nat_tests)
 
 none-less : (store : Bool) → (store && not store) ≡ false
-none-less true = refl
-none-less false = refl
+none-less store = grind (arith, nat_tests)
 
 stored-to : (store write : Bool) → (store && not write) ≡ false → store ≡ true → write ≡ true
-stored-to true true less is = refl
-stored-to true false less is = absurd (cc)
-stored-to false write less is = absurd (cc)
+stored-to store write less is = grind (arith, nat_tests)
 
 -- who may store may load
 lets-load : (table : Placed) (d : Layout) (runner : ℕ) (at : Virtual) (write store : Bool) → (store && not write) ≡ false → lets_at d table runner at write ≡ true → lets_at d table runner at store ≡ true
 lets-load table d runner at write store less is = grind (arith, nat_tests)
 
 -- a part of the 128 bytes at a multiple of 128 under a register
-no-less : (write store may : Bool) → (store && not write) ≡ false → (write && not may) ≡ false → (store && not may) ≡ false
-no-less true true true less free = refl
-no-less true true false less free = absurd (cc)
-no-less false true may less free = absurd (cc)
-no-less write false may less free = refl
-
 abbrev StaysInPage : PageSize → (o past : ℕ) → Type 0
 StaysInPage page o past = ((o + past) / page_bytes page ≡ o / page_bytes page) × ((o + past) % page_bytes page ≡ o % page_bytes page + past)
 
 part-located :
     (page : PageSize) (r : Option SegmentRegister) (o past n all : ℕ) (write store : Bool) (first : Virtual) → StaysInPage page o past → past + n ≤ all → (store && not write) ≡ false
     → located_under page r o all write ≡ Ok first → located_under page r (o + past) n store ≡ Ok (moved first past)
-part-located page None o past n all write store first stays fits less is = absurd (cc)
-part-located page (Some r) o past n all write store first stays fits less is = by_tests (nat_le (o + all) r.bytes) (write && not r.write) refl refl is
-  where
-    by_tests : (inside shut : Bool) → nat_le (o + all) r.bytes ≡ inside → (write && not r.write) ≡ shut
-        → cond {A = Result Virtual Check} inside (cond {A = Result Virtual Check} shut (Err (record { 0 = 7 })) (Ok (virtual_at page r.segment o))) (Err (record { 0 = 2 })) ≡ Ok first
-        → located_under page (Some r) (o + past) n store ≡ Ok (moved first past)
-    by_tests true false within free told =
-        let inside : nat_le (o + past + n) r.bytes ≡ true = grind (arith, nat_tests, within) in
-        let at : virtual_at page r.segment o ≡ first = cc in
-        ap (λ (test : Bool). cond {A = Result Virtual Check} test (cond {A = Result Virtual Check} (store && not r.write) (Err (record { 0 = 7 })) (Ok (virtual_at page r.segment (o + past)))) (Err (record { 0 = 2 }))) inside
-        ∙ ap (λ (test : Bool). cond {A = Result Virtual Check} test (Err (record { 0 = 7 })) (Ok (virtual_at page r.segment (o + past)))) (no-less write store r.write less free)
-        ∙ ap (λ p. Ok (record { segment = r.segment; page = p; byte = (o + past) % page_bytes page })) stays.0
-        ∙ ap (λ b. Ok (record { segment = r.segment; page = o / page_bytes page; byte = b })) stays.1
-        ∙ ap (λ v. Ok (moved v past)) at
-    by_tests true true within free told = absurd (cc)
-    by_tests false shut within free told = absurd (cc)
+part-located page r o past n all write store first stays fits less is = grind (arith, nat_tests)
 
 -- the 128 bytes that a byte is among, where a segment has whole ones
 round-page : (size : PageSize) (o : ℕ) → (o / 128 * 128 / page_bytes size ≡ o / page_bytes size) × (o / 128 * 128 % page_bytes size ≡ o % page_bytes size / 128 * 128)
-round-page Two o = (omega arith, omega arith)
-round-page Four o = (omega arith, omega arith)
+round-page size o = grind (arith, nat_tests)
 
 whole-located :
     (page : PageSize) (r : SegmentRegister) (o n : ℕ) (store : Bool) (first : Virtual) → r.bytes % 128 ≡ 0 → 0 < n
     → located_under page (Some r) o n store ≡ Ok first → located_under page (Some r) (o / 128 * 128) 128 store ≡ Ok (rounded first)
-whole-located page r o n store first whole some is = by_tests (nat_le (o + n) r.bytes) (store && not r.write) refl refl is
-  where
-    by_tests : (inside shut : Bool) → nat_le (o + n) r.bytes ≡ inside → (store && not r.write) ≡ shut
-        → cond {A = Result Virtual Check} inside (cond {A = Result Virtual Check} shut (Err (record { 0 = 7 })) (Ok (virtual_at page r.segment o))) (Err (record { 0 = 2 })) ≡ Ok first
-        → located_under page (Some r) (o / 128 * 128) 128 store ≡ Ok (rounded first)
-    by_tests true false within free told =
-        let (same, byte) = round-page page o in
-        let inside : nat_le (o / 128 * 128 + 128) r.bytes ≡ true = grind (arith, nat_tests, within) in
-        let at : virtual_at page r.segment o ≡ first = cc in
-        ap (λ (test : Bool). cond {A = Result Virtual Check} test (cond {A = Result Virtual Check} (store && not r.write) (Err (record { 0 = 7 })) (Ok (virtual_at page r.segment (o / 128 * 128)))) (Err (record { 0 = 2 }))) inside
-        ∙ ap (λ (test : Bool). cond {A = Result Virtual Check} test (Err (record { 0 = 7 })) (Ok (virtual_at page r.segment (o / 128 * 128)))) free
-        ∙ ap (λ p. Ok (record { segment = r.segment; page = p; byte = o / 128 * 128 % page_bytes page })) same
-        ∙ ap (λ b. Ok (record { segment = r.segment; page = o / page_bytes page; byte = b })) byte
-        ∙ ap (λ v. Ok (rounded v)) at
-    by_tests true true within free told = absurd (cc)
-    by_tests false shut within free told = absurd (cc)
+whole-located page r o n store first whole some is = grind (arith, nat_tests, round-page page o)
 
 -- segments have whole ones
 length-whole : (d : Layout) (segment bytes : ℕ) → length_of d segment ≡ Some bytes → bytes % 128 ≡ 0
-length-whole d segment bytes found = by_found (find (is_named segment) d.segments) found
-  where
-    pages : (size : PageSize) (n : ℕ) → n * page_bytes size ≡ bytes → bytes % 128 ≡ 0
-    pages Two n is = omega (arith, is)
-    pages Four n is = omega (arith, is)
-
-    by_found : (o : Option (ℕ × ℕ)) → option_map (bytes_of (page_bytes d.page)) o ≡ Some bytes → bytes % 128 ≡ 0
-    by_found None is = absurd (cc)
-    by_found (Some s) is = pages d.page s.1 (let same : s.1 * page_bytes d.page ≡ bytes = cc in same)
+length-whole d segment bytes found =
+    let pages : (size : PageSize) (n : ℕ) → n * page_bytes size ≡ bytes → bytes % 128 ≡ 0 = λ size n is. grind (arith, nat_tests) in
+    let by_found : (o : Option (ℕ × ℕ)) → option_map (bytes_of (page_bytes d.page)) o ≡ Some bytes → bytes % 128 ≡ 0 = λ o is. grind (arith, nat_tests) in
+    by_found (find (is_named segment) d.segments) found
 
 -- an access in a block that is located, or in two behind each other
 opened-located :
@@ -179,10 +132,11 @@ byte-located state sound address n k store first below within is =
     let small : address % 2 ^ 28 + k < 2 ^ 28 = omega (arith, lies.few, offset, below) in
     let block : (address + k) / 2 ^ 28 ≡ address / 2 ^ 28 = omega (arith, small) in
     let rest : (address + k) % 2 ^ 28 ≡ address % 2 ^ 28 + k = omega (arith, small) in
-    ap (λ i. located_under state.registers.page (slice_index_or state.registers.list i None) ((address + k) % 2 ^ 28) 1 store) block
-    ∙ ap (λ o. located_under state.registers.page (slice_index_or state.registers.list (address / 2 ^ 28) None) o 1 store) rest
-    ∙ part-located state.registers.page (slice_index_or state.registers.list (address / 2 ^ 28) None) (address % 2 ^ 28) k 1 n store store first
-    (same-page-on state.registers.page (address % 2 ^ 28) k inside, rest-on state.registers.page (address % 2 ^ 28) k inside) (omega (arith, below)) (none-less store) is
+    grind (
+      arith,
+      nat_tests,
+      part-located state.registers.page (slice_index_or state.registers.list (address / 2 ^ 28) None) (address % 2 ^ 28) k 1 n store store first (same-page-on state.registers.page (address % 2 ^ 28) k inside, rest-on state.registers.page (address % 2 ^ 28) k inside) (omega (arith, below)) (none-less store) is,
+    )
 
 -- and its block
 module _ (state : Reach) (sound : IsSound state) (address n : ℕ) (store : Bool) (at : Virtual) (some : 0 < n) (is : located_by state.registers address n store ≡ Ok at) where
@@ -190,24 +144,15 @@ module _ (state : Reach) (sound : IsSound state) (address n : ℕ) (store : Bool
   found = under state.registers address n store at is
 
   register-whole : found.register.bytes % 128 ≡ 0
-  register-whole = by_test (is_private found.register.segment) refl
-    where
-      told : IsUnder state.directory (one state sound address n at found).seat found.register
-      told = stands state sound address n at found
-
-      by_test : (own : Bool) → is_private found.register.segment ≡ own → found.register.bytes % 128 ≡ 0
-      by_test true own = omega (arith, (told.private own).1)
-      by_test false own = length-whole state.directory found.register.segment found.register.bytes (told.shared own)
+  register-whole =
+      let told = stands state sound address n at found in
+      grind (arith, nat_tests, told, length-whole state.directory found.register.segment found.register.bytes)
 
   pub block-located : located_by state.registers (address / 128 * 128) 128 store ≡ Ok (rounded at)
   block-located =
       let block : address / 128 * 128 / 2 ^ 28 ≡ address / 2 ^ 28 = omega arith in
       let rest : address / 128 * 128 % 2 ^ 28 ≡ address % 2 ^ 28 / 128 * 128 = omega arith in
-      ap (λ i. located_under state.registers.page (slice_index_or state.registers.list i None) (address / 128 * 128 % 2 ^ 28) 128 store) block
-      ∙ ap (λ o. located_under state.registers.page (slice_index_or state.registers.list (address / 2 ^ 28) None) o 128 store) rest
-      ∙ ap (λ r. located_under state.registers.page r (address % 2 ^ 28 / 128 * 128) 128 store) found.stands
-      ∙ whole-located state.registers.page found.register (address % 2 ^ 28) n store at register-whole some
-      (ap (λ r. located_under state.registers.page r (address % 2 ^ 28) n store) (sym found.stands) ∙ is)
+      cc (found.stands, whole-located state.registers.page found.register (address % 2 ^ 28) n store at register-whole some (ap (λ r. located_under state.registers.page r (address % 2 ^ 28) n store) (sym found.stands) ∙ is))
 
 -- the block of a byte of an access that may be made, from its first byte on, is open
 module _ (unit : Unit) (wants : Access) (first : Virtual) (frame past : ℕ) (at : Virtual) (line : OpenLine) (below : past < wants.bytes) (opens : IsOpenAt (reach_of unit) wants first frame) (is-at : at ≡ moved first past)
@@ -227,13 +172,8 @@ module _ (unit : Unit) (wants : Access) (first : Virtual) (frame past : ℕ) (at
       ap (λ page. answered_at page (is_in_frame state) (refuses state) wants (Ok first)) (sym (registers-page state (unit-sound unit)))
       ∙ ap (answered_at unit.registers.page (is_in_frame state) (refuses state) wants) (sym opens.located) ∙ opens.permitted in
       let (there, free) = permitted-lines state first wants.bytes wants place refl (shared-is unit.directory first other) answer past below in
-      un-not _
-      (ap (λ (v : Virtual). is_refused state (line_of unit.directory (start_of unit.directory v.segment + offset_of unit.directory.page v)) wants.store) is-at
-      ∙ ap (λ at. is_refused state (line_of unit.directory at) wants.store) (let same : start_of unit.directory first.segment + offset_of unit.directory.page (moved first past) ≡ place + past = omega arith in same) ∙ free)
-    where
-      un-not : (b : Bool) → not b ≡ false → b ≡ true
-      un-not true is = refl
-      un-not false is = absurd (cc)
+      let same : start_of unit.directory first.segment + offset_of unit.directory.page (moved first past) ≡ place + past = omega arith in
+      grind (arith, nat_tests, is-at, same, free)
 
   back : at ≡ moved (rounded at) (at.byte % 128)
   back = ap (λ b. (let v : Virtual = record at { byte = b } in v)) (let same : at.byte ≡ at.byte / 128 * 128 + at.byte % 128 = omega arith in same)
@@ -297,9 +237,7 @@ opened-more unit frame lines = by_page (page_at (pool_of unit.pool) frame)
 
 -- what may be accessed may be after a store
 pub open-after : (state : Reach) (place : Located) (bytes : List ℕ) (wants : Access) (first : Virtual) (frame : ℕ) → IsOpenAt state wants first frame → IsOpenAt (put_at state place bytes) wants first frame
-open-after state (Private a) bytes wants first frame opens = record { located = opens.located; within = opens.within; frame = opens.frame; permitted = opens.permitted }
-open-after state (Shared a) bytes wants first frame opens = record { located = opens.located; within = opens.within; frame = opens.frame; permitted = opens.permitted }
-open-after state (Refused code) bytes wants first frame opens = opens
+open-after state place bytes wants first frame opens = grind (arith, nat_tests)
 
 -- where none is known, all are open
 pub opened-none : (lines : OpenLines) (directory : Layout) (table : Placed) (registers : Registers) (runner : ℕ) {marked : List (List ℕ)} → KnowsNothing lines → AreOpened lines directory table registers marked runner
@@ -313,8 +251,7 @@ opened-low unit wants line is =
     by_size unit.directory.page low told.spot
   where
     by_size : (size : PageSize) → line.first.byte < page_bytes size → line.spot ≡ line.frame * page_bytes size + line.first.byte → (line.first.byte < 4096) × (line.spot < line.frame * 4096 + 4096)
-    by_size Two low at = (omega (arith, low), omega (arith, low, at))
-    by_size Four low at = (low, omega (arith, low, at))
+    by_size size low at = grind (arith, nat_tests)
 
 -- an access among bytes of one page that are located together, each of which the entry lets, may be made
 module _ (unit : Unit) (wants : Access) (line : OpenLine) (all : ℕ) (some : 0 < wants.bytes) (few : wants.bytes ≤ 255) (fits : wants.address % 128 + wants.bytes ≤ all)
@@ -380,8 +317,7 @@ module _ (unit : Unit) (block : ℕ) (line : OpenLine) (store : Bool) (less : (s
   line-room = whole-room unit.directory.page line.first.byte line-whole (lies (reach_of unit) (unit-sound unit) (block * 128) 128 line.first here).within
     where
       whole-room : (size : PageSize) (byte : ℕ) → byte % 128 ≡ 0 → byte < page_bytes size → byte + 128 ≤ page_bytes size
-      whole-room Two byte whole low = omega (arith, whole, low)
-      whole-room Four byte whole low = omega (arith, whole, low)
+      whole-room size byte whole low = grind (arith, nat_tests)
 
   line-located : located_by unit.registers (block * 128) 128 store ≡ Ok line.first
   line-located = weaker unit.registers (block * 128) 128 line.write store line.first less told.located
@@ -407,6 +343,9 @@ pub opened-pair :
     → known unit.lines (wants.address / 128) ≡ Some line → known unit.lines ((wants.address + 128) / 128) ≡ Some next → next.first ≡ moved line.first 128
     → (found : OpenLine) → found.first ≡ moved line.first (wants.address % 128) → found.frame ≡ line.frame → found.spot ≡ line.spot + wants.address % 128 → IsOpenFrom (reach_of unit) wants found
 opened-pair unit wants line next some few less more is also behind =
+    let beyond : (k : ℕ) → 128 ≤ k → moved line.first k ≡ moved next.first (k - 128) =
+    λ k high. ap (λ b. (let v : Virtual = record line.first { byte = b } in v)) (let sum : line.first.byte + k ≡ line.first.byte + 128 + (k - 128) = omega (arith, high) in sum)
+    ∙ ap (λ v. moved v (k - 128)) (sym behind) in
     let block = wants.address / 128 in
     let over = (wants.address + 128) / 128 in
     let byte : next.first.byte ≡ line.first.byte + 128 = ap (λ (v : Virtual). v.byte) behind in
@@ -418,20 +357,13 @@ opened-pair unit wants line next some few less more is also behind =
     (λ own k below. elim (cases_lt k 128) [
       | inl low ↦ line-lets unit block line wants.store less is own k low
       | inr high ↦
-          ap (λ v. lets_at unit.directory unit.table unit.runner v wants.store) (beyond k high)
-          ∙ line-lets unit over next wants.store more also (ap (λ (v : Virtual). is_private v.segment) behind ∙ own) (k - 128) (omega (arith, below, high))
+          cc (beyond k high, line-lets unit over next wants.store more also (ap (λ (v : Virtual). is_private v.segment) behind ∙ own) (k - 128) (omega (arith, below, high)))
     ])
     (λ stores own k below. elim (cases_lt k 128) [
       | inl low ↦ line-marks unit block line wants.store less is stores own k low
       | inr high ↦
-          ap (is_marked_at unit.directory (pool_of unit.pool).marked) (beyond k high)
-          ∙ line-marks unit over next wants.store more also stores (ap (λ (v : Virtual). is_private v.segment) behind ∙ own) (k - 128) (omega (arith, below, high))
+          cc (beyond k high, line-marks unit over next wants.store more also stores (ap (λ (v : Virtual). is_private v.segment) behind ∙ own) (k - 128) (omega (arith, below, high)))
     ])
-  where
-    beyond : (k : ℕ) → 128 ≤ k → moved line.first k ≡ moved next.first (k - 128)
-    beyond k high =
-        ap (λ b. (let v : Virtual = record line.first { byte = b } in v)) (let sum : line.first.byte + k ≡ line.first.byte + 128 + (k - 128) = omega (arith, high) in sum)
-        ∙ ap (λ v. moved v (k - 128)) (sym behind)
 
 -- its bytes lie there
 module _ (unit : Unit) (wants : Access) (first : Virtual) (frame : ℕ) (opens : IsOpenAt (reach_of unit) wants first frame) where
@@ -450,12 +382,9 @@ module _ (unit : Unit) (wants : Access) (first : Virtual) (frame : ℕ) (opens :
   -- and they end below the last address
   pub open-low : (wants.address % 2 ^ 28 + wants.bytes ≤ 2 ^ 22) × (first.byte + wants.bytes ≤ 4096)
   open-low =
+      let by_size : (size : PageSize) → first.byte + wants.bytes ≤ page_bytes size → first.byte + wants.bytes ≤ 4096 = λ size within. grind (arith, nat_tests) in
       let offset : offset_of unit.directory.page first ≡ wants.address % 2 ^ 28 = located-offset (reach_of unit) (unit-sound unit) wants.address wants.bytes first (under unit.registers wants.address wants.bytes wants.store first opens.located) in
       (omega (arith, offset, open-lies.few), by_size unit.directory.page opens.within)
-    where
-      by_size : (size : PageSize) → first.byte + wants.bytes ≤ page_bytes size → first.byte + wants.bytes ≤ 4096
-      by_size Two within = omega (arith, within)
-      by_size Four within = within
 
 -- and at its spot those bytes are in the frames
 module _ (unit : Unit) (wants : Access) (line : OpenLine) (some : 0 < wants.bytes) (opens : IsOpenFrom (reach_of unit) wants line) (n : ℕ) (same : n ≡ wants.bytes) where
@@ -470,16 +399,14 @@ module _ (unit : Unit) (wants : Access) (line : OpenLine) (some : 0 < wants.byte
 
   pub open-part : slice_range (pool_of unit.pool).bytes line.spot (line.spot + n) ≡ bytes_from (byte_at (reach_of unit)) wants.address wants.bytes
   open-part =
-      ap (λ at. slice_range (pool_of unit.pool).bytes at (at + n)) spot-is
-      ∙ ap (part_of (pool_of unit.pool) line.frame line.first.byte) same
-      ∙ part-shown (reach_of unit) (unit-sound unit) line.first wants.bytes some (open-lies unit wants line.first line.frame opens.opens) line.frame opens.opens.frame opens.opens.within
-      ∙ open-bytes unit wants line.first line.frame opens.opens
+      cc (
+        part-shown (reach_of unit) (unit-sound unit) line.first wants.bytes some (open-lies unit wants line.first line.frame opens.opens) line.frame opens.opens.frame opens.opens.within,
+        open-bytes unit wants line.first line.frame opens.opens,
+      )
 
 -- what is refused stays
 pub refused-stays : {A : Type 0} (probe : Probe) (after before : A) → IsRefusal probe → before ≡ if_permitted probe after before
-refused-stays Probe.Permitted after before is = absurd is
-refused-stays (Probe.Check code) after before is = refl
-refused-stays (Probe.Fault fault) after before is = refl
+refused-stays probe after before is = grind (arith, nat_tests)
 
 -- an access that lies in one page may be made where it is permitted
 pub opens-when :

@@ -1,5 +1,5 @@
 -- The pool after a part of a frame was written.
-use Rattle.storage_unit.proofs.Common.{◌≡◌, ℕ, Bool, ◌+◌, ◌*◌, ◌≤◌, List, length, refl, ◌∙◌, ap, arith, Option, Some, None, length-take, length-drop, page_bytes, Layout, Virtual, key_of, look_up, Pool, marked_in, page_at, with_marks, with_bytes, part_of, with_frame_part, with_marked, pool_of, lent-part, marked-seen, option_map_or, Unit, table_of, keys_of, reach_of, nat_tests}
+use Rattle.storage_unit.proofs.Common.{◌≡◌, ℕ, Bool, ◌+◌, ◌*◌, ◌≤◌, List, length, ◌∙◌, ap, arith, Option, Some, length-take, length-drop, page_bytes, Layout, Virtual, key_of, look_up, Pool, marked_in, page_at, with_marks, with_bytes, part_of, with_frame_part, with_marked, pool_of, lent-part, marked-seen, option_map_or, Unit, table_of, keys_of, reach_of, nat_tests}
 use Rattle.storage_unit.proofs.CopyLemmas.{found-below}
 use Rattle.storage_unit.proofs.UnitLemmas.{unit-sound}
 
@@ -22,8 +22,7 @@ module _ (unit : Unit) (at : Virtual) (frame byte n : ℕ) (is : look_up (table_
       bytes-same = by_page (page_at (pool_of unit.pool) frame)
         where
           by_page : (o : Option ℕ) → length (option_map_or (λ page. with_marks (pool_of unit.pool) page lines) o (pool_of unit.pool)).bytes ≡ length unit.pool.bytes.items.items
-          by_page None = refl
-          by_page (Some page) = refl
+          by_page o = grind (arith, nat_tests)
 
 -- what stays of the pool
 pub record Same (old new : Pool) : Type 0 where

@@ -1,5 +1,5 @@
 -- Where the bytes of an access lie, one by one, and the frames that have them.
-use Rattle.storage_unit.proofs.Common.{◌≡◌, ℕ, ◌+◌, ◌-◌, ◌*◌, ◌/◌, ◌%◌, ◌<◌, ◌≤◌, ◌^◌, Bool, true, false, refl, sym, ◌∙◌, ap, subst, arith, replicate, Option, Some, None, Result, Ok, Err, ◌⊎◌, inl, inr, nat_le, nat_lt, cond, slice_index_or, if◌then◌else◌, is_some, cases_lt, nat_tests, get_or-replicate, get_or_past, div-add-mod', PageSize, page_bytes, Layout, length_of, start_of, byte_count, page_of, segment-within, Located, Private, Shared, Refused, Check, SegmentRegister, Virtual, Registers, virtual_at, bytes_on, located_under, located_by, key_to, key_of, look_up, frame_at, bytes-low, Reach, is_private, offset_of, place_of, on, IsUnder, AreReached, seat_pages, pages_begun, table_of, byte_of, byte_at, is_there, IsSound, Lies, AreThere}
+use Rattle.storage_unit.proofs.Common.{◌≡◌, ℕ, ◌+◌, ◌-◌, ◌*◌, ◌/◌, ◌%◌, ◌<◌, ◌≤◌, ◌^◌, Bool, true, false, refl, sym, ◌∙◌, ap, subst, arith, replicate, Option, Some, None, Ok, ◌⊎◌, inl, inr, nat_le, nat_lt, slice_index_or, if◌then◌else◌, is_some, cases_lt, nat_tests, get_or-replicate, get_or_past, div-add-mod', PageSize, page_bytes, Layout, length_of, start_of, byte_count, page_of, segment-within, Located, Private, Shared, Refused, SegmentRegister, Virtual, Registers, virtual_at, bytes_on, located_by, key_to, key_of, look_up, frame_at, bytes-low, Reach, is_private, offset_of, place_of, on, IsUnder, AreReached, seat_pages, pages_begun, table_of, byte_of, byte_at, is_there, IsSound, Lies, AreThere}
 use Rattle.storage_unit.proofs.SizeLemmas.{rest-below, byte-on-page, page-at, seat-page, same-page-on, page-of-line, page-below}
 use Rattle.storage_unit.proofs.KeyLemmas.{key-of-place, start-whole}
 use Rattle.storage_unit.proofs.HeldLemmas.{finds-page, finds-private}
@@ -24,9 +24,7 @@ pub place-on : (directory : Layout) (at : Virtual) (k : ℕ) → place_of direct
 place-on directory at k = grind (arith, nat_tests)
 
 pub on-on : (place : Located) (j k : ℕ) → on (on place j) k ≡ on place (j + k)
-on-on (Private at) j k = ap Private (omega arith)
-on-on (Shared at) j k = ap Shared (omega arith)
-on-on (Refused code) j k = refl
+on-on place j k = grind (arith, nat_tests)
 
 -- a byte lies somewhere
 pub never-refused : (directory : Layout) (at : Virtual) (code : ℕ) → place_of directory at ≡ Refused code → ⊥
@@ -84,11 +82,7 @@ module _ (state : Reach) (sound : IsSound state) (address n : ℕ) (at : Virtual
   segment = ap (λ (v : Virtual). v.segment) u.is
 
   few-bytes : u.register.bytes ≤ 2 ^ 22
-  few-bytes = by_test (is_private u.register.segment) refl
-    where
-      by_test : (own : Bool) → is_private u.register.segment ≡ own → u.register.bytes ≤ 2 ^ 22
-      by_test true own = omega (arith, (stands.private own).1)
-      by_test false own = bytes-low state.directory.segments u.register.segment u.register.bytes state.directory.page sound.legal (stands.shared own)
+  few-bytes = grind (arith, nat_tests, stands, bytes-low state.directory.segments u.register.segment u.register.bytes state.directory.page sound.legal)
 
   pub lies : Lies state at n
   lies = record {
@@ -109,13 +103,7 @@ module _ (state : Reach) (sound : IsSound state) (address n : ℕ) (at : Virtual
       let first : (address + k) / 2 ^ 28 ≡ address / 2 ^ 28 = omega arith in
       let rest : (address + k) % 2 ^ 28 ≡ address % 2 ^ 28 + k = omega arith in
       let inside : nat_le (address % 2 ^ 28 + k + m) u.register.bytes ≡ true = grind (arith, nat_tests, u.fits) in
-      ap (λ i. located_under state.registers.page (slice_index_or state.registers.list i None) ((address + k) % 2 ^ 28) m false) first
-      ∙ ap (λ o. located_under state.registers.page (slice_index_or state.registers.list (address / 2 ^ 28) None) o m false) rest
-      ∙ ap (λ r. located_under state.registers.page r (address % 2 ^ 28 + k) m false) u.stands
-      ∙ ap (λ (test : Bool). cond {A = Result Virtual Check} test (Ok (virtual_at state.registers.page u.register.segment (address % 2 ^ 28 + k))) (Err (record { 0 = 2 }))) inside
-      ∙ ap (λ page. Ok (virtual_at page u.register.segment (address % 2 ^ 28 + k))) (registers-page state sound)
-      ∙ ap (λ s. Ok (virtual_at state.directory.page s (address % 2 ^ 28 + k))) (sym segment)
-      ∙ ap (λ o. Ok (virtual_at state.directory.page at.segment (o + k))) (sym located-offset)
+      grind (arith, nat_tests, u.stands, registers-page state sound)
 
   -- the byte shown there
   pub byte-on : (k : ℕ) → k < n → byte_at state (address + k) ≡ byte_of state (on (place_of state.directory at) k)
@@ -171,10 +159,7 @@ module _ (state : Reach) (sound : IsSound state) (at : Virtual) (n : ℕ) (some 
       let place = start_of state.directory at.segment + offset_of state.directory.page at in
       let here : offset_of state.directory.page at / page_bytes state.directory.page ≡ at.page = page-at state.directory.page at.page at.byte lies.within in
       let key = key-of-place state.directory sound.legal at.segment bytes (offset_of state.directory.page at) found (omega (arith, fits, some)) in
-      ap (λ p. look_up (table_of state).keys (key_to at.segment p)) (sym here)
-      ∙ ap (look_up (table_of state).keys) (sym key)
-      ∙ finds-page state.directory sound.legal state.pool sound.seen sound.size sound.pages (pages_begun state.directory.page state.begun) (page_of state.directory place)
-      (page-below state.directory place (place-below own))
+      cc (finds-page state.directory sound.legal state.pool sound.seen sound.size sound.pages (pages_begun state.directory.page state.begun) (page_of state.directory place) (page-below state.directory place (place-below own)))
 
   -- the place of a byte of the store in its page
   pub place-byte : (start_of state.directory at.segment + offset_of state.directory.page at) % page_bytes state.directory.page ≡ at.byte

@@ -1,5 +1,5 @@
 -- The private pages of a seat: what comes into the table, and what its frames are filled with.
-use Rattle.storage_unit.proofs.Common.{◌≡◌, ◌≢◌, ℕ, ◌+◌, ◌-◌, ◌*◌, ◌/◌, ◌%◌, ◌<◌, ◌≤◌, Bool, true, false, List, [], ◌∷◌, ◌++◌, length, replicate, refl, sym, ◌∙◌, ap, arith, get_or, Option, Some, None, inl, inr, nat_lt, if◌then◌else◌, slice_index_or, slice_set, option_map, range_with_len, cases_lt, nat_tests, same_lists, map-append, length-append, length-replicate, get_or-replicate, get_or_append_left, get_or-append_right, get_or-set_same, get_or-set_other, get_or_past, get_or-map-range_with_len, length-map-range_with_len, overlaid, overlaid_before, overlaid_within, overlaid_behind, length-overlaid, Key, key_to, key_in, look_up, look_up-is, look_up-none, is-held, PageSize, Layout, private_frames, private_segment, key_of_page, seat_pages, first_keys, pages_begun, held_private, held_in, keys_of}
+use Rattle.storage_unit.proofs.Common.{◌≡◌, ◌≢◌, ℕ, ◌+◌, ◌-◌, ◌*◌, ◌/◌, ◌<◌, ◌≤◌, Bool, true, false, List, [], ◌∷◌, ◌++◌, length, replicate, sym, ◌∙◌, ap, arith, get_or, Option, Some, None, inl, inr, if◌then◌else◌, slice_index_or, slice_set, range_with_len, cases_lt, nat_tests, same_lists, map-append, length-replicate, get_or-replicate, get_or-set_same, get_or-set_other, get_or_past, get_or-map-range_with_len, length-map-range_with_len, overlaid, overlaid_before, overlaid_within, overlaid_behind, length-overlaid, Key, key_to, key_in, look_up, look_up-is, look_up-none, is-held, PageSize, Layout, private_frames, private_segment, seat_pages, first_keys, pages_begun, held_private, held_in, keys_of, replicate-append-replicate}
 use Rattle.frame_pool.proofs.PlaceLemmas.{range-push}
 use Rattle.storage_unit.proofs.SizeLemmas.{seat-first, seat-rest}
 use Rattle.storage_unit.proofs.HeldLemmas.{overlaid-more}
@@ -51,30 +51,14 @@ module _ (keys : List (Option Key)) (first segment all count : ℕ) (room : firs
 
 -- one frame more holds nothing
 none-more : (count : ℕ) → replicate (count + 1) (let none : Option Key = None in none) ≡ replicate count None ++ None ∷ []
-none-more count =
-    same_lists (replicate (count + 1) None) (replicate count None ++ None ∷ [])
-    (length-replicate (count + 1) (let none : Option Key = None in none) ∙ sym (length-append (replicate count None) (None ∷ []) ∙ omega (arith, length-replicate count (let none : Option Key = None in none))))
-    (λ k d below. element k d (omega (arith, below, length-replicate (count + 1) (let none : Option Key = None in none))))
-  where
-    long : length (replicate count (let none : Option Key = None in none)) ≡ count
-    long = length-replicate count (let none : Option Key = None in none)
-
-    element : (k : ℕ) (d : Option Key) → k < count + 1 → get_or (replicate (count + 1) None) k d ≡ get_or (replicate count None ++ None ∷ []) k d
-    element k d below = get_or-replicate (count + 1) k None d below ∙ elim (cases_lt k count) [
-      | inl less ↦ sym (get_or_append_left (replicate count None) (None ∷ []) d k (omega (arith, less, long)) ∙ get_or-replicate count k None d less)
-      | inr past ↦
-          let none : k - count ≡ 0 = omega (arith, past, below) in
-          sym (get_or-append_right (replicate count None) (None ∷ []) count k d long past ∙ ap (λ n. get_or ((let one : Option Key = None in one) ∷ []) n d) none)
-    ]
+none-more count = sym (replicate-append-replicate count 1 (let none : Option Key = None in none))
 
 pub nones-more :
     (keys : List (Option Key)) (first count : ℕ) → first + count < length keys
     → slice_set (overlaid keys first (replicate count None)) (first + count) None ≡ overlaid keys first (replicate (count + 1) None)
 nones-more keys first count room =
     let long : length (replicate count (let none : Option Key = None in none)) ≡ count = length-replicate count (let none : Option Key = None in none) in
-    ap (λ n. slice_set (overlaid keys first (replicate count None)) (first + n) None) (sym long)
-    ∙ overlaid-more keys first (replicate count None) None (omega (arith, room, long))
-    ∙ ap (overlaid keys first) (sym (none-more count))
+    cc (overlaid-more keys first (replicate count None) None (omega (arith, room, long)), none-more count)
 
 pub nones-long : (keys : List (Option Key)) (first count : ℕ) → first + count ≤ length keys → length (overlaid keys first (replicate count None)) ≡ length keys
 nones-long keys first count room = length-overlaid keys first (replicate count None) (omega (arith, room, length-replicate count (let none : Option Key = None in none)))
@@ -85,6 +69,33 @@ begun-at size begun seat b below = ap (λ (on : Bool). if on then seat_pages siz
 
 pub begun-other : (size : PageSize) (begun : List Bool) (seat other : ℕ) (b : Bool) → other ≢ seat → pages_begun size (slice_set begun seat b) other ≡ pages_begun size begun other
 begun-other size begun seat other b apart = ap (λ (on : Bool). if on then seat_pages size else 0) (get_or-set_other begun seat other b false apart)
+
+-- where no seat is begun and no page is in a frame, no frame holds a page
+pub keys-bare : (d : Layout) (frames count : ℕ) → replicate (private_frames d.page + frames) None ≡ keys_of d (replicate 16 false) frames (replicate count None)
+keys-bare d frames count =
+    same_lists (replicate (private_frames d.page + frames) None) (keys_of d (replicate 16 false) frames (replicate count None))
+    (long ∙ sym (length-map-range_with_len (held_in d (pages_begun d.page (replicate 16 false)) (replicate count None)) 0 (private_frames d.page + frames)))
+    (λ k e below. element k e (omega (arith, below, long)))
+  where
+    long : length (replicate (private_frames d.page + frames) (let none : Option Key = None in none)) ≡ private_frames d.page + frames
+    long = length-replicate (private_frames d.page + frames) (let none : Option Key = None in none)
+
+    all-same : {A : Type 0} (n k : ℕ) (x : A) → slice_index_or (replicate n x) k x ≡ x
+    all-same n k x = grind (arith, get_or-replicate n k x x, get_or_past (replicate n x) k x, length-replicate n x)
+
+    bare : (k : ℕ) → held_in d (pages_begun d.page (replicate 16 false)) (replicate count None) k ≡ None
+    bare k =
+        let never = all-same 16 (k / seat_pages d.page) false in
+        let none = all-same count k (let none : Option ℕ = None in none) in
+        grind (arith, nat_tests, never, none)
+
+    element : (k : ℕ) (e : Option Key) → k < private_frames d.page + frames → get_or (replicate (private_frames d.page + frames) None) k e ≡ get_or (keys_of d (replicate 16 false) frames (replicate count None)) k e
+    element k e below =
+        cc (
+          get_or-replicate (private_frames d.page + frames) k (let none : Option Key = None in none) e below,
+          bare k,
+          get_or-map-range_with_len (held_in d (pages_begun d.page (replicate 16 false)) (replicate count None)) 0 (private_frames d.page + frames) k k e below (omega arith),
+        )
 
 -- what its frames hold then
 pub holds-first :
@@ -100,43 +111,3 @@ holds-none size begun seat index e below few = grind (arith, nat_tests, seat-fir
 -- a seat that isn't begun has no page in the table
 pub free-at : (size : PageSize) (begun : List Bool) (seat index : ℕ) → slice_index_or begun seat false ≡ false → index < seat_pages size → held_private size (pages_begun size begun) (seat * seat_pages size + index) ≡ None
 free-at size begun seat index not few = grind (arith, nat_tests, seat-first)
-
--- where no seat is begun and no page is in a frame, no frame holds a page
-pub keys-bare : (d : Layout) (frames count : ℕ) → replicate (private_frames d.page + frames) None ≡ keys_of d (replicate 16 false) frames (replicate count None)
-keys-bare d frames count =
-    same_lists (replicate (private_frames d.page + frames) None) (keys_of d (replicate 16 false) frames (replicate count None))
-    (long ∙ sym (length-map-range_with_len (held_in d (pages_begun d.page (replicate 16 false)) (replicate count None)) 0 (private_frames d.page + frames)))
-    (λ k e below. element k e (omega (arith, below, long)))
-  where
-    long : length (replicate (private_frames d.page + frames) (let none : Option Key = None in none)) ≡ private_frames d.page + frames
-    long = length-replicate (private_frames d.page + frames) (let none : Option Key = None in none)
-
-    never : (seat : ℕ) → slice_index_or (replicate 16 false) seat false ≡ false
-    never seat = elim (cases_lt seat 16) [
-      | inl below ↦ get_or-replicate 16 seat false false below
-      | inr past ↦ get_or_past (replicate 16 false) seat false past
-    ]
-
-    none : (n : ℕ) → slice_index_or (replicate count (let none : Option ℕ = None in none)) n None ≡ None
-    none n = elim (cases_lt n count) [
-      | inl below ↦ get_or-replicate count n None None below
-      | inr past ↦ get_or_past (replicate count None) n None (omega (arith, past, length-replicate count (let none : Option ℕ = None in none)))
-    ]
-
-    bare : (k : ℕ) → held_in d (pages_begun d.page (replicate 16 false)) (replicate count None) k ≡ None
-    bare k =
-        let outside : nat_lt (k % seat_pages d.page) 0 ≡ false = grind (arith, nat_tests) in
-        ap (λ (on : Bool). if nat_lt k (private_frames d.page) then (if nat_lt (k % seat_pages d.page) (if on then seat_pages d.page else 0) then Some (key_to (private_segment (k / seat_pages d.page)) (k % seat_pages d.page)) else None) else option_map (key_of_page d) (slice_index_or (replicate count None) k None)) (never (k / seat_pages d.page))
-        ∙ ap (λ (b : Bool). if nat_lt k (private_frames d.page) then (if b then Some (key_to (private_segment (k / seat_pages d.page)) (k % seat_pages d.page)) else None) else option_map (key_of_page d) (slice_index_or (replicate count None) k None)) outside
-        ∙ ap (λ (o : Option ℕ). if nat_lt k (private_frames d.page) then None else option_map (key_of_page d) o) (none k)
-        ∙ both (nat_lt k (private_frames d.page))
-      where
-        both : (b : Bool) → (let held : Option Key = if b then None else None in held) ≡ None
-        both true = refl
-        both false = refl
-
-    element : (k : ℕ) (e : Option Key) → k < private_frames d.page + frames → get_or (replicate (private_frames d.page + frames) None) k e ≡ get_or (keys_of d (replicate 16 false) frames (replicate count None)) k e
-    element k e below =
-        get_or-replicate (private_frames d.page + frames) k None e below
-        ∙ sym (bare k)
-        ∙ sym (get_or-map-range_with_len (held_in d (pages_begun d.page (replicate 16 false)) (replicate count None)) 0 (private_frames d.page + frames) k k e below (omega arith))

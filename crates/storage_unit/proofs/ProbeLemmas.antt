@@ -30,12 +30,11 @@ module _ (state : Reach) (sound : IsSound state) (first : Virtual) (n : ℕ) (so
     there k above below =
         let start : next.byte ≡ 0 = ap (λ n. n % page_bytes state.directory.page) page-end ∙ byte-at state.directory.page (first.page + 1) 0 (omega (arith, page-some state.directory.page)) in
         let split : rest + (k - rest) ≡ k = omega (arith, above) in
-        ap (λ m. not (is_there state (on (place_of state.directory first) m))) (sym split)
-        ∙ ap (λ place. not (is_there state place)) (sym (on-on (place_of state.directory first) rest (k - rest)))
-        ∙ ap (λ place. not (is_there state (on place (k - rest)))) (sym (place-on state.directory first rest))
-        ∙ ap not
-        (there-found state sound next (n - rest) (omega (arith, more)) (lies-on state first rest (n - rest) n (omega (arith, more)) lies) (k - rest)
-        (omega (arith, start, above, below, few, page-some state.directory.page)))
+        cc (
+          on-on (place_of state.directory first) rest (k - rest),
+          place-on state.directory first rest,
+          there-found state sound next (n - rest) (omega (arith, more)) (lies-on state first rest (n - rest) n (omega (arith, more)) lies) (k - rest) (omega (arith, start, above, below, few, page-some state.directory.page)),
+        )
 
     -- the next page is in none
     pub absent-next : is_absent state first ≡ false → is_absent state (bytes_on state.directory.page first rest) ≡ true

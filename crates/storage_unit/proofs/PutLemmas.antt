@@ -1,6 +1,6 @@
 -- Bytes that are put into frames of the store, and the lines that are marked.
-use Rattle.storage_unit.proofs.Common.{◌≡◌, ◌≢◌, ℕ, zero, suc, ◌+◌, ◌-◌, ◌*◌, ◌/◌, ◌%◌, ◌<◌, ◌≤◌, Bool, true, false, List, [], length, refl, sym, ◌∙◌, ap, arith, Option, Some, None, get_or, inl, inr, ◌==◌, ◌&&◌, ◌||◌, nat_le, nat_lt, if◌then◌else◌, slice_index, slice_set, cases_lt, cases_eq, nat_tests, same_lists, length-set, get_or-set_same, get_or-set_other, get_or_default, get_or-map-range_with_len, length-map-range_with_len, same_number_lists, overlaid, length-overlaid, page_bytes, line_bytes, Layout, line_of, page_of, union, between, lines_where, where-alike, is_in_where-below, has, page_of_line, has-range, Shared, lines_at, Pool, IsSeen, frame_at, page_at, marks_at, lines_of_part, AreOfPages, is_line_marked, byte_in_frame, put_byte, spot_put, marks_put, put_in_store}
-use Rattle.storage_unit.proofs.SizeLemmas.{rest-below, place-is, page-at, byte-at, page-between, line-is, line-few, line-order}
+use Rattle.storage_unit.proofs.Common.{◌≡◌, ◌≢◌, ℕ, ◌+◌, ◌-◌, ◌*◌, ◌/◌, ◌%◌, ◌<◌, ◌≤◌, Bool, false, List, [], length, refl, sym, ◌∙◌, ap, arith, Option, Some, None, get_or, inl, inr, ◌==◌, ◌&&◌, ◌||◌, nat_le, if◌then◌else◌, slice_index, slice_set, cases_lt, cases_eq, nat_tests, same_lists, length-set, get_or-set_same, get_or-set_other, get_or_default, get_or-map-range_with_len, length-map-range_with_len, same_number_lists, overlaid, length-overlaid, page_bytes, line_bytes, Layout, line_of, page_of, union, between, lines_where, where-alike, is_in_where-below, has, page_of_line, has-range, Shared, lines_at, Pool, IsSeen, frame_at, page_at, marks_at, lines_of_part, AreOfPages, is_line_marked, byte_in_frame, put_byte, spot_put, marks_put, put_in_store}
+use Rattle.storage_unit.proofs.SizeLemmas.{rest-below, place-is, page-at, byte-at, page-between, line-few, line-order}
 use Rattle.storage_unit.proofs.FillLemmas.{over-part, in-part}
 
 -- a byte among those that are put, and one that isn't
@@ -12,18 +12,7 @@ put-outside bytes from place old outside = grind (arith, nat_tests)
 
 -- the lines of some bytes
 pub has-lines : (d : Layout) (from count line : ℕ) → 0 < count → has (lines_at d (Shared from) count) line ≡ (nat_le (line_of d from) line && nat_le line (line_of d (from + count - 1)))
-has-lines d from zero line some = absurd (omega (arith, some))
-has-lines d from (suc more) line some =
-    let last : from + suc more - 1 ≡ from + more = omega arith in
-    has-range (line_of d from) (line_of d (from + more) + 1 - line_of d from) line
-    ∙ ap (λ (b : Bool). nat_le (line_of d from) line && b) (same (line_of d from) (line_of d (from + more)) line (line-order d.page from (from + more) (omega arith)))
-    ∙ ap (λ n. nat_le (line_of d from) line && nat_le line (line_of d n)) (sym last)
-  where
-    same : (low high line : ℕ) → low ≤ high → nat_lt line (low + (high + 1 - low)) ≡ nat_le line high
-    same low high line order = let sum : low + (high + 1 - low) ≡ high + 1 = omega (arith, order) in ap (nat_lt line) sum ∙ test
-      where
-        test : nat_lt line (high + 1) ≡ nat_le line high
-        test = grind (arith, nat_tests)
+has-lines d from count line some = grind (arith, nat_tests, has-range, line-order)
 
 module _ (d : Layout) (pool : Pool) (from : ℕ) (bytes : List ℕ) where
   pub spots-long : length (put_in_store d pool from bytes).bytes ≡ length pool.bytes
@@ -94,10 +83,10 @@ module _ (d : Layout) (pool : Pool) (seen : IsSeen pool) (marks : AreOfPages poo
               | inl inside ↦
                   let spot : frame * page_bytes d.page + o ≡ at + (o - from % page_bytes d.page) = omega (arith, high) in
                   let back : from / page_bytes d.page * page_bytes d.page + o - from ≡ o - from % page_bytes d.page = omega (arith, high, whole) in
-                  ap (slice_index (overlaid pool.bytes at bytes)) spot
-                  ∙ in-part pool.bytes at bytes (o - from % page_bytes d.page) fits (omega (arith, high, inside))
-                  ∙ sym (put-inside bytes from (from / page_bytes d.page * page_bytes d.page + o) (slice_index pool.bytes (frame * page_bytes d.page + o)) (omega (arith, high, whole)) (omega (arith, inside, whole))
-                  ∙ ap (slice_index bytes) back)
+                  cc (
+                    in-part pool.bytes at bytes (o - from % page_bytes d.page) fits (omega (arith, high, inside)),
+                    put-inside bytes from (from / page_bytes d.page * page_bytes d.page + o) (slice_index pool.bytes (frame * page_bytes d.page + o)) (omega (arith, high, whole)) (omega (arith, inside, whole)),
+                  )
               | inr past ↦
                   over-part pool.bytes at bytes (frame * page_bytes d.page + o) fits (λ j small same. absurd (omega (arith, same, past, small)))
                   ∙ sym (put-outside bytes from (from / page_bytes d.page * page_bytes d.page + o) (slice_index pool.bytes (frame * page_bytes d.page + o)) (λ above below. absurd (omega (arith, below, past, whole))))
@@ -113,15 +102,9 @@ module _ (d : Layout) (pool : Pool) (seen : IsSeen pool) (marks : AreOfPages poo
           elim (cases_eq (k / page_bytes d.page) frame) [
             | inl same ↦
                 let here : frame * page_bytes d.page + k % page_bytes d.page ≡ k = ap (λ n. n * page_bytes d.page + k % page_bytes d.page) (sym same) ∙ split in
-                ap (slice_index (overlaid pool.bytes at bytes)) (sym here)
-                ∙ same-frame (k % page_bytes d.page) (rest-below d.page k)
-                ∙ sym (spot-there d pool from bytes frame (from / page_bytes d.page) (k % page_bytes d.page) there (rest-below d.page k) (omega (arith, here, below)))
-                ∙ ap (slice_index (put_in_store d pool from bytes).bytes) here
+                cc (same-frame (k % page_bytes d.page) (rest-below d.page k), spot-there d pool from bytes frame (from / page_bytes d.page) (k % page_bytes d.page) there (rest-below d.page k) (omega (arith, here, below)))
             | inr apart ↦
-                elsewhere k apart
-                ∙ ap (slice_index pool.bytes) (sym split)
-                ∙ by_page (page_at pool (k / page_bytes d.page)) refl apart
-                ∙ ap (slice_index (put_in_store d pool from bytes).bytes) split
+                cc (elsewhere k apart, by_page (page_at pool (k / page_bytes d.page)) refl apart)
           ]
         where
           by_page : (o : Option ℕ) → page_at pool (k / page_bytes d.page) ≡ o → k / page_bytes d.page ≢ frame
@@ -137,7 +120,7 @@ module _ (d : Layout) (pool : Pool) (seen : IsSeen pool) (marks : AreOfPages poo
 
   -- the lines of the first and the last of the bytes, by the page
   first-line : line_of d from ≡ from / page_bytes d.page * 16 + from % page_bytes d.page / line_bytes d.page
-  first-line = line-is d.page from
+  first-line = grind (arith, nat_tests)
 
   last-line : line_of d (from + length bytes - 1) ≡ from / page_bytes d.page * 16 + (from % page_bytes d.page + length bytes - 1) / line_bytes d.page
   last-line = grind (arith, nat_tests)
@@ -157,10 +140,6 @@ module _ (d : Layout) (pool : Pool) (seen : IsSeen pool) (marks : AreOfPages poo
       ∙ ap (λ (b : Bool). b && nat_le line high) (added base low line ∙ ap (λ n. nat_le n (base + line)) (sym first-line))
       ∙ ap (λ (b : Bool). nat_le (line_of d from) (base + line) && b) (added base line high ∙ ap (nat_le (base + line)) (sym last-line))
       ∙ sym (has-lines d from (length bytes) (base + line) some)
-
-  -- no line of another page has some of them
-  other-lines : (page line : ℕ) → page ≢ from / page_bytes d.page → line < 16 → has (lines_at d (Shared from) (length bytes)) (page * 16 + line) ≡ false
-  other-lines page line apart few = grind (arith, nat_tests, has-lines, line-few, first-line, last-line)
 
   pub page-marks :
       from / page_bytes d.page < length pool.marked
@@ -197,11 +176,10 @@ module _ (d : Layout) (pool : Pool) (seen : IsSeen pool) (marks : AreOfPages poo
             (λ x few.
             sym (nothing (has (marks_at pool k) x))
             ∙ either _ _
-            (sym (is_in_where-below (λ y. has (lines_at d (Shared from) (length bytes)) (k * 16 + y)) x few ∙ other-lines k x apart few))
+            (sym (is_in_where-below (λ y. has (lines_at d (Shared from) (length bytes)) (k * 16 + y)) x few ∙ (grind (arith, nat_tests, has-lines, line-few, first-line, last-line))))
             (has (marks_at pool k) x))
             ∙ sym (get_or-map-range_with_len (marks_put d pool from (length bytes)) 0 (length pool.marked) k k e less (omega arith))
       ]
         where
           nothing : (b : Bool) → (b || false) ≡ b
-          nothing true = refl
-          nothing false = refl
+          nothing b = grind (arith, nat_tests)

@@ -1,5 +1,5 @@
 -- The rows that a unit knows stay ready where none of their bytes changes.
-use Rattle.storage_unit.proofs.Common.{◌≡◌, ℕ, ◌+◌, ◌-◌, ◌*◌, ◌/◌, ◌%◌, ◌<◌, ◌≤◌, ◌⊎◌, ◌==◌, Bool, true, false, List, length, refl, sym, ◌∙◌, ap, subst, arith, inl, inr, Option, Some, None, IfSome, cond, option_map, nat_le, if◌then◌else◌, slice_index, nat_tests, page_bytes, bytes_from, halfword_of, Located, Private, Shared, Refused, Virtual, Reach, is_private, offset_of, place_at, place_of, seat_of, byte_of, byte_at, put_at, put_in_store, IsSound, Lies, eqb-true, leb-true, big_number, ReadyRows, AreReady, after_store, private_byte, private_half}
+use Rattle.storage_unit.proofs.Common.{◌≡◌, ℕ, ◌+◌, ◌-◌, ◌*◌, ◌/◌, ◌%◌, ◌<◌, ◌≤◌, ◌⊎◌, ◌==◌, Bool, true, false, List, length, refl, sym, ◌∙◌, ap, subst, arith, inl, inr, Option, Some, None, IfSome, cond, option_map, nat_le, if◌then◌else◌, slice_index, nat_tests, page_bytes, bytes_from, halfword_of, Located, Private, Shared, Refused, Virtual, Reach, is_private, offset_of, place_of, seat_of, byte_at, put_at, put_in_store, IsSound, Lies, leb-true, big_number, ReadyRows, AreReady, after_store, private_byte, private_half}
 use Rattle.flat_machine.specs.declared.ready.Ready.{Ready}
 use Rattle.flat_machine.specs.Ready.{has_second, IsRowOf, IsReadyAt}
 use Rattle.ready_rows.specs.Known.{known, KnowsNothing, is_met, unless_met, with_row, place_of as row_place}
@@ -66,12 +66,7 @@ ready-kept rows old new runner few same ready =
 
 -- what is known after a store was known before, and apart from its bytes
 unless-some : (offset bytes address : ℕ) (o : Option Ready) (row : Ready) → unless_met offset bytes address o ≡ Some row → (o ≡ Some row) × (is_met offset bytes address row ≡ false)
-unless-some offset bytes address None row is = absurd (cc)
-unless-some offset bytes address (Some found) row is = by_test (is_met offset bytes address found) refl is
-  where
-    by_test : (b : Bool) → is_met offset bytes address found ≡ b → cond b None (Some found) ≡ Some row → (Some found ≡ Some row) × (is_met offset bytes address row ≡ false)
-    by_test true met told = absurd (let clash : None ≡ Some row = told in cc)
-    by_test false met told = let same : found ≡ row = cc in (told, ap (is_met offset bytes address) (sym same) ∙ met)
+unless-some offset bytes address o row is = grind (arith, nat_tests)
 
 -- private bytes that aren't among those that are put stay
 pub put-low :
@@ -126,9 +121,7 @@ pub ready-selected :
 ready-selected rows after bytes runner next ready left = by_test (runner == next) refl left
   where
     by_test : (b : Bool) → (runner == next) ≡ b → ((address : ℕ) → known after address ≡ (if b then known rows address else None)) → AreReady after bytes next
-    by_test true same told =
-        subst (AreReady after bytes) (eqb-true runner next same) (ready-after rows after bytes bytes runner ready (λ address row is. (sym (told address) ∙ is, λ offset from to. refl)))
-    by_test false differs told = ready-none after bytes next told
+    by_test b same told = grind (arith, nat_tests)
 
 -- a row more is known
 pub ready-with :
@@ -147,22 +140,18 @@ ready-with rows after bytes runner at row some fits of left ready = record {
     which address found is = by_tests (address == at) (row_place address == row_place at) refl (sym (left address) ∙ is)
       where
         by_tests : (here near : Bool) → (address == at) ≡ here → cond here (Some row) (cond near None (known rows address)) ≡ Some found → ((address ≡ at) × (row ≡ found)) ⊎ (known rows address ≡ Some found)
-        by_tests true near same told = inl (eqb-true address at same, cc)
-        by_tests false true same told = absurd (let clash : None ≡ Some found = told in cc)
-        by_tests false false same told = inr told
+        by_tests here near same told = grind (arith, nat_tests)
 
 -- the private bytes of who is selected are shown at the lowest addresses
 pub own-byte : (state : Reach) (sound : IsSound state) (offset : ℕ) → 1 ≤ state.runner → offset < 16384 → byte_at state offset ≡ private_byte state.pool.bytes state.runner offset
 own-byte state sound offset some below =
     let one : Selected state = selected state sound some in
-    ap (λ located. byte_of state (place_at state.directory located)) (own-located state one.seat offset 1 one.reached (omega (arith, below)))
-    ∙ ap (byte_of state) (private-at state.directory sound.legal one.seat offset)
+    cc (own-located state one.seat offset 1 one.reached (omega (arith, below)), private-at state.directory sound.legal one.seat offset)
 
 pub own-half : (state : Reach) (sound : IsSound state) (address : ℕ) → 1 ≤ state.runner → address + 2 ≤ 16384 → halfword_of (byte_at state) address ≡ Some (private_half state.pool.bytes state.runner address)
 own-half state sound address some fits =
     let inside : nat_le (address + 2) 16384 ≡ true = grind (arith, nat_tests, fits) in
-    ap (λ b. if b then Some (big_number 2 (bytes_from (byte_at state) address 2)) else None) inside
-    ∙ ap (λ list. Some (big_number 2 list)) (half-same (private_byte state.pool.bytes state.runner) (byte_at state) address (own-byte state sound address some (omega (arith, fits))) (own-byte state sound (address + 1) some (omega (arith, fits))))
+    cc (half-same (private_byte state.pool.bytes state.runner) (byte_at state) address (own-byte state sound address some (omega (arith, fits))) (own-byte state sound (address + 1) some (omega (arith, fits))))
 
 -- so a row that is known is ready there
 pub is-ready : (state : Reach) (sound : IsSound state) (rows : ReadyRows) → AreReady rows state.pool.bytes state.runner → (address : ℕ) (found : Option Ready) → found ≡ known rows address

@@ -1,5 +1,5 @@
 -- An attempt over the unit is the row of the plain machine on the bytes that it shows over the committed ones.
-use Rattle.storage_unit.proofs.Common.{◌≡◌, ℕ, ◌+◌, ◌*◌, ◌<◌, ◌≤◌, Bool, true, false, List, [], ◌∷◌, ◌++◌, length, refl, sym, ◌∙◌, ap, subst, arith, Option, Some, None, Result, Ok, Err, ◌⊎◌, inl, inr, ◌==◌, ◌||◌, nat_lt, cond, if◌then◌else◌, slice_index, slice_range, slice_set, option_map_or, ne_eqb, nat_tests, length-append, get_or-map-range_with_len, length-map-range_with_len, same_number_lists, has, Lines, no_lines, Virtual, located_by, Located, Private, Shared, Refused, Program, lines_at, touched, Access, Fault, Probe, bytes_from, halfword_of, access_to, answered, answer_in, Seen, Tried, seen_in, undone, refused_by, unless_refused, tried, Reach, private_segment, place_at, on, seat_of, byte_of, byte_at, is_there, is_in_frame, refuses, put_at, stored, byte_in_frame, bytes_over, private_bytes, is_line_marked, IsSound, Lies, AreThere, plain_over, HasWindows, IsOpen, IsShutOut, IsRow, GoesOpen, MarksWritten, ChangesBytes, StaysClean, LeavesSeats}
+use Rattle.storage_unit.proofs.Common.{◌≡◌, ℕ, ◌+◌, ◌*◌, ◌<◌, ◌≤◌, Bool, true, false, List, [], ◌∷◌, ◌++◌, length, refl, sym, ◌∙◌, ap, subst, arith, Option, Some, None, Result, Ok, Err, ◌⊎◌, inl, inr, ◌==◌, ◌||◌, slice_index, slice_range, slice_set, option_map_or, ne_eqb, nat_tests, length-append, get_or-map-range_with_len, length-map-range_with_len, same_number_lists, has, Lines, no_lines, Virtual, located_by, Located, Private, Shared, Refused, Program, lines_at, touched, Access, Fault, Probe, bytes_from, halfword_of, access_to, answered, answer_in, Seen, Tried, seen_in, refused_by, unless_refused, tried, Reach, private_segment, place_at, on, seat_of, byte_of, byte_at, is_there, is_in_frame, refuses, put_at, stored, bytes_over, private_bytes, is_line_marked, IsSound, Lies, AreThere, plain_over, HasWindows, IsOpen, IsShutOut, IsRow, GoesOpen, MarksWritten, ChangesBytes, StaysClean, LeavesSeats}
 use Rattle.page_table.specs.declared.segment_regs.Check.{Check as Wrong}
 use Rattle.flat_machine.specs.declared.machine.Act.{Act}
 use Rattle.flat_machine.specs.declared.machine.Cs.{Cs}
@@ -19,7 +19,7 @@ use Rattle.storage_unit.proofs.StoreLemmas.{all-private}
 use Rattle.storage_unit.proofs.AfterLemmas.{there-frame, own-located}
 use Rattle.storage_unit.proofs.LocatedLemmas.{private-at, lies-where}
 use Rattle.storage_unit.proofs.OpenLemmas.{permitted-open, open-permitted}
-use Rattle.storage_unit.proofs.LeftLemmas.{Put, range-long, shared-within, private-fits, private-own, private-after, store-stays, store-after, marks-written, put-changes, put-clean, put-seats}
+use Rattle.storage_unit.proofs.LeftLemmas.{Put, range-long, shared-within, private-fits, private-own, private-after, store-stays, store-after, marks-written, put-clean, put-seats}
 
 -- what is seen of a storage of flat bytes
 abbrev pub seen_of : Reach → Seen Reach
@@ -27,12 +27,7 @@ seen_of f = seen_in byte_at (answer_in (λ (g : Reach). g.registers) is_in_frame
 
 -- a row that fails goes nowhere
 link-checks : (link : Option (ℕ × ℕ)) (code : ℕ) (n : Plain) → with_link link (Check code) ≡ On n → ⊥
-link-checks None code n is = cc
-link-checks (Some link) code n is = cc
-
-link-commits : (link : Option (ℕ × ℕ)) (n : Plain) → with_link link Commit ≡ On n → ⊥
-link-commits None n is = cc
-link-commits (Some link) n is = cc
+link-checks link code n is = grind (arith, nat_tests)
 
 -- a row that goes on leaves the bytes that its one store leaves, and at most 4,096 printed ones
 record Leaves (s n : Plain) (private store : List ℕ) : Type 0 where
@@ -58,6 +53,7 @@ record StorePut (f : Reach) (address count : ℕ) (bytes : List ℕ) : Type 0 wh
 store-put : (f : Reach) → IsSound f → (address count : ℕ) (bytes : List ℕ) → 0 < count → length bytes ≡ count
     → answered f.registers (is_in_frame f) (refuses f) (access_to address count true) ≡ Probe.Permitted → StorePut f address count bytes
 store-put f sound address count bytes some long permitted =
+    let none : (length bytes == 0) ≡ false = ne_eqb (length bytes) 0 (λ same. absurd (omega (arith, some, long, same))) in
     let (at, found) = permitted-located f.registers (is_in_frame f) (refuses f) (access_to address count true) permitted in
     let u = under f.registers address count true at found in
     record {
@@ -68,12 +64,8 @@ store-put f sound address count bytes some long permitted =
           subst (AreThere f at) (sym long)
           (permitted-bytes f sound (access_to address count true) at permitted found);
       is =
-          ap (λ (b : Bool). if b then f else put_at f (place_at f.directory (located_by f.registers address 0 false)) bytes) none
-          ∙ ap (λ located. put_at f (place_at f.directory located) bytes) (first-byte f sound address count true at found);
+          grind (arith, nat_tests, first-byte f sound address count true at found);
     }
-  where
-    none : (length bytes == 0) ≡ false
-    none = ne_eqb (length bytes) 0 (λ same. absurd (omega (arith, some, long, same)))
 
 -- an attempt leaves the state as it was, or with some bytes put
 module _ (f : Reach) (sound : IsSound f) (cpu : Cpu) where
@@ -92,19 +84,12 @@ module _ (f : Reach) (sound : IsSound f) (cpu : Cpu) where
       by_answer (Probe.Check code) is = inl refl
       by_answer (Probe.Fault fault) is = inl refl
 
-  load-tries : (access : Access) (after : Cpu) → Tries (unless_refused (seen_of f) cpu (refused_by access ((seen_of f).answer access)) (record { attempt = Attempt.Went; cpu = after; state = f })).state
-  load-tries access after = grind (arith, nat_tests)
-
-  print-tries : (byte : ℕ) (room : Bool) (after : Cpu) → Tries (cond room (record { attempt = Attempt.Print byte; cpu = after; state = f }) (undone (seen_of f) cpu (Attempt.Check 5))).state
-  print-tries byte true after = inl refl
-  print-tries byte false after = inl refl
-
   plan-tries : (plan : Plan) → StoresAll plan → Tries (tried (seen_of f) cpu plan).state
   plan-tries (Fails code) whole = inl refl
   plan-tries (Does regs cs Act.Nothing next link) whole = inl refl
-  plan-tries (Does regs cs (Act.Load address bytes to sign) next link) whole = load-tries (access_to address bytes false) _
+  plan-tries (Does regs cs (Act.Load address bytes to sign) next link) whole = grind (arith, nat_tests)
   plan-tries (Does regs cs (Act.Store address bytes from) next link) whole = store-tries address bytes (stored_bytes regs bytes from) _ whole.0 whole.1
-  plan-tries (Does regs cs (Act.Print byte) next link) whole = print-tries byte (nat_lt cpu.printed 4096) _
+  plan-tries (Does regs cs (Act.Print byte) next link) whole = grind (arith, nat_tests)
   plan-tries (Does regs cs Act.Commit next link) whole = inl refl
   plan-tries (Does regs cs (Act.Check code) next link) whole = inl refl
 
@@ -114,7 +99,7 @@ module _ (f : Reach) (sound : IsSound f) (cpu : Cpu) where
     tries = subst Tries (sym is) (plan-tries plan whole)
 
     pub attempt-changes : ChangesBytes f state
-    attempt-changes = grind (arith, nat_tests, tries, put-changes)
+    attempt-changes = grind (arith, nat_tests, tries)
 
     pub attempt-clean : StaysClean f state
     attempt-clean = grind (arith, nat_tests, tries, put-clean)
@@ -140,12 +125,6 @@ module _ (f : Reach) (sound : IsSound f) (p : Program) (windows : HasWindows f p
   abbrev IsPermitted : Plan → Type 0
   IsPermitted plan = (access : Access) → access_of_plan plan ≡ Some access → seen.answer access ≡ Probe.Permitted
 
-  loads-keep : (link : Option (ℕ × ℕ)) (regs : List ℕ) (cs : Cs) (next : ℕ) (at : Located) (bytes to : ℕ) (sign : Bool) (n : Plain)
-      → with_link link (loads (moved plain regs cs next) at bytes to sign) ≡ On n → After n f
-  loads-keep link regs cs next (Private at) bytes to sign n is = kept link _ plain n refl is
-  loads-keep link regs cs next (Shared at) bytes to sign n is = kept link _ plain n refl is
-  loads-keep link regs cs next (Refused code) bytes to sign n is = absurd (link-checks link code n is)
-
   seat-few : seat_of f < 16
   seat-few = let one = selected f sound windows.selected in omega (arith, one.runner, one.few)
 
@@ -170,20 +149,15 @@ module _ (f : Reach) (sound : IsSound f) (p : Program) (windows : HasWindows f p
       (stores-leave link regs cs next put.at (places.place_of f.directory put.at) bytes n refl put.lies put.there
       (ap (λ place. with_link link (stores (moved plain regs cs next) place bytes)) lies-at ∙ is))
 
-  print-leaves : (link : Option (ℕ × ℕ)) (regs : List ℕ) (cs : Cs) (next byte : ℕ) (room : Bool) (n : Plain) → nat_lt (length out) 4096 ≡ room
-      → with_link link (cond room (On (record (moved plain regs cs next) { out = out ++ byte ∷ [] })) (Check 5)) ≡ On n → After n f
-  print-leaves link regs cs next byte true n room is = grind (arith, nat_tests, length-append out (byte ∷ []))
-  print-leaves link regs cs next byte false n room is = absurd (link-checks link 5 n is)
-
   plan-leaves : (plan : Plan) (n : Plain) → StoresAll plan → IsPermitted plan → row_by p f.directory plain plan ≡ On n → After n (left_by seen plan)
   plan-leaves (Fails code) n whole permitted is = absurd (cc)
   plan-leaves (Does regs cs Act.Nothing next link) n whole permitted is = kept link (moved plain regs cs next) plain n refl is
-  plan-leaves (Does regs cs (Act.Load address bytes to sign) next link) n whole permitted is = loads-keep link regs cs next (located p f.directory address bytes false) bytes to sign n is
+  plan-leaves (Does regs cs (Act.Load address bytes to sign) next link) n whole permitted is = grind (arith, nat_tests)
   plan-leaves (Does regs cs (Act.Store address bytes from) next link) n whole permitted is =
       store-leaves link regs cs next address bytes (stored_bytes regs bytes from) n
       (store-put f sound address bytes (stored_bytes regs bytes from) whole.0 whole.1 (permitted (access_to address bytes true) refl)) is
-  plan-leaves (Does regs cs (Act.Print byte) next link) n whole permitted is = print-leaves link regs cs next byte (nat_lt (length out) 4096) n refl is
-  plan-leaves (Does regs cs Act.Commit next link) n whole permitted is = absurd (link-commits link n is)
+  plan-leaves (Does regs cs (Act.Print byte) next link) n whole permitted is = grind (arith, nat_tests, length-append, link-checks)
+  plan-leaves (Does regs cs Act.Commit next link) n whole permitted is = absurd (grind (arith, nat_tests))
   plan-leaves (Does regs cs (Act.Check code) next link) n whole permitted is = absurd (link-checks link code n is)
 
   -- the lines of its store are marked
@@ -244,15 +218,12 @@ module _ (f : Reach) (sound : IsSound f) (p : Program) (windows : HasWindows f p
   private-long : length (private_bytes f.pool (seat_of f)) ≡ 16384
   private-long = range-long f.pool.bytes (seat_of f * 16384) 16384 (omega (arith, seat-few, all-private f sound))
 
-  private-at-byte : (k : ℕ) → k < 16384 → slice_index (private_bytes f.pool (seat_of f)) k ≡ byte_at f k
-  private-at-byte k below = grind (arith, nat_tests, selected, in-range, private-at, own-located)
-
   private-all : private_bytes f.pool (seat_of f) ≡ bytes_from (byte_at f) 0 16384
   private-all =
       same_number_lists (private_bytes f.pool (seat_of f)) (bytes_from (byte_at f) 0 16384) (private-long ∙ sym (length-map-range_with_len (byte_at f) 0 16384))
       (λ k below.
       let short : k < 16384 = omega (arith, below, private-long) in
-      private-at-byte k short ∙ sym (get_or-map-range_with_len (byte_at f) 0 16384 k k 0 short (omega arith)))
+      grind (arith, nat_tests, selected, in-range, private-at, own-located) ∙ sym (get_or-map-range_with_len (byte_at f) 0 16384 k k 0 short (omega arith)))
 
   -- a part that is shown from an address on
   same-shown : (xs : List ℕ) (address a n : ℕ) → a + n ≤ length xs → ((k : ℕ) → k < n → byte_at f (address + k) ≡ slice_index xs (a + k))
@@ -274,11 +245,11 @@ module _ (f : Reach) (sound : IsSound f) (p : Program) (windows : HasWindows f p
       by_place (Private a) at lies-at found =
           let u = under f.registers access.address access.bytes access.store at found in
           let (few, runner, fits) = private-fits f at access.bytes a (lies f sound access.address access.bytes at u) lies-at in
-          same-shown (private_bytes f.pool (seat_of f)) access.address a access.bytes (omega (arith, fits, private-long))
-          (λ k below.
-          byte-on f sound access.address access.bytes at u k below
-          ∙ ap (λ place. byte_of f (on place k)) lies-at
-          ∙ sym (in-range f.pool.bytes (seat_of f * 16384) 16384 (a + k) (omega (arith, below, fits))))
+          grind (
+            arith,
+            nat_tests,
+            same-shown (private_bytes f.pool (seat_of f)) access.address a access.bytes (omega (arith, fits, private-long)) (λ k below. byte-on f sound access.address access.bytes at u k below ∙ ap (λ place. byte_of f (on place k)) lies-at ∙ sym (in-range f.pool.bytes (seat_of f * 16384) 16384 (a + k) (omega (arith, below, fits)))),
+          )
       by_place (Shared a) at lies-at found =
           let u = under f.registers access.address access.bytes access.store at found in
           let fits = shared-within f at access.bytes a (lies f sound access.address access.bytes at u) lies-at in
@@ -286,11 +257,7 @@ module _ (f : Reach) (sound : IsSound f) (p : Program) (windows : HasWindows f p
           same-shown (bytes_over f.directory f.pool committed) access.address a access.bytes (omega (arith, fits, all-long f.directory f.pool committed))
           (λ k below.
           let (frame, has_it) = there-frame f sound (a + k) (sym (ap (λ place. is_there f (on place k)) lies-at) ∙ there k below) in
-          byte-on f sound access.address access.bytes at u k below
-          ∙ ap (λ place. byte_of f (on place k)) lies-at
-          ∙ ap (λ (o : Option ℕ). option_map_or (byte_in_frame f.directory f.pool (a + k)) o 0) has_it
-          ∙ sym (over-some f.directory f.pool committed (a + k) frame has_it)
-          ∙ sym (byte-of-all f.directory f.pool committed (a + k) (omega (arith, below, fits))))
+          grind (arith, nat_tests, byte-on f sound access.address access.bytes at u k below, over-some f.directory f.pool committed (a + k) frame has_it, byte-of-all f.directory f.pool committed (a + k) (omega (arith, below, fits))))
       by_place (Refused code) at lies-at found = absurd (never-refused f.directory at code lies-at)
 
   checks : (access : Access) → ChecksAlike (seen.answer access) (place_of p f.directory access)
@@ -326,9 +293,7 @@ module _ (f : Reach) (sound : IsSound f) (p : Program) (windows : HasWindows f p
         few = omega (arith, leaves.few few, ap (λ (x : Plain). length x.out) next);
         open_lines = goes.open_lines;
         marks = λ line.
-            ap (λ (g : Reach). is_line_marked g.pool line) left
-            ∙ plan-marks (plan_at plain) whole goes.permitted line
-            ∙ ap (λ (lines : Lines). is_line_marked f.pool line || has lines.writes line) (sym goes.touches);
+            cc (plan-marks (plan_at plain) whole goes.permitted line, goes.touches);
       }
 
   -- an attempt that gives the row of its plan

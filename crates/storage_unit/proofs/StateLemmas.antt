@@ -1,5 +1,5 @@
 -- What the calls of a unit leave of its pool and its table.
-use Rattle.storage_unit.proofs.Common.{◌≡◌, ◌≢◌, ℕ, ◌+◌, ◌<◌, ◌≤◌, Bool, true, false, List, [], ◌∷◌, length, replicate, All, refl, sym, ◌∙◌, ap, subst, arith, get_or, Option, Some, None, inl, inr, ◌||◌, nat_lt, if◌then◌else◌, slice_set, fold, is_some, option_map, option_and_then, option_map_or, cases_eq, eq-eqb, ne_eqb, length-set, set_past, get_or-set_same, get_or-set_other, get_or-replicate, length-replicate, get_or_past, same_lists, All-nil, Pair, get_or-map-range_with_len, Layout, page_count, IsLegal, IsOfPage, difference, passing, of_page_where, has, Key, Placed, without_frame, look_up, Pool, IsSeen, private_frames, frame_count, frame_at, page_at, gone, page_out, with_room, emptied, laid, line_laid, gone-from, gone-absent, gone-frame, gone-stays, seen-gone, Stays, key_of_page, AreOfPages, held_private, held_in, keys_with, keys_without, pages_begun, pool_of, Unit, nat_tests}
+use Rattle.storage_unit.proofs.Common.{◌≡◌, ◌≢◌, ℕ, ◌+◌, ◌<◌, ◌≤◌, Bool, false, List, [], ◌∷◌, length, replicate, All, refl, sym, ◌∙◌, ap, subst, arith, get_or, Option, Some, None, ◌||◌, nat_lt, if◌then◌else◌, slice_set, fold, is_some, option_map, option_and_then, option_map_or, cases_eq, eq-eqb, length-set, set_past, get_or-set_same, get_or-set_other, get_or-replicate, length-replicate, get_or_past, same_lists, All-nil, Pair, get_or-map-range_with_len, Layout, page_count, IsLegal, IsOfPage, difference, passing, of_page_where, has, Key, Placed, without_frame, look_up, Pool, IsSeen, private_frames, frame_count, frame_at, page_at, gone, page_out, with_room, emptied, laid, line_laid, gone-from, gone-absent, gone-frame, gone-stays, seen-gone, Stays, key_of_page, AreOfPages, held_private, held_in, keys_with, keys_without, pages_begun, pool_of, Unit, nat_tests}
 use Rattle.page_table.specs.Buffer.{IsOfTable, page_of}
 use Rattle.storage_unit.proofs.LeaveLemmas.{emptied-frame}
 use Rattle.storage_unit.proofs.HeldLemmas.{above, below, keys-long, held-store, keys-store}
@@ -51,17 +51,12 @@ room-stays pool keep seen = by_out (page_out pool keep)
 pub room-none : (pool : Pool) (keep : Option ℕ) (page : ℕ) → frame_at pool page ≡ None → frame_at (with_room pool keep) page ≡ None
 room-none pool keep page none = grind (arith, nat_tests, gone-frame)
 
-pub absent-frame : (pool : Pool) (page : ℕ) → IsSeen pool → has pool.resident page ≡ false → frame_at pool page ≡ None
-absent-frame pool page seen absent = grind (arith, nat_tests)
-
 -- keys of a table without a frame
 pub without-keys : (table : Placed) (o : Option ℕ) → (option_map_or (without_frame table) o table).keys ≡ option_map_or (λ frame. slice_set table.keys frame None) o table.keys
-without-keys table None = refl
-without-keys table (Some frame) = refl
+without-keys table o = grind (arith, nat_tests)
 
 pub without-entries : (table : Placed) (o : Option ℕ) → (option_map_or (without_frame table) o table).entries ≡ table.entries
-without-entries table None = refl
-without-entries table (Some frame) = refl
+without-entries table o = grind (arith, nat_tests)
 
 -- all pages leave
 pub fold-long : (pool : Pool) (list : List ℕ) (from : List (Option Key)) → length (fold (keys_without pool) from list) ≡ length from
@@ -100,47 +95,21 @@ module _ (d : Layout) (legal : IsLegal d.segments) (pool : Pool) (seen : IsSeen 
   fold-key [] from frame e below = by_page (page_at pool frame)
     where
       by_page : (o : Option ℕ) → get_or from frame e ≡ (if option_map_or (has []) o false then None else get_or from frame e)
-      by_page None = refl
-      by_page (Some page) = refl
+      by_page o = grind (arith, nat_tests)
   fold-key (page ∷ list) from frame e below =
       fold-key list (keys_without pool from page) frame e (omega (arith, below, fold-long pool (page ∷ []) from))
       ∙ by_frame (frame_at pool page) refl
     where
       tests : (now later : Bool) → (if later then None else (if now then None else get_or from frame e)) ≡ (if now || later then None else get_or from frame e)
-      tests true true = refl
-      tests true false = refl
-      tests false true = refl
-      tests false false = refl
+      tests now later = grind (arith, nat_tests)
 
       other : (o : Option ℕ) → ((p : ℕ) → o ≡ Some p → page ≢ p) → (if option_map_or (has list) o false then None else get_or from frame e) ≡ (if option_map_or (has (page ∷ list)) o false then None else get_or from frame e)
-      other None apart = refl
-      other (Some p) apart = ap (λ (b : Bool). if b || has list p then None else get_or from frame e) (sym (ne_eqb page p (apart p refl)))
+      other o apart = grind (arith, nat_tests)
 
       by_frame : (o : Option ℕ) → frame_at pool page ≡ o
           → (if option_map_or (has list) (page_at pool frame) false then None else get_or (option_map_or (λ f. slice_set from f None) o from) frame e)
           ≡ (if option_map_or (has (page ∷ list)) (page_at pool frame) false then None else get_or from frame e)
-      by_frame None is =
-          other (page_at pool frame) (λ p at same. absurd (let clash : None ≡ Some frame = sym is ∙ ap (frame_at pool) same ∙ seen.back p frame at in cc))
-      by_frame (Some f) is = elim (cases_eq frame f) [
-        | inl same ↦
-            let at : page_at pool frame ≡ Some page = ap (page_at pool) same ∙ seen.there page f is in
-            ap (λ (n : Option Key). if option_map_or (has list) (page_at pool frame) false then None else n)
-            (ap (λ n. get_or (slice_set from f None) n e) same ∙ get_or-set_same from f None e (omega (arith, below, same)))
-            ∙ ap (λ (o : Option ℕ). if option_map_or (has list) o false then None else None) at
-            ∙ both (has list page)
-            ∙ sym (ap (λ (b : Bool). if b || has list page then None else get_or from frame e) (eq-eqb page page refl))
-            ∙ sym (ap (λ (o : Option ℕ). if option_map_or (has (page ∷ list)) o false then None else get_or from frame e) at)
-        | inr apart ↦
-            ap (λ (n : Option Key). if option_map_or (has list) (page_at pool frame) false then None else n) (get_or-set_other from f frame None e apart)
-            ∙ other (page_at pool frame) (λ p at same. apart (one frame f (sym (seen.back p frame at) ∙ ap (frame_at pool) (sym same) ∙ is)))
-      ]
-        where
-          both : (b : Bool) → (let none : Option Key = if b then None else None in none) ≡ None
-          both true = refl
-          both false = refl
-
-          one : (a b : ℕ) → Some a ≡ Some b → a ≡ b
-          one a b same = cc
+      by_frame o is = grind (arith, nat_tests, cases_eq, get_or-set_same, eq-eqb, get_or-set_other)
 
   pub keys-emptied : fold (keys_without pool) (keys_with d t pool.frames pool.page_in) pool.resident ≡ keys_with d t (emptied pool).frames (emptied pool).page_in
   keys-emptied =

@@ -1,6 +1,6 @@
 -- What a store leaves, as it is written page by page, and what is shown after it.
-use Rattle.storage_unit.proofs.Common.{◌≡◌, ℕ, ◌+◌, ◌-◌, ◌*◌, ◌/◌, ◌%◌, ◌<◌, ◌≤◌, List, ◌++◌, length, refl, sym, ◌∙◌, ap, subst, arith, Option, Some, None, get_or, inl, inr, ◌||◌, slice_set, option_map_or, cases_Bool, nat_tests, same_lists, length-append, get_or_append_left, get_or-append_right, get_or-map-range_with_len, length-map-range_with_len, same_number_lists, page_bytes, start_of, page_of, union, where-alike, is_in_where-below, of_page_where, has, Located, Private, Shared, Refused, lines_at, Virtual, key_of, look_up, Pool, private_frames, frame_count, page_at, marks_at, marked_in, with_marks, with_bytes, lines_of_part, page_part, Reach, is_private, offset_of, place_of, on, AreOfPages, seat_pages, table_of, put_byte, put_in_store, put_at, IsSound, Lies, some-within, overlaid-joined}
-use Rattle.storage_unit.proofs.SizeLemmas.{private-whole, seat-bytes, seat-frame, seat-page, line-order, line-next}
+use Rattle.storage_unit.proofs.Common.{◌≡◌, ℕ, ◌+◌, ◌-◌, ◌*◌, ◌/◌, ◌%◌, ◌<◌, ◌≤◌, List, ◌++◌, length, refl, sym, ◌∙◌, ap, subst, arith, Option, Some, None, get_or, inl, inr, ◌||◌, slice_set, option_map_or, cases_Bool, nat_tests, same_lists, length-append, get_or_append_left, get_or-append_right, get_or-map-range_with_len, length-map-range_with_len, same_number_lists, page_bytes, start_of, page_of, union, where-alike, is_in_where-below, of_page_where, has, Located, Private, Shared, Refused, lines_at, Virtual, key_of, look_up, Pool, private_frames, frame_count, page_at, marks_at, marked_in, with_marks, with_bytes, lines_of_part, page_part, Reach, is_private, offset_of, place_of, on, AreOfPages, seat_pages, table_of, put_in_store, put_at, IsSound, Lies, some-within, overlaid-joined}
+use Rattle.storage_unit.proofs.SizeLemmas.{private-whole, seat-bytes, seat-frame, seat-page, line-order}
 use Rattle.storage_unit.proofs.StateLemmas.{marks-set}
 use Rattle.storage_unit.proofs.PlaceLemmas.{private-is, shared-is, finds-own, finds-shared, place-byte}
 use Rattle.storage_unit.proofs.PutLemmas.{put-inside, put-outside, has-lines, page-bytes, page-marks}
@@ -76,16 +76,13 @@ module _ (state : Reach) (sound : IsSound state) (at : Virtual) (bytes : List �
 
 -- bytes behind others, put after them
 module _ (state : Reach) (sound : IsSound state) (place : Located) (first second : List ℕ) (some : 0 < length first) (more : 0 < length second) where
-  put-twice : (place k old : ℕ) → put_byte second (place + length first) k (put_byte first place k old) ≡ put_byte (first ++ second) place k old
-  put-twice place k old = grind (arith, nat_tests, put-outside, put-inside, get_or_append_left, length-append, get_or-append_right)
-
   spots-twice : (p : ℕ) → (put_in_store state.directory (put_in_store state.directory state.pool p first) (p + length first) second).bytes ≡ (put_in_store state.directory state.pool p (first ++ second)).bytes
-  spots-twice p = grind (arith, nat_tests, same_number_lists, length-map-range_with_len, get_or-map-range_with_len, put-twice)
+  spots-twice p = grind (arith, nat_tests, same_number_lists, length-map-range_with_len, get_or-map-range_with_len, put-outside, put-inside, get_or_append_left, length-append, get_or-append_right)
 
   -- the lines of both
   lines-twice : (p line : ℕ) → (has (lines_at state.directory (Shared p) (length first)) line || has (lines_at state.directory (Shared (p + length first)) (length second)) line)
       ≡ has (lines_at state.directory (Shared p) (length (first ++ second))) line
-  lines-twice p line = grind (arith, nat_tests, has-lines, length-append, line-order, line-next)
+  lines-twice p line = grind (arith, nat_tests, has-lines, length-append, line-order)
 
   marks-twice : (p : ℕ) → (put_in_store state.directory (put_in_store state.directory state.pool p first) (p + length first) second).marked ≡ (put_in_store state.directory state.pool p (first ++ second)).marked
   marks-twice p = grind (arith, nat_tests, same_lists, length-map-range_with_len, is_in_where-below, get_or, get_or-map-range_with_len, where-alike, lines-twice)

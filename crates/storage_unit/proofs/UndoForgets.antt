@@ -44,8 +44,6 @@ pub undo-forgets : UndoForgets
 undo-forgets = λ d pool committed page lines fits long clean within.
     let room : page < length pool.frame_of = omega (arith, within, fits.pages) in (
       λ place below.
-          byte-of-all d (undone pool page lines) committed place below
-          ∙ shows d pool committed page lines fits clean room place below
-          ∙ ap (λ (n : ℕ). if is_among page lines (line_of d place) then slice_index committed place else n) (sym (byte-of-all d pool committed place below)),
+          cc (byte-of-all d (undone pool page lines) committed place below, shows d pool committed page lines fits clean room place below, byte-of-all d pool committed place below),
       clean-after d pool committed page lines fits clean room,
     )

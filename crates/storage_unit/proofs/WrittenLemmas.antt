@@ -1,5 +1,5 @@
 -- A unit in which a part of a frame was written.
-use Rattle.storage_unit.proofs.Common.{◌≡◌, ℕ, ◌+◌, ◌-◌, ◌*◌, ◌<◌, ◌≤◌, List, length, sym, ◌∙◌, ap, subst, arith, Some, page_bytes, Virtual, key_of, look_up, Pool, marked_in, with_bytes, lines_of_part, with_frame_part, with_marked, pool_of, Reach, place_of, put_at, is_private, offset_of, true, false, table_of, Lies, Unit, reach_of, ReadyRows, known, AreReady, after_store, AreClear, AreUsed}
+use Rattle.storage_unit.proofs.Common.{◌≡◌, ℕ, ◌+◌, ◌-◌, ◌*◌, ◌<◌, ◌≤◌, List, length, sym, ◌∙◌, ap, subst, arith, Some, page_bytes, Virtual, key_of, look_up, lines_of_part, with_frame_part, with_marked, pool_of, Reach, place_of, put_at, is_private, offset_of, true, false, table_of, Lies, Unit, reach_of, ReadyRows, known, AreReady, after_store, AreClear, AreUsed}
 use Rattle.storage_unit.proofs.ClearLemmas.{clear-put}
 use Rattle.storage_unit.proofs.PartLemmas.{pool-after}
 use Rattle.storage_unit.proofs.ReadyLemmas.{ready-put}
@@ -12,10 +12,10 @@ module _ (unit : Unit) (at : Virtual) (frame byte n : ℕ) (is : look_up (table_
   pub stored-part : (let now : Reach = record (reach_of unit) { pool = pool_of (with_frame_part (with_marked unit.pool frame (lines_of_part unit.pool.places.page byte n)) (frame * page_bytes unit.pool.places.page + byte) part) } in now)
       ≡ put_at (reach_of unit) (place_of unit.directory at) part
   stored-part =
-      ap (λ (p : Pool). (let now : Reach = record (reach_of unit) { pool = p } in now)) (pool-after unit at frame byte n is same within (lines_of_part unit.pool.places.page byte n) part long)
-      ∙ ap (λ b. (let now : Reach = record (reach_of unit) { pool = with_bytes (marked_in (pool_of unit.pool) frame (lines_of_part unit.pool.places.page b n)) (frame * page_bytes unit.pool.places.page + b) part } in now)) same
-      ∙ ap (λ m. (let now : Reach = record (reach_of unit) { pool = with_bytes (marked_in (pool_of unit.pool) frame (lines_of_part unit.pool.places.page at.byte m)) (frame * page_bytes unit.pool.places.page + at.byte) part } in now)) (sym long)
-      ∙ put-found (reach_of unit) (unit-sound unit) at part (omega (arith, long, some)) (subst (Lies (reach_of unit) at) (sym long) lies) (omega (arith, long, within)) frame is
+      cc (
+        pool-after unit at frame byte n is same within (lines_of_part unit.pool.places.page byte n) part long,
+        put-found (reach_of unit) (unit-sound unit) at part (omega (arith, long, some)) (subst (Lies (reach_of unit) at) (sym long) lies) (omega (arith, long, within)) frame is,
+      )
 
   -- the rows that it knows are ready
   pub ready-part : (after : ReadyRows) → ((address : ℕ) → known after address ≡ after_store unit.directory.page at n address (known unit.rows address))

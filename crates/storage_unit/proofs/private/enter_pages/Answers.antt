@@ -1,4 +1,4 @@
-use Rattle.storage_unit.proofs.Lemmas.{◌≡◌, ℕ, ◌+◌, ◌≤◌, ◌<◌, List, length, sym, ◌∙◌, ap, subst, arith, Option, None, overlaid, length-overlaid, IsOfTable, of_table-entered, Key, key_to, Placed, key_in, look_up, entered, first_keys, nat_tests, common_steps, first-long, keys-more, next-free, next-absent}
+use Rattle.storage_unit.proofs.Lemmas.{◌≡◌, ℕ, ◌+◌, ◌≤◌, ◌<◌, length, sym, ◌∙◌, ap, subst, arith, None, overlaid, length-overlaid, IsOfTable, of_table-entered, key_to, Placed, key_in, look_up, first_keys, nat_tests, common_steps, first-long, keys-more, next-free, next-absent}
 use Rattle.storage_unit.proofs.private.enter_pages.Goals as goal
 
 module _ (old now : Placed) (first segment all index : ℕ) (so_far : now ≡ record old { keys = overlaid old.keys first (first_keys segment index) }) (room : first + all ≤ length old.keys) (few : index < all) where
@@ -23,11 +23,7 @@ pub loop-index-preserved : goal.loop-index-preserved
 loop-index-preserved c =
     record {
       table =
-          c.enter.ensures
-          ∙ ap (λ n. entered c.loop-index.table (c.args.first + c.loop-index.index) (key_to c.args.segment n)) c.from.ensures
-          ∙ ap (λ (t : Placed). entered t (c.args.first + c.loop-index.index) (key_to c.args.segment c.loop-index.index)) c.loop-index.invariant.table
-          ∙ ap (λ (keys : List (Option Key)). (let t : Placed = record c.args.table.now { keys = keys } in t))
-          (keys-more c.args.table.now.keys c.args.first c.args.segment c.loop-index.index (omega (arith, c.requires.room, c.loop-index-test.true)));
+          grind (arith, nat_tests, c.enter.ensures, c.from.ensures, c.loop-index.invariant.table, keys-more c.args.table.now.keys c.args.first c.args.segment c.loop-index.index (omega (arith, c.requires.room, c.loop-index-test.true)));
       of_table = λ classes all.
           subst (λ (table : Placed). IsOfTable classes table.keys) (sym c.enter.ensures)
           (of_table-entered classes c.loop-index.table.keys (c.args.first + c.loop-index.index) (key_to c.args.segment c.from.result)

@@ -1,4 +1,4 @@
-use Rattle.storage_unit.proofs.Lemmas.{◌≡◌, ℕ, ◌+◌, ◌≤◌, List, ◌++◌, length, sym, ◌∙◌, ap, subst, arith, Virtual, bytes_on, Located, Reach, place_of, Lies, AreThere, bytes_shown, reach_of, common_steps, lies-on, there-on, place-on, shown-split}
+use Rattle.storage_unit.proofs.Lemmas.{◌≡◌, ℕ, ◌+◌, ◌≤◌, List, ◌++◌, length, sym, ◌∙◌, ap, subst, arith, Virtual, bytes_on, Reach, place_of, Lies, AreThere, bytes_shown, reach_of, common_steps, lies-on, there-on, place-on, shown-split}
 use Rattle.storage_unit.proofs.unit.Unit.+copy_parts.Goals as goal
 
 behind : (state : Reach) (first next : Virtual) (rest m n : ℕ) → next ≡ bytes_on state.directory.page first rest → rest + m ≤ n → Lies state first n → AreThere state first n → Lies state next m × AreThere state next m
@@ -9,10 +9,7 @@ joined : (state : Reach) (first next : Virtual) (rest m n : ℕ) (front back : L
     → front ≡ bytes_shown state (place_of state.directory first) rest → back ≡ bytes_shown state (place_of state.directory next) m
     → front ++ back ≡ bytes_shown state (place_of state.directory first) n
 joined state first next rest m n front back is sum one two =
-    ap (λ (list : List ℕ). list ++ back) one
-    ∙ ap (λ (list : List ℕ). bytes_shown state (place_of state.directory first) rest ++ list) (two ∙ ap (λ (place : Located). bytes_shown state place m) (ap (place_of state.directory) is ∙ place-on state.directory first rest))
-    ∙ shown-split state (place_of state.directory first) rest m
-    ∙ ap (bytes_shown state (place_of state.directory first)) sum
+    cc (place-on state.directory first rest, shown-split state (place_of state.directory first) rest m)
 
 pub copy_parts-requires : goal.copy_parts-requires
 copy_parts-requires t c =

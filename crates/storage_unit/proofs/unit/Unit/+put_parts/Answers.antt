@@ -1,4 +1,4 @@
-use Rattle.storage_unit.proofs.Lemmas.{◌≡◌, ℕ, ◌+◌, ◌-◌, ◌<◌, ◌≤◌, List, ◌++◌, length, take, drop, sym, ◌∙◌, ap, subst, arith, take_all, length-take, length-drop, length-append, take-append-drop, Virtual, bytes_on, Located, Reach, place_of, on, put_at, IsSound, Lies, AreThere, reach_of, common_steps, lies-on, there-on, place-on, private-room, lies-after, there-after, directory-after, put-then, unit-sound}
+use Rattle.storage_unit.proofs.Lemmas.{◌≡◌, ℕ, ◌+◌, ◌-◌, ◌<◌, ◌≤◌, List, ◌++◌, length, take, drop, sym, ◌∙◌, ap, subst, arith, take_all, length-take, length-drop, length-append, take-append-drop, Virtual, bytes_on, Located, Reach, place_of, put_at, IsSound, Lies, AreThere, reach_of, common_steps, lies-on, there-on, place-on, private-room, lies-after, there-after, directory-after, put-then, unit-sound}
 use Rattle.storage_unit.proofs.unit.Unit.+put_parts.Goals as goal
 
 behind : (state now : Reach) (first next : Virtual) (place : Located) (part : List ℕ) (rest m n : ℕ) → now ≡ put_at state place part → next ≡ bytes_on state.directory.page first rest → rest + m ≤ n
@@ -16,14 +16,11 @@ joined : (state middle now : Reach) (sound : IsSound state) (first next : Virtua
     → Lies state first (length from) → next ≡ bytes_on state.directory.page first rest
     → middle ≡ put_at state (place_of state.directory first) part → now ≡ put_at middle (place_of middle.directory next) other → now ≡ put_at state (place_of state.directory first) from
 joined state middle now sound first next rest from part other some more whole long lies is one two =
-    two
-    ∙ ap (λ (s : Reach). put_at s (place_of s.directory next) other) one
-    ∙ ap (λ d. put_at (put_at state (place_of state.directory first) part) (place_of d next) other) (directory-after state (place_of state.directory first) part)
-    ∙ ap (λ (v : Virtual). put_at (put_at state (place_of state.directory first) part) (place_of state.directory v) other) is
-    ∙ ap (λ (p : Located). put_at (put_at state (place_of state.directory first) part) p other) (place-on state.directory first rest ∙ ap (on (place_of state.directory first)) (sym long))
-    ∙ put-then state sound (place_of state.directory first) part other some more
-    (λ a private. let (room, all) = private-room state sound first (length from) a lies private in omega (arith, room, all, ap length whole, length-append part other))
-    ∙ ap (put_at state (place_of state.directory first)) whole
+    cc (
+      directory-after state (place_of state.directory first) part,
+      place-on state.directory first rest,
+      put-then state sound (place_of state.directory first) part other some more (λ a private. let (room, all) = private-room state sound first (length from) a lies private in omega (arith, room, all, ap length whole, length-append part other)),
+    )
 
 pub put_parts-requires : goal.put_parts-requires
 put_parts-requires t c =

@@ -9,10 +9,12 @@ free : (unit : Unit) (seat index : ℕ) → seat < 16 → index < seat_pages uni
 free unit seat index few small fresh =
     let pool = pool_of unit.pool in
     let t = pages_begun unit.directory.page unit.begun in
-    ap (λ (keys : List (Option Key)). key_in keys (seat * seat_pages unit.directory.page + index)) unit.held
-    ∙ key-at unit.directory t pool.frames pool.page_in (seat * seat_pages unit.directory.page + index) (omega (arith, seat-frame unit.directory.page seat index few small))
-    ∙ held-private unit.directory t pool.page_in (seat * seat_pages unit.directory.page + index) (seat-frame unit.directory.page seat index few small)
-    ∙ free-at unit.directory.page unit.begun seat index (not-begun unit seat few fresh) small
+    cc (
+      unit.held,
+      key-at unit.directory t pool.frames pool.page_in (seat * seat_pages unit.directory.page + index) (omega (arith, seat-frame unit.directory.page seat index few small)),
+      held-private unit.directory t pool.page_in (seat * seat_pages unit.directory.page + index) (seat-frame unit.directory.page seat index few small),
+      free-at unit.directory.page unit.begun seat index (not-begun unit seat few fresh) small,
+    )
 
 absent : (unit : Unit) (seat index : ℕ) → seat < 16 → index < seat_pages unit.directory.page → slice_index_or unit.begun seat true ≡ false → look_up unit.table.keys (key_to (private_segment seat) index) ≡ None
 absent unit seat index few small fresh =
@@ -37,14 +39,10 @@ filled : (unit : Unit) (seat : ℕ) (image lent bytes : List ℕ) → seat < 16 
     → bytes ≡ image ++ replicate (length lent - length image) 0
     → pool_of (with_frame_part unit.pool (seat * 16384) bytes) ≡ with_bytes (pool_of unit.pool) (seat * 16384) (image ++ replicate (16384 - length image) 0)
 filled unit seat image lent bytes few short borrowed is =
+    let whole : bytes ≡ image ++ replicate (16384 - length image) 0 = is ∙ ap (λ n. image ++ replicate (n - length image) 0) (ap length borrowed ∙ lent-long unit seat few) in
+    let long : length bytes ≡ 16384 = ap length whole ∙ length-append image (replicate (16384 - length image) 0) ∙ omega (arith, short, length-replicate {A = ℕ} (16384 - length image) 0) in
     lent-part unit.pool (seat * 16384) bytes (omega (arith, few, long, all-private (reach_of unit) (unit-sound unit)))
     ∙ ap (with_bytes (pool_of unit.pool) (seat * 16384)) whole
-  where
-    whole : bytes ≡ image ++ replicate (16384 - length image) 0
-    whole = is ∙ ap (λ n. image ++ replicate (n - length image) 0) (ap length borrowed ∙ lent-long unit seat few)
-
-    long : length bytes ≡ 16384
-    long = ap length whole ∙ length-append image (replicate (16384 - length image) 0) ∙ omega (arith, short, length-replicate {A = ℕ} (16384 - length image) 0)
 
 pub lay_image-requires-clause-image : goal.lay_image-requires-clause-image
 lay_image-requires-clause-image c =

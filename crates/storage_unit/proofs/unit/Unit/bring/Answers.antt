@@ -1,4 +1,4 @@
-use Rattle.storage_unit.proofs.Lemmas.{◌≡◌, ℕ, ◌<◌, ◌≤◌, false, List, length, sym, ◌∙◌, ap, subst, arith, Option, Some, None, slice_set, option_and_then, option_map_or, Key, Placed, key_in, look_up, without_frame, IsOfTable, of_table-entered, Pool, private_frames, frame_count, frame_at, page_out, with_room, Brought, IsSeen, has, page_count, length-set, pool_of, pool-seen, Stays, Unit, key_among, key_of_page, keys_of, pages_begun, AreOfPages, nat_tests, AreReady, AreClear, key-at, keys-long, held-store, finds-page, keys-store, frames-held, room-stays, room-none, absent-frame, keys-room, without-keys, without-entries, opened-none, Pair, get_or-set_same}
+use Rattle.storage_unit.proofs.Lemmas.{◌≡◌, ℕ, ◌<◌, ◌≤◌, false, List, length, sym, ◌∙◌, ap, subst, arith, Option, Some, None, slice_set, option_and_then, option_map_or, Key, Placed, key_in, look_up, without_frame, IsOfTable, of_table-entered, Pool, private_frames, frame_count, frame_at, page_out, with_room, Brought, IsSeen, has, page_count, length-set, pool_of, pool-seen, Stays, Unit, key_among, key_of_page, keys_of, pages_begun, AreOfPages, nat_tests, AreReady, AreClear, key-at, keys-long, held-store, finds-page, keys-store, frames-held, room-stays, room-none, keys-room, without-keys, without-entries, opened-none, Pair, get_or-set_same}
 use Rattle.page_table.proofs.BufferLemmas.{after-of, unremembered}
 use Rattle.storage_unit.proofs.Common.{after_found}
 use Rattle.storage_unit.proofs.unit.Unit.bring.Goals as goal
@@ -11,10 +11,13 @@ module _ (unit : Unit) (page : ℕ) (keep : Option ℕ) where
   keys-between : (table : Placed) → table ≡ option_map_or (without_frame unit.table) (option_and_then (frame_at (pool_of unit.pool)) (page_out (pool_of unit.pool) keep)) unit.table
       → table.keys ≡ keys_of unit.directory unit.begun room.frames room.page_in
   keys-between table now =
-      ap (λ (t : Placed). t.keys) now
-      ∙ without-keys unit.table (option_and_then (frame_at (pool_of unit.pool)) (page_out (pool_of unit.pool) keep))
-      ∙ ap (λ (keys : List (Option Key)). option_map_or (λ frame. slice_set keys frame None) (option_and_then (frame_at (pool_of unit.pool)) (page_out (pool_of unit.pool) keep)) keys) unit.held
-      ∙ keys-room unit.directory unit.legal (pool_of unit.pool) (pool-seen unit.pool) unit.pool_size unit.pages (pages_begun unit.directory.page unit.begun) keep
+      grind (
+        arith,
+        nat_tests,
+        without-keys unit.table (option_and_then (frame_at (pool_of unit.pool)) (page_out (pool_of unit.pool) keep)),
+        unit.held,
+        keys-room unit.directory unit.legal (pool_of unit.pool) (pool-seen unit.pool) unit.pool_size unit.pages (pages_begun unit.directory.page unit.begun) keep,
+      )
 
   module _ (new : Pool) (frame : ℕ) (came : Brought (pool_of unit.pool) new page keep frame) (within : page < page_count unit.directory) (absent : has (pool_of unit.pool).resident page ≡ false) where
     stays : Stays (pool_of unit.pool) room
@@ -41,7 +44,7 @@ module _ (unit : Unit) (page : ℕ) (keep : Option ℕ) where
     unfound : look_up (keys_of unit.directory unit.begun room.frames room.page_in) (key_of_page unit.directory page) ≡ None
     unfound =
         finds-page unit.directory unit.legal room seen size pages (pages_begun unit.directory.page unit.begun) page within
-        ∙ room-none (pool_of unit.pool) keep page (absent-frame (pool_of unit.pool) page (pool-seen unit.pool) absent)
+        ∙ room-none (pool_of unit.pool) keep page (grind (arith, nat_tests))
 
     entered-keys : slice_set (keys_of unit.directory unit.begun room.frames room.page_in) frame (Some (key_of_page unit.directory page)) ≡ keys_of unit.directory unit.begun new.frames new.page_in
     entered-keys =

@@ -1,4 +1,4 @@
-use Rattle.storage_unit.proofs.Lemmas.{◌≡◌, ℕ, length, sym, ◌∙◌, refl, Option, Some, None, reach_of, nat_tests, arith, common_steps, found-some, shown-long, unit-sound}
+use Rattle.storage_unit.proofs.Lemmas.{◌≡◌, ℕ, length, sym, ◌∙◌, Option, Some, None, reach_of, nat_tests, arith, common_steps, found-some, shown-long, unit-sound}
 use Rattle.storage_unit.proofs.unit.Unit.copy_part.Goals as goal
 
 pub copy_from_slice-requires : goal.copy_from_slice-requires
@@ -6,13 +6,10 @@ copy_from_slice-requires c = grind (arith, nat_tests, shown-long)
 
 pub returns-in_default : goal.returns-in_default
 returns-in_default c =
+    let none-of : (o : Option ℕ) → ((n : ℕ) → o ≡ Some n → ⊥) → o ≡ None = λ o some. grind (arith, nat_tests) in
     let unit = c.args.self.now in
     absurd (found-some (reach_of unit) (unit-sound unit) c.args.first (length c.args.into.now) c.requires.some c.requires.lies c.requires.there
     (sym c.frame_at.ensures ∙ (none-of c.frame_at.result c.in_default.not-Some)))
-  where
-    none-of : (o : Option ℕ) → ((n : ℕ) → o ≡ Some n → ⊥) → o ≡ None
-    none-of None some = refl
-    none-of (Some n) some = absurd (some n refl)
 
 pub frame_at-requires : goal.frame_at-requires
 frame_at-requires c = grind (arith, common_steps)

@@ -1,4 +1,4 @@
-use Rattle.storage_unit.proofs.Lemmas.{sym, ◌∙◌, ap, subst, List, ℕ, length, Option, fold, Key, Placed, Pair, IsOfTable, Pool, pool_of, pool-seen, AreOfPages, keys_of, keys_without, pages_begun, AreReady, AreClear, frames-held, emptied-stays, keys-emptied, none-of_table, opened-none}
+use Rattle.storage_unit.proofs.Lemmas.{arith, nat_tests, sym, ◌∙◌, ap, subst, List, ℕ, length, Placed, Pair, IsOfTable, Pool, pool_of, pool-seen, AreOfPages, pages_begun, AreReady, AreClear, frames-held, emptied-stays, keys-emptied, none-of_table, opened-none}
 use Rattle.storage_unit.proofs.unit.Unit.empty.Goals as goal
 
 pub leave_all-requires : goal.leave_all-requires
@@ -19,10 +19,7 @@ invariant_of-self c =
       entries = ap (λ (t : Placed). length t.entries) table ∙ unit.entries;
       marks = subst (λ (list : List (List ℕ)). AreOfPages list) (sym (ap (λ (p : Pool). p.marked) new ∙ stays.marked)) unit.marks;
       held =
-          ap (λ (t : Placed). t.keys) table
-          ∙ ap (λ (keys : List (Option Key)). fold (keys_without pool) keys pool.resident) unit.held
-          ∙ keys-emptied unit.directory unit.legal pool (pool-seen unit.pool) unit.pool_size unit.pages (pages_begun unit.directory.page unit.begun)
-          ∙ ap (λ (p : Pool). keys_of unit.directory unit.begun p.frames p.page_in) (sym new);
+          grind (arith, nat_tests, unit.held, keys-emptied unit.directory unit.legal pool (pool-seen unit.pool) unit.pool_size unit.pages (pages_begun unit.directory.page unit.begun));
       remembered = subst (λ (classes : List (List Pair)). IsOfTable classes c.leave_all.new.table.keys) (sym c.new-self.ensures) (none-of_table c.leave_all.new.table.keys);
       selected = unit.selected;
       ready = subst (λ (list : List ℕ). AreReady unit.rows list unit.runner) (sym (ap (λ (p : Pool). p.bytes) new ∙ stays.bytes)) unit.ready;

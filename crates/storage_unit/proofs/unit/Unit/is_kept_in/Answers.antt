@@ -35,8 +35,6 @@ returns-in-Some c =
 
 pub returns-in-None : goal.returns-in-None
 returns-in-None c =
+    let none-some : (n : ℕ) → None ≡ Some n → ⊥ = λ n is. cc in
     let unit = c.args.self.now in
     absurd (none-some _ (sym c.in-None.is ∙ c.page_in.ensures ∙ page-found (reach_of unit) (unit-sound unit) c.args.first c.args.frame c.requires.lies c.requires.shared c.requires.frame))
-  where
-    none-some : (n : ℕ) → None ≡ Some n → ⊥
-    none-some n is = cc

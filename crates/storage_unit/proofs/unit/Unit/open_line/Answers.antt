@@ -1,10 +1,9 @@
-use Rattle.storage_unit.proofs.Lemmas.{◌≡◌, ℕ, ◌+◌, ◌%◌, ◌≤◌, ◌^◌, ◌∙◌, ap, arith, PageSize, Two, Four, page_bytes, Virtual, reach_of, found, under, registers-page, unit-sound}
+use Rattle.storage_unit.proofs.Lemmas.{nat_tests, ◌≡◌, ℕ, ◌+◌, ◌%◌, ◌≤◌, ◌^◌, ◌∙◌, ap, arith, PageSize, page_bytes, Virtual, reach_of, found, under, registers-page, unit-sound}
 use Rattle.storage_unit.proofs.unit.Unit.open_line.Goals as goal
 
 -- what ends within 128 bytes ends within its page
 within : (size : PageSize) (address n : ℕ) → address % 128 + n ≤ 128 → address % 2 ^ 28 % page_bytes size + n ≤ page_bytes size
-within Two address n fits = omega (arith, fits)
-within Four address n fits = omega (arith, fits)
+within size address n fits = grind (arith, nat_tests)
 
 pub open-requires-clause-within : goal.open-requires-clause-within
 open-requires-clause-within c =
