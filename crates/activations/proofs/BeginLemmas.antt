@@ -1,5 +1,5 @@
 -- A program begins.
-use Rattle.activations.proofs.Common.{range-long, ◌≡◌, refl, ℕ, ◌+◌, ◌-◌, ◌*◌, ◌%◌, ◌<◌, ◌≤◌, ◌==◌, ◌⊎◌, false, List, ◌++◌, length, map, replicate, slice_index, if◌then◌else◌, Option, Some, None, range_with_len, option_map_or, arith, ap, sym, ◌∙◌, subst, inl, inr, cases_lt, same_number_lists, length-overlaid, overlaid_before, overlaid_within, overlaid_behind, PageSize, Layout, byte_count, page_of, page_bytes, Pool, frame_at, with_bytes, private_frames, byte_in_frame, byte_over, bytes_over, private_bytes, is_marked, Fits, frame-high, in-range, nat_tests, length-append, length-replicate, ne_eqb, or-false, ◌≢◌, zero, suc, nat_lt, Bool, true, [], ◌∷◌, All, slice_index_or, list_any, get_or-set_same, get_or-set_other, eqb-false, eq-eqb, both_ways, or_left, or_right, or_parts, length-map, length-set, map-append, get_or_read, All-from_get_or, list_any-append, FlatStore, has, no_lines, has-append, no_lines_of, Authority, unowned, Program, start, registers_of_program, Begun, Entry, nobody, Fine, AreAlike, AreMarked, IsState, requested, due_to, IsCurrent, IsOrderly, current-begun, first_entry, with_first, begins-consistent, refused-consistent, told-taken, Seat, IsSeating, sitter, number_in, newcomer, next_seat, all-has, none-free, some-free, has-at, few-taken, taken-below, kept-seated, apart-taken, is_line_marked, private_segment, Live, Activity, no_program, program_at, live_in, entry_for, entry_in, entries, number_under, authority_under, authority_told, store_over, desk_over, lines_held, locks_in, request_for, request_in, state_in, shown, given, started, begun_in, IsBegin, IsSound, IsSetUp, IsIdentified, IsKept, KeepsDesk, Grant, absent_segment}
+use Rattle.activations.proofs.Common.{range-long, ◌≡◌, refl, ℕ, ◌+◌, ◌-◌, ◌*◌, ◌%◌, ◌<◌, ◌≤◌, ◌==◌, ◌⊎◌, false, List, ◌++◌, length, map, replicate, slice_index, if◌then◌else◌, Option, Some, None, range_with_len, option_map_or, arith, ap, sym, ◌∙◌, subst, inl, inr, cases_lt, same_number_lists, length-overlaid, overlaid_before, overlaid_within, overlaid_behind, PageSize, Layout, byte_count, page_of, page_bytes, Pool, frame_at, with_bytes, private_frames, byte_in_frame, byte_over, bytes_over, private_bytes, is_marked, Fits, frame-high, in-range, nat_tests, length-append, length-replicate, ne_eqb, or-false, ◌≢◌, zero, suc, nat_lt, Bool, true, [], ◌∷◌, All, slice_index_or, list_any, get_or-set_same, get_or-set_other, eqb-false, eq-eqb, both_ways, or_left, or_right, or_parts, length-map, length-set, map-append, get_or_read, All-from_get_or, list_any-append, FlatStore, has, no_lines, has-append, no_lines_of, Authority, unowned, Program, start, registers_of_program, Begun, Entry, nobody, Fine, AreAlike, AreMarked, IsState, requested, due_to, IsCurrent, IsOrderly, current-begun, first_entry, with_first, begins-consistent, refused-consistent, told-taken, Seat, IsSeating, sitter, number_in, newcomer, next_seat, all-has, none-free, some-free, has-at, few-taken, taken-below, kept-seated, apart-taken, is_line_marked, private_segment, Live, Activity, no_program, program_at, live_in, entry_for, entry_in, entries, number_under, authority_under, authority_told, store_over, desk_over, lines_held, locks_in, request_for, request_in, state_in, shown, given, started, begun_in, IsBegin, IsSound, IsSetUp, IsIdentified, IsKept, KeepsDesk, Grant, absent_segment, over_all, state_for}
 use Rattle.std.proofs.lemmas.Option.{slice_get-get_or}
 use Rattle.flat_machine.specs.Serial.{Activation}
 use Rattle.desk.specs.declared.event.Event.TheVariants.{Begin}
@@ -240,13 +240,8 @@ module _ (a : Activity) (program : ℕ) (args : List ℕ) (seat : ℕ) (sound : 
       state-last = subst (λ (e : Entry). IsState store e (state_in new seat)) (sym entry-last)
           (record {
             bytes = committed;
-            at = λ i. Some (record (start code args store) {
-              regs = (sym live-begun i).cpu.regs;
-              cs = (sym live-begun i).cpu.cs;
-              iar = (sym live-begun i).cpu.iar;
-              private = sym (private-there a.reach.directory a.reach.pool fits seat below code.image code.image_fits) i;
-              out = (sym live-begun i).out;
-            });
+            at = (λ i. Some (record (start code args store) { private = sym (private-there a.reach.directory a.reach.pool fits seat below code.image code.image_fits) i }))
+                ∙ ap (λ (l : Live). Some (over_all (state_for new.reach.pool seat l) committed)) (sym live-begun);
           })
 
       state-old : (at : ℕ) → has a.seating.taken at ≡ true → state_in a at ≡ state_in new at

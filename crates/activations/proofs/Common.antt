@@ -125,22 +125,19 @@ pub use Rattle.store_format.specs.Bank.{RecordLine, record_bytes}
 pub use Rattle.store_format.specs.Header.{Header, entry_bytes, most_lines, total}
 pub use Rattle.store_format.specs.Stands.{Damaged, NotAStore, Standing, Stands, laid}
 unfoldable pub use Rattle.store_format.specs.Stands.{stands}
-pub use Rattle.activations.specs.Activity.{Activity, authority_at, flat_authority, authority_told, authority_under, desk_over, entries, entry_for, entry_in, lines_held, live_in, locks_in, no_program, nothing_runs, number_under, program_at, program_in, request_for, request_in, shown, state_for, state_in, store_over}
-pub use Rattle.activations.specs.Attempted.{CameTo, IsSelected, IsShut, IsStopped, Strode, TookEffect, WasAttempted, WillTouch, attempted, plain_in, printed_after}
+pub use Rattle.activations.specs.Activity.{Activity, authority_at, flat_authority, authority_told, authority_under, desk_over, entries, entry_for, entry_in, lines_held, live_in, locks_in, no_program, nothing_runs, number_under, program_at, program_in, request_for, request_in, shown, state_for, state_in, store_over, activity_of}
+pub use Rattle.activations.specs.Kept.{CameTo, IsSelected, IsShut, IsStopped, Strode, TookEffect, WasAttempted, WillTouch, attempted, plain_in, printed_after, KeepsParts, StandsStill, StaysSeated, RunsAt, StrodeTo, with_live}
 pub use Rattle.activations.specs.Begins.{Begins, IsBegin, begun_in, given, idle, started, begins}
 pub use Rattle.activations.specs.Steps.{HasSettled, HasUndone, IsDeserted, IsRestarted, WereRolled, reprinted, AreAsCommitted, AreWritten, Commits, GoesOn, HasExecuted, IsMoved, RollsBack, Strides, WereSettled, WereUndone, counted, executed, is_of, rolled, vacated, with_pool, wrote, IsRolledBack, IsCommitted}
-pub use Rattle.activations.specs.Fetching.{HasBrokenOff, IsBrokenOff, IsIn, IsStoreOf, IsUnread, KeepsStore}
+pub use Rattle.activations.specs.Stages.{HasBrokenOff, IsBrokenOff, IsIn, IsStoreOf, IsUnread, KeepsStore, EndsByDisk, EndsContest, EndsRows, Fetches, HasFetched, KeepsAll, KeepsSound, EndsServing, IsCheckCode, IsNoLimit}
 pub use Rattle.activations.specs.Follows.{AreOfPages, KeepsDesk, IsIdentified, IsKept, IsSetUp, IsSound}
 pub use Rattle.activations.specs.Turning.{GoesUncounted, IsAsked, IsEndOfRows, IsInstruction, IsPrepared, IsServed, Prepares, Serves, Contests, HasBroken, HasEnded, tally_counts, FromContest, AreTurns, ComesBack, IsAtCommit, IsStep, IsTurning, MayBeShut, commit_call, selected_in, turn_in}
-pub use Rattle.activations.specs.Kept.{KeepsParts, StandsStill, StaysSeated, RunsAt, StrodeTo, with_live}
 pub use Rattle.activations.specs.Recorded.{HasWritten, IsRecordOf, LeavesCommitted, line_told, recorded, with_lines, written_of}
 pub use Rattle.activations.specs.Serving.{AreTouched, IsFetched, IsToServe, attempt_in, counted_with, lines_with, AreGranted, AreLowered, AreSet, Goes, IsContested, IsFree, ComesToEnd, WereRefused, asking, authority_given, authority_to_read, instruction_in, is_lowered, locked, pages_lowered, with_entries}
 pub use Rattle.activations.specs.Touched.{AreLetBut, AreWanted, IsApart, each_refused, is_granted, lines_between, page_if, pages_picked, pages_refused, pages_wanted, refuses_want, stores_into, wants_of, with_whole_page}
-pub use Rattle.activations.specs.View.{activity_of}
 pub use Rattle.activations.specs.declared.live.Live.{Live}
 pub use Rattle.activations.specs.declared.tally.Tally.{Tally}
 pub use Rattle.activations.specs.declared.touch.Touch.{Touch}
-pub use Rattle.activations.specs.Stages.{EndsByDisk, EndsContest, EndsRows, Fetches, HasFetched, KeepsAll, KeepsSound, EndsServing, IsCheckCode, IsNoLimit}
 pub use Rattle.frame_pool.proofs.ApartLemmas.{differs, has-remove_other, turned}
 pub use Rattle.store.proofs.WriteLemmas.{asks_only}
 pub use Rattle.std.proofs.lemmas.Simd.{map-map}

@@ -327,23 +327,20 @@ in-place a seat at live reach here i = with_live a (sym here i) live reach
 
 -- rows that are counted, and nothing else
 pub keeps-counted : (a : Activity) (seat rows : ℕ) → IsSound a → has a.seating.taken seat ≡ true → KeepsParts a (counted a seat rows) rows
-keeps-counted a seat rows sound taken = record {
-  programs = refl;
-  most_lines = refl;
-  next = refl;
-  directory = refl;
-  fewer = omega arith;
-  rows = λ bound within at less.
-      let own = within seat below in let here = within at less in
-      let there = sitter-there a.seating seat who sound.seating.sixteen below in
-      let other = sitter-other a.seating seat who at in grind (arith, nat_tests, there, own, here, other);
-}
-  where
-    below : seat < 16
-    below = taken-below a.seating sound.seating seat taken
-
-    who : Seat
-    who = record (sitter a.seating seat) { rows = (sitter a.seating seat).rows + rows; waits = None }
+keeps-counted a seat rows sound taken =
+    let below : seat < 16 = taken-below a.seating sound.seating seat taken in
+    let who : Seat = record (sitter a.seating seat) { rows = (sitter a.seating seat).rows + rows; waits = None } in
+    record {
+      programs = refl;
+      most_lines = refl;
+      next = refl;
+      directory = refl;
+      fewer = omega arith;
+      rows = λ bound within at less.
+          let own = within seat below in let here = within at less in
+          let there = sitter-there a.seating seat who sound.seating.sixteen below in
+          let other = sitter-other a.seating seat who at in grind (arith, nat_tests, there, own, here, other);
+    }
 
 -- a row that took effect
 module _ (begins : Word → Turning) (a after : Activity) (seat : ℕ) (wants : List Want) (committed : List ℕ) (order : List (ℕ × ℕ)) (counts : Counts)
@@ -357,18 +354,17 @@ module _ (begins : Word → Turning) (a after : Activity) (seat : ℕ) (wants : 
 
 -- who sits there stays, and is selected still
 pub took-stays : (a ran : Activity) (seat : ℕ) (owned : List Authority) → IsSound a → IsSound ran → has a.seating.taken seat ≡ true → TookEffect a seat ran → StaysSeated a (with_entries ran owned) seat
-took-stays a ran seat owned sound later taken took = record {
-  taken = taken_there;
-  number = ap (λ (x : Activity). (sitter x.seating seat).number) took.shape;
-  selected = λ is. record {
-    runner = ap (λ (x : Activity). x.reach.runner) took.shape ∙ is.runner;
-    registers = ap (λ (x : Activity). x.reach.registers) took.shape ∙ is.registers ∙ (sound.set_up seat taken).registers
-        ∙ sym ((later.set_up seat taken_there).registers ∙ ap (λ (x : Activity). registers_of_program (program_in x seat) x.reach.directory (private_segment seat)) took.shape);
-  };
-}
-  where
-    taken_there : has ran.seating.taken seat ≡ true
-    taken_there = ap (λ (x : Activity). has x.seating.taken seat) took.shape ∙ taken
+took-stays a ran seat owned sound later taken took =
+    let taken_there : has ran.seating.taken seat ≡ true = ap (λ (x : Activity). has x.seating.taken seat) took.shape ∙ taken in
+    record {
+      taken = taken_there;
+      number = ap (λ (x : Activity). (sitter x.seating seat).number) took.shape;
+      selected = λ is. record {
+        runner = ap (λ (x : Activity). x.reach.runner) took.shape ∙ is.runner;
+        registers = ap (λ (x : Activity). x.reach.registers) took.shape ∙ is.registers ∙ (sound.set_up seat taken).registers
+            ∙ sym ((later.set_up seat taken_there).registers ∙ ap (λ (x : Activity). registers_of_program (program_in x seat) x.reach.directory (private_segment seat)) took.shape);
+      };
+    }
 
 -- whether it printed or not
 pub took-either : (attempt : Attempt) (a after : Activity) (seat : ℕ) → (attempt ≡ Attempt.Went) ⊎ ((byte : ℕ) × (attempt ≡ Attempt.Print byte)) → WasAttempted attempt a seat after → TookEffect a seat after

@@ -186,30 +186,27 @@ set-sound a seat of pages owned sound taken owner is = record {
 -- Who holds what he asked for, with the pages that are granted, leaves all sound.
 pub taken-sound : (a : Activity) (seat : ℕ) (wants : List Want) (pages : List ℕ) (owned : List Authority) → IsSound a → has a.seating.taken seat ≡ true
     → AreGranted (locked a seat wants owned) seat wants pages a.reach.entries owned → IsSound (locked a seat wants owned)
-taken-sound a seat wants pages owned sound taken is = record {
-  seating = kept-took a.seating sound.seating seat (map (with_whole_page a.reach.directory) wants) taken;
-  seats = sound.seats;
-  numbers = sound.numbers;
-  live = sound.live;
-  pages = sound.pages;
-  lines = each_seat {P = λ at. AreOfPages (of_seat (holding_more a.seating.holding seat (map (with_whole_page a.reach.directory) wants)) at)} seat
-      (subst AreOfPages (sym (same-with a.seating.holding seat more sound.seating.whole below)) (more-of-pages (of_seat a.seating.holding seat) (map (with_whole_page a.reach.directory) wants) (sound.lines seat)))
-      (λ at e. subst AreOfPages (sym (other-with a.seating.holding seat more sound.seating.whole at e)) (sound.lines at));
-  requests = sound.requests;
-  begun = sound.begun;
-  entries = set-length (λ page. authority_given (locked a seat wants owned) seat (stores_into wants page) page) pages a.reach.entries owned is ∙ sound.entries;
-  set_up = λ at inside. let was = sound.set_up at inside in record { program = was.program; begun = was.begun; registers = was.registers; printed = was.printed; few = was.few };
-  free = sound.free;
-  identified =
-      set-identified a.seating.taken seat (λ page. authority_given (locked a seat wants owned) seat (stores_into wants page) page) pages a.reach.entries owned taken
-      (λ page. given-owner (locked a seat wants owned) seat (stores_into wants page) page) is sound.identified;
-}
-  where
-    below : seat < 16
-    below = taken-below a.seating sound.seating seat taken
-
-    more : List (List ℕ × List ℕ)
-    more = with_wants (of_seat a.seating.holding seat) (map (with_whole_page a.reach.directory) wants)
+taken-sound a seat wants pages owned sound taken is =
+    let below : seat < 16 = taken-below a.seating sound.seating seat taken in
+    let more : List (List ℕ × List ℕ) = with_wants (of_seat a.seating.holding seat) (map (with_whole_page a.reach.directory) wants) in
+    record {
+      seating = kept-took a.seating sound.seating seat (map (with_whole_page a.reach.directory) wants) taken;
+      seats = sound.seats;
+      numbers = sound.numbers;
+      live = sound.live;
+      pages = sound.pages;
+      lines = each_seat {P = λ at. AreOfPages (of_seat (holding_more a.seating.holding seat (map (with_whole_page a.reach.directory) wants)) at)} seat
+          (subst AreOfPages (sym (same-with a.seating.holding seat more sound.seating.whole below)) (more-of-pages (of_seat a.seating.holding seat) (map (with_whole_page a.reach.directory) wants) (sound.lines seat)))
+          (λ at e. subst AreOfPages (sym (other-with a.seating.holding seat more sound.seating.whole at e)) (sound.lines at));
+      requests = sound.requests;
+      begun = sound.begun;
+      entries = set-length (λ page. authority_given (locked a seat wants owned) seat (stores_into wants page) page) pages a.reach.entries owned is ∙ sound.entries;
+      set_up = λ at inside. let was = sound.set_up at inside in record { program = was.program; begun = was.begun; registers = was.registers; printed = was.printed; few = was.few };
+      free = sound.free;
+      identified =
+          set-identified a.seating.taken seat (λ page. authority_given (locked a seat wants owned) seat (stores_into wants page) page) pages a.reach.entries owned taken
+          (λ page. given-owner (locked a seat wants owned) seat (stores_into wants page) page) is sound.identified;
+    }
 
 -- the same of what is left once the seating was taken and then the entries were set
 pub sound-then : (a new : Activity) (seat : ℕ) (wants : List Want) (pages : List ℕ) (seating : Seating) → IsSound a → has a.seating.taken seat ≡ true → seating ≡ took a.seating seat (map (with_whole_page a.reach.directory) wants)

@@ -9,7 +9,6 @@ pub mod CheckCodes
 pub mod OpenLemmas
 pub mod GrantLemmas
 pub mod HoldingLemmas
-pub mod IdleLemmas
 pub mod KeptLemmas
 pub mod PoolLemmas
 pub mod RecordLemmas

@@ -1,5 +1,5 @@
 -- A row that goes on, and whose access was served: it goes on still, and its lines are open.
-use Rattle.activations.proofs.Common.{◌≡◌, refl, ℕ, ◌+◌, ◌-◌, ◌*◌, ◌%◌, ◌<◌, ◌==◌, ◌&&◌, ◌||◌, not, Bool, true, false, List, [], ◌∷◌, All, length, replicate, list_any, map, slice_index_or, slice_set, arith, ap, sym, ◌∙◌, subst, inl, inr, eqb-true, eqb-false, eq-eqb, and_parts, or_cases, or_left, or_parts, or_right, nat_tests, get_or-set_other, get_or-set_same, length-replicate, length-set, All-cons, All-head, All-nil, All-tail, cases_Bool, Layout, byte_count, has, page_of_line, has_left, has_right, Want, AreWithin, lines_wanted, held_at, of_seat, of_page-below, AreOfPage, IsFlat, IsOfPage, Authority, unowned, grant_of, lets, Plain, Program, Outcome, On, Commit, Check, row, touched, Reach, IsOpen, IsOpenLine, bytes_over, private_bytes, lines_of_access, Access, Activity, live_in, locks_in, program_in, Pool, IsMoved, with_pool, taken-below, long-seat, plain_in, IsShut, TookEffect, WasAttempted, WillTouch, CameTo, IsSound, AreGranted, AreSet, authority_given, locked, AreWanted, IsApart, AreLetBut, pages_refused, pages_wanted, refuses_want, stores_into, with_whole_page, refuses, Grant, SameWay, Plan, Does, Fails, plan_at, touched_by, IsCheckCode}
+use Rattle.activations.proofs.Common.{◌≡◌, refl, ℕ, ◌+◌, ◌*◌, ◌%◌, ◌<◌, ◌==◌, ◌&&◌, ◌||◌, not, Bool, true, false, List, [], ◌∷◌, All, length, replicate, list_any, map, slice_index_or, slice_set, arith, ap, sym, ◌∙◌, subst, inl, inr, eqb-true, eqb-false, eq-eqb, and_parts, or_cases, or_left, or_parts, or_right, nat_tests, get_or-set_other, get_or-set_same, length-replicate, length-set, All-cons, All-head, All-nil, All-tail, cases_Bool, Layout, byte_count, has, page_of_line, has_left, has_right, Want, AreWithin, lines_wanted, held_at, of_seat, of_page-below, AreOfPage, IsFlat, IsOfPage, Authority, unowned, grant_of, lets, Plain, Program, Outcome, On, Commit, Check, row, touched, Reach, IsOpen, IsOpenLine, bytes_over, private_bytes, lines_of_access, Access, Activity, live_in, locks_in, program_in, Pool, IsMoved, with_pool, taken-below, long-seat, plain_in, IsShut, TookEffect, WasAttempted, WillTouch, CameTo, IsSound, AreGranted, AreSet, authority_given, locked, AreWanted, IsApart, AreLetBut, pages_refused, pages_wanted, refuses_want, stores_into, with_whole_page, refuses, Grant, SameWay, Plan, Does, Fails, plan_at, touched_by, IsCheckCode, over_all}
 use Rattle.flat_machine.proofs.SameWay.{on, row-way}
 use Rattle.desk_law.proofs.Granted.{lets-loads, lets-stores}
 use Rattle.desk_law.proofs.Permitted.{any-none}
@@ -7,6 +7,7 @@ use Rattle.romp_cpu.specs.declared.cpu.Attempt.{Attempt}
 use Rattle.activations.proofs.CheckCodes.{checks-named}
 use Rattle.activations.proofs.HoldingLemmas.{held-flat, asked-alike, has-wanted}
 use Rattle.activations.proofs.GrantLemmas.{within-whole, taken-both}
+use Rattle.activations.proofs.SittingLemmas.{plain-by, state-by}
 
 -- what goes the same way as a row that goes on goes on
 way-on : (first second : Outcome) (next : Plain) → SameWay first second → first ≡ On next → (other : Plain) × (second ≡ On other)
@@ -42,18 +43,11 @@ touch-on a b seat wants directory here there program live private will = record 
     store : List ℕ → List ℕ
     store committed = bytes_over b.reach.directory b.reach.pool committed
 
-    at : (n : ℕ) → n ≡ seat + 1 → n - 1 ≡ seat
-    at n is = omega (arith, is)
-
     shows : (committed : List ℕ) → plain_in b seat committed ≡ on (plain_in a seat committed) (store committed)
-    shows committed i = record {
-      regs = (live i).cpu.regs;
-      cs = (live i).cpu.cs;
-      iar = (live i).cpu.iar;
-      private = (ap (private_bytes b.reach.pool) (at b.reach.runner there) ∙ private ∙ ap (private_bytes a.reach.pool) (sym (at a.reach.runner here))) i;
-      store = store committed;
-      out = (live i).out;
-    }
+    shows committed =
+        plain-by committed b.reach seat (live_in b seat) (live_in a seat) there (sym live)
+        ∙ (λ i. over_all (state-by b.reach.pool a.reach.pool seat (live_in a seat) (live_in a seat) refl private i) (store committed))
+        ∙ sym (ap (λ (s : Plain). on s (store committed)) (plain-by committed a.reach seat (live_in a seat) (live_in a seat) here refl))
 
 -- one that is shut touches the lines of its access
 pub shut-touches : (a : Activity) (seat : ℕ) (access : Access) (wants : List Want) → IsShut a seat access → lines_wanted wants ≡ lines_of_access (program_in a seat) a.reach.directory access → WillTouch a seat wants
@@ -219,9 +213,6 @@ module _ (a : Activity) (seat : ℕ) (wants : List Want) (owned : List Authority
           let few = of_page-below want.writes (All-head (λ (w : Want). IsOfPage w.writes) want some writes) line is in
           ap not (given-stores now seat want.page (stores_into wants want.page) line (storing line is) (held-write want.page line few (here.writes line few ∙ is)))) i)
 
-  pub let-granted : AreLetBut a.reach.entries (seat + 1) pages wants → All (λ want. refuses_want owned (seat + 1) want ≡ false) wants
-  let-granted free = let-each wants wanted.apart wanted.sets.reads wanted.sets.writes (λ page is. is) free
-
 -- Where no line is refused, and the pages are resident, all are open.
 opens : (state : Reach) (wants : List Want) → AreOfPage wants → All (λ want. refuses_want state.entries state.runner want ≡ false) wants
     → ((page : ℕ) → has (pages_wanted wants) page ≡ true → has state.pool.resident page ≡ true) → IsOpen state (lines_wanted wants)
@@ -265,7 +256,8 @@ module _ (a : Activity) (seat : ℕ) (wants : List Want) (owned : List Authority
   got-open later wanted within grants free resident =
       opens (with_pool (locked a seat wants owned) pool).reach wants wanted.sets
       (subst (λ (tid : ℕ). All (λ want. refuses_want owned tid want ≡ false) wants) (sym runner)
-      (let-granted a seat wants owned pages sound below later wanted (within-whole a.reach.directory (length (of_seat a.seating.holding seat)) wants inside) within grants free))
+      (let-each a seat wants owned pages sound below later wanted (within-whole a.reach.directory (length (of_seat a.seating.holding seat)) wants inside) within grants wants wanted.apart wanted.sets.reads wanted.sets.writes
+      (λ page is. is) free))
       resident
     where
       inside : AreWithin (length (of_seat a.seating.holding seat)) wants

@@ -42,9 +42,6 @@ place-same p q [] same = refl
 place-same p q (x ∷ xs) same =
     λ i. cond (not (same x (or_left (x == x) (has xs x) (eq-eqb x x refl)) i)) (1 + place-same p q xs (λ y inside. same y (or_right (x == y) (has xs y) inside)) i) 0
 
-pub position-same : (p q : ℕ → Bool) (xs : List ℕ) → ((x : ℕ) → has xs x ≡ true → p x ≡ q x) → position p xs ≡ position q xs
-position-same p q xs same = ap (λ (n : ℕ). cond (nat_lt n (length xs)) (Some n) None) (place-same p q xs same)
-
 -- what follows the desk follows it with other pages in its frames
 pub moved-kept : (a : Activity) (pool : Pool) (committed : List ℕ) → IsSound a → IsMoved a.reach.pool pool → Keeps a.reach.directory a.reach.pool pool committed
     → IsKept a committed → IsKept (with_pool a pool) committed
@@ -76,8 +73,8 @@ moved-follows a pool committed sound moved keeps follows = record {
 -- which other pages stay makes no difference, where they are the same of those that are resident
 brought-same : (most : ℕ) (kept other resident : List ℕ) (page : ℕ) → ((x : ℕ) → has resident x ≡ true → has kept x ≡ has other x) → brought most kept resident page ≡ brought most other resident page
 brought-same most kept other resident page same =
-    ap (λ (place : Option ℕ). (if nat_lt (length resident) most then resident else remove resident (unwrap_or place 0)) ++ page ∷ [])
-    (position-same (λ x. not (has kept x)) (λ x. not (has other x)) resident (λ x inside. ap not (same x inside)))
+    ap (λ (n : ℕ). (if nat_lt (length resident) most then resident else remove resident (unwrap_or (cond (nat_lt n (length resident)) (Some n) None) 0)) ++ page ∷ [])
+    (place-same (λ x. not (has kept x)) (λ x. not (has other x)) resident (λ x inside. ap not (same x inside)))
 
 -- One page alone comes in; the first of two, while the second stays; and the second, while the first stays.
 pub brought-one : (most page : ℕ) (resident : List ℕ) → has resident page ≡ false → brought most (option_to_list None) resident page ≡ brought most (page ∷ []) resident page

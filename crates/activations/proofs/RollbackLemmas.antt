@@ -27,10 +27,6 @@ pub filter-all : (xs : List ℕ) → filter (λ one. true) xs ≡ xs
 filter-all [] = refl
 filter-all (x ∷ xs) = ap (λ (these : List ℕ). x ∷ these) (filter-all xs)
 
--- one that isn't resident takes none out
-taken-none : (page : ℕ) (resident : List ℕ) → has resident page ≡ false → resident ≡ taken_out (page ∷ []) resident
-taken-none page resident out = sym (filter-all resident) ∙ filter-alike (λ one. true) (λ one. not (has (page ∷ []) one)) resident (λ one inside. grind (arith, nat_tests))
-
 -- a page more among these
 pub of-then : (lines : ℕ → List ℕ) (pages : List ℕ) (page line : ℕ)
     → is_of (pages ++ page ∷ []) lines line ≡ (is_of pages lines line || ((page == page_of_line line) && has (lines page) (line % 16)))
@@ -45,7 +41,8 @@ by_frame part in_frame other value (Some x) there none = there x
 pub gone-resident : (pool : Pool) (page : ℕ) → has pool.resident page ≡ is_some (frame_at pool page) → (gone pool page).resident ≡ taken_out (page ∷ []) pool.resident
 gone-resident pool page is =
     by_frame (λ (p : Pool). p.resident) _ pool (taken_out (page ∷ []) pool.resident) (frame_at pool page) (λ x. refl)
-    (λ none. taken-none page pool.resident (is ∙ ap is_some none))
+    (λ none. let out = is ∙ ap is_some none in
+    sym (filter-all pool.resident) ∙ filter-alike (λ one. true) (λ one. not (has (page ∷ []) one)) pool.resident (λ one inside. grind (arith, nat_tests, out, inside)))
 
 module _ (directory : Layout) (pool : Pool) (fits : Fits directory pool) (page : ℕ) (below : page < page_count directory) (lines : List ℕ) where
   marked-below : page < length pool.marked
@@ -129,9 +126,6 @@ were-forgotten directory lines pages flat old new committed same were are = reco
 module _ (directory : Layout) (more fewer : List ℕ) (old new : Pool) (committed : List ℕ) (clean : IsClean directory old committed)
     (part : (line : ℕ) → has fewer line ≡ true → has more line ≡ true)
     (rest : (line : ℕ) → has more line ≡ true → has fewer line ≡ false → is_line_marked old line ≡ false) where
-  marks-same : (line : ℕ) → (is_line_marked old line && not (has more line)) ≡ (is_line_marked old line && not (has fewer line))
-  marks-same line = let in_more = part line in let none = rest line in grind (arith, in_more, none)
-
   places-same : (place : ℕ) → place < byte_count directory
       → (if has more (line_of directory place) then slice_index committed place else slice_index (bytes_over directory old committed) place)
       ≡ (if has fewer (line_of directory place) then slice_index committed place else slice_index (bytes_over directory old committed) place)
@@ -142,7 +136,7 @@ module _ (directory : Layout) (more fewer : List ℕ) (old new : Pool) (committe
 
   pub forgotten-fewer : WereForgotten directory more old new committed → WereForgotten directory fewer old new committed
   forgotten-fewer were = record {
-    marks = λ line. were.marks line ∙ marks-same line;
+    marks = λ line. were.marks line ∙ (let in_more = part line in let none = rest line in grind (arith, in_more, none));
     bytes = were.bytes;
     places = λ place within. were.places place within ∙ places-same place within;
     clean = were.clean;

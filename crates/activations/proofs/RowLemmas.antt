@@ -85,32 +85,31 @@ module _ (a : Activity) (seat : ℕ) (live : Live) (bytes : List ℕ) (marked : 
       (follows.kept.stand at inside))
 
   kept-next : IsKept next committed
-  kept-next = record {
-    long = follows.kept.long;
-    held = by_seat {P = λ at. AreAlike (locks_in next at) (due_to store (entry_in next at))} a.seating.taken seat
-        (subst (λ (e : Entry). AreAlike (locks_in a seat) (due_to store e)) (sym entry-next)
-        (alike-then (locks_in a seat) (due_to store entry) (due_to store (gone_on entry)) (follows.kept.held seat taken)
-        (alike-back (due_to store (gone_on entry)) (due_to store entry) (open-due (desk_over a committed []) entry first.held))))
-        (λ at inside differs. subst (λ (e : Entry). AreAlike (locks_in a at) (due_to store e)) (sym (entry-others at differs)) (follows.kept.held at inside));
-    asked = by_seat {P = λ at. (entry_in next at).waiting ≡ true → AreAlike (request_in next at) (requested store (entry_in next at))} a.seating.taken seat
-        (λ waits. absurd (both_ways (entry_in next seat).waiting (ap (λ (e : Entry). e.waiting) entry-next) waits))
-        (λ at inside differs waits.
-        subst (λ (e : Entry). AreAlike (request_in next at) (requested store e)) (sym (entry-others at differs))
-        (subst (λ (who : Seat). AreAlike (request_for who) (requested store (entry_in a at))) (sym (sitter-other a.seating seat _ at differs))
-        (follows.kept.asked at inside (sym (ap (λ (e : Entry). e.waiting) (entry-others at differs)) ∙ waits))));
-    stand = by_seat {P = λ at. IsState store (entry_in next at) (state_in next at)} a.seating.taken seat state-next state-others;
-    is_current = subst (λ (these : List Entry). IsCurrent store these (shown next committed)) (sym entries-next) first.is_current;
-    marked = subst (λ (these : List Entry). AreMarked store these (is_line_marked next.reach.pool)) (sym entries-next)
-        (marked-row store a.most_lines a.next (entries a) follows.orderly.active (is_line_marked a.reach.pool) follows.kept.marked entry (is_line_marked next.reach.pool) here
-        (λ line. went.goes.marks line ∙ ap (λ (l : Lines). is_line_marked a.reach.pool line || has l.writes line) (sym wants)));
-    clean = went.clean;
-  }
-    where
-      wants : wanted (desk_over a committed []) entry ≡ touched (program_in a seat) a.reach.directory (plain_over committed (live_in a seat).cpu a.reach (live_in a seat).out)
-      wants =
-          wanted-is (desk_over a committed []) entry (over_all (state_in a seat) state.bytes) left (shown a committed) state.at
-          (ap (row (program_in a seat) a.reach.directory) shows ∙ went.goes.goes)
-          ∙ ap (touched (program_in a seat) a.reach.directory) shows
+  kept-next =
+      let wants : wanted (desk_over a committed []) entry ≡ touched (program_in a seat) a.reach.directory (plain_over committed (live_in a seat).cpu a.reach (live_in a seat).out) =
+      wanted-is (desk_over a committed []) entry (over_all (state_in a seat) state.bytes) left (shown a committed) state.at
+      (ap (row (program_in a seat) a.reach.directory) shows ∙ went.goes.goes)
+      ∙ ap (touched (program_in a seat) a.reach.directory) shows in
+      record {
+        long = follows.kept.long;
+        held = by_seat {P = λ at. AreAlike (locks_in next at) (due_to store (entry_in next at))} a.seating.taken seat
+            (subst (λ (e : Entry). AreAlike (locks_in a seat) (due_to store e)) (sym entry-next)
+            (alike-then (locks_in a seat) (due_to store entry) (due_to store (gone_on entry)) (follows.kept.held seat taken)
+            (alike-back (due_to store (gone_on entry)) (due_to store entry) (open-due (desk_over a committed []) entry first.held))))
+            (λ at inside differs. subst (λ (e : Entry). AreAlike (locks_in a at) (due_to store e)) (sym (entry-others at differs)) (follows.kept.held at inside));
+        asked = by_seat {P = λ at. (entry_in next at).waiting ≡ true → AreAlike (request_in next at) (requested store (entry_in next at))} a.seating.taken seat
+            (λ waits. absurd (both_ways (entry_in next seat).waiting (ap (λ (e : Entry). e.waiting) entry-next) waits))
+            (λ at inside differs waits.
+            subst (λ (e : Entry). AreAlike (request_in next at) (requested store e)) (sym (entry-others at differs))
+            (subst (λ (who : Seat). AreAlike (request_for who) (requested store (entry_in a at))) (sym (sitter-other a.seating seat _ at differs))
+            (follows.kept.asked at inside (sym (ap (λ (e : Entry). e.waiting) (entry-others at differs)) ∙ waits))));
+        stand = by_seat {P = λ at. IsState store (entry_in next at) (state_in next at)} a.seating.taken seat state-next state-others;
+        is_current = subst (λ (these : List Entry). IsCurrent store these (shown next committed)) (sym entries-next) first.is_current;
+        marked = subst (λ (these : List Entry). AreMarked store these (is_line_marked next.reach.pool)) (sym entries-next)
+            (marked-row store a.most_lines a.next (entries a) follows.orderly.active (is_line_marked a.reach.pool) follows.kept.marked entry (is_line_marked next.reach.pool) here
+            (λ line. went.goes.marks line ∙ ap (λ (l : Lines). is_line_marked a.reach.pool line || has l.writes line) (sym wants)));
+        clean = went.clean;
+      }
 
   pub goes-on : GoesOn a seat live bytes marked committed
   goes-on = record {

@@ -69,15 +69,11 @@ counted-more a seat rows sixteen below i = record a { seating = record a.seating
     once : Seat
     once = record (sitter a.seating seat) { rows = (sitter a.seating seat).rows + rows; waits = None }
 
-    is : sitter (with_sitter a.seating seat once) seat ≡ once
-    is = sitter-there a.seating seat once sixteen below
-
-    rows_are : (sitter a.seating seat).rows + rows + 1 ≡ (sitter a.seating seat).rows + (rows + 1)
-    rows_are = omega arith
-
     twice : slice_set (slice_set a.seating.sitters seat once) seat (record (sitter (with_sitter a.seating seat once) seat) { rows = (sitter (with_sitter a.seating seat once) seat).rows + 1; waits = None })
         ≡ slice_set a.seating.sitters seat (record (sitter a.seating seat) { rows = (sitter a.seating seat).rows + (rows + 1); waits = None })
     twice =
+        let is : sitter (with_sitter a.seating seat once) seat ≡ once = sitter-there a.seating seat once sixteen below in
+        let rows_are : (sitter a.seating seat).rows + rows + 1 ≡ (sitter a.seating seat).rows + (rows + 1) = omega arith in
         set-set a.seating.sitters seat once (record (sitter (with_sitter a.seating seat once) seat) { rows = (sitter (with_sitter a.seating seat once) seat).rows + 1; waits = None })
         ∙ ap (slice_set a.seating.sitters seat) (ap (λ (who : Seat). record who { rows = who.rows + 1; waits = None }) is ∙ (λ i. record (sitter a.seating seat) { rows = rows_are i; waits = None }))
 

@@ -279,28 +279,19 @@ module _ {W : Type 0} (G : Ghosts W) (store : KeptStore) (outside : W) (old : Ac
       → HasBrokenOff G store outside old seat pages before new after
       → begins (ReadFailed after) ≡ Over (record (rolled_back (desk_over old committed order) (entry_in old seat)) { resident = [] }) (record counts { pages = after }) Disk
       → HasBroken begins new committed order (record counts { pages = after })
-  broke-ends begins committed order counts sound follows is broke ends = record {
-    comes = ends ∙ ap (λ (d : Desk). Over d (record counts { pages = after }) Disk) desk;
-    follows = subst (λ (a : Activity). KeepsDesk a committed) (sym broke.shape) (rolled-follows there seat new.reach.pool committed follows-there rolls);
-  }
-    where
-      there : Activity
-      there = with_pool old broke.pool
-
-      off : IsBrokenOff old committed order pages before broke.pool after
-      off = broke.off committed order is follows.kept.clean
-
-      follows-there : KeepsDesk there committed
-      follows-there = moved-follows old broke.pool committed sound off.moved off.keeps follows
-
-      rolls : RollsBack there seat new.reach.pool committed
-      rolls = broke.rolls committed follows.orderly.active follows-there.kept
-
-      desk : record (rolled_back (desk_over old committed order) (entry_in old seat)) { resident = [] } ≡ desk_over new committed order
-      desk =
-          ap (λ (those : List ℕ). rolled_back (record (desk_over old committed order) { resident = those }) (entry_in old seat)) (sym off.none)
-          ∙ ap (λ (d : Desk). rolled_back d (entry_in old seat)) (sym (moved-desk old broke.pool committed order off.moved))
-          ∙ sym (rolls.desk order) ∙ ap (λ (a : Activity). desk_over a committed order) (sym broke.shape)
+  broke-ends begins committed order counts sound follows is broke ends =
+      let there : Activity = with_pool old broke.pool in
+      let off : IsBrokenOff old committed order pages before broke.pool after = broke.off committed order is follows.kept.clean in
+      let follows-there : KeepsDesk there committed = moved-follows old broke.pool committed sound off.moved off.keeps follows in
+      let rolls : RollsBack there seat new.reach.pool committed = broke.rolls committed follows.orderly.active follows-there.kept in
+      let desk : record (rolled_back (desk_over old committed order) (entry_in old seat)) { resident = [] } ≡ desk_over new committed order =
+      ap (λ (those : List ℕ). rolled_back (record (desk_over old committed order) { resident = those }) (entry_in old seat)) (sym off.none)
+      ∙ ap (λ (d : Desk). rolled_back d (entry_in old seat)) (sym (moved-desk old broke.pool committed order off.moved))
+      ∙ sym (rolls.desk order) ∙ ap (λ (a : Activity). desk_over a committed order) (sym broke.shape) in
+      record {
+        comes = ends ∙ ap (λ (d : Desk). Over d (record counts { pages = after }) Disk) desk;
+        follows = subst (λ (a : Activity). KeepsDesk a committed) (sym broke.shape) (rolled-follows there seat new.reach.pool committed follows-there rolls);
+      }
 
 -- the next row of who sits in a seat is shut, so its access is to be served
 pub is-to-serve : (a : Activity) (seat : ℕ) (access : Access) (wants : List Want) → IsSound a → has a.seating.taken seat ≡ true → IsSelected a seat → IsShut a seat access

@@ -17,27 +17,21 @@ turn-begins a seat limit committed order counts follows = record { comes = λ wo
 pub turn-strides : (begins : Word → Turning) (a after : Activity) (seat rows ran left : ℕ) (committed : List ℕ) (order : List (ℕ × ℕ)) (counts : Counts) → IsSound a → has a.seating.taken seat ≡ true
     → Strode a seat ran after → 1 + ran ≡ 1 + rows → IsTurning begins (counted a seat 1) seat (rows + left) committed order (record counts { ran = counts.ran + 1 })
     → IsTurning begins (counted after seat (1 + ran)) seat left committed order (record counts { ran = counts.ran + (1 + ran) })
-turn-strides begins a after seat rows ran left committed order counts sound taken strode same turning = record {
-  comes = λ word reads.
-      turning.comes word reads
-      ∙ (λ i. turns word (number i) (first i + left) (Going (desk_over (counted a seat 1) committed order) (record counts { ran = counts.ran + 1 })))
-      ∙ strode.turns word committed order 1 left (record counts { ran = counts.ran + 1 }) turning.follows
-      ∙ (λ i. turns word (later i) left (Going (desk_over (counted after seat (1 + ran)) committed order) (record counts { ran = sum i })));
-  follows = strode.follows committed 1 turning.follows;
-}
-  where
-    number : number_in (counted a seat 1).seating seat ≡ number_in a.seating seat
-    number = number-counted a seat 1 sound.seating.sixteen (taken-below a.seating sound.seating seat taken) seat
-
-    first : rows ≡ ran
-    first = omega (arith, same)
-
-    sum : counts.ran + 1 + ran ≡ counts.ran + (1 + ran)
-    sum = omega arith
-
-    later : number_in a.seating seat ≡ number_in (counted after seat (1 + ran)).seating seat
-    later = ap (λ (s : Seating). number_in s seat) (sym strode.seating)
-        ∙ sym (number-counted after seat (1 + ran) (ap (λ (s : Seating). length s.sitters) strode.seating ∙ sound.seating.sixteen) (taken-below a.seating sound.seating seat taken) seat)
+turn-strides begins a after seat rows ran left committed order counts sound taken strode same turning =
+    let number : number_in (counted a seat 1).seating seat ≡ number_in a.seating seat = number-counted a seat 1 sound.seating.sixteen (taken-below a.seating sound.seating seat taken) seat in
+    let first : rows ≡ ran = omega (arith, same) in
+    let sum : counts.ran + 1 + ran ≡ counts.ran + (1 + ran) = omega arith in
+    let later : number_in a.seating seat ≡ number_in (counted after seat (1 + ran)).seating seat =
+    ap (λ (s : Seating). number_in s seat) (sym strode.seating)
+    ∙ sym (number-counted after seat (1 + ran) (ap (λ (s : Seating). length s.sitters) strode.seating ∙ sound.seating.sixteen) (taken-below a.seating sound.seating seat taken) seat) in
+    record {
+      comes = λ word reads.
+          turning.comes word reads
+          ∙ (λ i. turns word (number i) (first i + left) (Going (desk_over (counted a seat 1) committed order) (record counts { ran = counts.ran + 1 })))
+          ∙ strode.turns word committed order 1 left (record counts { ran = counts.ran + 1 }) turning.follows
+          ∙ (λ i. turns word (later i) left (Going (desk_over (counted after seat (1 + ran)) committed order) (record counts { ran = sum i })));
+      follows = strode.follows committed 1 turning.follows;
+    }
 
 -- pages before one that can't be read can be
 unread : (counted page : ℕ) → counted < page → Reads (ReadFailed page) counted
@@ -60,15 +54,14 @@ module _ (begins : Word → Turning) (a : Activity) (seat left : ℕ) (committed
   -- a row took effect
   pub turn-goes : (after : Activity) (more : Counts) → IsSound after → StaysSeated a after seat → counts.pages ≤ more.pages → GoesUncounted (instruction_in a seat committed order counts) after seat committed order more
       → IsTurning begins (counted after seat 1) seat (left - 1) committed order (record more { ran = more.ran + 1 })
-  turn-goes after more later stays grows goes = record {
-    comes = λ word reads.
-        (turning-goes begins (left - 1) desk counts (entry_in a seat) is here on (desk_over (counted after seat 1) committed order) (record more { ran = more.ran + 1 }) grows goes.comes).comes word reads
-        ∙ ap (λ (n : ℕ). turns word n (left - 1) (Going (desk_over (counted after seat 1) committed order) (record more { ran = more.ran + 1 }))) number;
-    follows = goes.follows;
-  }
-    where
-      number : number_in a.seating seat ≡ number_in (counted after seat 1).seating seat
-      number = sym (number-counted after seat 1 later.seating.sixteen (taken-below after.seating later.seating seat stays.taken) seat ∙ stays.number)
+  turn-goes after more later stays grows goes =
+      let number : number_in a.seating seat ≡ number_in (counted after seat 1).seating seat = sym (number-counted after seat 1 later.seating.sixteen (taken-below after.seating later.seating seat stays.taken) seat ∙ stays.number) in
+      record {
+        comes = λ word reads.
+            (turning-goes begins (left - 1) desk counts (entry_in a seat) is here on (desk_over (counted after seat 1) committed order) (record more { ran = more.ran + 1 }) grows goes.comes).comes word reads
+            ∙ ap (λ (n : ℕ). turns word n (left - 1) (Going (desk_over (counted after seat 1) committed order) (record more { ran = more.ran + 1 }))) number;
+        follows = goes.follows;
+      }
 
   -- it is the commit call
   pub turn-commits : (after : Activity) → (more : Counts) → counts.pages ≤ more.pages → IsAtCommit (instruction_in a seat committed order counts) after seat committed order more

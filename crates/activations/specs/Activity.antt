@@ -1,4 +1,4 @@
--- What runs side by side, and the desk that it is over committed bytes.
+-- What runs side by side, the desk that it is over committed bytes, and what `Activations` are seen as.
 use Rattle.std.specs.Prelude.{[], refl, ℕ, zero, suc, false, List, length, map, replicate, slice_index_or, None, is_some}
 use Rattle.std.proofs.Common.{lit<, lit≤}
 use Rattle.std.specs.List.{flat_map, range_with_len}
@@ -25,6 +25,8 @@ use Rattle.seats.specs.Seating.{Seating, sitter}
 use Rattle.storage_unit.specs.declared.model.Reach.{Reach}
 use Rattle.storage_unit.specs.Bytes.{bytes_over, private_bytes}
 use Rattle.activations.specs.declared.live.Live.{Live}
+use Rattle.storage_unit.specs.View.{reach_of}
+use Rattle.activations.specs.declared.activations.Activations.{Activations}
 
 -- the programs that may begin, the lines that a record may have, the next number, who sits where and holds what, what runs in
 -- each seat, and the storage that all share
@@ -154,3 +156,14 @@ state_in a seat = state_for a.reach.pool seat (live_in a seat)
 -- the bytes of the store as all see them together, over committed ones
 abbrev pub shown : Activity → (committed : List ℕ) → List ℕ
 shown a committed = bytes_over a.reach.directory a.reach.pool committed
+
+abbrev pub activity_of : Activations → Activity
+activity_of a =
+    record {
+      programs = a.programs.items;
+      most_lines = a.most_lines;
+      next = a.next;
+      seating = a.seats;
+      live = a.live.items;
+      reach = reach_of a.unit;
+    }

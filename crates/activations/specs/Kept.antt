@@ -1,16 +1,92 @@
--- What stays while those that run are served, and rows of what runs in a seat beside what it reaches.
-use Rattle.std.specs.Prelude.{◌≡◌, ℕ, ◌+◌, ◌≤◌, ◌<◌, true, Option, Some, None, length, slice_index_or, slice_set}
-use Rattle.lines.specs.Sets.{has}
-use Rattle.seats.specs.Seating.{sitter, number_in}
-use Rattle.page_table.specs.Placed.{unowned}
-use Rattle.storage_unit.specs.Bytes.{private_bytes}
-use Rattle.activations.specs.Activity.{Activity, live_in, program_in}
-use Rattle.activations.specs.Attempted.{IsSelected, IsShut, IsStopped, Strode}
+-- What an attempt in a seat came to, what stays while those that run are served, and rows of what runs in a seat beside what it reaches.
+use Rattle.std.specs.Prelude.{[], ◌≡◌, ◌⊎◌, ℕ, ◌+◌, ◌<◌, ◌≤◌, List, ◌∷◌, ◌++◌, length, slice_set, true, slice_index_or, Option, Some, None}
+use Rattle.lines.specs.Directory.{byte_count}
+use Rattle.flat_machine.specs.declared.machine.Plain.{Plain}
+use Rattle.flat_machine.specs.Row.{Outcome, On, Commit, Check, row}
+use Rattle.flat_machine.specs.Touched.{touched}
+use Rattle.seats.specs.declared.request.Want.{Want}
+use Rattle.seats.specs.Flat.{lines_wanted}
+use Rattle.romp_cpu.specs.declared.cpu.Attempt.{Attempt}
+use Rattle.romp_cpu.specs.declared.cpu.Cpu.{Cpu}
 use Rattle.romp_cpu.specs.Tried.{at}
-use Rattle.romp_cpu.specs.declared.storage.Access.{Access}
 use Rattle.storage_unit.specs.declared.model.Reach.{Reach}
+use Rattle.storage_unit.specs.Bytes.{IsClean, private_bytes}
+use Rattle.storage_unit.specs.Rows.{IsShutOut, plain_over}
+use Rattle.romp_cpu.specs.declared.storage.Access.{Access}
+use Rattle.desk.specs.Instruction.{Word, Counts, Going, turns}
+use Rattle.seats.specs.Seating.{number_in, sitter}
+use Rattle.activations.specs.Activity.{Activity, live_in, program_in, desk_over}
+use Rattle.activations.specs.Follows.{KeepsDesk, IsSound}
+use Rattle.activations.specs.Steps.{executed, counted, HasExecuted}
+use Rattle.lines.specs.Sets.{has}
+use Rattle.page_table.specs.Placed.{unowned}
 use Rattle.activations.specs.declared.live.Live.{Live}
-use Rattle.activations.specs.Follows.{IsSound}
+
+-- the unit is what a seat reaches
+pub record IsSelected (a : Activity) (seat : ℕ) : Type 0 where
+  pub runner : a.reach.runner ≡ seat + 1
+  pub registers : a.reach.registers ≡ (live_in a seat).registers
+
+-- what a seat has, over committed bytes
+abbrev pub plain_in : Activity → (seat : ℕ) → (committed : List ℕ) → Plain
+plain_in a seat committed = plain_over committed (live_in a seat).cpu a.reach (live_in a seat).out
+
+-- the row took effect: only what runs in the seat, and bytes and marks of frames, are others
+pub record TookEffect (a : Activity) (seat : ℕ) (after : Activity) : Type 0 where
+  pub shape : after ≡ executed a seat (live_in after seat) after.reach.pool.bytes after.reach.pool.marked
+  pub went : (committed : List ℕ) → length committed ≡ byte_count a.reach.directory → IsClean a.reach.directory a.reach.pool committed
+      → HasExecuted a seat (live_in after seat) after.reach.pool.bytes after.reach.pool.marked committed
+
+-- nothing changed, and the row comes to this
+abbrev pub CameTo : Outcome → Activity → (seat : ℕ) → (after : Activity) → Type 0
+CameTo outcome a seat after =
+    (after ≡ a) × ((committed : List ℕ) → length committed ≡ byte_count a.reach.directory → row (program_in a seat) a.reach.directory (plain_in a seat committed) ≡ outcome)
+
+-- the next row goes on, but a line of its access isn't open
+pub record IsShut (a : Activity) (seat : ℕ) (access : Access) : Type 0 where
+  pub some : 0 < access.bytes
+  pub few : access.bytes ≤ 64
+  pub shut : (committed : List ℕ) → length committed ≡ byte_count a.reach.directory → IsShutOut (program_in a seat) a.reach (plain_in a seat committed) access
+
+-- the next row goes on, whatever is committed, and touches these lines
+pub record WillTouch (a : Activity) (seat : ℕ) (wants : List Want) : Type 0 where
+  pub goes : (committed : List ℕ) → length committed ≡ byte_count a.reach.directory → (next : Plain) × (row (program_in a seat) a.reach.directory (plain_in a seat committed) ≡ On next)
+  pub touches : (committed : List ℕ) → length committed ≡ byte_count a.reach.directory → touched (program_in a seat) a.reach.directory (plain_in a seat committed) ≡ lines_wanted wants
+
+-- the next row is the commit call or a check
+abbrev pub IsStopped : Activity → (seat : ℕ) → Type 0
+IsStopped a seat =
+    (committed : List ℕ) → length committed ≡ byte_count a.reach.directory
+    → (row (program_in a seat) a.reach.directory (plain_in a seat committed) ≡ Commit)
+    ⊎ ((code : ℕ) × (row (program_in a seat) a.reach.directory (plain_in a seat committed) ≡ Check code))
+
+-- what an attempt came to
+abbrev pub WasAttempted : Attempt → Activity → (seat : ℕ) → (after : Activity) → Type 0
+WasAttempted Attempt.Went a seat after = TookEffect a seat after
+WasAttempted (Attempt.Print byte) a seat after = TookEffect a seat after
+WasAttempted Attempt.Commit a seat after = CameTo Commit a seat after
+WasAttempted (Attempt.Check code) a seat after = CameTo (Check code) a seat after
+WasAttempted (Attempt.Fault fault access) a seat after =
+    (after ≡ a) × IsShut a seat access
+
+-- what is printed after an attempt
+abbrev pub printed_after : Attempt → List ℕ → List ℕ
+printed_after (Attempt.Print byte) out = out ++ byte ∷ []
+printed_after _ out = out
+
+-- the seat's processor and the unit after an attempt
+abbrev pub attempted : Activity → (seat : ℕ) → Attempt → Cpu → Reach → Activity
+attempted a seat attempt cpu new =
+    record a { live = slice_set a.live seat (record (live_in a seat) { cpu = cpu; out = printed_after attempt (live_in a seat).out }); reach = new }
+
+-- So many rows of who sits in a seat took effect one after another, and aren't counted. Where the desk is followed with as many
+-- counted as went before, it is followed with them too, and a turn that has come so far comes so much farther.
+pub record Strode (a : Activity) (seat rows : ℕ) (after : Activity) : Type 0 where
+  pub seating : after.seating ≡ a.seating
+  pub follows : (committed : List ℕ) (before : ℕ) → KeepsDesk (counted a seat before) committed → KeepsDesk (counted after seat (before + rows)) committed
+  pub turns : (word : Word) (committed : List ℕ) (order : List (ℕ × ℕ)) (before left : ℕ) (counts : Counts) → KeepsDesk (counted a seat before) committed
+      → turns word (number_in a.seating seat) (rows + left) (Going (desk_over (counted a seat before) committed order) counts)
+      ≡ turns word (number_in a.seating seat) left (Going (desk_over (counted after seat (before + rows)) committed order) (record counts { ran = counts.ran + rows }))
 
 -- in each seat at most so many rows were done
 abbrev pub AreRowsWithin : Activity → (rows : ℕ) → Type 0

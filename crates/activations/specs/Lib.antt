@@ -3,11 +3,8 @@ pub mod Activity
 pub mod Follows
 pub mod Kept
 pub mod Steps
-pub mod Attempted
 pub mod Serving
 pub mod Turning
-pub mod View
 pub mod Begins
-pub mod Fetching
 pub mod Recorded
 pub mod Stages

@@ -28,7 +28,7 @@ use Rattle.frame_pool.specs.declared.model.Pool.{Pool}
 use Rattle.seats.specs.Waiting.{holders, AreOfPage}
 use Rattle.storage_unit.specs.Laws.{Keeps}
 use Rattle.activations.specs.declared.live.Live.{Live}
-use Rattle.activations.specs.Attempted.{plain_in}
+use Rattle.activations.specs.Kept.{plain_in}
 use Rattle.activations.specs.Steps.{counted, executed, with_pool, rolled, IsMoved, RollsBack, HasExecuted}
 
 -- These are the pages of an attempt whose authority refused it once, and of those that it owned then the authority is as it was.
@@ -93,6 +93,13 @@ pages_lowered a seat wants = pages_wanted (filter (λ want. not (length want.wri
 -- The write bits of pages go off one after another, as a row of who sits in a seat took effect.
 abbrev pub AreLowered : Activity → (seat : ℕ) → (pages : List ℕ) → (old new : List Authority) → Type 0
 AreLowered a seat pages old new = AreSet (authority_to_read a seat) pages old new
+
+-- pages are granted to a seat whose row has these wants, and the fine ones that it stored into are lowered
+abbrev pub Grants : (seat : ℕ) → List Want → (pages : List ℕ) → (old new : Activity) → Type 0
+Grants seat wants pages old new = AreGranted old seat wants pages old.reach.entries new.reach.entries
+
+abbrev pub Lowers : (seat : ℕ) → List Want → (old new : Activity) → Type 0
+Lowers seat wants old new = AreLowered old seat (pages_lowered old seat wants) old.reach.entries new.reach.entries
 
 -- the entries of the pages are others
 abbrev pub with_entries : Activity → (entries : List Authority) → Activity

@@ -29,7 +29,7 @@ use Rattle.romp_cpu.specs.declared.storage.Access.{Access}
 use Rattle.desk.specs.Holdings.{wanted}
 use Rattle.desk_law.specs.Beside.{Reads, over_all}
 use Rattle.activations.specs.declared.instructions.Went.{Went}
-use Rattle.activations.specs.Attempted.{IsShut}
+use Rattle.activations.specs.Kept.{IsShut}
 use Rattle.desk.specs.declared.answers.TurnEnd.TheVariants as end
 use Rattle.desk.specs.Instruction as desk
 use Rattle.activations.specs.declared.instructions.Went.TheVariants as went

@@ -33,7 +33,7 @@ pub struct Activations {
 impl Activations {
     ghost use Rattle.activations.specs.Begins.{idle, begins, Begins, IsBegin};
     ghost use Rattle.activations.specs.Follows.{IsSound, KeepsDesk};
-    ghost use Rattle.activations.specs.View.{activity_of};
+    ghost use Rattle.activations.specs.Activity.{activity_of};
 
     /// Nobody runs, over a store with this header and so many frames for its pages. Any of these programs may begin. It
     /// takes all the memory that it will need.

@@ -13,7 +13,7 @@ impl Activations {
     ghost use Rattle.activations.specs.Follows.{IsSound};
     ghost use Rattle.activations.specs.Kept.{StandsStill};
     ghost use Rattle.activations.specs.Stages.{CountsCycles, EndsContest, KeepsSound};
-    ghost use Rattle.activations.specs.View.{activity_of};
+    ghost use Rattle.activations.specs.Activity.{activity_of};
     ghost use Rattle.activations.specs.Turning.{Settles};
     ghost use Rattle.seats.specs.declared.request.Request.{Request};
     ghost use Rattle.seats.specs.Seating.{number_in, sitter};

@@ -4,7 +4,7 @@ ghost use Rattle.lines.specs.Directory.{page_count};
 ghost use Rattle.lines.specs.Sets.{has};
 ghost use Rattle.seats.specs.Holding.{IsWhole};
 ghost use Rattle.storage_unit.specs.View.{reach_of};
-ghost use Rattle.activations.specs.Steps.{HasUndone, HasSettled};
+ghost use Rattle.activations.specs.Steps.{HasUndone, HasSettled, IsDeserted, IsRestarted, reprinted, rolled, vacated, IsRolledBack, IsCommitted, IsUndone, AreSettled};
 
 use super::activations::Activations;
 use arrayvec::ArrayVec;
@@ -14,11 +14,9 @@ use std::mem::swap;
 use storage_unit::Unit;
 
 impl Activations {
-    ghost use Rattle.activations.specs.Activity.{live_in};
-    ghost use Rattle.activations.specs.Steps.{IsDeserted, IsRestarted, reprinted, rolled, vacated, IsRolledBack, IsCommitted};
+    ghost use Rattle.activations.specs.Activity.{live_in, activity_of};
     ghost use Rattle.seats.specs.Seating.{numbers, seat_of, sitter};
     ghost use Rattle.activations.specs.Follows.{IsSound, KeepsDesk};
-    ghost use Rattle.activations.specs.View.{activity_of};
 
     /// Who sits in a seat is rolled back: the pages that he wrote into go out, and the lines that he wrote are forgotten.
     pub fn roll_back(&mut self, seat: u8)
@@ -26,7 +24,7 @@ impl Activations {
         requires taken { has (activity_of self.old).seating.taken seat ≡ true }
         ensures shape { activity_of self.new ≡ rolled (activity_of self.old) seat (activity_of self.new).reach.pool }
         ensures sound { IsSound (activity_of self.new) }
-        ensures undone { HasUndone (activity_of self.old).seating.holding seat (activity_of self.old).reach (record (activity_of self.old).reach { pool = (activity_of self.new).reach.pool }) }
+        ensures undone { IsUndone (activity_of self.old) seat (activity_of self.new).reach.pool }
         ensures rolls { IsRolledBack (activity_of self.old) seat (activity_of self.new).reach.pool }
     {
         self.end(seat, false);
@@ -100,8 +98,8 @@ impl Activations {
         requires taken { has (activity_of self.old).seating.taken seat ≡ true }
         ensures shape { activity_of self.new ≡ rolled (activity_of self.old) seat (activity_of self.new).reach.pool }
         ensures sound { IsSound (activity_of self.new) }
-        ensures undone { committed ≡ false → HasUndone (activity_of self.old).seating.holding seat (activity_of self.old).reach (record (activity_of self.old).reach { pool = (activity_of self.new).reach.pool }) }
-        ensures settled { committed ≡ true → HasSettled (activity_of self.old).seating.holding seat (activity_of self.old).reach (record (activity_of self.old).reach { pool = (activity_of self.new).reach.pool }) }
+        ensures undone { committed ≡ false → IsUndone (activity_of self.old) seat (activity_of self.new).reach.pool }
+        ensures settled { committed ≡ true → AreSettled (activity_of self.old) seat (activity_of self.new).reach.pool }
     {
         end_written(&self.seats, &mut self.unit, seat, committed);
         self.leave(seat);

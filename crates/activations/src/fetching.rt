@@ -8,8 +8,8 @@ ghost use Rattle.outside.specs.Runs.{OnlyAsks};
 ghost use Rattle.store.specs.Held.{HoldsAtLeast};
 ghost use Rattle.store_format.specs.Header.{total};
 ghost use Rattle.storage_unit.specs.View.{reach_of};
-ghost use Rattle.activations.specs.Fetching.{IsIn, IsUnread, KeepsStore};
-ghost use Rattle.activations.specs.Steps.{IsMoved};
+ghost use Rattle.activations.specs.Stages.{IsIn, IsUnread, KeepsStore, CanFetch, CountsPages, Fetches};
+ghost use Rattle.activations.specs.Steps.{IsMoved, with_pool};
 ghost use Rattle.activations.specs.Touched.{AreWanted, wants_of, pages_wanted};
 
 use super::activations::Activations;
@@ -22,9 +22,7 @@ use store::Durable;
 
 impl Activations {
     ghost use Rattle.activations.specs.Follows.{IsSound};
-    ghost use Rattle.activations.specs.Stages.{CanFetch, CountsPages, Fetches};
-    ghost use Rattle.activations.specs.Steps.{with_pool};
-    ghost use Rattle.activations.specs.View.{activity_of};
+    ghost use Rattle.activations.specs.Activity.{activity_of};
 
     /// Brings in the pages of a touch that aren't resident, the first before the second, and counts each. The other page of
     /// the touch stays.

@@ -14,8 +14,8 @@ use seats::{Request, Want};
 
 impl Activations {
     ghost use Rattle.activations.specs.Follows.{IsSound};
-    ghost use Rattle.activations.specs.Serving.{AreGranted, AreLowered, locked, pages_lowered, with_entries};
-    ghost use Rattle.activations.specs.View.{activity_of};
+    ghost use Rattle.activations.specs.Serving.{AreGranted, locked, with_entries, Grants, Lowers};
+    ghost use Rattle.activations.specs.Activity.{activity_of};
 
     /// What a touch asks for.
     #[inline(always)]
@@ -49,7 +49,7 @@ impl Activations {
         requires pages { AreWithin (page_count (activity_of self.old).reach.directory) (wants_of touch.now) }
         requires once { AreDistinct (pages_wanted (wants_of touch.now)) }
         ensures shape { activity_of self.new ≡ with_entries (activity_of self.old) (activity_of self.new).reach.entries }
-        ensures granted { AreGranted (activity_of self.old) seat (wants_of touch.now) (pages_picked touch.now picked) (activity_of self.old).reach.entries (activity_of self.new).reach.entries }
+        ensures granted { Grants seat (wants_of touch.now) (pages_picked touch.now picked) (activity_of self.old) (activity_of self.new) }
     {
         match touch {
             Touch::Nothing => {}
@@ -68,7 +68,7 @@ impl Activations {
         requires same { (activity_of self.old).seating.holding.pages ≡ page_count (activity_of self.old).reach.directory }
         requires page { want.now.page < page_count (activity_of self.old).reach.directory }
         ensures shape { activity_of self.new ≡ with_entries (activity_of self.old) (activity_of self.new).reach.entries }
-        ensures granted { AreGranted (activity_of self.old) seat (want.now ∷ []) (page_if picked want.now.page) (activity_of self.old).reach.entries (activity_of self.new).reach.entries }
+        ensures granted { Grants seat (want.now ∷ []) (page_if picked want.now.page) (activity_of self.old) (activity_of self.new) }
     {
         if picked {
             self.grant(seat, want);
@@ -82,7 +82,7 @@ impl Activations {
         requires same { (activity_of self.old).seating.holding.pages ≡ page_count (activity_of self.old).reach.directory }
         requires page { want.now.page < page_count (activity_of self.old).reach.directory }
         ensures shape { activity_of self.new ≡ with_entries (activity_of self.old) (activity_of self.new).reach.entries }
-        ensures granted { AreGranted (activity_of self.old) seat (want.now ∷ []) (want.now.page ∷ []) (activity_of self.old).reach.entries (activity_of self.new).reach.entries }
+        ensures granted { Grants seat (want.now ∷ []) (want.now.page ∷ []) (activity_of self.old) (activity_of self.new) }
     {
         let (reads, writes) = self.seats.locks().held(seat, want.page);
         let entry = if self.directory.is_fine(want.page) {
@@ -101,7 +101,7 @@ impl Activations {
         requires same { (activity_of self.old).seating.holding.pages ≡ page_count (activity_of self.old).reach.directory }
         requires pages { AreWithin (page_count (activity_of self.old).reach.directory) (wants_of touch.now) }
         ensures shape { activity_of self.new ≡ with_entries (activity_of self.old) (activity_of self.new).reach.entries }
-        ensures lowered { AreLowered (activity_of self.old) seat (pages_lowered (activity_of self.old) seat (wants_of touch.now)) (activity_of self.old).reach.entries (activity_of self.new).reach.entries }
+        ensures lowered { Lowers seat (wants_of touch.now) (activity_of self.old) (activity_of self.new) }
     {
         match touch {
             Touch::Nothing => {}
@@ -120,7 +120,7 @@ impl Activations {
         requires same { (activity_of self.old).seating.holding.pages ≡ page_count (activity_of self.old).reach.directory }
         requires page { want.now.page < page_count (activity_of self.old).reach.directory }
         ensures shape { activity_of self.new ≡ with_entries (activity_of self.old) (activity_of self.new).reach.entries }
-        ensures lowered { AreLowered (activity_of self.old) seat (pages_lowered (activity_of self.old) seat (want.now ∷ [])) (activity_of self.old).reach.entries (activity_of self.new).reach.entries }
+        ensures lowered { Lowers seat (want.now ∷ []) (activity_of self.old) (activity_of self.new) }
     {
         if want.writes.is_empty() {
             return;

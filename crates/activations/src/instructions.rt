@@ -1,9 +1,8 @@
 // One instruction of who sits in a seat: it takes effect, once its access has been served where it must be.
-ghost use Rattle.std.specs.Prelude.{◌≡◌, ◌+◌, ◌<◌, ◌≤◌, ◌^◌, ℕ, List, true, length, IfErr, IfOk, OnOk};
+ghost use Rattle.std.specs.Prelude.{◌≡◌, ◌+◌, ◌<◌, ◌≤◌, ◌^◌, true, length, IfErr, IfOk, OnOk};
 ghost use Rattle.arrayvec.specs.ArrayVec.{array_vec_len};
 ghost use Rattle.lines.specs.Sets.{has};
 ghost use Rattle.outside.specs.Runs.{OnlyAsks};
-ghost use Rattle.desk.specs.Instruction.{Word, Turning, Counts};
 ghost use Rattle.desk.specs.declared.answers.TurnEnd.TheVariants as end;
 ghost use Rattle.seats.specs.Flat.{lines_wanted};
 ghost use Rattle.storage_unit.specs.Rows.{IsOpen};
@@ -27,15 +26,12 @@ pub enum Went {
 }
 
 impl Activations {
-    ghost use Rattle.activations.specs.Activity.{live_in};
-    ghost use Rattle.activations.specs.Stages.{IsNoLimit, CanFetch, CanServe, CountsCycles, CountsOne, CountsPages, EndsByDisk, EndsContest, EndsRows, HasFetched, HasRoom, KeepsAll, KeepsSound, StaysCalm, Instructs, SettlesAsked, ServesFree, EndsChecked};
-    ghost use Rattle.activations.specs.Attempted.{IsSelected, IsShut, WillTouch};
-    ghost use Rattle.activations.specs.Fetching.{HasBrokenOff};
+    ghost use Rattle.activations.specs.Activity.{live_in, activity_of};
+    ghost use Rattle.activations.specs.Stages.{IsNoLimit, CanFetch, CanServe, CountsCycles, CountsOne, CountsPages, EndsByDisk, EndsContest, EndsRows, HasFetched, HasRoom, KeepsAll, KeepsSound, StaysCalm, Instructs, SettlesAsked, ServesFree, EndsChecked, GoesServed, HasBrokenOff};
+    ghost use Rattle.activations.specs.Kept.{IsSelected, IsShut, WillTouch, KeepsParts, StandsStill, StaysSeated};
     ghost use Rattle.activations.specs.Follows.{IsSound};
-    ghost use Rattle.activations.specs.Turning.{GoesUncounted, IsInstruction, IsServed, Prepares, IsStep, MayBeShut};
-    ghost use Rattle.activations.specs.Kept.{KeepsParts, StandsStill, StaysSeated};
+    ghost use Rattle.activations.specs.Turning.{IsInstruction, Prepares, IsStep, MayBeShut};
     ghost use Rattle.activations.specs.Steps.{rolled, with_pool};
-    ghost use Rattle.activations.specs.View.{activity_of};
     ghost use Rattle.seats.specs.Seating.{number_in};
 
     /// The next instruction of who sits in a seat, which is selected. Its access may be known already not to be permitted. A
@@ -251,7 +247,7 @@ impl Activations {
         ensures sound { IsSound (activity_of self.new) }
         ensures parts { KeepsParts (activity_of self.old) (activity_of self.new) 0 }
         ensures stays { StaysSeated (activity_of self.old) (activity_of self.new) seat }
-        ensures went { (begins : Word → Turning) (committed : List ℕ) (order : List (ℕ × ℕ)) (counts : Counts) → IsServed begins (activity_of self.old) seat (wants_of touch.now) committed order counts → GoesUncounted begins (activity_of self.new) seat committed order counts }
+        ensures went { GoesServed seat (wants_of touch.now) (activity_of self.old) (activity_of self.new) }
     {
         self.execute(seat);
         self.lower(seat, touch);

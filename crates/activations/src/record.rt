@@ -8,7 +8,7 @@ ghost use Rattle.seats.specs.Holding.{of_seat};
 ghost use Rattle.frame_pool.specs.View.{pool_of};
 ghost use Rattle.store_format.specs.Header.{most_lines};
 ghost use Rattle.store.specs.Kept.{begun_of};
-ghost use Rattle.activations.specs.Recorded.{with_lines};
+ghost use Rattle.activations.specs.Recorded.{with_lines, IsRecordOf, LeavesCommitted, HasWritten};
 
 use super::activations::Activations;
 use super::touch::Touch;
@@ -18,12 +18,11 @@ use lines::LineSet;
 use store::Durable;
 
 impl Activations {
-    ghost use Rattle.activations.specs.Activity.{locks_in};
+    ghost use Rattle.activations.specs.Activity.{locks_in, activity_of};
     ghost use Rattle.activations.specs.Follows.{IsSound, KeepsDesk};
-    ghost use Rattle.activations.specs.Recorded.{IsRecordOf, LeavesCommitted, HasWritten};
     ghost use Rattle.store.specs.KeptStore.{with_begun};
     ghost use Rattle.activations.specs.Steps.{rolled};
-    ghost use Rattle.activations.specs.View.{activity_of};
+    ghost use Rattle.activations.specs.Stages.{IsOver};
 
     /// Begins a record of the lines that who sits in a seat holds to write, ascending, with the bytes that all see there.
     ///
@@ -43,7 +42,7 @@ impl Activations {
         ensures count { OnOk result (length (begun_of store.new.bank) ≡ write_count (of_seat (activity_of self.old).seating.holding seat)) }
         ensures few { OnOk result (length (begun_of store.new.bank) ≤ (activity_of self.old).most_lines) }
         ensures laid { OnOk result (LeavesCommitted (activity_of self.old) seat (begun_of store.new.bank)) }
-        ensures journal { IfErr result (λ end. (end ≡ TurnEnd.Journal (write_count (of_seat (activity_of self.old).seating.holding seat)) (activity_of self.old).most_lines) × ((activity_of self.old).most_lines < write_count (of_seat (activity_of self.old).seating.holding seat))) }
+        ensures journal { IfErr result (IsOver (write_count (of_seat (activity_of self.old).seating.holding seat)) (activity_of self.old).most_lines) }
         ensures rolled { OnErr result (activity_of self.new ≡ rolled (activity_of self.old) seat (activity_of self.new).reach.pool) }
         ensures unwritten { OnErr result (store.new ≡ store.old) }
         ensures never { (committed : List ℕ) → KeepsDesk (activity_of self.old) committed → IsOk result }

@@ -1,8 +1,7 @@
 // Rows that need nobody else: an attempt, and a run of them.
 ghost use Rattle.std.specs.Prelude.{◌≡◌, ◌≤◌, ◌<◌, ℕ, true, Some, None};
-ghost use Rattle.activations.specs.Activity.{Activity};
-ghost use Rattle.activations.specs.Attempted.{WasAttempted, IsShut, IsStopped};
-ghost use Rattle.activations.specs.Kept.{HasStrode, RunsAt, standing, with_live};
+ghost use Rattle.activations.specs.Activity.{Activity, activity_of};
+ghost use Rattle.activations.specs.Kept.{WasAttempted, IsShut, IsStopped, HasStrode, RunsAt, standing, with_live, KeepsParts, IsSelected, Strode};
 ghost use Rattle.activations.specs.Follows.{IsSound};
 ghost use Rattle.storage_unit.specs.View.{reach_of};
 ghost use Rattle.lines.specs.Sets.{has};
@@ -13,10 +12,6 @@ use romp_cpu::{Access, Attempt};
 use storage_unit::Unit;
 
 impl Activations {
-    ghost use Rattle.activations.specs.Kept.{KeepsParts};
-    ghost use Rattle.activations.specs.Attempted.{IsSelected, Strode};
-    ghost use Rattle.activations.specs.View.{activity_of};
-
     /// The processor in a seat, which is selected, attempts its next instruction; a byte that it prints is kept.
     #[inline(always)]
     pub fn execute(&mut self, seat: u8) -> Attempt

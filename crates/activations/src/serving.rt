@@ -14,7 +14,7 @@ use page_table::Authority;
 use seats::Want;
 
 impl Activations {
-    ghost use Rattle.activations.specs.View.{activity_of};
+    ghost use Rattle.activations.specs.Activity.{activity_of};
 
     /// Of the first and the second page of a touch, whether its entry refuses who sits in a seat a line of it.
     #[inline(always)]

@@ -21,12 +21,11 @@ use seats::Want;
 use storage_unit::PRIVATE;
 
 impl Activations {
-    ghost use Rattle.activations.specs.Activity.{live_in, program_in};
+    ghost use Rattle.activations.specs.Activity.{live_in, program_in, activity_of};
     ghost use Rattle.activations.specs.Follows.{IsSound};
     ghost use Rattle.activations.specs.Serving.{lines_with};
     ghost use Rattle.activations.specs.Steps.{rolled};
-    ghost use Rattle.activations.specs.View.{activity_of};
-    ghost use Rattle.activations.specs.Stages.{EndsServing};
+    ghost use Rattle.activations.specs.Stages.{EndsServing, IsOver};
 
     /// The lines of the store that an access of who sits in a seat touches.
     #[inline(always)]
@@ -72,7 +71,7 @@ impl Activations {
         requires wanted { AreWanted (activity_of self.old).reach.directory (wants_of touch.now) }
         ensures sound { IsSound (activity_of self.new) }
         ensures kept { OnOk result ((activity_of self.new ≡ activity_of self.old) × (nat_lt (activity_of self.old).most_lines (lines_with (activity_of self.old) seat (wants_of touch.now)) ≡ false)) }
-        ensures journal { IfErr result (λ end. (end ≡ TurnEnd.Journal (lines_with (activity_of self.old) seat (wants_of touch.now)) (activity_of self.old).most_lines) × ((activity_of self.old).most_lines < lines_with (activity_of self.old) seat (wants_of touch.now))) }
+        ensures journal { IfErr result (IsOver (lines_with (activity_of self.old) seat (wants_of touch.now)) (activity_of self.old).most_lines) }
         ensures rolled { IfErr result (λ end. activity_of self.new ≡ rolled (activity_of self.old) seat (activity_of self.new).reach.pool) }
         ensures over { IfErr result (EndsServing seat (wants_of touch.now) (activity_of self.old) (activity_of self.new)) }
     {

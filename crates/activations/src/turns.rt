@@ -12,13 +12,12 @@ use romp_cpu::Access;
 use store::Durable;
 
 impl Activations {
-    ghost use Rattle.activations.specs.Attempted.{IsSelected};
+    ghost use Rattle.activations.specs.Kept.{IsSelected, KeepsParts, AreRowsWithin, StaysSeated};
     ghost use Rattle.activations.specs.Stages.{IfLimit, CanFetch, CanServe, CountsPages, EndsByDisk, EndsRows, KeepsAll, StaysCalm, Turns, KeepsTurning, GoesFar};
     ghost use Rattle.activations.specs.Follows.{IsSound};
-    ghost use Rattle.activations.specs.Kept.{KeepsParts, AreRowsWithin, StaysSeated};
     ghost use Rattle.activations.specs.Steps.{counted};
     ghost use Rattle.activations.specs.Turning.{MayBeShut, selected_in};
-    ghost use Rattle.activations.specs.View.{activity_of};
+    ghost use Rattle.activations.specs.Activity.{activity_of};
     ghost use Rattle.seats.specs.Seating.{number_in};
 
     /// The rows of a turn of who sits in a seat, at most so many, up to his commit call. Nothing was counted before.

@@ -3,7 +3,7 @@ use Rattle.supervisor.proofs.Common.{arith, ap, sym, ◌∙◌, subst, inl, inr,
 use Rattle.supervisor.proofs.DidLemmas.{asked-stands, over-other}
 use Rattle.desk_law.proofs.Entries.{found-among}
 use Rattle.desk_law.proofs.InstructionStages.{reads-all}
-use Rattle.activations.specs.Fetching.{IsStoreOf}
+use Rattle.activations.specs.Stages.{IsStoreOf}
 use Rattle.activations.specs.Serving.{ComesToEnd as IsOverTurn}
 use Rattle.desk.specs.declared.answers.TurnEnd.TheVariants as end
 use Rattle.desk.specs.declared.event.Event.TheVariants as event

@@ -6,10 +6,9 @@ use Rattle.desk.specs.Answers.{order_told}
 use Rattle.desk.specs.Calls.{Fixed}
 use Rattle.desk.specs.Desk.{Desk}
 use Rattle.desk.specs.Told.{Told}
-use Rattle.activations.specs.Activity.{Activity, desk_over}
+use Rattle.activations.specs.Activity.{Activity, desk_over, activity_of}
 use Rattle.activations.specs.Follows as running
 use Rattle.activations.specs.Kept.{AreRowsWithin}
-use Rattle.activations.specs.View.{activity_of}
 use Rattle.supervisor.specs.declared.session.Session.{Session}
 
 -- what runs in it

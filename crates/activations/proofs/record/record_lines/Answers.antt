@@ -1,5 +1,4 @@
-use Rattle.activations.proofs.Lemmas.{page_count, line_bytes, LinesOf, pool_of, pool-seen, Header, record_bytes, begun_of, with_line, KeptStore, ◌+◌, ◌*◌, ◌≤◌, ℕ, List, length, sym, ◌∙◌, ap, subst, arith, Adds, adds-all, adds-none, adds-next, adds-one, next-line, next-above, next-room}
-use Rattle.activations.proofs.RecordedLemmas.{shown-long}
+use Rattle.activations.proofs.Lemmas.{page_count, line_bytes, LinesOf, pool_of, pool-seen, Header, record_bytes, begun_of, with_line, KeptStore, ◌+◌, ◌*◌, ◌≤◌, ℕ, List, length, sym, ◌∙◌, ap, subst, arith, Adds, adds-all, adds-none, adds-next, adds-one, next-line, next-above, next-room, shown-long}
 use Rattle.activations.proofs.PoolLemmas.{lines-fit}
 use Rattle.activations.proofs.record.record_lines.Goals as goal
 

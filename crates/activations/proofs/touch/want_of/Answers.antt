@@ -1,5 +1,4 @@
-use Rattle.activations.proofs.Lemmas.{sym, ◌∙◌, ap, sets-one, rules, ◌≡◌}
-use Rattle.activations.proofs.TouchingLemmas.{sets_between, one-page}
+use Rattle.activations.proofs.Lemmas.{sym, ◌∙◌, ap, sets-one, rules, ◌≡◌, sets_between, one-page}
 use Rattle.activations.proofs.touch.want_of.Goals.{then-store, else-store}
 use Rattle.activations.proofs.touch.want_of.Goals as goal
 

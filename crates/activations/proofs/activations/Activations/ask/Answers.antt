@@ -1,6 +1,5 @@
-use Rattle.activations.proofs.Lemmas.{Seating, sitter, holders, desk_over, IsSound, KeepsParts, StandsStill, IsContested, tally_counts, activity_of, wants_of, taken-below, ℕ, IsSome, ap, sym, ◌∙◌, subst, EndsContest, keeps-two, still-on, ok-then, some-holders}
+use Rattle.activations.proofs.Lemmas.{Seating, sitter, holders, desk_over, IsSound, KeepsParts, StandsStill, IsContested, tally_counts, activity_of, wants_of, taken-below, ℕ, IsSome, ap, sym, ◌∙◌, subst, EndsContest, keeps-two, still-on, ok-then, some-holders, asked-within, sound-asking, asks-now, keeps-asking, still-asking, asked-whole}
 use Rattle.std.specs.Result.{IfErr}
-use Rattle.activations.proofs.GetLemmas.{asked-within, sound-asking, asks-now, keeps-asking, still-asking, asked-whole}
 use Rattle.activations.proofs.activations.Activations.ask.Goals as goal
 
 pub holders-requires : goal.holders-requires

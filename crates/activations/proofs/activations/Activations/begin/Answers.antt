@@ -54,8 +54,7 @@ returns-clause-left c =
     is-code a.programs c.args.program c.from.result c.index-code.result.now c.requires.known c.from.ensures c.index-code.ensures in
     let registers_are : c.registers_of-registers.result ≡ (started a c.args.program c.args.args c.in-Some-sit.seat).registers =
     c.registers_of-registers.ensures ∙ (λ i. registers_of_program (code_is i) (sym c.args.self.now.same i) (3840 + c.from-2.ensures i)) in
-    let start_is : c.start.new.self ≡ started a c.args.program c.args.args c.in-Some-sit.seat =
-    c.start.ensures
+    let start_is : c.start.new.self ≡ started a c.args.program c.args.args c.in-Some-sit.seat = c.start.ensures
     ∙ (λ i. record { cpu = record { regs = first_registers c.args.args; cs = clear; iar = (code_is i).entry; printed = 0 }; registers = registers_are i; out = [] }) in
     let reach_is : reach_of c.begin.new.self ≡ begun a.reach c.in-Some-sit.seat (program_at a.programs c.args.program).image =
     c.begin.ensures ∙ ap (begun a.reach c.in-Some-sit.seat) (c.as_slice.ensures ∙ ap (λ (p : Program). p.image) code_is) in

@@ -1,6 +1,5 @@
-use Rattle.activations.proofs.Lemmas.{refl, Result, sym, ◌∙◌, subst, TurnEnd, Activity, Tally, IsTurning, ComesBack, HasEnded, HasBroken, wants_of, instruction_in, with_pool, tally_counts, activity_of, keeps-broke, is-to-serve, prepare-broke, handed, turn-ends}
+use Rattle.activations.proofs.Lemmas.{refl, Result, sym, ◌∙◌, subst, TurnEnd, Activity, Tally, IsTurning, ComesBack, HasEnded, HasBroken, wants_of, instruction_in, with_pool, tally_counts, activity_of, keeps-broke, is-to-serve, prepare-broke, handed, turn-ends, under, turn-back}
 use Rattle.desk.specs.declared.answers.TurnEnd.TheVariants as end
-use Rattle.activations.proofs.StartLemmas.{under, turn-back}
 use Rattle.activations.proofs.activations.Activations.come_back.Goals as goal
 
 pub returns-in_err-bring-clause-keeps : goal.returns-in_err-bring-clause-keeps

@@ -1,5 +1,4 @@
-use Rattle.activations.proofs.Lemmas.{rules, ◌∙◌, IsMoved, IsOpen, WillTouch, lines_wanted, with_pool, got-open, got-touch, ok-both, has, page_count, Counts, Activity, IsSound, Serves, locked, pages_picked, pages_wanted, wants_of, tally_counts, activity_of, ◌≡◌, ◌<◌, ℕ, true, length, sym, ap, subst, EndsByDisk, granted-same}
-use Rattle.activations.proofs.GetLemmas.{picked-below, served-so, broken-so, serves-by, parts-by}
+use Rattle.activations.proofs.Lemmas.{rules, ◌∙◌, IsMoved, IsOpen, WillTouch, lines_wanted, with_pool, got-open, got-touch, ok-both, has, page_count, Counts, Activity, IsSound, Serves, locked, pages_picked, pages_wanted, wants_of, tally_counts, activity_of, ◌≡◌, ◌<◌, ℕ, true, length, sym, ap, subst, EndsByDisk, granted-same, picked-below, served-so, broken-so, serves-by, parts-by}
 use Rattle.activations.proofs.activations.Activations.get.Goals as goal
 
 pub returns : goal.returns

@@ -1,6 +1,5 @@
-use Rattle.activations.proofs.Lemmas.{EndsRows, check-named, number_in, TurnEnd, Check, row, Activity, program_in, IsSelected, WasAttempted, plain_in, KeepsDesk, GoesUncounted, instruction_in, HasEnded, tally_counts, IsStep, activity_of, asks_none, refl, ◌≡◌, Result, arith, sym, subst, took-either, keeps-took, keeps-checked, handed, IsNoLimit}
+use Rattle.activations.proofs.Lemmas.{EndsRows, check-named, number_in, TurnEnd, Check, row, Activity, program_in, IsSelected, WasAttempted, plain_in, KeepsDesk, GoesUncounted, instruction_in, HasEnded, tally_counts, IsStep, activity_of, asks_none, refl, ◌≡◌, Result, arith, sym, subst, took-either, keeps-took, keeps-checked, handed, IsNoLimit, row-goes, at-commit}
 use Rattle.romp_cpu.specs.declared.cpu.Attempt.{Attempt}
-use Rattle.activations.proofs.ExecuteLemmas.{row-goes, at-commit}
 use Rattle.activations.proofs.activations.Activations.instruct.Goals as goal
 
 pub returns-in_err-serve-clause-step : goal.returns-in_err-serve-clause-step

@@ -1,5 +1,5 @@
 use Rattle.activations.proofs.Common.{page_count, byte_count, nobody_sits, List, ℕ, length, opened, most_lines, Activity, Begins, IsSound, sym, ap, ◌∙◌, arith, subst, ◌≡◌}
-use Rattle.activations.proofs.IdleLemmas.{sound-idle, desk-idle, follows-idle}
+use Rattle.activations.proofs.EndingLemmas.{sound-idle, desk-idle, follows-idle}
 use Rattle.activations.proofs.activations.Activations.new.Goals as goal
 
 pub returns-clause-idle : goal.returns-clause-idle

@@ -1,5 +1,4 @@
-use Rattle.activations.proofs.Common.{rules, nat_lt, nat_tests, TurnEnd, begun_of, KeptStore, taken-below, unit-sound, Activity, HasWritten, activity_of, ◌≡◌, ◌≤◌, ◌∙◌, ℕ, false, ap, subst, arith}
-use Rattle.activations.proofs.RecordedLemmas.{with-none, never-more, is-record, record-count, record-leaves}
+use Rattle.activations.proofs.Lemmas.{rules, nat_lt, nat_tests, TurnEnd, begun_of, KeptStore, taken-below, unit-sound, Activity, HasWritten, activity_of, ◌≡◌, ◌≤◌, ◌∙◌, ℕ, false, ap, subst, arith, with-none, never-more, is-record, record-count, record-leaves}
 use Rattle.activations.proofs.activations.Activations.record.Goals as goal
 
 -- where so many lines aren't over the most, these aren't

@@ -1,5 +1,4 @@
-use Rattle.activations.proofs.Lemmas.{unwrap_or, Option, Some, ◌++◌, take_all, Layout, page_count, holds_some, Holding, held_at, flat_lines, Pool, begun_of, KeptStore, RecordLine, most_lines, unit-sound, with_lines, written_of, wrote, activity_of, ◌≡◌, ◌<◌, ◌≤◌, ◌+◌, [], ℕ, List, length, sym, ◌∙◌, ap, subst, arith, slice_index_or, page-held}
-use Rattle.activations.proofs.RecordLemmas.{pages-below, before-page, room-left, written-more}
+use Rattle.activations.proofs.Lemmas.{unwrap_or, Option, Some, ◌++◌, take_all, Layout, page_count, holds_some, Holding, held_at, flat_lines, Pool, begun_of, KeptStore, RecordLine, most_lines, unit-sound, with_lines, written_of, wrote, activity_of, ◌≡◌, ◌<◌, ◌≤◌, ◌+◌, [], ℕ, List, length, sym, ◌∙◌, ap, subst, arith, slice_index_or, page-held, pages-below, before-page, room-left, written-more}
 use Rattle.activations.proofs.activations.Activations.record_written.Goals as goal
 
 room_with : (begun writes these most all : ℕ) → these ≡ writes → all ≡ most → begun + writes ≤ most → begun + these ≤ all
