@@ -1,5 +1,5 @@
 -- The desk that asks where it is refused does what the desk does.
-use Rattle.desk_law.proofs.Common.{◌≡◌, refl, ℕ, zero, suc, ◌+◌, ◌==◌, not, if◌then◌else◌, List, [], ◌∷◌, ◌++◌, length, map, find, Some, arith, ap, sym, ◌∙◌, subst, and_parts, Plain, after, Program, Event, Turn, Desk, Entry, opened, Word, Counts, Turning, Going, Over, attempts, asks, refused_pages, conflicts_of, instruction, turns, step, IsAmong, IsConsistent, IsOrderly, Memory, after_event, after_turns, after_instruction, memory_of, IsMemory, FindTheirOwn, nat_tests, Turned, Committed, Machine, next_attempt, begun, IsSerial, counts_refused, happening_lines, number_after, Step, asks_for, asks_refused, attempts_by, step_by, before, run_by, InstructionsAskAlike, IsRunOfDesk, RunsAskAlike, RunsStayConsistentBy, RunsAreIsolatedBy, SideBySideIsSerialBy, CommitsTellTheMachineBy}
+use Rattle.desk_law.proofs.Common.{◌≡◌, refl, ℕ, zero, suc, ◌+◌, ◌==◌, not, if◌then◌else◌, List, [], ◌∷◌, ◌++◌, length, map, find, Some, arith, ap, sym, subst, and_parts, Plain, after, Program, Event, Turn, Desk, Entry, opened, Word, Counts, Turning, Going, Over, attempts, asks, refused_pages, conflicts_of, instruction, turns, step, IsAmong, IsConsistent, IsOrderly, Memory, after_event, after_turns, after_instruction, memory_of, IsMemory, FindTheirOwn, nat_tests, Turned, Committed, Machine, next_attempt, begun, IsSerial, counts_refused, happening_lines, number_after, Step, asks_for, asks_refused, attempts_by, step_by, before, run_by, InstructionsAskAlike, IsRunOfDesk, RunsAskAlike, RunsStayConsistentBy, RunsAreIsolatedBy, SideBySideIsSerialBy, CommitsTellTheMachineBy}
 use Rattle.desk.specs.Lines.{Line}
 unfoldable use Rattle.desk_law.specs.Asking.{instruction_by, turns_by}
 use Rattle.desk_law.proofs.Entries.{orderly, among-found}
@@ -53,8 +53,7 @@ module _ (word : Word) (number : ℕ) where
   turns-alike zero (Going desk counts) memory is = refl
   turns-alike (suc left) (Going desk counts) memory is =
       let next = instruction word (find (λ (entry : Entry). entry.number == number) desk.active) desk counts in
-      ap (λ (turning : Turning). turns_by asks_refused word number left turning (after_instruction number desk turning memory)) (one-alike desk counts is).0
-      ∙ turns-alike left next (after_instruction number desk next memory) (one-alike desk counts is).1
+      cc ((one-alike desk counts is).0, turns-alike left next (after_instruction number desk next memory) (one-alike desk counts is).1)
   turns-alike zero (Over desk counts ending) memory is = refl
   turns-alike (suc left) (Over desk counts ending) memory is = refl
 

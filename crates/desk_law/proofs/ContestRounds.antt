@@ -1,5 +1,5 @@
 -- A contest round by round: a loop that looks for one cycle at a time goes through the same desks as the definition.
-use Rattle.desk_law.proofs.Common.{◌≡◌, refl, ℕ, zero, suc, ◌≤◌, ◌<◌, ◌==◌, not, Bool, true, false, List, [], ◌∷◌, ◌++◌, length, find, Option, Some, None, arith, ap, sym, ◌∙◌, shown_cycle, victim_of, Desk, Entry, with_entry, rolled_back, numbers, waits_for, Word, Counts, Attempt, Contested, Settled, Lost, breaks_cycle, breaks_cycles, contest_ends, asks, IsAmong, contest, IsUnderWay, IsOrderly, nat_tests}
+use Rattle.desk_law.proofs.Common.{◌≡◌, refl, ℕ, zero, suc, ◌≤◌, ◌<◌, ◌==◌, not, Bool, true, false, List, [], ◌∷◌, ◌++◌, length, find, Option, Some, None, arith, ap, sym, shown_cycle, victim_of, Desk, Entry, with_entry, rolled_back, numbers, waits_for, Word, Counts, Attempt, Contested, Settled, Lost, breaks_cycle, breaks_cycles, contest_ends, asks, IsAmong, contest, IsUnderWay, IsOrderly, nat_tests}
 use Rattle.desk_law.proofs.Contest.{contending, settled, rolled-contending, gone-consistent, freed-keeps, stays-settled, stays-lost, filter-shorter, some-active, shown-victim, shown-none, left_over}
 use Rattle.desk_law.proofs.Entries.{among-found, none-found, new-among}
 use Rattle.desk_law.proofs.GoesOn.{length-replaced, marked-contending}
@@ -44,7 +44,9 @@ pub enough : (left right : ℕ) (entry : Entry) (desk : Desk) (counts : Counts) 
 enough zero right entry desk counts here few also = absurd (omega (arith, some-active desk.active entry here, few))
 enough (suc left) zero entry desk counts here few also = absurd (omega (arith, some-active desk.active entry here, also))
 enough (suc left) (suc right) entry desk counts here few also =
-    let by_cycle : (cycle : Option (List ℕ)) → shown_cycle (waits_for desk) (numbers desk) entry.number ≡ cycle → ((next : Desk) (more : Counts) → IsAmong next.active entry → length next.active ≤ left → length next.active ≤ right → breaks_cycles left entry.number (Contested next more) ≡ breaks_cycles right entry.number (Contested next more)) → breaks_cycles left entry.number (breaks_cycle entry.number cycle desk counts) ≡ breaks_cycles right entry.number (breaks_cycle entry.number cycle desk counts) =
+    let by_cycle : (cycle : Option (List ℕ)) → shown_cycle (waits_for desk) (numbers desk) entry.number ≡ cycle
+    → ((next : Desk) (more : Counts) → IsAmong next.active entry → length next.active ≤ left → length next.active ≤ right → breaks_cycles left entry.number (Contested next more) ≡ breaks_cycles right entry.number (Contested next more))
+    → breaks_cycles left entry.number (breaks_cycle entry.number cycle desk counts) ≡ breaks_cycles right entry.number (breaks_cycle entry.number cycle desk counts) =
     λ cycle shown later. grind (arith, nat_tests, stays-settled, left_over, stays-lost, victim-there, fewer-left, asker-left) in
     by_cycle (shown_cycle (waits_for desk) (numbers desk) entry.number) refl
     (λ next more there few_left few_right. enough left right entry next more there few_left few_right)
@@ -72,10 +74,10 @@ module _ (desk : Desk) (counts : Counts) (entry : Entry) (here : IsAmong desk.ac
         → contest entry.number desk counts ≡ contest entry.number (rolled_back desk victim) (with_cycle counts cycle)
     round-breaks other =
         let (m, is) = first-step in
-        to-victim m false is other
-        ∙ enough m (length (rolled_back desk victim).active) entry (rolled_back desk victim) (with_cycle counts cycle)
-        (asker-left desk entry victim cycle here found other)
-        (omega (arith, is, fewer-left desk victim (victim_of cycle) found)) (omega arith)
+        cc (
+          to-victim m false is other,
+          enough m (length (rolled_back desk victim).active) entry (rolled_back desk victim) (with_cycle counts cycle) (asker-left desk entry victim cycle here found other) (omega (arith, is, fewer-left desk victim (victim_of cycle) found)) (omega arith),
+        )
 
     -- the one that asks is its victim: it lost
     pub round-loses : (victim_of cycle == entry.number) ≡ true

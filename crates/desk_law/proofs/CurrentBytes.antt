@@ -1,5 +1,5 @@
 -- All lines as they are now, end to end.
-use Rattle.desk_law.proofs.Common.{if◌then◌else◌, ◌≡◌, refl, ℕ, zero, suc, ◌+◌, ◌*◌, ◌/◌, ◌<◌, ◌≤◌, List, [], ◌++◌, length, take, drop, slice_range, flat_map, range_with_len, arith, ap, sym, ◌∙◌, length-append, same_number_lists, length-take, length-drop, take_at, line_bytes, Layout, byte_count, FlatStore, IsWhole, line_count, line_in, after-whole, in_line, Desk, Entry, has, laid, IsCurrent, current_bytes, nat_tests}
+use Rattle.desk_law.proofs.Common.{if◌then◌else◌, ◌≡◌, refl, ℕ, zero, suc, ◌+◌, ◌*◌, ◌/◌, ◌<◌, ◌≤◌, List, [], length, take, drop, slice_range, flat_map, range_with_len, arith, sym, ◌∙◌, length-append, same_number_lists, length-take, length-drop, take_at, line_bytes, Layout, byte_count, FlatStore, IsWhole, line_count, line_in, after-whole, in_line, Desk, Entry, has, laid, IsCurrent, current_bytes, nat_tests}
 use Rattle.std.proofs.Math.ListN.{drop_of_length-le}
 use Rattle.std.proofs.Math.Nat.{mul-le-mul_right}
 use Rattle.std.proofs.Math.Seq.{drop-append-add, take-nil}
@@ -26,10 +26,7 @@ piece-at lb f low (suc n) (suc k) each below =
     let long : length (f low) ≡ lb = each low (omega arith) (omega arith) in
     let place : suc k * lb ≡ length (f low) + k * lb = omega (arith, long) in
     let next : low + 1 + k ≡ low + suc k = omega arith in
-    ap (λ (m : ℕ). take lb (drop m (f low ++ flat_map f (range_with_len (low + 1) n)))) place
-    ∙ ap (take lb) (drop-append-add (f low) (flat_map f (range_with_len (low + 1) n)) (k * lb))
-    ∙ piece-at lb f (low + 1) n k (λ line above under. each line (omega (arith, above)) (omega (arith, under))) (omega (arith, below))
-    ∙ ap f next
+    cc (drop-append-add (f low) (flat_map f (range_with_len (low + 1) n)) (k * lb), piece-at lb f (low + 1) n k (λ line above under. each line (omega (arith, above)) (omega (arith, under))) (omega (arith, below)))
 
 -- a line within has all its bytes, and one beyond has none
 line-long : (d : Layout) (xs : List ℕ) (line : ℕ) → length xs ≡ byte_count d → line < line_count d → length (line_in d xs line) ≡ line_bytes d.page

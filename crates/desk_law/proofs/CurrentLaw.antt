@@ -1,5 +1,5 @@
 -- The laws of the bytes as they are now.
-use Rattle.desk_law.proofs.Common.{◌≡◌, ℕ, ◌+◌, if◌then◌else◌, Bool, List, [], ◌++◌, Some, arith, ap, ◌∙◌, has, size, Plain, On, row, after, line_in, Desk, Entry, with_entry, wanted, conflicts_of, IsWhole, gone_on, IsAmong, AreConsistent, current, current_bytes, touched_of, nat_tests}
+use Rattle.desk_law.proofs.Common.{◌≡◌, ℕ, ◌+◌, if◌then◌else◌, Bool, [], ◌++◌, Some, arith, has, size, Plain, On, row, after, line_in, Desk, Entry, with_entry, wanted, conflicts_of, IsWhole, gone_on, IsAmong, AreConsistent, current, current_bytes, touched_of, nat_tests}
 use Rattle.desk_law.specs.CurrentLaws.{OneListIsCurrent, HoldersSeeCurrent, RowsChangeTheirLines, RowsRunOnCurrent, CommitsChangeNoLine, RollbacksGiveBack, CommitsLeaveOthers}
 use Rattle.desk_law.proofs.Entries.{replaced}
 use Rattle.desk_law.proofs.Others.{another-same, after-row}
@@ -36,10 +36,7 @@ module _ (desk : Desk) (most : ℕ) (entry : Entry) (mark : Bool) (now next : Pl
   row-runs =
       let runs : RunsOn desk.committed desk.active (record entry { waiting = mark }) now next (current_bytes desk) =
       row-on-current desk many (record entry { waiting = mark }) now next (current_bytes desk) whole now-active then-active here at went none (bytes-current desk whole) in
-      runs.went
-      ∙ ap (λ (bytes : List ℕ). On (record next { store = bytes }))
-      (one-current desk.committed (replaced (gone_on entry) desk.active) runs.other (current_bytes (with_entry desk (gone_on entry))) runs.is_current
-      (bytes-current (with_entry desk (gone_on entry)) whole))
+      cc (runs.went, one-current desk.committed (replaced (gone_on entry) desk.active) runs.other (current_bytes (with_entry desk (gone_on entry))) runs.is_current (bytes-current (with_entry desk (gone_on entry)) whole))
 
 pub one-list-is-current : OneListIsCurrent
 one-list-is-current desk is = (

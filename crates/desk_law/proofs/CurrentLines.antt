@@ -99,7 +99,8 @@ pub commit-current :
     → current_of (left_by store now) (others entry entries) line ≡ current_of store entries line
 commit-current store most_lines next entries entry now line whole are here is =
     let leaves : AreConsistent (left_by store now) most_lines next (others entry entries) = commit-leaves store most_lines next entries entry now whole are here is in
-    let does_same : (other : Entry) (there : IsAmong entries other) → (other.number == entry.number) ≡ false → (bytes : List ℕ) × DoesTheSame other.runs.program other.runs.args store (left_by store now) other.rows (are.live other there).state bytes =
+    let does_same : (other : Entry) (there : IsAmong entries other) → (other.number == entry.number) ≡ false
+    → (bytes : List ℕ) × DoesTheSame other.runs.program other.runs.args store (left_by store now) other.rows (are.live other there).state bytes =
     λ other there differ. another-same store entry other now (are.live other there).state whole is (are.live other there).is
     (apart-turned (due_to store other) (due_to store entry) (are.apart other entry there here differ)) in
     by-writer store most_lines next entries are line (current_of (left_by store now) (others entry entries) line)
@@ -117,10 +118,12 @@ commit-current store most_lines next entries entry now line whole are here is =
           let (bytes, does) = does_same some there differ in
           let live = are.live some there in
           let same_state : live.state ≡ state = cc (live.is) in
-          current-written (left_by store now) most_lines next (others entry entries) leaves some (record live.state { store = bytes }) line
-          (others-among entry entries some there differ) does.state_on_other (ap (λ (l : Lines). has l.writes line) does.touched ∙ wrote)
-          ∙ sym (does.agrees line (has_right (touched_of store some).reads (touched_of store some).writes line wrote))
-          ∙ ap (λ (state : Plain). line_in store.directory state.store line) same_state
+          grind (
+            arith,
+            nat_tests,
+            current-written (left_by store now) most_lines next (others entry entries) leaves some (record live.state { store = bytes }) line (others-among entry entries some there differ) does.state_on_other (ap (λ (l : Lines). has l.writes line) does.touched ∙ wrote),
+            does.agrees line (has_right (touched_of store some).reads (touched_of store some).writes line wrote),
+          )
     ])
     (λ none.
     current-unwritten (left_by store now) most_lines next (others entry entries) leaves line
@@ -156,10 +159,10 @@ row-leaves store most_lines next_number entries entry now next line whole are la
           let it : some ≡ entry = one-entry 0 next_number entries some entry are.ascend there here (eqb-true some.number entry.number same) in
           let same_state : now ≡ state = cc in
           let written : has (touched_of store (gone_on entry)).writes line ≡ true = grind (arith, nat_tests, within-more store entry line, it, wrote) in
-          current-written store most_lines next_number (replaced (gone_on entry) entries) later (gone_on entry) next line (new-among (gone_on entry) entries entry here refl) is_next written
-          ∙ sym (row-kept entry.runs.program store.directory now next (after-whole entry.runs.program entry.runs.args store entry.rows now whole is) went line
-          (ap (λ (l : Lines). has l.writes line) (sym touches) ∙ didn't))
-          ∙ ap (λ (state : Plain). line_in store.directory state.store line) same_state
+          cc (
+            current-written store most_lines next_number (replaced (gone_on entry) entries) later (gone_on entry) next line (new-among (gone_on entry) entries entry here refl) is_next written,
+            row-kept entry.runs.program store.directory now next (after-whole entry.runs.program entry.runs.args store entry.rows now whole is) went line (ap (λ (l : Lines). has l.writes line) (sym touches) ∙ didn't),
+          )
       | inr differ ↦ current-written store most_lines next_number (replaced (gone_on entry) entries) later some state line (replaced-among (gone_on entry) entries some there differ) at wrote
     ])
     (λ none.

@@ -49,8 +49,7 @@ module _ (store : FlatStore) (most_lines next : ℕ) (entries : List Entry) (are
           → (other : Entry) → IsAmong entries other → has (touched_of store other).writes line ≡ false
       old_none line none other among = elim (cases_Bool (other.number == entry.number)) [
         | inl same ↦
-            ap (λ (x : Entry). has (touched_of store x).writes line) (one-entry 0 next entries other entry are.ascend among here (eqb-true other.number entry.number same))
-            ∙ none (record entry { waiting = mark }) (new-among (record entry { waiting = mark }) entries entry here refl)
+            cc (one-entry 0 next entries other entry are.ascend among here (eqb-true other.number entry.number same), none (record entry { waiting = mark }) (new-among (record entry { waiting = mark }) entries entry here refl))
         | inr differ ↦ none other (replaced-among (record entry { waiting = mark }) entries other among differ)
       ]
 

@@ -79,8 +79,5 @@ granted-permits fine attempt locks before later keeps reads writes below = recor
           let may : lets was_there attempt.entry.number line stores ≡ true =
           not-false (lets was_there attempt.entry.number line stores)
           (none-there (λ l. not (lets was_there attempt.entry.number l stores)) (within_page (page_of_line line) lines) line (quiet_of (or_parts (refused_among line false attempt.lines.reads) (refused_among line true attempt.lines.writes) quiet)) (inside-page lines line inside)) in
-          ap (λ (a : Grant). lets a attempt.entry.number line stores)
-          (each-not (given fine attempt locks) refused later (page_of_line line) wasn't
-          ∙ keeps (page_of_line line) (owns (was_there.owner == attempt.entry.number) was_there.write (has was_there.lines line) stores may))
-          ∙ may
+          cc (each-not (given fine attempt locks) refused later (page_of_line line) wasn't, keeps (page_of_line line) (owns (was_there.owner == attempt.entry.number) was_there.write (has was_there.lines line) stores may))
     ]

@@ -78,8 +78,7 @@ doubt_is_whole programs number frames most most_lines store events front event r
     let is_well : fine ≡ well = run_on programs front ((event, Fine) ∷ []) start in
     let fine_run : IsRunOf programs events start (front ++ (event, Fine) ∷ []) rest = record {
       prefix =
-          ap (λ (these : List Event). these ++ rest) (map-append (λ (each : Event × Word). each.0) front ((event, Fine) ∷ []) ∙ sym (map-append (λ (each : Event × Word). each.0) front ((event, Doubt) ∷ [])))
-          ∙ is_run.prefix;
+          cc (map-append (λ (each : Event × Word). each.0) front ((event, Fine) ∷ []), map-append (λ (each : Event × Word). each.0) front ((event, Doubt) ∷ []), is_run.prefix);
       each_open = other_word programs front event Doubt Fine start is_run.each_open;
     } in
     let steps : Stepped Fine before.order [] (step programs event Fine before) = step_by programs event Fine [] before (open_is before.closed (last_open programs front event Doubt start is_run.each_open)) in

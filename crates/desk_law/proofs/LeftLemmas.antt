@@ -66,10 +66,7 @@ module _ (programs : List Program) (number : ℕ) where
         after = at.after;
         is_run = record {
           prefix =
-              ap (λ (front : List Event). front ++ at.after) (map-append (λ (each : Event × Word). each.0) one at.stage)
-              ∙ append_assoc (events_of one) (events_of at.stage) at.after
-              ∙ ap (λ (back : List Event). events_of one ++ back) at.is_run.prefix
-              ∙ sym (map-append (λ (each : Event × Word). each.0) one two);
+              cc (map-append (λ (each : Event × Word). each.0) one at.stage, append_assoc (events_of one) (events_of at.stage) at.after, at.is_run.prefix, map-append (λ (each : Event × Word). each.0) one two);
           each_open = open_on programs one at.stage start each_open at.is_run.each_open;
         };
         still_open = ap (λ (desk : Desk). desk.closed) same ∙ at.still_open;

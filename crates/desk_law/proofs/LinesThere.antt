@@ -22,7 +22,8 @@ module _ (desk : Desk) (number : ℕ) (lines : Lines) (are : AreThere desk numbe
 
   pub there-unrefused : (page : ℕ) → refuses (slice_index_or desk.authority page nobody) number (lines_within page lines) ≡ false
   there-unrefused page =
-      let quiet : (some : List ℕ) (store : Bool) → ((line : ℕ) → has some line ≡ true → IsThere desk number line store) → list_any (λ line. not (lets (slice_index_or desk.authority page nobody) number line store)) (within_page page some) ≡ false =
+      let quiet : (some : List ℕ) (store : Bool) → ((line : ℕ) → has some line ≡ true → IsThere desk number line store)
+      → list_any (λ line. not (lets (slice_index_or desk.authority page nobody) number line store)) (within_page page some) ≡ false =
       λ some store there. any-none (λ line. not (lets (slice_index_or desk.authority page nobody) number line store)) (within_page page some) (λ line inside. grind (arith, nat_tests, has-within_page page some line, there line)) in
       or_from (list_any (λ line. not (lets (slice_index_or desk.authority page nobody) number line false)) (within_page page lines.reads))
       (list_any (λ line. not (lets (slice_index_or desk.authority page nobody) number line true)) (within_page page lines.writes)) (quiet lines.reads false are.reads) (quiet lines.writes true are.writes)

@@ -12,7 +12,8 @@ module _ (store : FlatStore) (most_lines next : ℕ) (entries : List Entry) (con
       → ((line : ℕ) → new line ≡ (marked line || has (touched_next entry.runs.program entry.runs.args store entry.rows).writes line))
       → AreMarked store (replaced (gone_on entry) entries) new
   marked-row entry new here is_new =
-      let there : (line : ℕ) → (marked line || has (touched_next entry.runs.program entry.runs.args store entry.rows).writes line) ≡ true → list_any (λ (one : Entry). has (due_to store one).writes line) (replaced (gone_on entry) entries) ≡ true =
+      let there : (line : ℕ) → (marked line || has (touched_next entry.runs.program entry.runs.args store entry.rows).writes line) ≡ true
+      → list_any (λ (one : Entry). has (due_to store one).writes line) (replaced (gone_on entry) entries) ≡ true =
       λ line either. let now = among-any (λ (one : Entry). has (due_to store one).writes line) (replaced (gone_on entry) entries) in
       let it = now (gone_on entry) (new-among (gone_on entry) entries entry here refl) in
       elim (or_cases (marked line) (has (touched_next entry.runs.program entry.runs.args store entry.rows).writes line) either) [
@@ -21,7 +22,8 @@ module _ (store : FlatStore) (most_lines next : ℕ) (entries : List Entry) (con
             grind (arith, nat_tests, it, now one, replaced-among (gone_on entry) entries one among, one-entry 0 next entries one entry consistent.ascend among here, within-more store entry line, wrote)
         | inr fresh ↦ it (within-more store entry line ∙ or_right (has (touched_of store entry).writes line) (has (touched_next entry.runs.program entry.runs.args store entry.rows).writes line) fresh)
       ] in
-      let back : (line : ℕ) → list_any (λ (one : Entry). has (due_to store one).writes line) (replaced (gone_on entry) entries) ≡ true → (marked line || has (touched_next entry.runs.program entry.runs.args store entry.rows).writes line) ≡ true =
+      let back : (line : ℕ) → list_any (λ (one : Entry). has (due_to store one).writes line) (replaced (gone_on entry) entries) ≡ true
+      → (marked line || has (touched_next entry.runs.program entry.runs.args store entry.rows).writes line) ≡ true =
       λ line some. let (one, among, wrote) = any-among (λ (one : Entry). has (due_to store one).writes line) (replaced (gone_on entry) entries) some in
       let was = among-any (λ (one : Entry). has (due_to store one).writes line) entries in
       grind (arith, nat_tests, among-replaced (gone_on entry) entries one among, within-more store entry line, are.is line, was one, was entry here, wrote) in
@@ -60,12 +62,14 @@ module _ (store : FlatStore) (most_lines next : ℕ) (entries : List Entry) (con
   -- a mark and a begin change none
   pub marked-mark : (entry : Entry) (mark : Bool) → IsAmong entries entry → AreMarked store (replaced (record entry { waiting = mark }) entries) marked
   marked-mark entry mark here =
-      let there : (line : ℕ) → list_any (λ (one : Entry). has (due_to store one).writes line) entries ≡ true → list_any (λ (one : Entry). has (due_to store one).writes line) (replaced (record entry { waiting = mark }) entries) ≡ true =
+      let there : (line : ℕ) → list_any (λ (one : Entry). has (due_to store one).writes line) entries ≡ true
+      → list_any (λ (one : Entry). has (due_to store one).writes line) (replaced (record entry { waiting = mark }) entries) ≡ true =
       λ line some. let (one, among, wrote) = any-among (λ (one : Entry). has (due_to store one).writes line) entries some in
       let now = among-any (λ (one : Entry). has (due_to store one).writes line) (replaced (record entry { waiting = mark }) entries) in
       let it = now (record entry { waiting = mark }) (new-among (record entry { waiting = mark }) entries entry here refl) in
       grind (arith, nat_tests, it, now one, replaced-among (record entry { waiting = mark }) entries one among, one-entry 0 next entries one entry consistent.ascend among here, wrote) in
-      let back : (line : ℕ) → list_any (λ (one : Entry). has (due_to store one).writes line) (replaced (record entry { waiting = mark }) entries) ≡ true → list_any (λ (one : Entry). has (due_to store one).writes line) entries ≡ true =
+      let back : (line : ℕ) → list_any (λ (one : Entry). has (due_to store one).writes line) (replaced (record entry { waiting = mark }) entries) ≡ true
+      → list_any (λ (one : Entry). has (due_to store one).writes line) entries ≡ true =
       λ line some. let (one, among, wrote) = any-among (λ (one : Entry). has (due_to store one).writes line) (replaced (record entry { waiting = mark }) entries) some in
       let was = among-any (λ (one : Entry). has (due_to store one).writes line) entries in
       grind (arith, nat_tests, among-replaced (record entry { waiting = mark }) entries one among, was one, was entry here, wrote) in

@@ -77,10 +77,10 @@ module _ (old desk : Desk) (stay : List ℕ) (memory : Memory) (most : ℕ) (is_
   -- any other line is as it was
   wrote-gone : (some : Entry) (line : ℕ) → IsAmong old.active some → Wrote old some line → has (numbers desk) some.number ≡ false → has (flat_map (wrote_by memory) gone) line ≡ true
   wrote-gone some line there wrote went =
-      has-joined (wrote_by memory) gone line
-      ∙ any-at (λ x. has (wrote_by memory x) line) gone some.number
-      (grind (arith, nat_tests, has-filter (λ n. not (has stay n)) (numbers old) some.number, has-number old.active some there, stays some.number))
-      (ap (λ (l : List ℕ). has l line) (wrote-is old memory some is there) ∙ wrote)
+      cc (
+        has-joined (wrote_by memory) gone line,
+        any-at (λ x. has (wrote_by memory x) line) gone some.number (grind (arith, nat_tests, has-filter (λ n. not (has stay n)) (numbers old) some.number, has-number old.active some there, stays some.number)) (ap (λ (l : List ℕ). has l line) (wrote-is old memory some is there) ∙ wrote),
+      )
 
   kept-line : (line : ℕ) → has (flat_map (wrote_by memory) gone) line ≡ false → current desk line ≡ current old line
   kept-line line out =
@@ -88,8 +88,7 @@ module _ (old desk : Desk) (stay : List ℕ) (memory : Memory) (most : ℕ) (is_
       (λ some state there at wrote. elim (cases_Bool (has (numbers desk) some.number)) [
         | inl inside ↦
             let (entry, among, runs, rows, written) = wrote-after some line there inside wrote in
-            current-written desk.committed most desk.next desk.active are entry state line among ((λ i. after (sym runs i).program (sym runs i).args (fewer.committed i) (sym rows i)) ∙ at) written
-            ∙ ap (λ (store : FlatStore). line_in store.directory state.store line) fewer.committed
+            cc (current-written desk.committed most desk.next desk.active are entry state line among ((λ i. after (sym runs i).program (sym runs i).args (fewer.committed i) (sym rows i)) ∙ at) written, fewer.committed)
         | inr went ↦ absurd (both_ways (has (flat_map (wrote_by memory) gone) line) out (wrote-gone some line there wrote went))
       ])
       (λ none.
@@ -135,9 +134,7 @@ module _ (old desk : Desk) (stay : List ℕ) (memory : Memory) (most : ℕ) (is_
             bytes = was.bytes;
             at = ap (λ (store : FlatStore). after entry.runs.program entry.runs.args store entry.rows) fewer.committed ∙ sym (after-alike old.committed before entry runs rows) ∙ was.at;
             wrote =
-                was.wrote
-                ∙ ap (λ (l : Lines). l.writes) (due-alike old.committed before entry runs rows)
-                ∙ ap (λ (store : FlatStore). (due_to store entry).writes) (sym fewer.committed);
+                cc (was.wrote, due-alike old.committed before entry runs rows, fewer.committed);
           }
 
 -- a number has its machine

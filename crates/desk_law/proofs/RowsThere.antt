@@ -15,7 +15,8 @@ pub effect-there :
     → instruction word (Some entry) desk counts ≡ takes_effect word (next_attempt desk entry now) (next_attempt desk entry now).outcome desk counts
 effect-there word desk counts entry now goes at there alone within =
     let attempt : Attempt = record { entry = entry; now = now; outcome = row entry.runs.program desk.committed.directory now; lines = wanted desk entry } in
-    let all_there : (counted : ℕ) → fetches word desk.frames (pages_of ((wanted desk entry).reads ++ (wanted desk entry).writes)) (pages_of ((wanted desk entry).reads ++ (wanted desk entry).writes)) desk.resident counted ≡ Fetched desk.resident counted =
+    let all_there : (counted : ℕ)
+    → fetches word desk.frames (pages_of ((wanted desk entry).reads ++ (wanted desk entry).writes)) (pages_of ((wanted desk entry).reads ++ (wanted desk entry).writes)) desk.resident counted ≡ Fetched desk.resident counted =
     λ counted. fetches-none word desk.frames (pages_of ((wanted desk entry).reads ++ (wanted desk entry).writes)) (pages_of ((wanted desk entry).reads ++ (wanted desk entry).writes)) desk.resident counted
     (there-resident desk entry.number (wanted desk entry) there) in
     let nothing : filter (λ page. refuses (slice_index_or desk.authority page nobody) entry.number (lines_within page (wanted desk entry))) (pages_of ((wanted desk entry).reads ++ (wanted desk entry).writes)) ≡ [] =

@@ -66,7 +66,8 @@ module _ (desk : Desk) (counts : Counts) (entry : Entry) (now shown : Plain) (by
         (record desk { resident = resident })
         (record counts { pages = counted; locks = counts.locks + length (refused_pages (served_attempt desk entry now bytes) desk) })
     serve-asks locks requests resident counted kept fetched word reads =
-        let serve-holders : (locks requests : ℕ → Lines) → AreKept desk.committed desk.active locks requests → map (λ (other : Entry). other.number) (filter (kept_conflict (with_whole_pages (is_fine_page desk.committed.directory) (touched entry.runs.program desk.committed.directory (over_all now bytes))) locks entry.number) desk.active) ≡ conflicts_of desk entry =
+        let serve-holders : (locks requests : ℕ → Lines) → AreKept desk.committed desk.active locks requests
+        → map (λ (other : Entry). other.number) (filter (kept_conflict (with_whole_pages (is_fine_page desk.committed.directory) (touched entry.runs.program desk.committed.directory (over_all now bytes))) locks entry.number) desk.active) ≡ conflicts_of desk entry =
         λ locks requests kept. conflicts-kept desk locks requests kept (with_whole_pages (is_fine_page desk.committed.directory) (touched entry.runs.program desk.committed.directory (over_all now bytes))) entry
         (subst (λ (l : Lines). AreAlike (with_whole_pages (is_fine_page desk.committed.directory) l) (requested desk.committed entry)) (wanted-is desk entry now shown bytes at went)
         (record { reads = λ line. refl; writes = λ line. refl })) in

@@ -1,5 +1,5 @@
 -- One store of bytes for all entries: it holds every line as it is now, and each row may run over it.
-use Rattle.desk_law.proofs.Common.{◌≡◌, ℕ, ◌+◌, ◌==◌, true, false, List, [], ◌++◌, length, Option, Some, option_map_or, ap, sym, ◌∙◌, subst, inl, inr, or_parts, cases_Bool, byte_count, FlatStore, IsWhole, has, meets, Lines, conflicts, has-append, has_left, has_right, meets-at, Plain, Outcome, On, plan_at, row, touched, after, line_in, all_of, after-whole, after-kept, on, Keeps, Steps, lines_of_plan, row-steps, Desk, Entry, wanted, requested, due_to, conflicts_of, gone_on, IsAmong, AreConsistent, current_of, current, IsCurrent, touched_of, arith, nat_tests, Layout, Program}
+use Rattle.desk_law.proofs.Common.{◌≡◌, ℕ, ◌+◌, ◌==◌, true, false, List, [], ◌++◌, length, Some, ap, sym, ◌∙◌, subst, inl, inr, or_parts, cases_Bool, byte_count, FlatStore, IsWhole, has, meets, Lines, conflicts, has-append, has_left, has_right, meets-at, Plain, Outcome, On, plan_at, row, touched, after, line_in, all_of, after-whole, after-kept, on, Keeps, Steps, lines_of_plan, row-steps, Desk, Entry, wanted, requested, due_to, conflicts_of, gone_on, IsAmong, AreConsistent, current_of, current, IsCurrent, touched_of, arith, nat_tests, Layout, Program}
 use Rattle.desk_law.proofs.Entries.{replaced, one-entry}
 use Rattle.desk_law.proofs.Others.{after-row}
 use Rattle.desk_law.proofs.GoesOn.{nobody-meets}
@@ -60,8 +60,7 @@ pub row-on-current :
 row-on-current desk most entry now next bytes whole are later here is went none current_now =
     let after_next : after entry.runs.program entry.runs.args desk.committed (entry.rows + 1) ≡ Some next = after-row desk.committed entry now next is went in
     let lines : wanted desk entry ≡ lines_of_plan entry.runs.program desk.committed.directory (plan_at now) =
-    ap (λ (state : Option Plain). option_map_or (touched entry.runs.program desk.committed.directory) state (record { reads = []; writes = [] })) is
-    ∙ lines-of entry.runs.program desk.committed.directory now next went in
+    cc (lines-of entry.runs.program desk.committed.directory now next went) in
     let own : length now.store ≡ byte_count desk.committed.directory = after-whole entry.runs.program entry.runs.args desk.committed entry.rows now whole is in
     let sees : (line : ℕ) → has (all_of (wanted desk entry)) line ≡ true → line_in desk.committed.directory now.store line ≡ line_in desk.committed.directory bytes line =
     λ line wants. sym (current_now.lines line ∙ current-wanted desk most entry now line whole are here is none wants) in

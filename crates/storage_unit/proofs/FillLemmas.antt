@@ -63,7 +63,8 @@ module _ (size : PageSize) (kept : List ℕ) (page frame : ℕ) (there : page * 
       ≡ (if has lines (o / line_size size) then slice_index kept (page * page_bytes size + o) else slice_index bytes (frame * page_bytes size + o))
   lines-here [] bytes o few below room = refl
   lines-here (line ∷ lines) bytes o few below room =
-      let by_tests : (now later : Bool) → (if later then slice_index kept (page * page_bytes size + o) else (if now then slice_index kept (page * page_bytes size + o) else slice_index bytes (frame * page_bytes size + o))) ≡ (if now || later then slice_index kept (page * page_bytes size + o) else slice_index bytes (frame * page_bytes size + o)) =
+      let by_tests : (now later : Bool)
+      → (if later then slice_index kept (page * page_bytes size + o) else (if now then slice_index kept (page * page_bytes size + o) else slice_index bytes (frame * page_bytes size + o))) ≡ (if now || later then slice_index kept (page * page_bytes size + o) else slice_index bytes (frame * page_bytes size + o)) =
       λ now later. grind (arith, nat_tests) in
       let first = All-head (λ line. line < 16) line lines few in
       let part = slice_range kept (line_place size page line) (line_place size page line + line_size size) in

@@ -122,7 +122,8 @@ pub keys-store :
 keys-store d t frames page_in frame o above below inside =
     let there : (k : ℕ) (e : Option Key) → k < private_frames d.page + frames → (in_page : List (Option ℕ)) → get_or (keys_with d t frames in_page) k e ≡ held_in d t in_page k =
     λ k e less in_page. get_or-map-range_with_len (held_in d t in_page) 0 (private_frames d.page + frames) k k e less (omega arith) in
-    let element : (k : ℕ) (e : Option Key) → k < private_frames d.page + frames → get_or (slice_set (keys_with d t frames page_in) frame (option_map (key_of_page d) o)) k e ≡ get_or (keys_with d t frames (slice_set page_in frame o)) k e =
+    let element : (k : ℕ) (e : Option Key) → k < private_frames d.page + frames
+    → get_or (slice_set (keys_with d t frames page_in) frame (option_map (key_of_page d) o)) k e ≡ get_or (keys_with d t frames (slice_set page_in frame o)) k e =
     λ k e less. grind (
       arith,
       nat_tests,

@@ -11,15 +11,10 @@ module _ (d : Layout) (legal : IsLegal d.segments) (seat : ℕ) where
   pub private-at : (o : ℕ) → place_at d (Ok (virtual_at d.page (private_segment seat) o)) ≡ Private o
   private-at o = grind (arith, nat_tests, own, offset-is)
 
-  length-lies : (w : Window) (bytes : Option ℕ) (o n : ℕ) (store : Bool) → length_of d w.segment ≡ bytes
-      → place_at d (located_under d.page (option_map (λ length. record { segment = w.segment; bytes = length; write = w.write }) bytes) o n store)
-      ≡ in_segment d w bytes o n store
-  length-lies w bytes o n store is = grind (arith, nat_tests, named-low)
-
   register-lies : (p : Program) (i o n : ℕ) (store : Bool)
       → place_at d (located_under d.page (slice_index_or (registers_of_program p d (private_segment seat)).list i None) o n store) ≡ in_register p d i o n store
   register-lies p zero o n store = grind (arith, nat_tests)
-  register-lies p (suc i) o n store = grind (arith, nat_tests, get_or-map (register_of_window d) p.windows i None, length-lies)
+  register-lies p (suc i) o n store = grind (arith, nat_tests, get_or-map (register_of_window d) p.windows i None, named-low)
 
 -- an access lies where the plain machine has it
 pub lies-where :

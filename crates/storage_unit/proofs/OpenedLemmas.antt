@@ -49,9 +49,6 @@ weaker registers address n store weak at less is = grind (arith, nat_tests)
 none-less : (store : Bool) → (store && not store) ≡ false
 none-less store = grind (arith, nat_tests)
 
-stored-to : (store write : Bool) → (store && not write) ≡ false → store ≡ true → write ≡ true
-stored-to store write less is = grind (arith, nat_tests)
-
 -- who may store may load
 lets-load : (table : Placed) (d : Layout) (runner : ℕ) (at : Virtual) (write store : Bool) → (store && not write) ≡ false → lets_at d table runner at write ≡ true → lets_at d table runner at store ≡ true
 lets-load table d runner at write store less is = grind (arith, nat_tests)
@@ -65,14 +62,10 @@ part-located :
     → located_under page r o all write ≡ Ok first → located_under page r (o + past) n store ≡ Ok (moved first past)
 part-located page r o past n all write store first stays fits less is = grind (arith, nat_tests)
 
--- the 128 bytes that a byte is among, where a segment has whole ones
-round-page : (size : PageSize) (o : ℕ) → (o / 128 * 128 / page_bytes size ≡ o / page_bytes size) × (o / 128 * 128 % page_bytes size ≡ o % page_bytes size / 128 * 128)
-round-page size o = grind (arith, nat_tests)
-
 whole-located :
     (page : PageSize) (r : SegmentRegister) (o n : ℕ) (store : Bool) (first : Virtual) → r.bytes % 128 ≡ 0 → 0 < n
     → located_under page (Some r) o n store ≡ Ok first → located_under page (Some r) (o / 128 * 128) 128 store ≡ Ok (rounded first)
-whole-located page r o n store first whole some is = grind (arith, nat_tests, round-page page o)
+whole-located page r o n store first whole some is = grind (arith, nat_tests)
 
 -- segments have whole ones
 length-whole : (d : Layout) (segment bytes : ℕ) → length_of d segment ≡ Some bytes → bytes % 128 ≡ 0
@@ -93,10 +86,6 @@ opened-located registers address n all store first fits is =
     ∙ part-located registers.page (slice_index_or registers.list (address / 2 ^ 28) None) (address / 128 * 128 % 2 ^ 28) (address % 128) n all store store first (same, byte) fits (none-less store)
     (ap (λ i. located_under registers.page (slice_index_or registers.list i None) (address / 128 * 128 % 2 ^ 28) all store) (sym block) ∙ is)
 
--- two blocks behind each other in one page are located as one
-both-located : (page : PageSize) (r : SegmentRegister) (o : ℕ) (store : Bool) (first : Virtual) → o + 256 ≤ r.bytes → located_under page (Some r) o 128 store ≡ Ok first → located_under page (Some r) o 256 store ≡ Ok first
-both-located page r o store first fits is = grind (arith, nat_tests)
-
 pair-located :
     (registers : Registers) (address : ℕ) (store : Bool) (first next : Virtual) → address % 128 ≡ 0 → next.byte ≡ first.byte + 128
     → located_by registers address 128 store ≡ Ok first → located_by registers (address + 128) 128 store ≡ Ok next → located_by registers address 256 store ≡ Ok first
@@ -110,7 +99,7 @@ pair-located registers address store first next whole behind here there =
     let same : high.register ≡ low.register = one (sym high.stands ∙ ap (λ i. slice_index_or registers.list i None) window ∙ low.stands) in
     let fits : address % 2 ^ 28 + 256 ≤ low.register.bytes = omega (arith, high.fits, offset, ap (λ (r : SegmentRegister). r.bytes) same) in
     ap (λ r. located_under registers.page r (address % 2 ^ 28) 256 store) low.stands
-    ∙ both-located registers.page low.register (address % 2 ^ 28) store first fits (ap (λ r. located_under registers.page r (address % 2 ^ 28) 128 store) (sym low.stands) ∙ here)
+    ∙ (grind (arith, nat_tests))
   where
     one : {a b : SegmentRegister} → Some a ≡ Some b → a ≡ b
     one same = cc
@@ -326,7 +315,7 @@ module _ (unit : Unit) (block : ℕ) (line : OpenLine) (store : Bool) (less : (s
   line-lets own k below = lets-same unit.directory unit.legal unit.table unit.runner line.first k store line-whole below ∙ lets-load unit.table unit.directory unit.runner line.first line.write store less (told.allowed own)
 
   line-marks : store ≡ true → is_private line.first.segment ≡ false → (k : ℕ) → k < 128 → is_marked_at unit.directory (pool_of unit.pool).marked (moved line.first k) ≡ true
-  line-marks stores own k below = marked-same unit.directory unit.legal (pool_of unit.pool).marked line.first k line-whole below ∙ told.written own (stored-to store line.write less stores)
+  line-marks stores own k below = marked-same unit.directory unit.legal (pool_of unit.pool).marked line.first k line-whole below ∙ told.written own (grind (arith, nat_tests))
 
 -- an access in a block that is known, to store where the line is, may be made
 pub opened-line :
