@@ -253,12 +253,6 @@ memory-more programs [] event desk memory = refl
 memory-more programs (first ∷ events) event desk memory =
     memory-more programs events event (step programs first.0 first.1 desk).desk (if desk.closed then memory else after_event programs first.0 first.1 desk memory)
 
--- what a turn's happening tells of it
-printed-by : (number : ℕ) (turning : Turning) (memory : Memory) (counts : Counts) (steps : ℕ) (printed : List ℕ) → TurnMemory number turning memory
-    → (turned number turning).happening ≡ Turned number counts (Committed steps printed)
-    → (machine : Machine) × (memory.machines number ≡ Some machine) × (machine.state.out ≡ printed)
-printed-by number turning memory counts steps printed of happened = grind (arith, nat_tests)
-
 -- a turn that committed
 pub commit-told : (programs : List Program) (desk : Desk) (memory : Memory) (number limit : ℕ) (word : Word) (counts : Counts) (steps : ℕ) (printed : List ℕ) → IsConsistent desk → IsMemory desk memory
     → (step programs (Turn number limit) word desk).happening ≡ Turned number counts (Committed steps printed)

@@ -37,12 +37,6 @@ module _ (order : List (ℕ × ℕ)) where
   one_more : (attempt : Attempt) (desk : Desk) → desk.order ≡ order → (one : ℕ × ℕ) × (desk.order ++ (attempt.entry.number, attempt.entry.rows + 1) ∷ [] ≡ order ++ one ∷ [])
   one_more attempt desk is = ((attempt.entry.number, attempt.entry.rows + 1), ap (λ (front : List (ℕ × ℕ)). front ++ (attempt.entry.number, attempt.entry.rows + 1) ∷ []) is)
 
-  commits_keeps : (word : Word) (attempt : Attempt) (desk : Desk) (counts : Counts) → StaysOpen order desk → Keeps word order (commits word attempt desk counts)
-  commits_keeps word attempt desk counts was_open = grind (arith, nat_tests)
-
-  takes_effect_keeps : (word : Word) (attempt : Attempt) (outcome : Outcome) (desk : Desk) (counts : Counts) → StaysOpen order desk → Keeps word order (takes_effect word attempt outcome desk counts)
-  takes_effect_keeps word attempt outcome desk counts was_open = grind (arith, nat_tests)
-
   breaks_cycles_keeps : (left number : ℕ) (contest : Contest) → KeepsOpen order contest → KeepsOpen order (breaks_cycles left number contest)
   breaks_cycles_keeps left number contest kept = victims-keep (KeepsOpen order) number (λ desk counts kept. kept) by_victim left contest kept
     where
