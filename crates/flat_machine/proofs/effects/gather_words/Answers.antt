@@ -17,14 +17,8 @@ gather_step i first k into old ys regs below fits four before written =
     let long : length ys ≡ 4 = ap length whole ∙ length-bytes_high_first 4 (get_or regs (first + i) 0) in
     let inside : i < length rest = omega (arith, length-drop first regs) in
     let more : flat_map (big_bytes 4) (take (i + 1) rest) ≡ flat_map (big_bytes 4) (take i rest) ++ word =
-    ap (flat_map (big_bytes 4)) (take_more rest i 0 inside)
-    ∙ flat_map-append (big_bytes 4) (take i rest) (get_or rest i 0 ∷ [])
-    ∙ ap (λ t. flat_map (big_bytes 4) (take i rest) ++ t) (append-nil (big_bytes 4 (get_or rest i 0)))
-    ∙ ap (λ x. flat_map (big_bytes 4) (take i rest) ++ big_bytes 4 x) (get_or-drop first regs i 0) in
-    take-put_mid (4 * i) k into ys (4 * (i + 1)) (omega arith) (omega arith)
-    ∙ ap (λ t. t ++ ys) before
-    ∙ ap (λ t. flat_map (big_bytes 4) (take i rest) ++ t) whole
-    ∙ sym more
+    cc (take_more rest i 0 inside, flat_map-append (big_bytes 4) (take i rest) (get_or rest i 0 ∷ []), append-nil (big_bytes 4 (get_or rest i 0)), get_or-drop first regs i 0) in
+    cc (take-put_mid (4 * i) k into ys (4 * (i + 1)) (omega arith) (omega arith))
 
 pub loop-i-preserved : goal.loop-i-preserved
 loop-i-preserved c =
