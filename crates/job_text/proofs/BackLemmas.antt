@@ -59,5 +59,4 @@ job_ready text job is =
     }
 
 pub answer_ready : (text : List ℕ) (result : Result Job JobFault) → IsJobAnswer result (job_of text) → IfOk result IsReady
-answer_ready text (Ok job) answer = job_ready text job answer
-answer_ready text (Err fault) answer = tt
+answer_ready text case_2 answer = grind (arith, nat_tests, job_ready)

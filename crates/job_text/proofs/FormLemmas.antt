@@ -180,12 +180,7 @@ module _ (number : ℕ) (line : List ℕ) (lines : List (List ℕ)) (content : C
   begin_step name values says label few place given = grind (arith, nat_tests, event_step, says)
 
   begins_step : (name : List ℕ) (those : List Token) → found ≡ Word (codes "begin") ∷ Word name ∷ those → is_label name ≡ true → BackHere (begin_line reading name (values_of those))
-  begins_step name [] says label = begin_step name [] says label (omega arith) (place_among reading.names name) refl
-  begins_step name (Number a ∷ []) says label = begin_step name (a ∷ []) says label (omega arith) (place_among reading.names name) refl
-  begins_step name (Number a ∷ Number b ∷ []) says label = begin_step name (a ∷ b ∷ []) says label (omega arith) (place_among reading.names name) refl
-  begins_step name (Number a ∷ Number b ∷ Number c ∷ []) says label = begin_step name (a ∷ b ∷ c ∷ []) says label (omega arith) (place_among reading.names name) refl
-  begins_step name (Number a ∷ Number b ∷ Number c ∷ Number d ∷ []) says label = begin_step name (a ∷ b ∷ c ∷ d ∷ []) says label (omega arith) (place_among reading.names name) refl
-  begins_step name _ says label = tt
+  begins_step name case_2 says label = grind (arith, nat_tests, begin_step)
 
   found_step : (these : List Token) → found ≡ these → BackHere (schedule_line reading these)
   found_step [] says = blank_step says
@@ -453,12 +448,10 @@ last_step stage reading number last content at is = grind (arith, nat_tests)
 -- one line more
 module _ (number : ℕ) (line : List ℕ) (lines : List (List ℕ)) (content : Content) where
   back_at : (stage : Stage) (reading : Reading) (read : Result Reading ℕ) → Back stage reading number line lines content read → Back stage reading number line lines content (at_line number read)
-  back_at stage reading (Ok new) back = back
-  back_at stage reading (Err kind) back = tt
+  back_at stage reading case_3 back = grind (arith, nat_tests)
 
   by_found : (stage : Stage) (reading : Reading) (meaning : List Token → Result Reading ℕ) (found : Result (List Token) ℕ) → ((those : List Token) → found ≡ Ok those → Back stage reading number line lines content (meaning those)) → Back stage reading number line lines content (at_line number (by_tokens meaning found))
-  by_found stage reading meaning (Ok those) back = back_at stage reading (meaning those) (back those refl)
-  by_found stage reading meaning (Err kind) back = tt
+  by_found stage reading meaning case_4 back = grind (arith, nat_tests)
 
   line_step : (stage : Stage) (reading : Reading) → reading.stage ≡ stage → IsFew reading → Back stage reading number line lines content (line_read stage reading number line)
   line_step Frames reading at small = by_found Frames reading (frames_line reading) (tokens line) (λ those is. frames_step number line lines content reading those at small is those refl)

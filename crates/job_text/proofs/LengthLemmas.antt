@@ -5,8 +5,7 @@ use Rattle.flat_machine.specs.declared.machine.Window.{Window as Sight}
 use Rattle.job_text.proofs.WrittenFormLemmas.{AllSound, AreTokens, job_tokens}
 
 word_short : (word : List ℕ) → IsWord word → length word ≤ 31
-word_short [] is = absurd is
-word_short (byte ∷ bytes) is = is.2
+word_short case_1 is = grind (arith, nat_tests)
 
 number_short : (number : ℕ) → number < 2 ^ 32 → length (decimal number) ≤ 10
 number_short number small = length-decimal-le 10 number (omega arith) (omega (arith, small)) (omega (arith, small))

@@ -42,8 +42,7 @@ alphanumeric_plain : (byte : ℕ) → is_ascii_alphanumeric byte ≡ true → pl
 alphanumeric_plain byte e = grind (arith, nat_tests)
 
 word_plain : (word : List ℕ) → IsWord word → list_all plain word ≡ true
-word_plain [] is = absurd is
-word_plain (byte ∷ bytes) is = rw (begins_plain byte is.0) (each_also continues_word plain bytes continues_plain is.1)
+word_plain case_1 is = grind (arith, nat_tests, begins_plain, each_also, continues_plain)
 
 token_plain : (token : Token) → IsToken token → list_all plain (token_text token) ≡ true
 token_plain (Word word) is = word_plain word is
