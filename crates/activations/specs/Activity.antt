@@ -1,31 +1,12 @@
 -- What runs side by side, the desk that it is over committed bytes, and what `Activations` are seen as.
 use Rattle.std.specs.Prelude.{[], refl, ℕ, zero, suc, false, List, length, map, replicate, slice_index_or, None, is_some}
 use Rattle.std.proofs.Common.{lit<, lit≤}
-use Rattle.std.specs.List.{flat_map, range_with_len}
+use Rattle.activations.specs.Below.{Authority, bytes_over, clear, Desk, Entry, flat_lines, flat_map, Grant, grant_of, Lines, lines_wanted, no_lines, of_page, of_seat, owners_told, PageSize, Plain, Pool, private_bytes, Program, range_with_len, Reach, reach_of, Seating, sitter, unowned}
 use Rattle.std.specs.Option.{option_map_or}
 use Rattle.lines.specs.FlatStore.{FlatStore}
-use Rattle.lines.specs.declared.line_geometry.PageSize.{PageSize}
 use Rattle.lines.specs.declared.line_geometry.PageSize.TheVariants.{Two}
-use Rattle.lines.specs.Access.{Grant}
-use Rattle.lines.specs.Conflicts.{Lines, no_lines}
-use Rattle.seats.specs.Held.{of_page}
-use Rattle.seats.specs.Flat.{flat_lines, lines_wanted}
-use Rattle.seats.specs.Holding.{of_seat}
-use Rattle.page_table.specs.Placed.{unowned}
-use Rattle.page_table.specs.Entries.{grant_of}
-use Rattle.page_table.specs.declared.lockbit_rules.Authority.{Authority}
-use Rattle.frame_pool.specs.declared.model.Pool.{Pool}
-use Rattle.flat_machine.specs.declared.machine.Plain.{Plain}
-use Rattle.flat_machine.specs.declared.machine.Program.{Program}
-use Rattle.flat_machine.specs.After.{clear}
-use Rattle.desk.specs.Desk.{Desk, Entry}
-use Rattle.desk_law.specs.Beside.{owners_told}
 use Rattle.seats.specs.declared.seat.Seat.{Seat}
-use Rattle.seats.specs.Seating.{Seating, sitter}
-use Rattle.storage_unit.specs.declared.model.Reach.{Reach}
-use Rattle.storage_unit.specs.Bytes.{bytes_over, private_bytes}
 use Rattle.activations.specs.declared.live.Live.{Live}
-use Rattle.storage_unit.specs.View.{reach_of}
 use Rattle.activations.specs.declared.activations.Activations.{Activations}
 
 -- the programs that may begin, the lines that a record may have, the next number, who sits where and holds what, what runs in

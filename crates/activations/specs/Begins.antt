@@ -1,19 +1,9 @@
 -- What a begin makes of those that run.
 use Rattle.std.specs.Prelude.{[], ◌≡◌, ℕ, ◌+◌, List, Option, Some, None, slice_set}
-use Rattle.lines.specs.Directory.{Layout, page_count}
-use Rattle.flat_machine.specs.declared.machine.Program.{Program}
-use Rattle.flat_machine.specs.After.{first_registers, clear}
-use Rattle.romp_cpu.specs.Segments.{registers_of_program}
+use Rattle.activations.specs.Below.{absent_segment, begun, begun_told, clear, Desk, Fine, first_registers, Layout, made, newcomer, next_seat, nobody_sits, page_count, private_segment, Program, registers_of_program, seated, step}
 use Rattle.desk.specs.declared.answers.Begun.{Begun}
 use Rattle.desk.specs.declared.answers.Begun.TheVariants.{Started, Busy, NoSegment}
 use Rattle.desk.specs.declared.event.Event.TheVariants.{Begin}
-use Rattle.desk.specs.Answers.{begun_told}
-use Rattle.desk.specs.Desk.{Desk}
-use Rattle.desk.specs.Instruction.{Fine}
-use Rattle.desk.specs.Run.{absent_segment, step}
-use Rattle.seats.specs.Seating.{newcomer, next_seat, nobody_sits, seated}
-use Rattle.storage_unit.specs.Places.{private_segment}
-use Rattle.storage_unit.specs.Served.{begun, made}
 use Rattle.activations.specs.declared.live.Live.{Live}
 use Rattle.activations.specs.Activity.{Activity, program_at, desk_over}
 use Rattle.activations.specs.Follows.{KeepsDesk}

@@ -1,22 +1,8 @@
 -- What holds of those that run side by side at every moment.
 use Rattle.std.specs.Prelude.{[], ◌≡◌, ℕ, ◌+◌, ◌<◌, ◌≤◌, ◌⊎◌, true, false, List, All, length, slice_index_or, Some}
-use Rattle.lines.specs.Directory.{byte_count, page_count}
-use Rattle.lines.specs.Sets.{has}
-use Rattle.lines.specs.LineSets.{IsOfPage}
-use Rattle.seats.specs.Held.{of_page}
-use Rattle.seats.specs.Holding.{of_seat}
-use Rattle.romp_cpu.specs.Segments.{registers_of_program}
-use Rattle.desk.specs.Holdings.{requested, due_to}
-use Rattle.desk_law.specs.Beside.{AreSeats, AreMarked, AreAlike, IsState}
+use Rattle.activations.specs.Below.{AreAlike, AreMarked, AreOfPage, AreSeats, Authority, byte_count, due_to, has, is_line_marked, IsClean, IsOfPage, IsSeating, IsState, number_in, of_page, of_seat, page_count, private_segment, registers_of_program, Request, requested, sitter, unowned}
 use Rattle.desk_law.specs.Current.{IsCurrent}
 use Rattle.desk_law.specs.Orderly.{IsOrderly}
-use Rattle.page_table.specs.declared.lockbit_rules.Authority.{Authority}
-use Rattle.page_table.specs.Placed.{unowned}
-use Rattle.seats.specs.declared.request.Request.{Request}
-use Rattle.seats.specs.Seating.{IsSeating, sitter, number_in}
-use Rattle.seats.specs.Waiting.{AreOfPage}
-use Rattle.storage_unit.specs.Bytes.{IsClean, is_line_marked}
-use Rattle.storage_unit.specs.Places.{private_segment}
 use Rattle.activations.specs.Activity.{Activity, live_in, program_in, entry_in, entries, store_over, desk_over, locks_in, request_in, state_in, shown}
 
 -- A seat that is taken: its program is one of those that may begin, its private storage is begun, its registers are its

@@ -1,25 +1,12 @@
 -- What an attempt in a seat came to, what stays while those that run are served, and rows of what runs in a seat beside what it reaches.
 use Rattle.std.specs.Prelude.{[], ◌≡◌, ◌⊎◌, ℕ, ◌+◌, ◌<◌, ◌≤◌, List, ◌∷◌, ◌++◌, length, slice_set, true, slice_index_or, Option, Some, None}
-use Rattle.lines.specs.Directory.{byte_count}
-use Rattle.flat_machine.specs.declared.machine.Plain.{Plain}
-use Rattle.flat_machine.specs.Row.{Outcome, On, Commit, Check, row}
-use Rattle.flat_machine.specs.Touched.{touched}
-use Rattle.seats.specs.declared.request.Want.{Want}
-use Rattle.seats.specs.Flat.{lines_wanted}
+use Rattle.activations.specs.Below.{Access, byte_count, Check, Commit, Counts, Going, has, IsClean, IsShutOut, lines_wanted, number_in, On, Outcome, Plain, plain_over, private_bytes, Reach, row, sitter, touched, turns, unowned, Want, Word}
 use Rattle.romp_cpu.specs.declared.cpu.Attempt.{Attempt}
 use Rattle.romp_cpu.specs.declared.cpu.Cpu.{Cpu}
 use Rattle.romp_cpu.specs.Tried.{at}
-use Rattle.storage_unit.specs.declared.model.Reach.{Reach}
-use Rattle.storage_unit.specs.Bytes.{IsClean, private_bytes}
-use Rattle.storage_unit.specs.Rows.{IsShutOut, plain_over}
-use Rattle.romp_cpu.specs.declared.storage.Access.{Access}
-use Rattle.desk.specs.Instruction.{Word, Counts, Going, turns}
-use Rattle.seats.specs.Seating.{number_in, sitter}
 use Rattle.activations.specs.Activity.{Activity, live_in, program_in, desk_over}
 use Rattle.activations.specs.Follows.{KeepsDesk, IsSound}
 use Rattle.activations.specs.Steps.{executed, counted, HasExecuted}
-use Rattle.lines.specs.Sets.{has}
-use Rattle.page_table.specs.Placed.{unowned}
 use Rattle.activations.specs.declared.live.Live.{Live}
 
 -- the unit is what a seat reaches

@@ -1,3 +1,4 @@
+pub mod Below
 pub mod Touched
 pub mod Activity
 pub mod Follows

@@ -1,24 +1,9 @@
 -- The record of a commit: the lines that who sits in a seat holds to write, as all see them.
 use Rattle.std.specs.Prelude.{[], ◌≡◌, ℕ, ◌+◌, ◌<◌, ◌%◌, List, ◌∷◌, ◌++◌, All, length, map, Some}
-use Rattle.std.specs.List.{AllPairs, flat_map}
-use Rattle.lines.specs.declared.line_geometry.PageSize.{PageSize}
-use Rattle.flat_machine.specs.declared.machine.Plain.{Plain}
-use Rattle.flat_machine.specs.After.{after}
-use Rattle.flat_machine.specs.Row.{Commit, row}
-use Rattle.frame_pool.specs.declared.model.Pool.{Pool}
+use Rattle.activations.specs.Below.{after, AllPairs, begun_of, Commit, entry_bytes, flat_lines, flat_map, has, held_at, holds_some, KeptStore, laid, over_all, page_of_line, PageSize, Plain, Pool, record_bytes_of, row, with_begun}
 use Rattle.frame_pool.specs.Pool.{line_shown}
-use Rattle.desk_law.specs.Beside.{over_all}
 use Rattle.seats.specs.Counted.{Ascend}
-use Rattle.seats.specs.Flat.{flat_lines}
-use Rattle.seats.specs.Held.{holds_some}
-use Rattle.seats.specs.Holding.{held_at}
-use Rattle.lines.specs.Conflicts.{page_of_line}
-use Rattle.lines.specs.Sets.{has}
-use Rattle.store.specs.Kept.{begun_of, record_bytes_of}
-use Rattle.store.specs.KeptStore.{KeptStore, with_begun}
-use Rattle.store_format.specs.Header.{entry_bytes}
 use Rattle.store_format.specs.Bank.{RecordLine}
-use Rattle.store_format.specs.Stands.{laid}
 use Rattle.activations.specs.Activity.{Activity, program_in, entry_in, store_over, locks_in, shown}
 use Rattle.activations.specs.Follows.{KeepsDesk}
 use Rattle.activations.specs.Steps.{wrote}

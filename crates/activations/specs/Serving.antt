@@ -1,32 +1,10 @@
 -- An instruction that is served, from where it began, step by step.
 use Rattle.std.specs.Prelude.{[], ◌≡◌, ℕ, ◌+◌, ◌==◌, ◌&&◌, not, if◌then◌else◌, Bool, length, Some, List, ◌∷◌, filter, map, slice_index_or, slice_set, ◌≢◌, nat_lt, true, false, ◌++◌, All}
-use Rattle.seats.specs.declared.request.Want.{Want}
-use Rattle.seats.specs.Holding.{held_at}
-use Rattle.page_table.specs.Entries.{grant_of}
-use Rattle.page_table.specs.declared.lockbit_rules.Authority.{Authority}
-use Rattle.lines.specs.Directory.{is_fine_page}
-use Rattle.lines.specs.Conflicts.{is_whole_page}
-use Rattle.lines.specs.Access.{nobody, Grant, grant_by, fine_grant_by}
-use Rattle.seats.specs.declared.request.Request.{Request}
-use Rattle.seats.specs.Seating.{took, waiting_for, sitter}
+use Rattle.activations.specs.Below.{AreAlike, AreOfPage, Attempt, Authority, Broken, conflicts_of, contest_ends, Counts, Desk, difference, Disk, Ending, Fetched, fetches, Fine, fine_grant_by, gets, Going, Grant, grant_by, grant_of, has, held_at, holders, instruction, is_fine_page, is_whole_page, Journal, Keeps, lines_wanted, lines_within, locks_with, lowered, nobody, of_page, On, Over, over_all, owners_told, Plain, Pool, Reads, refuses, Request, rolled_back, row, sitter, size, took, touched, touched_pages, Turning, waiting_for, Want, with_grants, Word, write_count}
 use Rattle.activations.specs.Touched.{with_whole_page, stores_into, pages_wanted, IsApart, pages_refused}
-use Rattle.desk.specs.Desk.{Desk, rolled_back}
-use Rattle.desk.specs.Holdings.{conflicts_of}
-use Rattle.desk.specs.Instruction.{Word, Counts, Attempt, Turning, Over, Going, Ending, instruction, contest_ends, gets, refuses, lines_within, touched_pages, Fetched, Broken, Fine, Journal, Disk, fetches, with_grants, lowered, locks_with}
-use Rattle.desk_law.specs.Beside.{Reads, AreAlike, over_all, owners_told}
 use Rattle.desk_law.specs.UnderWay.{KeepsPages, contest, IsUnderWay, IsReady, marked, served_attempt}
 use Rattle.activations.specs.Activity.{Activity, entry_in, desk_over, program_in, number_under, authority_under, lines_held, locks_in, state_in, shown}
 use Rattle.activations.specs.Follows.{IsKept, KeepsDesk, AreOfPages, IsSound}
-use Rattle.lines.specs.Sets.{has, size}
-use Rattle.seats.specs.Flat.{lines_wanted}
-use Rattle.seats.specs.Held.{of_page, write_count}
-use Rattle.lines.specs.LineSets.{difference}
-use Rattle.flat_machine.specs.declared.machine.Plain.{Plain}
-use Rattle.flat_machine.specs.Row.{On, row}
-use Rattle.flat_machine.specs.Touched.{touched}
-use Rattle.frame_pool.specs.declared.model.Pool.{Pool}
-use Rattle.seats.specs.Waiting.{holders, AreOfPage}
-use Rattle.storage_unit.specs.Laws.{Keeps}
 use Rattle.activations.specs.declared.live.Live.{Live}
 use Rattle.activations.specs.Kept.{plain_in}
 use Rattle.activations.specs.Steps.{counted, executed, with_pool, rolled, IsMoved, RollsBack, HasExecuted}

@@ -1,31 +1,9 @@
 -- Pages that come in from the store on the disk; what the stages of a turn ask for, what each leaves, and why a turn ended before its commit call.
 use Rattle.std.specs.Prelude.{[], ◌≡◌, ℕ, ◌+◌, ◌<◌, if◌then◌else◌, true, false, List, Option, Some, option_to_list, ◌≤◌, ◌++◌, ◌∷◌, length, Result, Ok, Err}
-use Rattle.lines.specs.Directory.{Layout}
-use Rattle.lines.specs.Resident.{brought}
-use Rattle.lines.specs.Sets.{has}
-use Rattle.frame_pool.specs.declared.model.Pool.{Pool}
-use Rattle.outside.specs.declared.world.Outside.{Ghosts}
-use Rattle.outside.specs.Runs.{held_of, OnlyAsks}
-use Rattle.store_format.specs.Stands.{Stands, stands}
-use Rattle.store.specs.KeptStore.{KeptStore}
-use Rattle.store.specs.Shows.{TracksStore}
-use Rattle.desk.specs.Instruction.{ReadFailed, Broken, fetches, Word, Counts, Attempt, Turning}
-use Rattle.storage_unit.specs.Laws.{Keeps}
-use Rattle.storage_unit.specs.Bytes.{IsClean}
+use Rattle.activations.specs.Below.{array_vec_len, Attempt, Broken, brought, Check, Counts, fetches, Ghosts, has, held_of, HoldsAtLeast, IsClean, Keeps, KeptStore, Layout, lines_wanted, number_in, On, OnlyAsks, Plain, Pool, ReadFailed, Rose, row, Stands, stands, total, TracksStore, TurnEnd, Turning, victim_of, Want, Word}
 use Rattle.activations.specs.Activity.{Activity, desk_over, program_in}
 use Rattle.activations.specs.Steps.{HasUndone, IsMoved, IsRolledBack, with_pool, rolled, counted}
-use Rattle.lines.specs.Waits.{victim_of}
 use Rattle.desk.specs.declared.answers.Cycle.{Cycle}
-use Rattle.desk.specs.declared.answers.TurnEnd.{TurnEnd}
-use Rattle.arrayvec.specs.ArrayVec.{array_vec_len}
-use Rattle.outside.specs.Causes.{Rose}
-use Rattle.store.specs.Held.{HoldsAtLeast}
-use Rattle.store_format.specs.Header.{total}
-use Rattle.flat_machine.specs.declared.machine.Plain.{Plain}
-use Rattle.flat_machine.specs.Row.{Check, On, row}
-use Rattle.seats.specs.declared.request.Want.{Want}
-use Rattle.seats.specs.Flat.{lines_wanted}
-use Rattle.seats.specs.Seating.{number_in}
 use Rattle.activations.specs.declared.tally.Tally.{Tally}
 use Rattle.activations.specs.Kept.{IsSelected, plain_in, KeepsParts, StaysSeated}
 use Rattle.activations.specs.Follows.{IsSound, KeepsDesk}

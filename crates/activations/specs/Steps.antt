@@ -1,31 +1,10 @@
 -- What a row of one does to all, and what endings leave: one rolled back or committed, and everybody rolled back.
 use Rattle.std.specs.Prelude.{◌≡◌, ℕ, ◌+◌, ◌<◌, ◌%◌, ◌&&◌, not, if◌then◌else◌, Bool, List, slice_index, slice_set, true, Some, [], length}
-use Rattle.lines.specs.Directory.{Layout, byte_count}
-use Rattle.lines.specs.Lines.{line_of}
-use Rattle.lines.specs.Sets.{has}
-use Rattle.lines.specs.Conflicts.{page_of_line}
-use Rattle.lines.specs.Resident.{taken_out}
-use Rattle.seats.specs.Holding.{Holding, held_at}
-use Rattle.frame_pool.specs.declared.model.Pool.{Pool}
-use Rattle.flat_machine.specs.declared.machine.Plain.{Plain}
-use Rattle.flat_machine.specs.After.{after}
-use Rattle.flat_machine.specs.Row.{Commit, row}
-use Rattle.desk_law.specs.Beside.{IsLaid, over_all}
+use Rattle.activations.specs.Below.{after, AreConsistent, byte_count, bytes_over, Commit, Counts, due_to, ended, GoesOpen, Going, has, held_at, Holding, instruction, is_line_marked, IsClean, IsLaid, Keeps, Layout, LeavesSeats, left, line_of, over_all, page_of_line, Plain, plain_over, Pool, private_bytes, Reach, released, restarted, rolled_back, row, taken_out, went_on, Word}
 use Rattle.desk_law.specs.Changes.{committed_at}
-use Rattle.desk_law.specs.Consistent.{AreConsistent}
-use Rattle.desk.specs.Desk.{rolled_back}
-use Rattle.desk.specs.Instruction.{Word, Counts, Going, instruction}
-use Rattle.desk.specs.Holdings.{due_to}
-use Rattle.seats.specs.Seating.{went_on, left}
-use Rattle.storage_unit.specs.Served.{ended, released}
-use Rattle.storage_unit.specs.Rows.{GoesOpen, LeavesSeats, plain_over}
-use Rattle.storage_unit.specs.Bytes.{IsClean, is_line_marked, bytes_over, private_bytes}
 use Rattle.activations.specs.declared.live.Live.{Live}
 use Rattle.activations.specs.Activity.{Activity, live_in, program_in, entry_in, entries, store_over, desk_over, shown}
 use Rattle.activations.specs.Follows.{IsKept, KeepsDesk}
-use Rattle.storage_unit.specs.declared.model.Reach.{Reach}
-use Rattle.storage_unit.specs.Laws.{Keeps}
-use Rattle.desk.specs.Run.{restarted}
 
 -- who sits in a seat has done so many rows more, and waits for nothing
 abbrev pub counted : Activity → (seat rows : ℕ) → Activity

@@ -1,20 +1,7 @@
 -- The lines that an access touches, page by page.
 use Rattle.std.specs.Prelude.{[], ℕ, ◌+◌, ◌-◌, ◌*◌, ◌<◌, ◌==◌, ◌&&◌, ◌≡◌, not, if◌then◌else◌, Bool, false, filter, slice_index_or, List, ◌∷◌, ◌++◌, All, length, map}
-use Rattle.seats.specs.Flat.{lines_wanted}
-use Rattle.seats.specs.Held.{AreWithin}
-use Rattle.lines.specs.Directory.{Layout, page_count, is_fine_page}
-use Rattle.lines.specs.Conflicts.{pages_of, Lines}
-use Rattle.desk.specs.Instruction.{refuses}
-use Rattle.desk_law.specs.Consistent.{AreDistinct}
-use Rattle.seats.specs.Waiting.{AreOfPage}
-use Rattle.lines.specs.Sets.{has}
-use Rattle.std.specs.List.{list_any, range_with_len}
-use Rattle.page_table.specs.Entries.{grant_of}
-use Rattle.page_table.specs.declared.lockbit_rules.Authority.{Authority}
-use Rattle.page_table.specs.Placed.{unowned}
-use Rattle.lines.specs.LineSets.{between, union}
+use Rattle.activations.specs.Below.{AreDistinct, AreOfPage, AreWithin, Authority, between, grant_of, has, is_fine_page, Layout, Lines, lines_wanted, list_any, page_count, pages_of, range_with_len, refuses, union, unowned, Want}
 use Rattle.activations.specs.declared.touch.Touch.{Touch}
-use Rattle.seats.specs.declared.request.Want.{Want}
 
 -- the lines from a first to a last, to store to or to load from
 abbrev pub lines_between : (first last : ℕ) → (store : Bool) → Lines

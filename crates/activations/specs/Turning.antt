@@ -1,33 +1,14 @@
 -- What instructions and turns come to, stage by stage and as they are answered.
 use Rattle.std.specs.Prelude.{[], ◌≡◌, ◌≢◌, ℕ, List, map, Result, Ok, Err, ◌+◌, ◌<◌, ◌≤◌, ◌∷◌, length, Bool, Option, Some}
-use Rattle.desk.specs.Answers.{ending_told}
-use Rattle.desk.specs.Desk.{Desk}
-use Rattle.desk.specs.declared.answers.TurnEnd.{TurnEnd}
-use Rattle.desk.specs.Instruction.{Word, ReadFailed, Counts, Attempt, Turning, Over, Disk, Going, commits, turns}
+use Rattle.activations.specs.Below.{Access, after, Attempt, Authority, byte_count, Commit, commits, Counts, Desk, Disk, ending_told, Ghosts, Going, holders, IsClean, lines_wanted, number_in, On, Over, over_all, Plain, ReadFailed, Reads, Request, Rose, row, TurnEnd, Turning, turns, Want, wanted, Word}
 use Rattle.activations.specs.declared.tally.Tally.{Tally}
-use Rattle.seats.specs.Seating.{number_in}
 use Rattle.activations.specs.Activity.{Activity, desk_over, live_in, program_in, entry_in, store_over, shown}
 use Rattle.activations.specs.Follows.{KeepsDesk}
 use Rattle.activations.specs.Serving.{ComesToEnd, IsFree, IsContested, Goes, asking, AreLowered, pages_lowered, with_entries}
-use Rattle.outside.specs.declared.world.Outside.{Ghosts}
-use Rattle.outside.specs.Causes.{Rose}
-use Rattle.flat_machine.specs.declared.machine.Plain.{Plain}
-use Rattle.flat_machine.specs.Row.{On, Commit, row}
-use Rattle.lines.specs.Directory.{byte_count}
-use Rattle.seats.specs.Flat.{lines_wanted}
-use Rattle.seats.specs.declared.request.Request.{Request}
-use Rattle.seats.specs.declared.request.Want.{Want}
-use Rattle.page_table.specs.declared.lockbit_rules.Authority.{Authority}
-use Rattle.seats.specs.Waiting.{holders}
-use Rattle.storage_unit.specs.Bytes.{IsClean}
 use Rattle.activations.specs.declared.live.Live.{Live}
 use Rattle.activations.specs.declared.touch.Touch.{Touch}
 use Rattle.activations.specs.Steps.{counted, executed, HasExecuted}
 use Rattle.activations.specs.Touched.{wants_of, pages_picked, with_whole_page}
-use Rattle.flat_machine.specs.After.{after}
-use Rattle.romp_cpu.specs.declared.storage.Access.{Access}
-use Rattle.desk.specs.Holdings.{wanted}
-use Rattle.desk_law.specs.Beside.{Reads, over_all}
 use Rattle.activations.specs.declared.instructions.Went.{Went}
 use Rattle.activations.specs.Kept.{IsShut}
 use Rattle.desk.specs.declared.answers.TurnEnd.TheVariants as end

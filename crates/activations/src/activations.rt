@@ -1,11 +1,6 @@
 // Who runs, what each has, and the storage that they share.
 ghost use Rattle.std.specs.Prelude.{◌≡◌, ℕ, ◌-◌, ◌^◌, ◌≤◌, List, length, IfOk, ◌<◌};
-ghost use Rattle.store_format.specs.Header.{most_lines};
-ghost use Rattle.desk.specs.Run.{absent_segment};
-ghost use Rattle.desk.specs.Desk.{opened};
-ghost use Rattle.lines.specs.Directory.{byte_count};
-ghost use Rattle.storage_unit.specs.View.{reach_of};
-ghost use Rattle.lines.specs.Sets.{has};
+ghost use Rattle.activations.specs.Below.{absent_segment, byte_count, has, most_lines, opened, reach_of};
 
 use super::live::Live;
 use desk::Begun;

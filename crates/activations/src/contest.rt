@@ -1,8 +1,6 @@
 // Who waits for whom, and the cycles that are broken.
 ghost use Rattle.std.specs.Prelude.{◌≡◌, ◌≤◌, ◌+◌, ◌==◌, true, length, IsSome, Some, ◌<◌, OnOk, IfErr};
-ghost use Rattle.arrayvec.specs.ArrayVec.{array_vec_len};
-ghost use Rattle.lines.specs.Sets.{has};
-ghost use Rattle.lines.specs.Waits.{victim_of};
+ghost use Rattle.activations.specs.Below.{array_vec_len, has, victim_of};
 
 use super::activations::Activations;
 use super::tally::Tally;
@@ -15,9 +13,7 @@ impl Activations {
     ghost use Rattle.activations.specs.Stages.{CountsCycles, EndsContest, KeepsSound};
     ghost use Rattle.activations.specs.Activity.{activity_of};
     ghost use Rattle.activations.specs.Turning.{Settles};
-    ghost use Rattle.seats.specs.declared.request.Request.{Request};
-    ghost use Rattle.seats.specs.Seating.{number_in, sitter};
-    ghost use Rattle.seats.specs.Waiting.{holders};
+    ghost use Rattle.activations.specs.Below.{holders, number_in, Request, sitter};
 
     /// Who sits in a seat waits, and each cycle of waits from it is broken by rolling its victim back. Nothing is returned
     /// where nobody holds any more what it asks for.

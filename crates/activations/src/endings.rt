@@ -1,9 +1,6 @@
 // How an activation ends.
 ghost use Rattle.std.specs.Prelude.{◌≡◌, ◌<◌, true, false, ℕ, List};
-ghost use Rattle.lines.specs.Directory.{page_count};
-ghost use Rattle.lines.specs.Sets.{has};
-ghost use Rattle.seats.specs.Holding.{IsWhole};
-ghost use Rattle.storage_unit.specs.View.{reach_of};
+ghost use Rattle.activations.specs.Below.{has, IsWhole, page_count, reach_of};
 ghost use Rattle.activations.specs.Steps.{HasUndone, HasSettled, IsDeserted, IsRestarted, reprinted, rolled, vacated, IsRolledBack, IsCommitted, IsUndone, AreSettled};
 
 use super::activations::Activations;

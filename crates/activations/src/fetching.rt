@@ -1,13 +1,6 @@
 // Pages come in from the store on the disk.
 ghost use Rattle.std.specs.Prelude.{[], ◌≡◌, ◌+◌, ◌<◌, ◌^◌, false, OnOk, OnErr, option_to_list};
-ghost use Rattle.lines.specs.Directory.{page_count};
-ghost use Rattle.lines.specs.Resident.{brought};
-ghost use Rattle.lines.specs.Sets.{has};
-ghost use Rattle.outside.specs.Causes.{FailsOnlyCounted};
-ghost use Rattle.outside.specs.Runs.{OnlyAsks};
-ghost use Rattle.store.specs.Held.{HoldsAtLeast};
-ghost use Rattle.store_format.specs.Header.{total};
-ghost use Rattle.storage_unit.specs.View.{reach_of};
+ghost use Rattle.activations.specs.Below.{brought, FailsOnlyCounted, has, HoldsAtLeast, OnlyAsks, page_count, reach_of, total};
 ghost use Rattle.activations.specs.Stages.{IsIn, IsUnread, KeepsStore, CanFetch, CountsPages, Fetches};
 ghost use Rattle.activations.specs.Steps.{IsMoved, with_pool};
 ghost use Rattle.activations.specs.Touched.{AreWanted, wants_of, pages_wanted};

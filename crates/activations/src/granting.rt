@@ -1,9 +1,6 @@
 // Lines are locked, the pages whose entries refused them are granted, and write bits of fine pages go off again.
 ghost use Rattle.std.specs.Prelude.{[], ◌≡◌, ◌<◌, ◌∷◌, map, true};
-ghost use Rattle.lines.specs.Directory.{page_count};
-ghost use Rattle.seats.specs.Held.{AreWithin};
-ghost use Rattle.lines.specs.Sets.{has};
-ghost use Rattle.desk_law.specs.Consistent.{AreDistinct};
+ghost use Rattle.activations.specs.Below.{AreDistinct, AreWithin, has, page_count};
 ghost use Rattle.activations.specs.Touched.{AreWanted, page_if, pages_picked, pages_wanted, wants_of, with_whole_page};
 
 use super::activations::Activations;

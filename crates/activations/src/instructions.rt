@@ -1,11 +1,7 @@
 // One instruction of who sits in a seat: it takes effect, once its access has been served where it must be.
 ghost use Rattle.std.specs.Prelude.{◌≡◌, ◌+◌, ◌<◌, ◌≤◌, ◌^◌, true, length, IfErr, IfOk, OnOk};
-ghost use Rattle.arrayvec.specs.ArrayVec.{array_vec_len};
-ghost use Rattle.lines.specs.Sets.{has};
-ghost use Rattle.outside.specs.Runs.{OnlyAsks};
+ghost use Rattle.activations.specs.Below.{array_vec_len, has, IsOpen, lines_wanted, OnlyAsks};
 ghost use Rattle.desk.specs.declared.answers.TurnEnd.TheVariants as end;
-ghost use Rattle.seats.specs.Flat.{lines_wanted};
-ghost use Rattle.storage_unit.specs.Rows.{IsOpen};
 ghost use Rattle.activations.specs.Touched.{wants_of, pages_picked, pages_wanted, AreLetBut, AreWanted};
 
 use super::activations::Activations;

@@ -1,13 +1,7 @@
 // The pages of an open store, as the storage unit reads them.
 ghost use Rattle.std.specs.Prelude.{◌≡◌, ◌<◌, false};
-ghost use Rattle.lines.specs.Directory.{page_count};
+ghost use Rattle.activations.specs.Below.{held_of, HoldsAtLeast, IsShown, OnlyAsks, page_count, page_in, Rose, stands, total};
 ghost use Rattle.lines.specs.Segments.{page_bytes};
-ghost use Rattle.outside.specs.Causes.{Rose};
-ghost use Rattle.outside.specs.Runs.{OnlyAsks, held_of};
-ghost use Rattle.store.specs.Held.{HoldsAtLeast};
-ghost use Rattle.store_format.specs.Header.{total};
-ghost use Rattle.store_format.specs.Stands.{stands};
-ghost use Rattle.store.specs.Shows.{IsShown, page_in};
 
 use outside::{Failed, Outside};
 use storage_unit::Pages;

@@ -1,13 +1,7 @@
 // The record of a commit.
 ghost use Rattle.std.specs.Prelude.{[], ◌≡◌, ◌+◌, ◌*◌, ◌<◌, ◌≤◌, ℕ, List, All, length, true, Some, IsSome, IsOk, OnOk, OnErr, IfErr};
-ghost use Rattle.lines.specs.Sets.{has, size};
-ghost use Rattle.lines.specs.Directory.{page_count};
-ghost use Rattle.seats.specs.Flat.{flat_lines};
-ghost use Rattle.seats.specs.Held.{write_count};
-ghost use Rattle.seats.specs.Holding.{of_seat};
+ghost use Rattle.activations.specs.Below.{begun_of, flat_lines, has, most_lines, of_seat, page_count, size, write_count};
 ghost use Rattle.frame_pool.specs.View.{pool_of};
-ghost use Rattle.store_format.specs.Header.{most_lines};
-ghost use Rattle.store.specs.Kept.{begun_of};
 ghost use Rattle.activations.specs.Recorded.{with_lines, IsRecordOf, LeavesCommitted, HasWritten};
 
 use super::activations::Activations;

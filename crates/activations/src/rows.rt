@@ -3,8 +3,7 @@ ghost use Rattle.std.specs.Prelude.{◌≡◌, ◌≤◌, ◌<◌, ℕ, true, So
 ghost use Rattle.activations.specs.Activity.{Activity, activity_of};
 ghost use Rattle.activations.specs.Kept.{WasAttempted, IsShut, IsStopped, HasStrode, RunsAt, standing, with_live, KeepsParts, IsSelected, Strode};
 ghost use Rattle.activations.specs.Follows.{IsSound};
-ghost use Rattle.storage_unit.specs.View.{reach_of};
-ghost use Rattle.lines.specs.Sets.{has};
+ghost use Rattle.activations.specs.Below.{has, reach_of};
 
 use super::activations::Activations;
 use super::live::Live;

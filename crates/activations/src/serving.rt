@@ -1,10 +1,6 @@
 // An access that isn't permitted is served: its pages come in, and its lines are locked.
 ghost use Rattle.std.specs.Prelude.{◌≡◌, ◌+◌, ◌<◌, not};
-ghost use Rattle.std.specs.List.{list_any};
-ghost use Rattle.seats.specs.Held.{AreWithin};
-ghost use Rattle.lines.specs.Directory.{page_count};
-ghost use Rattle.page_table.specs.Entries.{grant_of};
-ghost use Rattle.lines.specs.Access.{lets};
+ghost use Rattle.activations.specs.Below.{AreWithin, grant_of, lets, list_any, page_count};
 ghost use Rattle.activations.specs.Touched.{wants_of, refuses_want, each_refused, is_granted};
 
 use super::activations::Activations;

@@ -1,9 +1,6 @@
 // The lines that an access touches, page by page.
 ghost use Rattle.std.specs.Prelude.{[], ◌≡◌, ◌+◌, ◌/◌, ◌<◌, ◌≤◌, ◌^◌, ◌∷◌, map};
-ghost use Rattle.lines.specs.Directory.{Layout};
-ghost use Rattle.lines.specs.Lines.{line_count};
-ghost use Rattle.seats.specs.Flat.{lines_wanted};
-ghost use Rattle.seats.specs.Waiting.{AreOfPage};
+ghost use Rattle.activations.specs.Below.{AreOfPage, Layout, line_count, lines_wanted};
 ghost use Rattle.activations.specs.Touched.{lines_between, wants_of, with_whole_page, AreWanted};
 
 use arrayvec::ArrayVec;

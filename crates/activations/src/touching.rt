@@ -1,12 +1,6 @@
 // The lines of the store that an access touches, and the most that are written.
 ghost use Rattle.std.specs.Prelude.{◌≡◌, ◌+◌, ◌-◌, ◌<◌, ◌≤◌, true, false, nat_lt, length, OnOk, IfErr};
-ghost use Rattle.lines.specs.Sets.{has};
-ghost use Rattle.lines.specs.Directory.{start_of, byte_count, page_count};
-ghost use Rattle.lines.specs.Lines.{line_of};
-ghost use Rattle.lines.specs.LineSets.{difference};
-ghost use Rattle.seats.specs.Flat.{lines_wanted};
-ghost use Rattle.seats.specs.Held.{write_count};
-ghost use Rattle.seats.specs.Holding.{of_seat, held_at};
+ghost use Rattle.activations.specs.Below.{byte_count, difference, has, held_at, line_of, lines_wanted, of_seat, page_count, start_of, write_count};
 ghost use Rattle.page_table.specs.Registers.{located_by};
 ghost use Rattle.romp_cpu.specs.Attempts.{lines_of_access};
 ghost use Rattle.activations.specs.Touched.{lines_between, wants_of, AreWanted};

@@ -1,7 +1,6 @@
 // The rows of a turn, one after another.
 ghost use Rattle.std.specs.Prelude.{◌≡◌, ◌+◌, ◌<◌, ◌≤◌, ◌^◌, true, length, IfErr, IfOk, OnOk};
-ghost use Rattle.arrayvec.specs.ArrayVec.{array_vec_len};
-ghost use Rattle.lines.specs.Sets.{has};
+ghost use Rattle.activations.specs.Below.{array_vec_len, has};
 
 use super::activations::Activations;
 use super::instructions::Went;

@@ -41,9 +41,7 @@ then_found begin others found is on e = grind (arith, nat_tests)
 
 found_past : (bytes : List ℕ) (passed : ℕ) (found : List Token) → tokens_past bytes passed ≡ Ok found → AllByRecursion IsToken found
 unfolding tokens_past
-found_past [] passed found e =
-    let same : [] ≡ found = cc e in
-    subst (AllByRecursion IsToken) same tt
+found_past [] passed found e = let same : [] ≡ found = cc e in subst (AllByRecursion IsToken) same tt
 found_past (byte ∷ rest) (suc passed) found e = found_past rest passed found e
 found_past (byte ∷ rest) zero found e =
     then_found (begins byte rest) (tokens_past rest (more_of (begins byte rest))) found (begin_is byte rest) (λ more is. found_past rest (more_of (begins byte rest)) more is) e

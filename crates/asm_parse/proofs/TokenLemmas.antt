@@ -33,8 +33,7 @@ from_none = refl
 
 -- what was found and the tokens from a byte on, by what begins there
 pub step : (found : List Token) (left rest : List ℕ) (first : ℕ) (begin : Begin) (whole : Result (List Token) ℕ) → left ≡ first ∷ rest → begin ≡ begins first rest → behind found (tokens_past left 0) ≡ whole → behind found (then_tokens begin (tokens_past (drop (more_of begin) rest) 0)) ≡ whole
-step found left rest first begin whole split is so_far =
-    rw (is, ← from_byte first rest, ← split) so_far
+step found left rest first begin whole split is so_far = rw (is, ← from_byte first rest, ← split) so_far
 
 first_byte : (byte : ℕ) → begins_word byte ≡ true → byte < 128
 first_byte byte e = grind (arith, nat_tests)

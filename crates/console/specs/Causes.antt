@@ -1,30 +1,17 @@
 -- What a command may end with, and what it needs to end well.
 use Rattle.std.specs.Prelude.{◌≡◌, ◌≤◌, ℕ, List, [], length, All, Option, Some, String, IsSome, IsTrue}
-use Rattle.std.specs.declared.alloc.Global.{Global}
+use Rattle.console.specs.Below.{CanAudit, CanTrace, Ghosts, Global, HasRange, IsOfAudit, IsOfEvents, IsOfFollow, IsOfLines, IsOfNew, IsOfRenew, IsOfRun, IsOfShip, IsOfShow, IsOfTrace, IsSomeJob, most_lines, standing_as_one, Status}
 use Rattle.lines.specs.FlatStore.{FlatStore}
 use Rattle.store_format.specs.Stands.{Stands}
-use Rattle.outside.specs.declared.world.Outside.{Ghosts}
 use Rattle.outside.specs.Runs.{held_of}
-use Rattle.call_status.specs.declared.status.Status.{Status}
 use Rattle.console.specs.declared.words.Command.{Command}
 use Rattle.console.specs.declared.words.Command.TheVariants as command
 use Rattle.call_status.specs.Opening.{IsStanding}
-use Rattle.call_status.specs.Reading.{IsSomeJob}
-use Rattle.call_status.specs.Statuses.{IsOfLines}
-use Rattle.store_calls.specs.Show.{HasRange, IsOfShow}
-use Rattle.store_calls.specs.New.{IsOfNew}
-use Rattle.store_calls.specs.Renewed.{IsOfRenew, standing_as_one}
-use Rattle.job_calls.specs.Causes.{IsOfEvents, IsOfRun}
-use Rattle.store_format.specs.Header.{most_lines}
 use Rattle.store.specs.KeptStore.{KeptStore, number_of}
 use Rattle.store.specs.Shows.{Shows}
 use Rattle.standby.specs.Followed.{IsAlike}
 use Rattle.standby.specs.State.{IsAmong, behind, due}
 use Rattle.standby.specs.Text.{Content, IsContent, text_of}
-use Rattle.standby.specs.FollowCalled.{IsOfFollow}
-use Rattle.standby.specs.ShipCalled.{IsOfShip}
-use Rattle.store_calls.specs.Audited.{CanAudit, IsOfAudit}
-use Rattle.store_calls.specs.Traced.{CanTrace, IsOfTrace}
 use Rattle.console.specs.Words.{IsForm}
 
 -- the source has the text of a job, whole

@@ -1,18 +1,9 @@
 -- What each command does.
-use Rattle.outside.specs.declared.world.Outside.{Ghosts}
-use Rattle.desk.specs.Answers.{order_told}
-use Rattle.call_status.specs.Call.{Call, Given, call}
-use Rattle.store_calls.specs.New.{Made}
-use Rattle.store_calls.specs.Renewed.{Renewed}
-use Rattle.store_calls.specs.Show.{RangeShown}
-use Rattle.standby.specs.FollowCalled.{FollowedFrom}
-use Rattle.standby.specs.ShipCalled.{ShippedFrom}
+use Rattle.console.specs.Below.{Audited, Call, call, FollowedFrom, Ghosts, Given, Made, order_told, RangeShown, Renewed, ShippedFrom, TracedFrom}
 use Rattle.job_calls.specs.declared.ended.Ended.{Ended}
 use Rattle.job_calls.specs.Big.{Loaded}
 use Rattle.job_calls.specs.Headline.{Happened}
 use Rattle.drills.specs.Drilled.{Drilled}
-use Rattle.store_calls.specs.Audited.{Audited}
-use Rattle.store_calls.specs.Traced.{TracedFrom}
 use Rattle.console.specs.Listed.{Listed}
 use Rattle.console.specs.declared.words.Command.{Command}
 use Rattle.console.specs.declared.words.Command.TheVariants as command

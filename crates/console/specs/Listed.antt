@@ -1,12 +1,9 @@
 -- What a listing of a job's programs did.
 use Rattle.std.specs.Prelude.{◌≡◌, ℕ, List, [], Ok}
 use Rattle.std.specs.List.{flat_map, zip, sum_by}
-use Rattle.outside.specs.declared.world.Outside.{Ghosts}
+use Rattle.console.specs.Below.{Call, Ghosts, Given, job_of, Puts, PutsTimes, Status}
 use Rattle.listing.specs.Listing.{listing_of, lines_in}
-use Rattle.listing.specs.Puts.{Puts, PutsTimes}
-use Rattle.job_text.specs.Grammar.{Content, job_of}
-use Rattle.call_status.specs.Call.{Call, Given}
-use Rattle.call_status.specs.declared.status.Status.{Status}
+use Rattle.job_text.specs.Grammar.{Content}
 use Rattle.call_status.specs.declared.status.Status.TheVariants as status
 use Rattle.call_status.specs.Printed.{put_of}
 use Rattle.call_status.specs.SourceText.{IsWhole}

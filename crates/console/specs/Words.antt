@@ -1,12 +1,10 @@
 -- The words of the command line.
 use Rattle.std.specs.Prelude.{◌≡◌, ◌≢◌, ◌⊎◌, ℕ, ◌-◌, ◌/◌, ◌%◌, ◌^◌, ◌<◌, ◌≤◌, ◌==◌, nat_le, if◌then◌else◌, Bool, true, false, List, [], ◌∷◌, map, length, take, slice_index, codes, Option, Some, None, option_map, String, string_bytes}
 use Rattle.std.specs.Str.Parse.{IsNumeral, digits_value}
-use Rattle.std.specs.declared.alloc.Global.{Global}
+use Rattle.console.specs.Below.{AreFlags, Global, HasRanges, IsLegal}
 use Rattle.asm_parse.specs.Number.{number_in}
 use Rattle.lines.specs.declared.line_geometry.PageSize.{PageSize}
 use Rattle.lines.specs.declared.line_geometry.PageSize.TheVariants.{Two, Four}
-use Rattle.lines.specs.Legal.{IsLegal, AreFlags}
-use Rattle.store_format.specs.Header.{HasRanges}
 use Rattle.console.specs.declared.words.Command.{Command}
 use Rattle.console.specs.declared.words.Command.TheVariants as command
 

@@ -1,10 +1,6 @@
 ghost use Rattle.std.specs.Prelude.{◌≡◌, ◌⊎◌, ◌↔◌, [], None};
 ghost use Rattle.outside.specs.Causes.{Rose};
-ghost use Rattle.desk.specs.Answers.{order_told};
-ghost use Rattle.call_status.specs.Call.{given};
-ghost use Rattle.call_status.specs.Reading.{ReadsBy};
-ghost use Rattle.call_status.specs.Faults.{ReadFaultsBy};
-ghost use Rattle.job_calls.specs.Causes.{OpensBy};
+ghost use Rattle.console.specs.Below.{given, OpensBy, order_told, ReadFaultsBy, ReadsBy};
 ghost use Rattle.job_calls.specs.Handed.{HandedFits, HandsOn};
 ghost use Rattle.console.specs.Causes.{IsComplete, IsOf};
 ghost use Rattle.console.specs.Did.{Does};

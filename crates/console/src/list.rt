@@ -1,11 +1,6 @@
 // The listing of a job's programs.
 ghost use Rattle.std.specs.Prelude.{◌≡◌, [], length};
-ghost use Rattle.listing.specs.Puts.{Puts, PutsTimes};
-ghost use Rattle.job_text.specs.Grammar.{content_of};
-ghost use Rattle.call_status.specs.Call.{call, given};
-ghost use Rattle.call_status.specs.Reading.{ReadsBy};
-ghost use Rattle.call_status.specs.Statuses.{IsOfLines};
-ghost use Rattle.call_status.specs.Faults.{ReadFaultsBy};
+ghost use Rattle.console.specs.Below.{call, content_of, given, IsOfLines, Puts, PutsTimes, ReadFaultsBy, ReadsBy};
 ghost use Rattle.console.specs.Listed.{Listed, listings_of, lines_listed};
 
 use call_status::{Status, job_from};

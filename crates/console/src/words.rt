@@ -1,7 +1,7 @@
 // The words of the command line.
 ghost use Rattle.std.specs.Prelude.{◌≡◌, ◌≢◌, ◌≤◌, ◌<◌, ◌+◌, ◌^◌, [], ◌∷◌, ◌++◌, Bool, List, ℕ, All, map, length, false, MatchOption, Some, string_bytes};
-ghost use Rattle.lines.specs.Legal.{IsLegal, IsInRange, AreFlags};
-ghost use Rattle.store_format.specs.Header.{Header as Layout, HasRanges};
+ghost use Rattle.console.specs.Below.{AreFlags, HasRanges, IsInRange, IsLegal};
+ghost use Rattle.store_format.specs.Header.{Header as Layout};
 ghost use Rattle.console.specs.Words.{IsForm, IsNoForm, AreWithin, AreNumbers, IsAlone, IsLong, IsNumbered, IsOnStore, number_said, word_of, numbers_of, number_of, marked_of, plain, spread};
 
 use arrayvec::ArrayVec;

@@ -1,10 +1,6 @@
 -- What a call of a supervisor keeps of it and of the outside, and what its answer tells of the disk.
 use Rattle.std.specs.Prelude.{◌≡◌, ◌↔◌, ℕ, Bool, true, false, List}
-use Rattle.outside.specs.declared.world.Outside.{Ghosts}
-use Rattle.outside.specs.Causes.{Rose}
-use Rattle.outside.specs.Runs.{CallsDisk}
-use Rattle.flat_machine.specs.declared.machine.Program.{Program}
-use Rattle.store_format.specs.Header.{Header}
+use Rattle.desk.specs.Below.{CallsDisk, Ghosts, Header, Program, Rose}
 use Rattle.desk.specs.declared.answers.Stored.{Stored}
 use Rattle.desk.specs.declared.answers.Stored.TheVariants as stored
 use Rattle.desk.specs.declared.answers.Reopened.{Reopened}

@@ -1,9 +1,6 @@
 -- The commits of a run, beside those of the same programs one after another.
 use Rattle.std.specs.Prelude.{◌≡◌, ℕ, ◌+◌, ◌≤◌, ◌%◌, ◌^◌, Bool, true, false, List, [], ◌∷◌, ◌++◌, length, filter, Option, Some, None, slice_get}
-use Rattle.lines.specs.FlatStore.{FlatStore}
-use Rattle.flat_machine.specs.declared.machine.Plain.{Plain}
-use Rattle.flat_machine.specs.declared.machine.Program.{Program}
-use Rattle.flat_machine.specs.Serial.{Activation, committing, serial}
+use Rattle.desk.specs.Below.{Activation, committing, FlatStore, Plain, Program, serial}
 use Rattle.desk.specs.declared.event.Event.{Event}
 use Rattle.desk.specs.declared.event.Event.TheVariants.{Begin}
 use Rattle.desk.specs.Desk.{opened}

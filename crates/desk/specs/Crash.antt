@@ -1,11 +1,6 @@
 -- What an event did: its step, why its word isn't fine, and what the disk held at each moment of it.
 use Rattle.std.specs.Prelude.{◌≡◌, ℕ, ◌⊎◌, Bool, true, false, List, slice_set}
-use Rattle.outside.specs.declared.world.Outside.{Ghosts}
-use Rattle.outside.specs.Causes.{Rose}
-use Rattle.outside.specs.Durable.{IsSure}
-use Rattle.outside.specs.Runs.{Leaves, held_of}
-use Rattle.flat_machine.specs.declared.machine.Program.{Program}
-use Rattle.store_format.specs.Stands.{Standing, Stands, stands}
+use Rattle.desk.specs.Below.{Ghosts, held_of, IsSure, Leaves, Program, Rose, Standing, Stands, stands}
 use Rattle.desk.specs.declared.event.Event.{Event}
 use Rattle.desk.specs.Calls.{Fixed}
 use Rattle.desk.specs.Desk.{Desk}

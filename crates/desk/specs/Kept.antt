@@ -1,12 +1,9 @@
 -- What a supervisor's calls keep of an outside, and what they tell of its bytes.
 use Rattle.std.specs.Prelude.{◌≡◌, ℕ, ◌+◌, ◌≤◌, ◌%◌, ◌^◌, nat_lt, if◌then◌else◌, Bool, true, false, List, [], ◌∷◌, ◌++◌, length, sum_by, take, IsSome, Option, Some, None}
 use Rattle.std.specs.Option.{ForSome}
-use Rattle.outside.specs.declared.world.Outside.{Ghosts}
-use Rattle.outside.specs.Runs.{held_of}
-use Rattle.store_format.specs.Header.{Header, header_of, total}
+use Rattle.desk.specs.Below.{chosen, Ghosts, Header, header_of, held_of, total}
 use Rattle.lines.specs.declared.line_geometry.PageSize.{PageSize}
 use Rattle.store_format.specs.Bank.{Bank, Holds, Faulty, RecordLine, base_of, bank_of, record_bytes}
-use Rattle.store_format.specs.Stands.{chosen}
 use Rattle.desk.specs.declared.answers.Reopened.{Reopened}
 use Rattle.desk.specs.declared.answers.Reopened.TheVariants as reopened
 use Rattle.desk.specs.declared.answers.TurnEnd.{TurnEnd}

@@ -1,9 +1,6 @@
 -- What a supervisor tells of itself at a moment, and what an event makes of it.
 use Rattle.std.specs.Prelude.{◌≡◌, ℕ, Bool, false, List}
-use Rattle.outside.specs.declared.world.Outside.{Ghosts}
-use Rattle.outside.specs.Durable.{IsSure}
-use Rattle.outside.specs.Runs.{held_of}
-use Rattle.store_format.specs.Stands.{stands}
+use Rattle.desk.specs.Below.{Ghosts, held_of, IsSure, stands}
 use Rattle.desk.specs.declared.answers.TurnEnd.{TurnEnd}
 use Rattle.desk.specs.declared.event.Event.{Event}
 use Rattle.desk.specs.Answers.{EntersOrder, KeepsPrinted, turn_closes}

@@ -1,6 +1,5 @@
 -- The desk that asks where it is refused does what the desk does.
-use Rattle.desk_law.proofs.Common.{◌≡◌, refl, ℕ, zero, suc, ◌+◌, ◌==◌, not, if◌then◌else◌, List, [], ◌∷◌, ◌++◌, length, map, find, Some, arith, ap, sym, subst, and_parts, Plain, after, Program, Event, Turn, Desk, Entry, opened, Word, Counts, Turning, Going, Over, attempts, asks, refused_pages, conflicts_of, instruction, turns, step, IsAmong, IsConsistent, IsOrderly, Memory, after_event, after_turns, after_instruction, memory_of, IsMemory, FindTheirOwn, nat_tests, Turned, Committed, Machine, next_attempt, begun, IsSerial, counts_refused, happening_lines, number_after, Step, asks_for, asks_refused, attempts_by, step_by, before, run_by, InstructionsAskAlike, IsRunOfDesk, RunsAskAlike, RunsStayConsistentBy, RunsAreIsolatedBy, SideBySideIsSerialBy, CommitsTellTheMachineBy}
-use Rattle.desk.specs.Lines.{Line}
+use Rattle.desk_law.proofs.Common.{◌≡◌, refl, ℕ, zero, suc, ◌+◌, ◌==◌, not, if◌then◌else◌, List, [], ◌∷◌, ◌++◌, length, map, find, Some, arith, ap, sym, subst, and_parts, Plain, after, Program, Event, Turn, Desk, Entry, opened, Word, Counts, Turning, Going, Over, attempts, asks, refused_pages, conflicts_of, instruction, turns, step, IsAmong, IsConsistent, IsOrderly, Memory, after_event, after_turns, after_instruction, memory_of, IsMemory, FindTheirOwn, nat_tests, Turned, Committed, Machine, next_attempt, begun, IsSerial, counts_refused, happening_lines, number_after, Step, asks_for, asks_refused, attempts_by, step_by, before, run_by, InstructionsAskAlike, IsRunOfDesk, RunsAskAlike, RunsStayConsistentBy, RunsAreIsolatedBy, SideBySideIsSerialBy, CommitsTellTheMachineBy, Line}
 unfoldable use Rattle.desk_law.specs.Asking.{instruction_by, turns_by}
 use Rattle.desk_law.proofs.Entries.{orderly, among-found}
 use Rattle.desk_law.proofs.TurnsStay.{Stays, resident-consistent, stays-instruction}

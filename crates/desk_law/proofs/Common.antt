@@ -2,7 +2,7 @@
 pub use Rattle.std.proofs.Common.{ap, arith, inl, inr, length-append, subst, sym, ◌∙◌, get_or, lit<, lit≤, ◌≢◌, append_assoc, ⊎_elim, IsTrue, codes, rules}
 pub use Rattle.std.proofs.lemmas.Bool.{and_cases, and_from, and_parts, and_right, both_ways, cases_Bool, cases_lt, cond-false, eq-eqb, eqb-true, false_from_ne_true, ltb-false, ltb-true, ne_eqb, not-false, not-true, not_from_false, not_from_true, or_cases, or_from, or_left, or_parts, or_right}
 pub use Rattle.std.proofs.lemmas.Bool.Decides.{nat_tests}
-pub use Rattle.std.proofs.lemmas.Grind.{same_number_lists}
+pub use Rattle.std.proofs.lemmas.Grind.{same_number_lists, flat_map-append}
 pub use Rattle.std.proofs.lemmas.List.{append-nil, get_or-set_other, get_or-set_same, get_or_past, length-drop, length-set, length-take, take_at, map-append, take-append-drop, take-append-le, take_min}
 pub use Rattle.std.proofs.lemmas.List.Quantifiers.{position-Some}
 pub use Rattle.std.proofs.lemmas.Option.{none-some, same_Some}
@@ -63,3 +63,5 @@ pub use Rattle.flat_machine.specs.Serial.{Activation, serial}
 pub use Rattle.store_format.specs.Stands.{Stands}
 unfoldable pub use Rattle.store_format.specs.Stands.{stands}
 pub use Rattle.desk_law.specs.Left.{EndsInDoubt, IsLeft, IsStage}
+pub use Rattle.std.proofs.Math.Seq.{drop-append-add, take-nil, take-append-add}
+pub use Rattle.desk.proofs.SerialLaw.{run_serial}

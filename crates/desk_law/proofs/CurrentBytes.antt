@@ -1,8 +1,7 @@
 -- All lines as they are now, end to end.
-use Rattle.desk_law.proofs.Common.{if◌then◌else◌, ◌≡◌, refl, ℕ, zero, suc, ◌+◌, ◌*◌, ◌/◌, ◌<◌, ◌≤◌, List, [], length, take, drop, slice_range, flat_map, range_with_len, arith, sym, ◌∙◌, length-append, same_number_lists, length-take, length-drop, take_at, line_bytes, Layout, byte_count, FlatStore, IsWhole, line_count, line_in, after-whole, in_line, Desk, Entry, has, laid, IsCurrent, current_bytes, nat_tests}
+use Rattle.desk_law.proofs.Common.{if◌then◌else◌, ◌≡◌, refl, ℕ, zero, suc, ◌+◌, ◌*◌, ◌/◌, ◌<◌, ◌≤◌, List, [], length, take, drop, slice_range, flat_map, range_with_len, arith, sym, ◌∙◌, length-append, same_number_lists, length-take, length-drop, take_at, line_bytes, Layout, byte_count, FlatStore, IsWhole, line_count, line_in, after-whole, in_line, Desk, Entry, has, laid, IsCurrent, current_bytes, nat_tests, drop-append-add, take-nil}
 use Rattle.std.proofs.Math.ListN.{drop_of_length-le}
 use Rattle.std.proofs.Math.Nat.{mul-le-mul_right}
-use Rattle.std.proofs.Math.Seq.{drop-append-add, take-nil}
 use Rattle.lines.proofs.WithinLemmas.{byte_count-lines, line-bytes-pos}
 
 -- a line of a list of bytes

@@ -1,6 +1,5 @@
 -- What a crash leaves of a run, from what it leaves of its parts.
-use Rattle.desk_law.proofs.Common.{◌≡◌, ℕ, ◌+◌, ◌≤◌, List, [], ◌∷◌, ◌++◌, length, map, take, min, refl, sym, ap, ◌∙◌, arith, append-nil, append_assoc, length-append, ⊎_elim, false, not, take-append-le, take_min, map-append, Program, stands, Event, Desk, Word, Fine, Step, run, step, OpenBeforeEach, commits_seen, standing_of, fine_step, IsEitherOf, IsLeft, IsStage}
-use Rattle.std.proofs.Math.Seq.{take-append-add}
+use Rattle.desk_law.proofs.Common.{◌≡◌, ℕ, ◌+◌, ◌≤◌, List, [], ◌∷◌, ◌++◌, length, map, take, min, refl, sym, ap, ◌∙◌, arith, append-nil, append_assoc, length-append, ⊎_elim, false, not, take-append-le, take_min, map-append, Program, stands, Event, Desk, Word, Fine, Step, run, step, OpenBeforeEach, commits_seen, standing_of, fine_step, IsEitherOf, IsLeft, IsStage, take-append-add}
 use Rattle.desk_law.proofs.SeenLemmas.{seen_cut}
 use Rattle.desk_law.proofs.StepLemmas.{Stepped, step_by}
 use Rattle.desk_law.proofs.RunLemmas.{run_on, open_on}

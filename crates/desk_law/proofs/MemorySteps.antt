@@ -133,8 +133,7 @@ module _ (old desk : Desk) (stay : List ℕ) (memory : Memory) (most : ℕ) (is_
             is = ap memory.machines (sym number) ∙ was.is;
             bytes = was.bytes;
             at = ap (λ (store : FlatStore). after entry.runs.program entry.runs.args store entry.rows) fewer.committed ∙ sym (after-alike old.committed before entry runs rows) ∙ was.at;
-            wrote =
-                cc (was.wrote, due-alike old.committed before entry runs rows, fewer.committed);
+            wrote = cc (was.wrote, due-alike old.committed before entry runs rows, fewer.committed);
           }
 
 -- a number has its machine

@@ -1,6 +1,5 @@
 -- Runs, one after another.
-use Rattle.desk_law.proofs.Common.{◌≡◌, ℕ, ◌+◌, List, [], ◌∷◌, ◌++◌, refl, sym, ap, ◌∙◌, append_assoc, cond, not, flat_map, sum_by-append, Program, Event, Desk, Word, run, step, is_fine, faulted, OpenBeforeEach, Line, Open, line_text, number_after, happening_lines, closing_lines, lines_from, report, event_lines, arith, nat_tests}
-use Rattle.std.proofs.lemmas.Grind.{flat_map-append}
+use Rattle.desk_law.proofs.Common.{◌≡◌, ℕ, ◌+◌, List, [], ◌∷◌, ◌++◌, refl, sym, ap, ◌∙◌, append_assoc, cond, not, flat_map, sum_by-append, Program, Event, Desk, Word, run, step, is_fine, faulted, OpenBeforeEach, Line, Open, line_text, number_after, happening_lines, closing_lines, lines_from, report, event_lines, arith, nat_tests, flat_map-append}
 
 module _ (programs : List Program) where
   pub run_on : (xs ys : List (Event × Word)) (desk : Desk) → run programs (xs ++ ys) desk ≡ run programs ys (run programs xs desk)

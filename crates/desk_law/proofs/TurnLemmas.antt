@@ -1,6 +1,5 @@
 -- What a turn leaves of a desk: whether it is closed, and what its order is.
-use Rattle.desk_law.proofs.Common.{◌≡◌, ℕ, zero, suc, List, [], ◌∷◌, ap, ◌+◌, ◌++◌, Desk, Entry, conflicts_of, Word, Fine, Doubt, Counts, Ending, Committed, CommitUnwritten, CommitDoubted, Turning, Going, Over, Attempt, Contest, Contested, Settled, Lost, Fetching, commits, takes_effect, breaks_cycles, waits_or_gets, contest_ends, fetched_first, attempts, instruction, turns, turn, arith, nat_tests, true, false, Option, Some, None, find, ◌==◌, contest}
-use Rattle.flat_machine.specs.Row.{Outcome}
+use Rattle.desk_law.proofs.Common.{◌≡◌, ℕ, zero, suc, List, [], ◌∷◌, ap, ◌+◌, ◌++◌, Desk, Entry, conflicts_of, Word, Fine, Doubt, Counts, Ending, Committed, CommitUnwritten, CommitDoubted, Turning, Going, Over, Attempt, Contest, Contested, Settled, Lost, Fetching, commits, takes_effect, breaks_cycles, waits_or_gets, contest_ends, fetched_first, attempts, instruction, turns, turn, arith, nat_tests, true, false, Option, Some, None, find, ◌==◌, contest, Outcome}
 use Rattle.desk_law.proofs.Contest.{VictimsKeep, victims-keep}
 
 -- an open desk with this order
@@ -60,8 +59,7 @@ module _ (order : List (ℕ × ℕ)) where
   instruction_keeps : (word : Word) (entry : Option Entry) (desk : Desk) (counts : Counts) → StaysOpen order desk → Keeps word order (instruction word entry desk counts)
   unfolding instruction
   instruction_keeps word None desk counts was_open = was_open
-  instruction_keeps word (Some entry) desk counts was_open =
-      grind (arith, nat_tests, attempts_keeps, was_open)
+  instruction_keeps word (Some entry) desk counts was_open = grind (arith, nat_tests, attempts_keeps, was_open)
 
   turns_end : (word : Word) (number left : ℕ) (turning : Turning) → Keeps word order turning → Ends word order (turns word number left turning)
   unfolding turns

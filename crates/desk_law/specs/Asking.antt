@@ -1,19 +1,7 @@
 -- A desk by how it asks for the locks of a row, and the one that asks where the entry of a page refuses a line, as the program does.
 use Rattle.std.specs.Prelude.{◌≡◌, ℕ, zero, suc, ◌+◌, ◌≤◌, ◌==◌, ◌&&◌, not, if◌then◌else◌, Bool, true, false, IsTrue, List, [], ◌∷◌, ◌++◌, length, map, find, Option, Some, None}
-use Rattle.std.specs.Option.{option_map_or}
-use Rattle.lines.specs.FlatStore.{FlatStore, IsWhole}
-use Rattle.flat_machine.specs.declared.machine.Program.{Program}
-use Rattle.flat_machine.specs.Row.{Outcome, Check}
-use Rattle.flat_machine.specs.After.{after}
-use Rattle.desk.specs.declared.event.Event.{Event}
-use Rattle.desk.specs.declared.event.Event.TheVariants.{Turn}
-use Rattle.desk.specs.Commits.{begun, IsSerial}
-use Rattle.desk.specs.Desk.{Desk, Entry, opened}
-use Rattle.desk.specs.Holdings.{conflicts_of}
-use Rattle.desk.specs.Instruction.{Word, Counts, Turning, Going, Over, Idle, Limit, Committed, Attempt, Fetching, Fetched, Broken, no_counts, attempts, is_over_limit, fetches_touched, refused_pages, asks, gets, instruction}
+use Rattle.desk_law.specs.Below.{after, asks, Attempt, attempts, begun, Broken, Check, Committed, conflicts_of, Counts, Desk, Entry, Event, event_lines, event_of, Fetched, fetches_touched, Fetching, FlatStore, gets, Going, happening_lines, Idle, instruction, is_over_limit, IsSerial, IsWhole, Limit, no_counts, Nothing, number_after, OpenBeforeEach, opened, option_map_or, Outcome, Over, Program, refused_pages, run, Step, Turn, Turned, turned, Turning, Word}
 use Rattle.desk.specs.Lines.{Line}
-use Rattle.desk.specs.Report.{event_lines, happening_lines, number_after}
-use Rattle.desk.specs.Run.{Step, Nothing, Turned, OpenBeforeEach, turned, event_of, run}
 use Rattle.desk_law.specs.Consistent.{IsAmong, IsConsistent}
 use Rattle.desk_law.specs.Orderly.{IsOrderly}
 use Rattle.desk_law.specs.Laws.{next_attempt}

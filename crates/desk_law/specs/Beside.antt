@@ -1,17 +1,6 @@
 -- What is kept beside a desk and told of it: bytes, locks, requests, states and marks.
 use Rattle.std.specs.Prelude.{◌≡◌, ℕ, ◌≤◌, ◌==◌, ◌&&◌, not, Bool, true, false, List, map, find, length, slice_index_or, Some}
-use Rattle.std.specs.List.{list_any}
-use Rattle.std.specs.Option.{option_map_or}
-use Rattle.lines.specs.FlatStore.{FlatStore}
-use Rattle.lines.specs.Sets.{has}
-use Rattle.lines.specs.Access.{Grant, nobody, lets}
-use Rattle.lines.specs.Conflicts.{Lines, conflicts, page_of_line}
-use Rattle.flat_machine.specs.declared.machine.Plain.{Plain}
-use Rattle.flat_machine.specs.After.{after}
-use Rattle.flat_machine.specs.Agreement.{line_in}
-use Rattle.desk.specs.Desk.{Desk, Entry}
-use Rattle.desk.specs.Holdings.{requested, due_to}
-use Rattle.desk.specs.Instruction.{Word, can't_be_read}
+use Rattle.desk_law.specs.Below.{after, can't_be_read, conflicts, Desk, due_to, Entry, FlatStore, Grant, has, lets, line_in, Lines, list_any, nobody, option_map_or, page_of_line, Plain, requested, Word}
 use Rattle.desk_law.specs.Consistent.{IsAmong}
 use Rattle.desk_law.specs.Current.{IsCurrent}
 

@@ -1,15 +1,6 @@
 -- Why turns and activations end.
 use Rattle.std.specs.Prelude.{◌≢◌, ◌≡◌, ℕ, ◌+◌, ◌<◌, ◌==◌, ◌⊎◌, map, Bool, true, false, IsTrue, List, [], ◌∷◌, ◌++◌, Some}
-use Rattle.lines.specs.FlatStore.{FlatStore}
-use Rattle.lines.specs.Sets.{has, size}
-use Rattle.lines.specs.Waits.{victim_of}
-use Rattle.flat_machine.specs.declared.machine.Plain.{Plain}
-use Rattle.flat_machine.specs.Row.{Outcome, Commit, Check, row}
-use Rattle.flat_machine.specs.After.{after}
-use Rattle.flat_machine.specs.Due.{touched_within, touched_next}
-use Rattle.desk.specs.Desk.{Desk, Entry}
-use Rattle.desk.specs.Holdings.{conflicts_of, numbers}
-use Rattle.desk.specs.Instruction.{Word, ReadFailed, Unwritten, Doubt, Counts, Ending, Idle, Limit, Checked, Journal, Disk, Victim, Waits, Committed, CommitUnwritten, CommitDoubted, Turning, Going, Over, turn}
+use Rattle.desk_law.specs.Below.{after, Check, Checked, Commit, CommitDoubted, Committed, CommitUnwritten, conflicts_of, Counts, Desk, Disk, Doubt, Ending, Entry, FlatStore, Going, has, Idle, Journal, Limit, numbers, Outcome, Over, Plain, ReadFailed, row, size, touched_next, touched_within, turn, Turning, Unwritten, Victim, victim_of, Waits, Word}
 use Rattle.desk_law.specs.Consistent.{IsAmong, IsConsistent}
 
 -- the row of an entry after so many rows more goes so at a state

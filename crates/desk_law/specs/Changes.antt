@@ -1,9 +1,6 @@
 -- What a row and a commit make of an entry, a store and a desk.
 use Rattle.std.specs.Prelude.{◌+◌, false}
-use Rattle.lines.specs.FlatStore.{FlatStore}
-use Rattle.flat_machine.specs.declared.machine.Plain.{Plain}
-use Rattle.desk.specs.Desk.{Desk, Entry, with_entry, ended}
-use Rattle.desk.specs.Instruction.{Attempt, with_lowered}
+use Rattle.desk_law.specs.Below.{Attempt, Desk, ended, Entry, FlatStore, Plain, with_entry, with_lowered}
 
 -- an entry once its row has gone on
 abbrev pub gone_on : Entry → Entry

@@ -1,17 +1,6 @@
 -- What holds of a desk at every moment.
 use Rattle.std.specs.Prelude.{◌≡◌, ℕ, ◌<◌, ◌≤◌, ◌==◌, ◌⊎◌, Bool, true, false, IsTrue, IsFalse, List, [], ◌∷◌, length, slice_index_or, Some, None}
-use Rattle.lines.specs.Directory.{page_count}
-use Rattle.lines.specs.FlatStore.{FlatStore, IsWhole}
-use Rattle.lines.specs.Sets.{has, size}
-use Rattle.lines.specs.Conflicts.{Lines, page_of_line}
-use Rattle.lines.specs.Access.{Grant, nobody, lets}
-use Rattle.lines.specs.Waits.{leads}
-use Rattle.flat_machine.specs.declared.machine.Plain.{Plain}
-use Rattle.flat_machine.specs.After.{after}
-use Rattle.flat_machine.specs.Agreement.{all_of}
-use Rattle.desk.specs.Desk.{Desk, Entry}
-use Rattle.desk.specs.Holdings.{due_to, numbers, waits_for}
-use Rattle.desk.specs.Run.{absent_segment}
+use Rattle.desk_law.specs.Below.{absent_segment, after, all_of, Desk, due_to, Entry, FlatStore, Grant, has, IsWhole, leads, lets, Lines, nobody, numbers, page_count, page_of_line, Plain, size, waits_for}
 
 -- an entry is one of these
 abbrev pub IsAmong : List Entry → Entry → Type 0

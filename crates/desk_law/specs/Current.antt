@@ -1,16 +1,6 @@
 -- The bytes of a line as they are now: as an active entry wrote it, or as it is committed.
 use Rattle.std.specs.Prelude.{◌≡◌, ℕ, List, length, find, Option}
-use Rattle.std.specs.List.{flat_map, range_with_len}
-use Rattle.std.specs.Option.{option_map_or}
-use Rattle.lines.specs.Directory.{byte_count}
-use Rattle.lines.specs.Lines.{line_count}
-use Rattle.lines.specs.FlatStore.{FlatStore}
-use Rattle.lines.specs.Sets.{has}
-use Rattle.flat_machine.specs.declared.machine.Plain.{Plain}
-use Rattle.flat_machine.specs.After.{after}
-use Rattle.flat_machine.specs.Agreement.{line_in}
-use Rattle.desk.specs.Desk.{Desk, Entry}
-use Rattle.desk.specs.Holdings.{due_to}
+use Rattle.desk_law.specs.Below.{after, byte_count, Desk, due_to, Entry, flat_map, FlatStore, has, line_count, line_in, option_map_or, Plain, range_with_len}
 
 -- the bytes that an entry has, or those that are committed where it has no state
 abbrev pub bytes_of : FlatStore → Entry → List ℕ

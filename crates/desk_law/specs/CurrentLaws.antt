@@ -1,12 +1,6 @@
 -- The laws of the bytes as they are now, and what a commit of one is to another.
 use Rattle.std.specs.Prelude.{◌≡◌, ℕ, ◌==◌, if◌then◌else◌, IsTrue, IsFalse, List, [], Some}
-use Rattle.lines.specs.Sets.{has}
-use Rattle.flat_machine.specs.declared.machine.Plain.{Plain}
-use Rattle.flat_machine.specs.Row.{On, row}
-use Rattle.flat_machine.specs.After.{after}
-use Rattle.flat_machine.specs.Agreement.{line_in, all_of, DoesTheSame}
-use Rattle.desk.specs.Desk.{Desk, Entry, with_entry, rolled_back}
-use Rattle.desk.specs.Holdings.{wanted, conflicts_of, due_to}
+use Rattle.desk_law.specs.Below.{after, all_of, conflicts_of, Desk, DoesTheSame, due_to, Entry, has, line_in, On, Plain, rolled_back, row, wanted, with_entry}
 use Rattle.desk_law.specs.Changes.{gone_on, left_by, committed_at}
 use Rattle.desk_law.specs.Consistent.{IsAmong, IsConsistent}
 use Rattle.desk_law.specs.Current.{current, current_bytes, IsCurrent}

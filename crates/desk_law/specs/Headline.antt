@@ -1,16 +1,7 @@
 -- What a crash leaves of a run from an opening, in the words of the programs run one after another.
 use Rattle.std.specs.Prelude.{◌≡◌, ℕ, ◌+◌, ◌≤◌, ◌%◌, ◌^◌, List, [], ◌∷◌, ◌++◌, length, take, Some}
-use Rattle.lines.specs.FlatStore.{FlatStore}
-use Rattle.flat_machine.specs.declared.machine.Program.{Program}
+use Rattle.desk_law.specs.Below.{begun, commits_seen, Doubt, Event, fine_step, FlatStore, IsRunOf, opened, Program, run, standing_of, Stands, stands, Word}
 use Rattle.flat_machine.specs.Serial.{Activation, serial}
-use Rattle.store_format.specs.Stands.{Stands, stands}
-use Rattle.desk.specs.declared.event.Event.{Event}
-use Rattle.desk.specs.Commits.{begun}
-use Rattle.desk.specs.Crash.{standing_of, fine_step}
-use Rattle.desk.specs.Desk.{opened}
-use Rattle.desk.specs.Instruction.{Word, Doubt}
-use Rattle.desk.specs.Run.{run, IsRunOf}
-use Rattle.desk.specs.Seen.{commits_seen}
 use Rattle.desk_law.specs.Left.{IsLeft}
 
 -- An image stands for the first commits of an order, run one after another on the opening store.

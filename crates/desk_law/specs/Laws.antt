@@ -1,20 +1,6 @@
 -- The laws of a desk at every moment.
 use Rattle.std.specs.Prelude.{◌≡◌, ℕ, ◌≤◌, ◌||◌, Bool, true, false, IsTrue, IsFalse, List, [], ◌∷◌, ◌++◌, slice_index_or, Some, None}
-use Rattle.lines.specs.Directory.{is_fine_page}
-use Rattle.lines.specs.FlatStore.{FlatStore, IsWhole}
-use Rattle.lines.specs.Sets.{has}
-use Rattle.lines.specs.Conflicts.{Lines, page_of_line}
-use Rattle.lines.specs.Waits.{shown_cycle}
-use Rattle.lines.specs.Access.{Grant, nobody, lets}
-use Rattle.flat_machine.specs.declared.machine.Program.{Program}
-use Rattle.desk.specs.declared.event.Event.{Event}
-use Rattle.desk.specs.Desk.{Desk, Entry, opened, with_entry}
-use Rattle.desk.specs.Holdings.{wanted, conflicts_of, numbers, waits_for, requested, due_to}
-use Rattle.flat_machine.specs.declared.machine.Plain.{Plain}
-use Rattle.flat_machine.specs.Row.{row}
-use Rattle.flat_machine.specs.After.{after}
-use Rattle.desk.specs.Instruction.{Word, Counts, Idle, Turning, Over, Attempt, turn, no_counts, refused_pages, counts_refused, gets, Contest, Contested, Settled, Lost, breaks_cycle, breaks_cycles}
-use Rattle.desk.specs.Run.{step, run}
+use Rattle.desk_law.specs.Below.{after, Attempt, breaks_cycle, breaks_cycles, conflicts_of, Contest, Contested, Counts, counts_refused, Desk, due_to, Entry, Event, FlatStore, gets, Grant, has, Idle, is_fine_page, IsWhole, lets, Lines, Lost, no_counts, nobody, numbers, opened, Over, page_of_line, Plain, Program, refused_pages, requested, row, run, Settled, shown_cycle, step, turn, Turning, waits_for, wanted, with_entry, Word}
 use Rattle.desk_law.specs.Consistent.{IsAmong, IsConsistent}
 
 -- The law: a desk that is consistent is so after every event with every word.

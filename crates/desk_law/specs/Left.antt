@@ -1,13 +1,6 @@
 -- What a crash leaves of a run.
 use Rattle.std.specs.Prelude.{◌≡◌, ℕ, ◌+◌, ◌≤◌, false, List, [], ◌∷◌, ◌++◌, length, map, take}
-use Rattle.flat_machine.specs.declared.machine.Program.{Program}
-use Rattle.store_format.specs.Stands.{stands}
-use Rattle.desk.specs.declared.event.Event.{Event}
-use Rattle.desk.specs.Desk.{Desk}
-use Rattle.desk.specs.Instruction.{Word, Doubt}
-use Rattle.desk.specs.Run.{run, IsRunOf}
-use Rattle.desk.specs.Seen.{commits_seen}
-use Rattle.desk.specs.Crash.{standing_of}
+use Rattle.desk_law.specs.Below.{commits_seen, Desk, Doubt, Event, IsRunOf, Program, run, standing_of, stands, Word}
 
 -- the last of these events ended in doubt
 abbrev pub EndsInDoubt : List (Event × Word) → Type 0

@@ -1,3 +1,4 @@
+pub mod Below
 pub mod Consistent
 pub mod Orderly
 pub mod Laws

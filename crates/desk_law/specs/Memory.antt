@@ -1,26 +1,7 @@
 -- Plain machines side by side on one memory. They have no locks and know nothing of each other: a desk alone says who does a row, whose lines
 -- are given back and who commits. Nothing here is ever run again from its start.
 use Rattle.std.specs.Prelude.{◌≡◌, ℕ, zero, suc, ◌≤◌, ◌==◌, not, if◌then◌else◌, List, [], ◌∷◌, ◌++◌, filter, find, Option, Some, None, slice_get}
-use Rattle.std.specs.List.{flat_map, range_with_len}
-use Rattle.std.specs.Option.{option_map_or}
-use Rattle.lines.specs.Directory.{Layout}
-use Rattle.lines.specs.Lines.{line_count}
-use Rattle.lines.specs.FlatStore.{FlatStore, IsWhole}
-use Rattle.lines.specs.Sets.{has}
-use Rattle.flat_machine.specs.declared.machine.Plain.{Plain}
-use Rattle.flat_machine.specs.declared.machine.Program.{Program}
-use Rattle.flat_machine.specs.Row.{Outcome, On, row}
-use Rattle.flat_machine.specs.Touched.{touched}
-use Rattle.flat_machine.specs.After.{start, after}
-use Rattle.flat_machine.specs.Agreement.{line_in, all_of, AgreeOn}
-use Rattle.desk.specs.declared.event.Event.{Event}
-use Rattle.desk.specs.declared.event.Event.TheVariants.{Begin, Turn, Checkpoint, Crash}
-use Rattle.desk.specs.Commits.{begun, IsSerial}
-use Rattle.desk.specs.Desk.{Desk, Entry, opened}
-use Rattle.desk.specs.Holdings.{numbers, due_to}
-use Rattle.desk.specs.Instruction.{Word, Counts, Turning, Going, Over, Committed, no_counts, instruction}
-use Rattle.desk.specs.Report.{event_lines}
-use Rattle.desk.specs.Run.{Turned, step, run, IsRunOf}
+use Rattle.desk_law.specs.Below.{after, AgreeOn, all_of, Begin, begun, Checkpoint, Committed, Counts, Crash, Desk, due_to, Entry, Event, event_lines, flat_map, FlatStore, Going, has, instruction, IsRunOf, IsSerial, IsWhole, Layout, line_count, line_in, no_counts, numbers, On, opened, option_map_or, Outcome, Over, Plain, Program, range_with_len, row, run, start, step, touched, Turn, Turned, Turning, Word}
 use Rattle.desk_law.specs.Consistent.{IsAmong}
 use Rattle.desk_law.specs.Current.{current_bytes}
 

@@ -1,8 +1,6 @@
 -- What is consistent of a desk beside its resident pages.
 use Rattle.std.specs.Prelude.{◌≤◌, length}
-use Rattle.lines.specs.FlatStore.{IsWhole}
-use Rattle.desk.specs.Desk.{Desk}
-use Rattle.desk.specs.Holdings.{numbers, waits_for}
+use Rattle.desk_law.specs.Below.{Desk, IsWhole, numbers, waits_for}
 use Rattle.desk_law.specs.Consistent.{AreConsistent, IsHeld, HasNoCycle}
 
 -- consistent, but for what is resident

@@ -1,11 +1,6 @@
 -- The rules of locks, each taken away from the desk that asks where it is refused.
 use Rattle.std.specs.Prelude.{ℕ, ◌==◌, ◌&&◌, ◌||◌, not, Bool, true, List, ◌++◌, map, filter, slice_index_or}
-use Rattle.lines.specs.Sets.{meets}
-use Rattle.lines.specs.Conflicts.{Lines, conflicts, with_whole_pages, page_of_line, pages_of}
-use Rattle.lines.specs.Access.{nobody}
-use Rattle.desk.specs.Desk.{Desk, Entry}
-use Rattle.desk.specs.Holdings.{wanted, requested, due_to}
-use Rattle.desk.specs.Instruction.{Turning, Going, Over, Committed, Attempt, with_grants}
+use Rattle.desk_law.specs.Below.{Attempt, Committed, conflicts, Desk, due_to, Entry, Going, Lines, meets, nobody, Over, page_of_line, pages_of, requested, Turning, wanted, with_grants, with_whole_pages}
 use Rattle.desk_law.specs.UnderWay.{touched_of}
 use Rattle.desk_law.specs.Asking.{Asking, asks_refused, asks_refused_by, RunsAreIsolatedBy, RunsStayConsistentBy}
 

@@ -1,17 +1,6 @@
 -- An attempt under way, and the contest of it where others hold what it asks for.
 use Rattle.std.specs.Prelude.{◌≡◌, ℕ, ◌≤◌, ◌==◌, ◌&&◌, not, Bool, true, List, ◌++◌, length, Some, slice_index_or}
-use Rattle.lines.specs.FlatStore.{FlatStore, IsWhole}
-use Rattle.lines.specs.Sets.{size}
-use Rattle.lines.specs.Conflicts.{Lines}
-use Rattle.lines.specs.Access.{Grant, nobody}
-use Rattle.flat_machine.specs.declared.machine.Plain.{Plain}
-use Rattle.flat_machine.specs.Row.{row}
-use Rattle.flat_machine.specs.Touched.{touched}
-use Rattle.flat_machine.specs.Due.{touched_within}
-use Rattle.flat_machine.specs.After.{after}
-use Rattle.desk.specs.Desk.{Desk, Entry}
-use Rattle.desk.specs.Holdings.{numbers, waits_for, wanted}
-use Rattle.desk.specs.Instruction.{Counts, Attempt, Contest, Contested, breaks_cycles}
+use Rattle.desk_law.specs.Below.{after, Attempt, breaks_cycles, Contest, Contested, Counts, Desk, Entry, FlatStore, Grant, IsWhole, Lines, nobody, numbers, Plain, row, size, touched, touched_within, waits_for, wanted}
 use Rattle.desk_law.specs.Beside.{over_all}
 use Rattle.desk_law.specs.Consistent.{IsAmong, AreConsistent, IsHeld, HasNoCycle}
 

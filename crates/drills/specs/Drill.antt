@@ -1,34 +1,22 @@
 -- What a job leaves on a disk that stops at one of its writes.
 use Rattle.std.specs.Prelude.{◌≢◌, ◌≡◌, ◌⊎◌, ℕ, ◌+◌, ◌*◌, ◌%◌, ◌^◌, ◌<◌, ◌≤◌, true, false, List, [], length, map, take, count_by, Some}
-use Rattle.outside.specs.declared.world.Outside.{Ghosts}
-use Rattle.outside.specs.declared.memory_disk.MemoryDisk.{MemoryDisk}
+use Rattle.drills.specs.Below.{Call, commits_seen, disk_faults, disk_first, disk_held, disk_plan, disk_writes, FlatStore, Ghosts, Job, job_desk, MemoryDisk, names_of, order_told, outcome_of, Rose, Stands, stands, Status}
 use Rattle.outside.specs.declared.memory_screen.MemoryScreen.{MemoryScreen}
-use Rattle.outside.specs.Causes.{Rose}
-use Rattle.outside.specs.MemoryDisk.{disk_faults, disk_first, disk_held, disk_plan, disk_writes}
 use Rattle.outside.specs.MemoryScreen.{screen_printed}
-use Rattle.outside.specs.Plan.{outcome_of}
 use Rattle.outside.specs.Runs.{held_of}
-use Rattle.lines.specs.FlatStore.{FlatStore}
 use Rattle.flat_machine.specs.declared.machine.Program.{Program}
 use Rattle.flat_machine.specs.Serial.{serial}
-use Rattle.store_format.specs.Stands.{Stands, stands}
 use Rattle.desk.specs.declared.event.Event.{Event}
-use Rattle.desk.specs.Answers.{order_told}
 use Rattle.desk.specs.Commits.{begun, is_commit}
 use Rattle.desk.specs.Desk.{Desk}
 use Rattle.desk.specs.Instruction.{Word, Fine}
 use Rattle.desk.specs.Kept.{WritesMore}
 use Rattle.desk.specs.Report.{event_lines}
 use Rattle.desk.specs.Run.{run, IsRunOf}
-use Rattle.desk.specs.Seen.{commits_seen}
 use Rattle.desk_law.specs.Headline.{IsPrefix}
-use Rattle.job_text.specs.declared.job.Job.{Job}
 use Rattle.drills.specs.Stopping.{WereStopped, WereWritten, number_of}
 use Rattle.drills.specs.declared.stops.Stop.{Stop}
 use Rattle.job_calls.specs.declared.ended.Ended.{Ended}
-use Rattle.job_calls.specs.Headline.{job_desk, names_of}
-use Rattle.call_status.specs.Call.{Call}
-use Rattle.call_status.specs.declared.status.Status.{Status}
 
 -- events that all go well
 abbrev pub all_fine : List Event → List (Event × Word)

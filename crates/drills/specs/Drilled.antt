@@ -1,17 +1,12 @@
 -- What a drill did: a job was stopped at its writes in turn, each time on a store of its own.
 use Rattle.std.specs.Prelude.{◌≡◌, ℕ, ◌+◌, ◌*◌, ◌<◌, ◌≤◌, min, ◌⊎◌, List, [], ◌∷◌, ◌++◌, codes, decimal, length, get_or, replicate, true, false, Result, Ok, Err}
-use Rattle.outside.specs.declared.world.Outside.{Ghosts}
+use Rattle.drills.specs.Below.{Call, FlatStore, Ghosts, Given, Job, Puts, PutsTimes, Status}
 use Rattle.outside.specs.declared.failed.Failed.{Failed}
 use Rattle.lines.specs.Directory.{byte_count}
-use Rattle.lines.specs.FlatStore.{FlatStore}
 use Rattle.store_format.specs.Header.{fresh}
-use Rattle.listing.specs.Puts.{Puts, PutsTimes}
-use Rattle.job_text.specs.declared.job.Job.{Job}
 use Rattle.job_text.specs.Grammar.{job_of, content_of}
 use Rattle.drills.specs.declared.drill.Found.{Found}
 use Rattle.drills.specs.declared.drill.Pair.{Pair}
-use Rattle.call_status.specs.Call.{Call, Given}
-use Rattle.call_status.specs.declared.status.Status.{Status}
 use Rattle.call_status.specs.declared.status.Status.TheVariants as status
 use Rattle.drills.specs.Drill.{IsStop, fine_order}
 use Rattle.drills.specs.declared.stops.Stop.{Stop}

@@ -1,3 +1,4 @@
+pub mod Below
 pub mod Drill
 pub mod Drilled
 pub mod Stopping

@@ -1,9 +1,7 @@
 -- A disk in memory that stops within one of its writes, and fails at nothing else.
 use Rattle.std.specs.Prelude.{◌≡◌, ℕ, ◌-◌, ◌^◌, ◌<◌, ◌≤◌, Bool, true, false, List, [], ◌∷◌, length, take, Option, None, Some}
-use Rattle.outside.specs.declared.memory_disk.MemoryDisk.{MemoryDisk}
+use Rattle.drills.specs.Below.{disk_faults, disk_first, disk_held, disk_plan, disk_writes, is_disk_starved, MemoryDisk, outcome_of, Plan}
 use Rattle.outside.specs.Bytes.{written}
-use Rattle.outside.specs.MemoryDisk.{disk_faults, disk_first, disk_held, disk_plan, disk_writes, is_disk_starved}
-use Rattle.outside.specs.Plan.{Plan, outcome_of}
 
 -- the bytes held after writes, one after another, each of bytes at an offset
 abbrev pub after_writes : List ℕ → List (ℕ × List ℕ) → List ℕ

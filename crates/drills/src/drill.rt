@@ -1,12 +1,7 @@
 // A drill: a job that is stopped at its writes in turn.
 ghost use Rattle.std.specs.Prelude.{◌≡◌, ◌⊎◌, ◌≤◌, ℕ, [], length, MatchOption, IfOk};
-ghost use Rattle.lines.specs.FlatStore.{FlatStore};
-ghost use Rattle.store_format.specs.Stands.{Stands, stands};
-ghost use Rattle.listing.specs.Puts.{Puts, PutsTimes};
-ghost use Rattle.job_text.specs.Ready.{IsReady};
+ghost use Rattle.drills.specs.Below.{call, FlatStore, given, IsReady, IsStanding, Puts, PutsTimes, Stands, stands};
 ghost use Rattle.drills.specs.Drilled.{Drilled, DrilledTo, EndsBefore, IsFound, IsPair, PutsStops, try_order, stop_line, pair_lines, last_line};
-ghost use Rattle.call_status.specs.Call.{call, given};
-ghost use Rattle.call_status.specs.Opening.{IsStanding};
 ghost use Rattle.call_status.specs.Reading.{ReadsBy};
 ghost use Rattle.call_status.specs.Statuses.{IsOfLines};
 ghost use Rattle.call_status.specs.Faults.{ReadFaultsBy};

@@ -1,7 +1,6 @@
 // A job once more, for a run of its own.
 ghost use Rattle.std.specs.Prelude.{◌≡◌, IfOk};
-ghost use Rattle.job_text.specs.Ready.{IsReady};
-ghost use Rattle.job_calls.specs.Headline.{names_of};
+ghost use Rattle.drills.specs.Below.{IsReady, names_of};
 
 use flat_machine::Program;
 use job_text::Job;

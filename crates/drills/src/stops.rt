@@ -1,15 +1,8 @@
 // A job that runs on a disk in memory until the disk stops.
 ghost use Rattle.std.specs.Prelude.{◌≡◌, ◌*◌, ◌≤◌, ℕ, true, length, IfOk};
-ghost use Rattle.outside.specs.Causes.{Rose};
-ghost use Rattle.lines.specs.FlatStore.{FlatStore};
-ghost use Rattle.store_format.specs.Stands.{Stands, stands};
-ghost use Rattle.desk.specs.Seen.{commits_seen};
-ghost use Rattle.job_text.specs.Ready.{IsReady};
-ghost use Rattle.desk.specs.Answers.{order_told};
+ghost use Rattle.drills.specs.Below.{call, commits_seen, FlatStore, IsReady, IsStanding, order_told, Rose, Stands, stands, StandsAt};
 ghost use Rattle.drills.specs.Drill.{IsLeft, IsStop, IsTold, fine_order};
 ghost use Rattle.drills.specs.Stopping.{IsStopping};
-ghost use Rattle.call_status.specs.Call.{call};
-ghost use Rattle.call_status.specs.Opening.{IsStanding, StandsAt};
 
 use super::job_copy::copy_of;
 use super::stopping_disk::StoppingDisk;

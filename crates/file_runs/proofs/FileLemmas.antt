@@ -123,14 +123,10 @@ module _ {W : Type 0} (G : Ghosts W) (before after : W) (first : List ℕ) (puts
 
   -- where nothing was printed since, it is nothing, and where no put was recorded there is none
   pub unprinted : G.printed after ≡ G.printed before → printed_of puts ≡ []
-  unprinted same =
-      let is : Some (printed_of puts) ≡ Some [] = sym behind.shown ∙ same ∙ behind.none in
-      cc
+  unprinted same = let is : Some (printed_of puts) ≡ Some [] = sym behind.shown ∙ same ∙ behind.none in cc
 
   pub unput : (G.moment after).puts ≡ (G.moment before).puts → puts ≡ []
-  unput same =
-      let none : length puts ≡ 0 = sym behind.count ∙ same ∙ behind.unput in
-      nil_from_length puts none
+  unput same = let none : length puts ≡ 0 = sym behind.count ∙ same ∙ behind.unput in nil_from_length puts none
 
   pub ran_on_screen : (given : Given) (order : List (ℕ × ℕ)) (status : Status) (session : Option Session) → RanJob G given (call before after order status) session
       → (number : ℕ) (store : FlatStore) → stands first ≡ Stands number store → RanOnScreen given number store first puts order status
@@ -189,9 +185,7 @@ module _ {W : Type 0} (G : Ghosts W) (before after : W) (first : List ℕ) (deed
 
   -- where as many writes succeeded as before, none did
   unwritten : G.writes after ≡ G.writes before → count_by is_write deeds ≡ 0
-  unwritten same =
-      let is : Some (count_by is_write deeds) ≡ Some 0 = sym behind.writes ∙ same ∙ behind.unwritten in
-      cc
+  unwritten same = let is : Some (count_by is_write deeds) ≡ Some 0 = sym behind.writes ∙ same ∙ behind.unwritten in cc
 
   -- where each pair has an image of the start, the file keeps its bytes
   pub keeps : AsksAndPuts G before after → KeepsFile first deeds

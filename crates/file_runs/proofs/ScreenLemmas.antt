@@ -1,6 +1,5 @@
 -- From what the words without a file did on an outside to what they handed to the screen behind it.
-use Rattle.file_runs.proofs.Common.{◌≡◌, inl, inr, ⊎_elim, ℕ, ◌≤◌, List, [], length, min, ap, ◌∙◌, subst, IsSome, Option, None, Some, Result, Prints, held_of, ◌*◌, ◌++◌, Ghosts, Failed, Desk, Line, serial_lines, event_lines, IsRunOf, run, Session, Given, call, IsFaultAt, Status, Happened, Refused, job_desk, Deed, printed_of, Hands, IsBehind, AuditedOnScreen, AuditsBy, DrilledJob, DrilledOnScreen, DrillsBy, HandsDrill, HandsLoad, HandsStops, ListedOnScreen, LoadedOnScreen, TracedOnScreen, TracesBy, TriedOnScreen}
-use Rattle.desk.specs.Commits.{begun, IsSerial}
+use Rattle.file_runs.proofs.Common.{◌≡◌, inl, inr, ⊎_elim, ℕ, ◌≤◌, List, [], length, min, ap, ◌∙◌, subst, IsSome, Option, None, Some, Result, Prints, held_of, ◌*◌, ◌++◌, Ghosts, Failed, Desk, Line, serial_lines, event_lines, IsRunOf, run, Session, Given, call, IsFaultAt, Status, Happened, Refused, job_desk, Deed, printed_of, Hands, IsBehind, AuditedOnScreen, AuditsBy, DrilledJob, DrilledOnScreen, DrillsBy, HandsDrill, HandsLoad, HandsStops, ListedOnScreen, LoadedOnScreen, TracedOnScreen, TracesBy, TriedOnScreen, begun, IsSerial}
 use Rattle.desk.specs.declared.event.Event.{Event}
 use Rattle.job_text.specs.declared.job.Job.{Job}
 use Rattle.call_status.specs.Statuses.{WentThrough}

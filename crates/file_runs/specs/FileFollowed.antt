@@ -1,19 +1,9 @@
 -- What following a ship text left of a file and a screen.
 use Rattle.std.specs.Prelude.{◌≡◌, ◌⊎◌, ℕ, ◌+◌, ◌≤◌, List, [], length, Some}
-use Rattle.lines.specs.FlatStore.{FlatStore}
-use Rattle.store_format.specs.Stands.{Stands, stands}
-use Rattle.store.specs.KeptStore.{KeptStore}
-use Rattle.store.specs.Shows.{Shows}
+use Rattle.file_runs.specs.Below.{Content, Deed, due, FlatStore, Given, IsFaultAt, KeptStore, later, printed_of, Shows, Stands, stands, state, Status}
 use Rattle.standby.specs.Followed.{IsAtNumber, followed_text, kept_text}
-use Rattle.standby.specs.State.{due, state}
-use Rattle.standby.specs.Text.{Content, later}
 use Rattle.standby.specs.FollowCalled.{HasText, IsDueOn, IsNoText}
-use Rattle.call_status.specs.Call.{Given}
-use Rattle.call_status.specs.Opening.{IsFaultAt}
-use Rattle.call_status.specs.declared.status.Status.{Status}
 use Rattle.call_status.specs.declared.status.Status.TheVariants as status
-use Rattle.real_files.specs.Deeds.{Deed}
-use Rattle.real_files.specs.Shown.{printed_of}
 use Rattle.file_runs.specs.FileRun.{Hands, LeavesAt, LeavesLast, OnlyAsked, RunsFrom}
 
 -- an image stands for the store that lies so many of the text's records behind this number

@@ -1,16 +1,8 @@
 -- What making a store left of a file and a screen.
 use Rattle.std.specs.Prelude.{◌≡◌, ℕ, ◌<◌, ◌⊎◌, List, [], length}
-use Rattle.lines.specs.FlatStore.{FlatStore}
-use Rattle.outside.specs.Bytes.{Torn}
-use Rattle.store_format.specs.Stands.{Stands, stands}
-use Rattle.call_status.specs.Call.{Given}
-use Rattle.call_status.specs.SourceText.{IsAll}
-use Rattle.call_status.specs.declared.status.Status.{Status}
+use Rattle.file_runs.specs.Below.{Deed, FlatStore, Given, IsAll, IsNoStore, printed_of, Stands, stands, Status, Torn}
 use Rattle.call_status.specs.declared.status.Status.TheVariants as status
-use Rattle.store_calls.specs.New.{IsNoStore}
 use Rattle.store_calls.specs.Renewed.{IsNoOne, renew_line, renewed_image, standing_as_one, widened}
-use Rattle.real_files.specs.Deeds.{Deed}
-use Rattle.real_files.specs.Shown.{printed_of}
 use Rattle.file_runs.specs.FileRun.{Hands, LeavesAlways, LeavesLast, OnlyAsked}
 
 -- How writing an image and then a line ended: the file gave no bytes, and the image is left and nothing else; or a call of the file failed, and nothing was

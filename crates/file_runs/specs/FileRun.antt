@@ -1,32 +1,14 @@
 -- What a run left of a file and a screen, in the words of what was asked of them.
 use Rattle.std.specs.Prelude.{◌≡◌, ℕ, ◌+◌, ◌≤◌, false, List, [], length, take, count_by, All, Option, None, Some, Result, Ok, IsTrue}
-use Rattle.outside.specs.declared.failed.Failed.{Failed}
-use Rattle.outside.specs.Bytes.{Prints}
+use Rattle.file_runs.specs.Below.{begun, ByOpening, content_of, Deed, Event, event_lines, Failed, FlatStore, Given, images_at, is_write, IsFaultAt, IsRunOf, IsSerial, IsWhole, Job, job_desk, job_of, marks_of, names_of, printed_of, Prints, put_by, report, run, Session, Stands, stands, Status, Synced, Tore, Unsynced, Word, Wrote}
 use Rattle.outside.specs.declared.world.Outside.{Ghosts}
 use Rattle.outside.specs.Clock.{shown_by, LeftAt}
 use Rattle.outside.specs.Moments.{Moment}
 use Rattle.outside.specs.Runs.{Leaves}
-use Rattle.store_format.specs.Stands.{Stands, stands}
-use Rattle.lines.specs.FlatStore.{FlatStore}
-use Rattle.desk.specs.declared.event.Event.{Event}
-use Rattle.desk.specs.Instruction.{Word}
 use Rattle.desk.specs.Kept.{KeepsJournal, journal_in}
-use Rattle.desk.specs.Run.{IsRunOf, run}
-use Rattle.desk.specs.Report.{report, event_lines}
-use Rattle.desk.specs.Commits.{begun, IsSerial}
 use Rattle.desk_law.specs.Headline.{IsPrefix}
-use Rattle.job_text.specs.declared.job.Job.{Job}
-use Rattle.job_text.specs.Grammar.{job_of, content_of}
-use Rattle.call_status.specs.Call.{Given}
-use Rattle.call_status.specs.declared.status.Status.{Status}
 use Rattle.call_status.specs.declared.status.Status.TheVariants as status
-use Rattle.call_status.specs.SourceText.{IsWhole}
-use Rattle.call_status.specs.Opening.{IsFaultAt}
 use Rattle.call_status.specs.Printed.{PrintsBy}
-use Rattle.supervisor.specs.declared.session.Session.{Session}
-use Rattle.job_calls.specs.Headline.{ByOpening, job_desk, names_of, put_by}
-use Rattle.real_files.specs.Deeds.{Deed, Wrote, Tore, Synced, Unsynced, images_at, is_write}
-use Rattle.real_files.specs.Shown.{printed_of, marks_of}
 
 -- What may have been seen of these puts when so many deeds were done: all that were made at fewer, and of those made at that many a first part.
 pub record IsSeenAt (puts : List Deed) (deeds : ℕ) (seen : List ℕ) : Type 0 where

@@ -1,19 +1,10 @@
 -- What showing bytes of a store and shipping its records left of a file and a screen.
 use Rattle.std.specs.Prelude.{◌≡◌, ℕ, ◌≤◌, ◌<◌, ◌⊎◌, List, []}
-use Rattle.store_format.specs.Stands.{Stands, stands}
-use Rattle.lines.specs.FlatStore.{FlatStore}
-use Rattle.store.specs.KeptStore.{KeptStore, number_of}
-use Rattle.store.specs.Shows.{Shows}
+use Rattle.file_runs.specs.Below.{behind, Deed, FlatStore, IsContent, IsFaultAt, KeptStore, number_of, printed_of, Shows, Stands, stands, Status, text_of}
 use Rattle.standby.specs.Shipped.{shipped}
-use Rattle.standby.specs.State.{behind}
-use Rattle.standby.specs.Text.{IsContent, text_of}
-use Rattle.call_status.specs.Opening.{IsFaultAt}
-use Rattle.call_status.specs.declared.status.Status.{Status}
 use Rattle.call_status.specs.declared.status.Status.TheVariants as status
 use Rattle.store_calls.specs.Show.{IsInside, rows_of}
 use Rattle.store_calls.specs.declared.show.Range.{Range}
-use Rattle.real_files.specs.Deeds.{Deed}
-use Rattle.real_files.specs.Shown.{printed_of}
 use Rattle.file_runs.specs.FileRun.{Hands, KeepsFile}
 
 -- The bytes stand for a store that has the range, and the rows of the range were handed to the screen.

@@ -1,13 +1,8 @@
 -- What each word left of a file and a screen.
 use Rattle.std.specs.Prelude.{List, ℕ}
-use Rattle.desk.specs.Answers.{order_told}
-use Rattle.call_status.specs.Call.{Given}
-use Rattle.job_calls.specs.declared.ended.Ended.{Ended}
-use Rattle.console.specs.declared.words.Command.{Command}
+use Rattle.file_runs.specs.Below.{Command, Deed, Ended, Given, new_line, order_told}
 use Rattle.console.specs.declared.words.Command.TheVariants as command
-use Rattle.real_files.specs.Deeds.{Deed}
 use Rattle.store_format.specs.Header.{fresh}
-use Rattle.store_calls.specs.New.{new_line}
 use Rattle.file_runs.specs.FileFollowed.{FollowedOnFile}
 use Rattle.file_runs.specs.FileMade.{RenewedOnFile, WrittenOnFile}
 use Rattle.file_runs.specs.FileRun.{RunsOnFile}

@@ -1,3 +1,4 @@
+pub mod Below
 pub mod FileFollowed
 pub mod FileMade
 pub mod FileRun

@@ -1,38 +1,19 @@
 -- What the words without a file handed to the screen: their disk is one in memory.
 use Rattle.std.specs.Prelude.{◌≡◌, ◌⊎◌, ◌++◌, ◌*◌, ◌≤◌, ℕ, List, [], min, length, Option, Some, Result, Ok}
-use Rattle.lines.specs.FlatStore.{FlatStore}
-use Rattle.outside.specs.Bytes.{Prints}
-use Rattle.outside.specs.declared.failed.Failed.{Failed}
-use Rattle.desk.specs.declared.event.Event.{Event}
-use Rattle.desk.specs.Answers.{order_told}
-use Rattle.desk.specs.Commits.{begun, IsSerial, serial_lines}
-use Rattle.desk.specs.Instruction.{Word}
-use Rattle.desk.specs.Report.{event_lines}
-use Rattle.desk.specs.Run.{IsRunOf, run}
+use Rattle.file_runs.specs.Below.{begun, ByOpening, Command, content_of, Deed, Ended, Event, event_lines, Failed, FlatStore, Given, IsFaultAt, IsRunOf, IsSerial, IsWhole, Job, job_desk, job_of, order_told, printed_of, Prints, run, serial_lines, Session, Status, Word}
 use Rattle.job_text.specs.Big.{IsBigJob}
-use Rattle.job_text.specs.Grammar.{Content, content_of, job_of}
-use Rattle.job_text.specs.declared.job.Job.{Job}
+use Rattle.job_text.specs.Grammar.{Content}
 use Rattle.serial_audit.specs.declared.answer.Trace.{Trace}
 use Rattle.serial_audit.specs.declared.auditing.Verdict.{Verdict}
-use Rattle.supervisor.specs.declared.session.Session.{Session}
-use Rattle.call_status.specs.Call.{Given}
-use Rattle.call_status.specs.Opening.{IsFaultAt}
-use Rattle.call_status.specs.SourceText.{IsWhole}
-use Rattle.call_status.specs.declared.status.Status.{Status}
 use Rattle.call_status.specs.declared.status.Status.TheVariants as status
 use Rattle.job_calls.specs.Big.{last_out, line_for}
-use Rattle.job_calls.specs.Headline.{ByOpening, job_desk}
-use Rattle.job_calls.specs.declared.ended.Ended.{Ended}
 use Rattle.store_calls.specs.Audited.{IsChecked, IsUnchecked, verdict_line}
 use Rattle.store_calls.specs.Bundled.{WithBundle}
 use Rattle.store_calls.specs.Traced.{IsTraced, IsUntraced, trace_lines}
 use Rattle.drills.specs.Drilled.{AreStops, broken, last_line, stop_lines, try_order, well}
 use Rattle.drills.specs.declared.drill.Pair.{Pair}
 use Rattle.console.specs.Listed.{listings_of}
-use Rattle.console.specs.declared.words.Command.{Command}
 use Rattle.console.specs.declared.words.Command.TheVariants as command
-use Rattle.real_files.specs.Deeds.{Deed}
-use Rattle.real_files.specs.Shown.{printed_of}
 use Rattle.file_runs.specs.FileRun.{Hands, RanOnScreen, RunsFrom, StandsForNone}
 
 -- The source gave the text of a job, whole, and the listings of its programs were handed to the screen.

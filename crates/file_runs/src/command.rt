@@ -1,12 +1,10 @@
 // The console on a file and a screen.
 ghost use Rattle.std.specs.Prelude.{◌≡◌, [], List, ℕ};
-ghost use Rattle.call_status.specs.Call.{given};
+ghost use Rattle.file_runs.specs.Below.{Command, Deed, given, StopsAtFailure};
 ghost use Rattle.console.specs.Words.{IsForm};
-ghost use Rattle.console.specs.declared.words.Command.{Command};
 ghost use Rattle.file_runs.specs.FileRun.{AreBehind, IsBehind};
 ghost use Rattle.file_runs.specs.FileWords.{DidOnFile, IsOnFile};
 ghost use Rattle.file_runs.specs.ScreenWords.{DidOnScreen};
-ghost use Rattle.real_files.specs.Deeds.{Deed, StopsAtFailure};
 
 use console::{Ended, console};
 use outside::{Joint, MemoryDisk, Outside, Source};

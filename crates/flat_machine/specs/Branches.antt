@@ -1,8 +1,6 @@
 -- Branches and jumps.
 use Rattle.std.specs.Prelude.{ℕ, ◌-◌, ◌%◌, ◌^◌, ℤ, pos, negsuc, ◌+ℤ◌, ◌*ℤ◌, ◌==◌, not, if◌then◌else◌, Bool, true, false, List, slice_index, Option, Some, None}
-use Rattle.romp_table.specs.declared.inst.Op.{Op}
-use Rattle.romp_table.specs.declared.inst.Inst.{Inst}
-use Rattle.romp_table.specs.Legal.{op_of}
+use Rattle.flat_machine.specs.Below.{Inst, Op, op_of}
 use Rattle.flat_machine.specs.declared.machine.Cs.{Cs}
 use Rattle.flat_machine.specs.declared.machine.Branch.{Branch}
 

@@ -1,8 +1,7 @@
 -- What each row that neither branches nor jumps computes. In a row b and c are its fields, x and y the values of registers
 -- B and C, z that of register C or 0 where field C is 0, k a field of four bits and i the field of sixteen.
 use Rattle.std.specs.Prelude.{ℕ, ◌+◌, ◌-◌, ◌*◌, ◌/◌, ◌%◌, ◌^◌, nat_lt, nat_le, ◌==◌, ◌&&◌, ◌||◌, if◌then◌else◌, Bool, true, false, List, slice_index, bit_and, bit_or, bit_xor}
-use Rattle.romp_table.specs.declared.inst.Op.{Op}
-use Rattle.romp_table.specs.declared.inst.Inst.{Inst}
+use Rattle.flat_machine.specs.Below.{Inst, Op}
 use Rattle.flat_machine.specs.declared.machine.Cs.{Cs}
 use Rattle.flat_machine.specs.declared.machine.Act.{Act}
 use Rattle.flat_machine.specs.Plans.{Work, Put, Signed, Sum, Compare, Want}

@@ -1,7 +1,6 @@
 //! How a row is made ready.
 ghost use Rattle.std.specs.Prelude.{◌≡◌, ◌<◌, ◌≤◌, ℕ, List, Result, IfSome, false};
-ghost use Rattle.romp_table.specs.declared.inst.Inst.{Inst};
-ghost use Rattle.romp_table.specs.Legal.{HasWidths};
+ghost use Rattle.flat_machine.specs.Below.{HasWidths, Inst};
 ghost use Rattle.flat_machine.specs.declared.machine.Cs.{Cs};
 ghost use Rattle.flat_machine.specs.declared.ready.Ready.{Ready};
 ghost use Rattle.flat_machine.specs.Branches.{branch_to, is_register_branch};

@@ -1,6 +1,5 @@
 ghost use Rattle.std.specs.Prelude.{ℕ, List, Option, Some, ◌≡◌, ◌<◌, ◌≤◌, ◌+◌, IfOk, OnOk, OnSome, length};
-ghost use Rattle.std.specs.Option.{ForSome};
-ghost use Rattle.romp_table.specs.Legal.{HasWidths};
+ghost use Rattle.flat_machine.specs.Below.{ForSome, HasWidths};
 ghost use Rattle.flat_machine.specs.Access.{IsAccess};
 ghost use Rattle.flat_machine.specs.Pending.{planned, IsSoundPending, StaysIfPending, StaysIfWanting};
 ghost use Rattle.flat_machine.specs.declared.machine.Cs.{Cs};

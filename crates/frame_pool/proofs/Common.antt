@@ -1,8 +1,8 @@
 -- The names that most proofs cite, passed on from one place. Declares nothing.
-pub use Rattle.std.proofs.Common.{All, Bool, List, None, Some, [], ap, arith, false, inl, inr, length, refl, subst, suc, sym, true, vec_capacity, vec_len, zero, ℕ, ◌*◌, ◌++◌, ◌+◌, ◌<◌, ◌∙◌, ◌∷◌, ◌≡◌, ◌≢◌, ◌≤◌, ◌⊎◌, append_assoc, drop, take, ◌-◌}
+pub use Rattle.std.proofs.Common.{All, Bool, List, None, Some, [], ap, arith, false, inl, inr, length, refl, subst, suc, sym, true, vec_capacity, vec_len, zero, ℕ, ◌*◌, ◌++◌, ◌+◌, ◌<◌, ◌∙◌, ◌∷◌, ◌≡◌, ◌≢◌, ◌≤◌, ◌⊎◌, append_assoc, drop, take, ◌-◌, get_or}
 pub use Rattle.std.proofs.lemmas.Bool.{and_from, and_parts, cases_eq, cases_lt, eq-eqb, eqb-false, eqb-true, ltb-false, ltb-true, ne_eqb, not_from_false, or_from}
 pub use Rattle.std.proofs.lemmas.Bool.Decides.{nat_tests}
-pub use Rattle.std.proofs.lemmas.List.{append-nil, drop-drop, get_or-replicate, get_or-set_other, get_or-set_same, get_or_past, get_or_read_under, length-append, length-drop, length-replicate, length-set, length-take, length-take-le, take-append-drop, take_at, with_items_is}
+pub use Rattle.std.proofs.lemmas.List.{append-nil, drop-drop, get_or-replicate, get_or-set_other, get_or-set_same, get_or_past, get_or_read_under, length-append, length-drop, length-replicate, length-set, length-take, length-take-le, take-append-drop, take_at, with_items_is, get_or-take}
 pub use Rattle.std.proofs.lemmas.List.Elements.{All-from_get_or, All-head, All-tail}
 pub use Rattle.std.proofs.lemmas.List.Quantifiers.{position-Some}
 pub use Rattle.std.specs.List.{list_any, prefix_len, range_with_len}
@@ -26,4 +26,5 @@ pub use Rattle.frame_pool.specs.Sound.{IsOfStore, IsPlaced, IsSized, IsSound, is
 pub use Rattle.frame_pool.specs.View.{pool_of}
 pub use Rattle.frame_pool.specs.declared.model.Pool.{Pool}
 pub use Rattle.frame_pool.specs.declared.pool.FramePool.{FramePool}
-pub use Rattle.std.proofs.lemmas.Grind.{common_steps}
+pub use Rattle.std.proofs.lemmas.Grind.{common_steps, same_number_lists}
+pub use Rattle.std.proofs.lemmas.List.Edits.{length-remove, get_or-remove_above}

@@ -102,8 +102,7 @@ find-first test (x ∷ xs) (suc i) below passes before =
     ∙ find-first test xs i (omega arith) passes (λ k less. before (suc k) (omega arith))
 
 pub find-position : (test : ℕ → Bool) (xs : List ℕ) (i : ℕ) → position test xs ≡ Some i → find test xs ≡ Some (slice_index xs i)
-find-position test xs i is =
-    let told = position-Some test xs i 0 is in find-first test xs i told.0 told.1 told.2
+find-position test xs i is = let told = position-Some test xs i 0 is in find-first test xs i told.0 told.1 told.2
 
 ltb-of : (a b : ℕ) → a < b → nat_lt a b ≡ true
 ltb-of a b below = grind (arith, nat_tests)

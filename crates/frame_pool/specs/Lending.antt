@@ -1,7 +1,6 @@
 -- What the bytes of frames end as, where a part of them is lent.
 use Rattle.std.specs.Prelude.{ℕ, List}
-use Rattle.std.specs.Borrow.{Lends, MutBor, Fml, Array, u8}
-use Rattle.std.specs.Vec.{with_items_from}
+use Rattle.frame_pool.specs.Below.{Array, Fml, Lends, MutBor, u8, with_items_from}
 use Rattle.frame_pool.specs.declared.frame_bytes.FrameBytes.{FrameBytes}
 use Rattle.frame_pool.specs.contracts.frame_bytes.FrameBytes.{the_row}
 

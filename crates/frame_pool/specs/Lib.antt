@@ -1,3 +1,4 @@
+pub mod Below
 pub mod Sizes
 pub mod Places
 pub mod Sound

@@ -1,8 +1,6 @@
 -- Which pages are resident, in which frames.
 use Rattle.std.specs.Prelude.{◌≡◌, ℕ, nat_lt, not, if◌then◌else◌, length, position, option_to_list, List, [], ◌∷◌, ◌++◌, remove, replicate, slice_set, slice_index, slice_index_or, Option, Some, None, unwrap_or}
-use Rattle.std.specs.List.{range_with_len}
-use Rattle.lines.specs.Sets.{has}
-use Rattle.lines.specs.declared.line_geometry.PageSize.{PageSize}
+use Rattle.frame_pool.specs.Below.{has, PageSize, range_with_len}
 use Rattle.frame_pool.specs.Sizes.{private_frames, frame_count}
 
 -- the resident pages in the order in which they came, the frame of each page, the page of each frame, and the frames of the

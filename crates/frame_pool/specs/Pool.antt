@@ -1,11 +1,6 @@
 -- The pool: the bytes of all frames, the resident pages and their frames, the marked lines, and paging space.
 use Rattle.std.specs.Prelude.{◌≡◌, ℕ, ◌+◌, ◌-◌, ◌*◌, ◌/◌, ◌≤◌, ◌<◌, ◌==◌, nat_lt, not, if◌then◌else◌, List, [], ◌∷◌, length, replicate, find, fold, slice_range, slice_set, slice_index_or, option_to_list, Option, Some, None}
-use Rattle.std.specs.Option.{option_map_or}
-use Rattle.lines.specs.Overlay.{overlaid}
-use Rattle.lines.specs.declared.line_geometry.PageSize.{PageSize}
-use Rattle.lines.specs.Segments.{page_bytes}
-use Rattle.lines.specs.LineSets.{union, difference, between}
-use Rattle.lines.specs.Sets.{has}
+use Rattle.frame_pool.specs.Below.{between, difference, has, option_map_or, overlaid, page_bytes, PageSize, union}
 use Rattle.lines.specs.Resident.{brought, taken_out}
 use Rattle.frame_pool.specs.Sizes.{private_frames, frame_count, line_size, line_place}
 use Rattle.frame_pool.specs.declared.model.Pool.{Pool}

@@ -1,9 +1,6 @@
 -- What a pool ends as, where bytes of its frames are lent.
 use Rattle.std.specs.Prelude.{ℕ, List}
-use Rattle.std.specs.Borrow.{Lends, MutBor, Fml, Array, u8}
-use Rattle.std.specs.Vec.{with_item}
-use Rattle.std.specs.Option.{option_map_or}
-use Rattle.lines.specs.LineSets.{union}
+use Rattle.frame_pool.specs.Below.{Array, Fml, Lends, MutBor, option_map_or, u8, union, with_item}
 use Rattle.frame_pool.specs.Lending.{with_part}
 use Rattle.frame_pool.specs.Pool.{marks_at, page_at}
 use Rattle.frame_pool.specs.View.{pool_of}

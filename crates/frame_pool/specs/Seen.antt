@@ -1,7 +1,6 @@
 -- What holds of every pool that is seen.
 use Rattle.std.specs.Prelude.{◌≡◌, ℕ, ◌*◌, ◌≤◌, ◌<◌, length, Some, is_some}
-use Rattle.lines.specs.Sets.{has}
-use Rattle.lines.specs.Segments.{page_bytes}
+use Rattle.frame_pool.specs.Below.{has, page_bytes}
 use Rattle.frame_pool.specs.declared.model.Pool.{Pool}
 use Rattle.frame_pool.specs.Sizes.{private_frames, frame_count}
 use Rattle.frame_pool.specs.Pool.{frame_at, page_at}

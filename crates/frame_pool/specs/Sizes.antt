@@ -1,7 +1,6 @@
 -- The sizes of frames and lines, by the size of a page.
 use Rattle.std.specs.Prelude.{ℕ, ◌+◌, ◌*◌, ◌/◌, ◌^◌}
-use Rattle.lines.specs.declared.line_geometry.PageSize.{PageSize}
-use Rattle.lines.specs.Segments.{page_bytes, line_bytes}
+use Rattle.frame_pool.specs.Below.{line_bytes, page_bytes, PageSize}
 
 -- the frames of private storage: 16,384 bytes for each of sixteen seats
 abbrev pub private_frames : PageSize → ℕ

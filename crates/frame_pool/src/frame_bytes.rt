@@ -1,6 +1,5 @@
 ghost use Rattle.std.specs.Prelude.{◌≡◌, ◌+◌, ◌≤◌, slice_range, vec_len, replicate, IfOk, List, ℕ, length};
-ghost use Rattle.std.specs.Borrow.{sem};
-ghost use Rattle.lines.specs.Overlay.{overlaid};
+ghost use Rattle.frame_pool.specs.Below.{overlaid, sem};
 ghost use Rattle.frame_pool.specs.Lending.{LendsPart};
 
 use std::alloc::{AllocError, Global};

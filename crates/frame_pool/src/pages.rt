@@ -1,7 +1,6 @@
 // Which pages of a store are resident, and in which frames.
 ghost use Rattle.std.specs.Prelude.{◌≡◌, ◌+◌, ◌<◌, ◌≤◌, ◌^◌, ◌==◌, false, not, length, position, option_to_list, vec_len, vec_capacity, remove, slice_index_or, IfOk, None, replicate};
-ghost use Rattle.std.specs.List.{range_with_len};
-ghost use Rattle.lines.specs.Sets.{has};
+ghost use Rattle.frame_pool.specs.Below.{has, range_with_len};
 ghost use Rattle.frame_pool.specs.Sound.{IsSound};
 
 use super::sizes::private_frames;

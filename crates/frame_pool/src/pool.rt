@@ -1,9 +1,5 @@
 ghost use Rattle.std.specs.Prelude.{◌≡◌, ◌+◌, ◌*◌, ◌<◌, ◌≤◌, ◌==◌, if◌then◌else◌, [], false, length, slice_index, vec_len, replicate, is_some, fold, slice_range, IfOk, IfSome};
-ghost use Rattle.std.specs.Borrow.{sem};
-ghost use Rattle.lines.specs.Sets.{has};
-ghost use Rattle.lines.specs.Overlay.{overlaid};
-ghost use Rattle.lines.specs.Segments.{page_bytes};
-ghost use Rattle.lines.specs.LineSets.{between};
+ghost use Rattle.frame_pool.specs.Below.{between, has, overlaid, page_bytes, sem};
 ghost use Rattle.frame_pool.specs.Sizes.{private_frames, frame_count, line_place, line_size};
 
 use super::frame_bytes::FrameBytes;

@@ -1,7 +1,6 @@
 -- The statuses of a run on a disk, by how it was opened and how it ended.
-use Rattle.job_calls.proofs.Common.{◌≡◌, ℕ, refl, ◌∙◌, ap, false, Option, Some, IsSome, IsTrue, Ghosts, Rose, held_of, Header, chosen, HasStood, Session, ghosts, Replayed, IfOk, FailsOnlyCounted, GoesBy, way_of, Status, status_of_replay, OpensBy, IsStanding}
+use Rattle.job_calls.proofs.Common.{◌≡◌, ℕ, refl, ◌∙◌, ap, false, Option, Some, IsSome, IsTrue, Ghosts, Rose, held_of, Header, chosen, HasStood, Session, ghosts, Replayed, IfOk, FailsOnlyCounted, GoesBy, way_of, Status, status_of_replay, OpensBy, IsStanding, WentThrough}
 use Rattle.store_format.specs.Bank.{Faulty, bank_of}
-use Rattle.call_status.specs.Statuses.{WentThrough}
 use Rattle.schedule_replay.specs.declared.events.Replayed.TheVariants as replayed
 
 same-offset : (one two : ℕ) → Status.Store one ≡ Status.Store two → one ≡ two

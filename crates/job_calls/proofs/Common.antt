@@ -2,7 +2,7 @@
 pub use Rattle.std.proofs.Common.{All, List, Option, Some, [], ap, append-nil, append_assoc, arith, false, get_or, inr, length, refl, subst, suc, sym, true, vec_len, ℕ, ⊎_elim, ◌++◌, ◌<◌, ◌∙◌, ◌∷◌, ◌≡◌, ◌≢◌, ◌≤◌, None, inl, take, ◌%◌, ◌+◌, ◌^◌, ◌⊎◌}
 pub use Rattle.std.proofs.lemmas.List.{length-map}
 pub use Rattle.std.proofs.lemmas.List.Sums.{count_by-le-length}
-pub use Rattle.std.specs.Prelude.{Err, IsErr, IsSome, IsTrue, Ok, Result, map, unwrap_or, Bool, codes, count_by, decimal, IfOk}
+pub use Rattle.std.specs.Prelude.{Err, IsErr, IsSome, IsTrue, Ok, Result, map, unwrap_or, Bool, codes, count_by, decimal, IfOk, OnErr}
 pub use Rattle.call_status.specs.Call.{Call, Given, call, given}
 pub use Rattle.call_status.specs.Opening.{IsOfStart, IsStanding, TellsStore}
 pub use Rattle.call_status.specs.declared.status.Status.{Status}
@@ -33,7 +33,7 @@ pub use Rattle.outside.specs.declared.world.Outside.{Ghosts}
 pub use Rattle.schedule_replay.proofs.PutsLemmas.{PrintedNow}
 pub use Rattle.schedule_replay.proofs.RanToLemmas.{to_later, to_since}
 pub use Rattle.schedule_replay.specs.Asked.{IsAsked, begins_in, is_turn, turns_in}
-pub use Rattle.schedule_replay.specs.Quiet.{IsLasting, RunsQuietly, Tells, is_rollback, is_shut, out_after}
+pub use Rattle.schedule_replay.specs.Quiet.{IsLasting, RunsQuietly, Tells, is_rollback, is_shut, out_after, going_of}
 pub use Rattle.schedule_replay.specs.Ran.{HasOpened, IfInDoubt, InDoubt, PrintsEarlier, text_of}
 pub use Rattle.schedule_replay.specs.Answered.{GoesBy, way_of}
 pub use Rattle.schedule_replay.specs.Replays.{Replays, Reports}
@@ -48,4 +48,6 @@ pub use Rattle.supervisor.specs.contracts.supervisor.SessionSupervisor.TheImpl.{
 pub use Rattle.supervisor.specs.declared.session.Session.{Session}
 pub use Rattle.job_calls.specs.Big.{HasBigRun, IsToldBy, Loaded, LoadedBy, RanBig, big_line, last_out, line_for}
 pub use Rattle.job_calls.specs.Causes.{OpensBy, status_of_replay}
-pub use Rattle.job_calls.specs.Headline.{DidBy, DoubtStands, Happened, HappenedTo, JobHasRun, HasRunFrom, RanJob, RunsFrom, job_desk, job_opening, names_of, put_by}
+pub use Rattle.job_calls.specs.Headline.{DidBy, DoubtStands, Happened, HappenedTo, JobHasRun, HasRunFrom, RanJob, RunsFrom, job_desk, job_opening, names_of, put_by, ByOpening, PutJob, TellsJob}
+pub use Rattle.call_status.specs.Statuses.{WentThrough}
+pub use Rattle.schedule_replay.specs.Told.{TellsBy}

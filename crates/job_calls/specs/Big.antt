@@ -1,27 +1,14 @@
 -- What a load of transfers did: one run of the desk over its events, with one line in place of a report.
 use Rattle.std.specs.Prelude.{◌≡◌, ◌≢◌, ℕ, true, false, List, [], ◌∷◌, codes, decimal, count_by, Option, None, Some}
 use Rattle.std.specs.List.{fold}
-use Rattle.outside.specs.declared.world.Outside.{Ghosts}
-use Rattle.outside.specs.Moments.{Elapses}
-use Rattle.lines.specs.FlatStore.{FlatStore}
-use Rattle.desk.specs.Kept.{StillTold}
-use Rattle.desk.specs.Lines.{Line, printed, spaced}
-use Rattle.desk.specs.Commits.{begun, is_commit, serial_lines}
-use Rattle.supervisor.specs.declared.session.Session.{Session}
+use Rattle.job_calls.specs.Below.{begun, Call, Elapses, FlatStore, Ghosts, is_commit, IsBigJob, Job, Line, printed, Puts, PutsTimes, serial_lines, Session, spaced, Status, StillTold, TellsStore, WentThrough}
 use Rattle.schedule_replay.specs.declared.quietly.Quiet.{Quiet}
 use Rattle.schedule_replay.specs.declared.quietly.Quiet.TheVariants as quiet
 use Rattle.schedule_replay.specs.Quiet.{is_rollback, out_after}
-use Rattle.listing.specs.Puts.{Puts, PutsTimes}
-use Rattle.job_text.specs.declared.job.Job.{Job}
-use Rattle.job_text.specs.Big.{IsBigJob}
-use Rattle.call_status.specs.Call.{Call}
-use Rattle.call_status.specs.declared.status.Status.{Status}
 use Rattle.call_status.specs.declared.status.Status.TheVariants as status
-use Rattle.call_status.specs.Statuses.{WentThrough}
 use Rattle.job_calls.specs.Causes.{OpensBy}
 use Rattle.job_calls.specs.Handed.{HandedRuns}
 use Rattle.job_calls.specs.Headline.{ByOpening, FoundNoStore, Refused, RunsFrom, Untouched}
-use Rattle.call_status.specs.Opening.{TellsStore}
 use Rattle.call_status.specs.Printed.{put_of, PutsOnce, PrintsBy}
 
 -- the line of a load: its transfers, how many commits and rollbacks its run had, and what the last commit printed

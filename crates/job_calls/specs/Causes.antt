@@ -1,14 +1,8 @@
 -- How a call that runs events ends, and what the bytes of its disk tell of that.
 use Rattle.std.specs.Prelude.{◌≡◌, ◌≢◌, ℕ, Option, None, IsSome, IsTrue}
-use Rattle.outside.specs.declared.world.Outside.{Ghosts}
-use Rattle.outside.specs.Runs.{held_of}
-use Rattle.supervisor.specs.declared.session.Session.{Session}
-use Rattle.schedule_replay.specs.declared.events.Replayed.{Replayed}
+use Rattle.job_calls.specs.Below.{Ghosts, held_of, IsFaultAt, IsFaultSince, IsOfOpening, IsStanding, Replayed, Session, Status, WentThrough}
 use Rattle.schedule_replay.specs.declared.events.Replayed.TheVariants as replayed
-use Rattle.call_status.specs.declared.status.Status.{Status}
 use Rattle.call_status.specs.declared.status.Status.TheVariants as status
-use Rattle.call_status.specs.Opening.{IsFaultAt, IsFaultSince, IsStanding}
-use Rattle.call_status.specs.Statuses.{IsOfOpening, WentThrough}
 
 -- the status of a replay
 abbrev pub status_of_replay : Replayed → Status

@@ -1,13 +1,9 @@
 -- The session that a call hands on.
 use Rattle.std.specs.Prelude.{◌≡◌, ◌≤◌, ℕ, List, Bool, true, false, Option, None, Some}
-use Rattle.outside.specs.declared.world.Outside.{Ghosts}
+use Rattle.job_calls.specs.Below.{Ghosts, HoldsStore, Session, Status, WentThrough}
 use Rattle.flat_machine.specs.declared.machine.Program.{Program}
-use Rattle.desk.specs.Kept.{HoldsStore}
-use Rattle.supervisor.specs.declared.session.Session.{Session}
 use Rattle.supervisor.specs.Session.{IsSound, activity, order_of, session_told, header_of_session}
-use Rattle.call_status.specs.declared.status.Status.{Status}
 use Rattle.call_status.specs.declared.status.Status.TheVariants as status
-use Rattle.call_status.specs.Statuses.{WentThrough}
 
 -- whether a session whose events ended with this status is closed; other statuses come with none
 abbrev pub IsClosedAt : Status → Bool → Type 0

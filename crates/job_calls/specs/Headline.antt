@@ -1,38 +1,26 @@
 -- What a call of the console did: the run of the desk that its report tells of and what a crash leaves of it, or nothing.
 use Rattle.std.specs.Prelude.{◌≡◌, ◌≢◌, ◌⊎◌, ℕ, ◌+◌, ◌%◌, ◌^◌, true, false, List, [], ◌++◌, length, map, take, slice_set, Option, None, Some, IsSome, Result, Ok, Err}
-use Rattle.outside.specs.declared.world.Outside.{Ghosts}
+use Rattle.job_calls.specs.Below.{begun, Call, Elapses, FlatStore, Ghosts, Given, held_of, IsFaultAt, IsOfStart, IsSerial, Job, Leaves, Line, line_text, OnlyAsks, Open, Replayed, Session, Status, StillTold, TellsStore}
 use Rattle.outside.specs.declared.failed.Failed.{Failed}
 use Rattle.outside.specs.Bytes.{Prints}
 use Rattle.outside.specs.Causes.{Rose}
-use Rattle.outside.specs.Moments.{Elapses}
-use Rattle.outside.specs.Runs.{OnlyAsks, Leaves, held_of}
-use Rattle.lines.specs.FlatStore.{FlatStore}
 use Rattle.flat_machine.specs.Serial.{serial}
 use Rattle.store_format.specs.Header.{header_of, most_lines}
 use Rattle.store_format.specs.Stands.{Stands, stands}
 use Rattle.desk.specs.declared.event.Event.{Event}
 use Rattle.desk.specs.Desk.{Desk, opened}
-use Rattle.desk.specs.Kept.{StillTold}
 use Rattle.desk.specs.Instruction.{Word}
 use Rattle.desk.specs.Run.{run, faulted, IsRunOf}
-use Rattle.desk.specs.Lines.{Line, line_text, Open}
-use Rattle.desk.specs.Commits.{begun, IsSerial}
 use Rattle.desk_law.specs.Headline.{IsFirst, IsPrefix}
 use Rattle.schedule_replay.specs.Puts.{PutsTimes, shown_of}
 use Rattle.schedule_replay.specs.Ran.{IfInDoubt, PrintsEarlier, text_of}
 use Rattle.schedule_replay.specs.RanTo.{RanTo}
 use Rattle.schedule_replay.specs.Runs.{Opening, lines_of, opening, report_lines_of, report_of, span}
 use Rattle.schedule_replay.specs.Told.{TellsBy}
-use Rattle.schedule_replay.specs.declared.events.Replayed.{Replayed}
-use Rattle.supervisor.specs.declared.session.Session.{Session}
 use Rattle.supervisor.specs.contracts.supervisor.SessionSupervisor.TheImpl.{ghosts}
-use Rattle.job_text.specs.declared.job.Job.{Job}
 use Rattle.job_text.specs.Grammar.{job_of, content_of}
-use Rattle.call_status.specs.Call.{Call, Given}
-use Rattle.call_status.specs.declared.status.Status.{Status}
 use Rattle.call_status.specs.declared.status.Status.TheVariants as status
 use Rattle.call_status.specs.SourceText.{IsWhole}
-use Rattle.call_status.specs.Opening.{IsFaultAt, IsOfStart, TellsStore}
 use Rattle.job_calls.specs.Causes.{status_of_replay}
 use Rattle.job_calls.specs.Handed.{HandedRuns}
 

@@ -1,3 +1,4 @@
+pub mod Below
 pub mod Causes
 pub mod Handed
 pub mod Headline

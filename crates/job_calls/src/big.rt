@@ -1,12 +1,6 @@
 // A load with waits and victims, run without a report.
 ghost use Rattle.std.specs.Prelude.{◌≡◌, ◌≤◌, [], ◌∷◌, ◌++◌, length, vec_capacity};
-ghost use Rattle.desk.specs.Answers.{order_told};
-ghost use Rattle.schedule_replay.specs.Asked.{begins_in};
-ghost use Rattle.job_text.specs.Big.{IsBigJob};
-ghost use Rattle.job_text.specs.Ready.{IsReady};
-ghost use Rattle.listing.specs.Puts.{Puts, PutsTimes};
-ghost use Rattle.call_status.specs.Call.{call};
-ghost use Rattle.call_status.specs.Faults.{FaultsBy};
+ghost use Rattle.job_calls.specs.Below.{begins_in, call, FaultsBy, IsBigJob, IsReady, order_told, Puts, PutsTimes};
 ghost use Rattle.job_calls.specs.Big.{IsToldBy, Loaded, big_line};
 ghost use Rattle.job_calls.specs.Causes.{IsOfEvents};
 ghost use Rattle.job_calls.specs.Handed.{HandedFits, HandsOn};

@@ -1,11 +1,7 @@
 // A job that runs on the store of a disk.
 ghost use Rattle.std.specs.Prelude.{◌≡◌, ◌≤◌, [], length, vec_capacity};
-ghost use Rattle.desk.specs.Answers.{order_told};
-ghost use Rattle.job_text.specs.Ready.{IsReady};
-ghost use Rattle.schedule_replay.specs.Asked.{begins_in};
-ghost use Rattle.call_status.specs.Call.{call, given};
+ghost use Rattle.job_calls.specs.Below.{begins_in, call, FaultsBy, given, IsReady, order_told, ReadFaultsBy};
 ghost use Rattle.call_status.specs.Reading.{ReadsBy};
-ghost use Rattle.call_status.specs.Faults.{FaultsBy, ReadFaultsBy};
 ghost use Rattle.job_calls.specs.Causes.{IsOfEvents, IsOfRun, OpensBy, status_of_replay};
 ghost use Rattle.job_calls.specs.Handed.{HandedFits, HandedRuns, HandsOn};
 ghost use Rattle.job_calls.specs.Headline.{Happened, HappenedTo};

@@ -1,7 +1,6 @@
 -- The events of `big N`.
-use Rattle.job_text.proofs.Common.{flat_map, range_with_len, flat_map-append, All-append, All-cons, All-nil, All-map, Event, Begin, Turn, Job, batch, batches, big_events, move_of, account_of, other_of, transfer, turns_of, IsEventAmong, IsReady, nat_tests}
+use Rattle.job_text.proofs.Common.{flat_map, range_with_len, flat_map-append, All-append, All-cons, All-nil, All-map, Event, Begin, Turn, Job, batch, batches, big_events, move_of, account_of, other_of, transfer, turns_of, IsEventAmong, IsReady, nat_tests, map-id}
 use Rattle.std.proofs.Common.{Global, ◌≡◌, ℕ, ◌+◌, ◌-◌, ◌*◌, ◌/◌, ◌%◌, ◌<◌, ◌≤◌, ◌==◌, min, Bool, List, [], ◌∷◌, ◌++◌, length, map, ap, ◌∙◌, sym, subst, arith, append_assoc, append-nil, length-append, if◌then◌else◌, All}
-use Rattle.std.proofs.lemmas.List.{map-id}
 use Rattle.std.proofs.lemmas.List.FromFn.{map-range_with_len_more, length-map-range_with_len, length-range_with_len}
 use Rattle.std.specs.declared.vec.Vec.{Vec}
 

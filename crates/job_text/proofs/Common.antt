@@ -3,7 +3,7 @@ pub use Rattle.std.proofs.Common.{Bool, Err, List, None, Ok, Option, Result, Som
 pub use Rattle.std.proofs.lemmas.Bool.{and_parts, false_from_ne_true, le-leb, lt-ltb, cond_both}
 pub use Rattle.std.proofs.lemmas.Bool.Decides.{nat_tests}
 pub use Rattle.std.proofs.lemmas.Grind.{common_steps, flat_map-append}
-pub use Rattle.std.proofs.lemmas.List.{length-map, map-append, take_all}
+pub use Rattle.std.proofs.lemmas.List.{length-map, map-append, take_all, map-id}
 pub use Rattle.std.proofs.lemmas.List.Elements.{All-append, All-cons, All-from_recursion, All-map, All-nil, recursion_from_All}
 pub use Rattle.std.proofs.lemmas.List.Quantifiers.{position-Some}
 pub use Rattle.std.proofs.lemmas.Slice.Eq.{bytes_eq-Decides}

@@ -42,9 +42,7 @@ not_below : (n m : ℕ) → nat_lt n m ≡ false → m ≤ n
 not_below n m e = grind (arith, nat_tests)
 
 take_whole : (text : List ℕ) (n : ℕ) → nat_lt n (length text) ≡ false → take n text ≡ text
-take_whole text n e =
-    let past : length text ≤ n = not_below n (length text) e in
-    grind (arith, common_steps)
+take_whole text n e = let past : length text ≤ n = not_below n (length text) e in grind (arith, common_steps)
 
 only_by : (text : List ℕ) (inside : Bool) → nat_lt (position_or_len is_feed text) (length text) ≡ inside → cond inside (Some (after_first is_feed text)) None ≡ None → lines_of text ≡ text ∷ []
 only_by text true e none = absurd (cc none)

@@ -1,6 +1,5 @@
 -- Events that can be run.
-use Rattle.std.proofs.Common.{arith}
-use Rattle.job_text.proofs.Common.{bytes_eq, All-append, All-cons, All-nil, position-Some, Event, Begin, Turn, Checkpoint, Crash, Token, IsEventAmong, IsBegin, IsNoBegin, IsEventLine, HasEvents, rounds_of, turns_to, four_of}
+use Rattle.job_text.proofs.Common.{bytes_eq, All-append, All-cons, All-nil, position-Some, Event, Begin, Turn, Checkpoint, Crash, Token, IsEventAmong, IsBegin, IsNoBegin, IsEventLine, HasEvents, rounds_of, turns_to, four_of, arith}
 use Rattle.std.proofs.Common.{inl, inr, ℕ, zero, suc, ◌+◌, ◌≤◌, List, [], ◌∷◌, length, All, sym, subst}
 
 one_event : (programs : ℕ) (event : Event) → IsEventAmong programs event → All (IsEventAmong programs) (event ∷ [])

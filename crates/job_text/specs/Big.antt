@@ -1,8 +1,6 @@
 -- The job of `big TRANSFERS`: a fund of accounts, so many transfers between them in batches, and a tally.
 use Rattle.std.specs.Prelude.{◌≡◌, ℕ, ◌+◌, ◌-◌, ◌*◌, ◌/◌, ◌%◌, ◌==◌, min, if◌then◌else◌, List, [], ◌∷◌, ◌++◌, map, codes, Ok}
-use Rattle.std.specs.List.{flat_map, range_with_len}
-use Rattle.desk.specs.declared.event.Event.{Event}
-use Rattle.desk.specs.declared.event.Event.TheVariants.{Begin, Turn}
+use Rattle.job_text.specs.Below.{Begin, Event, flat_map, range_with_len, Turn}
 use Rattle.job_text.specs.declared.job.Job.{Job}
 use Rattle.job_text.specs.Grammar.{content_of, job_of}
 

@@ -1,17 +1,6 @@
 -- The form of a job's text: which lines stand in it, one after another, and what they say.
 use Rattle.std.specs.Prelude.{◌≡◌, ◌⊎◌, ◌↔◌, ℕ, ◌+◌, ◌≤◌, true, List, [], ◌∷◌, ◌++◌, length, map, codes, Some, None, Ok, Err}
-use Rattle.std.specs.List.{AllByRecursion}
-use Rattle.desk.specs.declared.event.Event.{Event}
-use Rattle.desk.specs.declared.event.Event.TheVariants.{Begin, Turn, Checkpoint, Crash}
-use Rattle.asm_parse.specs.declared.token.Token.{Token}
-use Rattle.asm_parse.specs.declared.token.Token.TheVariants.{Word, Number}
-use Rattle.asm_parse.specs.declared.statement.Statement.{Statement}
-use Rattle.asm_parse.specs.Operand.{place_among}
-use Rattle.asm_parse.specs.Statement.{is_label}
-use Rattle.asm_parse.specs.Text.{lines_of, statements_from}
-use Rattle.asm_parse.specs.Token.{tokens}
-use Rattle.romp_asm.specs.Layout.{Parts}
-use Rattle.romp_asm.specs.Linked.{linked}
+use Rattle.job_text.specs.Below.{AllByRecursion, Begin, Checkpoint, Crash, Event, is_label, lines_of, linked, Number, Parts, place_among, Statement, statements_from, Token, tokens, Turn, Word}
 use Rattle.job_text.specs.Grammar.{Content, job_of}
 use Rattle.job_text.specs.Reading.{four_of, rounds_of}
 

@@ -1,9 +1,6 @@
 -- The job that a text is, or its first fault.
 use Rattle.std.specs.Prelude.{ℕ, ◌+◌, List, [], ◌∷◌, map, Result, Ok, Err}
-use Rattle.arrayvec.specs.ArrayVec.{ArrayVec}
-use Rattle.desk.specs.declared.event.Event.{Event}
-use Rattle.asm_parse.specs.Text.{lines_of}
-use Rattle.romp_asm.specs.Layout.{Parts, parts_of}
+use Rattle.job_text.specs.Below.{ArrayVec, Event, lines_of, Parts, parts_of}
 use Rattle.job_text.specs.declared.stage.Stage.{Stage}
 use Rattle.job_text.specs.declared.stage.Stage.TheVariants.{Ended}
 use Rattle.job_text.specs.declared.job.Job.{Job}

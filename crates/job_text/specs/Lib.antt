@@ -1,3 +1,4 @@
+pub mod Below
 pub mod Ready
 pub mod Reading
 pub mod Grammar

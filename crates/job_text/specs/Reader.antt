@@ -1,13 +1,8 @@
 -- What a reader of jobs has read.
 use Rattle.std.specs.Prelude.{◌≡◌, ℕ, ◌+◌, if◌then◌else◌, List, length, sum_by, map, Result, Ok, Err}
-use Rattle.arrayvec.specs.ArrayVec.{ArrayVec}
+use Rattle.job_text.specs.Below.{ArrayVec, at_line, linked, parts_of, statement_by, Token}
 use Rattle.asm_parse.specs.declared.fault.LineFault.{LineFault}
-use Rattle.asm_parse.specs.declared.token.Token.{Token}
 use Rattle.asm_parse.specs.Answers.{IsFaultOf}
-use Rattle.asm_parse.specs.Statement.{statement_by}
-use Rattle.asm_parse.specs.Text.{at_line}
-use Rattle.romp_asm.specs.Layout.{parts_of}
-use Rattle.romp_asm.specs.Linked.{linked}
 use Rattle.job_text.specs.declared.job.JobFault.{JobFault}
 use Rattle.job_text.specs.declared.reader.Reader.{Reader}
 use Rattle.job_text.specs.declared.stage.Stage.{Stage}

@@ -1,17 +1,6 @@
 -- What has been read of a job's text, line by line.
 use Rattle.std.specs.Prelude.{ℕ, ◌+◌, ◌*◌, zero, suc, nat_lt, nat_le, ◌&&◌, is_some, if◌then◌else◌, Bool, false, List, [], ◌∷◌, ◌++◌, length, slice_index, codes, Option, Some, None, Result, Ok, Err}
-use Rattle.std.specs.Str.{bytes_eq}
-use Rattle.desk.specs.declared.event.Event.{Event}
-use Rattle.desk.specs.declared.event.Event.TheVariants.{Begin, Turn, Checkpoint, Crash}
-use Rattle.asm_parse.specs.declared.token.Token.{Token}
-use Rattle.asm_parse.specs.declared.token.Token.TheVariants.{Word, Number}
-use Rattle.asm_parse.specs.declared.statement.Statement.{Statement}
-use Rattle.asm_parse.specs.Operand.{place_among}
-use Rattle.asm_parse.specs.Statement.{is_label, line_of}
-use Rattle.asm_parse.specs.Text.{at_line}
-use Rattle.asm_parse.specs.Token.{tokens}
-use Rattle.romp_asm.specs.Layout.{Parts}
-use Rattle.romp_asm.specs.Linked.{linked}
+use Rattle.job_text.specs.Below.{at_line, Begin, bytes_eq, Checkpoint, Crash, Event, is_label, line_of, linked, Number, Parts, place_among, Statement, Token, tokens, Turn, Word}
 use Rattle.job_text.specs.declared.stage.Stage.{Stage}
 use Rattle.job_text.specs.declared.stage.Stage.TheVariants.{Frames, Programs, Source, Schedule, Ended}
 

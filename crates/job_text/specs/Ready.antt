@@ -1,11 +1,7 @@
 -- What a schedule's run needs of a job.
 use Rattle.std.specs.Prelude.{◌≡◌, ◌≢◌, ℕ, ◌<◌, ◌≤◌, ◌==◌, ◌||◌, true, List, [], ◌∷◌, length, All}
 use Rattle.std.specs.Char.{is_ascii_alphabetic}
-use Rattle.std.specs.List.{list_all}
-use Rattle.arrayvec.specs.ArrayVec.{ArrayVec}
-use Rattle.asm_parse.specs.Token.{continues_word}
-use Rattle.desk.specs.declared.event.Event.{Event}
-use Rattle.desk.specs.declared.event.Event.TheVariants.{Begin, Turn, Checkpoint, Crash}
+use Rattle.job_text.specs.Below.{ArrayVec, Begin, Checkpoint, continues_word, Crash, Event, list_all, Turn}
 use Rattle.job_text.specs.declared.job.Job.{Job}
 
 -- a begin is of one of so many programs, and a turn has a limit of at most 1,000,000

@@ -1,13 +1,8 @@
 -- The text that a job is written as.
 use Rattle.std.specs.Prelude.{ℕ, ◌+◌, ◌<◌, slice_index, EachIndex, List, [], ◌∷◌, ◌++◌, map, codes, decimal, slice_index_or, if◌then◌else◌, Bool, Option, Some, None}
 use Rattle.std.specs.Int.{from_be_bytes, w32}
-use Rattle.std.specs.List.{flat_map, zip}
+use Rattle.job_text.specs.Below.{Begin, Checkpoint, Close, Colon, Comma, Crash, Event, flat_map, Minus, Number, Open, Parts, Plus, Token, Turn, Word, zip}
 use Rattle.flat_machine.specs.declared.machine.Window.{Window}
-use Rattle.desk.specs.declared.event.Event.{Event}
-use Rattle.desk.specs.declared.event.Event.TheVariants.{Begin, Turn, Checkpoint, Crash}
-use Rattle.asm_parse.specs.declared.token.Token.{Token}
-use Rattle.asm_parse.specs.declared.token.Token.TheVariants.{Word, Number, Comma, Open, Close, Colon, Plus, Minus}
-use Rattle.romp_asm.specs.Layout.{Parts}
 use Rattle.job_text.specs.Grammar.{Content}
 
 -- a token: a word's bytes, a number in decimal, or the one character

@@ -1,7 +1,6 @@
 ghost use Rattle.std.specs.Prelude.{◌≡◌, ℕ, ◌+◌, ◌*◌, ◌≤◌, ◌<◌, ◌^◌, ◌++◌, [], length, map, position, is_some, Some, Ok, OnOk, IfOk, IfSome};
 ghost use Rattle.std.specs.Option.{option_map};
-ghost use Rattle.std.specs.Str.{bytes_eq};
-ghost use Rattle.asm_parse.specs.Operand.{place_among};
+ghost use Rattle.job_text.specs.Below.{bytes_eq, place_among};
 ghost use Rattle.job_text.specs.Reading.{bad_token, four_of, is_end, is_limit, is_part, rounds_of, turns_to, values_of};
 
 use super::job::{JobFault, Name};

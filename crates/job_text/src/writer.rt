@@ -1,8 +1,7 @@
 // Jobs as texts (docs/FORMATS.md, "Job").
 ghost use Rattle.std.specs.Prelude.{◌≡◌, ◌<◌, ◌^◌, ℕ, List, [], ◌∷◌, ◌++◌, length, map, codes, decimal, slice_index_or, None, Some, Ok, IfOk, OnOk};
-ghost use Rattle.std.specs.List.{All, flat_map, zip};
+ghost use Rattle.job_text.specs.Below.{All, flat_map, parts_of, zip};
 ghost use Rattle.asm_parse.specs.declared.token.Token.TheVariants.{Word as WordToken, Number as NumberToken};
-ghost use Rattle.romp_asm.specs.Layout.{parts_of};
 ghost use Rattle.job_text.specs.Grammar.{content_of, job_of};
 ghost use Rattle.job_text.specs.Written.{AreBytes, access_text, event_line, image_lines, line_text, number_line, program_lines, source_lines, window_line, window_lines, written};
 

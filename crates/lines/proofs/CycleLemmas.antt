@@ -1,8 +1,7 @@
 -- The members of a shown cycle; and where each number is given another name of its own, what leads where and the shown cycle are the same in
 -- these names.
-use Rattle.lines.proofs.Common.{◌≡◌, refl, ℕ, zero, suc, ◌==◌, ◌&&◌, ◌||◌, if◌then◌else◌, Bool, true, false, List, [], ◌∷◌, length, map, find, Option, Some, None, list_any, ap, ◌∙◌, eqb-true, or_right, has, leads, next_shown, shown_after, shown_cycle, arith, nat_tests}
+use Rattle.lines.proofs.Common.{◌≡◌, refl, ℕ, zero, suc, ◌==◌, ◌&&◌, ◌||◌, if◌then◌else◌, Bool, true, false, List, [], ◌∷◌, length, map, find, Option, Some, None, list_any, ap, ◌∙◌, eqb-true, or_right, has, leads, next_shown, shown_after, shown_cycle, arith, nat_tests, length-map}
 use Rattle.std.specs.Option.{option_map, option_map_or}
-use Rattle.std.proofs.lemmas.List.{length-map}
 
 -- what is found is one of them
 pub found-has : (p : ℕ → Bool) (xs : List ℕ) (x : ℕ) → find p xs ≡ Some x → has xs x ≡ true

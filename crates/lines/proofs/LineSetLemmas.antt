@@ -1,8 +1,7 @@
 -- Sets of a page's lines: what is in them, and the bits that they are kept as.
-use Rattle.lines.proofs.Common.{range_with_len, list_any, ◌⊎◌, arith, refl, ap, sym, ◌∙◌, inl, inr, length-map, nat_tests, zero_from_ones, ones_le_self, bit_at-lt, bit_at-zero, bit_at_lowest, bit_at_and, bit_at_or, bit_at_not, bit_at_ones, bit_at_ones_above, bit_at_mask_inside, bit_at_mask_below, bit_at-trailing_zeros, bit_at_clear_same, bit_at_clear_other, ones_shr, ones_shl, passing, lines_where, lines_of_bits, bits_of, union, difference, between, IsOfPage, is_on, bits-shifted, bits-told, ◌≡◌, ◌≢◌, ℕ, zero, suc, ◌+◌, ◌-◌, ◌*◌, ◌/◌, ◌%◌, ◌^◌, ◌<◌, ◌≤◌, ◌==◌, ◌||◌, ◌&&◌, nat_lt, nat_le, not, cond, min, max, Bool, true, false, List, [], ◌∷◌, length, filter, bit_and, bit_or, count_ones}
+use Rattle.lines.proofs.Common.{range_with_len, list_any, ◌⊎◌, arith, refl, ap, sym, ◌∙◌, inl, inr, length-map, nat_tests, zero_from_ones, ones_le_self, bit_at-lt, bit_at-zero, bit_at_lowest, bit_at_and, bit_at_or, bit_at_not, bit_at_ones, bit_at_ones_above, bit_at_mask_inside, bit_at_mask_below, bit_at-trailing_zeros, bit_at_clear_same, bit_at_clear_other, ones_shr, ones_shl, passing, lines_where, lines_of_bits, bits_of, union, difference, between, IsOfPage, is_on, bits-shifted, bits-told, ◌≡◌, ◌≢◌, ℕ, zero, suc, ◌+◌, ◌-◌, ◌*◌, ◌/◌, ◌%◌, ◌^◌, ◌<◌, ◌≤◌, ◌==◌, ◌||◌, ◌&&◌, nat_lt, nat_le, not, cond, min, max, Bool, true, false, List, [], ◌∷◌, length, filter, bit_and, bit_or, count_ones, eqb-true, eqb-false, cases_lt}
 use Rattle.std.specs.Int.{bit_at, bit_not, trailing_zeros, w16}
 use Rattle.std.specs.Int.Count.{ones_step}
-use Rattle.std.proofs.lemmas.Bool.{eqb-true, eqb-false, cases_lt}
 
 -- a test that answers alike on a range keeps the same numbers of it
 filter-range : (p q : ℕ → Bool) (low n : ℕ) → ((x : ℕ) → low ≤ x → x < low + n → p x ≡ q x) → filter p (range_with_len low n) ≡ filter q (range_with_len low n)

@@ -1,7 +1,6 @@
 -- Elements of a list of which a part is written over.
 use Rattle.std.proofs.Common.{◌≡◌, ℕ, ◌+◌, ◌-◌, ◌<◌, ◌≤◌, List, ◌++◌, length, take, drop, get_or, sym, ◌∙◌, ap, arith, inl, inr}
-use Rattle.std.proofs.lemmas.List.{length-append, length-take, length-drop, get_or_append_left, get_or-append_right, get_or-take, get_or-drop}
-use Rattle.std.proofs.lemmas.Bool.{cases_lt}
+use Rattle.lines.proofs.Common.{length-append, length-take, length-drop, get_or_append_left, get_or-append_right, get_or-take, get_or-drop, cases_lt}
 use Rattle.lines.specs.Overlay.{overlaid}
 
 -- the length stays
@@ -48,8 +47,7 @@ pub overlaid_both :
     → get_or xs k d ≡ get_or ys k d → get_or (overlaid xs at part) k d ≡ get_or (overlaid ys at part) k d
 overlaid_both {X} xs ys at part k d fits fits' same =
     elim (cases_lt k at) [
-      | inl low ↦
-          overlaid_before xs at part k d fits low ∙ same ∙ sym (overlaid_before ys at part k d fits' low)
+      | inl low ↦ overlaid_before xs at part k d fits low ∙ same ∙ sym (overlaid_before ys at part k d fits' low)
       | inr low ↦
           elim (cases_lt k (at + length part)) [
             | inl high ↦ overlaid_within xs at part k d fits low high ∙ sym (overlaid_within ys at part k d fits' low high)

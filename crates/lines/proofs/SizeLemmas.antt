@@ -67,8 +67,7 @@ pub size-range : (low n : ℕ) → size (range_with_len low n) ≡ n
 size-range low zero = refl
 size-range low (suc n) = grind (arith, nat_tests, has-range, size-new, size-range (low + 1) n)
 
-filter-new :
-    (p : ℕ → Bool) (low n : ℕ) → has (filter p (range_with_len (low + 1) n)) low ≡ false
+filter-new : (p : ℕ → Bool) (low n : ℕ) → has (filter p (range_with_len (low + 1) n)) low ≡ false
 filter-new p low n = grind (arith, nat_tests, has-range (low + 1) n low, has-filter p (range_with_len (low + 1) n) low)
 
 -- a part of a range stands in it once each

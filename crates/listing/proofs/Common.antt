@@ -5,5 +5,5 @@ pub use Rattle.std.proofs.lemmas.List.FromFn.{get_or-enumerate_from, get_or-rang
 pub use Rattle.std.specs.Int.{div_ceil}
 pub use Rattle.std.specs.List.{enumerate_from, flat_map, range_with_len}
 pub use Rattle.std.specs.Prelude.{Err, IsErr, IsSome, None, Ok, Option, Result, Some, count_by, is_some}
-pub use Rattle.listing.specs.Listing.{place_line, program_line, row_line, row_lines, window_lines}
+pub use Rattle.listing.specs.Listing.{place_line, program_line, row_line, row_lines, window_lines, listing_of}
 pub use Rattle.listing.specs.Puts.{Puts, PutsTimes}

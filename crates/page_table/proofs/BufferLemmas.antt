@@ -1,7 +1,5 @@
 -- The buffer after a pair came in, and after the pairs of a frame went.
-use Rattle.page_table.proofs.Common.{same_lists, get_or_default, All-filter, ◌≡◌, ◌≢◌, ◌%◌, inl, inr, subst, ℕ, suc, ◌<◌, Bool, true, false, List, [], ◌∷◌, ◌++◌, length, drop, map, refl, sym, ◌∙◌, ap, arith, Some, None, All, ◌==◌, not, cond, filter, find, slice_index_or, slice_set, Option, option_to_list, get_or-map, map-set, length-map, All-push, All-drop, All-set, All-same, All-get_or, All-nil, All-cons, All-head, All-tail, eqb-true, all_pairs_push, Key, holds, look_up, position-Some, cases_eq, get_or-set_same, get_or-set_other, length-set, Pair, Ways, class_of, page_of, pair_to, is_pair_of, pairs_in, remembered, after_table, after_found, with_newest, forgotten, AreApart, ArePlaced, IsOfTable, pairs_of, unless_of, ways_without, AreClasses, nat_tests}
-use Rattle.std.specs.Option.{option_map_or}
-use Rattle.std.proofs.Math.ListN.{get_or-eq_default}
+use Rattle.page_table.proofs.Common.{same_lists, get_or_default, All-filter, ◌≡◌, ◌≢◌, ◌%◌, inl, inr, subst, ℕ, suc, ◌<◌, Bool, true, false, List, [], ◌∷◌, ◌++◌, length, drop, map, refl, sym, ◌∙◌, ap, arith, Some, None, All, ◌==◌, not, cond, filter, find, slice_index_or, slice_set, Option, option_to_list, get_or-map, map-set, length-map, All-push, All-drop, All-set, All-same, All-get_or, All-nil, All-cons, All-head, All-tail, eqb-true, all_pairs_push, Key, holds, look_up, position-Some, cases_eq, get_or-set_same, get_or-set_other, length-set, Pair, Ways, class_of, page_of, pair_to, is_pair_of, pairs_in, remembered, after_table, after_found, with_newest, forgotten, AreApart, ArePlaced, IsOfTable, pairs_of, unless_of, ways_without, AreClasses, nat_tests, option_map_or, get_or-eq_default}
 use Rattle.std.proofs.lemmas.List.Kept.{AllPairs-filter}
 
 -- what is left of a class

@@ -1,8 +1,8 @@
 -- The names that most proofs cite, passed on from one place. Declares nothing.
-pub use Rattle.std.proofs.Common.{Bool, List, None, Option, Some, [], ap, arith, drop, false, inl, inr, length, map, refl, suc, sym, take, true, vec_len, zero, ℕ, ◌%◌, ◌++◌, ◌+◌, ◌-◌, ◌<◌, ◌∙◌, ◌∷◌, ◌≡◌, ◌≢◌, ◌≤◌, ◌⊎◌, All, subst}
+pub use Rattle.std.proofs.Common.{Bool, List, None, Option, Some, [], ap, arith, drop, false, inl, inr, length, map, refl, suc, sym, take, true, vec_len, zero, ℕ, ◌%◌, ◌++◌, ◌+◌, ◌-◌, ◌<◌, ◌∙◌, ◌∷◌, ◌≡◌, ◌≢◌, ◌≤◌, ◌⊎◌, All, subst, ◌/◌, get_or}
 pub use Rattle.std.proofs.Math.ListN.{get_or-eq_default}
 pub use Rattle.std.proofs.lemmas.Bool.{and_parts, and_right, cases_lt, eqb-false, eqb-true, ltb-false, ltb-true, ne_eqb, or_left, or_right, cases_Bool, cases_eq, eq-eqb}
-pub use Rattle.std.proofs.lemmas.List.{append-nil, drop_all, get_or-replicate, get_or-set_other, get_or-set_same, get_or_default, get_or_read_under, length-replicate, length-set, take_all, get_or-map, length-map, map-set, same_lists}
+pub use Rattle.std.proofs.lemmas.List.{append-nil, drop_all, get_or-replicate, get_or-set_other, get_or-set_same, get_or_default, get_or_read_under, length-replicate, length-set, take_all, get_or-map, length-map, map-set, same_lists, get_or_past}
 pub use Rattle.std.specs.List.{prefix_len, range_with_len}
 pub use Rattle.std.specs.Option.{option_eq, option_map_or}
 pub use Rattle.std.specs.Prelude.{bit_and, bit_xor, cond, filter, find, nat_eq, not, slice_index_or, slice_set, ◌&&◌, ◌==◌, ◌||◌, IfSome, nat_lt, replicate, option_map, option_to_list, position}
@@ -20,3 +20,5 @@ pub use Rattle.page_table.specs.Buffer.{AreApart, ArePlaced, IsOfTable, after_fo
 pub use Rattle.page_table.specs.Ways.{AreClasses, pairs_of, unless_of, ways_without}
 pub use Rattle.page_table.specs.declared.tlb_model.Pair.{Pair}
 pub use Rattle.page_table.specs.declared.tlb_model.Ways.{Ways}
+pub use Rattle.page_table.specs.KnownLines.{line_in, with_line, known, unopened}
+pub use Rattle.page_table.specs.Registers.{register_with}

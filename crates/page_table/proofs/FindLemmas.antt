@@ -1,6 +1,5 @@
 -- The look-up along a chain is the look-up in the list.
-use Rattle.page_table.proofs.Common.{◌≡◌, ℕ, zero, suc, ◌<◌, ◌≤◌, ◌⊎◌, Bool, true, false, List, [], ◌∷◌, length, refl, sym, ◌∙◌, ap, arith, inl, inr, Some, None, prefix_len, option_map_or, ltb-true, ltb-false, cases_lt, get_or-eq_default, has, Key, holds, key_in, look_up, chain_of, hash_of, IsChain, IsChained, nat_tests, ◌==◌, ◌&&◌, not, cond, find, nat_lt, slice_index_or, Option}
-use Rattle.std.proofs.lemmas.List.Quantifiers.{position-Some}
+use Rattle.page_table.proofs.Common.{◌≡◌, ℕ, zero, suc, ◌<◌, ◌≤◌, ◌⊎◌, Bool, true, false, List, [], ◌∷◌, length, refl, sym, ◌∙◌, ap, arith, inl, inr, Some, None, prefix_len, option_map_or, ltb-true, ltb-false, cases_lt, get_or-eq_default, has, Key, holds, key_in, look_up, chain_of, hash_of, IsChain, IsChained, nat_tests, ◌==◌, ◌&&◌, not, cond, find, nat_lt, slice_index_or, Option, position-Some}
 use Rattle.page_table.proofs.ApartLemmas.{equal}
 
 -- whether a frame holds a page

@@ -1,11 +1,6 @@
 -- What a tag and a line that are written leave of what is known.
-use Rattle.std.proofs.Common.{◌≡◌, ℕ, Bool, true, false, List, length, arith, None, inl, inr}
-use Rattle.std.proofs.lemmas.Bool.{cases_lt}
-use Rattle.std.proofs.lemmas.Bool.Decides.{nat_tests}
-use Rattle.std.proofs.lemmas.List.{get_or-set_other, get_or-set_same, get_or-replicate, get_or_past, length-replicate}
-use Rattle.std.specs.Prelude.{slice_index_or, slice_set, replicate}
+use Rattle.page_table.proofs.Common.{◌≡◌, ℕ, Bool, true, false, List, length, arith, None, inl, inr, cases_lt, nat_tests, get_or-set_other, get_or-set_same, get_or-replicate, get_or_past, length-replicate, slice_index_or, slice_set, replicate, line_in, with_line}
 use Rattle.page_table.specs.declared.open_lines.OpenLine.{OpenLine}
-use Rattle.page_table.specs.KnownLines.{line_in, with_line}
 use Rattle.page_table.specs.LinePlaces.{place_of}
 
 -- a line is known from now on

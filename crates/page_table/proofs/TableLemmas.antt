@@ -1,6 +1,5 @@
 -- Each pair of the buffer stays in the table where a frame enters, and where one leaves that the buffer forgot.
-use Rattle.page_table.proofs.Common.{◌≡◌, ◌≢◌, ◌⊎◌, inl, inr, ℕ, zero, suc, ◌+◌, ◌<◌, Bool, true, false, List, [], ◌∷◌, length, refl, sym, ◌∙◌, ap, arith, Some, None, All, ◌==◌, not, cond, filter, nat_lt, position, slice_index_or, slice_set, Option, eqb-false, cases_eq, length-set, get_or-set_same, get_or-set_other, All-nil, All-cons, All-head, All-tail, All-weaker, position-Some, Key, holds, key_in, look_up, Pair, page_of, forgotten, IsOfTable, nat_tests}
-use Rattle.std.specs.List.{prefix_len}
+use Rattle.page_table.proofs.Common.{◌≡◌, ◌≢◌, ◌⊎◌, inl, inr, ℕ, zero, suc, ◌+◌, ◌<◌, Bool, true, false, List, [], ◌∷◌, length, refl, sym, ◌∙◌, ap, arith, Some, None, All, ◌==◌, not, cond, filter, nat_lt, position, slice_index_or, slice_set, Option, eqb-false, cases_eq, length-set, get_or-set_same, get_or-set_other, All-nil, All-cons, All-head, All-tail, All-weaker, position-Some, Key, holds, key_in, look_up, Pair, page_of, forgotten, IsOfTable, nat_tests, prefix_len}
 
 -- the first place at which a list passes
 prefix-is :

@@ -1,6 +1,5 @@
 -- Walks along a chain, frame by frame.
-use Rattle.std.proofs.Common.{subst}
-use Rattle.page_table.proofs.Common.{◌≡◌, ℕ, zero, suc, ◌+◌, ◌-◌, ◌<◌, ◌≤◌, ◌≢◌, ◌⊎◌, inl, inr, Bool, true, false, List, [], ◌∷◌, length, refl, sym, ◌∙◌, ap, arith, Some, None, Option, ◌==◌, ◌||◌, ◌&&◌, nat_eq, filter, slice_set, option_eq, get_or-set_same, get_or-set_other, eqb-true, eqb-false, has, distinct, has-filter, following, chain_from, chain_end, before_in, nat_tests}
+use Rattle.page_table.proofs.Common.{◌≡◌, ℕ, zero, suc, ◌+◌, ◌-◌, ◌<◌, ◌≤◌, ◌≢◌, ◌⊎◌, inl, inr, Bool, true, false, List, [], ◌∷◌, length, refl, sym, ◌∙◌, ap, arith, Some, None, Option, ◌==◌, ◌||◌, ◌&&◌, nat_eq, filter, slice_set, option_eq, get_or-set_same, get_or-set_other, eqb-true, eqb-false, has, distinct, has-filter, following, chain_from, chain_end, before_in, nat_tests, subst}
 use Rattle.page_table.proofs.ApartLemmas.{equal, is_other, apart-parts, filter-absent, filter-same, filter-other, other-than, before-cases, before-in, before-first}
 
 -- nothing follows on nothing

@@ -1,9 +1,8 @@
 -- The bytes of a line are its words, and its only line feed is its last byte.
-use Rattle.report_text.proofs.Common.{◌≡◌, ◌≢◌, ℕ, ◌+◌, ◌-◌, ◌/◌, ◌%◌, ◌^◌, ◌<◌, ◌≤◌, ◌==◌, nat_lt, not, Bool, true, false, List, [], ◌∷◌, ◌++◌, length, map, take, decimal, position, get_or, Some, None, refl, sym, ◌∙◌, ap, append_assoc, append-nil, length-append, arith, AllByRecursion, flat_map, list_all, join_with_byte, prefix_len, lt-ltb, nat_tests, take_at, All-get_or, recursion_from_All, each_also, run_length, big_bytes, Line, Open, Begin, Busy, NoSegment, Idle, Turn, Cycle, Victim, Commit, Check, Wait, Journal, Disk, Doubt, Closed, Stored, Lost, Left, End, printed, line_text, IsLine, IsOneWord, is_feed, kind_of, parts_of}
+use Rattle.report_text.proofs.Common.{◌≡◌, ◌≢◌, ℕ, ◌+◌, ◌-◌, ◌/◌, ◌%◌, ◌^◌, ◌<◌, ◌≤◌, ◌==◌, nat_lt, not, Bool, true, false, List, [], ◌∷◌, ◌++◌, length, map, take, decimal, position, get_or, Some, None, refl, sym, ◌∙◌, ap, append_assoc, append-nil, length-append, arith, AllByRecursion, flat_map, list_all, join_with_byte, prefix_len, lt-ltb, nat_tests, take_at, All-get_or, recursion_from_All, each_also, run_length, big_bytes, Line, Open, Begin, Busy, NoSegment, Idle, Turn, Cycle, Victim, Commit, Check, Wait, Journal, Disk, Doubt, Closed, Stored, Lost, Left, End, printed, line_text, IsLine, IsOneWord, is_feed, kind_of, parts_of, encode_lower, encode_with, lower_digits}
 use Rattle.std.proofs.lemmas.List.Concat.{flat_map-append}
 use Rattle.std.proofs.lemmas.List.Folds.{list_all-append}
 use Rattle.std.proofs.lemmas.List.Sums.{AllPass-from_list_all}
-use Rattle.hex.specs.Hex.{encode_lower, encode_with, lower_digits}
 use Rattle.report_text.proofs.PartLemmas.{name_word, number_word}
 
 -- the bytes of a line are its words with a space between each two, and a line feed
@@ -53,10 +52,7 @@ parts_words (Commit activation number steps out) is = (
         refl,
         (
           number_word steps is.0.2,
-          (
-            refl,
-            (printed_word out (recursion_from_All (λ byte. byte < 256) out is.0.3), tt),
-          ),
+          (refl, (printed_word out (recursion_from_All (λ byte. byte < 256) out is.0.3), tt)),
         ),
       ),
     ),
@@ -68,10 +64,7 @@ parts_words (Check activation code address) is = (
     refl,
     (
       small_word code is.0.1,
-      (
-        refl,
-        (hex_word (big_bytes 4 address) (omega arith, (omega arith, (omega arith, (omega arith, tt)))), tt),
-      ),
+      (refl, (hex_word (big_bytes 4 address) (omega arith, (omega arith, (omega arith, (omega arith, tt)))), tt)),
     ),
   ),
 )

@@ -1,11 +1,6 @@
 -- Exports, source by source and line by line.
-use Rattle.romp_asm.proofs.Common.{◌≡◌, ℕ, ◌+◌, ◌<◌, ◌≤◌, Bool, true, false, is_some, cond, List, [], ◌∷◌, ◌++◌, length, take, drop, get_or, Option, Some, None, Result, Ok, Err, refl, sym, ap, subst, ◌∙◌, arith, append_assoc, append-nil, add-one, ◌||◌, if◌then◌else◌, option_and_then, flat_map, position_from, AllByRecursion, option_map, option_map_or, option_or, bytes_eq, take_more, take_all, drop_all, Statement, found_in, defines, joined, AreExports, told_of, exported, exporter, export, export_fault, fault_among, fault_behind, gives, linked, with_exports, Exports}
-use Rattle.std.proofs.Math.Path.{fun_ext}
-use Rattle.std.proofs.Math.Seq.{drop-cons}
+use Rattle.romp_asm.proofs.Common.{◌≡◌, ℕ, ◌+◌, ◌<◌, ◌≤◌, Bool, true, false, is_some, cond, List, [], ◌∷◌, ◌++◌, length, take, drop, get_or, Option, Some, None, Result, Ok, Err, refl, sym, ap, subst, ◌∙◌, arith, append_assoc, append-nil, add-one, ◌||◌, if◌then◌else◌, option_and_then, flat_map, position_from, AllByRecursion, option_map, option_map_or, option_or, bytes_eq, take_more, take_all, drop_all, Statement, found_in, defines, joined, AreExports, told_of, exported, exporter, export, export_fault, fault_among, fault_behind, gives, linked, with_exports, Exports, fun_ext, drop-cons, bytes_eq-Decides, Parts, assembled, is_labelled}
 use Rattle.std.proofs.lemmas.List.Folds.{list_any-append}
-use Rattle.std.proofs.lemmas.Slice.Eq.{bytes_eq-Decides}
-use Rattle.romp_asm.specs.Layout.{Parts, assembled}
-use Rattle.romp_asm.specs.Value.{is_labelled}
 use Rattle.romp_asm.proofs.SourcesLemmas.{assembled-alone}
 
 or_assoc : {A : Type 0} (a b c : Option A) → option_or a (option_or b c) ≡ option_or (option_or a b) c

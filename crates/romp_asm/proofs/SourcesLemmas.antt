@@ -255,9 +255,7 @@ joined-append giver first (x ∷ xs) ys = grind (arith, nat_tests, joined-append
 module _ (giver : List ℕ → Option ℕ) (sources : List (List Statement)) (i : ℕ) where
   pub joined-from-one : i < length sources → joined_from giver i (drop i sources) ≡ map (named giver i (get_or sources i [])) (get_or sources i []) ++ joined_from giver (i + 1) (drop (i + 1) sources)
   unfolding joined_from
-  joined-from-one within =
-      let next : suc i ≡ i + 1 = omega arith in
-      cc (drop-cons sources i [] within, next)
+  joined-from-one within = let next : suc i ≡ i + 1 = omega arith in cc (drop-cons sources i [] within, next)
 
   pub joined-to-one : i < length sources → joined_from giver 0 (take i sources) ++ map (named giver i (get_or sources i [])) (get_or sources i []) ≡ joined_from giver 0 (take (i + 1) sources)
   unfolding joined_from

@@ -1,12 +1,8 @@
 -- The bytes of a statement.
 use Rattle.std.specs.Prelude.{ℕ, ℤ, ◌^◌, ◌-◌, ◌==◌, if◌then◌else◌, List, [], ◌∷◌, take, replicate, Option, Some, None, Result, Ok, Err}
-use Rattle.std.specs.Option.{option_map}
+use Rattle.romp_asm.specs.Below.{bits_of, Body, Data, encoded, Entry, Export, form_of, Inst, Nothing, option_map, Space, Window}
 use Rattle.std.specs.Int.{to_be_bytes, w16, w32}
 use Rattle.romp_table.specs.declared.inst.Code.{Code}
-use Rattle.romp_table.specs.Encode.{bits_of, encoded}
-use Rattle.asm_parse.specs.declared.statement.Body.{Body}
-use Rattle.asm_parse.specs.declared.statement.Body.TheVariants.{Nothing, Inst, Data, Space, Window, Entry, Export}
-use Rattle.asm_parse.specs.Form.{form_of}
 use Rattle.romp_asm.specs.Value.{is_between, knowns_of, value_of}
 use Rattle.romp_asm.specs.Field.{even_at_most}
 use Rattle.romp_asm.specs.Instruction.{inst_by}

@@ -1,8 +1,6 @@
 -- What is kept of exports.
 use Rattle.std.specs.Prelude.{◌≡◌, ℕ, List, [], Option, is_some}
-use Rattle.std.specs.Option.{option_map}
-use Rattle.std.specs.BTreeMap.{BTreeMap}
-use Rattle.asm_parse.specs.declared.statement.Statement.{Statement}
+use Rattle.romp_asm.specs.Below.{BTreeMap, option_map, Statement}
 use Rattle.romp_asm.specs.Labels.{LabelKey, found_in}
 use Rattle.romp_asm.specs.Sources.{defines}
 use Rattle.romp_asm.specs.Linked.{exporter, fault_behind}

@@ -1,12 +1,9 @@
 -- The labels as they are looked up.
 use Rattle.std.specs.Prelude.{◌≡◌, ℕ, ℤ, pos, ◌*◌, ◌%◌, ◌^◌, ◌<◌, IfSome, slice_get, slice_index_or, length, take, sum_by, option_and_then, ◌+◌, nat_lt, false, if◌then◌else◌, Bool, List, [], ◌∷◌, Option, Some, None}
-use Rattle.std.specs.Option.{option_map, option_map_or, option_or}
+use Rattle.romp_asm.specs.Below.{BTreeMap, fold, get_by, option_map, option_map_or, option_or, Statement}
 use denote.Ref.{Bor}
-use Rattle.std.specs.BTreeMap.{BTreeMap, get_by}
 use Rattle.std.specs.Cmp.Lexicographic.{slice_cmp}
-use Rattle.std.specs.List.{fold}
 use Rattle.std.specs.Ordering.{nat_cmp, ordering_then}
-use Rattle.asm_parse.specs.declared.statement.Statement.{Statement}
 use Rattle.romp_asm.specs.Size.{size_of, total}
 use Rattle.romp_asm.specs.Value.{is_labelled}
 use Rattle.romp_asm.specs.declared.value.Place.{Place}

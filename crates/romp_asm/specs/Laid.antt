@@ -1,7 +1,6 @@
 -- What is laid, statement by statement.
 use Rattle.std.specs.Prelude.{◌≡◌, ℕ, ℤ, ◌++◌, List, [], length, take, Bool, Option, slice_index_or, ◌<◌, Result, Ok, Err}
-use Rattle.asm_parse.specs.declared.statement.Body.{Body}
-use Rattle.asm_parse.specs.declared.statement.Statement.{Statement}
+use Rattle.romp_asm.specs.Below.{Body, Statement}
 use Rattle.romp_asm.specs.Labels.{addresses_in, repeated_in}
 use Rattle.romp_asm.specs.Layout.{entry_of, has_label_of, image_behind, piece_of, windows_of, with_entry, with_window}
 use Rattle.romp_asm.specs.Size.{size_of, total}

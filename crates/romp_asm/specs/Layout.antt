@@ -1,11 +1,8 @@
 -- The program of statements, or their first fault.
 use Rattle.std.specs.Prelude.{ℕ, ℤ, ◌+◌, ◌-◌, nat_lt, nat_le, ◌&&◌, ◌||◌, is_some, is_none, if◌then◌else◌, Bool, true, false, List, [], ◌∷◌, ◌++◌, slice_get, slice_set, replicate, fold, unwrap_or, Option, Some, None, Result, Ok, Err}
-use Rattle.std.specs.Option.{option_map_or}
+use Rattle.romp_asm.specs.Below.{Body, Entry, option_map_or, Statement, Window}
 use Rattle.flat_machine.specs.declared.machine.Program.{Program}
 use Rattle.flat_machine.specs.declared.machine.Window.{Window as Sight}
-use Rattle.asm_parse.specs.declared.statement.Statement.{Statement}
-use Rattle.asm_parse.specs.declared.statement.Body.{Body}
-use Rattle.asm_parse.specs.declared.statement.Body.TheVariants.{Window, Entry}
 use Rattle.romp_asm.specs.Size.{size_of, total}
 use Rattle.romp_asm.specs.Value.{address_of, addresses_of, value_of}
 use Rattle.romp_asm.specs.Field.{even_at_most}

@@ -1,3 +1,4 @@
+pub mod Below
 pub mod Size
 pub mod Value
 pub mod Labels

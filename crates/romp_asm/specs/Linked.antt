@@ -1,11 +1,6 @@
 -- The program of several sources, or its first fault.
 use Rattle.std.specs.Prelude.{ℕ, nat_lt, if◌then◌else◌, Bool, false, List, [], ◌∷◌, ◌++◌, option_and_then, Option, Some, None, Result, Ok, Err}
-use Rattle.std.specs.List.{list_any, position_from}
-use Rattle.std.specs.Option.{option_map, option_map_or, option_or}
-use Rattle.std.specs.Str.{bytes_eq}
-use Rattle.asm_parse.specs.declared.statement.Statement.{Statement}
-use Rattle.asm_parse.specs.declared.statement.Body.{Body}
-use Rattle.asm_parse.specs.declared.statement.Body.TheVariants.{Export}
+use Rattle.romp_asm.specs.Below.{Body, bytes_eq, Export, list_any, option_map, option_map_or, option_or, position_from, Statement}
 use Rattle.romp_asm.specs.Layout.{Parts, assembled}
 use Rattle.romp_asm.specs.Sources.{defines, joined}
 

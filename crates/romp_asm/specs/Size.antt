@@ -1,12 +1,8 @@
 -- How many bytes a statement makes.
 use Rattle.std.specs.Prelude.{◌≡◌, ℕ, List, sum_by}
 use Rattle.romp_table.specs.declared.inst.Inst as table
-use Rattle.romp_table.specs.Encode.{bytes_in}
+use Rattle.romp_asm.specs.Below.{Body, bytes_in, Data, Entry, Export, form_of, Inst, Nothing, Space, Statement, Window}
 use Rattle.asm_parse.specs.declared.form.Form.{Form}
-use Rattle.asm_parse.specs.declared.statement.Statement.{Statement}
-use Rattle.asm_parse.specs.declared.statement.Body.{Body}
-use Rattle.asm_parse.specs.declared.statement.Body.TheVariants.{Nothing, Inst, Data, Space, Window, Entry, Export}
-use Rattle.asm_parse.specs.Form.{form_of}
 
 -- the bytes of an instruction of this form
 abbrev pub form_size : Form → ℕ

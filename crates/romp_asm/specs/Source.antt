@@ -1,7 +1,6 @@
 -- The program of a source.
 use Rattle.std.specs.Prelude.{ℕ, List, Result, Ok, Err}
-use Rattle.asm_parse.specs.declared.statement.Statement.{Statement}
-use Rattle.asm_parse.specs.Text.{parsed}
+use Rattle.romp_asm.specs.Below.{parsed, Statement}
 use Rattle.romp_asm.specs.Layout.{Parts, assembled}
 
 -- the program of statements, if a text has them

@@ -1,13 +1,7 @@
 -- Several sources as one: each label becomes the name of its source and its word.
 use Rattle.std.specs.Prelude.{ℕ, ◌+◌, if◌then◌else◌, Bool, List, [], ◌∷◌, ◌++◌, map, unwrap_or, Option}
-use Rattle.std.specs.List.{list_any}
-use Rattle.std.specs.Option.{option_map}
-use Rattle.asm_parse.specs.declared.statement.Statement.{Statement}
-use Rattle.asm_parse.specs.declared.statement.Body.{Body}
-use Rattle.asm_parse.specs.declared.statement.Body.TheVariants.{Nothing, Inst, Data, Space, Window, Entry, Export}
-use Rattle.asm_parse.specs.declared.statement.Operand.{Operand}
+use Rattle.romp_asm.specs.Below.{Body, Data, Entry, Export, Expr, Inst, list_any, Nothing, Operand, option_map, Space, Statement, Window}
 use Rattle.asm_parse.specs.declared.statement.Operand.TheVariants as operand
-use Rattle.asm_parse.specs.declared.statement.Expr.{Expr}
 use Rattle.asm_parse.specs.declared.statement.Expr.TheVariants as expr
 use Rattle.romp_asm.specs.Value.{is_labelled}
 

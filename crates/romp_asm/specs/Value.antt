@@ -1,11 +1,7 @@
 -- Labels and the values of expressions.
 use Rattle.std.specs.Prelude.{ℕ, ℤ, pos, negsuc, suc, ◌+◌, ◌^◌, ◌-◌, ◌+ℤ◌, nat_le, min, if◌then◌else◌, Bool, false, List, [], ◌∷◌, Option, Some, None, Result, Ok, Err}
-use Rattle.std.specs.Option.{option_map, option_map_or}
-use Rattle.std.specs.Str.{bytes_eq}
-use Rattle.asm_parse.specs.declared.statement.Statement.{Statement}
-use Rattle.asm_parse.specs.declared.statement.Operand.{Operand}
+use Rattle.romp_asm.specs.Below.{bytes_eq, Expr, Operand, option_map, option_map_or, Statement}
 use Rattle.asm_parse.specs.declared.statement.Operand.TheVariants as operand
-use Rattle.asm_parse.specs.declared.statement.Expr.{Expr}
 use Rattle.asm_parse.specs.declared.statement.Expr.TheVariants as expr
 use Rattle.romp_asm.specs.Size.{size_of}
 use Rattle.romp_asm.specs.declared.value.Known.{Known}

@@ -1,8 +1,5 @@
 ghost use Rattle.std.specs.Prelude.{◌≡◌, ◌≤◌, [], ◌∷◌, length, true, IfOk, IfSome};
-ghost use Rattle.std.specs.Option.{option_map};
-ghost use Rattle.romp_table.specs.Encode.{bits_of, bytes_in, encoded};
-ghost use Rattle.romp_table.specs.Legal.{IsLegal};
-ghost use Rattle.asm_parse.specs.Form.{form_of};
+ghost use Rattle.romp_asm.specs.Below.{bits_of, bytes_in, encoded, form_of, IsLegal, option_map};
 ghost use Rattle.romp_asm.specs.Size.{form_size, size_of};
 ghost use Rattle.romp_asm.specs.Value.{is_between};
 ghost use Rattle.romp_asm.specs.Labels.{addresses_in};

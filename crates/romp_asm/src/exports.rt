@@ -1,8 +1,5 @@
 ghost use Rattle.std.specs.Prelude.{◌≡◌, ℕ, if◌then◌else◌, false, is_some, List, [], ◌∷◌, ◌++◌, length, Some, None, IfOk, OnOk};
-ghost use Rattle.std.specs.List.{AllByRecursion};
-ghost use Rattle.std.specs.Option.{option_map, option_or};
-ghost use Rattle.std.specs.Str.{bytes_eq};
-ghost use Rattle.asm_parse.specs.Kept.{stated};
+ghost use Rattle.romp_asm.specs.Below.{AllByRecursion, bytes_eq, option_map, option_or, stated};
 ghost use Rattle.romp_asm.specs.Labels.{found_in};
 ghost use Rattle.asm_parse.specs.declared.statement.Statement.{Statement as Stated};
 ghost use Rattle.romp_asm.specs.Linked.{exported};

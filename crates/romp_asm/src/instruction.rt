@@ -1,6 +1,5 @@
 ghost use Rattle.std.specs.Prelude.{◌≡◌, pos, ◌+ℤ◌, ◌≤ℤ◌, IfSome};
-ghost use Rattle.romp_table.specs.Legal.{IsLegal, IsSigned};
-ghost use Rattle.asm_parse.specs.Form.{form_of};
+ghost use Rattle.romp_asm.specs.Below.{form_of, IsLegal, IsSigned};
 ghost use Rattle.romp_asm.specs.Size.{HasSize};
 ghost use Rattle.romp_asm.specs.Instruction.{alone, at_place, conditional, immediate, inst_by, three_registers, to_register, trapping, two_registers, with_register};
 

@@ -1,7 +1,6 @@
 ghost use Rattle.std.specs.Prelude.{◌≡◌, false, ◌<◌, ◌≤◌, ◌^◌, List, ◌++◌, length, sum_by, MatchResult};
 ghost use Rattle.asm_parse.specs.Answers.{IsAnswer, IsTextFaultOf};
-ghost use Rattle.asm_parse.specs.Kept.{stated};
-ghost use Rattle.asm_parse.specs.Text.{at_line};
+ghost use Rattle.romp_asm.specs.Below.{at_line, stated};
 ghost use Rattle.romp_asm.specs.Labels.{addresses_in, found_in, repeated_in, stands_before, AreAlone};
 ghost use Rattle.romp_asm.specs.Laid.{AreReadAs, IsLaid, LaidTo};
 ghost use Rattle.asm_parse.specs.declared.statement.Statement.{Statement as Stated};

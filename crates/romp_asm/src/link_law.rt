@@ -1,6 +1,5 @@
 ghost use Rattle.std.specs.Prelude.{◌≡◌, List, [], ◌∷◌, None};
-ghost use Rattle.std.specs.List.{AllByRecursion};
-ghost use Rattle.asm_parse.specs.declared.statement.Statement.{Statement};
+ghost use Rattle.romp_asm.specs.Below.{AllByRecursion, Statement};
 ghost use Rattle.romp_asm.specs.Layout.{assembled};
 ghost use Rattle.romp_asm.specs.Linked.{exported, linked};
 

@@ -1,6 +1,5 @@
 ghost use Rattle.std.specs.Prelude.{◌≡◌, false, ◌+◌, ◌*◌, ◌≤◌, ◌<◌, ◌^◌, ◌+ℤ◌, sum_by, ℕ, List, length, IfOk, OnOk, MatchResult, Ok, Err};
-ghost use Rattle.std.specs.Option.{option_map};
-ghost use Rattle.asm_parse.specs.Kept.{stated};
+ghost use Rattle.romp_asm.specs.Below.{option_map, stated};
 ghost use Rattle.romp_asm.specs.Value.{is_labelled, known_of, knowns_of, least_kind, value_of, within_reach};
 ghost use Rattle.romp_asm.specs.Size.{total};
 ghost use Rattle.romp_asm.specs.Labels.{addresses_in, found_in, given_in, noted, place_of, AreAlone, AreTables, IsNew, IsTable, word_number};

@@ -40,8 +40,7 @@ lines-plan p d next (Does regs cs act address link) = lines-act p d act
 lines-plan p d next (Fails code) = refl
 
 touches-plan : (p : Program) (d : Layout) (outcome : Outcome) (plan : Plan) → TouchesAccess p d outcome plan
-touches-plan p d outcome plan next went =
-    ap (λ (o : Outcome). touched_by p d o plan) went ∙ lines-plan p d next plan
+touches-plan p d outcome plan next went = ap (λ (o : Outcome). touched_by p d o plan) went ∙ lines-plan p d next plan
 
 module _ {S : Type 0} (plain : Plain) (cpu : Cpu) (seen : Seen S) (same : IsCpuOf plain cpu) where
   -- a state that is gone on to

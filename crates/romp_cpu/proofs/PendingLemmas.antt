@@ -1,7 +1,5 @@
 -- An instruction whose registers and status are done is finished as its plan says.
-use Rattle.romp_cpu.proofs.Common.{◌≡◌, refl, ℕ, List, Option, ap, sym, ◌∙◌, Act, Cs, Plan, Cpu, Seen, plan, planned, tried, StaysIfPending, Pending}
-use Rattle.flat_machine.specs.Ready.{IsReadyAt, done}
-use Rattle.flat_machine.specs.declared.ready.Ready.{Ready}
+use Rattle.romp_cpu.proofs.Common.{◌≡◌, refl, ℕ, List, Option, ap, sym, ◌∙◌, Act, Cs, Plan, Cpu, Seen, plan, planned, tried, StaysIfPending, Pending, IsReadyAt, done, Ready}
 
 -- one that wants something finds the processor as it was
 pub whole : (old : Cpu) (regs : List ℕ) (cs : Cs) → (regs ≡ old.regs) × (cs ≡ old.cs) → record old { regs = regs; cs = cs } ≡ old

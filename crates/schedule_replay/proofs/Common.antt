@@ -6,7 +6,7 @@ pub use Rattle.std.proofs.lemmas.List.Sums.{fold-append, sum_by-append}
 pub use Rattle.std.specs.List.{flat_map, fold}
 pub use Rattle.std.specs.Option.{ForSome}
 pub use Rattle.std.specs.Prelude.{All, Bool, Err, IfOk, IfSome, IsErr, None, Ok, OnOk, Option, Result, Some, count_by, false, if◌then◌else◌, not, true, unwrap_or, ◌↔◌}
-pub use Rattle.desk.specs.Answers.{HasNumbers, IsReopened, StoredNumber, begun_told, counts_told, ending_told, reopened_closes, reopened_told, stored_closes, stored_told, turn_closes, turn_told}
+pub use Rattle.desk.specs.Answers.{HasNumbers, IsReopened, StoredNumber, begun_told, counts_told, ending_told, reopened_closes, reopened_told, stored_closes, stored_told, turn_closes, turn_told, EntersOrder}
 pub use Rattle.desk.specs.Calls.{CallsStore, FailsCounted, Fixed, StaysShut, reopened_fails, stored_fails}
 pub use Rattle.desk.specs.Commits.{is_commit}
 pub use Rattle.desk.specs.Crash.{IsEitherOf, TookEvent, standing_of}
@@ -60,3 +60,4 @@ pub use Rattle.schedule_replay.specs.Replays.{RanSome, Reports, WentBy, going_be
 pub use Rattle.schedule_replay.specs.declared.events.Going.{Going}
 pub use Rattle.std.proofs.lemmas.Bool.Decides.{nat_tests}
 pub use Rattle.std.specs.Result.{result_and}
+pub use Rattle.schedule_replay.specs.Told.{AreLinesOf}

@@ -1,5 +1,5 @@
 -- What one event keeps, how it goes on, and the numbers in its lines.
-use Rattle.schedule_replay.proofs.Common.{◌≡◌, ℕ, ◌+◌, ◌*◌, ◌≤◌, List, [], ◌∷◌, sym, ap, ◌∙◌, subst, arith, true, false, Bool, Option, Result, Ok, IfOk, Failed, Ghosts, IsSure, OnlyAsks, FewerLater, held_of, leaves_held, Program, Event, Begun, Turn, TurnEnd, Stored, Reopened, begun_told, turn_told, stored_told, reopened_told, turn_closes, turn_fails, stored_closes, stored_fails, reopened_closes, reopened_fails, HasNumbers, StoredNumber, IsReopened, TookEvent, Desk, numbers, Fine, CallsStore, FailsCounted, Fixed, StaysShut, HoldsStore, IsDamage, WritesMore, writes_due, Line, happening_lines, number_after, step, AreNames, Told, ToldAfterEnd, Answered, ToldAfter, GoesBy, Going, Puts, number_told, stored_number, reopened_number, WasStep, WentBy, view_of, going_if, going_begun, going_by, is_closed, is_damaged, nat_tests, result_and, opening, opening_of, span}
+use Rattle.schedule_replay.proofs.Common.{◌≡◌, ℕ, ◌+◌, ◌*◌, ◌≤◌, List, [], ◌∷◌, sym, ap, ◌∙◌, subst, arith, true, false, Bool, Option, Result, Ok, IfOk, Failed, Ghosts, IsSure, OnlyAsks, FewerLater, held_of, leaves_held, Program, Event, Begun, Turn, TurnEnd, Stored, Reopened, begun_told, turn_told, stored_told, reopened_told, turn_closes, turn_fails, stored_closes, stored_fails, reopened_closes, reopened_fails, HasNumbers, StoredNumber, IsReopened, TookEvent, Desk, numbers, Fine, CallsStore, FailsCounted, Fixed, StaysShut, HoldsStore, IsDamage, WritesMore, writes_due, Line, happening_lines, number_after, step, AreNames, Told, ToldAfterEnd, Answered, ToldAfter, GoesBy, Going, Puts, number_told, stored_number, reopened_number, WasStep, WentBy, view_of, going_if, going_begun, going_by, is_closed, is_damaged, nat_tests, result_and, opening, opening_of, span, AreLinesOf}
 use Rattle.desk.specs.declared.event.Event.TheVariants as event
 use Rattle.desk.specs.declared.answers.Begun.TheVariants as begun
 use Rattle.desk.specs.declared.answers.TurnEnd.TheVariants as end
@@ -9,7 +9,6 @@ use Rattle.desk.specs.declared.supervisor.Supervisor as desk
 use Rattle.schedule_replay.specs.declared.events.Going.TheVariants as going
 use Rattle.schedule_replay.proofs.CountLemmas.{begun_keep, turn_calm, stored_calm, reopened_calm}
 use Rattle.schedule_replay.proofs.PutsLemmas.{PrintedNow, puts_and}
-use Rattle.schedule_replay.specs.Told.{AreLinesOf}
 use Rattle.schedule_replay.proofs.ToldLemmas.{tells_event}
 use Rattle.schedule_replay.proofs.RanToLemmas.{ShownTold}
 use Rattle.schedule_replay.proofs.WentLemmas.{ran_event}

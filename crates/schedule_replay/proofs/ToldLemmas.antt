@@ -1,7 +1,6 @@
 -- Lines of answers, one after another, whatever stands on the disk.
-use Rattle.schedule_replay.proofs.Common.{◌≡◌, inl, inr, ℕ, ◌+◌, ◌<◌, rules, List, [], ◌∷◌, ◌++◌, length, get_or, take, refl, sym, ap, ◌∙◌, subst, arith, append_assoc, append-nil, take_more, flat_map-append, flat_map, true, false, Bool, Option, IsSome, Result, Ok, Err, IfOk, IsErr, Failed, Ghosts, Prints, prints_broken, prints_on, prints_same, prints_well, Event, Begun, Turn, TurnEnd, Stored, Reopened, begun_told, turn_told, stored_told, reopened_told, Happening, Line, line_text, Open, happening_lines, CallsStore, Header, Puts, PutsTimes, Going, is_closed, way_of}
+use Rattle.schedule_replay.proofs.Common.{◌≡◌, inl, inr, ℕ, ◌+◌, ◌<◌, rules, List, [], ◌∷◌, ◌++◌, length, get_or, take, refl, sym, ap, ◌∙◌, subst, arith, append_assoc, append-nil, take_more, flat_map-append, flat_map, true, false, Bool, Option, IsSome, Result, Ok, Err, IfOk, IsErr, Failed, Ghosts, Prints, prints_broken, prints_on, prints_same, prints_well, Event, Begun, Turn, TurnEnd, Stored, Reopened, begun_told, turn_told, stored_told, reopened_told, Happening, Line, line_text, Open, happening_lines, CallsStore, Header, Puts, PutsTimes, Going, is_closed, way_of, EntersOrder}
 use Rattle.std.proofs.lemmas.Bool.{both_ways}
-use Rattle.desk.specs.Answers.{EntersOrder}
 use Rattle.schedule_replay.specs.Told.{IsToldOf, Enters, AreLinesOf, AreOfEnd, Tells, TellsBy, TellsSome, TellsReport}
 use Rattle.schedule_replay.specs.declared.events.Replayed.{Replayed}
 use Rattle.schedule_replay.proofs.PutsLemmas.{done, times_on}

@@ -1,16 +1,8 @@
 -- What a supervisor and an outside are before and after events.
 use Rattle.std.specs.Prelude.{◌≡◌, ◌+◌, ◌^◌, ◌<◌, ◌≤◌, Bool, true, false, List, [], length, All, Result, Ok, Err, IsSome}
-use Rattle.outside.specs.declared.world.Outside.{Ghosts}
-use Rattle.outside.specs.declared.failed.Failed.{Failed}
-use Rattle.outside.specs.Causes.{Rose, FailsOnlyCounted}
-use Rattle.outside.specs.Moments.{Elapses}
-use Rattle.outside.specs.Runs.{held_of}
+use Rattle.schedule_replay.specs.Below.{chosen, Elapses, Event, Failed, FailsOnlyCounted, Ghosts, held_of, HoldsStore, Rose, StillTold, Told}
 use Rattle.store_format.specs.Bank.{Faulty, bank_of}
-use Rattle.store_format.specs.Stands.{chosen}
-use Rattle.desk.specs.declared.event.Event.{Event}
 use Rattle.desk.specs.declared.supervisor.Supervisor as desk
-use Rattle.desk.specs.Kept.{HoldsStore, StillTold}
-use Rattle.desk.specs.Told.{Told}
 use Rattle.schedule_replay.specs.declared.events.Going.{Going}
 use Rattle.schedule_replay.specs.declared.events.Going.TheVariants as going
 use Rattle.schedule_replay.specs.declared.events.Replayed.{Replayed}

@@ -1,7 +1,7 @@
 -- Which events may be asked, and how many begins and turns are among events.
 use Rattle.std.specs.Prelude.{ℕ, ◌<◌, ◌≤◌, Bool, true, false, List, count_by}
-use Rattle.desk.specs.declared.event.Event.{Event}
-use Rattle.desk.specs.declared.event.Event.TheVariants.{Begin, Turn}
+use Rattle.schedule_replay.specs.Below.{Begin, Event}
+use Rattle.desk.specs.declared.event.Event.TheVariants.{Turn}
 
 -- a begin is of one of so many programs, and a turn has a limit of at most 1,000,000
 abbrev pub IsAsked : ℕ → Event → Type 0

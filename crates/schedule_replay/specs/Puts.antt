@@ -1,24 +1,14 @@
 -- What the lines of one answer are, and what putting lines does.
 use Rattle.std.specs.Prelude.{◌≡◌, ℕ, List, [], ◌∷◌, ◌++◌, length, take, Option, None, Some, Result, IsSome, unwrap_or}
-use Rattle.std.specs.List.{flat_map}
-use Rattle.outside.specs.declared.world.Outside.{Ghosts}
-use Rattle.outside.specs.declared.failed.Failed.{Failed}
-use Rattle.outside.specs.Bytes.{Prints}
-use Rattle.outside.specs.Runs.{OnlyPuts, Leaves}
+use Rattle.schedule_replay.specs.Below.{Failed, flat_map, Ghosts, Leaves, OnlyPuts, Prints}
 pub use Rattle.outside.specs.Runs.{PutsTimes}
-use Rattle.desk.specs.declared.answers.Turn.{Turn}
-use Rattle.desk.specs.declared.answers.TurnEnd.{TurnEnd}
+use Rattle.schedule_replay.specs.Below.{counts_told, cycle_lines, ending_lines, ending_told, Line, line_text, Reopened, Stored, Turn, TurnEnd}
 use Rattle.desk.specs.declared.answers.TurnEnd.TheVariants as end
-use Rattle.desk.specs.declared.answers.Stored.{Stored}
 use Rattle.desk.specs.declared.answers.Stored.TheVariants as stored
-use Rattle.desk.specs.declared.answers.Reopened.{Reopened}
 use Rattle.desk.specs.declared.answers.Reopened.TheVariants as reopened
 use Rattle.schedule_replay.specs.declared.answer_lines.Unended.{Unended}
 use Rattle.schedule_replay.specs.declared.answer_lines.Unended.TheVariants as unended
-use Rattle.desk.specs.Answers.{counts_told, ending_told}
 use Rattle.desk.specs.Lines as line
-use Rattle.desk.specs.Lines.{Line, line_text}
-use Rattle.desk.specs.Report.{cycle_lines, ending_lines}
 
 -- the bytes printed, or none where they aren't told
 abbrev pub shown_of : {W : Type 0} → Ghosts W → W → List ℕ

@@ -1,24 +1,11 @@
 -- What running events without a report did.
 use Rattle.std.specs.Prelude.{◌≡◌, ℕ, ◌+◌, ◌≤◌, count_by, Bool, true, false, List, [], ◌++◌, map, Option, None, Some, IfSome, Result, Ok}
-use Rattle.std.specs.List.{fold}
-use Rattle.outside.specs.declared.world.Outside.{Ghosts}
-use Rattle.outside.specs.declared.failed.Failed.{Failed}
-use Rattle.outside.specs.Runs.{Leaves}
-use Rattle.desk.specs.declared.answers.Begun.{Begun}
+use Rattle.schedule_replay.specs.Below.{Begun, Crash, Event, Failed, faulted, fold, Ghosts, is_commit, IsStage, Leaves, Line, OpenBeforeEach, Stored, TurnEnd, Word}
 use Rattle.desk.specs.declared.answers.Begun.TheVariants as begun
-use Rattle.desk.specs.declared.answers.Stored.{Stored}
 use Rattle.desk.specs.declared.answers.Stored.TheVariants as stored
-use Rattle.desk.specs.declared.answers.TurnEnd.{TurnEnd}
 use Rattle.desk.specs.declared.answers.TurnEnd.TheVariants as end
-use Rattle.desk.specs.declared.event.Event.{Event}
-use Rattle.desk.specs.declared.event.Event.TheVariants.{Crash}
 use Rattle.desk.specs.declared.supervisor.Supervisor as desk
-use Rattle.desk.specs.Commits.{is_commit}
-use Rattle.desk.specs.Instruction.{Word}
-use Rattle.desk.specs.Run.{faulted, OpenBeforeEach}
-use Rattle.desk.specs.Lines.{Line}
 use Rattle.desk.specs.Lines as line
-use Rattle.desk_law.specs.Left.{IsStage}
 use Rattle.schedule_replay.specs.declared.events.Going.{Going}
 use Rattle.schedule_replay.specs.declared.events.Going.TheVariants as going
 use Rattle.schedule_replay.specs.declared.quietly.Quiet.{Quiet}

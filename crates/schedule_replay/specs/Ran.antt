@@ -1,25 +1,8 @@
 -- Runs of the desk that a supervisor shows, with what they put.
 use Rattle.std.specs.Prelude.{◌≡◌, ℕ, ◌*◌, ◌⊎◌, count_by, Bool, true, List, [], ◌∷◌, ◌++◌, length, map, Option, Result, IsSome, slice_set}
-use Rattle.std.specs.List.{flat_map}
-use Rattle.outside.specs.declared.world.Outside.{Ghosts}
-use Rattle.outside.specs.declared.failed.Failed.{Failed}
-use Rattle.outside.specs.Bytes.{Prints}
-use Rattle.outside.specs.Durable.{IsSure}
-use Rattle.outside.specs.Moments.{Elapses}
-use Rattle.outside.specs.Runs.{Leaves, held_of}
-use Rattle.store_format.specs.Stands.{stands}
-use Rattle.desk.specs.declared.event.Event.{Event}
+use Rattle.schedule_replay.specs.Below.{Desk, Doubt, Elapses, Event, Failed, faulted, flat_map, Ghosts, Happening, happening_lines, held_of, is_commit, IsLeft, IsStage, IsSure, Leaves, Line, line_text, number_after, OpenBeforeEach, Prints, seen, stands, tells_fault, Word, WritesMore}
 use Rattle.desk.specs.declared.supervisor.Supervisor as desk
-use Rattle.desk.specs.Commits.{is_commit}
 use Rattle.desk.specs.Crash.{TookEvent, View, standing_of, fine_step}
-use Rattle.desk.specs.Desk.{Desk}
-use Rattle.desk.specs.Instruction.{Word, Doubt}
-use Rattle.desk.specs.Kept.{WritesMore, tells_fault}
-use Rattle.desk.specs.Run.{Happening, faulted, OpenBeforeEach}
-use Rattle.desk.specs.Lines.{Line, line_text}
-use Rattle.desk.specs.Told.{seen}
-use Rattle.desk.specs.Report.{number_after, happening_lines}
-use Rattle.desk_law.specs.Left.{IsLeft, IsStage}
 use Rattle.schedule_replay.specs.Puts.{BeginsWith, PutsTimes, shown_of}
 use Rattle.schedule_replay.specs.RanTo.{RanTo}
 use Rattle.schedule_replay.specs.Runs.{Opening, Span, end_of, lines_of}

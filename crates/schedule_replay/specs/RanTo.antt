@@ -1,14 +1,7 @@
 -- What a run of a desk leaves of the supervisor and the outside in which it went.
 use Rattle.std.specs.Prelude.{◌≡◌, ℕ, ◌*◌, count_by, false, List}
-use Rattle.outside.specs.declared.world.Outside.{Ghosts}
-use Rattle.outside.specs.Causes.{RoseBy}
-use Rattle.outside.specs.Durable.{IsSure}
-use Rattle.outside.specs.Runs.{held_of}
+use Rattle.schedule_replay.specs.Below.{Desk, Ghosts, held_of, is_commit, IsSure, journal_in, KeepsJournal, Line, RoseBy, tells_fault, WritesMore}
 use Rattle.desk.specs.declared.supervisor.Supervisor as desk
-use Rattle.desk.specs.Commits.{is_commit}
-use Rattle.desk.specs.Desk.{Desk}
-use Rattle.desk.specs.Kept.{KeepsJournal, WritesMore, journal_in, tells_fault}
-use Rattle.desk.specs.Lines.{Line}
 use Rattle.schedule_replay.specs.Runs.{Span}
 
 -- A run ended at this desk, with these lines, and in so many of its events a word wasn't fine. The supervisor is closed where the desk is and has its

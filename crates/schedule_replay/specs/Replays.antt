@@ -1,21 +1,9 @@
 -- What replaying a schedule did.
 use Rattle.std.specs.Prelude.{◌≡◌, ℕ, length, Bool, true, false, List, [], ◌∷◌, ◌++◌, Result, IfOk, IsSome}
-use Rattle.outside.specs.declared.world.Outside.{Ghosts}
-use Rattle.outside.specs.declared.failed.Failed.{Failed}
-use Rattle.outside.specs.Bytes.{Prints}
-use Rattle.outside.specs.Durable.{IsSure}
-use Rattle.outside.specs.Runs.{Leaves, held_of}
-use Rattle.desk.specs.declared.answers.Begun.{Begun}
+use Rattle.schedule_replay.specs.Below.{Begun, Desk, Event, Failed, faulted, Ghosts, held_of, IsLeft, IsRunOf, IsStage, IsSure, Leaves, line_text, Open, Prints, Reopened, Word}
 use Rattle.desk.specs.declared.answers.Begun.TheVariants as begun
-use Rattle.desk.specs.declared.answers.Reopened.{Reopened}
 use Rattle.desk.specs.declared.answers.Reopened.TheVariants as reopened
-use Rattle.desk.specs.declared.event.Event.{Event}
 use Rattle.desk.specs.declared.supervisor.Supervisor as desk
-use Rattle.desk.specs.Desk.{Desk}
-use Rattle.desk.specs.Instruction.{Word}
-use Rattle.desk.specs.Run.{faulted, IsRunOf}
-use Rattle.desk.specs.Lines.{line_text, Open}
-use Rattle.desk_law.specs.Left.{IsLeft, IsStage}
 use Rattle.schedule_replay.specs.declared.events.Going.{Going}
 use Rattle.schedule_replay.specs.declared.events.Going.TheVariants as going
 use Rattle.schedule_replay.specs.declared.events.Replayed.{Replayed}

@@ -1,13 +1,8 @@
 -- What a run begins with, and between which two moments it went.
 use Rattle.std.specs.Prelude.{ℕ, List}
 use Rattle.flat_machine.specs.declared.machine.Program.{Program}
-use Rattle.desk.specs.declared.event.Event.{Event}
+use Rattle.schedule_replay.specs.Below.{Desk, Event, event_lines, Line, report, report_lines, run, Word}
 use Rattle.desk.specs.Calls.{Fixed}
-use Rattle.desk.specs.Desk.{Desk}
-use Rattle.desk.specs.Instruction.{Word}
-use Rattle.desk.specs.Lines.{Line}
-use Rattle.desk.specs.Report.{event_lines, report, report_lines}
-use Rattle.desk.specs.Run.{run}
 
 -- what a run begins with: the names that its lines give the programs, these programs, the number with which the store opened, and the first desk
 pub record Opening : Type 0 where

@@ -1,22 +1,9 @@
 -- What is put of events that are answered, whatever stands on the disk: the lines of the answers, and the order that these tell of.
 use Rattle.std.specs.Prelude.{◌≡◌, ◌⊎◌, ℕ, Bool, true, false, List, [], ◌∷◌, ◌++◌, length, map, take, Result, IfOk}
-use Rattle.std.specs.List.{flat_map}
-use Rattle.outside.specs.declared.world.Outside.{Ghosts}
-use Rattle.outside.specs.declared.failed.Failed.{Failed}
-use Rattle.outside.specs.Bytes.{Prints}
-use Rattle.outside.specs.Runs.{PutsTimes}
-use Rattle.desk.specs.declared.answers.Begun.{Begun}
-use Rattle.desk.specs.declared.answers.Turn.{Turn}
-use Rattle.desk.specs.declared.answers.Stored.{Stored}
-use Rattle.desk.specs.declared.answers.Reopened.{Reopened}
-use Rattle.desk.specs.declared.event.Event.{Event}
+use Rattle.schedule_replay.specs.Below.{Begun, begun_told, End, Event, Failed, flat_map, Ghosts, Happening, happening_lines, Left, Line, line_text, Open, Prints, PutsTimes, Reopened, reopened_told, Stored, stored_told, Turn, turn_told}
 use Rattle.desk.specs.declared.event.Event.TheVariants as event
-use Rattle.desk.specs.Answers.{begun_told, turn_told, stored_told, reopened_told}
 use Rattle.desk.specs.Instruction as turn
-use Rattle.desk.specs.Run.{Happening}
 use Rattle.desk.specs.Run as run
-use Rattle.desk.specs.Lines.{Line, Open, Left, End, line_text}
-use Rattle.desk.specs.Report.{happening_lines}
 use Rattle.schedule_replay.specs.declared.events.Replayed.{Replayed}
 use Rattle.schedule_replay.specs.Answered.{is_closed, way_of}
 

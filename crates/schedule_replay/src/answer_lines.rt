@@ -1,11 +1,9 @@
 // The lines of one answer, put one after another.
 ghost use Rattle.std.specs.Prelude.{◌≡◌, ◌<◌, ◌≤◌, ℕ, List, [], ◌∷◌, ◌++◌, length, map};
-ghost use Rattle.std.specs.List.{flat_map};
+ghost use Rattle.schedule_replay.specs.Below.{begun_told, Closed, cycle_lines, ending_lines, ending_told, flat_map, happening_lines, reopened_told, stored_told, turn_told};
 ghost use Rattle.lines.specs.Waits.{victim_of};
 ghost use Rattle.report_text.specs.Line.{line_told, IsShort};
-ghost use Rattle.desk.specs.Answers.{begun_told, turn_told, ending_told, stored_told, reopened_told};
-ghost use Rattle.desk.specs.Lines.{Doubt, Closed};
-ghost use Rattle.desk.specs.Report.{happening_lines, cycle_lines, ending_lines};
+ghost use Rattle.desk.specs.Lines.{Doubt};
 ghost use Rattle.schedule_replay.specs.Puts.{Puts, number_told, stored_number, reopened_number, counted_lines, unended_told};
 
 use desk::{Begun, Cycle, Reopened, Stored, Turn, TurnEnd};

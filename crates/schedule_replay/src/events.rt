@@ -1,11 +1,6 @@
 // The events of a schedule, one after another, and their report.
 ghost use Rattle.std.specs.Prelude.{◌≡◌, ◌≤◌, ℕ, List, [], ◌∷◌, ◌++◌, All, true, false, length, map, IfOk};
-ghost use Rattle.outside.specs.Durable.{IsSure};
-ghost use Rattle.outside.specs.Runs.{held_of, OnlyPuts};
-ghost use Rattle.desk.specs.Answers.{turn_closes, stored_closes};
-ghost use Rattle.desk.specs.Desk.{Desk};
-ghost use Rattle.desk.specs.Lines.{Left, End};
-ghost use Rattle.desk.specs.Report.{closing_lines};
+ghost use Rattle.schedule_replay.specs.Below.{closing_lines, Desk, End, held_of, IsSure, Left, OnlyPuts, stored_closes, turn_closes};
 ghost use Rattle.desk.specs.Seen.{IsUnbroken};
 ghost use Rattle.schedule_replay.specs.Answered.{IsReady, Answered, GoesBy, GoesShut, is_closed, way_of};
 ghost use Rattle.schedule_replay.specs.Puts.{Puts};

@@ -1,9 +1,7 @@
 // The events of a schedule, one after another, without a report.
 ghost use Rattle.std.specs.Prelude.{◌≡◌, ◌≤◌, [], ◌∷◌, All, true, length, None, IfSome};
-ghost use Rattle.outside.specs.Durable.{IsSure};
-ghost use Rattle.outside.specs.Runs.{CallsDisk, held_of};
+ghost use Rattle.schedule_replay.specs.Below.{CallsDisk, Desk, held_of, IsSure};
 ghost use Rattle.desk.specs.declared.event.Event.TheVariants as event;
-ghost use Rattle.desk.specs.Desk.{Desk};
 ghost use Rattle.schedule_replay.specs.Answered.{IsReady, Answered, GoesBy, GoesShut, is_closed};
 ghost use Rattle.schedule_replay.specs.Runs.{opening_of, span};
 ghost use Rattle.schedule_replay.specs.Quiet.{IsLasting, IsSmall, RunsQuietly, WentQuietly, going_of, going_told, last_by, tally_begun, tally_by, tally_stored, unput};

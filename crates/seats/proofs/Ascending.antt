@@ -1,6 +1,5 @@
 -- Seats in which numbers ascend: each stands once, its number is its own, and sixteen of them are all there are.
-use Rattle.seats.proofs.Common.{range_with_len, AllPairs, arith, ap, sym, ◌∙◌, subst, inl, inr, eqb-true, eq-eqb, ne_eqb, or_cases, not-true, not-false, and_parts, ltb-true, cond-false, All-head, All-tail, has, distinct, size, has-range, in_range, found-has, found-passes, none-passes, nat_tests, ◌≡◌, refl, ℕ, suc, ◌+◌, ◌<◌, ◌≤◌, ◌==◌, not, nat_le, nat_lt, Bool, true, false, List, [], ◌∷◌, length, All, Some, None, find}
-use Rattle.lines.proofs.SizeLemmas.{IsPart, size-part, size-range}
+use Rattle.seats.proofs.Common.{range_with_len, AllPairs, arith, ap, sym, ◌∙◌, subst, inl, inr, eqb-true, eq-eqb, ne_eqb, or_cases, not-true, not-false, and_parts, ltb-true, cond-false, All-head, All-tail, has, distinct, size, has-range, in_range, found-has, found-passes, none-passes, nat_tests, ◌≡◌, refl, ℕ, suc, ◌+◌, ◌<◌, ◌≤◌, ◌==◌, not, nat_le, nat_lt, Bool, true, false, List, [], ◌∷◌, length, All, Some, None, find, IsPart, size-part, size-range}
 
 -- what holds of each number holds of one that is there
 pub all-has : (P : ℕ → Type 0) (xs : List ℕ) (x : ℕ) → All P xs → has xs x ≡ true → P x

@@ -28,5 +28,11 @@ pub use Rattle.std.specs.List.Sorted.{IsBinarySearchResult, IsPermutation}
 pub use Rattle.lines.proofs.LineSetLemmas.{is_in-where, is_in_where-below, none-bits, of_page-below}
 pub use Rattle.lines.specs.LineSets.{IsOfPage, lines_of_bits, union}
 unfoldable pub use Rattle.lines.specs.LineSets.{passing}
-pub use Rattle.lines.proofs.SizeLemmas.{size-alike, size-apart, size-part, size-range}
+pub use Rattle.lines.proofs.SizeLemmas.{size-alike, size-apart, size-part, size-range, IsPart}
 pub use Rattle.seats.specs.Counted.{AreListed, Ascend, IsCounted}
+pub use Rattle.lines.specs.Conflicts.{Lines, both, conflicts}
+pub use Rattle.seats.specs.Flat.{flat_lines, lines_wanted, IsFlat}
+pub use Rattle.std.specs.Int.{bit_at, trailing_zeros}
+pub use Rattle.std.proofs.lemmas.Nat.Bits.{bit_at-lt, bit_at_and, bit_at-zero, bit_at-trailing_zeros, bit_at_set_same, bit_at_set_other}
+pub use Rattle.std.proofs.lemmas.List.FromFn.{length-map-range_with_len, get_or-map-range_with_len, length-range_with_len}
+pub use Rattle.std.proofs.lemmas.Nat.{and_le_l, and_le_r}

@@ -1,7 +1,5 @@
 -- What a seat holds page by page, and what it holds in flat lines.
-use Rattle.seats.proofs.Common.{flat_map, list_any, ◌⊎◌, arith, ap, sym, subst, ◌∙◌, get_or-set_same, get_or-set_other, eqb-true, eqb-false, or_left, or_right, nat_tests, append-nil, append_assoc, length-set, All-head, All-tail, list_any-append, has, meets, has-append, IsOfPage, union, of_page-below, is_in_where-below, Want, of_page, together, with_want, with_wants, AreWithin, conflicts_with, ◌≡◌, ◌≢◌, refl, ℕ, ◌+◌, ◌*◌, ◌<◌, ◌==◌, ◌||◌, Bool, true, false, List, [], ◌∷◌, ◌++◌, length, All}
-use Rattle.lines.specs.Conflicts.{Lines, both, conflicts}
-use Rattle.seats.specs.Flat.{flat_lines, lines_wanted, IsFlat}
+use Rattle.seats.proofs.Common.{flat_map, list_any, ◌⊎◌, arith, ap, sym, subst, ◌∙◌, get_or-set_same, get_or-set_other, eqb-true, eqb-false, or_left, or_right, nat_tests, append-nil, append_assoc, length-set, All-head, All-tail, list_any-append, has, meets, has-append, IsOfPage, union, of_page-below, is_in_where-below, Want, of_page, together, with_want, with_wants, AreWithin, conflicts_with, ◌≡◌, ◌≢◌, refl, ℕ, ◌+◌, ◌*◌, ◌<◌, ◌==◌, ◌||◌, Bool, true, false, List, [], ◌∷◌, ◌++◌, length, All, Lines, both, conflicts, flat_lines, lines_wanted, IsFlat}
 
 -- lines of a page meet flat lines as they meet what these are of the page
 meets-page :
@@ -68,8 +66,7 @@ has-other_page page other line (x ∷ xs) apart below few =
 taken-here :
     (page line : ℕ) (held wanted flat : List ℕ) → line < 16 → has held line ≡ has flat (page * 16 + line)
     → has (union held wanted) line ≡ has (flat ++ flat_lines page wanted) (page * 16 + line)
-taken-here page line held wanted flat below same =
-    grind (arith, is_in_where-below, has-page, has-append)
+taken-here page line held wanted flat below same = grind (arith, is_in_where-below, has-page, has-append)
 
 -- the other pages
 taken-there :

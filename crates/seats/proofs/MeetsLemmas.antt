@@ -1,7 +1,5 @@
 -- Whether two sets of a page's lines meet, by the bits that they are told by.
-use Rattle.seats.proofs.Common.{arith, ap, sym, ◌∙◌, nat_tests, has, meets, has-append, any-at, any-some, lines_of_bits, is_in-where, none-bits, ◌≡◌, refl, ℕ, ◌<◌, ◌==◌, ◌||◌, ◌&&◌, not, min, true, List, [], ◌∷◌, ◌++◌, length, bit_and}
-use Rattle.std.specs.Int.{bit_at}
-use Rattle.std.proofs.lemmas.Nat.Bits.{bit_at-lt, bit_at_and}
+use Rattle.seats.proofs.Common.{arith, ap, sym, ◌∙◌, nat_tests, has, meets, has-append, any-at, any-some, lines_of_bits, is_in-where, none-bits, ◌≡◌, refl, ℕ, ◌<◌, ◌==◌, ◌||◌, ◌&&◌, not, min, true, List, [], ◌∷◌, ◌++◌, length, bit_and, bit_at, bit_at-lt, bit_at_and}
 use Rattle.lines.specs.LineBits.{is_on}
 
 and-on : (p q : ℕ) → p < 2 → q < 2 → (min p q == 1) ≡ ((p == 1) && (q == 1))

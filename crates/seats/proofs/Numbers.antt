@@ -1,7 +1,5 @@
 -- What is said of seats, said of the numbers in them and of flat lines: holders, waits and the shown cycle.
-use Rattle.seats.proofs.Common.{option_map_or, ap, sym, ◌∙◌, eqb-true, eq-eqb, or_left, or_right, has, shown_cycle, found-has, found-passes, none-passes, cycle-named, Request, Want, of_seat, is_in_conflict, Seating, IsSeating, sitter, number_in, numbers, seat_of, holders, seat_waits, cycle_of, AreOfPage, arith, nat_tests, ◌≡◌, refl, ℕ, ◌==◌, ◌&&◌, not, cond, Bool, true, false, List, [], ◌∷◌, map, filter, Option, Some, None}
-use Rattle.lines.specs.Conflicts.{Lines, conflicts}
-use Rattle.seats.specs.Flat.{lines_wanted, IsFlat}
+use Rattle.seats.proofs.Common.{option_map_or, ap, sym, ◌∙◌, eqb-true, eq-eqb, or_left, or_right, has, shown_cycle, found-has, found-passes, none-passes, cycle-named, Request, Want, of_seat, is_in_conflict, Seating, IsSeating, sitter, number_in, numbers, seat_of, holders, seat_waits, cycle_of, AreOfPage, arith, nat_tests, ◌≡◌, refl, ℕ, ◌==◌, ◌&&◌, not, cond, Bool, true, false, List, [], ◌∷◌, map, filter, Option, Some, None, Lines, conflicts, lines_wanted, IsFlat}
 use Rattle.seats.proofs.FlatLemmas.{conflict-flat}
 use Rattle.seats.proofs.Ascending.{apart}
 

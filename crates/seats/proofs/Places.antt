@@ -1,7 +1,6 @@
 -- Places among the taken seats, and the shown cycle by places.
-use Rattle.seats.proofs.Common.{range_with_len, option_map, inl, inr, arith, ap, sym, ◌∙◌, eq-eqb, ne_eqb, ltb-true, cases_eq, cases_lt, same_lists, get_or_default, has, shown_cycle, has-range, in_range, cycle-named, cycle-among, waits_in, places_of, Seating, IsSeating, number_in, seat_waits, seat_at, cycle_of, nat_tests, ◌≡◌, ℕ, ◌<◌, ◌==◌, true, List, length, map, Some, None}
+use Rattle.seats.proofs.Common.{range_with_len, option_map, inl, inr, arith, ap, sym, ◌∙◌, eq-eqb, ne_eqb, ltb-true, cases_eq, cases_lt, same_lists, get_or_default, has, shown_cycle, has-range, in_range, cycle-named, cycle-among, waits_in, places_of, Seating, IsSeating, number_in, seat_waits, seat_at, cycle_of, nat_tests, ◌≡◌, ℕ, ◌<◌, ◌==◌, true, List, length, map, Some, None, length-map-range_with_len, get_or-map-range_with_len}
 use Rattle.std.proofs.lemmas.Simd.{map-map}
-use Rattle.std.proofs.lemmas.List.FromFn.{length-map-range_with_len, get_or-map-range_with_len}
 
 range-below : (n x : ℕ) → has (range_with_len 0 n) x ≡ true → x < n
 range-below n x inside = grind (arith, nat_tests, has-range, ltb-true)

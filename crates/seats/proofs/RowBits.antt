@@ -1,8 +1,5 @@
 -- Rows of bits over the sixteen places.
-use Rattle.seats.proofs.Common.{◌≡◌, ℕ, zero, suc, ◌+◌, ◌*◌, ◌%◌, ◌^◌, ◌<◌, ◌≤◌, ◌==◌, ◌&&◌, ◌||◌, min, cond, Bool, true, false, refl, sym, ap, ◌∙◌, arith, inl, inr, bit_and, bit_or, w16, Option, Some, find, range_with_len, list_any, cases_eq, cases_lt, is_on, places}
-use Rattle.std.proofs.lemmas.Bool.Decides.{nat_tests}
-use Rattle.std.specs.Int.{bit_at, trailing_zeros}
-use Rattle.std.proofs.lemmas.Nat.Bits.{bit_at-lt, bit_at-zero, bit_at_and, bit_at-trailing_zeros, bit_at_set_same, bit_at_set_other}
+use Rattle.seats.proofs.Common.{◌≡◌, ℕ, zero, suc, ◌+◌, ◌*◌, ◌%◌, ◌^◌, ◌<◌, ◌≤◌, ◌==◌, ◌&&◌, ◌||◌, min, cond, Bool, true, false, refl, sym, ap, ◌∙◌, arith, inl, inr, bit_and, bit_or, w16, Option, Some, find, range_with_len, list_any, cases_eq, cases_lt, is_on, places, nat_tests, bit_at, trailing_zeros, bit_at-lt, bit_at-zero, bit_at_and, bit_at-trailing_zeros, bit_at_set_same, bit_at_set_other}
 
 -- the first number of a range that passes a test
 pub find-first : (p : ℕ → Bool) (low n k : ℕ) → low ≤ k → k < low + n → p k ≡ true → ((i : ℕ) → low ≤ i → i < k → p i ≡ false) → find p (range_with_len low n) ≡ Some k

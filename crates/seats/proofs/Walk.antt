@@ -1,8 +1,5 @@
 -- The steps of a walk back to where it began, and the places that are marked on the way.
-use Rattle.seats.proofs.Common.{zero, ◌≡◌, ℕ, length, suc, ◌+◌, ◌-◌, ◌*◌, ◌%◌, ◌^◌, ◌<◌, ◌≤◌, ◌==◌, ◌&&◌, ◌||◌, nat_lt, Bool, true, false, List, [], ◌∷◌, refl, sym, ap, ◌∙◌, arith, bit_and, bit_or, Option, Some, None, find, if◌then◌else◌, range_with_len, list_any, ne_eqb, lt-ltb, le-ltb, and_right, leads, next_shown, shown_after, shown_cycle, is_on, places}
-use Rattle.std.proofs.lemmas.Bool.Decides.{nat_tests}
-use Rattle.std.specs.Option.{option_map_or}
-use Rattle.std.proofs.lemmas.List.FromFn.{length-range_with_len}
+use Rattle.seats.proofs.Common.{zero, ◌≡◌, ℕ, length, suc, ◌+◌, ◌-◌, ◌*◌, ◌%◌, ◌^◌, ◌<◌, ◌≤◌, ◌==◌, ◌&&◌, ◌||◌, nat_lt, Bool, true, false, List, [], ◌∷◌, refl, sym, ap, ◌∙◌, arith, bit_and, bit_or, Option, Some, None, find, if◌then◌else◌, range_with_len, list_any, ne_eqb, lt-ltb, le-ltb, and_right, leads, next_shown, shown_after, shown_cycle, is_on, places, nat_tests, option_map_or, length-range_with_len}
 use Rattle.seats.proofs.RowBits.{find-cut, any-cut, on-both, on-set}
 
 -- the places below one are marked where they pass a test; the next one is marked or not by the same test

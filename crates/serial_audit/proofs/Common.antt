@@ -3,7 +3,7 @@ pub use Rattle.std.proofs.Common.{Bool, Decides, IsTrue, List, MatchOption, None
 pub use Rattle.std.proofs.lemmas.Bool.{eqb-false}
 pub use Rattle.std.proofs.lemmas.Bool.Decides.{Decides-and, Decides-eqb, nat_tests}
 pub use Rattle.std.proofs.lemmas.List.{get_or-set_same, length-drop, length-set, length-take, map-append, take-append-drop, take_at, take_more, with_items_is, take_all}
-pub use Rattle.std.proofs.lemmas.Option.{option_and_then_some, slice_get-get_or, slice_get_past, slice_get_within}
+pub use Rattle.std.proofs.lemmas.Option.{option_and_then_some, slice_get-get_or, slice_get_past, slice_get_within, same_Some, none-some}
 pub use Rattle.std.proofs.lemmas.Slice.Eq.{slice_eq-Decides}
 pub use Rattle.std.specs.List.{All, AllByRecursion, Contains, join_with_byte, flat_map, range_with_len}
 pub use Rattle.desk.specs.Commits.{begun}
@@ -24,8 +24,11 @@ pub use Rattle.serial_audit.specs.Index.{IsEntry, IsFresh, IsIndex, activation_i
 pub use Rattle.serial_audit.specs.Lengths.{sizes_of}
 pub use Rattle.serial_audit.specs.Progress.{IsTaken, MayFollow, Replays, Stands}
 pub use Rattle.serial_audit.specs.declared.index.Entry.{Entry}
-pub use Rattle.std.proofs.lemmas.Grind.{common_steps}
+pub use Rattle.std.proofs.lemmas.Grind.{common_steps, flat_map-append}
 pub use Rattle.flat_machine.specs.Due.{touched_next, touched_within}
 pub use Rattle.lines.specs.Conflicts.{Lines, both, no_lines}
 pub use Rattle.serial_audit.specs.Trace.{AreTouches, touch_at, touches, touches_of_step}
 pub use Rattle.serial_audit.specs.declared.touch.Touch.{Touch}
+pub use Rattle.std.proofs.lemmas.List.Elements.{All-append, Contains-append_cases, Contains-append_left, Contains-append_right}
+pub use Rattle.serial_audit.specs.declared.auditing.KeptStore.{KeptStore}
+pub use Rattle.serial_audit.specs.declared.auditing.Progress.{Progress}

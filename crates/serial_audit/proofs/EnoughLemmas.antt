@@ -1,7 +1,5 @@
 -- The lines of a trace are those that the agreement law asks for.
-use Rattle.std.proofs.lemmas.Bool.Decides.{nat_tests}
-use Rattle.serial_audit.proofs.Common.{◌≡◌, ℕ, zero, suc, ◌<◌, ◌||◌, Bool, true, false, List, [], ◌∷◌, map, Some, refl, sym, ◌∙◌, ap, arith, map-append, FlatStore, Lines, both, Plain, after, touched_next, touched_within, Outcome, Commit, row, Activation, if_commit, touch_at, touches, touches_of_step}
-use Rattle.std.proofs.lemmas.Option.{same_Some, option_and_then_some, none-some}
+use Rattle.serial_audit.proofs.Common.{◌≡◌, ℕ, zero, suc, ◌<◌, ◌||◌, Bool, true, false, List, [], ◌∷◌, map, Some, refl, sym, ◌∙◌, ap, arith, map-append, FlatStore, Lines, both, Plain, after, touched_next, touched_within, Outcome, Commit, row, Activation, if_commit, touch_at, touches, touches_of_step, nat_tests, same_Some, option_and_then_some, none-some}
 use Rattle.lines.specs.Sets.{has}
 use Rattle.lines.proofs.SetLemmas.{has-append}
 use Rattle.flat_machine.specs.Agreement.{AgreeOn, DoesTheSame, SameWay, all_of, line_in}

@@ -1,6 +1,5 @@
 -- What a job says of its activations: the begins first, then the turns, then the marks of commits.
-use Rattle.serial_audit.proofs.Common.{◌≡◌, ◌≢◌, ℕ, zero, suc, ◌+◌, ◌-◌, ◌^◌, ◌<◌, ◌==◌, ◌||◌, ◌↔◌, Bool, true, false, IsTrue, List, [], ◌∷◌, ◌++◌, length, map, min, set, sum, take, get_or, slice_get, Option, Some, None, option_map, MatchOption, ◌⊎◌, inl, inr, refl, sym, ◌∙◌, ap, add-zero, zero-add, eq-eqb, ne_eqb, eqb, eqb-true, arith, All, Contains, eqb-false, get_or-set_same, length-set, map-append, take_more, slice_get-get_or, slice_get_within, Activation, numbered, Event, Turn, Job, Entry, Told, activations_of, limit_of, IsEntry, IsFresh, IsIndex, activation_in, marked, with_turns, nat_tests}
-use Rattle.std.proofs.lemmas.List.Elements.{All-append, Contains-append_cases, Contains-append_left, Contains-append_right}
+use Rattle.serial_audit.proofs.Common.{◌≡◌, ◌≢◌, ℕ, zero, suc, ◌+◌, ◌-◌, ◌^◌, ◌<◌, ◌==◌, ◌||◌, ◌↔◌, Bool, true, false, IsTrue, List, [], ◌∷◌, ◌++◌, length, map, min, set, sum, take, get_or, slice_get, Option, Some, None, option_map, MatchOption, ◌⊎◌, inl, inr, refl, sym, ◌∙◌, ap, add-zero, zero-add, eq-eqb, ne_eqb, eqb, eqb-true, arith, All, Contains, eqb-false, get_or-set_same, length-set, map-append, take_more, slice_get-get_or, slice_get_within, Activation, numbered, Event, Turn, Job, Entry, Told, activations_of, limit_of, IsEntry, IsFresh, IsIndex, activation_in, marked, with_turns, nat_tests, All-append, Contains-append_cases, Contains-append_left, Contains-append_right}
 use Rattle.std.proofs.lemmas.List.Sums.{sum_by-append}
 
 -- the element written, and another one

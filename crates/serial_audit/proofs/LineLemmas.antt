@@ -1,12 +1,6 @@
 -- Commit lines up to one of them, and that one.
-use Rattle.std.proofs.lemmas.Bool.Decides.{nat_tests}
-use Rattle.serial_audit.proofs.Common.{◌≡◌, ◌≢◌, ℕ, zero, suc, List, [], ◌∷◌, ◌++◌, map, Some, inl, inr, append_assoc, arith, Contains, map-append, Layout, Plain, Activation, before_commit, IsFirstUnsound, IsSound, Told, Touch, AreTouches, touches}
+use Rattle.serial_audit.proofs.Common.{◌≡◌, ◌≢◌, ℕ, zero, suc, List, [], ◌∷◌, ◌++◌, map, Some, inl, inr, append_assoc, arith, Contains, map-append, Layout, Plain, Activation, before_commit, IsFirstUnsound, IsSound, Told, Touch, AreTouches, touches, nat_tests, Contains-append_cases, Job, KeptStore, Progress, MayFollow, Stands}
 use Rattle.serial_audit.proofs.VerdictLemmas.{sound_here}
-use Rattle.std.proofs.lemmas.List.Elements.{Contains-append_cases}
-use Rattle.job_text.specs.declared.job.Job.{Job}
-use Rattle.serial_audit.specs.declared.auditing.KeptStore.{KeptStore}
-use Rattle.serial_audit.specs.declared.auditing.Progress.{Progress}
-use Rattle.serial_audit.specs.Progress.{MayFollow, Stands}
 
 -- a line of another activation more
 pub none_more : (lines : List Told) (told : Told) (activation : ℕ) → ¬ (Contains (map (λ (line : Told). line.activation) lines) activation)

@@ -25,9 +25,7 @@ pub commit_at : (program : Program) (args : List ℕ) (store : FlatStore) (steps
     → before_commit (record { program = program; args = args }) steps store
     ≡ option_and_then (λ state. if_commit (row program store.directory state) state) (after program args store (steps - 1))
 commit_at program args store zero some = absurd (omega arith)
-commit_at program args store (suc n) some =
-    let e : suc n - 1 ≡ n = omega arith in
-    rw e refl
+commit_at program args store (suc n) some = let e : suc n - 1 ≡ n = omega arith in rw e refl
 
 -- a program that stops early doesn't come to the commit call
 pub stops_early : (program : Program) (args : List ℕ) (store : FlatStore) (steps n : ℕ) (state : Plain) → n + 1 < steps

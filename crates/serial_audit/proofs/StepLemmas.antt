@@ -1,7 +1,5 @@
 -- The touches of steps, one step more.
-use Rattle.std.proofs.lemmas.Bool.Decides.{nat_tests}
-use Rattle.serial_audit.proofs.Common.{◌≡◌, ℕ, zero, suc, ◌+◌, ◌-◌, ◌<◌, ◌≤◌, Bool, List, [], ◌∷◌, ◌++◌, map, Some, sym, ◌∙◌, ap, append_assoc, append-nil, arith, flat_map, range_with_len, FlatStore, Plain, after, touched_next, Activation, Touch, touch_at, touches, touches_of_step}
-use Rattle.std.proofs.lemmas.Grind.{flat_map-append}
+use Rattle.serial_audit.proofs.Common.{◌≡◌, ℕ, zero, suc, ◌+◌, ◌-◌, ◌<◌, ◌≤◌, Bool, List, [], ◌∷◌, ◌++◌, map, Some, sym, ◌∙◌, ap, append_assoc, append-nil, arith, flat_map, range_with_len, FlatStore, Plain, after, touched_next, Activation, Touch, touch_at, touches, touches_of_step, nat_tests, flat_map-append}
 use Rattle.std.proofs.lemmas.List.FromFn.{map-range_with_len_more}
 use Rattle.flat_machine.specs.Touched.{touched}
 

@@ -1,8 +1,6 @@
 -- Commit lines one after another, and whether they are sound.
-use Rattle.serial_audit.proofs.Common.{◌≡◌, ℕ, ◌+◌, ◌%◌, ◌^◌, ◌<◌, ◌≤◌, Bool, true, false, List, [], ◌∷◌, ◌++◌, length, map, take, drop, get_or, slice_get, Option, Some, None, option_and_then, ◌⊎◌, inl, inr, refl, sym, ◌∙◌, ap, length-append, add-one, drop-cons, arith, map-append, take-append-drop, take_more, option_and_then_some, Layout, FlatStore, Plain, Activation, before_commit, committing, numbered, serial, Job, Entry, AreSound, IsSound, Told, activations_of, flat_of, pair_of, report_told, steps_allowed, IsIndex, activation_in, IsTaken, MayFollow, Replays, Stands, nat_tests, told_of}
+use Rattle.serial_audit.proofs.Common.{◌≡◌, ℕ, ◌+◌, ◌%◌, ◌^◌, ◌<◌, ◌≤◌, Bool, true, false, List, [], ◌∷◌, ◌++◌, length, map, take, drop, get_or, slice_get, Option, Some, None, option_and_then, ◌⊎◌, inl, inr, refl, sym, ◌∙◌, ap, length-append, add-one, drop-cons, arith, map-append, take-append-drop, take_more, option_and_then_some, Layout, FlatStore, Plain, Activation, before_commit, committing, numbered, serial, Job, Entry, AreSound, IsSound, Told, activations_of, flat_of, pair_of, report_told, steps_allowed, IsIndex, activation_in, IsTaken, MayFollow, Replays, Stands, nat_tests, told_of, KeptStore, Progress}
 use Rattle.report_text.specs.declared.line.CommitLine.{CommitLine}
-use Rattle.serial_audit.specs.declared.auditing.KeptStore.{KeptStore}
-use Rattle.serial_audit.specs.declared.auditing.Progress.{Progress}
 use Rattle.serial_audit.proofs.IndexLemmas.{begun_at, entry_at}
 
 -- one commit more leaves its state's store
@@ -68,20 +66,10 @@ refused job opening before told progress directory same stands sound =
     (numbered (activations_of job) told.activation) sound.state runs
     (λ activation begun commits. (
       activation,
-      record {
-        number = sound.number;
-        first = sound.first;
-        allowed = sound.allowed;
-        begun = begun;
-      },
+      record { number = sound.number; first = sound.first; allowed = sound.allowed; begun = begun },
       (
         sound.state.store,
-        record {
-          state = sound.state;
-          commits = commits;
-          prints = sound.prints;
-          leaves = refl;
-        },
+        record { state = sound.state; commits = commits; prints = sound.prints; leaves = refl },
       ),
     ))
 

@@ -1,13 +1,7 @@
 -- A report whose commits are those of the programs run one after another.
 use Rattle.std.specs.Prelude.{◌≡◌, ℕ, ◌+◌, ◌≤◌, ◌%◌, ◌^◌, ◌==◌, ◌⊎◌, if◌then◌else◌, List, ◌∷◌, ◌++◌, length, map, sum, Some}
-use Rattle.std.specs.List.{Contains}
-use Rattle.lines.specs.FlatStore.{FlatStore}
-use Rattle.flat_machine.specs.declared.machine.Plain.{Plain}
-use Rattle.flat_machine.specs.Serial.{Activation, committing, serial}
-use Rattle.desk.specs.declared.event.Event.{Event}
+use Rattle.serial_audit.specs.Below.{Activation, begun, committing, Contains, Event, FlatStore, Job, Plain, serial}
 use Rattle.desk.specs.declared.event.Event.TheVariants.{Turn}
-use Rattle.desk.specs.Commits.{begun}
-use Rattle.job_text.specs.declared.job.Job.{Job}
 use Rattle.report_text.specs.declared.line.CommitLine.{CommitLine}
 use Rattle.serial_audit.specs.declared.auditing.KeptStore.{KeptStore}
 use Rattle.serial_audit.specs.declared.auditing.Verdict.{Verdict}

@@ -1,9 +1,6 @@
 -- What a job says of each of its activations, behind some commit lines.
 use Rattle.std.specs.Prelude.{◌≡◌, ℕ, ◌+◌, ◌-◌, ◌^◌, ◌==◌, ◌||◌, ◌↔◌, IsTrue, false, List, map, min, sum, Some, None, slice_get, MatchOption}
-use Rattle.std.specs.List.{Contains}
-use Rattle.flat_machine.specs.Serial.{Activation}
-use Rattle.desk.specs.declared.event.Event.{Event}
-use Rattle.job_text.specs.declared.job.Job.{Job}
+use Rattle.serial_audit.specs.Below.{Activation, Contains, Event, Job}
 use Rattle.serial_audit.specs.declared.index.Entry.{Entry}
 use Rattle.serial_audit.specs.Audit.{Told, activations_of, limit_of, steps_allowed}
 

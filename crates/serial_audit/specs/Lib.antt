@@ -1,3 +1,4 @@
+pub mod Below
 pub mod Audit
 pub mod Bundle
 pub mod Index

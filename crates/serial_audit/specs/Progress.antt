@@ -1,10 +1,6 @@
 -- How far a check has come.
 use Rattle.std.specs.Prelude.{◌≡◌, ℕ, ◌+◌, ◌≤◌, ◌%◌, ◌^◌, List, [], ◌∷◌, ◌++◌, length, map, Option, Some, None}
-use Rattle.std.specs.List.{Contains}
-use Rattle.lines.specs.FlatStore.{FlatStore}
-use Rattle.flat_machine.specs.declared.machine.Plain.{Plain}
-use Rattle.flat_machine.specs.Serial.{Activation, before_commit, numbered, serial}
-use Rattle.job_text.specs.declared.job.Job.{Job}
+use Rattle.serial_audit.specs.Below.{Activation, before_commit, Contains, FlatStore, Job, numbered, Plain, serial}
 use Rattle.serial_audit.specs.declared.auditing.KeptStore.{KeptStore}
 use Rattle.serial_audit.specs.declared.auditing.Progress.{Progress}
 use Rattle.serial_audit.specs.Audit.{IsSound, Told, activations_of, flat_of, pair_of, steps_allowed}

@@ -1,7 +1,6 @@
 -- Lines that follow each other.
 use Rattle.std.specs.Prelude.{ℕ, Bool, false, true, List, [], Option, Some, None}
-use Rattle.std.specs.List.{range_with_len}
-use Rattle.lines.specs.Conflicts.{Lines, no_lines}
+use Rattle.serial_audit.specs.Below.{Lines, no_lines, range_with_len}
 use Rattle.serial_audit.specs.declared.touch.Stretch.{Stretch}
 
 -- lines that are read, or written

@@ -1,11 +1,7 @@
 -- The lines that an activation touches as its serial run does.
 use Rattle.std.specs.Prelude.{◌≡◌, ℕ, ◌-◌, Bool, false, true, List, [], ◌∷◌, ◌++◌, map, Some, Result, Ok, Err}
-use Rattle.std.specs.List.{Contains, flat_map, range_with_len}
-use Rattle.lines.specs.FlatStore.{FlatStore}
-use Rattle.lines.specs.Conflicts.{Lines}
+use Rattle.serial_audit.specs.Below.{Activation, Contains, flat_map, FlatStore, Job, Lines, numbered, range_with_len, serial}
 use Rattle.flat_machine.specs.Due.{touched_next}
-use Rattle.flat_machine.specs.Serial.{Activation, numbered, serial}
-use Rattle.job_text.specs.declared.job.Job.{Job}
 use Rattle.serial_audit.specs.declared.auditing.KeptStore.{KeptStore}
 use Rattle.serial_audit.specs.Audit.{AreSound, IsFirstUnsound, Told, activations_of, flat_of, pair_of}
 use Rattle.serial_audit.specs.declared.answer.Trace.{Trace}

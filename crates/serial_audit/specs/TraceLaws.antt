@@ -1,9 +1,7 @@
 -- What the lines of a trace are enough for.
 use Rattle.std.specs.Prelude.{◌≡◌, ℕ, List, map, Some}
-use Rattle.lines.specs.FlatStore.{FlatStore, IsWhole}
-use Rattle.flat_machine.specs.declared.machine.Plain.{Plain}
+use Rattle.serial_audit.specs.Below.{Activation, before_commit, FlatStore, IsWhole, Plain}
 use Rattle.flat_machine.specs.Agreement.{AgreeOn, AgreeBut}
-use Rattle.flat_machine.specs.Serial.{Activation, before_commit}
 use Rattle.serial_audit.specs.declared.touch.Touch.{Touch}
 use Rattle.serial_audit.specs.Trace.{touches}
 

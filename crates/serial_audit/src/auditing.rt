@@ -1,7 +1,5 @@
 ghost use Rattle.std.specs.Prelude.{◌≡◌, ◌+◌, ◌-◌, ◌<◌, ◌≤◌, ◌^◌, ◌↔◌, IsTrue, List, [], length, IfOk, IfSome, MatchOption, MatchResult};
-ghost use Rattle.lines.specs.Directory.{byte_count};
-ghost use Rattle.flat_machine.specs.Serial.{Activation};
-ghost use Rattle.job_text.specs.declared.job.Job.{Job};
+ghost use Rattle.serial_audit.specs.Below.{Activation, byte_count, Job};
 ghost use Rattle.serial_audit.specs.declared.auditing.KeptStore.{KeptStore};
 ghost use Rattle.serial_audit.specs.Audit.{AreSound, IsFirstUnsound, IsVerdict, Told, report_told, told_of};
 ghost use Rattle.serial_audit.specs.Index.{IsEntryOf, activation_in};

@@ -1,7 +1,6 @@
 // One committed program run again.
 ghost use Rattle.std.specs.Prelude.{◌≡◌, ◌≢◌, ℕ, List, length, IfOk, IfSome, MatchOption};
-ghost use Rattle.lines.specs.Directory.{byte_count};
-ghost use Rattle.flat_machine.specs.Serial.{before_commit};
+ghost use Rattle.serial_audit.specs.Below.{before_commit, byte_count};
 ghost use Rattle.serial_audit.specs.Audit.{told_of};
 ghost use Rattle.serial_audit.specs.Progress.{Replays};
 

@@ -1,7 +1,6 @@
 // One program run again, with the lines that it touches.
 ghost use Rattle.std.specs.Prelude.{◌≡◌, ◌++◌, length, IfOk, MatchOption};
-ghost use Rattle.lines.specs.Directory.{byte_count};
-ghost use Rattle.flat_machine.specs.Serial.{before_commit};
+ghost use Rattle.serial_audit.specs.Below.{before_commit, byte_count};
 ghost use Rattle.flat_machine.specs.Touched.{touched};
 ghost use Rattle.serial_audit.specs.Trace.{touches, touches_of_step};
 

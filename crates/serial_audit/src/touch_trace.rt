@@ -1,7 +1,5 @@
 ghost use Rattle.std.specs.Prelude.{◌≡◌, ◌-◌, ◌<◌, ◌^◌, List, length, map, take, IfOk, MatchOption};
-ghost use Rattle.std.specs.List.{Contains};
-ghost use Rattle.lines.specs.Directory.{byte_count};
-ghost use Rattle.job_text.specs.declared.job.Job.{Job};
+ghost use Rattle.serial_audit.specs.Below.{byte_count, Contains, Job};
 ghost use Rattle.serial_audit.specs.declared.auditing.KeptStore.{KeptStore};
 ghost use Rattle.serial_audit.specs.Audit.{IsSound, Told, report_told, told_of};
 ghost use Rattle.serial_audit.specs.Progress.{Stands};

@@ -14,8 +14,7 @@ no_line = record { line = 0; bytes = [] }
 
 pub get_or-parted : (bytes : ℕ) (lines all : List ℕ) (i : ℕ) → i < length lines → get_or (parted bytes lines all) i no_line ≡ part_at bytes lines all i
 get_or-parted bytes [] all i lt = absurd (omega (arith, lt))
-get_or-parted bytes (line ∷ lines) all zero lt =
-    let none : bytes * 0 ≡ 0 = omega arith in cc
+get_or-parted bytes (line ∷ lines) all zero lt = let none : bytes * 0 ≡ 0 = omega arith in cc
 get_or-parted bytes (line ∷ lines) all (suc i) lt = grind (arith, nat_tests, get_or-parted bytes lines (drop bytes all) i, drop-drop)
 
 -- each lies below the bound, and above those before it

@@ -1,23 +1,23 @@
 -- The names that most proofs cite, passed on from one place. Declares nothing.
-pub use Rattle.std.proofs.Common.{IsSome, IsTrue, List, [], ap, append-nil, append_assoc, arith, codes, decimal, drop, get_or, inl, inr, length, length-append, map, min, refl, subst, suc, sym, take, zero, ℕ, ⊎_elim, ◌*◌, ◌++◌, ◌+◌, ◌-◌, ◌/◌, ◌<◌, ◌^◌, ◌∙◌, ◌∷◌, ◌≡◌, ◌≢◌, ◌≤◌, ◌⊎◌, Bool, cond, false, nat_le, nat_lt, not, position, true, ◌%◌, ◌&&◌, ◌==◌}
+pub use Rattle.std.proofs.Common.{IsSome, IsTrue, List, [], ap, append-nil, append_assoc, arith, codes, decimal, drop, get_or, inl, inr, length, length-append, map, min, refl, subst, suc, sym, take, zero, ℕ, ⊎_elim, ◌*◌, ◌++◌, ◌+◌, ◌-◌, ◌/◌, ◌<◌, ◌^◌, ◌∙◌, ◌∷◌, ◌≡◌, ◌≢◌, ◌≤◌, ◌⊎◌, Bool, cond, false, nat_le, nat_lt, not, position, true, ◌%◌, ◌&&◌, ◌==◌, add-one}
 pub use Rattle.std.proofs.lemmas.Bool.{cases_lt, lt-ltb}
 pub use Rattle.std.proofs.lemmas.Bool.Decides.{nat_tests, Decides-eqb}
 pub use Rattle.std.proofs.lemmas.Grind.{common_steps, flat_map-append, elements}
-pub use Rattle.std.proofs.lemmas.List.{drop-append-le, drop-drop, drop-map, drop_at, get_or-drop, get_or-map, length-drop, length-map, length-take-le, map-append, take-append-drop, take-append-le, take_all, take_at, take_min, take_more, take_rest}
-pub use Rattle.std.proofs.lemmas.List.Elements.{All-drop, All-from_recursion, All-get_or, All-map, All-more, All-push, recursion_from_All, All-from_get_or}
+pub use Rattle.std.proofs.lemmas.List.{drop-append-le, drop-drop, drop-map, drop_at, get_or-drop, get_or-map, length-drop, length-map, length-take-le, map-append, take-append-drop, take-append-le, take_all, take_at, take_min, take_more, take_rest, take-map, length-replicate}
+pub use Rattle.std.proofs.lemmas.List.Elements.{All-drop, All-from_recursion, All-get_or, All-map, All-more, All-push, recursion_from_All, All-from_get_or, All-replicate}
 pub use Rattle.std.proofs.lemmas.List.Sums.{AllPass-from_list_all, fold-append, sum_by-append}
 pub use Rattle.std.proofs.lemmas.Option.{IfSome_then, get_or_from_slice_get, slice_get-get_or, slice_get-map, slice_get_read}
 pub use Rattle.std.specs.List.{AllByRecursion, prefix_len}
 pub use Rattle.std.specs.Option.{ForSome, option_map}
 pub use Rattle.std.specs.Prelude.{All, Err, IfSome, MatchOption, None, Ok, OnErr, OnOk, Option, Result, Some, if◌then◌else◌, slice_get, slice_index, unwrap_or, fold}
 pub use Rattle.hex.proofs.HexLemmas.{decode_of-encode_lower, length-encode_with}
-pub use Rattle.hex.specs.Hex.{decode_of, encode_lower, lower_digits}
+pub use Rattle.hex.specs.Hex.{decode_of, encode_lower, lower_digits, encode_with}
 pub use Rattle.lines.specs.Directory.{Layout}
 pub use Rattle.lines.specs.FlatStore.{FlatStore}
 pub use Rattle.lines.specs.Lines.{line_count}
 pub use Rattle.lines.specs.Segments.{line_bytes}
 pub use Rattle.lines.specs.declared.line_geometry.PageSize.{PageSize}
-pub use Rattle.outside.proofs.Durable.{told_is}
+pub use Rattle.outside.proofs.Durable.{told_is, leaves_held}
 pub use Rattle.outside.proofs.Prints.{prints_none, prints_on, prints_same, prints_stop, prints_unput}
 pub use Rattle.outside.proofs.Runs.{asks_none, asks_on, elapses-trans, leaves_on}
 pub use Rattle.outside.proofs.Shows.{shows_asks, shows_none, shows_on, shows_puts}
@@ -56,3 +56,7 @@ pub use Rattle.call_status.specs.Statuses.{status_of_open}
 pub use Rattle.call_status.specs.declared.status.Status.{Status}
 pub use Rattle.store.specs.declared.fault.OpenFault.{OpenFault}
 pub use Rattle.store.specs.Faults.{IsStoreOpenFault}
+pub use Rattle.outside.specs.Moments.{Elapses}
+pub use Rattle.store.proofs.ShowLemmas.{shown_stands, shown_store, shows_begun}
+pub use Rattle.std.proofs.Math.ListN.{replicate}
+pub use Rattle.std.proofs.Math.Seq.{take-append-add, take-append_seam}

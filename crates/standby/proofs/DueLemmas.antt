@@ -1,6 +1,5 @@
 -- The records of a text that are due.
-use Rattle.standby.proofs.Common.{◌≡◌, ℕ, ◌-◌, ◌≤◌, List, length, map, take, drop, get_or, sym, subst, ◌∙◌, ap, arith, All, Option, option_map, drop-map, length-map, take_rest, All-drop, All-map, slice_get-map, line_count, Header, most_lines, line_bytes, IsAlike, IsFirstLong, IsLongAt, IsFitting, AreLines, IsPacked, IsShip, ShipLine, content_of, record_of, ShipRecord, nat_tests}
-use Rattle.std.proofs.lemmas.List.{take-map}
+use Rattle.standby.proofs.Common.{◌≡◌, ℕ, ◌-◌, ◌≤◌, List, length, map, take, drop, get_or, sym, subst, ◌∙◌, ap, arith, All, Option, option_map, drop-map, length-map, take_rest, All-drop, All-map, slice_get-map, line_count, Header, most_lines, line_bytes, IsAlike, IsFirstLong, IsLongAt, IsFitting, AreLines, IsPacked, IsShip, ShipLine, content_of, record_of, ShipRecord, nat_tests, take-map}
 use Rattle.std.proofs.Math.ListN.{get_or-map}
 use Rattle.standby.specs.declared.text.Ship.{Ship}
 use Rattle.standby.proofs.BeginLemmas.{length-parted}

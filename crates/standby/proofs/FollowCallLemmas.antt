@@ -1,17 +1,8 @@
 -- A call over an opening that follows a text.
-use Rattle.standby.proofs.Common.{◌≡◌, inl, inr, ℕ, ◌+◌, ◌-◌, ◌^◌, ◌<◌, ◌≤◌, List, [], ◌++◌, length, refl, sym, ◌∙◌, ap, subst, arith, IsSome, IsTrue, ◌⊎◌, Option, Result, unwrap_or, take_all, length-drop, Ghosts, Prints, FewerLater, Leaves, OnlyAsks, held_of, leaves_on, OpenFault, IsStoreOpenFault, KeptStore, number_of, Shows, TracksStore, IsAmong, behind, due, laid_by, Content, ShipLine, later, call, status_of_open, Status}
+use Rattle.standby.proofs.Common.{◌≡◌, inl, inr, ℕ, ◌+◌, ◌-◌, ◌^◌, ◌<◌, ◌≤◌, List, [], ◌++◌, length, refl, sym, ◌∙◌, ap, subst, arith, IsSome, IsTrue, ◌⊎◌, Option, Result, unwrap_or, take_all, length-drop, Ghosts, Prints, FewerLater, Leaves, OnlyAsks, held_of, leaves_on, OpenFault, IsStoreOpenFault, KeptStore, number_of, Shows, TracksStore, IsAmong, behind, due, laid_by, Content, ShipLine, later, call, status_of_open, Status, FlatStore, Header, Elapses, prints_on, prints_same, prints_unput, KeptBank, shown_stands, bank_behind, Follows, IsAtNumber, broken, followed_text, kept_text, well, Followed}
 use Rattle.standby.proofs.PutLemmas.{PrintedNow}
-use Rattle.lines.specs.FlatStore.{FlatStore}
-use Rattle.store_format.specs.Header.{Header}
 use Rattle.store_format.specs.Stands.{Stands, stands}
 use Rattle.store_format.proofs.Sound.{stood_header}
-use Rattle.outside.specs.Moments.{Elapses}
-use Rattle.outside.proofs.Prints.{prints_on, prints_same, prints_unput}
-use Rattle.store.specs.Kept.{KeptBank}
-use Rattle.store.proofs.ShowLemmas.{shown_stands}
-use Rattle.standby.specs.Bank.{bank_behind}
-use Rattle.standby.specs.Followed.{Follows, IsAtNumber, broken, followed_text, kept_text, well}
-use Rattle.standby.specs.declared.following.Followed.{Followed}
 use Rattle.standby.specs.declared.following.Followed.TheVariants.{Done, DiskFault, PutFault}
 use Rattle.standby.proofs.TellLemmas.{told_front}
 use Rattle.call_status.specs.Opening.{IsOfStart, TellsStore}

@@ -1,6 +1,5 @@
 -- Records that are kept and told, one after another.
-use Rattle.standby.proofs.Common.{⊎_elim, ◌≡◌, ℕ, suc, ◌+◌, ◌-◌, ◌<◌, List, [], ◌++◌, length, take, get_or, refl, sym, ◌∙◌, ap, subst, arith, append-nil, IfSome_then, Option, Result, Ok, Err, OnErr, take_all, FlatStore, Stands, stands, Failed, Ghosts, Prints, FewerLater, Leaves, held_of, told_is, prints_none, prints_on, prints_same, prints_stop, leaves_on, KeptStore, Shows, TracksStore, BreaksAt, EndsWith, IsAtNumber, IsStopped, Follows, Keeps, SoFar, broken, followed_text, kept_text, well, Puts, laid_by, Steps, followed_of, put_of, ShipLine, end_line, kept_line, later, next, Followed, Done, DiskFault, PutFault}
-use Rattle.outside.specs.Moments.{Elapses}
+use Rattle.standby.proofs.Common.{⊎_elim, ◌≡◌, ℕ, suc, ◌+◌, ◌-◌, ◌<◌, List, [], ◌++◌, length, take, get_or, refl, sym, ◌∙◌, ap, subst, arith, append-nil, IfSome_then, Option, Result, Ok, Err, OnErr, take_all, FlatStore, Stands, stands, Failed, Ghosts, Prints, FewerLater, Leaves, held_of, told_is, prints_none, prints_on, prints_same, prints_stop, leaves_on, KeptStore, Shows, TracksStore, BreaksAt, EndsWith, IsAtNumber, IsStopped, Follows, Keeps, SoFar, broken, followed_text, kept_text, well, Puts, laid_by, Steps, followed_of, put_of, ShipLine, end_line, kept_line, later, next, Followed, Done, DiskFault, PutFault, Elapses}
 use Rattle.standby.proofs.PutLemmas.{PrintedNow, image_is, sure_puts, told_on}
 use Rattle.standby.proofs.TellLemmas.{at_end, at_some, at_step, kept_front, stood_more}
 

@@ -1,6 +1,5 @@
 -- One line that is put, and what a crash leaves of it.
-use Rattle.std.proofs.lemmas.Bool.Decides.{nat_tests}
-use Rattle.standby.proofs.Common.{◌≡◌, ⊎_elim, ℕ, List, [], ◌++◌, take, sym, ◌∙◌, ap, subst, arith, IsSome, Option, None, Some, IfSome, Result, Ok, Err, IfSome_then, Failed, Ghosts, Prints, AreTold, IsSure, CallsDisk, FewerLater, Leaves, held_of, prints_none, prints_on, told_is, Puts, PrintsBy, SeesPart, Shipped, broken, feeds, put_of, well}
+use Rattle.standby.proofs.Common.{◌≡◌, ⊎_elim, ℕ, List, [], ◌++◌, take, sym, ◌∙◌, ap, subst, arith, IsSome, Option, None, Some, IfSome, Result, Ok, Err, IfSome_then, Failed, Ghosts, Prints, AreTold, IsSure, CallsDisk, FewerLater, Leaves, held_of, prints_none, prints_on, told_is, Puts, PrintsBy, SeesPart, Shipped, broken, feeds, put_of, well, nat_tests}
 use Rattle.standby.proofs.PartLemmas.{feeds_append}
 
 -- a crash leaves the bytes printed

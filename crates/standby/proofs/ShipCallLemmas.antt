@@ -1,12 +1,7 @@
 -- What shipping the records of a store did.
-use Rattle.standby.proofs.Common.{◌≡◌, ◌⊎◌, ◌<◌, ◌≤◌, ℕ, List, [], inl, inr, ⊎_elim, refl, sym, ◌∙◌, ap, subst, Option, IsSome, IsTrue, Result, Ok, Err, unwrap_or, Ghosts, AreTold, FewerLater, OnlyAsks, held_of, AsksAndPuts, OpenFault, KeptStore, number_of, IsStoreOpenFault, IsShown, Shows, TracksStore, behind, IsContent, text_of, leaves_on, call, status_of_open, Status}
+use Rattle.standby.proofs.Common.{◌≡◌, ◌⊎◌, ◌<◌, ◌≤◌, ℕ, List, [], inl, inr, ⊎_elim, refl, sym, ◌∙◌, ap, subst, Option, IsSome, IsTrue, Result, Ok, Err, unwrap_or, Ghosts, AreTold, FewerLater, OnlyAsks, held_of, AsksAndPuts, OpenFault, KeptStore, number_of, IsStoreOpenFault, IsShown, Shows, TracksStore, behind, IsContent, text_of, leaves_on, call, status_of_open, Status, cases_lt, RecordLine, Shipped, leaves_held, shows_asks, shows_on}
 use Rattle.standby.proofs.PutLemmas.{PrintedNow, prints_by, quiet_by, quiet_is}
-use Rattle.std.proofs.lemmas.Bool.{cases_lt}
-use Rattle.store_format.specs.Bank.{RecordLine}
 use Rattle.standby.specs.Shipped.{PrintsBy as PutsBy, ShipsBy, shipped}
-use Rattle.standby.specs.declared.shipping.Shipped.{Shipped}
-use Rattle.outside.proofs.Durable.{leaves_held}
-use Rattle.outside.proofs.Shows.{shows_asks, shows_on}
 use Rattle.standby.proofs.ShowLemmas.{still_shown}
 use Rattle.standby.specs.ShipCalled.{ShippedBy, ShippedFrom}
 use Rattle.store.specs.declared.fault.OpenFault.TheVariants as open_fault

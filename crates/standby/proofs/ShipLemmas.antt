@@ -1,6 +1,5 @@
 -- The records of a bank, as they are shipped.
-use Rattle.standby.proofs.Common.{Some, slice_get, flat_map-append, All-push, get_or_from_slice_get, take_more, get_or-map, length-map, length-take-le, take-append-drop, PageSize, RecordLine, record_bytes, Record, KeptBank, IsCounted, IsRecordAt, area_bytes, Ghosts, held_of, KeptStore, IsShown, ShipLine, later, line_line, lines_text, next, record_text, records_text, told, All, ◌≡◌, ℕ, ◌+◌, ◌<◌, List, [], ◌∷◌, ◌++◌, length, map, take, drop, get_or, refl, sym, ◌∙◌, ap, subst, arith, append_assoc, append-nil}
-use Rattle.std.proofs.Common.{add-one}
+use Rattle.standby.proofs.Common.{Some, slice_get, flat_map-append, All-push, get_or_from_slice_get, take_more, get_or-map, length-map, length-take-le, take-append-drop, PageSize, RecordLine, record_bytes, Record, KeptBank, IsCounted, IsRecordAt, area_bytes, Ghosts, held_of, KeptStore, IsShown, ShipLine, later, line_line, lines_text, next, record_text, records_text, told, All, ◌≡◌, ℕ, ◌+◌, ◌<◌, List, [], ◌∷◌, ◌++◌, length, map, take, drop, get_or, refl, sym, ◌∙◌, ap, subst, arith, append_assoc, append-nil, add-one}
 use Rattle.std.proofs.Math.Seq.{split_at as cut}
 use Rattle.store.specs.Opened.{IsRead}
 use Rattle.standby.proofs.ShowLemmas.{still_shown}

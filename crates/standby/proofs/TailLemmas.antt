@@ -1,8 +1,5 @@
 -- What may stand behind lines that were read, a line at a time.
-use Rattle.standby.proofs.Common.{◌≡◌, ◌≢◌, ◌⊎◌, inl, inr, ℕ, zero, suc, ◌+◌, ◌^◌, ◌<◌, ◌≤◌, List, [], ◌∷◌, ◌++◌, length, codes, decimal, refl, sym, ◌∙◌, ap, subst, append_assoc, append-nil, arith, All, AllByRecursion, All-from_recursion, recursion_from_All, encode_lower, AreWhole, feeds, GoesOn, IsFirstBad, IsRead, Tail, AreLines, Content, ShipLine, end_line, head_line, later, line_line, lines_text, next, record_line, record_text, records_text, text_of, same_number}
-use Rattle.std.proofs.Math.ListN.{replicate}
-use Rattle.std.proofs.lemmas.List.{length-replicate}
-use Rattle.std.proofs.lemmas.List.Elements.{All-replicate}
+use Rattle.standby.proofs.Common.{◌≡◌, ◌≢◌, ◌⊎◌, inl, inr, ℕ, zero, suc, ◌+◌, ◌^◌, ◌<◌, ◌≤◌, List, [], ◌∷◌, ◌++◌, length, codes, decimal, refl, sym, ◌∙◌, ap, subst, append_assoc, append-nil, arith, All, AllByRecursion, All-from_recursion, recursion_from_All, encode_lower, AreWhole, feeds, GoesOn, IsFirstBad, IsRead, Tail, AreLines, Content, ShipLine, end_line, head_line, later, line_line, lines_text, next, record_line, record_text, records_text, text_of, same_number, replicate, length-replicate, All-replicate}
 use Rattle.standby.proofs.PartLemmas.{IsLine, end_is_line, end_parts, feeds_append, head_is_line, head_parts, line_is_line, line_parts, one_feed, record_is_line, record_parts, same_hex}
 
 -- lines that ascend below a bound are no more than lie between

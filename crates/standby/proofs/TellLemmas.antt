@@ -1,7 +1,5 @@
 -- The lines that tell of records, and what a crash leaves of them.
-use Rattle.standby.proofs.Common.{nat_tests, ◌≡◌, inl, inr, ℕ, zero, suc, ◌+◌, ◌-◌, ◌<◌, ◌≤◌, List, [], ◌∷◌, ◌++◌, length, take, get_or, min, Bool, nat_le, refl, if◌then◌else◌, sym, ◌∙◌, ap, arith, append_assoc, append-nil, length-append, IfSome_then, take_more, take-append-le, take_min, fold-append, FlatStore, Stands, stands, Prints, kept_text, followed_text, StandWhole, IsAtNumber, well, SeesPart, laid, laid_by, IsStep, over, ShipLine, next, later, end_line, kept_line, codes, decimal, Option, IfSome}
-use Rattle.std.proofs.lemmas.List.{take_all}
-use Rattle.std.proofs.Math.Seq.{take-append-add, take-append_seam}
+use Rattle.standby.proofs.Common.{nat_tests, ◌≡◌, inl, inr, ℕ, zero, suc, ◌+◌, ◌-◌, ◌<◌, ◌≤◌, List, [], ◌∷◌, ◌++◌, length, take, get_or, min, Bool, nat_le, refl, if◌then◌else◌, sym, ◌∙◌, ap, arith, append_assoc, append-nil, length-append, IfSome_then, take_more, take-append-le, take_min, fold-append, FlatStore, Stands, stands, Prints, kept_text, followed_text, StandWhole, IsAtNumber, well, SeesPart, laid, laid_by, IsStep, over, ShipLine, next, later, end_line, kept_line, codes, decimal, Option, IfSome, take_all, take-append-add, take-append_seam}
 use Rattle.standby.proofs.PutLemmas.{on_printed}
 
 -- a line has bytes
@@ -27,8 +25,7 @@ stand_all number all count many k le = grind (arith, kept_grows number k all)
 
 -- the lines of the first records are in front of all that is told
 pub kept_front : (number i more : ℕ) → (rest : List ℕ) × (kept_text number (i + more) ≡ kept_text number i ++ rest)
-kept_front number i zero =
-    let same : i + 0 ≡ i = omega arith in ([], cc (same, append-nil (kept_text number i)))
+kept_front number i zero = let same : i + 0 ≡ i = omega arith in ([], cc (same, append-nil (kept_text number i)))
 kept_front number i (suc more) =
     let same : i + suc more ≡ suc (i + more) = omega arith in
     let before = kept_front number i more in

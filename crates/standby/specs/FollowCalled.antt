@@ -1,14 +1,7 @@
 -- What following a ship text did.
 use Rattle.std.specs.Prelude.{◌≡◌, ◌≢◌, ◌⊎◌, ℕ, ◌+◌, ◌≤◌, ◌<◌, List, [], length, IsSome}
-use Rattle.outside.specs.declared.world.Outside.{Ghosts}
-use Rattle.outside.specs.Causes.{Rose}
+use Rattle.standby.specs.Below.{Call, call, Elapses, FlatStore, Ghosts, Given, held_of, IsFaultAt, IsOfOpening, IsOfStart, KeptStore, Leaves, number_of, OnlyAsks, PrintsBy, Rose, Shows, Stands, stands, Status, TellsStore}
 use Rattle.outside.specs.Durable.{IsSure}
-use Rattle.outside.specs.Moments.{Elapses}
-use Rattle.outside.specs.Runs.{Leaves, OnlyAsks, held_of}
-use Rattle.lines.specs.FlatStore.{FlatStore}
-use Rattle.store_format.specs.Stands.{Stands, stands}
-use Rattle.store.specs.KeptStore.{KeptStore, number_of}
-use Rattle.store.specs.Shows.{Shows}
 use Rattle.standby.specs.Bank.{bank_behind}
 use Rattle.standby.specs.Followed.{IsAlike, IsAtNumber, StopsAt, followed_text}
 use Rattle.standby.specs.Puts.{CountsPuts}
@@ -16,12 +9,7 @@ use Rattle.standby.specs.Read.{IsFirstBad}
 use Rattle.standby.specs.State.{AllFit, IsAmong, IsTooLong, due, state}
 use Rattle.standby.specs.Text.{Content, ShipLine, IsContent, IsTextOf, later, text_of}
 use Rattle.standby.specs.declared.text.Ship.{Ship}
-use Rattle.call_status.specs.Call.{Call, Given, call}
-use Rattle.call_status.specs.Opening.{IsFaultAt, IsOfStart, TellsStore}
-use Rattle.call_status.specs.Printed.{PrintsBy}
 use Rattle.call_status.specs.SourceText.{HasRead, IsWhole}
-use Rattle.call_status.specs.Statuses.{IsOfOpening}
-use Rattle.call_status.specs.declared.status.Status.{Status}
 use Rattle.call_status.specs.declared.status.Status.TheVariants as status
 
 -- The bytes of the start show a store, and those of the end the same with the bank that commits of these records make, one after another.

@@ -1,19 +1,6 @@
 -- What following a text does.
 use Rattle.std.specs.Prelude.{◌≡◌, ℕ, zero, suc, ◌+◌, ◌<◌, ◌≤◌, ◌↔◌, List, [], ◌++◌, length, take, Option, Result, Ok, Err, IsSome, IfSome}
-use Rattle.lines.specs.FlatStore.{FlatStore}
-use Rattle.lines.specs.Lines.{line_count}
-use Rattle.store_format.specs.Header.{Header}
-use Rattle.lines.specs.Segments.{line_bytes}
-use Rattle.store_format.specs.Stands.{Stands, stands}
-use Rattle.outside.specs.declared.world.Outside.{Ghosts}
-use Rattle.outside.specs.declared.failed.Failed.{Failed}
-use Rattle.outside.specs.Bytes.{Prints}
-use Rattle.outside.specs.Causes.{Rose}
-use Rattle.outside.specs.Moments.{Elapses}
-use Rattle.outside.specs.Runs.{Leaves, held_of}
-use Rattle.store.specs.Held.{HoldsAtLeast, IsMoreBy}
-use Rattle.store.specs.KeptStore.{KeptStore, number_of}
-use Rattle.store.specs.Shows.{TracksStore}
+use Rattle.standby.specs.Below.{Elapses, Failed, FlatStore, Ghosts, Header, held_of, HoldsAtLeast, IsMoreBy, KeptStore, Leaves, line_bytes, line_count, number_of, Prints, Rose, Stands, stands, TracksStore}
 use Rattle.standby.specs.Puts.{CountsPuts}
 use Rattle.standby.specs.State.{laid_by}
 use Rattle.standby.specs.Text.{Content, ShipLine, later, end_line, kept_line}

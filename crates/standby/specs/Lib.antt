@@ -1,3 +1,4 @@
+pub mod Below
 pub mod Text
 pub mod State
 pub mod Puts

@@ -1,10 +1,7 @@
 -- What putting bytes does to an outside.
 use Rattle.std.specs.Prelude.{◌≡◌, ℕ, ◌+◌, List, ◌++◌, take, Option, Result, IfSome, IsSome}
-use Rattle.outside.specs.declared.world.Outside.{Ghosts}
-use Rattle.outside.specs.declared.failed.Failed.{Failed}
-use Rattle.outside.specs.Bytes.{Prints}
-use Rattle.outside.specs.Moments.{IsOnePut, Shows}
-use Rattle.outside.specs.Runs.{OnlyPuts}
+use Rattle.standby.specs.Below.{Failed, Ghosts, IsOnePut, OnlyPuts, Prints}
+use Rattle.outside.specs.Moments.{Shows}
 
 -- where the bytes printed are told, what was seen is these with a first part of more
 abbrev pub SeesPart : (printed : Option (List ℕ)) → (bytes seen : List ℕ) → Type 0

@@ -1,20 +1,11 @@
 -- What shipping the records of a store did.
 use Rattle.std.specs.Prelude.{◌≡◌, ◌≢◌, ◌⊎◌, ◌<◌, ◌≤◌, ℕ, [], IsSome, IsTrue}
-use Rattle.outside.specs.declared.world.Outside.{Ghosts}
-use Rattle.outside.specs.Bytes.{AreTold}
-use Rattle.outside.specs.Runs.{Leaves, OnlyAsks, held_of, AsksAndPuts}
-use Rattle.store.specs.KeptStore.{KeptStore, number_of}
-use Rattle.store.specs.Shows.{Shows}
+use Rattle.standby.specs.Below.{AreTold, AsksAndPuts, Call, Ghosts, held_of, IsFaultAt, IsOfOpening, KeptStore, Leaves, number_of, OnlyAsks, PrintsBy, Shows, Status}
 use Rattle.standby.specs.Puts.{CountsPuts}
 use Rattle.standby.specs.Read.{feeds}
 use Rattle.standby.specs.Shipped.{shipped}
 use Rattle.standby.specs.State.{behind}
 use Rattle.standby.specs.Text.{IsContent, text_of}
-use Rattle.call_status.specs.Call.{Call}
-use Rattle.call_status.specs.Opening.{IsFaultAt}
-use Rattle.call_status.specs.Printed.{PrintsBy}
-use Rattle.call_status.specs.Statuses.{IsOfOpening}
-use Rattle.call_status.specs.declared.status.Status.{Status}
 use Rattle.call_status.specs.declared.status.Status.TheVariants as status
 
 -- The bytes show a store whose bank keeps all records behind the number, and their text was put: all of it, each line by one put, or a first part. At

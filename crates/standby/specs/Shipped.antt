@@ -1,15 +1,6 @@
 -- What shipping records does.
 use Rattle.std.specs.Prelude.{◌≡◌, ◌<◌, ℕ, List, All, length, map, drop, take, slice_get, Some, Result, Ok, Err}
-use Rattle.lines.specs.Lines.{line_count}
-use Rattle.store_format.specs.Bank.{RecordLine}
-use Rattle.lines.specs.Segments.{line_bytes}
-use Rattle.outside.specs.declared.world.Outside.{Ghosts}
-use Rattle.outside.specs.Bytes.{Prints}
-use Rattle.outside.specs.Causes.{Rose}
-use Rattle.outside.specs.Runs.{held_of}
-use Rattle.store.specs.KeptStore.{KeptStore}
-use Rattle.store.specs.Records.{IsRecordAt, area_bytes}
-use Rattle.store.specs.Shows.{IsShown}
+use Rattle.standby.specs.Below.{area_bytes, Ghosts, held_of, IsRecordAt, IsShown, KeptStore, line_bytes, line_count, Prints, RecordLine, Rose}
 use Rattle.standby.specs.Followed.{well, broken}
 use Rattle.standby.specs.Puts.{CountsPuts}
 use Rattle.standby.specs.Read.{feeds}

@@ -1,8 +1,7 @@
 -- The store at each number of a text.
 use Rattle.std.specs.Prelude.{◌≡◌, ℕ, ◌+◌, ◌*◌, ◌-◌, ◌%◌, ◌^◌, ◌<◌, ◌≤◌, List, length, take, drop, fold, slice_get, Some, All}
 use Rattle.lines.specs.Overlay.{overlaid}
-use Rattle.lines.specs.FlatStore.{FlatStore}
-use Rattle.store_format.specs.Header.{Header, most_lines}
+use Rattle.standby.specs.Below.{FlatStore, Header, most_lines}
 use Rattle.standby.specs.Text.{Content, ShipLine, later}
 use Rattle.standby.specs.declared.text.ShipRecord.{ShipRecord}
 

@@ -1,17 +1,6 @@
 -- What keeping one record of a text does.
 use Rattle.std.specs.Prelude.{◌≡◌, ◌⊎◌, ℕ, ◌≤◌, List, length, map, Option, Result, Ok, Err}
-use Rattle.lines.specs.FlatStore.{FlatStore}
-use Rattle.lines.specs.Lines.{line_count}
-use Rattle.store_format.specs.Bank.{RecordLine}
-use Rattle.store_format.specs.Header.{Header, most_lines}
-use Rattle.lines.specs.Segments.{line_bytes}
-use Rattle.store_format.specs.Stands.{Stands, stands}
-use Rattle.outside.specs.declared.world.Outside.{Ghosts}
-use Rattle.outside.specs.declared.failed.Failed.{Failed}
-use Rattle.outside.specs.Bytes.{AreTold, Prints}
-use Rattle.outside.specs.Runs.{Leaves, held_of}
-use Rattle.store.specs.KeptStore.{KeptStore, with_begun}
-use Rattle.store.specs.Shows.{TracksStore}
+use Rattle.standby.specs.Below.{AreTold, Failed, FlatStore, Ghosts, Header, held_of, KeptStore, Leaves, line_bytes, line_count, most_lines, Prints, RecordLine, Stands, stands, TracksStore, with_begun}
 use Rattle.standby.specs.Bank.{bank_begun}
 use Rattle.standby.specs.Followed.{well, broken}
 use Rattle.standby.specs.Puts.{CountsPuts, SeesPart}

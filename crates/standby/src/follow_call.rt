@@ -1,10 +1,6 @@
 // A ship text that a store follows.
 ghost use Rattle.std.specs.Prelude.{◌≡◌, ◌≢◌, [], IsSome, MatchResult, IfErr, OnOk};
-ghost use Rattle.outside.specs.Causes.{Rose};
-ghost use Rattle.outside.specs.Moments.{Elapses};
-ghost use Rattle.outside.specs.Runs.{OnlyAsks};
-ghost use Rattle.call_status.specs.Call.{call, given};
-ghost use Rattle.call_status.specs.Faults.{ReadFaultsBy};
+ghost use Rattle.standby.specs.Below.{call, Elapses, given, OnlyAsks, ReadFaultsBy, Rose};
 ghost use Rattle.standby.specs.Text.{IsShip, content_of};
 ghost use Rattle.standby.specs.FollowCalled.{FollowedFrom, IsNoText, IsOfFollow, IsOfText, IsRefusal, IsShipFrom, OnStore};
 

@@ -1,9 +1,6 @@
 // The records of a ship text, committed to a store one after another.
 ghost use Rattle.std.specs.Prelude.{◌≡◌, ◌≢◌, ◌↔◌, ◌+◌, ◌≤◌, ◌<◌, ◌^◌, ◌⊎◌, ℕ, [], All, length, false, IsTrue, IfSome, IfNone, Err, IfErr, OnOk, OnErr};
-ghost use Rattle.store_format.specs.Header.{total};
-ghost use Rattle.lines.specs.Segments.{line_bytes};
-ghost use Rattle.store.specs.Held.{HoldsAtLeast};
-ghost use Rattle.store.specs.KeptStore.{number_of};
+ghost use Rattle.standby.specs.Below.{HoldsAtLeast, line_bytes, number_of, total};
 ghost use Rattle.standby.specs.Bank.{bank_with, bank_behind};
 ghost use Rattle.standby.specs.Followed.{IsAlike, OfTracked, OnlyGoesOn, EndsBy, IsStopped, Keeps, Follows};
 ghost use Rattle.standby.specs.Puts.{Puts};

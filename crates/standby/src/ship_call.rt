@@ -1,7 +1,6 @@
 // The records of a store behind a number, shipped.
 ghost use Rattle.std.specs.Prelude.{◌≡◌, []};
-ghost use Rattle.call_status.specs.Call.{call};
-ghost use Rattle.call_status.specs.Faults.{FaultsBy};
+ghost use Rattle.standby.specs.Below.{call, FaultsBy};
 ghost use Rattle.standby.specs.ShipCalled.{IsOfShip, ShippedFrom};
 
 use super::shipping::{Shipped, ship};

@@ -1,14 +1,6 @@
 // The records of a bank behind a number, put as a text.
 ghost use Rattle.std.specs.Prelude.{◌≡◌, ◌≢◌, ◌↔◌, ◌+◌, ◌≤◌, ◌<◌, ◌⊎◌, All, length, map, take, Err, IfOk, IfErr, OnOk, OnErr, false};
-ghost use Rattle.lines.specs.Lines.{line_count};
-ghost use Rattle.lines.specs.Segments.{line_bytes};
-ghost use Rattle.store_format.specs.Header.{total};
-ghost use Rattle.store_format.specs.Bank.{record_bytes};
-ghost use Rattle.outside.specs.Causes.{FailsOnlyCounted};
-ghost use Rattle.outside.specs.Runs.{AsksAndPuts, OnlyAsks, held_of};
-ghost use Rattle.store.specs.Held.{HoldsAtLeast};
-ghost use Rattle.store.specs.Records.{IsRecordAt, area_bytes};
-ghost use Rattle.store.specs.Shows.{IsShown};
+ghost use Rattle.standby.specs.Below.{area_bytes, AsksAndPuts, FailsOnlyCounted, held_of, HoldsAtLeast, IsRecordAt, IsShown, line_bytes, line_count, OnlyAsks, record_bytes, total};
 ghost use Rattle.standby.specs.Puts.{Puts};
 ghost use Rattle.standby.specs.Shipped.{EndsBy, HasBytes, IsStopped, OfLineAt, OfRecordsAt, PrintsBy, ShipsBy, shipped, shipped_of};
 ghost use Rattle.standby.specs.State.{behind};

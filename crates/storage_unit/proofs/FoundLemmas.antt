@@ -15,8 +15,7 @@ module _
 
   pub found-answer : (answer : Probe) → answer ≡ answered_at unit.directory.page (is_in_frame (reach_of unit)) (refuses (reach_of unit)) wants (Ok first)
       → answer ≡ answer_in (λ state. state.registers) is_in_frame refuses (reach_of unit) wants
-  found-answer answer told =
-      cc (registers-page (reach_of unit) (unit-sound unit))
+  found-answer answer told = cc (registers-page (reach_of unit) (unit-sound unit))
 
   pub found-bytes : bytes_shown (reach_of unit) (place_of unit.directory first) wants.bytes ≡ bytes_from (byte_at (reach_of unit)) wants.address wants.bytes
   found-bytes = range-shown (reach_of unit) (unit-sound unit) wants.address wants.bytes first (under unit.registers wants.address wants.bytes wants.store first found)

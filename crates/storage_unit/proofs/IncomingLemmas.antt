@@ -21,8 +21,7 @@ emptied-resident pool seen after = none-has (emptied pool).resident (λ page ins
 module _ (unit brought_in : Unit) (page : ℕ) (keep : Option ℕ) (frame : ℕ) (came : Brought (reach_of unit).pool (reach_of brought_in).pool page keep frame) where
   -- what is marked of it stays as it comes
   marks-stay : marks_at (reach_of brought_in).pool page ≡ marks_at (reach_of unit).pool page
-  marks-stay =
-      cc (came.rest, (room-stays (reach_of unit).pool keep (unit-sound unit).seen).1.marked)
+  marks-stay = cc (came.rest, (room-stays (reach_of unit).pool keep (unit-sound unit).seen).1.marked)
 
   -- where each of its lines is marked, the bits say so
   pub all-marked : (bits : ℕ) → bits < 65536 → lines_of_bits bits ≡ marks_at (reach_of brought_in).pool page → marks_at (reach_of unit).pool page ≡ range_with_len 0 16 → bits ≡ 65535
@@ -76,10 +75,8 @@ module _ (unit brought_in : Unit) (page : ℕ) (keep : Option ℕ) (frame : ℕ)
           came = came;
           fits = there;
           long = long;
-          is =
-              cc (laid-anyway page frame pool bytes in_frame all (long ∙ sym (ap page_bytes there.size)) inside kept);
-          resident =
-              grind (arith, nat_tests, laid-bytes pool page, came.rest);
+          is = cc (laid-anyway page frame pool bytes in_frame all (long ∙ sym (ap page_bytes there.size)) inside kept);
+          resident = grind (arith, nat_tests, laid-bytes pool page, came.rest);
         };
       }
 

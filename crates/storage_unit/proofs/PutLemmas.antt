@@ -103,8 +103,7 @@ module _ (d : Layout) (pool : Pool) (seen : IsSeen pool) (marks : AreOfPages poo
             | inl same ↦
                 let here : frame * page_bytes d.page + k % page_bytes d.page ≡ k = ap (λ n. n * page_bytes d.page + k % page_bytes d.page) (sym same) ∙ split in
                 cc (same-frame (k % page_bytes d.page) (rest-below d.page k), spot-there d pool from bytes frame (from / page_bytes d.page) (k % page_bytes d.page) there (rest-below d.page k) (omega (arith, here, below)))
-            | inr apart ↦
-                cc (elsewhere k apart, by_page (page_at pool (k / page_bytes d.page)) refl apart)
+            | inr apart ↦ cc (elsewhere k apart, by_page (page_at pool (k / page_bytes d.page)) refl apart)
           ]
         where
           by_page : (o : Option ℕ) → page_at pool (k / page_bytes d.page) ≡ o → k / page_bytes d.page ≢ frame

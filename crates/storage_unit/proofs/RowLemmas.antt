@@ -63,8 +63,7 @@ store-put f sound address count bytes some long permitted =
       there =
           subst (AreThere f at) (sym long)
           (permitted-bytes f sound (access_to address count true) at permitted found);
-      is =
-          grind (arith, nat_tests, first-byte f sound address count true at found);
+      is = grind (arith, nat_tests, first-byte f sound address count true at found);
     }
 
 -- an attempt leaves the state as it was, or with some bytes put
@@ -292,8 +291,7 @@ module _ (f : Reach) (sound : IsSound f) (p : Program) (windows : HasWindows f p
         printed = sym (ap (λ (x : Plain). length x.out) next) ∙ same.printed;
         few = omega (arith, leaves.few few, ap (λ (x : Plain). length x.out) next);
         open_lines = goes.open_lines;
-        marks = λ line.
-            cc (plan-marks (plan_at plain) whole goes.permitted line, goes.touches);
+        marks = λ line. cc (plan-marks (plan_at plain) whole goes.permitted line, goes.touches);
       }
 
   -- an attempt that gives the row of its plan

@@ -1,11 +1,6 @@
 -- What an access does that is probed and made in one go.
 use Rattle.std.specs.Prelude.{◌≡◌, ℕ, Bool, true, if◌then◌else◌, List}
-use Rattle.flat_machine.specs.Effect.{filled}
-use Rattle.flat_machine.specs.Row.{stored_bytes}
-use Rattle.romp_cpu.specs.Answers.{answer_in, if_permitted}
-use Rattle.romp_cpu.specs.Shown.{bytes_from}
-use Rattle.romp_cpu.specs.declared.storage.Access.{Access}
-use Rattle.romp_cpu.specs.declared.storage.Probe.{Probe}
+use Rattle.storage_unit.specs.Below.{Access, answer_in, bytes_from, filled, if_permitted, Probe, stored_bytes}
 use Rattle.storage_unit.specs.declared.model.Reach.{Reach}
 use Rattle.storage_unit.specs.Reach.{byte_at, is_in_frame, refuses, stored}
 

@@ -1,14 +1,6 @@
 -- One list of bytes for the store, as frames, paging space and committed bytes show it together; and the private bytes.
 use Rattle.std.specs.Prelude.{◌≡◌, ℕ, ◌+◌, ◌*◌, ◌%◌, ◌<◌, if◌then◌else◌, Bool, false, List, map, slice_index, slice_range, Some}
-use Rattle.std.specs.List.{range_with_len}
-use Rattle.std.specs.Option.{option_map_or}
-use Rattle.lines.specs.Directory.{Layout, byte_count}
-use Rattle.lines.specs.Lines.{line_of, page_of}
-use Rattle.lines.specs.Segments.{page_bytes}
-use Rattle.lines.specs.Sets.{has}
-use Rattle.lines.specs.Conflicts.{page_of_line}
-use Rattle.frame_pool.specs.declared.model.Pool.{Pool}
-use Rattle.frame_pool.specs.Pool.{frame_at, marks_at}
+use Rattle.storage_unit.specs.Below.{byte_count, frame_at, has, Layout, line_of, marks_at, option_map_or, page_bytes, page_of, page_of_line, Pool, range_with_len}
 
 -- whether a flat line is marked as written
 abbrev pub is_line_marked : Pool → (line : ℕ) → Bool

@@ -1,19 +1,8 @@
 -- What the table of a unit holds, and what stands under the registers of the seat that is selected.
 use Rattle.std.specs.Prelude.{◌≡◌, ℕ, ◌+◌, ◌/◌, ◌%◌, ◌<◌, nat_lt, if◌then◌else◌, Bool, true, false, List, [], map, replicate, slice_index_or, slice_set, Option, Some, None, option_map}
-use Rattle.std.specs.List.{range_with_len}
-use Rattle.std.specs.Option.{option_map_or}
-use Rattle.lines.specs.declared.line_geometry.PageSize.{PageSize}
+use Rattle.storage_unit.specs.Below.{frame_at, IsOfPage, Key, key_to, Layout, length_of, option_map_or, PageSize, Placed, Pool, private_frames, private_register, range_with_len, Registers}
 use Rattle.lines.specs.declared.line_geometry.PageSize.TheVariants.{Two, Four}
-use Rattle.lines.specs.Directory.{Layout, length_of}
-use Rattle.lines.specs.LineSets.{IsOfPage}
 use Rattle.page_table.specs.declared.segment_regs.SegmentRegister.{SegmentRegister}
-use Rattle.page_table.specs.Registers.{Registers, private_register}
-use Rattle.page_table.specs.declared.key.Key.{Key}
-use Rattle.page_table.specs.Keys.{key_to}
-use Rattle.page_table.specs.Placed.{Placed}
-use Rattle.frame_pool.specs.declared.model.Pool.{Pool}
-use Rattle.frame_pool.specs.Sizes.{private_frames}
-use Rattle.frame_pool.specs.Pool.{frame_at}
 use Rattle.storage_unit.specs.declared.model.Reach.{Reach}
 use Rattle.storage_unit.specs.Places.{private_segment, is_private, key_of_page}
 

@@ -1,10 +1,7 @@
 -- A page that comes in, with the bytes that were read of it.
 use Rattle.std.specs.Prelude.{◌≡◌, ℕ, List, [], length, Option, option_to_list}
-use Rattle.std.specs.List.{range_with_len}
-use Rattle.lines.specs.Segments.{page_bytes}
+use Rattle.storage_unit.specs.Below.{Brought, emptied, marks_at, page_bytes, Pool, range_with_len}
 use Rattle.lines.specs.Resident.{brought}
-use Rattle.frame_pool.specs.declared.model.Pool.{Pool}
-use Rattle.frame_pool.specs.Pool.{Brought, emptied, marks_at}
 use Rattle.storage_unit.specs.declared.model.Reach.{Reach}
 use Rattle.storage_unit.specs.Laws.{Fits, filled}
 

@@ -1,13 +1,6 @@
 -- What the calls of a unit do to its one list of bytes.
 use Rattle.std.specs.Prelude.{◌≡◌, ℕ, ◌+◌, ◌*◌, ◌%◌, ◌<◌, ◌==◌, ◌&&◌, if◌then◌else◌, Bool, true, false, List, length, slice_index, slice_range, Option}
-use Rattle.lines.specs.Sets.{has}
-use Rattle.lines.specs.Conflicts.{page_of_line}
-use Rattle.lines.specs.Directory.{Layout, byte_count, page_count}
-use Rattle.lines.specs.Lines.{line_of}
-use Rattle.lines.specs.Segments.{page_bytes}
-use Rattle.frame_pool.specs.declared.model.Pool.{Pool}
-use Rattle.frame_pool.specs.Pool.{Brought, settled, undone, emptied, laid, with_bytes}
-use Rattle.frame_pool.specs.Seen.{IsSeen}
+use Rattle.storage_unit.specs.Below.{Brought, byte_count, emptied, has, IsSeen, laid, Layout, line_of, page_bytes, page_count, page_of_line, Pool, settled, undone, with_bytes}
 use Rattle.storage_unit.specs.Held.{AreOfPages}
 use Rattle.storage_unit.specs.Bytes.{bytes_over, is_marked, IsClean}
 

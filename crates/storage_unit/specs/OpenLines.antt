@@ -1,22 +1,9 @@
 -- The lines that a unit knows: each may be accessed.
 use Rattle.std.specs.Prelude.{◌≡◌, ℕ, ◌+◌, ◌*◌, ◌%◌, ◌≤◌, ◌<◌, Bool, true, false, List, [], slice_index_or, Some, Ok}
-use Rattle.lines.specs.Directory.{Layout, start_of}
-use Rattle.lines.specs.Lines.{line_of}
-use Rattle.lines.specs.Segments.{page_bytes}
-use Rattle.lines.specs.Conflicts.{page_of_line}
-use Rattle.lines.specs.Sets.{has}
-use Rattle.lines.specs.Access.{lets}
-use Rattle.page_table.specs.Entries.{grant_of}
-use Rattle.page_table.specs.declared.segment_regs.Virtual.{Virtual}
-use Rattle.page_table.specs.Registers.{Registers, located_by}
-use Rattle.page_table.specs.Keys.{key_of}
-use Rattle.page_table.specs.Placed.{Placed, entry_at, look_up}
+use Rattle.storage_unit.specs.Below.{Access, answer_in, entry_at, grant_of, has, key_of, Layout, lets, line_of, located_by, look_up, page_bytes, page_of_line, Placed, Probe, Registers, start_of, Virtual}
 use Rattle.page_table.specs.declared.open_lines.OpenLine.{OpenLine}
 use Rattle.page_table.specs.declared.open_lines.OpenLines.{OpenLines}
 use Rattle.page_table.specs.KnownLines.{known}
-use Rattle.romp_cpu.specs.Answers.{answer_in}
-use Rattle.romp_cpu.specs.declared.storage.Access.{Access}
-use Rattle.romp_cpu.specs.declared.storage.Probe.{Probe}
 use Rattle.storage_unit.specs.declared.model.Reach.{Reach}
 use Rattle.storage_unit.specs.Bytes.{is_marked}
 use Rattle.storage_unit.specs.Held.{table_of}

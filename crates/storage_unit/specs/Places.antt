@@ -1,14 +1,7 @@
 -- Where bytes lie: private storage, the flat place in the store, and the page that the table knows.
 use Rattle.std.specs.Prelude.{ℕ, ◌+◌, ◌-◌, ◌*◌, nat_le, nat_lt, if◌then◌else◌, Bool, List, [], ◌∷◌, Result, Ok, Err}
-use Rattle.lines.specs.declared.line_geometry.PageSize.{PageSize}
-use Rattle.lines.specs.Segments.{page_bytes}
-use Rattle.lines.specs.Directory.{Layout, start_of}
-use Rattle.flat_machine.specs.declared.machine.Located.{Located}
-use Rattle.flat_machine.specs.declared.machine.Located.TheVariants.{Private, Shared, Refused}
+use Rattle.storage_unit.specs.Below.{Key, key_to, Layout, Located, page_bytes, PageSize, Private, Refused, Shared, start_of, Virtual}
 use Rattle.page_table.specs.declared.segment_regs.Check.{Check}
-use Rattle.page_table.specs.declared.segment_regs.Virtual.{Virtual}
-use Rattle.page_table.specs.declared.key.Key.{Key}
-use Rattle.page_table.specs.Keys.{key_to}
 
 -- the private segment of a seat, and whether a segment is a private one
 abbrev pub private_segment : ℕ → ℕ

@@ -1,24 +1,6 @@
 -- The unit as a storage: what it shows, answers and stores.
 use Rattle.std.specs.Prelude.{ℕ, ◌+◌, ◌-◌, ◌*◌, ◌/◌, ◌%◌, ◌==◌, ◌&&◌, nat_le, nat_lt, not, if◌then◌else◌, Bool, true, false, List, map, length, slice_index, slice_index_or, is_some}
-use Rattle.std.specs.List.{range_with_len}
-use Rattle.std.specs.Option.{option_map_or}
-use Rattle.lines.specs.Overlay.{overlaid}
-use Rattle.lines.specs.Directory.{Layout}
-use Rattle.lines.specs.Lines.{line_of}
-use Rattle.lines.specs.Segments.{page_bytes}
-use Rattle.lines.specs.LineSets.{union, lines_where}
-use Rattle.lines.specs.Sets.{has}
-use Rattle.lines.specs.Conflicts.{page_of_line}
-use Rattle.flat_machine.specs.declared.machine.Located.{Located}
-use Rattle.flat_machine.specs.declared.machine.Located.TheVariants.{Private, Shared, Refused}
-use Rattle.flat_machine.specs.Touched.{lines_at}
-use Rattle.page_table.specs.declared.segment_regs.Virtual.{Virtual}
-use Rattle.page_table.specs.Registers.{located_by}
-use Rattle.lines.specs.Access.{lets}
-use Rattle.page_table.specs.Entries.{grant_of}
-use Rattle.page_table.specs.Placed.{unowned}
-use Rattle.frame_pool.specs.declared.model.Pool.{Pool}
-use Rattle.frame_pool.specs.Pool.{frame_at, page_at, marks_at}
+use Rattle.storage_unit.specs.Below.{frame_at, grant_of, has, Layout, lets, line_of, lines_at, lines_where, Located, located_by, marks_at, option_map_or, overlaid, page_at, page_bytes, page_of_line, Pool, Private, range_with_len, Refused, Shared, union, unowned, Virtual}
 use Rattle.storage_unit.specs.declared.model.Reach.{Reach}
 use Rattle.storage_unit.specs.Places.{place_of, place_at}
 use Rattle.storage_unit.specs.Bytes.{byte_shown}

@@ -1,15 +1,7 @@
 -- What holds of the state of every unit, and the bytes that the seat that is selected may reach.
 use Rattle.std.specs.Prelude.{◌≡◌, ℕ, ◌+◌, ◌≤◌, ◌<◌, ◌^◌, not, Bool, true, false, List, map, length, is_some, slice_index_or, Some}
-use Rattle.std.specs.List.{range_with_len}
-use Rattle.lines.specs.Segments.{page_bytes}
-use Rattle.lines.specs.Directory.{length_of, start_of, byte_count, page_count}
-use Rattle.lines.specs.Legal.{IsLegal}
-use Rattle.page_table.specs.Keys.{key_of}
-use Rattle.page_table.specs.Placed.{look_up}
-use Rattle.frame_pool.specs.Seen.{IsSeen}
+use Rattle.storage_unit.specs.Below.{byte_count, IsLegal, IsSeen, key_of, length_of, Located, look_up, page_bytes, page_count, range_with_len, start_of, Virtual}
 use Rattle.storage_unit.specs.Held.{AreOfPages, IsSelected, table_of}
-use Rattle.flat_machine.specs.declared.machine.Located.{Located}
-use Rattle.page_table.specs.declared.segment_regs.Virtual.{Virtual}
 use Rattle.storage_unit.specs.declared.model.Reach.{Reach}
 use Rattle.storage_unit.specs.Places.{private_segment, is_private, offset_of, place_of, on}
 use Rattle.storage_unit.specs.Reach.{byte_of, is_there}

@@ -1,13 +1,9 @@
 -- The rows that a unit knows: each is made ready of the private bytes of who is selected.
 use Rattle.std.specs.Prelude.{◌≡◌, ℕ, ◌+◌, ◌-◌, ◌*◌, ◌≤◌, if◌then◌else◌, List, slice_index, Option, Some}
 use Rattle.byteorder.specs.Endian.{big_number}
-use Rattle.lines.specs.declared.line_geometry.PageSize.{PageSize}
+use Rattle.storage_unit.specs.Below.{bytes_from, IsRowOf, known, PageSize, unless_met, Virtual}
 use Rattle.flat_machine.specs.declared.ready.Ready.{Ready}
-use Rattle.flat_machine.specs.Ready.{IsRowOf}
-use Rattle.page_table.specs.declared.segment_regs.Virtual.{Virtual}
-use Rattle.romp_cpu.specs.Shown.{bytes_from}
 use Rattle.ready_rows.specs.declared.rows.ReadyRows.{ReadyRows}
-use Rattle.ready_rows.specs.Known.{known, unless_met}
 use Rattle.storage_unit.specs.Places.{is_private, offset_of}
 
 -- the private byte at an offset of the seat with this identifier, and the halfword

@@ -1,21 +1,12 @@
 -- An attempt over the unit, beside the row of the plain machine on one list of bytes of the store.
 use Rattle.std.specs.Prelude.{◌≢◌, ◌≡◌, ℕ, ◌+◌, ◌<◌, ◌≤◌, ◌||◌, Bool, true, false, List, [], ◌∷◌, ◌++◌, length}
-use Rattle.lines.specs.Sets.{has}
-use Rattle.lines.specs.Conflicts.{Lines, page_of_line}
-use Rattle.lines.specs.Directory.{byte_count}
+use Rattle.storage_unit.specs.Below.{Access, answer_in, byte_count, Commit, halfword_of, has, Lines, lines_of_access, On, page_of_line, plan, Pool, row, seen_in, touched, Tried, tried}
 use Rattle.flat_machine.specs.declared.machine.Plain.{Plain}
 use Rattle.flat_machine.specs.declared.machine.Program.{Program}
-use Rattle.flat_machine.specs.Row.{On, Commit, Check, plan, row}
-use Rattle.flat_machine.specs.Touched.{touched}
+use Rattle.flat_machine.specs.Row.{Check}
 use Rattle.romp_cpu.specs.declared.cpu.Attempt.{Attempt}
 use Rattle.romp_cpu.specs.declared.cpu.Cpu.{Cpu}
-use Rattle.romp_cpu.specs.declared.storage.Access.{Access}
-use Rattle.romp_cpu.specs.Answers.{answer_in}
-use Rattle.romp_cpu.specs.Attempts.{lines_of_access}
 use Rattle.romp_cpu.specs.Segments.{registers_of_program}
-use Rattle.romp_cpu.specs.Shown.{halfword_of}
-use Rattle.romp_cpu.specs.Tried.{Tried, seen_in, tried}
-use Rattle.frame_pool.specs.declared.model.Pool.{Pool}
 use Rattle.storage_unit.specs.declared.model.Reach.{Reach}
 use Rattle.storage_unit.specs.Places.{private_segment}
 use Rattle.storage_unit.specs.Reach.{seat_of, is_refused, byte_at, is_in_frame, refuses, stored}

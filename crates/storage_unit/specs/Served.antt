@@ -1,7 +1,6 @@
 -- What the calls of a unit leave.
 use Rattle.std.specs.Prelude.{ℕ, ◌+◌, ◌*◌, ◌-◌, ◌==◌, if◌then◌else◌, List, ◌++◌, length, map, replicate, slice_set, true, false, None}
-use Rattle.lines.specs.Directory.{Layout, page_count}
-use Rattle.page_table.specs.Placed.{unowned, cleared_entry}
+use Rattle.storage_unit.specs.Below.{cleared_entry, Layout, page_count, unowned}
 use Rattle.frame_pool.specs.Pool as pool
 use Rattle.storage_unit.specs.declared.model.Reach.{Reach}
 

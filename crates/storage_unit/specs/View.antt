@@ -1,7 +1,6 @@
 -- What a `Unit` is seen as.
 use Rattle.std.specs.Prelude.{List}
-use Rattle.frame_pool.specs.View.{pool_of}
-use Rattle.page_table.specs.declared.tlb_model.Pair.{Pair}
+use Rattle.storage_unit.specs.Below.{Pair, pool_of}
 use Rattle.storage_unit.specs.declared.model.Reach.{Reach}
 use Rattle.storage_unit.specs.declared.unit.Unit.{Unit}
 

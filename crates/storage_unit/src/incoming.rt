@@ -1,10 +1,6 @@
 // A page that comes in from a store that is read elsewhere.
 ghost use Rattle.std.specs.Prelude.{◌≡◌, ◌<◌, ◌⊎◌, ℕ, List, false, length, IsOk, OnOk, OnErr};
-ghost use Rattle.std.specs.List.{range_with_len};
-ghost use Rattle.lines.specs.Directory.{page_count};
-ghost use Rattle.lines.specs.Segments.{page_bytes};
-ghost use Rattle.lines.specs.Sets.{has};
-ghost use Rattle.frame_pool.specs.Pool.{marks_at};
+ghost use Rattle.storage_unit.specs.Below.{has, marks_at, page_bytes, page_count, range_with_len};
 
 use super::unit::Unit;
 

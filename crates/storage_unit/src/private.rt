@@ -1,10 +1,6 @@
 // The private storage of sixteen seats, and which of them is selected.
 ghost use Rattle.std.specs.Prelude.{◌≡◌, ℕ, List, None, ◌+◌, ◌<◌, ◌≤◌, ◌-◌, ◌++◌, false, true, length, slice_index, slice_index_or, replicate};
-ghost use Rattle.lines.specs.Overlay.{overlaid};
-ghost use Rattle.page_table.specs.Keys.{key_to};
-ghost use Rattle.page_table.specs.Placed.{key_in, look_up};
-ghost use Rattle.page_table.specs.declared.tlb_model.Pair.{Pair};
-ghost use Rattle.page_table.specs.Buffer.{IsOfTable};
+ghost use Rattle.storage_unit.specs.Below.{IsOfTable, key_in, key_to, look_up, overlaid, Pair};
 ghost use Rattle.storage_unit.specs.Held.{AreReached, first_keys};
 
 use super::rows::forget_unless;

@@ -1,7 +1,6 @@
 // The rows that are known, and the bytes that were used, where private bytes are stored.
 ghost use Rattle.std.specs.Prelude.{◌≡◌, ℕ, ◌+◌, ◌-◌, ◌≤◌, ◌<◌, ◌^◌, if◌then◌else◌, length, slice_index, false, true, None};
-ghost use Rattle.ready_rows.specs.Known.{known};
-ghost use Rattle.page_table.specs.KnownLines.{KnowsNothing};
+ghost use Rattle.storage_unit.specs.Below.{known, KnowsNothing};
 ghost use Rattle.storage_unit.specs.Places.{is_private, offset_of};
 ghost use Rattle.storage_unit.specs.ReadyRows.{after_store};
 ghost use Rattle.storage_unit.specs.Cleared.{AreUsed};

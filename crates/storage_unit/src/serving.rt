@@ -1,17 +1,9 @@
 // Pages that come in and go out, and entries that are set.
 ghost use Rattle.std.specs.Prelude.{◌≡◌, ℕ, ◌<◌, ◌≤◌, false, length, fold, slice_set, option_and_then};
-ghost use Rattle.std.specs.Option.{option_map_or};
-ghost use Rattle.page_table.specs.Placed.{look_up, without_frame};
-ghost use Rattle.page_table.specs.Buffer.{IsOfTable};
-ghost use Rattle.frame_pool.specs.View.{pool_of};
+ghost use Rattle.storage_unit.specs.Below.{Brought, emptied, frame_at, frame_count, has, IsOfTable, KnowsNothing, laid, look_up, option_map_or, page_count, page_out, pool_of, settled, undone, without_frame};
 ghost use Rattle.storage_unit.specs.Held.{keys_without};
-ghost use Rattle.lines.specs.Directory.{page_count};
-ghost use Rattle.lines.specs.Sets.{has};
-ghost use Rattle.frame_pool.specs.Sizes.{frame_count};
-ghost use Rattle.frame_pool.specs.Pool.{Brought, frame_at, page_out, settled, undone, emptied, laid};
 ghost use Rattle.storage_unit.specs.Places.{key_among};
 ghost use Rattle.storage_unit.specs.Served.{released};
-ghost use Rattle.page_table.specs.KnownLines.{KnowsNothing};
 
 use super::unit::Unit;
 use frame_pool::{FramePool, Slot};

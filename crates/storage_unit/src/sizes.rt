@@ -1,7 +1,6 @@
 // Places, by the size of a page.
 ghost use Rattle.std.specs.Prelude.{◌≡◌, ◌+◌, ◌-◌, ◌*◌, ◌/◌, ◌%◌, ◌<◌, ◌≤◌, ◌^◌, nat_le, true};
-ghost use Rattle.lines.specs.Segments.{page_bytes, line_bytes};
-ghost use Rattle.page_table.specs.Registers.{bytes_on};
+ghost use Rattle.storage_unit.specs.Below.{bytes_on, line_bytes, page_bytes};
 ghost use Rattle.storage_unit.specs.Held.{seat_pages};
 ghost use Rattle.storage_unit.specs.Places.{offset_of};
 

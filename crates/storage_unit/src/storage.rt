@@ -1,21 +1,8 @@
 // The unit as a storage.
 ghost use Rattle.std.specs.Prelude.{◌≡◌, ◌+◌, ◌*◌, ◌-◌, ◌%◌, ◌<◌, ◌≤◌, ◌^◌, ℕ, length, find, not, Ok, Some, true, false, IfOk, IfErr, IfSome};
-ghost use Rattle.std.specs.List.{range_with_len};
-ghost use Rattle.page_table.specs.Registers.{bytes_on, located_by};
-ghost use Rattle.lines.specs.Segments.{page_bytes, line_bytes};
-ghost use Rattle.lines.specs.Directory.{byte_count, start_of};
-ghost use Rattle.lines.specs.Lines.{line_of};
-ghost use Rattle.romp_cpu.specs.Answers.{answer_in, answered_at, answer_of, if_permitted, IsRefusal};
-ghost use Rattle.romp_cpu.specs.Shown.{access_to, bytes_from};
-ghost use Rattle.flat_machine.specs.Ready.{IsRowOf};
+ghost use Rattle.storage_unit.specs.Below.{Access, access_to, answer_in, answer_of, answered_at, at, byte_count, bytes_from, bytes_on, filled, if_permitted, IsOfFewBytes, IsRefusal, IsRowOf, key_of, line_bytes, line_of, located_by, look_up, page_bytes, Probe, range_with_len, start_of, stored_bytes};
 ghost use Rattle.storage_unit.specs.ReadyRows.{private_half};
 ghost use Rattle.flat_machine.specs.Access.{FitsFrom};
-ghost use Rattle.flat_machine.specs.Effect.{filled};
-ghost use Rattle.flat_machine.specs.Row.{stored_bytes};
-ghost use Rattle.romp_cpu.specs.Attempts.{IsOfFewBytes};
-ghost use Rattle.romp_cpu.specs.Tried.{at};
-ghost use Rattle.romp_cpu.specs.declared.storage.Probe.{Probe};
-ghost use Rattle.romp_cpu.specs.declared.storage.Access.{Access};
 ghost use Rattle.storage_unit.specs.Places.{is_private, offset_of, place_of, on};
 ghost use Rattle.storage_unit.specs.Reach.{is_there, is_kept_from, is_in_frame, refuses, is_refused, put_at};
 ghost use Rattle.storage_unit.specs.Rows.{tried_over, GivesRows, ChangesBytes, StaysClean, LeavesSeats};
@@ -23,8 +10,6 @@ ghost use Rattle.storage_unit.specs.Reached.{Lies, AreThere, bytes_shown, is_abs
 ghost use Rattle.storage_unit.specs.Held.{table_of};
 ghost use Rattle.storage_unit.specs.Accesses.{IsRead, IsReadIf, IsWritten, IsWrittenIf};
 ghost use Rattle.storage_unit.specs.OpenLines.{is_marked_at, IsOpenAt, IsOpenFrom};
-ghost use Rattle.page_table.specs.Keys.{key_of};
-ghost use Rattle.page_table.specs.Placed.{look_up};
 
 use super::model::Reach;
 use super::private::PRIVATE;

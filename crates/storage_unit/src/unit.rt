@@ -1,11 +1,6 @@
 // The unit's parts, and that they agree.
 ghost use Rattle.std.specs.Prelude.{◌≡◌, ◌≤◌, length, IfOk};
-ghost use Rattle.lines.specs.Directory.{page_count};
-ghost use Rattle.lines.specs.Legal.{IsLegal};
-ghost use Rattle.frame_pool.specs.View.{pool_of};
-ghost use Rattle.page_table.specs.Keys.{key_of};
-ghost use Rattle.page_table.specs.Placed.{look_up};
-ghost use Rattle.page_table.specs.Buffer.{IsOfTable, found, after_found};
+ghost use Rattle.storage_unit.specs.Below.{after_found, found, IsLegal, IsOfTable, key_of, look_up, page_count, pool_of};
 ghost use Rattle.storage_unit.specs.Held.{keys_of, AreOfPages, IsSelected, table_of};
 ghost use Rattle.storage_unit.specs.PlanCodes.{plan_set};
 ghost use Rattle.storage_unit.specs.ReadyRows.{AreReady};

@@ -1,10 +1,6 @@
 -- Which bytes a checkpoint and a commit write.
 use Rattle.std.specs.Prelude.{◌≡◌, ◌⊎◌, ℕ, ◌+◌, ◌<◌, ◌≤◌, List, length, slice_index, Some}
-use Rattle.lines.specs.Lines.{line_count}
-use Rattle.lines.specs.Segments.{line_bytes}
-use Rattle.store_format.specs.declared.header.Which.{Which}
-use Rattle.store_format.specs.Header.{Header, bank_at, home_at}
-use Rattle.store_format.specs.Bank.{RecordLine}
+use Rattle.store.specs.Below.{bank_at, Header, home_at, line_bytes, line_count, RecordLine, Which}
 use Rattle.store.specs.Kept.{KeptBank, needed_end}
 use Rattle.store.specs.Noted.{newest_place}
 use Rattle.store.specs.Chosen.{other}

@@ -1,10 +1,6 @@
 -- A record that is to be added: what a line of it must be, what the answer says of the disk's count, what is kept then, and what a crash leaves.
 use Rattle.std.specs.Prelude.{◌≡◌, ◌↔◌, ℕ, ◌+◌, ◌≤◌, ◌<◌, List, All, length, take, drop, slice_set, Option, None, Some, IsSome, IfSome}
-use Rattle.std.specs.Option.{option_map}
-use Rattle.store_format.specs.Stands.{stands, one_more}
-use Rattle.outside.specs.declared.world.Outside.{Ghosts}
-use Rattle.outside.specs.Causes.{Rose}
-use Rattle.outside.specs.Runs.{Leaves, held_of}
+use Rattle.store.specs.Below.{Ghosts, held_of, Leaves, one_more, option_map, Rose, stands}
 use Rattle.store.specs.declared.keep.Kept.{Kept}
 use Rattle.store.specs.declared.keep.Kept.TheVariants.{Done, Unwritten, Doubt}
 use Rattle.store.specs.declared.keep.Appended.{Appended}

@@ -1,14 +1,6 @@
 -- The bank that the selector chooses.
 use Rattle.std.specs.Prelude.{◌≡◌, ℕ, List, length, IsSome, None}
-use Rattle.lines.specs.Lines.{line_count}
-use Rattle.store_format.specs.declared.header.Which.{Which}
-use Rattle.store_format.specs.declared.header.Which.TheVariants.{A, B}
-use Rattle.store_format.specs.Header.{Header}
-use Rattle.store_format.specs.Bank.{RecordLine, Faulty, bank_of}
-use Rattle.store_format.specs.Stands.{IsStore, chosen}
-use Rattle.outside.specs.declared.world.Outside.{Ghosts}
-use Rattle.outside.specs.Causes.{Rose}
-use Rattle.outside.specs.Runs.{held_of}
+use Rattle.store.specs.Below.{A, B, bank_of, chosen, Faulty, Ghosts, Header, held_of, IsStore, line_count, RecordLine, Rose, Which}
 use Rattle.store.specs.declared.fault.OpenFault.{OpenFault}
 use Rattle.store.specs.declared.fault.OpenFault.TheVariants as opening
 use Rattle.store.specs.declared.fault.ReopenFault.{ReopenFault}

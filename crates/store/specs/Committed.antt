@@ -1,9 +1,6 @@
 -- What a commit leaves, which makes its own room.
 use Rattle.std.specs.Prelude.{◌≡◌, ◌⊎◌, ℕ, ◌+◌, ◌%◌, ◌^◌, nat_lt, if◌then◌else◌, List, []}
-use Rattle.store_format.specs.Header.{Header}
-use Rattle.store_format.specs.Bank.{RecordLine}
-use Rattle.outside.specs.declared.world.Outside.{Ghosts}
-use Rattle.outside.specs.Runs.{Leaves, held_of}
+use Rattle.store.specs.Below.{Ghosts, Header, held_of, Leaves, RecordLine}
 use Rattle.store.specs.declared.keep.Kept.{Kept}
 use Rattle.store.specs.declared.keep.Kept.TheVariants.{Done, Unwritten, Doubt}
 use Rattle.store.specs.Appended.{CountsKept, FailedLeaves}

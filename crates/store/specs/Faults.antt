@@ -1,11 +1,6 @@
 -- Why a store isn't opened, or opened again.
 use Rattle.std.specs.Prelude.{◌≡◌, IsSome}
-use Rattle.store_format.specs.Header.{Header}
-use Rattle.store_format.specs.Bank.{Faulty, bank_of}
-use Rattle.store_format.specs.Stands.{stands, chosen, NotAStore, Damaged}
-use Rattle.outside.specs.declared.world.Outside.{Ghosts}
-use Rattle.outside.specs.Causes.{Rose}
-use Rattle.outside.specs.Runs.{held_of}
+use Rattle.store.specs.Below.{bank_of, chosen, Damaged, Faulty, Ghosts, Header, held_of, NotAStore, Rose, stands}
 use Rattle.store.specs.declared.fault.OpenFault.{OpenFault}
 use Rattle.store.specs.declared.fault.OpenFault.TheVariants as opening
 use Rattle.store.specs.declared.fault.ReopenFault.{ReopenFault}

@@ -1,8 +1,6 @@
 -- A body behind a gate.
 use Rattle.std.specs.Prelude.{◌≡◌, ℕ, ◌+◌, ◌==◌, Bool, true, false, List, length, take, drop, slice_index}
-use Rattle.outside.specs.declared.world.Outside.{Ghosts}
-use Rattle.outside.specs.Runs.{held_of}
-use Rattle.outside.specs.Durable.{IsSure}
+use Rattle.store.specs.Below.{Ghosts, held_of, IsSure}
 
 -- whether the gate at an offset is open
 abbrev pub is_open : ℕ → List ℕ → Bool

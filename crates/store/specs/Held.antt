@@ -1,12 +1,6 @@
 -- What calls of a disk that may write keep.
 use Rattle.std.specs.Prelude.{◌≡◌, ℕ, ◌+◌, ◌≤◌, List, length, Option, Some, IsSome, IsTrue, Result}
-use Rattle.std.specs.Option.{ForSome}
-use Rattle.outside.specs.declared.world.Outside.{Ghosts}
-use Rattle.outside.specs.declared.failed.Failed.{Failed}
-use Rattle.outside.specs.Bytes.{Torn, Writes, CountsWrite}
-use Rattle.outside.specs.Causes.{FailsOnlyCounted}
-use Rattle.outside.specs.Moments.{LeavesStep}
-use Rattle.outside.specs.Runs.{CallsDisk}
+use Rattle.store.specs.Below.{CallsDisk, CountsWrite, Failed, FailsOnlyCounted, ForSome, Ghosts, LeavesStep, Torn, Writes}
 
 -- where the bytes are told, at least so many are held
 abbrev pub HoldsAtLeast : {W : Type 0} → Ghosts W → ℕ → W → Type 0

@@ -1,11 +1,6 @@
 -- Home lines, and the newest bytes of lines that are written there.
 use Rattle.std.specs.Prelude.{◌≡◌, ℕ, ◌+◌, ◌*◌, ◌<◌, List, length, take, Option, None, Some}
-use Rattle.lines.specs.Lines.{line_count}
-use Rattle.store_format.specs.declared.header.Which.TheVariants.{B}
-use Rattle.lines.specs.Segments.{line_bytes}
-use Rattle.store_format.specs.Header.{Header, home_at}
-use Rattle.store_format.specs.Bank.{RecordLine}
-use Rattle.outside.specs.Bytes.{bytes_at, written, Torn}
+use Rattle.store.specs.Below.{B, bytes_at, Header, home_at, line_bytes, line_count, RecordLine, Torn, written}
 use Rattle.store.specs.Kept.{KeptBank, end_of, line_bytes_of}
 use Rattle.store.specs.Noted.{newest_place}
 use Rattle.store.specs.Apart.{IsSameBut, IsHomeOffset}

@@ -1,8 +1,6 @@
 -- The fields of a bank, and what is kept of them.
 use Rattle.std.specs.Prelude.{◌≡◌, ℕ, ◌+◌, ◌*◌, ◌<◌, ◌≤◌, ◌^◌, List, length, drop, None, unwrap_or}
-use Rattle.std.specs.Option.{option_map}
-use Rattle.store_format.specs.Header.{entry_bytes}
-use Rattle.store_format.specs.Bank.{RecordLine, lines_from, wrong_line}
+use Rattle.store.specs.Below.{entry_bytes, lines_from, option_map, RecordLine, wrong_line}
 use Rattle.store.specs.declared.redo_journal.Bank.TheInside.{Inside}
 use Rattle.store.specs.Kept.{KeptBank, end_of}
 use Rattle.store.specs.Noted.{AreWithin}

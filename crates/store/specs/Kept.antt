@@ -1,11 +1,6 @@
 -- A bank as it is kept.
 use Rattle.std.specs.Prelude.{◌≡◌, ℕ, ◌+◌, ◌*◌, ◌%◌, ◌^◌, Bool, true, List, [], ◌∷◌, ◌++◌, length, Option, None, Some, unwrap_or}
-use Rattle.store_format.specs.declared.header.Which.{Which}
-use Rattle.store_format.specs.declared.header.Which.TheVariants.{A, B}
-use Rattle.lines.specs.declared.line_geometry.PageSize.{PageSize}
-use Rattle.lines.specs.Segments.{line_bytes}
-use Rattle.store_format.specs.Header.{entry_bytes}
-use Rattle.store_format.specs.Bank.{RecordLine}
+use Rattle.store.specs.Below.{A, B, entry_bytes, line_bytes, PageSize, RecordLine, Which}
 use Rattle.store.specs.Noted.{noted}
 
 -- Which bank it is, the size of the store's pages, the bytes of its record area, its base number, how many records it has, where its closed gate is,

@@ -1,8 +1,6 @@
 -- A store as it is kept in memory: its header, and the chosen bank.
 use Rattle.std.specs.Prelude.{◌≡◌, ℕ, List, Some, length}
-use Rattle.lines.specs.Lines.{line_count}
-use Rattle.store_format.specs.Header.{Header}
-use Rattle.store_format.specs.Bank.{RecordLine}
+use Rattle.store.specs.Below.{Header, line_count, RecordLine}
 use Rattle.store.specs.Kept.{KeptBank}
 use Rattle.store.specs.Kept as bank
 

@@ -1,3 +1,4 @@
+pub mod Below
 pub mod Held
 pub mod Gate
 pub mod Noted

@@ -1,12 +1,6 @@
 -- What a checkpoint leaves.
 use Rattle.std.specs.Prelude.{◌≡◌, ◌⊎◌, ℕ, List, [], take, Result, Ok, Err}
-use Rattle.store_format.specs.Header.{Header, header_of}
-use Rattle.store_format.specs.Bank.{RecordLine, area_at}
-use Rattle.store_format.specs.Stands.{IsStore, stands}
-use Rattle.outside.specs.declared.failed.Failed.{Failed}
-use Rattle.outside.specs.declared.world.Outside.{Ghosts}
-use Rattle.outside.specs.Durable.{IsSure}
-use Rattle.outside.specs.Runs.{Leaves, held_of}
+use Rattle.store.specs.Below.{area_at, Failed, Ghosts, Header, header_of, held_of, IsStore, IsSure, Leaves, RecordLine, stands}
 use Rattle.store.specs.Kept.{KeptBank, number_of, spoilt}
 use Rattle.store.specs.Tracks.{TracksBank, HoldsRecords}
 use Rattle.store.specs.Turned.{turned}

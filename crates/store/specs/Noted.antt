@@ -1,10 +1,6 @@
 -- The newest place of each line.
 use Rattle.std.specs.Prelude.{◌≡◌, ◌≢◌, ℕ, ◌+◌, ◌<◌, ◌≤◌, ◌==◌, if◌then◌else◌, List, [], ◌∷◌, fold, length, slice_index_or, Option, Some, None, All, IfSome}
-use Rattle.std.specs.Option.{option_or}
-use Rattle.lines.specs.Overlay.{overlaid}
-use Rattle.lines.specs.declared.line_geometry.PageSize.{PageSize}
-use Rattle.lines.specs.Segments.{line_bytes}
-use Rattle.store_format.specs.Bank.{RecordLine}
+use Rattle.store.specs.Below.{line_bytes, option_or, overlaid, PageSize, RecordLine}
 
 -- where a record has the bytes of a line
 abbrev pub place_in : ℕ → List RecordLine → Option ℕ

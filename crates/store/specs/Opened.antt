@@ -1,13 +1,6 @@
 -- What a bank is that was read from the disk.
 use Rattle.std.specs.Prelude.{◌≡◌, ◌↔◌, ◌<◌, ℕ, List, length, slice_get, Some, None, IsSome}
-use Rattle.lines.specs.Lines.{line_count}
-use Rattle.lines.specs.declared.line_geometry.PageSize.{PageSize}
-use Rattle.store_format.specs.declared.header.Which.{Which}
-use Rattle.store_format.specs.Header.{Header, number_at}
-use Rattle.store_format.specs.Bank.{Bank, RecordLine, Holds, Faulty, bank_held, bank_of}
-use Rattle.outside.specs.declared.world.Outside.{Ghosts}
-use Rattle.outside.specs.Causes.{Rose}
-use Rattle.outside.specs.Runs.{held_of}
+use Rattle.store.specs.Below.{Bank, bank_held, bank_of, Faulty, Ghosts, Header, held_of, Holds, line_count, number_at, PageSize, RecordLine, Rose, Which}
 use Rattle.store.specs.declared.fault.OpenFault.{OpenFault}
 use Rattle.store.specs.declared.fault.OpenFault.TheVariants as opening
 use Rattle.store.specs.declared.fault.ReopenFault.{ReopenFault}

@@ -1,7 +1,6 @@
 -- A page with the newest bytes of a line over it.
 use Rattle.std.specs.Prelude.{ℕ, List, Option, None, Some}
-use Rattle.lines.specs.Overlay.{overlaid}
-use Rattle.outside.specs.Bytes.{bytes_at}
+use Rattle.store.specs.Below.{bytes_at, overlaid}
 
 -- the page with so many bytes at the line's newest place over a part of it, where there is such a place
 abbrev pub newest_over : ℕ → List ℕ → Option ℕ → List ℕ → ℕ → List ℕ

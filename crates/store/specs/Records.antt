@@ -1,13 +1,6 @@
 -- Where the records of a bank lie in its area, and what is read of one.
 use Rattle.std.specs.Prelude.{◌≡◌, ◌⊎◌, ℕ, ◌+◌, ◌<◌, List, [], ◌∷◌, ◌++◌, length, take, drop, slice_get, Some, IsSome, Result, IfOk}
-use Rattle.byteorder.specs.Endian.{big_number}
-use Rattle.lines.specs.Segments.{line_bytes}
-use Rattle.lines.specs.declared.line_geometry.PageSize.{PageSize}
-use Rattle.store_format.specs.Bank.{RecordLine, record_bytes}
-use Rattle.outside.specs.declared.failed.Failed.{Failed}
-use Rattle.outside.specs.declared.world.Outside.{Ghosts}
-use Rattle.outside.specs.Causes.{FailsOnlyCounted}
-use Rattle.outside.specs.Runs.{OnlyAsks, held_of}
+use Rattle.store.specs.Below.{big_number, Failed, FailsOnlyCounted, Ghosts, held_of, line_bytes, OnlyAsks, PageSize, record_bytes, RecordLine}
 use Rattle.store.specs.declared.find.Record.{Record}
 use Rattle.store.specs.Kept.{KeptBank}
 use Rattle.store.specs.Opened.{IsRead}

@@ -1,14 +1,7 @@
 -- What a store that is kept says of the bytes on the disk.
 use Rattle.std.specs.Prelude.{◌≡◌, ℕ, ◌*◌, List, [], take, drop, IsSome}
 use Rattle.lines.specs.FlatStore.{FlatStore}
-use Rattle.store_format.specs.declared.header.Which.{Which}
-use Rattle.lines.specs.Segments.{page_bytes}
-use Rattle.store_format.specs.Header.{Header}
-use Rattle.store_format.specs.Bank.{RecordLine}
-use Rattle.store_format.specs.Stands.{Standing, IsStore, Stands, NotAStore, Damaged, HasHeader, chosen, stands, one_more}
-use Rattle.outside.specs.declared.world.Outside.{Ghosts}
-use Rattle.outside.specs.Runs.{Leaves, held_of}
-use Rattle.outside.specs.Durable.{IsSure}
+use Rattle.store.specs.Below.{chosen, Damaged, Ghosts, HasHeader, Header, held_of, IsStore, IsSure, Leaves, NotAStore, one_more, page_bytes, RecordLine, Standing, Stands, stands, Which}
 use Rattle.store.specs.Kept.{begun_of}
 use Rattle.store.specs.Opened.{IsRead}
 use Rattle.store.specs.Tracks.{HoldsRecords}

@@ -1,13 +1,6 @@
 -- What a bank that is kept says of the bytes on the disk.
 use Rattle.std.specs.Prelude.{◌≡◌, ◌⊎◌, ℕ, List, [], ◌∷◌, ◌++◌, length, take}
-use Rattle.store_format.specs.declared.header.Which.{Which}
-use Rattle.lines.specs.Lines.{line_count}
-use Rattle.store_format.specs.Header.{Header, header_of}
-use Rattle.store_format.specs.Bank.{RecordLine}
-use Rattle.store_format.specs.Stands.{IsStore, stands, one_more}
-use Rattle.outside.specs.declared.world.Outside.{Ghosts}
-use Rattle.outside.specs.Runs.{held_of}
-use Rattle.outside.specs.Durable.{IsSure}
+use Rattle.store.specs.Below.{Ghosts, Header, header_of, held_of, IsStore, IsSure, line_count, one_more, RecordLine, stands, Which}
 use Rattle.store.specs.Kept.{KeptBank, begun_of}
 use Rattle.store.specs.Noted.{AreNewest}
 

@@ -1,11 +1,6 @@
 -- A bank that is turned to: the other one, without records.
 use Rattle.std.specs.Prelude.{ℕ, ◌+◌, List, [], ◌∷◌, ◌++◌, length, replicate, None}
-use Rattle.std.specs.Option.{option_map}
-use Rattle.byteorder.specs.Endian.{big_bytes}
-use Rattle.store_format.specs.declared.header.Which.{Which}
-use Rattle.lines.specs.declared.line_geometry.PageSize.{PageSize}
-use Rattle.store_format.specs.Header.{entry_bytes}
-use Rattle.store_format.specs.Bank.{RecordLine}
+use Rattle.store.specs.Below.{big_bytes, entry_bytes, option_map, PageSize, RecordLine, Which}
 use Rattle.store.specs.Kept.{KeptBank, place_of, number_of}
 
 -- these lines one behind another, from an offset on

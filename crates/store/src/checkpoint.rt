@@ -1,8 +1,5 @@
 ghost use Rattle.std.specs.Prelude.{◌≡◌, ◌≢◌, ◌+◌, ◌≤◌, ◌<◌, [], length, slice_get, Some, None, IsSome, IfSome, IfOk, IfErr, OnOk, is_err, false};
-ghost use Rattle.lines.specs.Segments.{line_bytes};
-ghost use Rattle.store_format.specs.Header.{total};
-ghost use Rattle.outside.specs.Causes.{FailsOnlyCounted};
-ghost use Rattle.outside.specs.Runs.{OnlyAsks, Leaves, held_of};
+ghost use Rattle.store.specs.Below.{FailsOnlyCounted, held_of, Leaves, line_bytes, OnlyAsks, total};
 ghost use Rattle.store.specs.Kept.{KeptBank, area_end, needed_end, number_of, with_line, spoilt, line_bytes_of, SameShape};
 ghost use Rattle.store.specs.Held.{HoldsAtLeast, OnlyWrites};
 ghost use Rattle.store.specs.Tracks.{TracksBank};

@@ -1,9 +1,6 @@
 // A record of a bank, found by its place in the area.
 ghost use Rattle.std.specs.Prelude.{◌≡◌, ◌+◌, ◌*◌, ◌≤◌, ◌<◌, ◌^◌, ◌∷◌, [], length, drop, slice_get, Some, IsSome, IfOk};
-ghost use Rattle.store_format.specs.Header.{number_at, entry_bytes};
-ghost use Rattle.lines.specs.Segments.{line_bytes};
-ghost use Rattle.outside.specs.Causes.{FailsOnlyCounted};
-ghost use Rattle.outside.specs.Runs.{OnlyAsks, held_of};
+ghost use Rattle.store.specs.Below.{entry_bytes, FailsOnlyCounted, held_of, line_bytes, number_at, OnlyAsks};
 ghost use Rattle.store.specs.Held.{HoldsAtLeast};
 ghost use Rattle.store.specs.Records.{IsFound, IsLine};
 

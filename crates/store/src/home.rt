@@ -1,10 +1,7 @@
 // The newest bytes of the lines that a bank holds, written home.
 ghost use Rattle.std.specs.Prelude.{◌≡◌, ◌+◌, ◌<◌, ◌≤◌, length, slice_index_or, Some, None, IsTrue, IsSome, OnOk};
 ghost use Rattle.store_format.specs.declared.header.Which.TheVariants as which;
-ghost use Rattle.outside.specs.Bytes.{Torn, written, bytes_at};
-ghost use Rattle.outside.specs.Causes.{FailsOnlyCounted};
-ghost use Rattle.outside.specs.Moments.{LeavesStep};
-ghost use Rattle.outside.specs.Runs.{Leaves, held_of};
+ghost use Rattle.store.specs.Below.{bytes_at, FailsOnlyCounted, held_of, Leaves, LeavesStep, Torn, written};
 ghost use Rattle.store.specs.Held.{HoldsAtLeast, OnlyWrites};
 ghost use Rattle.store.specs.Kept.{line_bytes_of};
 ghost use Rattle.store.specs.Tracks.{TracksBank};

@@ -1,10 +1,6 @@
 // A body that is kept behind a gate.
 ghost use Rattle.std.specs.Prelude.{◌≡◌, ◌+◌, ◌≤◌, ◌<◌, ◌^◌, length, false, None, Some, OnOk};
-ghost use Rattle.std.specs.Option.{option_map};
-ghost use Rattle.outside.specs.Causes.{FailsOnlyCounted};
-ghost use Rattle.outside.specs.Runs.{Leaves, held_of};
-ghost use Rattle.outside.specs.Bytes.{Torn};
-ghost use Rattle.outside.specs.Durable.{IsSure, IsWritten};
+ghost use Rattle.store.specs.Below.{FailsOnlyCounted, held_of, IsSure, IsWritten, Leaves, option_map, Torn};
 ghost use Rattle.store.specs.Appended.{CountsKept, kept_in};
 ghost use Rattle.store.specs.Held.{HoldsAtLeast, OnlyWrites, WritesOnce};
 ghost use Rattle.store.specs.Gate.{is_open, HasBody, IsShut, IsSafe, IsKept};

@@ -1,9 +1,6 @@
 // Pages of the committed store: home lines, with the newest lines of the bank over them.
 ghost use Rattle.std.specs.Prelude.{◌≡◌, ◌+◌, ◌≤◌, ◌<◌, length, slice_index_or, None, IsSome, IfSome, OnOk};
-ghost use Rattle.lines.specs.Overlay.{overlaid};
-ghost use Rattle.outside.specs.Bytes.{bytes_at};
-ghost use Rattle.outside.specs.Causes.{FailsOnlyCounted};
-ghost use Rattle.outside.specs.Runs.{OnlyAsks, held_of};
+ghost use Rattle.store.specs.Below.{bytes_at, FailsOnlyCounted, held_of, OnlyAsks, overlaid};
 ghost use Rattle.store.specs.Held.{HoldsAtLeast};
 ghost use Rattle.store.specs.Kept.{area_end, line_bytes_of};
 ghost use Rattle.store.specs.Page.{newest_over};

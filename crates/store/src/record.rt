@@ -1,8 +1,6 @@
 // The bytes of a record.
 ghost use Rattle.std.specs.Prelude.{◌≡◌, ℕ, ◌+◌, ◌*◌, ◌++◌, ◌≤◌, ◌<◌, ◌^◌, length, take, drop, replicate, slice_index, None};
-ghost use Rattle.byteorder.specs.Endian.{big_bytes};
-ghost use Rattle.store_format.specs.Header.{number_at, entry_bytes};
-ghost use Rattle.store_format.specs.Bank.{lines_from, wrong_line};
+ghost use Rattle.store.specs.Below.{big_bytes, entry_bytes, lines_from, number_at, wrong_line};
 ghost use Rattle.store.specs.Noted.{noted, AreWithin};
 ghost use Rattle.store.specs.Turned.{head_bytes};
 

@@ -1,8 +1,6 @@
 ghost use Rattle.std.specs.Prelude.{◌≡◌, ◌≢◌, ◌↔◌, ◌+◌, ◌*◌, ◌%◌, ◌≤◌, ◌<◌, ◌^◌, [], All, length, take, slice_set, slice_get, slice_range, is_some, Some, None, IsNone, IsSome, IfSome, IfOk, IfErr, OnOk, is_err, false};
 ghost use Rattle.std.specs.List.{list_any};
-ghost use Rattle.store_format.specs.Header.{total, HasRanges};
-ghost use Rattle.store_format.specs.Bank.{record_bytes};
-ghost use Rattle.outside.specs.Runs.{OnlyAsks, held_of};
+ghost use Rattle.store.specs.Below.{HasRanges, held_of, OnlyAsks, record_bytes, total};
 ghost use Rattle.store.specs.Kept.{KeptBank, place_of, end_of, area_end, number_of, begun_of, needed_end, with_line, spoilt, line_bytes_of, record_bytes_of, SameShape};
 ghost use Rattle.store.specs.Appended.{Appends, TakesLine};
 ghost use Rattle.store.specs.Turned.{turned, head_bytes};

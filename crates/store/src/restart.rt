@@ -1,15 +1,9 @@
 ghost use Rattle.std.specs.Prelude.{◌≡◌, ◌≢◌, ◌+◌, ◌*◌, ◌%◌, ◌^◌, ◌≤◌, ◌<◌, [], All, length, Some, None, IsTrue, IsSome, IfOk, IfErr, OnOk, is_err, false};
 ghost use Rattle.lines.specs.Directory.{page_count};
-ghost use Rattle.lines.specs.Segments.{page_bytes, line_bytes};
-ghost use Rattle.lines.specs.Lines.{line_count};
-ghost use Rattle.store_format.specs.Header.{total};
-ghost use Rattle.store_format.specs.Stands.{stands, HasHeader};
-ghost use Rattle.outside.specs.Causes.{FailsOnlyCounted};
-ghost use Rattle.outside.specs.Runs.{OnlyAsks, Leaves, held_of};
+ghost use Rattle.store.specs.Below.{FailsOnlyCounted, HasHeader, held_of, Leaves, line_bytes, line_count, OnlyAsks, page_bytes, record_bytes, stands, total};
 ghost use Rattle.store.specs.Appended.{CountsKept, FailedLeaves};
 ghost use Rattle.store.specs.Held.{HoldsAtLeast, IsMoreBy, OnlyWrites};
 ghost use Rattle.store.specs.Kept.{KeptBank, area_end, begun_of, needed_end, with_line};
-ghost use Rattle.store_format.specs.Bank.{record_bytes};
 ghost use Rattle.store.specs.Records.{ReadsRecord, ReadsLine};
 ghost use Rattle.store.specs.Tracks.{IsEither};
 ghost use Rattle.store.specs.KeptStore.{KeptStore, number_of};

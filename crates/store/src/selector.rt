@@ -1,10 +1,6 @@
 // The byte that chooses a bank.
 ghost use Rattle.std.specs.Prelude.{◌≡◌, ◌∷◌, [], IsSome, IfOk, OnOk};
-ghost use Rattle.store_format.specs.Stands.{chosen};
-ghost use Rattle.outside.specs.Bytes.{Torn};
-ghost use Rattle.outside.specs.Causes.{FailsOnlyCounted};
-ghost use Rattle.outside.specs.Durable.{IsSure, IsWritten};
-ghost use Rattle.outside.specs.Runs.{OnlyAsks, Leaves, held_of};
+ghost use Rattle.store.specs.Below.{chosen, FailsOnlyCounted, held_of, IsSure, IsWritten, Leaves, OnlyAsks, Torn};
 ghost use Rattle.store.specs.Held.{HoldsAtLeast, OnlyWrites};
 ghost use Rattle.store.specs.Chosen.{other, selector_of};
 

@@ -1,10 +1,6 @@
 // How an opening begins: the disk is synced, and the header is read.
 ghost use Rattle.std.specs.Prelude.{◌≡◌, ◌≢◌, IsTrue, IsSome, IfOk, IfErr, OnOk};
-ghost use Rattle.store_format.specs.Header.{total};
-ghost use Rattle.store_format.specs.Stands.{HasHeader};
-ghost use Rattle.outside.specs.Causes.{FailsOnlyCounted};
-ghost use Rattle.outside.specs.Durable.{IsSure};
-ghost use Rattle.outside.specs.Runs.{OnlyAsks, held_of};
+ghost use Rattle.store.specs.Below.{FailsOnlyCounted, HasHeader, held_of, IsSure, OnlyAsks, total};
 ghost use Rattle.store.specs.Held.{HoldsAtLeast};
 ghost use Rattle.store.specs.Faults.{IsStartFault};
 

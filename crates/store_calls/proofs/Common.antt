@@ -38,7 +38,7 @@ pub use Rattle.store_calls.specs.Show.{AreRead, HasRange, HasRead, IsInside, Put
 pub use Rattle.store_calls.specs.declared.show.Range.{Range}
 pub use Rattle.outside.proofs.Durable.{leaves_held, told_some}
 pub use Rattle.outside.proofs.Prints.{prints_broken, prints_none, prints_on, prints_same, prints_stop, prints_unput}
-pub use Rattle.std.specs.List.{flat_map}
+pub use Rattle.std.specs.List.{flat_map, starts_with}
 pub use Rattle.call_status.proofs.TextLemmas.{read_whole, text_fails}
 pub use Rattle.call_status.specs.Opening.{IsFaultAt, IsStanding}
 pub use Rattle.call_status.specs.SourceText.{IsWholeBundle}
@@ -55,3 +55,5 @@ pub use Rattle.serial_audit.specs.declared.touch.Touch.{Touch}
 pub use Rattle.store_calls.specs.Audited.{AuditedBy, CanAudit, IsOfAudit, IsUnchecked, verdict_line}
 pub use Rattle.store_calls.specs.Bundled.{HasBundle, IsBadClosing, IsNoJob, AreBundleParts, IsShut, IsWrongPart, part_of}
 pub use Rattle.store_calls.specs.Traced.{CanTrace, IsFound, IsOfTrace, IsUntraced, TracedBy, status_of_trace, steps_line, touch_line}
+pub use Rattle.std.proofs.lemmas.List.Sums.{sum_by-cons, count_by-le-length, length-filter}
+pub use Rattle.store_calls.specs.Kept.{Keeps}

@@ -1,7 +1,6 @@
 -- An image without the name of a store is none; and what a torn write over the places of one leaves.
-use Rattle.store_calls.proofs.Common.{◌≡◌, ◌⊎◌, inl, inr, ⊎_elim, ℕ, ◌+◌, ◌-◌, ◌<◌, ◌≤◌, Bool, true, false, List, [], ◌∷◌, ◌++◌, length, take, drop, refl, sym, ◌∙◌, ap, arith, length-drop, length-take, nat_eq, not, codes, replicate, slice_index, None, Some, Option, OnOk, Result, Ok, Err, cases_lt, nat_tests, append-nil, drop-drop, drop_all, take_all, take-append-drop, take-take, Torn, written, Field, fields, first_fault, header_of, name_field, number_at, page_of, segment_fields, segments_of, spare_fields, within, standing_if, IsNoStore, IsOnTheWay}
+use Rattle.store_calls.proofs.Common.{◌≡◌, ◌⊎◌, inl, inr, ⊎_elim, ℕ, ◌+◌, ◌-◌, ◌<◌, ◌≤◌, Bool, true, false, List, [], ◌∷◌, ◌++◌, length, take, drop, refl, sym, ◌∙◌, ap, arith, length-drop, length-take, nat_eq, not, codes, replicate, slice_index, None, Some, Option, OnOk, Result, Ok, Err, cases_lt, nat_tests, append-nil, drop-drop, drop_all, take_all, take-append-drop, take-take, Torn, written, Field, fields, first_fault, header_of, name_field, number_at, page_of, segment_fields, segments_of, spare_fields, within, standing_if, IsNoStore, IsOnTheWay, starts_with}
 use Rattle.std.specs.Option.{option_map}
-use Rattle.std.specs.List.{starts_with}
 unfoldable use Rattle.store_format.specs.Stands.{stands}
 
 abbrev pub name : List ℕ

@@ -1,6 +1,5 @@
 -- A bundle that has what a call needs.
-use Rattle.store_calls.proofs.Common.{◌≡◌, ◌⊎◌, ℕ, List, inl, inr, refl, subst, ap, Option, IsFirstBad, job_of, IsBundle, Bundle, IsFaultAt, IsStanding, IsWholeBundle, Status, read_whole, AuditedBy, CanAudit, IsOfAudit, HasBundle, IsBadClosing, IsNoJob, IsWrongPart, part_of, CanTrace, IsOfTrace, TracedBy}
-use Rattle.outside.specs.declared.world.Outside.{Ghosts}
+use Rattle.store_calls.proofs.Common.{◌≡◌, ◌⊎◌, ℕ, List, inl, inr, refl, subst, ap, Option, IsFirstBad, job_of, IsBundle, Bundle, IsFaultAt, IsStanding, IsWholeBundle, Status, read_whole, AuditedBy, CanAudit, IsOfAudit, HasBundle, IsBadClosing, IsNoJob, IsWrongPart, part_of, CanTrace, IsOfTrace, TracedBy, Ghosts}
 use Rattle.serial_audit.proofs.OneLemmas.{has_one_splitting}
 use Rattle.serial_audit.specs.declared.answer.TraceFault.TheVariants as fault
 use Rattle.call_status.specs.declared.status.Status.TheVariants as status

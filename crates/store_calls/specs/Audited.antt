@@ -1,22 +1,11 @@
 -- What an audit did: the commits of a bundle's report were run again, and one line tells whether they leave what it says.
 use Rattle.std.specs.Prelude.{◌≡◌, ◌≢◌, ℕ, ◌⊎◌, List, [], ◌++◌, codes, decimal, length, Option}
-use Rattle.job_text.specs.declared.job.Job.{Job}
-use Rattle.listing.specs.Puts.{Puts, PutsTimes}
-use Rattle.outside.specs.declared.world.Outside.{Ghosts}
-use Rattle.report_text.specs.declared.line.CommitLine.{CommitLine}
-use Rattle.serial_audit.specs.Audit.{IsVerdict, report_told}
-use Rattle.serial_audit.specs.declared.auditing.KeptStore.{KeptStore}
+use Rattle.store_calls.specs.Below.{Bundle, Call, CommitLine, Ghosts, Given, IsOfLines, IsStanding, IsVerdict, Job, KeptStore, put_of, Puts, PutsTimes, report_told, Status}
 use Rattle.serial_audit.specs.declared.auditing.Verdict.{Verdict}
 use Rattle.serial_audit.specs.declared.auditing.Verdict.TheVariants.{NotSerial, Serial}
-use Rattle.serial_audit.specs.declared.bundle.Bundle.{Bundle}
-use Rattle.call_status.specs.Call.{Call, Given}
-use Rattle.call_status.specs.declared.status.Status.{Status}
 use Rattle.call_status.specs.declared.status.Status.TheVariants as status
 use Rattle.store_calls.specs.Bundled.{HasBundle, IsBadClosing, IsNoJob, AreBundleParts, IsWrongPart, WithBundle, part_of}
 use Rattle.store_calls.specs.Kept.{Keeps}
-use Rattle.call_status.specs.Opening.{IsStanding}
-use Rattle.call_status.specs.Printed.{put_of}
-use Rattle.call_status.specs.Statuses.{IsOfLines}
 
 -- the line of a verdict on so many commits
 abbrev pub verdict_line : (commits : ℕ) → Verdict → List ℕ

@@ -1,22 +1,12 @@
 -- What the parts of a bundle are, and the first that is wrong.
 use Rattle.std.specs.Prelude.{◌≡◌, ℕ, ◌-◌, ◌≤◌, ◌⊎◌, List, length, Option, Some, Ok, Err}
-use Rattle.outside.specs.Bytes.{bytes_at}
-use Rattle.outside.specs.Causes.{Rose}
+use Rattle.store_calls.specs.Below.{AreCommitsOf, Bundle, bytes_at, CommitLine, Given, HasRead, IsFaultAt, IsFirstBad, IsStanding, IsWholeBundle, Job, KeptStore, Rose, Status}
 use Rattle.job_text.specs.Grammar.{Content, content_of, job_of}
-use Rattle.job_text.specs.declared.job.Job.{Job}
-use Rattle.report_text.specs.ReadLines.{AreCommitsOf, IsFirstBad}
-use Rattle.report_text.specs.declared.line.CommitLine.{CommitLine}
 use Rattle.serial_audit.specs.Bundle.{IsBundle, IsWrongAt}
-use Rattle.serial_audit.specs.declared.auditing.KeptStore.{KeptStore}
-use Rattle.serial_audit.specs.declared.bundle.Bundle.{Bundle}
 use Rattle.serial_audit.specs.declared.bundle.Span.{Span}
-use Rattle.call_status.specs.Call.{Given}
-use Rattle.call_status.specs.declared.status.Status.{Status}
 use Rattle.call_status.specs.declared.status.Status.TheVariants as status
 use Rattle.store_calls.specs.Kept.{Keeps}
-use Rattle.call_status.specs.Opening.{IsFaultAt, IsStanding}
 use Rattle.call_status.specs.Reading.{IsSomeJob}
-use Rattle.call_status.specs.SourceText.{HasRead, IsWholeBundle}
 
 -- the bytes of a part
 abbrev pub part_of : List ℕ → Span → List ℕ

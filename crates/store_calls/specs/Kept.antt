@@ -1,14 +1,10 @@
 -- The store that bytes in memory are.
 use Rattle.std.specs.Prelude.{◌≡◌, ℕ, List, length}
-use Rattle.lines.specs.Directory.{byte_count}
-use Rattle.store_format.specs.Stands.{Stands, stands}
+use Rattle.store_calls.specs.Below.{byte_count, flat_of, IsFaultAt, KeptStore, Stands, stands}
 use Rattle.store.specs.declared.fault.OpenFault.{OpenFault}
 use Rattle.store.specs.declared.fault.OpenFault.TheVariants as open_fault
-use Rattle.serial_audit.specs.declared.auditing.KeptStore.{KeptStore}
-use Rattle.serial_audit.specs.Audit.{flat_of}
 use Rattle.store_calls.specs.declared.kept.KeptFault.{KeptFault}
 use Rattle.store_calls.specs.declared.kept.KeptFault.TheVariants.{At, Memory}
-use Rattle.call_status.specs.Opening.{IsFaultAt}
 
 -- the bytes stand for a kept store, which has as many bytes as its segments
 pub record Keeps (bytes : List ℕ) (kept : KeptStore) : Type 0 where

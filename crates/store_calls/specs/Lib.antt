@@ -1,3 +1,4 @@
+pub mod Below
 pub mod TryStore
 pub mod Show
 pub mod New

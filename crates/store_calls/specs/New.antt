@@ -1,18 +1,8 @@
 -- What making a store did.
 use Rattle.std.specs.Prelude.{◌≡◌, ◌≢◌, ◌⊎◌, ℕ, ◌+◌, ◌<◌, ◌≤◌, List, [], ◌++◌, codes, decimal, length, Some, IsSome, IsTrue}
-use Rattle.std.specs.Option.{option_map}
-use Rattle.outside.specs.declared.world.Outside.{Ghosts}
-use Rattle.outside.specs.Bytes.{Torn, written}
-use Rattle.outside.specs.Causes.{Rose}
-use Rattle.outside.specs.Durable.{IsSure}
+use Rattle.store_calls.specs.Below.{Call, fresh, Ghosts, Header, held_of, IsSure, Leaves, NotAStore, OnlyAsks, option_map, PrintsBy, PutsOnce, Rose, stands, Status, Torn, total, written}
 use Rattle.outside.specs.Moments.{Elapses}
-use Rattle.outside.specs.Runs.{OnlyAsks, Leaves, held_of}
-use Rattle.store_format.specs.Header.{Header, total, fresh}
-use Rattle.store_format.specs.Stands.{NotAStore, stands}
-use Rattle.call_status.specs.Call.{Call}
-use Rattle.call_status.specs.declared.status.Status.{Status}
 use Rattle.call_status.specs.declared.status.Status.TheVariants as status
-use Rattle.call_status.specs.Printed.{PrintsBy, PutsOnce}
 
 -- the line of a new store: how many bytes it has
 abbrev pub new_line : Header → List ℕ

@@ -1,20 +1,7 @@
 -- A store of version 2 with what a store of version 1 has.
 use Rattle.std.specs.Prelude.{◌≡◌, ◌≢◌, ◌⊎◌, ℕ, ◌+◌, ◌*◌, ◌/◌, ◌%◌, ◌^◌, ◌<◌, nat_eq, if◌then◌else◌, Bool, List, [], ◌∷◌, ◌++◌, codes, decimal, length, map, sum_by, take, drop, replicate}
-use Rattle.std.specs.List.{starts_with}
-use Rattle.lines.specs.FlatStore.{FlatStore}
+use Rattle.store_calls.specs.Below.{bytes_of, Call, Damaged, flat_of, FlatStore, Four, front, Ghosts, Given, HasRead, Header, IsAll, KeptStore, NotAStore, OnlyAsks, Rose, Standing, Stands, stands, starts_with, Status, Two}
 use Rattle.lines.specs.Legal.{IsLegal}
-use Rattle.lines.specs.Segments.{bytes_of}
-use Rattle.lines.specs.declared.line_geometry.PageSize.TheVariants.{Two, Four}
-use Rattle.outside.specs.Causes.{Rose}
-use Rattle.outside.specs.declared.world.Outside.{Ghosts}
-use Rattle.outside.specs.Runs.{OnlyAsks}
-use Rattle.store_format.specs.Header.{Header, front}
-use Rattle.store_format.specs.Stands.{Standing, Stands, NotAStore, Damaged, stands}
-use Rattle.serial_audit.specs.Audit.{flat_of}
-use Rattle.serial_audit.specs.declared.auditing.KeptStore.{KeptStore}
-use Rattle.call_status.specs.Call.{Call, Given}
-use Rattle.call_status.specs.SourceText.{HasRead, IsAll}
-use Rattle.call_status.specs.declared.status.Status.{Status}
 use Rattle.call_status.specs.declared.status.Status.TheVariants as status
 use Rattle.store_calls.specs.New.{IsOfNew, Written}
 

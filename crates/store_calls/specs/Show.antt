@@ -1,23 +1,11 @@
 -- What printing bytes of a store did.
 use Rattle.std.specs.Prelude.{◌≡◌, ◌≢◌, ◌⊎◌, ℕ, ◌+◌, ◌≤◌, List, [], length, Some, IsSome, IsTrue, Result, Ok, Err, OnOk, IfErr}
 use Rattle.std.specs.Int.{div_ceil}
-use Rattle.outside.specs.declared.world.Outside.{Ghosts}
-use Rattle.outside.specs.Bytes.{AreTold, Prints, bytes_at}
-use Rattle.outside.specs.Causes.{Rose}
-use Rattle.outside.specs.Runs.{AsksAndPuts, Leaves, OnlyAsks, held_of}
-use Rattle.lines.specs.Directory.{Layout, length_of, start_of}
-use Rattle.lines.specs.FlatStore.{FlatStore}
-use Rattle.store_format.specs.Stands.{Standing, Stands, NotAStore, Damaged, stands}
+use Rattle.store_calls.specs.Below.{AreTold, AsksAndPuts, bytes_at, Call, Damaged, FlatStore, Ghosts, held_of, IsFaultAt, IsOfOpening, IsShown, Layout, Leaves, length_of, NotAStore, OnlyAsks, Prints, PrintsBy, Rose, Standing, Stands, stands, start_of, Status}
 use Rattle.store.specs.KeptStore.{KeptStore}
-use Rattle.store.specs.Shows.{IsShown}
 use Rattle.listing.specs.Listing.{row_lines}
-use Rattle.call_status.specs.Call.{Call}
-use Rattle.call_status.specs.declared.status.Status.{Status}
 use Rattle.call_status.specs.declared.status.Status.TheVariants as status
 use Rattle.store_calls.specs.declared.show.Range.{Range}
-use Rattle.call_status.specs.Opening.{IsFaultAt}
-use Rattle.call_status.specs.Printed.{PrintsBy}
-use Rattle.call_status.specs.Statuses.{IsOfOpening}
 
 -- the range lies in a segment of the directory
 abbrev pub IsInside : Layout → Range → Type 0

@@ -1,24 +1,14 @@
 -- What a trace did: the lines that an activation touched as its serial run does were put, one line for each.
 use Rattle.std.specs.Prelude.{◌≡◌, ◌≢◌, ℕ, ◌+◌, Bool, true, false, List, [], ◌++◌, codes, decimal, length, Option, Result, Ok, Err}
-use Rattle.std.specs.List.{flat_map}
-use Rattle.job_text.specs.declared.job.Job.{Job}
-use Rattle.listing.specs.Puts.{Puts, PutsTimes}
-use Rattle.outside.specs.declared.world.Outside.{Ghosts}
-use Rattle.report_text.specs.declared.line.CommitLine.{CommitLine}
-use Rattle.serial_audit.specs.Audit.{report_told}
-use Rattle.serial_audit.specs.declared.auditing.KeptStore.{KeptStore}
-use Rattle.serial_audit.specs.declared.bundle.Bundle.{Bundle}
+use Rattle.store_calls.specs.Below.{Bundle, Call, CommitLine, flat_map, Ghosts, Given, Job, KeptStore, put_of, Puts, PutsTimes, report_told, Status}
 use Rattle.serial_audit.specs.declared.answer.Trace.{Trace}
 use Rattle.serial_audit.specs.declared.answer.TraceFault.{TraceFault}
 use Rattle.serial_audit.specs.declared.answer.TraceFault.TheVariants as fault
 use Rattle.serial_audit.specs.declared.touch.Touch.{Touch}
 use Rattle.serial_audit.specs.Trace.{IsAnswer}
-use Rattle.call_status.specs.Call.{Call, Given}
-use Rattle.call_status.specs.declared.status.Status.{Status}
 use Rattle.call_status.specs.declared.status.Status.TheVariants as status
 use Rattle.store_calls.specs.Bundled.{HasBundle, IsNoJob, AreBundleParts, IsWrongPart, WithBundle}
 use Rattle.store_calls.specs.Audited.{IsOfAudit}
-use Rattle.call_status.specs.Printed.{put_of}
 
 -- whether a line is read or written
 abbrev pub way_of : Bool → List ℕ

@@ -1,7 +1,6 @@
 -- The store that `try` is handed.
 use Rattle.std.specs.Prelude.{[], ◌∷◌}
-use Rattle.lines.specs.declared.line_geometry.PageSize.TheVariants.{Two}
-use Rattle.store_format.specs.Header.{Header}
+use Rattle.store_calls.specs.Below.{Header, Two}
 
 -- the header of the store: segment 1 with four pages, segment 2 with two, and a bank of 65,536 bytes
 abbrev pub try_layout : Header

@@ -1,9 +1,6 @@
 // The audit of a finished run.
 ghost use Rattle.std.specs.Prelude.{◌≡◌, ◌⊎◌, ◌≤◌, ◌<◌, ◌^◌, ℕ, [], length, MatchResult};
-ghost use Rattle.outside.specs.Causes.{Rose};
-ghost use Rattle.listing.specs.Puts.{Puts, PutsTimes};
-ghost use Rattle.call_status.specs.Call.{call, given};
-ghost use Rattle.call_status.specs.Faults.{FaultsBy, ReadFaultsBy};
+ghost use Rattle.store_calls.specs.Below.{call, FaultsBy, given, Puts, PutsTimes, ReadFaultsBy, Rose};
 ghost use Rattle.store_calls.specs.Audited.{Audited, AuditedBy, CanAudit, IsChecked, IsOfAudit, IsUnchecked, verdict_line};
 
 use super::bundle::{open_bundle, part, store_in};

@@ -1,9 +1,8 @@
 // A bundle and its parts.
 ghost use Rattle.std.specs.Prelude.{◌≡◌, ◌⊎◌, ◌-◌, ◌≤◌, ◌<◌, ◌^◌, ℕ, length, IfOk, MatchResult};
-ghost use Rattle.report_text.specs.ReadLines.{AreCommitsOf, IsFirstBad};
+ghost use Rattle.store_calls.specs.Below.{AreCommitsOf, IsFaultAt, IsFirstBad};
 ghost use Rattle.store_calls.specs.Bundled.{AreBundleParts, IsShut, part_of};
 ghost use Rattle.store_calls.specs.Kept.{Keeps};
-ghost use Rattle.call_status.specs.Opening.{IsFaultAt};
 
 use super::kept::{KeptFault, kept_store};
 use call_status::Status;

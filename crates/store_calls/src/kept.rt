@@ -1,12 +1,7 @@
 // The store that bytes in memory are.
 ghost use Rattle.store_calls.specs.declared.kept.KeptFault.TheVariants.{Memory};
 ghost use Rattle.std.specs.Prelude.{◌≡◌, IsSome, IfOk, IfErr, MatchResult, false};
-ghost use Rattle.lines.specs.Directory.{byte_count};
-ghost use Rattle.outside.specs.Runs.{OnlyAsks, held_of};
-ghost use Rattle.store.specs.Held.{HoldsAtLeast};
-ghost use Rattle.store_format.specs.Header.{total};
-ghost use Rattle.store_format.specs.Stands.{stands};
-ghost use Rattle.store.specs.Shows.{IsShown};
+ghost use Rattle.store_calls.specs.Below.{byte_count, held_of, HoldsAtLeast, IsShown, OnlyAsks, stands, total};
 ghost use Rattle.store_calls.specs.Kept.{IsWhyNone, Keeps, fault_of};
 ghost use Rattle.store_calls.specs.Show.{bytes_in};
 

@@ -1,7 +1,6 @@
 // A store that is made.
 ghost use Rattle.std.specs.Prelude.{◌≡◌, ◌++◌, [], codes, decimal, length};
-ghost use Rattle.call_status.specs.Call.{call};
-ghost use Rattle.call_status.specs.Faults.{FaultsBy};
+ghost use Rattle.store_calls.specs.Below.{call, FaultsBy};
 ghost use Rattle.store_calls.specs.New.{IsOfNew, Made};
 
 use super::written::{ask_empty, write_store};

@@ -1,10 +1,6 @@
 // A store of version 1 that is made one of version 2.
 ghost use Rattle.std.specs.Prelude.{◌≡◌, ◌≢◌, ◌≤◌, ◌++◌, [], length, sum_by, IfOk, IfErr, MatchResult, OnOk};
-ghost use Rattle.lines.specs.Segments.{bytes_of};
-ghost use Rattle.lines.specs.declared.line_geometry.PageSize.TheVariants.{Two};
-ghost use Rattle.serial_audit.specs.Audit.{flat_of};
-ghost use Rattle.call_status.specs.Call.{call, given};
-ghost use Rattle.call_status.specs.Faults.{ReadFaultsBy};
+ghost use Rattle.store_calls.specs.Below.{bytes_of, call, flat_of, given, ReadFaultsBy, Two};
 ghost use Rattle.store_calls.specs.Renewed.{HasOne, IsNoOne, IsOfRenew, Renewed, renew_line, renewed_image, widened_bytes, widened_segments};
 
 use super::kept::{KeptFault, kept_image};

@@ -1,15 +1,6 @@
 // Bytes of a store, printed.
 ghost use Rattle.std.specs.Prelude.{◌≡◌, ◌+◌, ◌%◌, ◌^◌, ◌≤◌, ◌<◌, [], find, length, None, OnOk, MatchOption, false};
-ghost use Rattle.lines.specs.Directory.{length_of, start_of, byte_count};
-ghost use Rattle.lines.specs.Segments.{is_named, page_bytes};
-ghost use Rattle.store_format.specs.Header.{total};
-ghost use Rattle.store_format.specs.Stands.{stands};
-ghost use Rattle.outside.specs.Causes.{FailsOnlyCounted};
-ghost use Rattle.outside.specs.Runs.{OnlyAsks, held_of};
-ghost use Rattle.store.specs.Held.{HoldsAtLeast};
-ghost use Rattle.store.specs.Shows.{IsShown};
-ghost use Rattle.call_status.specs.Call.{call};
-ghost use Rattle.call_status.specs.Faults.{FaultsBy};
+ghost use Rattle.store_calls.specs.Below.{byte_count, call, FailsOnlyCounted, FaultsBy, held_of, HoldsAtLeast, is_named, IsShown, length_of, OnlyAsks, page_bytes, stands, start_of, total};
 ghost use Rattle.store_calls.specs.Show.{HasRead, IsInside, IsOfShow, PutsBytes, RangeShown, bytes_in};
 
 use call_status::Status;

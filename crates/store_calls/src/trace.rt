@@ -1,10 +1,6 @@
 // The trace of an activation in a finished run.
 ghost use Rattle.std.specs.Prelude.{◌≡◌, ◌⊎◌, ◌+◌, ◌≤◌, [], length, MatchResult};
-ghost use Rattle.std.specs.List.{flat_map};
-ghost use Rattle.outside.specs.Causes.{Rose};
-ghost use Rattle.listing.specs.Puts.{Puts, PutsTimes};
-ghost use Rattle.call_status.specs.Call.{call, given};
-ghost use Rattle.call_status.specs.Faults.{FaultsBy, ReadFaultsBy};
+ghost use Rattle.store_calls.specs.Below.{call, FaultsBy, flat_map, given, Puts, PutsTimes, ReadFaultsBy, Rose};
 ghost use Rattle.store_calls.specs.Traced.{CanTrace, IsOfTrace, IsTraced, IsUntraced, TracedBy, TracedFrom, status_of_trace, steps_line, touch_line, trace_lines};
 
 use super::bundle::open_bundle;

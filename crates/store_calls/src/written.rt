@@ -1,13 +1,6 @@
 // An image that is written on an empty disk, and a line that tells it.
 ghost use Rattle.std.specs.Prelude.{◌≡◌, ◌⊎◌, ◌≤◌, [], codes, length, replicate, take, IsSome, IfOk, IfErr, OnOk};
-ghost use Rattle.std.specs.Option.{ForSome};
-ghost use Rattle.outside.specs.Causes.{FailsOnlyCounted};
-ghost use Rattle.outside.specs.Durable.{IsSure};
-ghost use Rattle.outside.specs.Runs.{CallsDisk, Leaves, OnlyAsks, held_of};
-ghost use Rattle.listing.specs.Puts.{Puts, PutsTimes};
-ghost use Rattle.call_status.specs.Call.{call};
-ghost use Rattle.call_status.specs.Printed.{put_of};
-ghost use Rattle.call_status.specs.Faults.{FaultsBy};
+ghost use Rattle.store_calls.specs.Below.{call, CallsDisk, FailsOnlyCounted, FaultsBy, ForSome, held_of, IsSure, Leaves, OnlyAsks, put_of, Puts, PutsTimes};
 ghost use Rattle.store_calls.specs.New.{IsFilled, IsNoEmpty, IsOfWriting, IsOnTheWay, IsPutDown, IsTornAt, IsTornBy, IsWrittenWhole, LeavesTorn, LeavesTornAt, LeavesWhole, Written};
 
 use call_status::Status;

@@ -1,8 +1,7 @@
 -- The commit of a session is one of the desk, and what the disk holds in it.
-use Rattle.supervisor.proofs.Common.{◌≡◌, ◌⊎◌, inl, inr, ⊎_elim, ℕ, ◌+◌, ◌%◌, ◌^◌, ◌<◌, ◌≤◌, List, [], ◌∷◌, ◌++◌, refl, sym, ◌∙◌, ap, arith, Option, Some, length-append, map-append, FlatStore, has, Plain, after, Ghosts, Rose, IsSure, Leaves, held_of, RecordLine, Stands, stands, one_more, laid, IsMoreBy, journal_in, journal_with, KeptStore, number_of, with_begun, TracksStore, Committed, order_told, standing_of, Desk, Fine, Doubt, Unwritten, Over, ordered, WritesMore, number_after, committed_at, sitter, number_in, Activity, live_in, program_in, entry_in, store_over, desk_over, Live, KeepsDesk, rolled, tally_counts, commit_call, Tally, Session, IsSound, activity, order_of, session_desk, IsOpenOver, HasCommitted, IsEitherSide, fine_desk, shows_begun, nat_tests, ◌==◌, not, filter, None, true, false, vec_len, vec_capacity, slice_set, IsEither}
+use Rattle.supervisor.proofs.Common.{◌≡◌, ◌⊎◌, inl, inr, ⊎_elim, ℕ, ◌+◌, ◌%◌, ◌^◌, ◌<◌, ◌≤◌, List, [], ◌∷◌, ◌++◌, refl, sym, ◌∙◌, ap, arith, Option, Some, length-append, map-append, FlatStore, has, Plain, after, Ghosts, Rose, IsSure, Leaves, held_of, RecordLine, Stands, stands, one_more, laid, IsMoreBy, journal_in, journal_with, KeptStore, number_of, with_begun, TracksStore, Committed, order_told, standing_of, Desk, Fine, Doubt, Unwritten, Over, ordered, WritesMore, number_after, committed_at, sitter, number_in, Activity, live_in, program_in, entry_in, store_over, desk_over, Live, KeepsDesk, rolled, tally_counts, commit_call, Tally, Session, IsSound, activity, order_of, session_desk, IsOpenOver, HasCommitted, IsEitherSide, fine_desk, shows_begun, nat_tests, ◌==◌, not, filter, None, true, false, vec_len, vec_capacity, slice_set, IsEither, fewer}
 use Rattle.lines.proofs.SetLemmas.{has-filter}
 use Rattle.frame_pool.specs.declared.model.Pool.{Pool}
-use Rattle.activations.proofs.ContestLemmas.{fewer}
 use Rattle.supervisor.proofs.DesertedLemmas.{sound-same}
 use Rattle.supervisor.proofs.DidLemmas.{stood-over}
 use Rattle.desk.specs.declared.answers.TurnEnd.TheVariants as end

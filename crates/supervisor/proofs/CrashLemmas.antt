@@ -1,6 +1,5 @@
 -- What a crash of a session did.
-use Rattle.std.proofs.Common.{arith}
-use Rattle.supervisor.proofs.Common.{◌≡◌, inl, ℕ, List, [], refl, sym, ◌∙◌, ap, Option, true, unwrap_or, Ghosts, Rose, IsSure, OnlyAsks, held_of, Header, Faulty, bank_of, stands, chosen, KeptStore, number_of, TracksStore, shown_stands, shown_store, journal_in, TookEvent, told_event, fixed_of, view_of, Desk, numbers, Fine, Failed, number_after, Step, Crashed, CrashFailed, shut, restarted, stepped, Activations, IsRestarted, activity_of, Session, IsSound, activity, session_desk, order_of, IsOpenOver}
+use Rattle.supervisor.proofs.Common.{◌≡◌, inl, ℕ, List, [], refl, sym, ◌∙◌, ap, Option, true, unwrap_or, Ghosts, Rose, IsSure, OnlyAsks, held_of, Header, Faulty, bank_of, stands, chosen, KeptStore, number_of, TracksStore, shown_stands, shown_store, journal_in, TookEvent, told_event, fixed_of, view_of, Desk, numbers, Fine, Failed, number_after, Step, Crashed, CrashFailed, shut, restarted, stepped, Activations, IsRestarted, activity_of, Session, IsSound, activity, session_desk, order_of, IsOpenOver, arith}
 use Rattle.desk.specs.declared.event.Event.TheVariants as event
 use Rattle.supervisor.proofs.DidLemmas.{asked-stands, did-fail, fine-sure, over-other}
 

@@ -1,35 +1,19 @@
 -- Why the answers of a session come.
 use Rattle.std.specs.Prelude.{◌≡◌, ◌↔◌, ℕ, ◌+◌, ◌%◌, ◌<◌, ◌≤◌, ◌^◌, true, false, List, length, Option, Some, None}
-use Rattle.lines.specs.Sets.{has}
-use Rattle.outside.specs.declared.world.Outside.{Ghosts}
-use Rattle.outside.specs.Causes.{Rose}
-use Rattle.outside.specs.Runs.{Leaves, OnlyAsks, held_of}
+use Rattle.supervisor.specs.Below.{absent_segment, Activity, counts_told, Ghosts, has, held_of, IfChecked, IfJournal, IfLimit, IfVictim, IfWaits, KeptStore, Leaves, most_lines, no_counts, number_in, number_of, OnlyAsks, OnlyWrites, program_at, Rose, seat_of, Tally, TracksStore, TurnEnd, with_begun}
 use Rattle.store_format.specs.Bank.{RecordLine}
-use Rattle.store_format.specs.Header.{most_lines}
 use Rattle.store.specs.declared.keep.Kept.{Kept}
 use Rattle.store.specs.declared.keep.Kept.TheVariants as kept
 use Rattle.store.specs.Appended.{FailedLeaves}
-use Rattle.store.specs.Held.{OnlyWrites}
 use Rattle.store.specs.Kept.{begun_of, with_record}
 use Rattle.store.specs.Tracks.{IsEither}
 use Rattle.store.specs.Committed.{roomy, IsKeptAfter}
-use Rattle.store.specs.KeptStore.{KeptStore, number_of, with_begun}
-use Rattle.store.specs.Shows.{TracksStore}
 use Rattle.desk.specs.declared.answers.Begun.{Begun}
 use Rattle.desk.specs.declared.answers.Begun.TheVariants as begun
 use Rattle.desk.specs.declared.answers.Reopened.{Reopened}
 use Rattle.desk.specs.declared.answers.Reopened.TheVariants as reopened
 use Rattle.desk.specs.declared.answers.Turn.{Turn}
-use Rattle.desk.specs.declared.answers.TurnEnd.{TurnEnd}
 use Rattle.desk.specs.declared.answers.TurnEnd.TheVariants as end
-use Rattle.desk.specs.Answers.{counts_told}
-use Rattle.desk.specs.Instruction.{no_counts}
-use Rattle.desk.specs.Run.{absent_segment}
-use Rattle.seats.specs.Seating.{number_in, seat_of}
-use Rattle.activations.specs.declared.tally.Tally.{Tally}
-use Rattle.activations.specs.Activity.{Activity, program_at}
-use Rattle.activations.specs.Stages.{IfChecked, IfJournal, IfLimit, IfVictim}
-use Rattle.activations.specs.Turning.{IfWaits}
 use Rattle.activations.specs.Recorded.{IsRecordOf}
 use Rattle.supervisor.specs.declared.session.Session.{Session}
 use Rattle.supervisor.specs.Session.{activity, store_told}

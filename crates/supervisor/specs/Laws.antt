@@ -1,21 +1,12 @@
 -- What holds of each desk that a session shows, and of each cycle that a turn records.
 use Rattle.std.specs.Prelude.{◌≡◌, ◌<◌, ◌≤◌, ◌==◌, ℕ, true, IsFalse, List, [], ◌∷◌, find, Some}
-use Rattle.lines.specs.FlatStore.{FlatStore, IsWhole}
-use Rattle.lines.specs.Sets.{has}
+use Rattle.supervisor.specs.Below.{breaks_cycles, Contested, Counts, Desk, Entry, FlatStore, has, Idle, IsWhole, Limit, no_counts, number_in, numbers, opened, Over, over_all, Program, run, shown, state_in, turn, waits_for, with_entry, Word}
 use Rattle.lines.specs.Waits.{shown_cycle}
-use Rattle.flat_machine.specs.declared.machine.Program.{Program}
 use Rattle.desk.specs.declared.event.Event.{Event}
-use Rattle.desk.specs.Desk.{Desk, Entry, opened, with_entry}
-use Rattle.desk.specs.Holdings.{numbers, waits_for}
-use Rattle.desk.specs.Instruction.{Word, Counts, Over, Limit, Idle, turn, no_counts, Contested, breaks_cycles}
-use Rattle.desk.specs.Run.{run}
-use Rattle.desk_law.specs.Beside.{over_all}
 use Rattle.desk_law.specs.Causes.{IsOverFor, turn_counts}
 use Rattle.desk_law.specs.Consistent.{IsAmong, IsConsistent}
 use Rattle.desk_law.specs.Laws.{EachWaits, IsActive}
 use Rattle.desk_law.specs.Memory.{Machine, memory_after, memory_of}
-use Rattle.seats.specs.Seating.{number_in}
-use Rattle.activations.specs.Activity.{state_in, shown}
 use Rattle.supervisor.specs.declared.session.Session.{Session}
 use Rattle.supervisor.specs.Session.{activity}
 use Rattle.supervisor.specs.Shown.{ShowsDesk}

@@ -1,3 +1,4 @@
+pub mod Below
 pub mod Session
 pub mod Shown
 pub mod ShownLaws

@@ -1,13 +1,6 @@
 -- A session that has just opened on the store of a disk.
 use Rattle.std.specs.Prelude.{◌≡◌, ℕ, List, [], false, take}
-use Rattle.lines.specs.FlatStore.{FlatStore}
-use Rattle.flat_machine.specs.declared.machine.Program.{Program}
-use Rattle.outside.specs.declared.world.Outside.{Ghosts}
-use Rattle.outside.specs.Durable.{IsSure}
-use Rattle.outside.specs.Runs.{held_of}
-use Rattle.store_format.specs.Header.{Header, header_of, most_lines}
-use Rattle.store_format.specs.Stands.{Stands, stands}
-use Rattle.desk.specs.Desk.{opened}
+use Rattle.supervisor.specs.Below.{FlatStore, Ghosts, Header, header_of, held_of, IsSure, most_lines, opened, Program, Stands, stands}
 use Rattle.supervisor.specs.declared.session.Session.{Session}
 use Rattle.supervisor.specs.Session.{IsSound, activity, fixed_of, header_of_session, order_of, session_told}
 use Rattle.supervisor.specs.Shown.{ShowsDesk}

@@ -1,14 +1,7 @@
 -- A session, the desk that it is over committed bytes, and what holds of it at every moment.
 use Rattle.std.specs.Prelude.{◌≡◌, ℕ, ◌+◌, ◌-◌, ◌*◌, ◌<◌, ◌≤◌, ◌^◌, false, List, length, vec_len, vec_capacity}
-use Rattle.store_format.specs.Header.{Header, HasRanges, most_lines}
-use Rattle.store.specs.KeptStore.{KeptStore, number_of}
-use Rattle.desk.specs.Answers.{order_told}
-use Rattle.desk.specs.Calls.{Fixed}
-use Rattle.desk.specs.Desk.{Desk}
-use Rattle.desk.specs.Told.{Told}
-use Rattle.activations.specs.Activity.{Activity, desk_over, activity_of}
+use Rattle.supervisor.specs.Below.{Activity, activity_of, AreRowsWithin, Desk, desk_over, Fixed, HasRanges, Header, KeptStore, most_lines, number_of, order_told, Told}
 use Rattle.activations.specs.Follows as running
-use Rattle.activations.specs.Kept.{AreRowsWithin}
 use Rattle.supervisor.specs.declared.session.Session.{Session}
 
 -- what runs in it

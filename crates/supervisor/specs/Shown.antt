@@ -1,12 +1,6 @@
 -- The desk that a session shows over the bytes of a disk.
 use Rattle.std.specs.Prelude.{◌≡◌, ℕ, List, false}
-use Rattle.store_format.specs.Stands.{Stands, stands}
-use Rattle.store.specs.KeptStore.{number_of}
-use Rattle.store.specs.Shows.{Shows}
-use Rattle.desk.specs.Crash.{View}
-use Rattle.desk.specs.Desk.{Desk}
-use Rattle.desk.specs.Report.{number_after}
-use Rattle.desk.specs.Told.{seen}
+use Rattle.supervisor.specs.Below.{Desk, number_after, number_of, seen, Shows, Stands, stands, View}
 use Rattle.activations.specs.Follows.{KeepsDesk}
 use Rattle.supervisor.specs.declared.session.Session.{Session}
 use Rattle.supervisor.specs.Session.{activity, session_desk, session_told}

@@ -1,9 +1,6 @@
 -- What a session tells while it shows a desk is that desk's.
 use Rattle.std.proofs.Common.{ℕ, List, sym, ◌∙◌, ap}
-use Rattle.store_format.specs.Stands.{Stands}
-use Rattle.desk.specs.Crash.{standing_of}
-use Rattle.desk.specs.Desk.{Desk}
-use Rattle.desk.specs.Told.{TellsDesk}
+use Rattle.supervisor.specs.Below.{Desk, standing_of, Stands, TellsDesk}
 use Rattle.supervisor.specs.declared.session.Session.{Session}
 use Rattle.supervisor.specs.Session.{session_told}
 use Rattle.supervisor.specs.Shown.{ShowsDesk}

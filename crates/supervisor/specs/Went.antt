@@ -1,25 +1,9 @@
 -- What a commit of a session did: its step of the desk, and what the disk held at each moment.
 use Rattle.std.specs.Prelude.{◌≡◌, ℕ, ◌⊎◌, true, false, List, slice_set}
 use Rattle.flat_machine.specs.declared.machine.Plain.{Plain}
-use Rattle.outside.specs.declared.world.Outside.{Ghosts}
-use Rattle.outside.specs.Causes.{Rose}
-use Rattle.outside.specs.Durable.{IsSure}
-use Rattle.outside.specs.Runs.{Leaves, held_of}
-use Rattle.store_format.specs.Stands.{stands}
-use Rattle.desk.specs.declared.answers.TurnEnd.{TurnEnd}
+use Rattle.supervisor.specs.Below.{commit_call, commits, Desk, Doubt, ended, ending_told, Fine, fine_step, Ghosts, HasNumbers, held_of, IsEitherOf, IsSure, journal_in, JournalAfter, Leaves, number_after, number_in, ordered, Over, Reads, Rose, standing_of, stands, Tally, tally_counts, turn, Turned, TurnEnd, Word}
 use Rattle.desk.specs.declared.answers.TurnEnd.TheVariants as end
-use Rattle.desk.specs.Answers.{ending_told, HasNumbers}
 use Rattle.desk.specs.declared.event.Event.TheVariants as event
-use Rattle.desk.specs.Crash.{IsEitherOf, fine_step, standing_of}
-use Rattle.desk.specs.Desk.{Desk, ended}
-use Rattle.desk.specs.Instruction.{Word, Fine, Doubt, Over, commits, turn, ordered}
-use Rattle.desk.specs.Kept.{JournalAfter, journal_in}
-use Rattle.desk.specs.Report.{number_after}
-use Rattle.desk.specs.Run.{Turned}
-use Rattle.desk_law.specs.Beside.{Reads}
-use Rattle.seats.specs.Seating.{number_in}
-use Rattle.activations.specs.declared.tally.Tally.{Tally}
-use Rattle.activations.specs.Turning.{tally_counts, commit_call}
 use Rattle.supervisor.specs.declared.session.Session.{Session}
 use Rattle.supervisor.specs.Session.{activity, order_of, session_desk}
 use Rattle.supervisor.specs.Shown.{IsOpenOver}

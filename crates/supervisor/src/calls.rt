@@ -1,16 +1,7 @@
 // The calls of a session: what each does, and why each answer comes.
 ghost use Rattle.std.specs.Prelude.{◌≡◌, ◌≢◌, ◌+◌, ◌≤◌, ◌<◌, ◌^◌, false, List, ℕ, length, map, IsSome};
-ghost use Rattle.outside.specs.Runs.{OnlyAsks, held_of};
+ghost use Rattle.supervisor.specs.Below.{begun_told, CallsStore, Desk, FailsCounted, Fine, HasNumbers, held_of, HoldsStore, IsDamage, IsReopened, number_after, numbers, OnlyAsks, reopened_closes, reopened_fails, reopened_told, StaysShut, step, stored_closes, stored_fails, stored_told, StoredNumber, Takes, ToldAfterEnd, turn_fails, turn_told, writes_due, WritesMore};
 ghost use Rattle.desk.specs.declared.event.Event.TheVariants as event;
-ghost use Rattle.desk.specs.Desk.{Desk};
-ghost use Rattle.desk.specs.Holdings.{numbers};
-ghost use Rattle.desk.specs.Instruction.{Fine};
-ghost use Rattle.desk.specs.Run.{step};
-ghost use Rattle.desk.specs.Report.{number_after};
-ghost use Rattle.desk.specs.Answers.{begun_told, turn_told, stored_told, reopened_told, stored_closes, reopened_closes, HasNumbers, StoredNumber, IsReopened};
-ghost use Rattle.desk.specs.Calls.{CallsStore, FailsCounted, StaysShut, reopened_fails, stored_fails};
-ghost use Rattle.desk.specs.Kept.{HoldsStore, IsDamage, WritesMore, writes_due, turn_fails};
-ghost use Rattle.desk.specs.Told.{ToldAfterEnd, Takes};
 ghost use Rattle.supervisor.specs.Causes.{answer_of};
 
 use super::session::Session;

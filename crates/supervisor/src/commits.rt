@@ -1,15 +1,6 @@
 // The commit call of who sits in a seat.
 ghost use Rattle.std.specs.Prelude.{◌≡◌, ◌+◌, ◌<◌, ◌≤◌, ◌++◌, ◌∷◌, [], true, false, vec_len, vec_capacity};
-ghost use Rattle.seats.specs.Seating.{number_in, sitter};
-ghost use Rattle.lines.specs.Sets.{has};
-ghost use Rattle.outside.specs.Durable.{IsSure};
-ghost use Rattle.outside.specs.Runs.{held_of};
-ghost use Rattle.store.specs.Held.{OnlyWrites};
-ghost use Rattle.desk.specs.Calls.{FailsCounted};
-ghost use Rattle.desk.specs.Kept.{HoldsStore, WritesMore, writes_due, turn_fails};
-ghost use Rattle.desk.specs.Told.{ToldAfterEnd};
-ghost use Rattle.desk.specs.Instruction.{Word, Turning};
-ghost use Rattle.activations.specs.Turning.{tally_counts};
+ghost use Rattle.supervisor.specs.Below.{FailsCounted, has, held_of, HoldsStore, IsSure, number_in, OnlyWrites, sitter, tally_counts, ToldAfterEnd, turn_fails, Turning, Word, writes_due, WritesMore};
 
 use super::session::Session;
 use activations::Tally;
@@ -18,13 +9,10 @@ use outside::Outside;
 use store::Kept;
 
 impl Session {
-    ghost use Rattle.activations.specs.Turning.{IsAtCommit};
-    ghost use Rattle.activations.specs.Stages.{IfJournal};
-    ghost use Rattle.store_format.specs.Header.{most_lines};
+    ghost use Rattle.supervisor.specs.Below.{IfJournal, IsAtCommit, most_lines, number_of};
     ghost use Rattle.supervisor.specs.Session.{IsSound, activity, order_of, session_told};
     ghost use Rattle.supervisor.specs.Shown.{IsOpenOver};
     ghost use Rattle.supervisor.specs.Causes.{TellsNumber, LeavesStore};
-    ghost use Rattle.store.specs.KeptStore.{number_of};
     ghost use Rattle.supervisor.specs.Went.{HasCommitted, IsCommitEnd};
 
     /// The commit call of who sits in a seat: his record, and the end of the turn.

@@ -1,8 +1,7 @@
 // A session over a store that is open.
 ghost use Rattle.std.specs.Prelude.{◌≡◌, ◌≢◌, ◌≤◌, ◌<◌, ◌^◌, ◌-◌, ◌+◌, IfOk, IfErr, OnOk, IsSome, IsTrue};
-ghost use Rattle.outside.specs.Runs.{OnlyAsks, held_of};
+ghost use Rattle.supervisor.specs.Below.{held_of, HoldsStore, OnlyAsks};
 ghost use Rattle.store.specs.Faults.{IsStoreOpenFault};
-ghost use Rattle.desk.specs.Kept.{HoldsStore};
 
 use activations::Activations;
 use desk::Committed;

@@ -1,12 +1,7 @@
 // A turn of an activation.
 ghost use Rattle.std.specs.Prelude.{◌≡◌, ◌+◌, ◌*◌, ◌-◌, ◌<◌, ◌≤◌, [], false, ◌↔◌, None};
-ghost use Rattle.outside.specs.Durable.{IsSure};
-ghost use Rattle.outside.specs.Runs.{held_of};
-ghost use Rattle.store.specs.Held.{OnlyWrites};
+ghost use Rattle.supervisor.specs.Below.{FailsCounted, held_of, HoldsStore, IsSure, OnlyWrites, ToldAfterEnd, turn_fails, writes_due, WritesMore};
 ghost use Rattle.desk.specs.declared.answers.TurnEnd.TheVariants as end;
-ghost use Rattle.desk.specs.Calls.{FailsCounted};
-ghost use Rattle.desk.specs.Kept.{HoldsStore, WritesMore, writes_due, turn_fails};
-ghost use Rattle.desk.specs.Told.{ToldAfterEnd};
 
 use super::session::Session;
 use activations::Tally;
@@ -14,13 +9,10 @@ use desk::TurnEnd;
 use outside::Outside;
 
 impl Session {
-    ghost use Rattle.activations.specs.Kept.{AreRowsWithin};
+    ghost use Rattle.supervisor.specs.Below.{AreRowsWithin, most_lines, number_of, seat_of};
     ghost use Rattle.supervisor.specs.Session.{IsSound, activity, session_told};
     ghost use Rattle.supervisor.specs.Shown.{IsOpenOver};
     ghost use Rattle.supervisor.specs.Causes.{IsTurnEnd, answer_of, LeavesStore};
-    ghost use Rattle.store_format.specs.Header.{most_lines};
-    ghost use Rattle.store.specs.KeptStore.{number_of};
-    ghost use Rattle.seats.specs.Seating.{seat_of};
     ghost use Rattle.supervisor.specs.Went.{TurnHasRun, IsTurned};
 
     /// A turn of an activation, in which nothing is counted yet: how it ended.

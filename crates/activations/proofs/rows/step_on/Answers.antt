@@ -1,7 +1,7 @@
 use Rattle.activations.proofs.Lemmas.{◌∙◌, sym, ap, subst, WasAttempted, printed_after, with_live, Reach, GivesRows, reach_of, not-printed, room, attempted-at}
 use Rattle.romp_cpu.specs.declared.cpu.Attempt.{Attempt}
 use Rattle.romp_cpu.specs.Tried.{at}
-use Rattle.activations.specs.Kept.{standing}
+use Rattle.activations.proofs.Common.{standing}
 use Rattle.activations.proofs.rows.step_on.Goals as goal
 
 pub push-requires : goal.push-requires

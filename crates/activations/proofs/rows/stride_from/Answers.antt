@@ -1,6 +1,6 @@
 use Rattle.activations.proofs.Lemmas.{Commit, Check, Access, reach_of, Activity, WasAttempted, IsShut, with_live, ◌≡◌, ◌∙◌, arith, refl, sym, subst, inl, inr, took-either, came-still, none-yet, attempted-again, strode-one, strode-halted, came-either, rules}
 use Rattle.romp_cpu.specs.declared.cpu.Attempt.{Attempt}
-use Rattle.activations.specs.Kept.{standing}
+use Rattle.activations.proofs.Common.{standing}
 use Rattle.activations.proofs.rows.stride_from.Goals as goal
 
 pub loop-ran-init : goal.loop-ran-init

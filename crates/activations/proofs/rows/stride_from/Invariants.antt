@@ -1,6 +1,5 @@
 -- The rows so far.
-use Rattle.activations.proofs.Common.{reach_of, Activity, RunsAt, StrodeTo, ◌-◌, ◌≡◌, ◌≤◌, ℕ}
-use Rattle.activations.specs.Kept.{standing}
+use Rattle.activations.proofs.Common.{reach_of, Activity, RunsAt, StrodeTo, ◌-◌, ◌≡◌, ◌≤◌, ℕ, standing}
 use Rattle.activations.proofs.rows.stride_from.Given as goal
 
 abbrev pub invariant-loop-ran : goal.invariant-loop-ran

@@ -1,8 +1,4 @@
-use Rattle.std.proofs.Common.{◌≡◌, ℕ, ◌+◌, ◌-◌, ◌<◌, ◌≤◌, List, length, refl, sym, ◌∙◌, ap, arith, get_or, inl, inr}
-use Rattle.std.proofs.lemmas.Bool.{cases_eq}
-use Rattle.std.proofs.lemmas.Grind.{same_number_lists}
-use Rattle.std.proofs.lemmas.List.{get_or-set_other, get_or-set_same, get_or-take, get_or_read_under, length-set, length-take}
-use Rattle.std.proofs.lemmas.List.Edits.{get_or-remove_above, length-remove}
+use Rattle.frame_pool.proofs.Common.{◌≡◌, ℕ, ◌+◌, ◌-◌, ◌<◌, ◌≤◌, List, length, refl, sym, ◌∙◌, ap, arith, get_or, inl, inr, cases_eq, same_number_lists, get_or-set_other, get_or-set_same, get_or-take, get_or_read_under, length-set, length-take, get_or-remove_above, length-remove}
 use Rattle.std.specs.Prelude.{remove, slice_set, take}
 use Rattle.frame_pool.proofs.pages.take_out.Goals as goal
 

@@ -1,5 +1,4 @@
-use Rattle.std.proofs.Common.{◌≡◌, ℕ, ◌+◌, ◌<◌, ◌≤◌, length, get_or}
-use Rattle.std.specs.Prelude.{remove}
+use Rattle.frame_pool.proofs.Common.{◌≡◌, ℕ, ◌+◌, ◌<◌, ◌≤◌, length, get_or, remove}
 use Rattle.frame_pool.proofs.pages.take_out.Given as goal
 
 -- in front of the place the pages are as they are to be, and from the one before it on as they were

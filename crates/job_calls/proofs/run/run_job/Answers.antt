@@ -1,7 +1,5 @@
-use Rattle.job_calls.proofs.Common.{◌≡◌, ◌∙◌, ap, sym, ◌≤◌, subst, arith, length, vec_len, get_or, All, List, ℕ, refl, Some, map, length-map, count_by-le-length, Ghosts, Fixed, Program, order_told, Desk, IsUnbroken, Event, IsEventAmong, Job, activity, Session, ghosts, is_turn, begins_in, turns_in, HasOpened, Replays, Replayed, call, Status, status_of_replay, OpensBy, HappenedTo, names_of, fixed_of, opening_of, span}
+use Rattle.job_calls.proofs.Common.{◌≡◌, ◌∙◌, ap, sym, ◌≤◌, subst, arith, length, vec_len, get_or, All, List, ℕ, refl, Some, map, length-map, count_by-le-length, Ghosts, Fixed, Program, order_told, Desk, IsUnbroken, Event, IsEventAmong, Job, activity, Session, ghosts, is_turn, begins_in, turns_in, HasOpened, Replays, Replayed, call, Status, status_of_replay, OpensBy, HappenedTo, names_of, fixed_of, opening_of, span, order_of, TellsBy}
 use Rattle.arrayvec.specs.ArrayVec.{ArrayVec}
-use Rattle.supervisor.specs.Session.{order_of}
-use Rattle.schedule_replay.specs.Told.{TellsBy}
 use Rattle.job_calls.proofs.CauseLemmas.{opens-by, put-rose, put-same, disk-rose}
 use Rattle.job_calls.proofs.NameLemmas.{name-unbroken, asked-among}
 use Rattle.job_calls.proofs.RunLemmas.{happened-by, has-opened, first_desk, first_opening}

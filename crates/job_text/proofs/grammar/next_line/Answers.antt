@@ -1,4 +1,4 @@
-use Rattle.std.proofs.Common.{arith}
+use Rattle.job_text.proofs.Common.{arith}
 use Rattle.job_text.proofs.Lemmas.{List, ℕ, Bor, ap, first_cut, first_shorter, only_part}
 use Rattle.std.specs.Option.{option_map}
 use Rattle.job_text.proofs.grammar.next_line.Goals as goal

@@ -1,6 +1,6 @@
 use Rattle.report_text.proofs.Lemmas.{◌≡◌, ◌≢◌, ℕ, List, Line, line_text, IsLine, without_feed}
 use Rattle.std.specs.Prelude.{Option, Some, None, Result, Ok, Err, IfOk, MatchOption}
-use Rattle.report_text.specs.Words.{bytes_in, numbers_in}
+use Rattle.report_text.proofs.Common.{bytes_in, numbers_in}
 use Rattle.report_text.proofs.read.whole_line.Goals as goal
 
 -- with the lists that a line of this text has to have, none is none

@@ -1,5 +1,5 @@
 use Rattle.schedule_replay.proofs.Lemmas.{◌≡◌, map, take, true, false, IsSure, held_of, Desk, Answered, Ran, done}
-use Rattle.schedule_replay.specs.Runs.{opening_of, span}
+use Rattle.schedule_replay.proofs.Common.{opening_of, span}
 use Rattle.schedule_replay.specs.Told.{Tells}
 use Rattle.schedule_replay.proofs.events.put_events.Given as goal
 

@@ -1,5 +1,4 @@
-use Rattle.seats.proofs.Common.{arith}
-use Rattle.std.proofs.lemmas.Nat.{and_le_l}
+use Rattle.seats.proofs.Common.{arith, and_le_l}
 use Rattle.seats.proofs.MeetsLemmas.{meets-bits}
 use Rattle.seats.proofs.seat_lines.meets.Goals as goal
 

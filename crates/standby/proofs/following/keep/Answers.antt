@@ -1,4 +1,4 @@
-use Rattle.std.proofs.Common.{arith}
+use Rattle.standby.proofs.Common.{arith}
 use Rattle.standby.proofs.Lemmas.{◌≡◌, ◌∙◌, ap, subst, Err, line_bytes, FlatStore, Stands, stands, Leaves, held_of, IsEither, KeptBank, KeptStore, number_of, TracksStore, Steps, put_of, kept_line, next, record_of, DiskFault, with_record, goes_on, goes_puts, goes_writes, either_begun, more_begun, on_ok, sized, step_kept, step_unkept, tracks_begun}
 use Rattle.store.specs.Appended.{CountsKept}
 use Rattle.store.specs.declared.keep.Kept.{Kept}

@@ -1,4 +1,4 @@
-use Rattle.std.proofs.Common.{arith}
+use Rattle.standby.proofs.Common.{arith}
 use Rattle.standby.proofs.Lemmas.{All, MatchOption, decode_of, encode_lower, ◌≡◌, ◌≢◌, ◌<◌, List, ℕ, None, sym, ap, ◌∙◌, inl, inr, decodes}
 use Rattle.std.proofs.lemmas.Result.{IfOk-weaker}
 use Rattle.hex.specs.declared.error.FromHexError.TheVariants.{OutOfMemory}

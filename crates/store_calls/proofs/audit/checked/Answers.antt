@@ -1,8 +1,5 @@
-use Rattle.store_calls.proofs.Common.{◌≡◌, ◌⊎◌, ℕ, List, inl, inr, refl, sym, ap, subst, ◌∙◌, length, told_of, CommitLine, IsVerdict, report_told, Bundle, Status, IsUnchecked, AreBundleParts, part_of, IsFaultAt}
-use Rattle.std.proofs.lemmas.List.{length-map}
+use Rattle.store_calls.proofs.Common.{◌≡◌, ◌⊎◌, ℕ, List, inl, inr, refl, sym, ap, subst, ◌∙◌, length, told_of, CommitLine, IsVerdict, report_told, Bundle, Status, IsUnchecked, AreBundleParts, part_of, IsFaultAt, length-map, KeptStore, Keeps}
 use Rattle.job_text.specs.declared.job.Job.{Job}
-use Rattle.serial_audit.specs.declared.auditing.KeptStore.{KeptStore}
-use Rattle.store_calls.specs.Kept.{Keeps}
 use Rattle.store_calls.proofs.BundleLemmas.{handed_on}
 use Rattle.store_calls.proofs.audit.checked.Goals as goal
 

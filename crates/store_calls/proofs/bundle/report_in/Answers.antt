@@ -1,6 +1,4 @@
-use Rattle.store_calls.proofs.Common.{◌≤◌, List, [], ◌∷◌, length, ap, arith, length-append, flat_map, is_commit, Line, line_text, commit_told}
-use Rattle.std.proofs.lemmas.List.{length-map}
-use Rattle.std.proofs.lemmas.List.Sums.{count_by-le-length, length-filter}
+use Rattle.store_calls.proofs.Common.{◌≤◌, List, [], ◌∷◌, length, ap, arith, length-append, flat_map, is_commit, Line, line_text, commit_told, length-map, count_by-le-length, length-filter}
 use Rattle.report_text.proofs.LineLemmas.{some_bytes}
 use Rattle.store_calls.proofs.bundle.report_in.Goals as goal
 

@@ -1,6 +1,5 @@
-use Rattle.store_calls.proofs.Common.{◌≡◌, ℕ, List, [], length, sym, ◌∙◌, ap, subst, arith, IsSome, Option, unwrap_or, take_all, Layout, byte_count, held_of, Header, Standing, Stands, stands, number_of, Shows, KeptStore, bytes_in}
+use Rattle.store_calls.proofs.Common.{◌≡◌, ℕ, List, [], length, sym, ◌∙◌, ap, subst, arith, IsSome, Option, unwrap_or, take_all, Layout, byte_count, held_of, Header, Standing, Stands, stands, number_of, Shows, KeptStore, bytes_in, Keeps}
 use Rattle.store.proofs.StoodLemmas.{committed_in, committed-long, stood-store}
-use Rattle.store_calls.specs.Kept.{Keeps}
 use Rattle.store.specs.KeptStore as restart
 use Rattle.store_calls.proofs.kept.read_store.Goals as goal
 

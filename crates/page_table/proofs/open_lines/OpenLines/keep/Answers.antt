@@ -1,5 +1,4 @@
-use Rattle.std.proofs.Common.{◌/◌}
-use Rattle.page_table.specs.KnownLines.{known}
+use Rattle.page_table.proofs.Common.{◌/◌, known}
 use Rattle.page_table.proofs.LineLemmas.{line_in-kept}
 use Rattle.page_table.proofs.open_lines.OpenLines.keep.Goals as goal
 

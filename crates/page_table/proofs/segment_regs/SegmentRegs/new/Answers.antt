@@ -1,8 +1,7 @@
 use Rattle.std.proofs.Common.{◌<◌, ◌≢◌, List, Option, None, ap, length, arith, get_or-set_other, get_or-set_same, below_more}
-use Rattle.std.proofs.lemmas.List.{length-set}
+use Rattle.page_table.proofs.Common.{length-set, register_with}
 use Rattle.std.proofs.lemmas.List.FromFn.{fill_by_all}
 use Rattle.page_table.specs.declared.segment_regs.SegmentRegister.{SegmentRegister}
-use Rattle.page_table.specs.Registers.{register_with}
 use Rattle.page_table.proofs.segment_regs.SegmentRegs.new.Goals as goal
 
 pub loop-number-preserved : goal.loop-number-preserved

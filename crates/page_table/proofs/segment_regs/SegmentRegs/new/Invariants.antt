@@ -1,5 +1,4 @@
-use Rattle.std.proofs.Common.{◌≡◌, ℕ, ◌<◌, None, length, get_or}
-use Rattle.page_table.specs.Registers.{register_with}
+use Rattle.page_table.proofs.Common.{◌≡◌, ℕ, ◌<◌, None, length, get_or, register_with}
 use Rattle.page_table.proofs.segment_regs.SegmentRegs.new.Given as goal
 
 abbrev pub invariant-loop-number : goal.invariant-loop-number

@@ -1,7 +1,4 @@
-use Rattle.romp_cpu.proofs.Common.{◌≡◌, sym, subst, ap, ◌∙◌, Bool, false, List, length, ℕ, Cpu, Attempt, Plan, Does, StoresAll, Seen, Tried, Act, Cs, Pending, Option, IsSoundPending, answer_in, seen_in, plan, planned, tried, tried_act, halfword_of}
-use Rattle.flat_machine.specs.Ready.{IsReadyAt, done}
-use Rattle.flat_machine.specs.declared.ready.Ready.{Ready}
-use Rattle.romp_cpu.specs.Tried.{at, IsDoneIf}
+use Rattle.romp_cpu.proofs.Common.{◌≡◌, sym, subst, ap, ◌∙◌, Bool, false, List, length, ℕ, Cpu, Attempt, Plan, Does, StoresAll, Seen, Tried, Act, Cs, Pending, Option, IsSoundPending, answer_in, seen_in, plan, planned, tried, tried_act, halfword_of, IsReadyAt, done, Ready, at, IsDoneIf}
 use Rattle.romp_cpu.proofs.WholeLemmas.{pending-stores}
 use Rattle.romp_cpu.proofs.PendingLemmas.{plan_of_ready, whole}
 use Rattle.romp_cpu.proofs.cpu.Cpu.carry_out.Goals.{in-Some+in_default-do_alone+in-Some-Does+else-act_at_once+in-Load+in-Some-link, in-Some+in_default-do_alone+in-Some-Does+else-act_at_once+in-Store+in-Some-this, in-Some+in_default-do_alone+in-Some-Does+else-act_at_once+in-Nothing-1, in-Some+in_default-do_alone+in-Some+in-Fails-1, in-Some+in_default-do_alone+in-None-1, in_default}

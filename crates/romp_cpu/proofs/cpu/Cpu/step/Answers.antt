@@ -1,5 +1,4 @@
-use Rattle.romp_cpu.proofs.Common.{subst, sym, answer_in, Tried, seen_in, GivesEveryRow}
-use Rattle.romp_cpu.specs.Tried.{at}
+use Rattle.romp_cpu.proofs.Common.{subst, sym, answer_in, Tried, seen_in, GivesEveryRow, at}
 use Rattle.romp_cpu.proofs.AttemptLemmas.{attempt-row}
 use Rattle.romp_cpu.proofs.cpu.Cpu.step.Goals as goal
 

@@ -1,6 +1,4 @@
-use Rattle.storage_unit.proofs.Common.{Option, IfSome, subst, reach_of}
-use Rattle.page_table.specs.declared.open_lines.OpenLine.{OpenLine}
-use Rattle.storage_unit.specs.OpenLines.{IsOpenFrom}
+use Rattle.storage_unit.proofs.Common.{Option, IfSome, subst, reach_of, OpenLine, IsOpenFrom}
 use Rattle.storage_unit.proofs.OpenedLemmas.{open-lies}
 use Rattle.storage_unit.proofs.unit.Unit.gather_if.Goals as goal
 

@@ -1,5 +1,4 @@
-use Rattle.supervisor.proofs.Common.{sym, ◌∙◌, ap, Desk, numbers, activity}
-use Rattle.activations.proofs.ContestLemmas.{numbers-told}
+use Rattle.supervisor.proofs.Common.{sym, ◌∙◌, ap, Desk, numbers, activity, numbers-told}
 use Rattle.supervisor.proofs.session.Session.active.Goals as goal
 
 pub returns-clause-shown : goal.returns-clause-shown

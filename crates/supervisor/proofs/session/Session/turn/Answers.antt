@@ -1,6 +1,5 @@
-use Rattle.std.proofs.Common.{arith}
+use Rattle.supervisor.proofs.Common.{arith, ◌↔◌}
 use Rattle.supervisor.proofs.Lemmas.{◌≡◌, ◌+◌, ℕ, ◌∙◌, None, activity, seat_of, true, false, ap, sym, subst, held_of, most_lines, number_of, IsTurnEnd, LeavesStore, FailsCounted, turn_fails, counts_told, turn_told, HasNumbers, Told, ToldAfterEnd, session_told, number_after, IsOpenOver, Turn, calls-store, did-turn, takes}
-use Rattle.std.specs.Prelude.{◌↔◌}
 use Rattle.desk.specs.declared.answers.TurnEnd.TheVariants.{Idle}
 use Rattle.desk.specs.declared.event.Event.TheVariants as event
 use Rattle.supervisor.proofs.session.Session.turn.Goals as goal
