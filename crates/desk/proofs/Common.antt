@@ -17,5 +17,3 @@ pub use Rattle.desk.specs.Report.{cycle_lines, event_lines, happening_lines, num
 pub use Rattle.desk.specs.Run.{is_fine, run}
 pub use Rattle.desk.specs.declared.event.Event.TheVariants.{Begin, Checkpoint, Crash, Turn}
 pub use Rattle.std.proofs.lemmas.Bool.Decides.{nat_tests}
-pub use Rattle.std.specs.Fmt.{digits}
-pub use Rattle.hex.specs.Hex.{encode_with}

@@ -20,5 +20,5 @@ pub use Rattle.page_table.specs.Buffer.{AreApart, ArePlaced, IsOfTable, after_fo
 pub use Rattle.page_table.specs.Ways.{AreClasses, pairs_of, unless_of, ways_without}
 pub use Rattle.page_table.specs.declared.tlb_model.Pair.{Pair}
 pub use Rattle.page_table.specs.declared.tlb_model.Ways.{Ways}
-pub use Rattle.page_table.specs.KnownLines.{line_in, with_line, known, unopened}
+pub use Rattle.page_table.specs.KnownLines.{line_in, with_line, unopened}
 pub use Rattle.page_table.specs.Registers.{register_with}

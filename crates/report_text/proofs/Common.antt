@@ -10,7 +10,7 @@ pub use Rattle.asm_parse.proofs.RunLemmas.{each_also, run_length}
 pub use Rattle.byteorder.specs.Endian.{big_bytes, big_number}
 pub use Rattle.desk.specs.Commits.{is_commit}
 pub use Rattle.desk.specs.Lines.{Begin, Busy, Check, Closed, Commit, Cycle, Disk, Doubt, End, Idle, Journal, Left, Line, Lost, NoSegment, Open, Stored, Turn, Victim, Wait, line_text, printed}
-pub use Rattle.hex.specs.Hex.{IsBytes, decode_of, decode_sized, encode_lower, encode_with, lower_digits}
+pub use Rattle.hex.specs.Hex.{IsBytes, decode_of, decode_sized, encode_lower, lower_digits}
 pub use Rattle.text_line.proofs.Bytes.{each_byte, empty_is, some_is}
 pub use Rattle.report_text.specs.Line.{commit_told, line_told}
 pub use Rattle.report_text.specs.ReadLines.{IsLine, IsWhole, Tells}

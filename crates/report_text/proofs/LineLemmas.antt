@@ -1,5 +1,6 @@
 -- The bytes of a line are its words, and its only line feed is its last byte.
-use Rattle.report_text.proofs.Common.{◌≡◌, ◌≢◌, ℕ, ◌+◌, ◌-◌, ◌/◌, ◌%◌, ◌^◌, ◌<◌, ◌≤◌, ◌==◌, nat_lt, not, Bool, true, false, List, [], ◌∷◌, ◌++◌, length, map, take, decimal, position, get_or, Some, None, refl, sym, ◌∙◌, ap, append_assoc, append-nil, length-append, arith, AllByRecursion, flat_map, list_all, join_with_byte, prefix_len, lt-ltb, nat_tests, take_at, All-get_or, recursion_from_All, each_also, run_length, big_bytes, Line, Open, Begin, Busy, NoSegment, Idle, Turn, Cycle, Victim, Commit, Check, Wait, Journal, Disk, Doubt, Closed, Stored, Lost, Left, End, printed, line_text, IsLine, IsOneWord, is_feed, kind_of, parts_of, encode_lower, encode_with, lower_digits}
+use Rattle.report_text.proofs.Common.{◌≡◌, ◌≢◌, ℕ, ◌+◌, ◌-◌, ◌/◌, ◌%◌, ◌^◌, ◌<◌, ◌≤◌, ◌==◌, nat_lt, not, Bool, true, false, List, [], ◌∷◌, ◌++◌, length, map, take, decimal, position, get_or, Some, None, refl, sym, ◌∙◌, ap, append_assoc, append-nil, length-append, arith, AllByRecursion, flat_map, list_all, join_with_byte, prefix_len, lt-ltb, nat_tests, take_at, All-get_or, recursion_from_All, each_also, run_length, big_bytes, Line, Open, Begin, Busy, NoSegment, Idle, Turn, Cycle, Victim, Commit, Check, Wait, Journal, Disk, Doubt, Closed, Stored, Lost, Left, End, printed, line_text, IsLine, IsOneWord, is_feed, kind_of, parts_of, encode_lower, lower_digits}
+use Rattle.hex.specs.Hex.{encode_with}
 use Rattle.std.proofs.lemmas.List.Concat.{flat_map-append}
 use Rattle.std.proofs.lemmas.List.Folds.{list_all-append}
 use Rattle.std.proofs.lemmas.List.Sums.{AllPass-from_list_all}

@@ -11,7 +11,7 @@ pub use Rattle.std.specs.List.{AllByRecursion, prefix_len}
 pub use Rattle.std.specs.Option.{ForSome, option_map}
 pub use Rattle.std.specs.Prelude.{All, Err, IfSome, MatchOption, None, Ok, OnErr, OnOk, Option, Result, Some, if◌then◌else◌, slice_get, slice_index, unwrap_or, fold}
 pub use Rattle.hex.proofs.HexLemmas.{decode_of-encode_lower, length-encode_with}
-pub use Rattle.hex.specs.Hex.{decode_of, encode_lower, lower_digits, encode_with}
+pub use Rattle.hex.specs.Hex.{decode_of, encode_lower, lower_digits}
 pub use Rattle.lines.specs.Directory.{Layout}
 pub use Rattle.lines.specs.FlatStore.{FlatStore}
 pub use Rattle.lines.specs.Lines.{line_count}

@@ -1,5 +1,7 @@
 -- Two writers of different lines of a fine page: neither waits.
-use Rattle.desk.proofs.Common.{range_with_len, lit≤, row_numbered, FlatStore, Four, Program, Begin, Turn, opened, Fine, fine_grant_by, instruction, turns, report, run, ◌≡◌, refl, true, false, [], ◌∷◌, ◌++◌, codes, replicate, slice_range, digits, encode_with}
+use Rattle.desk.proofs.Common.{range_with_len, lit≤, row_numbered, FlatStore, Four, Program, Begin, Turn, opened, Fine, fine_grant_by, instruction, turns, report, run, ◌≡◌, refl, true, false, [], ◌∷◌, ◌++◌, codes, replicate, slice_range}
+use Rattle.hex.specs.Hex.{encode_with}
+use Rattle.std.specs.Fmt.{digits}
 use Rattle.desk.proofs.Rows.Programs.{program, text, args, add_code}
 
 -- a store of one fine segment with two pages of 4,096 bytes

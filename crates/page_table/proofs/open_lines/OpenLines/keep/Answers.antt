@@ -1,4 +1,5 @@
-use Rattle.page_table.proofs.Common.{◌/◌, known}
+use Rattle.page_table.proofs.Common.{◌/◌}
+use Rattle.page_table.specs.KnownLines.{known}
 use Rattle.page_table.proofs.LineLemmas.{line_in-kept}
 use Rattle.page_table.proofs.open_lines.OpenLines.keep.Goals as goal
 

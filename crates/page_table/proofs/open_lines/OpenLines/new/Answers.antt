@@ -1,5 +1,6 @@
 use Rattle.std.proofs.Common.{replicate}
-use Rattle.page_table.proofs.Common.{known, unopened}
+use Rattle.page_table.proofs.Common.{unopened}
+use Rattle.page_table.specs.KnownLines.{known}
 use Rattle.page_table.proofs.LineLemmas.{line_in-none}
 use Rattle.page_table.proofs.open_lines.OpenLines.new.Goals as goal
 
