@@ -1,6 +1,7 @@
 -- What a command may end with, and what it needs to end well.
-use Rattle.std.specs.Prelude.{◌≡◌, ◌≤◌, ℕ, List, [], length, All, Option, Some, String, IsSome, IsTrue}
-use Rattle.console.specs.Below.{CanAudit, CanTrace, Ghosts, Global, HasRange, IsOfAudit, IsOfEvents, IsOfFollow, IsOfLines, IsOfNew, IsOfRenew, IsOfRun, IsOfShip, IsOfShow, IsOfTrace, IsSomeJob, most_lines, standing_as_one, Status}
+use Rattle.std.specs.Prelude.{◌≡◌, ◌≤◌, ◌⊎◌, ℕ, List, [], length, All, Option, Some, String, IsSome, IsTrue}
+use Rattle.outside.specs.Causes.{Rose}
+use Rattle.console.specs.Below.{CanAudit, CanTrace, Ghosts, Given, Global, HasRange, IsOfAudit, IsOfEvents, IsOfFollow, IsOfLines, IsOfNew, IsOfRenew, IsOfRun, IsOfShip, IsOfShow, IsOfTrace, IsSomeJob, most_lines, standing_as_one, Status}
 use Rattle.lines.specs.FlatStore.{FlatStore}
 use Rattle.store_format.specs.Stands.{Stands}
 use Rattle.outside.specs.Runs.{held_of}
@@ -75,6 +76,12 @@ pub record IsComplete {W : Type 0} (G : Ghosts W) (words : List (String Global))
   pub form : Command
   pub asks : IsForm form words
   pub has : HasAll G form left outside
+
+-- a call whose words are one, with no count of faults that rose, is done, or has no memory
+abbrev pub Completes : {W : Type 0} → Ghosts W → (words : List (String Global)) → Given → (before now : W) → Status → Type 0
+Completes G words given before now status =
+    IsComplete G words given.left before → (¬ (Rose given.faults given.faults_now)) → (¬ (Rose (G.disk_faults before) (G.disk_faults now))) → (¬ (Rose (G.put_faults before) (G.put_faults now)))
+    → (status ≡ Status.Done) ⊎ (status ≡ Status.NoMemory)
 
 -- a status of a command, by its own list
 abbrev pub IsOf : Command → Status → Type 0

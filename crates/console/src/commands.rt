@@ -1,8 +1,7 @@
 ghost use Rattle.std.specs.Prelude.{◌≡◌, ◌⊎◌, ◌↔◌, [], None};
-ghost use Rattle.outside.specs.Causes.{Rose};
 ghost use Rattle.console.specs.Below.{given, OpensBy, order_told, ReadFaultsBy, ReadsBy};
 ghost use Rattle.job_calls.specs.Handed.{HandedFits, HandsOn};
-ghost use Rattle.console.specs.Causes.{IsComplete, IsOf};
+ghost use Rattle.console.specs.Causes.{Completes, IsOf};
 ghost use Rattle.console.specs.Did.{Does};
 ghost use Rattle.console.specs.Words.{IsForm, IsNoForm, OpensSession, ReadsBundle, ReadsJob, ReadsStore, ReadsText, RunsJob};
 
@@ -36,7 +35,7 @@ pub fn console<S: Source, W: Outside>(
     ensures handed { OpensSession words.now → HandsOn (order_told result.order.items) result.session result.status }
     ensures fits { HandedFits W.Outside outside.new result.session }
     ensures no_session { (¬ (OpensSession words.now)) → result.session ≡ None }
-    ensures complete { IsComplete W.Outside words.now (S.left job.old) outside.old → (¬ (Rose (S.faults job.old) (S.faults job.new))) → (¬ (Rose (W.disk_faults outside.old) (W.disk_faults outside.new))) → (¬ (Rose (W.put_faults outside.old) (W.put_faults outside.new))) → (result.status ≡ Status.Done) ⊎ (result.status ≡ Status.NoMemory) }
+    ensures complete { Completes W.Outside words.now (given S.Source job.old job.new) outside.old outside.new result.status }
 {
     let Some(command) = command_of(words) else {
         return Ended::without_events(alloc, Status::Usage);
