@@ -18,6 +18,7 @@ pub mod RowLemmas
 pub mod ServedLemmas
 pub mod SittingLemmas
 pub mod StartLemmas
+pub mod StrideLemmas
 pub mod TableLemmas
 pub mod TouchingLemmas
 pub mod TurnLemmas

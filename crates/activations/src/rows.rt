@@ -4,6 +4,7 @@ ghost use Rattle.activations.specs.Activity.{Activity, activity_of};
 ghost use Rattle.activations.specs.Kept.{WasAttempted, IsShut, IsStopped, HasStrode, RunsAt, standing, with_live, KeepsParts, IsSelected, Strode};
 ghost use Rattle.activations.specs.Follows.{IsSound};
 ghost use Rattle.activations.specs.Below.{has, reach_of};
+ghost use Rattle.romp_cpu.specs.Tried.{how_went};
 
 use super::activations::Activations;
 use super::live::Live;
@@ -51,24 +52,27 @@ fn attempt_on(unit: &mut Unit, live: &mut Live) -> Attempt
     ensures directory { (reach_of unit.new).directory ≡ (reach_of unit.old).directory }
 {
     let mut iar = live.cpu.iar;
-    let went = step_on(unit, live, &mut iar);
+    let mut went = Attempt::Went;
+    let at_once = step_on(unit, live, &mut iar, &mut went);
     live.cpu.iar = iar;
-    went
+    if at_once { Attempt::Went } else { went }
 }
 
-/// The same of the instruction at an address that the caller keeps.
+/// The same of the instruction at an address that the caller keeps. True: it went at once. Else `went` says how.
 #[inline(always)]
-fn step_on(unit: &mut Unit, live: &mut Live, iar: &mut u32) -> Attempt
+fn step_on(unit: &mut Unit, live: &mut Live, iar: &mut u32, went: &mut Attempt) -> bool
     requires runs { (a : Activity) × (seat : ℕ) × RunsAt a seat (reach_of unit.old) (standing live.old iar.old) }
     ensures sound { (a : Activity) (seat : ℕ) → RunsAt a seat (reach_of unit.old) (standing live.old iar.old) → IsSound (with_live a seat (standing live.new iar.new) (reach_of unit.new)) }
-    ensures went { (a : Activity) (seat : ℕ) → RunsAt a seat (reach_of unit.old) (standing live.old iar.old) → WasAttempted result a seat (with_live a seat (standing live.new iar.new) (reach_of unit.new)) }
+    ensures went { (a : Activity) (seat : ℕ) → RunsAt a seat (reach_of unit.old) (standing live.old iar.old) → WasAttempted (how_went result went.new) a seat (with_live a seat (standing live.new iar.new) (reach_of unit.new)) }
     ensures directory { (reach_of unit.new).directory ≡ (reach_of unit.old).directory }
 {
-    let went = unit.step(&mut live.cpu, iar);
-    if let Attempt::Print(byte) = went {
+    if unit.step(&mut live.cpu, iar, went) {
+        return true;
+    }
+    if let Attempt::Print(byte) = *went {
         live.out.push(byte);
     }
-    went
+    false
 }
 
 /// The next rows of what runs in a seat, which is selected, at most so many.
@@ -89,9 +93,14 @@ fn stride_from(unit: &mut Unit, live: &mut Live, iar: &mut u32, limit: u32) -> (
     requires runs { (a : Activity) × (seat : ℕ) × RunsAt a seat (reach_of unit.old) (standing live.old iar.old) }
     ensures { HasStrode result limit (reach_of unit.old) (standing live.old iar.old) (reach_of unit.new) (standing live.new iar.new) }
 {
+    let mut went = Attempt::Went;
     let mut ran = 0;
     while ran < limit {
-        match step_on(unit, live, iar) {
+        if step_on(unit, live, iar, &mut went) {
+            ran += 1;
+            continue;
+        }
+        match went {
             Attempt::Went | Attempt::Print(_) => ran += 1,
             Attempt::Fault(_, access) => return (ran, Some(access)),
             Attempt::Commit | Attempt::Check(_) => return (ran, None),

@@ -16,11 +16,33 @@ use Rattle.romp_cpu.specs.declared.cpu.Cpu.{Cpu}
 use Rattle.romp_cpu.specs.declared.storage.Access.{Access}
 use Rattle.romp_cpu.specs.declared.storage.Probe.{Probe}
 use Rattle.romp_cpu.specs.Shown.{access_to, halfword_of}
-use Rattle.romp_cpu.specs.Tried.{Seen, Tried}
+use Rattle.romp_cpu.specs.declared.storage.Storage.{Ghosts}
+use Rattle.romp_cpu.specs.Answers.{answer_in}
+use Rattle.romp_cpu.specs.Tried.{Seen, seen_in, Tried, tried, tried_act}
 
 -- the plan of a processor's next instruction, from the bytes that are shown
 abbrev pub next_plan : (byte_at : ℕ → ℕ) → Cpu → Plan
 next_plan byte_at cpu = plan (halfword_of byte_at) cpu.regs cpu.cs cpu.iar
+
+-- what is seen of a storage as it is
+abbrev pub seen_of : {S State : Type 0} (G : Ghosts S State) → S → Seen State
+seen_of G storage = seen_in G.byte_at (answer_in G.registers G.is_in_frame G.refuses) G.stored (G.state storage)
+
+-- the plan of a processor's next instruction over a storage
+abbrev pub plan_over : {S State : Type 0} (G : Ghosts S State) → S → Cpu → Plan
+plan_over G storage cpu = next_plan (G.byte_at (G.state storage)) cpu
+
+-- an attempt's answer, with the processor and the storage that it left
+abbrev pub left_as : {S State : Type 0} (G : Ghosts S State) → Attempt → Cpu → S → Tried State
+left_as G attempt cpu storage = record { attempt = attempt; cpu = cpu; state = G.state storage }
+
+-- from a storage and a processor to others an attempt does the act that is left of an instruction
+abbrev pub TriesAct : {S State : Type 0} (G : Ghosts S State) (before after : S) (old new : Cpu) → Act → (next : ℕ) → Option (ℕ × ℕ) → Attempt → Type 0
+TriesAct G before after old new act next link attempt = left_as G attempt new after ≡ tried_act (seen_of G before) old act old.regs old.cs next link
+
+-- it does what the plan of the next instruction says
+abbrev pub TriesNext : {S State : Type 0} (G : Ghosts S State) (before after : S) (old new : Cpu) → Attempt → Type 0
+TriesNext G before after old new attempt = left_as G attempt new after ≡ tried (seen_of G before) old (plan_over G before old)
 
 -- the access of an act
 abbrev pub access_of : Act → Option Access

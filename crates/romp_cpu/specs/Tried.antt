@@ -21,6 +21,11 @@ pub record Tried (S : Type 0) : Type 0 where
 abbrev pub at : Cpu → (iar : ℕ) → Cpu
 at cpu iar = record cpu { iar = iar }
 
+-- how an attempt went: at once, or as it was told
+abbrev pub how_went : (at_once : Bool) → (told : Attempt) → Attempt
+how_went true told = Attempt.Went
+how_went false told = told
+
 -- what a storage in a state shows of a range, answers to an access, and is after a store
 pub record Seen (S : Type 0) : Type 0 where
   pub state : S

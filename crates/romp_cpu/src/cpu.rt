@@ -5,9 +5,8 @@ ghost use Rattle.flat_machine.specs.Pending.{planned, IsSoundPending};
 ghost use Rattle.flat_machine.specs.Plans.{Does};
 ghost use Rattle.flat_machine.specs.declared.machine.Act.{Act};
 ghost use Rattle.romp_cpu.specs.Shown.{halfword_of};
-ghost use Rattle.romp_cpu.specs.Answers.{answer_in};
-ghost use Rattle.romp_cpu.specs.Tried.{at, linked, seen_in, tried, tried_act, IsDoneIf};
-ghost use Rattle.romp_cpu.specs.Attempts.{next_plan, GivesEveryRow, UndoesUnlessWent, IsOfFewBytes, StoresAll};
+ghost use Rattle.romp_cpu.specs.Tried.{at, how_went, linked, tried, IsDoneIf};
+ghost use Rattle.romp_cpu.specs.Attempts.{left_as, plan_over, seen_of, GivesEveryRow, TriesAct, TriesNext, UndoesUnlessWent, IsOfFewBytes, StoresAll};
 
 use super::storage::{Access, Fault, Probe, Storage};
 use flat_machine::{Act, Cs, Fetch, Pending, do_alone, start_row, start_wanting};
@@ -60,47 +59,49 @@ impl Cpu {
     /// that is the answer, with the access that was asked (docs/MODEL.md).
     #[inline(always)]
     pub fn attempt<S: Storage>(&mut self, storage: &mut S) -> Attempt
-        ensures tried { record { attempt = result; cpu = self.new; state = S.state storage.new } ≡ tried (seen_in S.byte_at (answer_in S.registers S.is_in_frame S.refuses) S.stored (S.state storage.old)) self.old (next_plan (S.byte_at (S.state storage.old)) self.old) }
-        ensures row { GivesEveryRow self.old (seen_in S.byte_at (answer_in S.registers S.is_in_frame S.refuses) S.stored (S.state storage.old)) (record { attempt = result; cpu = self.new; state = S.state storage.new }) }
+        ensures tried { TriesNext S.Storage storage.old storage.new self.old self.new result }
+        ensures row { GivesEveryRow self.old (seen_of S.Storage storage.old) (left_as S.Storage result self.new storage.new) }
         ensures undone { UndoesUnlessWent result self.old self.new (S.state storage.old) (S.state storage.new) }
         ensures few { IsOfFewBytes result }
-        ensures whole { StoresAll (next_plan (S.byte_at (S.state storage.old)) self.old) }
+        ensures whole { StoresAll (plan_over S.Storage storage.old self.old) }
     {
         let mut iar = self.iar;
-        let went = self.step(storage, &mut iar);
+        let mut went = Attempt::Went;
+        let at_once = self.step(storage, &mut iar, &mut went);
         self.iar = iar;
-        went
+        if at_once { Attempt::Went } else { went }
     }
 
     /// The attempt of the instruction at an address that the caller keeps, so that it needn't go through memory from one row to
-    /// the next. The processor's own is any after it.
+    /// the next. The processor's own is any after it. True: it went at once. Else `went` says how, in a place of the caller's,
+    /// so that none is cleared for a row that goes at once (docs/MODEL.md).
     #[inline(always)]
-    pub fn step<S: Storage>(&mut self, storage: &mut S, iar: &mut u32) -> Attempt
-        ensures tried { record { attempt = result; cpu = at self.new iar.new; state = S.state storage.new } ≡ tried (seen_in S.byte_at (answer_in S.registers S.is_in_frame S.refuses) S.stored (S.state storage.old)) (at self.old iar.old) (next_plan (S.byte_at (S.state storage.old)) (at self.old iar.old)) }
-        ensures row { GivesEveryRow (at self.old iar.old) (seen_in S.byte_at (answer_in S.registers S.is_in_frame S.refuses) S.stored (S.state storage.old)) (record { attempt = result; cpu = at self.new iar.new; state = S.state storage.new }) }
-        ensures few { IsOfFewBytes result }
-        ensures whole { StoresAll (next_plan (S.byte_at (S.state storage.old)) (at self.old iar.old)) }
+    pub fn step<S: Storage>(&mut self, storage: &mut S, iar: &mut u32, went: &mut Attempt) -> bool
+        ensures tried { TriesNext S.Storage storage.old storage.new (at self.old iar.old) (at self.new iar.new) (how_went result went.new) }
+        ensures row { GivesEveryRow (at self.old iar.old) (seen_of S.Storage storage.old) (left_as S.Storage (how_went result went.new) (at self.new iar.new) storage.new) }
+        ensures few { IsOfFewBytes (how_went result went.new) }
+        ensures whole { StoresAll (plan_over S.Storage storage.old (at self.old iar.old)) }
     {
-        self.carry_out(storage, iar)
+        self.carry_out(storage, iar, went)
     }
 
     /// Does what the instruction at an address is to do, as far as the storage permits.
     #[inline(always)]
-    fn carry_out<S: Storage>(&mut self, storage: &mut S, iar: &mut u32) -> Attempt
-        ensures tried { record { attempt = result; cpu = at self.new iar.new; state = S.state storage.new } ≡ tried (seen_in S.byte_at (answer_in S.registers S.is_in_frame S.refuses) S.stored (S.state storage.old)) (at self.old iar.old) (next_plan (S.byte_at (S.state storage.old)) (at self.old iar.old)) }
-        ensures few { IsOfFewBytes result }
-        ensures whole { StoresAll (next_plan (S.byte_at (S.state storage.old)) (at self.old iar.old)) }
+    fn carry_out<S: Storage>(&mut self, storage: &mut S, iar: &mut u32, went: &mut Attempt) -> bool
+        ensures tried { TriesNext S.Storage storage.old storage.new (at self.old iar.old) (at self.new iar.new) (how_went result went.new) }
+        ensures few { IsOfFewBytes (how_went result went.new) }
+        ensures whole { StoresAll (plan_over S.Storage storage.old (at self.old iar.old)) }
     {
         self.iar = *iar;
         if let Some(row) = storage.ready(*iar) {
             if let Some(next) = do_alone(row, &mut self.regs, &mut self.cs, *iar) {
                 *iar = next;
-                return Attempt::Went;
+                return true;
             }
             if let Some(Pending::Does { act, next, link }) = start_wanting(row, &self.regs, *iar) {
                 if self.act_at_once(storage, act, next, link) {
                     *iar = self.iar;
-                    return Attempt::Went;
+                    return true;
                 }
                 match (act, link) {
                     (
@@ -112,9 +113,9 @@ impl Cpu {
                         },
                         None,
                     ) => {
-                        let went = self.load(storage, address, bytes, to, sign, next, None);
+                        self.load(storage, address, bytes, to, sign, next, None, went);
                         *iar = self.iar;
-                        return went;
+                        return false;
                     }
                     (
                         Act::Store {
@@ -124,17 +125,17 @@ impl Cpu {
                         },
                         None,
                     ) => {
-                        let went = self.store(storage, address, bytes, from, next, None);
+                        self.store(storage, address, bytes, from, next, None, went);
                         *iar = self.iar;
-                        return went;
+                        return false;
                     }
                     _ => {}
                 }
             }
         }
-        let went = self.carry_out_anew(storage);
+        self.carry_out_anew(storage, went);
         *iar = self.iar;
-        went
+        false
     }
 
     /// What is left of an instruction, where it is known at once that its access is permitted. Else nothing changes.
@@ -148,7 +149,7 @@ impl Cpu {
     ) -> bool
         requires access { IsAccess act }
         requires link { ForSome link (λ written. written.0 < 16) }
-        ensures { IsDoneIf result (seen_in S.byte_at (answer_in S.registers S.is_in_frame S.refuses) S.stored (S.state storage.old)) self.old (Does self.old.regs self.old.cs act next link) self.new (S.state storage.new) }
+        ensures { IsDoneIf result (seen_of S.Storage storage.old) self.old (Does self.old.regs self.old.cs act next link) self.new (S.state storage.new) }
     {
         let did = match act {
             Act::Nothing => true,
@@ -183,22 +184,23 @@ impl Cpu {
         sign: bool,
         next: u32,
         link: Option<(u8, u32)>,
-    ) -> Attempt
+        went: &mut Attempt,
+    )
         requires fits { FitsFrom bytes to }
         requires link { ForSome link (λ written. written.0 < 16) }
-        ensures tried { record { attempt = result; cpu = self.new; state = S.state storage.new } ≡ tried_act (seen_in S.byte_at (answer_in S.registers S.is_in_frame S.refuses) S.stored (S.state storage.old)) self.old (Act.Load address bytes to sign) self.old.regs self.old.cs next link }
-        ensures few { IsOfFewBytes result }
+        ensures tried { TriesAct S.Storage storage.old storage.new self.old self.new (Act.Load address bytes to sign) next link went.new }
+        ensures few { IsOfFewBytes went.new }
     {
         let access = Access {
             address,
             bytes,
             store: false,
         };
-        match storage.read(&access, to, sign, &mut self.regs) {
+        *went = match storage.read(&access, to, sign, &mut self.regs) {
             Probe::Permitted => self.go_on(next, link),
             Probe::Check(code) => Attempt::Check(code),
             Probe::Fault(fault) => Attempt::Fault(fault, access),
-        }
+        };
     }
 
     /// A store, as far as the storage permits, told in numbers too.
@@ -211,30 +213,31 @@ impl Cpu {
         from: u8,
         next: u32,
         link: Option<(u8, u32)>,
-    ) -> Attempt
+        went: &mut Attempt,
+    )
         requires fits { FitsFrom bytes from }
         requires link { ForSome link (λ written. written.0 < 16) }
-        ensures tried { record { attempt = result; cpu = self.new; state = S.state storage.new } ≡ tried_act (seen_in S.byte_at (answer_in S.registers S.is_in_frame S.refuses) S.stored (S.state storage.old)) self.old (Act.Store address bytes from) self.old.regs self.old.cs next link }
-        ensures few { IsOfFewBytes result }
+        ensures tried { TriesAct S.Storage storage.old storage.new self.old self.new (Act.Store address bytes from) next link went.new }
+        ensures few { IsOfFewBytes went.new }
     {
         let access = Access {
             address,
             bytes,
             store: true,
         };
-        match storage.write(&access, from, &self.regs) {
+        *went = match storage.write(&access, from, &self.regs) {
             Probe::Permitted => self.go_on(next, link),
             Probe::Check(number) => Attempt::Check(number),
             Probe::Fault(why) => Attempt::Fault(why, access),
-        }
+        };
     }
 
     /// The same where no row made ready is known there: one is asked for, and this time the instruction is decoded.
     #[inline(never)]
-    fn carry_out_anew<S: Storage>(&mut self, storage: &mut S) -> Attempt
-        ensures tried { record { attempt = result; cpu = self.new; state = S.state storage.new } ≡ tried (seen_in S.byte_at (answer_in S.registers S.is_in_frame S.refuses) S.stored (S.state storage.old)) self.old (next_plan (S.byte_at (S.state storage.old)) self.old) }
-        ensures few { IsOfFewBytes result }
-        ensures whole { StoresAll (next_plan (S.byte_at (S.state storage.old)) self.old) }
+    fn carry_out_anew<S: Storage>(&mut self, storage: &mut S, went: &mut Attempt)
+        ensures tried { TriesNext S.Storage storage.old storage.new self.old self.new went.new }
+        ensures few { IsOfFewBytes went.new }
+        ensures whole { StoresAll (plan_over S.Storage storage.old self.old) }
     {
         storage.prepare(self.iar);
         let pending = start_row(
@@ -243,24 +246,19 @@ impl Cpu {
             &mut self.cs,
             self.iar,
         );
-        self.finish(storage, pending)
+        self.finish(storage, pending, went);
     }
 
     /// What is left of an instruction whose registers and status are as it makes them.
     #[inline(always)]
-    fn finish<S: Storage>(&mut self, storage: &mut S, pending: Pending) -> Attempt
+    fn finish<S: Storage>(&mut self, storage: &mut S, pending: Pending, went: &mut Attempt)
         requires sound { IsSoundPending pending }
-        ensures tried { record { attempt = result; cpu = self.new; state = S.state storage.new } ≡ tried (seen_in S.byte_at (answer_in S.registers S.is_in_frame S.refuses) S.stored (S.state storage.old)) self.old (planned self.old.regs self.old.cs pending) }
-        ensures few { IsOfFewBytes result }
+        ensures tried { left_as S.Storage went.new self.new storage.new ≡ tried (seen_of S.Storage storage.old) self.old (planned self.old.regs self.old.cs pending) }
+        ensures few { IsOfFewBytes went.new }
     {
         match pending {
-            Pending::Fails(code) => Attempt::Check(code),
-            Pending::Does {
-                act: Act::Nothing,
-                next,
-                link,
-            } => self.go_on(next, link),
-            Pending::Does { act, next, link } => self.act(storage, act, next, link),
+            Pending::Fails(code) => *went = Attempt::Check(code),
+            Pending::Does { act, next, link } => self.act(storage, act, next, link, went),
         }
     }
 
@@ -272,36 +270,38 @@ impl Cpu {
         act: Act,
         next: u32,
         link: Option<(u8, u32)>,
-    ) -> Attempt
+        went: &mut Attempt,
+    )
         requires access { IsAccess act }
         requires link { ForSome link (λ written. written.0 < 16) }
-        ensures tried { record { attempt = result; cpu = self.new; state = S.state storage.new } ≡ tried_act (seen_in S.byte_at (answer_in S.registers S.is_in_frame S.refuses) S.stored (S.state storage.old)) self.old act self.old.regs self.old.cs next link }
-        ensures few { IsOfFewBytes result }
+        ensures tried { TriesAct S.Storage storage.old storage.new self.old self.new act next link went.new }
+        ensures few { IsOfFewBytes went.new }
     {
-        match act {
+        *went = match act {
             Act::Nothing => self.go_on(next, link),
             Act::Load {
                 address,
                 bytes,
                 to,
                 sign,
-            } => self.load(storage, address, bytes, to, sign, next, link),
+            } => return self.load(storage, address, bytes, to, sign, next, link, went),
             Act::Store {
                 address,
                 bytes,
                 from,
-            } => self.store(storage, address, bytes, from, next, link),
+            } => return self.store(storage, address, bytes, from, next, link, went),
             Act::Print(byte) => {
-                if self.printed >= 4096 {
-                    return Attempt::Check(5);
+                if self.printed < 4096 {
+                    self.printed += 1;
+                    let _ = self.go_on(next, link);
+                    Attempt::Print(byte)
+                } else {
+                    Attempt::Check(5)
                 }
-                self.printed += 1;
-                let _ = self.go_on(next, link);
-                Attempt::Print(byte)
             }
             Act::Commit => Attempt::Commit,
             Act::Check(code) => Attempt::Check(code),
-        }
+        };
     }
 
     /// The instruction takes effect: its link is written last.

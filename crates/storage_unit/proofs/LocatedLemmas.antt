@@ -1,7 +1,6 @@
 -- An access under the segment registers of a program lies where the plain machine has it.
-use Rattle.storage_unit.proofs.Common.{arith, nat_tests, Layout, length_of, IsLegal, virtual_at, located_under, located_by, Private, Program, in_segment, in_register, located, register_of_window, registers_of_program, named-low, Reach, private_segment, is_private, place_at, seat_of, HasWindows, ◌≡◌, ℕ, zero, suc, ◌/◌, ◌%◌, ◌^◌, Bool, true, slice_index_or, Option, None, option_map, Ok}
+use Rattle.storage_unit.proofs.Common.{arith, nat_tests, Layout, IsLegal, virtual_at, located_under, located_by, Private, Program, in_register, located, register_of_window, registers_of_program, named-low, Reach, private_segment, is_private, place_at, seat_of, HasWindows, ◌≡◌, ℕ, zero, suc, ◌/◌, ◌%◌, ◌^◌, Bool, true, slice_index_or, None, Ok}
 use Rattle.std.proofs.Math.ListN.{get_or-map}
-use Rattle.flat_machine.specs.declared.machine.Window.{Window}
 use Rattle.storage_unit.proofs.PlaceLemmas.{offset-is}
 
 module _ (d : Layout) (legal : IsLegal d.segments) (seat : ℕ) where

@@ -35,6 +35,6 @@ pub use Rattle.ready_rows.specs.Known.{known, unless_met}
 pub use Rattle.romp_cpu.specs.Answers.{answer_in, answer_of, answered_at, if_permitted, IsRefusal}
 pub use Rattle.romp_cpu.specs.Attempts.{IsOfFewBytes, lines_of_access}
 pub use Rattle.romp_cpu.specs.Shown.{access_to, bytes_from, halfword_of}
-pub use Rattle.romp_cpu.specs.Tried.{at, seen_in, Tried, tried}
+pub use Rattle.romp_cpu.specs.Tried.{at, how_went, seen_in, Tried, tried}
 pub use Rattle.romp_cpu.specs.declared.storage.Access.{Access}
 pub use Rattle.romp_cpu.specs.declared.storage.Probe.{Probe}

@@ -1,6 +1,6 @@
 // The unit as a storage.
 ghost use Rattle.std.specs.Prelude.{◌≡◌, ◌+◌, ◌*◌, ◌-◌, ◌%◌, ◌<◌, ◌≤◌, ◌^◌, ℕ, length, find, not, Ok, Some, true, false, IfOk, IfErr, IfSome};
-ghost use Rattle.storage_unit.specs.Below.{Access, access_to, answer_in, answer_of, answered_at, at, byte_count, bytes_from, bytes_on, filled, if_permitted, IsOfFewBytes, IsRefusal, IsRowOf, key_of, line_bytes, line_of, located_by, look_up, page_bytes, Probe, range_with_len, start_of, stored_bytes};
+ghost use Rattle.storage_unit.specs.Below.{Access, access_to, answer_in, answer_of, answered_at, at, byte_count, bytes_from, bytes_on, filled, how_went, if_permitted, IsOfFewBytes, IsRefusal, IsRowOf, key_of, line_bytes, line_of, located_by, look_up, page_bytes, Probe, range_with_len, start_of, stored_bytes};
 ghost use Rattle.storage_unit.specs.ReadyRows.{private_half};
 ghost use Rattle.flat_machine.specs.Access.{FitsFrom};
 ghost use Rattle.storage_unit.specs.Places.{is_private, offset_of, place_of, on};
@@ -889,15 +889,16 @@ impl Unit {
     /// One attempt of the instruction at an address by a processor over this unit. What comes follows from the instruction's
     /// plan and the unit's answer to its access alone. Whatever bytes are committed, it is the program's
     /// row on the private bytes of the seat and the bytes of the store that the unit shows over them (docs/MODEL.md).
+    /// True: it went at once. Else `went` says how.
     #[inline(always)]
-    pub fn step(&mut self, cpu: &mut Cpu, iar: &mut u32) -> Attempt
-        ensures tried { record { attempt = result; cpu = at cpu.new iar.new; state = reach_of self.new } ≡ tried_over (reach_of self.old) (at cpu.old iar.old) }
-        ensures row { GivesRows result (at cpu.old iar.old) (at cpu.new iar.new) (reach_of self.old) (reach_of self.new) }
+    pub fn step(&mut self, cpu: &mut Cpu, iar: &mut u32, went: &mut Attempt) -> bool
+        ensures tried { record { attempt = how_went result went.new; cpu = at cpu.new iar.new; state = reach_of self.new } ≡ tried_over (reach_of self.old) (at cpu.old iar.old) }
+        ensures row { GivesRows (how_went result went.new) (at cpu.old iar.old) (at cpu.new iar.new) (reach_of self.old) (reach_of self.new) }
         ensures kept { ChangesBytes (reach_of self.old) (reach_of self.new) }
         ensures clean { StaysClean (reach_of self.old) (reach_of self.new) }
         ensures seats { LeavesSeats (reach_of self.old) (reach_of self.new) }
-        ensures few { IsOfFewBytes result }
+        ensures few { IsOfFewBytes (how_went result went.new) }
     {
-        cpu.step(self, iar)
+        cpu.step(self, iar, went)
     }
 }

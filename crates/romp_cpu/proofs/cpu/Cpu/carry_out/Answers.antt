@@ -86,7 +86,7 @@ returns-in-Load-None-clause-tried g c =
     let value = wanted c.in-Some.row.now half cpu c.do_alone.new.regs c.in-Some-Does.field-0 c.in-Some.ensures stays.0 c.in-Some-Does.ensures.value ∙ ap (planned cpu.regs cpu.cs) c.in-Some-Does.field-0-is in
     asked seen_of state (s.state told.new.storage) cpu before told.new.self (plan half cpu.regs cpu.cs cpu.iar) c.in-Some-Does.act c.in-Some-Does.next c.in-Some-Does.link _
     (whole cpu c.do_alone.new.regs c.do_alone.new.cs stays) (idle told.result (seen_of state) before told.new.self (s.state told.new.storage) _ c.if-act_at_once.false told.ensures) value
-    (rw c.in-Load-None.is-0 (rw c.in-Load-None.is-1 c.load-went.ensures.tried))
+    (rw c.in-Load-None.is-0 (rw c.in-Load-None.is-1 c.load.ensures.tried))
 
 pub returns-in-Store-None-clause-tried : goal.returns-in-Store-None-clause-tried
 returns-in-Store-None-clause-tried g c =
@@ -101,7 +101,7 @@ returns-in-Store-None-clause-tried g c =
     let value = wanted c.in-Some.row.now half cpu c.do_alone.new.regs c.in-Some-Does.field-0 c.in-Some.ensures stays.0 c.in-Some-Does.ensures.value ∙ ap (planned cpu.regs cpu.cs) c.in-Some-Does.field-0-is in
     asked seen_of state (s.state told.new.storage) cpu before told.new.self (plan half cpu.regs cpu.cs cpu.iar) c.in-Some-Does.act c.in-Some-Does.next c.in-Some-Does.link _
     (whole cpu c.do_alone.new.regs c.do_alone.new.cs stays) (idle told.result (seen_of state) before told.new.self (s.state told.new.storage) _ c.if-act_at_once.false told.ensures) value
-    (rw c.in-Store-None.is-0 (rw c.in-Store-None.is-1 c.store-went.ensures.tried))
+    (rw c.in-Store-None.is-0 (rw c.in-Store-None.is-1 c.store.ensures.tried))
 
 pub returns-clause-tried : goal.returns-clause-tried
 returns-clause-tried g c =
@@ -123,4 +123,4 @@ returns-clause-tried g c =
       | in-Some+in_default-do_alone+in-None-1 w ↦ (w.self-is ∙ whole cpu w.do_alone.new.regs w.do_alone.new.cs w.in_default-do_alone.ensures.stays, ap s.state w.storage-is)
       | in_default w ↦ (w.self-is, ap s.state w.storage-is)
     ] in
-    again seen_of (λ (at : g.row.S-State.Denot) (now : Cpu). plan (halfword_of (s.byte_at at)) now.regs now.cs now.iar) state (s.state c.match-ready.storage) cpu c.match-ready.self _ same c.carry_out_anew-went.ensures.tried
+    again seen_of (λ (at : g.row.S-State.Denot) (now : Cpu). plan (halfword_of (s.byte_at at)) now.regs now.cs now.iar) state (s.state c.match-ready.storage) cpu c.match-ready.self _ same c.carry_out_anew.ensures.tried
