@@ -1,5 +1,5 @@
-ghost use Rattle.std.specs.Prelude.{◌≡◌, ◌<◌, None, replicate};
-ghost use Rattle.page_table.specs.Registers.{register_at, register_with, registers_with, located_under, located_by, virtual_at};
+ghost use Rattle.std.specs.Prelude.{◌≡◌, ◌<◌, ◌==◌, ◌&&◌, not, if◌then◌else◌, ℕ, Some, None, get_or, replicate};
+ghost use Rattle.page_table.specs.Registers.{register_of, registers_with, located_under, located_by, virtual_at};
 
 use lines::PageSize;
 use std::marker::Model;
@@ -59,8 +59,16 @@ impl SegmentRegs {
         ensures { result ≡ registers_with page private windows.now }
     {
         let mut registers = [None; 16];
-        for number in 0..16 {
-            registers[number] = under(private, windows, number);
+        registers[0] = Some(SegmentRegister {
+            segment: private,
+            bytes: 16384,
+            write: true,
+        });
+        // The first window of a register stands there, so the last is put first.
+        let mut left = windows.len();
+        while left > 0 {
+            left -= 1;
+            put_under(&mut registers, windows[left]);
         }
         SegmentRegs { page, registers }
     }
@@ -75,33 +83,18 @@ impl SegmentRegs {
     }
 }
 
-/// What stands under the register with a number.
-fn under(private: u16, windows: &[(u8, u16, u32, bool)], number: usize) -> Option<SegmentRegister>
-    ensures { result ≡ register_with private windows.now number }
+/// A window stands under its register from now on, in place of what stood there.
+fn put_under(registers: &mut [Option<SegmentRegister>; 16], window: (u8, u16, u32, bool))
+    ensures { (k : ℕ) → k < 16 → get_or registers.new k None ≡ (if not (k == 0) && (window.0 == k) then Some (register_of window) else get_or registers.old k None) }
 {
-    if number == 0 {
-        Some(SegmentRegister {
-            segment: private,
-            bytes: 16384,
-            write: true,
-        })
-    } else {
-        window_under(windows, number)
+    let (register, segment, bytes, write) = window;
+    if (1..16).contains(&register) {
+        registers[usize::from(register)] = Some(SegmentRegister {
+            segment,
+            bytes,
+            write,
+        });
     }
-}
-
-/// The first window that has a number.
-fn window_under(windows: &[(u8, u16, u32, bool)], number: usize) -> Option<SegmentRegister>
-    ensures { result ≡ register_at windows.now number }
-{
-    let (_, segment, bytes, write) = *windows
-        .iter()
-        .find(|window| usize::from(window.0) == number)?;
-    Some(SegmentRegister {
-        segment,
-        bytes,
-        write,
-    })
 }
 
 /// Where so many bytes at an offset under a register lie.

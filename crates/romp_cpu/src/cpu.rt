@@ -1,7 +1,7 @@
-ghost use Rattle.std.specs.Prelude.{◌≡◌, ◌<◌};
+ghost use Rattle.std.specs.Prelude.{◌≡◌, ◌<◌, length};
 ghost use Rattle.std.specs.Option.{ForSome};
 ghost use Rattle.flat_machine.specs.Access.{FitsFrom, IsAccess};
-ghost use Rattle.flat_machine.specs.Pending.{planned, IsSoundPending};
+ghost use Rattle.flat_machine.specs.Pending.{planned, IsSoundPending, StaysIfPending};
 ghost use Rattle.flat_machine.specs.Plans.{Does};
 ghost use Rattle.flat_machine.specs.declared.machine.Act.{Act};
 ghost use Rattle.romp_cpu.specs.Shown.{halfword_of};
@@ -232,7 +232,7 @@ impl Cpu {
         };
     }
 
-    /// The same where no row made ready is known there: one is asked for, and this time the instruction is decoded.
+    /// The same where no row made ready is known there: one is asked for.
     #[inline(never)]
     fn carry_out_anew<S: Storage>(&mut self, storage: &mut S, went: &mut Attempt)
         ensures tried { TriesNext S.Storage storage.old storage.new self.old self.new went.new }
@@ -240,13 +240,32 @@ impl Cpu {
         ensures whole { StoresAll (plan_over S.Storage storage.old self.old) }
     {
         storage.prepare(self.iar);
-        let pending = start_row(
-            &Shown { storage: &*storage },
-            &mut self.regs,
-            &mut self.cs,
-            self.iar,
-        );
+        let pending = self.start(storage);
         self.finish(storage, pending, went);
+    }
+
+    /// Does to registers and status what the next instruction does, and tells what is left of it: by the row made ready for it,
+    /// where there is one, and else the instruction is decoded.
+    #[inline(always)]
+    fn start<S: Storage>(&mut self, storage: &S) -> Pending
+        ensures value { plan_over S.Storage storage.now self.old ≡ planned self.new.regs self.new.cs result }
+        ensures stays { StaysIfPending result self.old.regs self.new.regs self.old.cs self.new.cs }
+        ensures sound { IsSoundPending result }
+        ensures long { length self.new.regs ≡ 16 }
+        ensures rest { self.new ≡ record self.old { regs = self.new.regs; cs = self.new.cs } }
+    {
+        if let Some(row) = storage.ready(self.iar) {
+            if let Some(next) = do_alone(row, &mut self.regs, &mut self.cs, self.iar) {
+                let act = Act::Nothing;
+                let link = None;
+                return Pending::Does { act, next, link };
+            }
+            if let Some(pending) = start_wanting(row, &self.regs, self.iar) {
+                return pending;
+            }
+        }
+        let code = Shown { storage };
+        start_row(&code, &mut self.regs, &mut self.cs, self.iar)
     }
 
     /// What is left of an instruction whose registers and status are as it makes them.

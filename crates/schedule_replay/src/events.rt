@@ -2,6 +2,7 @@
 ghost use Rattle.std.specs.Prelude.{◌≡◌, ◌≤◌, ℕ, List, [], ◌∷◌, ◌++◌, All, true, false, length, map, IfOk};
 ghost use Rattle.schedule_replay.specs.Below.{closing_lines, Desk, End, held_of, IsSure, Left, OnlyPuts, stored_closes, turn_closes};
 ghost use Rattle.desk.specs.Seen.{IsUnbroken};
+ghost use Rattle.desk.specs.declared.event.Event.TheVariants as event;
 ghost use Rattle.schedule_replay.specs.Answered.{IsReady, Answered, GoesBy, GoesShut, is_closed, way_of};
 ghost use Rattle.schedule_replay.specs.Puts.{Puts};
 ghost use Rattle.schedule_replay.specs.Ran.{HasOpened};
@@ -156,9 +157,7 @@ fn answer<S: Supervisor, W: Outside>(
             put.and(Ok(going_after_begin(begun)))
         }
         Event::Turn { activation, limit } => {
-            let turn = desk.turn(outside, activation, limit);
-            let put = put_turn(&turn, activation, desk.printed(), reporter, outside);
-            put.and(Ok(going_after_turn(&turn.end)))
+            answer_turn(desk, names, activation, limit, reporter, outside)
         }
         Event::Checkpoint => {
             let stored = desk.checkpoint(outside);
@@ -172,6 +171,25 @@ fn answer<S: Supervisor, W: Outside>(
             put.and(Ok(going_after_crash(reopened)))
         }
     }
+}
+
+/// A turn and its lines. It is a call, so that the room for what a turn came to is cleared for turns alone.
+#[inline(never)]
+fn answer_turn<S: Supervisor, W: Outside>(
+    desk: &mut S,
+    names: &[Name],
+    activation: u32,
+    limit: u32,
+    reporter: &mut Reporter,
+    outside: &mut W,
+) -> Result<Going, Failed>
+    requires ready { IsReady S.Supervisor W.Outside (event.Turn activation limit ∷ []) desk.old outside.old }
+    requires unbroken { All (λ name. IsUnbroken name.items) names.now }
+    ensures { WentBy S.Supervisor W.Outside (map (λ name. name.items) names.now) (event.Turn activation limit) desk.old desk.new (span outside.old outside.new) result }
+{
+    let turn = desk.turn(outside, activation, limit);
+    let put = put_turn(&turn, activation, desk.printed(), reporter, outside);
+    put.and(Ok(going_after_turn(&turn.end)))
 }
 
 /// Whether the desk goes on after a begin.

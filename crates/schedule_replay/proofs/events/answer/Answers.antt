@@ -1,5 +1,6 @@
-use Rattle.schedule_replay.proofs.ToldLemmas.{enters_begun, enters_reopened, enters_stored, enters_turn, lines_one}
-use Rattle.schedule_replay.proofs.Lemmas.{refl, ℕ, List, map, ap, ◌∙◌, arith, asks_none, TurnEnd, Stored, begun_told, turn_told, stored_told, reopened_told, turn_closes, turn_fails, stored_closes, stored_fails, happening_lines, number_told, stored_number, reopened_number, going_begun, going_if, going_by, common_steps, Told, after_begin, after_other, after_turn, reopened_closes, puts_same, names_are, begun_closes, if_closes, crash_closes, turn_shut, stored_shut, undamaged, undamaged_begun, undamaged_if, store_asked, goes_begin, goes_if, goes_crash, begin_step, turn_step, checkpoint_step, crash_step, went_event}
+use Rattle.schedule_replay.proofs.ToldLemmas.{enters_begun, enters_reopened, enters_stored, lines_one}
+use Rattle.schedule_replay.proofs.Lemmas.{refl, map, ap, ◌∙◌, arith, asks_none, Stored, begun_told, stored_told, reopened_told, stored_closes, stored_fails, happening_lines, stored_number, reopened_number, going_begun, going_if, going_by, common_steps, Told, after_begin, after_other, reopened_closes, names_are, begun_closes, if_closes, crash_closes, stored_shut, undamaged, undamaged_begun, undamaged_if, store_asked, goes_begin, goes_if, goes_crash, begin_step, checkpoint_step, crash_step, went_event}
+use Rattle.schedule_replay.proofs.Common.{Event, IsReady, WentBy, span, subst, sym, ◌∷◌, []}
 use Rattle.desk.specs.declared.event.Event.TheVariants as event
 use Rattle.schedule_replay.proofs.events.answer.Goals as goal
 
@@ -21,23 +22,14 @@ returns-in-Begin g c =
     (λ start sure shows. (begin_step S g.W.Outside names (S.told old).fixed.programs L.shown_told c.in-Begin.program c.in-Begin.args begun.result start old begun.new.self w sure shows (begun.ensures.did _ start shows), undamaged_begun begun.result))
     (lines_one names (event.Begin c.in-Begin.program c.in-Begin.args) (begun_told c.in-Begin.program begun.result) 0 (S.told old).order (S.told begun.new.self).order (begun.result, refl) (enters_begun c.in-Begin.program begun.result _ _ (ap (λ (told : Told). told.order) told)))
 
+pub answer_turn-requires-clause-ready : goal.answer_turn-requires-clause-ready
+answer_turn-requires-clause-ready g c =
+    subst (λ (event : Event). IsReady g.S.Supervisor g.W.Outside (event ∷ []) c.args.desk.now c.args.outside.now) c.in-Turn.is c.requires.ready
+
 pub returns-in-Turn : goal.returns-in-Turn
 returns-in-Turn g c =
-    let S = g.S.Supervisor in
-    let G = g.W.Outside in
-    let old = c.args.desk.now in
-    let turn = c.turn-turn in
-    let told = turn_told c.in-Turn.activation turn.result in
-    let names = map (λ name. name.items) c.args.names.now in
-    let closed = ap (λ (told : Told). told.closed) turn.ensures.told.others in
-    went_event S G g.met.W.Outside.fewer_later g.met.W.Outside.printed_now g.met.S.Supervisor.shown_told names (names_are (λ name. name.items) c.args.names.now c.requires.unbroken) c.args.event (event.Turn c.in-Turn.activation c.in-Turn.limit) (happening_lines names (number_told turn.result.end) (told (S.told turn.new.self).printed)) old turn.new.self c.args.outside.now turn.new.outside c.put_turn-put.new.outside c.put_turn-put.result c.going_after_turn.result (going_if (turn_closes turn.result.end)) c.and-in-Turn.result
-    c.in-Turn.is c.going_after_turn.ensures c.and-in-Turn.ensures
-    (puts_same G turn.new.outside c.put_turn-put.new.outside (happening_lines names (number_told turn.result.end) (told c.printed.result.now)) (happening_lines names (number_told turn.result.end) (told (S.told turn.new.self).printed)) c.put_turn-put.result (ap (λ (bytes : List ℕ). happening_lines names (number_told turn.result.end) (told bytes)) c.printed.ensures.bytes) (c.put_turn-put.ensures names))
-    turn.ensures.sound (after_turn c.in-Turn.activation c.in-Turn.limit turn.result.end (S.told old) (S.told turn.new.self) turn.ensures.told turn.ensures.turns) turn.ensures.calls
-    (λ was. ap (λ (ends : TurnEnd). going_if (turn_closes ends)) (turn.ensures.shut.shut.1 was)) (closed ∙ if_closes (turn_closes turn.result.end))
-    (λ disk held. goes_if S G (turn_closes turn.result.end) (turn_fails turn.result.end) old turn.new.self c.args.outside.now turn.new.outside c.put_turn-put.new.outside closed turn.ensures.shut (turn_shut turn.result.end) turn.ensures.failed disk)
-    (λ start sure shows. (turn_step S G names (S.told old).fixed.programs (S.told old).fixed.opened start turn.new.self c.args.outside.now turn.new.outside c.in-Turn.activation c.in-Turn.limit turn.result (S.told turn.new.self).printed (turn.ensures.did start sure shows) turn.ensures.writes turn.ensures.failed, undamaged_if (turn_closes turn.result.end)))
-    (lines_one names (event.Turn c.in-Turn.activation c.in-Turn.limit) (told (S.told turn.new.self).printed) (number_told turn.result.end) (S.told old).order (S.told turn.new.self).order (turn.result, (S.told turn.new.self).printed, refl) (enters_turn c.in-Turn.activation turn.result turn.result.end (S.told turn.new.self).printed _ _ turn.ensures.told.ordered))
+    subst (λ (event : Event). WentBy g.S.Supervisor g.W.Outside (map (λ name. name.items) c.args.names.now) event c.args.desk.now c.answer_turn.new.desk (span c.args.outside.now c.answer_turn.new.outside) c.answer_turn.result)
+    (sym c.in-Turn.is) c.answer_turn.ensures
 
 pub returns-in-Checkpoint : goal.returns-in-Checkpoint
 returns-in-Checkpoint g c =

@@ -1,28 +1,12 @@
-use Rattle.std.proofs.Common.{◌<◌, ◌≢◌, List, Option, None, ap, length, arith, get_or-set_other, get_or-set_same, below_more}
-use Rattle.page_table.proofs.Common.{length-set, register_with}
+use Rattle.std.proofs.Common.{◌≡◌, ℕ, List, Option, None, ap, arith, drop, get_or, subst}
+use Rattle.page_table.proofs.Common.{register_with}
 use Rattle.std.proofs.lemmas.List.FromFn.{fill_by_all}
 use Rattle.page_table.specs.declared.segment_regs.SegmentRegister.{SegmentRegister}
 use Rattle.page_table.proofs.segment_regs.SegmentRegs.new.Goals as goal
 
-pub loop-number-preserved : goal.loop-number-preserved
-loop-number-preserved c =
-    let i = c.loop-number.number in
-    record {
-      long = simp length-set c.loop-number.invariant.long;
-      each =
-          below_more _ _
-          (λ k h. let ne : k ≢ i = omega arith in rw get_or-set_other (c.loop-number.invariant.each k h))
-          (let lt : i < length c.loop-number.registers = omega (arith, c.loop-number.invariant.long) in
-          rw get_or-set_same c.under.ensures);
-    }
-
 pub returns : goal.returns
 returns c =
+    let none : c.loop-left.left ≡ 0 = omega (arith, c.loop-left-test.false) in
     ap (λ (list : List (Option SegmentRegister)). record { page = c.args.page; list = list })
-    (fill_by_all
-    (register_with c.args.private c.args.windows.now)
-    c.loop-number.registers
-    16
-    None
-    c.loop-number.invariant.long
-    (λ k below. c.loop-number.invariant.each k (omega (arith, c.loop-number-test.false))))
+    (fill_by_all (register_with c.args.private c.args.windows.now) c.loop-left.registers 16 None c.loop-left.invariant.long
+    (λ k below. subst (λ (left : ℕ). get_or c.loop-left.registers k None ≡ register_with c.args.private (drop left c.args.windows.now) k) none (c.loop-left.invariant.each k below)))
