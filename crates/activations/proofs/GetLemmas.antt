@@ -78,10 +78,6 @@ picked-below pages (Touch.Two first second) picked within page inside =
           (All-head (λ (w : Want). w.page < pages) second [] (All-tail (λ (w : Want). w.page < pages) first (second ∷ []) within)) later
     ]
 
--- whether two numbers are the same, either way round
-eqb-turned : (one other : ℕ) → (other == one) ≡ (one == other)
-eqb-turned one other = grind (arith, nat_tests)
-
 -- what is kept is so whatever the entries of pages are
 kept-entries : (a : Activity) (owned : List Authority) (committed : List ℕ) → IsKept a committed → IsKept (with_entries a owned) committed
 kept-entries a owned committed kept = record {
@@ -231,7 +227,7 @@ module _ (begins : Word → Turning) (attempt : Attempt) (refused : List ℕ) (a
             ((((row-goes-on (with_grants attempt refused old) attempt next (grants-held old attempt refused free.ready free.free) goes).active).apart (gone_on attempt.entry) entry
             (new-among (gone_on attempt.entry) (entries a) (record attempt.entry { waiting = free.ready.mark }) free.ready.here refl)
             (replaced-among (gone_on attempt.entry) (entries a) entry among e)
-            (eqb-turned entry.number attempt.entry.number ∙ e)).first_writes line inside)
+            (grind (arith, nat_tests, e))).first_writes line inside)
             (has_right (due_to store entry).reads (due_to store entry).writes line wrote_it)
 
         nobody-wrote : list_any (λ (entry : Entry). has (due_to store entry).writes line) (entries a) ≡ false

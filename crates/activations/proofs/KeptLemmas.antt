@@ -6,8 +6,12 @@ pub no-more : (taken : List ℕ) (seat : ℕ) → length (filter (λ other. not 
 no-more [] seat = omega arith
 no-more (one ∷ taken) seat = grind (arith, no-more taken seat)
 
+-- whatever its frames hold
+pub keeps-pool : (a : Activity) (pool : Pool) → KeepsParts a (with_pool a pool) 0
+keeps-pool a pool = record { programs = refl; most_lines = refl; next = refl; directory = refl; fewer = omega arith; rows = λ rows within seat below. let here = within seat below in omega (arith, here) }
+
 pub keeps-itself : (a : Activity) → KeepsParts a a 0
-keeps-itself a = record { programs = refl; most_lines = refl; next = refl; directory = refl; fewer = omega arith; rows = λ rows within seat below. let here = within seat below in omega (arith, here) }
+keeps-itself a = keeps-pool a a.reach.pool
 
 pub keeps-on : (a b c : Activity) (more other : ℕ) → KeepsParts a b more → KeepsParts b c other → KeepsParts a c (more + other)
 keeps-on a b c more other first second = record {

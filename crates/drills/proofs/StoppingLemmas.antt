@@ -87,21 +87,24 @@ module _ (plan : Plan) (first held : List ℕ) (writes faults : ℕ) (starved : 
     fate-stopped : plan.stopped ≡ true → fate_of plan at to ≡ Stopped
     fate-stopped off = ap (λ (stopped : Bool). fate_by stopped (is_last plan.fuse (plan.tries + 1)) (is_refused Write at to plan.refusals)) off
 
+    -- of one that is stopped since
+    once-stopped : done.stopped ≡ true → ∥ WereStopped first (number_of plan.fuse) (outcome_of plan.fuse) (left (fate_of plan at to)) ∥₁ → 1 ≤ min (faults + 1) (2 ^ 64 - 1) → KeepsTo done first (left (fate_of plan at to)) writes (min (faults + 1) (2 ^ 64 - 1)) starved
+    once-stopped stays were some = record {
+      fused = is.fused;
+      small = is.small;
+      unrefused = ap (used_up Write at to) is.unrefused;
+      few = λ on. absurd (cc);
+      counted = λ on. absurd (cc);
+      whole = λ on. absurd (cc);
+      calm = λ on unstarved. absurd (cc);
+      stopped = λ same. were;
+      failed = λ same. some;
+    }
+
     still-stopped : plan.stopped ≡ true → KeepsTo done first (left (fate_of plan at to)) writes (min (faults + 1) (2 ^ 64 - 1)) starved
     still-stopped off =
-        let fate = fate-stopped off in
-        let stays : done.stopped ≡ true = ap stops fate in
-        record {
-          fused = is.fused;
-          small = is.small;
-          unrefused = ap (used_up Write at to) is.unrefused;
-          few = λ on. absurd (cc);
-          counted = λ on. absurd (cc);
-          whole = λ on. absurd (cc);
-          calm = λ on unstarved. absurd (cc);
-          stopped = λ same. subst (λ (fate : Fate). ∥ WereStopped first (number_of plan.fuse) (outcome_of plan.fuse) (left fate) ∥₁) (sym fate) (is.stopped off);
-          failed = λ same. let some = is.failed off in omega (arith, some);
-        }
+        let some = is.failed off in
+        once-stopped (ap stops (fate-stopped off)) (subst (λ (fate : Fate). ∥ WereStopped first (number_of plan.fuse) (outcome_of plan.fuse) (left fate) ∥₁) (sym (fate-stopped off)) (is.stopped off)) (omega (arith, some))
 
     module _ (on : plan.stopped ≡ false) where
       -- of one that stops now
@@ -115,23 +118,13 @@ module _ (plan : Plan) (first held : List ℕ) (writes faults : ℕ) (starved : 
           let fate = fate-cut last in
           let number = last-is plan.fuse (plan.tries + 1) last in
           let before : plan.tries ≡ number_of plan.fuse - 1 = omega (arith, number) in
-          let stays : done.stopped ≡ true = ap stops fate in
-          record {
-            fused = is.fused;
-            small = is.small;
-            unrefused = ap (used_up Write at to) is.unrefused;
-            few = λ on. absurd (cc);
-            counted = λ on. absurd (cc);
-            whole = λ on. absurd (cc);
-            calm = λ on unstarved. absurd (cc);
-            stopped = λ same.
-                subst (λ (fate : Fate). ∥ WereStopped first (number_of plan.fuse) (outcome_of plan.fuse) (left fate) ∥₁) (sym fate)
-                (∥∥₁_map (is.whole on)
-                (λ (are : WereWritten first plan.tries held).
-                let that : WereStopped first (number_of plan.fuse) (outcome_of plan.fuse) (left Cut) =
-                record { before = held; whole = subst (λ (n : ℕ). WereWritten first n held) before are; at = at; range = length bytes; left = refl } in that));
-            failed = λ same. omega arith;
-          }
+          once-stopped (ap stops fate)
+          (subst (λ (fate : Fate). ∥ WereStopped first (number_of plan.fuse) (outcome_of plan.fuse) (left fate) ∥₁) (sym fate)
+          (∥∥₁_map (is.whole on)
+          (λ (are : WereWritten first plan.tries held).
+          let that : WereStopped first (number_of plan.fuse) (outcome_of plan.fuse) (left Cut) =
+          record { before = held; whole = subst (λ (n : ℕ). WereWritten first n held) before are; at = at; range = length bytes; left = refl } in that)))
+          (omega arith)
 
       -- of one that goes on
       fate-whole : is_last plan.fuse (plan.tries + 1) ≡ false → fate_of plan at to ≡ Whole

@@ -1,5 +1,5 @@
 -- A load on the store that a disk stands for.
-use Rattle.job_calls.proofs.Common.{◌≡◌, ℕ, ◌≤◌, ⊎_elim, true, false, List, [], ◌∷◌, ◌++◌, length, refl, sym, ◌∙◌, ap, subst, arith, append-nil, append_assoc, Option, Ghosts, Failed, AreTold, Prints, IsSure, Elapses, CallsDisk, FewerLater, OnlyAsks, held_of, elapses-trans, FlatStore, Activation, Event, begun, is_commit, commit_lines, serial_lines, IsSerial, Desk, Word, Line, printed, spaced, faulted, Header, total, IsSessionOpened, activity, order_of, Session, ghosts, IsLasting, RunsQuietly, Tells, is_rollback, is_shut, out_after, InDoubt, PrintedNow, to_later, Job, Status, HasBigRun, IsToldBy, Loaded, LoadedBy, RanBig, big_line, last_out, line_for, Call, call, RunsFrom, IsStanding, TellsStore, StillTold, codes, decimal, All, Bool, Some, Result, Ok, Err, IsSome, IsTrue, count_by, HoldsStore, FailsOnlyCounted, span, Opening, end_of, lines_of, opening_of, fixed_of, OnErr, Rose, GoesBy, going_of, WentThrough}
+use Rattle.job_calls.proofs.Common.{◌≡◌, ℕ, ◌<◌, ◌≤◌, ⊎_elim, true, false, List, [], ◌∷◌, ◌++◌, length, refl, sym, ◌∙◌, ap, subst, arith, append-nil, append_assoc, Option, Ghosts, Failed, AreTold, Prints, IsSure, Elapses, CallsDisk, FewerLater, OnlyAsks, held_of, elapses-trans, FlatStore, Activation, Event, begun, is_commit, commit_lines, serial_lines, IsSerial, Desk, Word, Line, printed, spaced, faulted, Header, total, IsSessionOpened, activity, order_of, Session, ghosts, IsLasting, RunsQuietly, Tells, is_rollback, is_shut, out_after, InDoubt, PrintedNow, to_later, Job, Status, HasBigRun, IsToldBy, Loaded, LoadedBy, RanBig, big_line, last_out, line_for, Call, call, RunsFrom, IsStanding, TellsStore, StillTold, codes, decimal, All, Bool, Some, Result, Ok, Err, IsSome, IsTrue, count_by, HoldsStore, FailsOnlyCounted, span, Opening, end_of, lines_of, opening_of, fixed_of, OnErr, Rose, GoesBy, going_of, WentThrough}
 use Rattle.std.specs.List.{fold}
 use Rattle.std.specs.Option.{ForSome}
 use Rattle.hex.specs.Hex.{encode_lower}
@@ -191,21 +191,25 @@ pub lasting : (transfers : ℕ) → All IsLasting (big_events transfers)
 lasting transfers = events_all IsLasting (λ program args small. tt) (λ activation limit small. tt) transfers
 
 -- the text of the line, part by part
-shown_hex : (out : List ℕ) → 1 ≤ length out → encode_lower out ≡ printed out
+pub shown_hex : (out : List ℕ) → 1 ≤ length out → encode_lower out ≡ printed out
 shown_hex [] some = absurd (omega arith)
 shown_hex (byte ∷ out) some = refl
+
+pub shown_dash : (out : List ℕ) → length out < 1 → codes "-" ≡ printed out
+shown_dash [] none = refl
+shown_dash (byte ∷ out) none = absurd (omega arith)
 
 joined : (one two three shown : List ℕ) → ((((((codes "big" ++ 32 ∷ one) ++ 32 ∷ codes "commits") ++ 32 ∷ two) ++ 32 ∷ codes "rollbacks") ++ 32 ∷ three) ++ 32 ∷ codes "out") ++ 32 ∷ shown ++ 10 ∷ []
     ≡ spaced (codes "big" ∷ one ∷ codes "commits" ∷ two ∷ codes "rollbacks" ∷ three ∷ codes "out" ∷ shown ∷ [])
 joined one two three shown = simp append_assoc
 
-pub big_text : (a b c d e f : List ℕ) (m n k transfers commits rollbacks : ℕ) (out : List ℕ) → a ≡ codes "big" → b ≡ a ++ 32 ∷ decimal m → c ≡ b ++ 32 ∷ codes "commits" ++ 32 ∷ decimal n → d ≡ c ++ 32 ∷ codes "rollbacks" ++ 32 ∷ decimal k → e ≡ d ++ 32 ∷ codes "out" → f ≡ e ++ 32 ∷ encode_lower out
-    → m ≡ transfers → n ≡ commits → k ≡ rollbacks → 1 ≤ length out → f ++ 10 ∷ [] ≡ big_line transfers commits rollbacks out
-big_text a b c d e f m n k transfers commits rollbacks out first second third fourth fifth sixth same_m same_n same_k some =
-    let whole : f ≡ ((((((codes "big" ++ 32 ∷ decimal m) ++ 32 ∷ codes "commits") ++ 32 ∷ decimal n) ++ 32 ∷ codes "rollbacks") ++ 32 ∷ decimal k) ++ 32 ∷ codes "out") ++ 32 ∷ encode_lower out =
-    sixth ∙ ap (λ (t : List ℕ). t ++ 32 ∷ encode_lower out) (fifth ∙ ap (λ (t : List ℕ). t ++ 32 ∷ codes "out") (fourth ∙ ap (λ (t : List ℕ). t ++ 32 ∷ codes "rollbacks" ++ 32 ∷ decimal k) (third ∙ ap (λ (t : List ℕ). t ++ 32 ∷ codes "commits" ++ 32 ∷ decimal n) (second ∙ ap (λ (t : List ℕ). t ++ 32 ∷ decimal m) first)))) in
-    ap (λ (t : List ℕ). t ++ 10 ∷ []) whole ∙ joined (decimal m) (decimal n) (decimal k) (encode_lower out)
-    ∙ ap (λ (t : List ℕ). spaced (codes "big" ∷ decimal m ∷ codes "commits" ∷ decimal n ∷ codes "rollbacks" ∷ decimal k ∷ codes "out" ∷ t ∷ [])) (shown_hex out some)
+pub big_text : (a b c d e f shown : List ℕ) (m n k transfers commits rollbacks : ℕ) (out : List ℕ) → a ≡ codes "big" → b ≡ a ++ 32 ∷ decimal m → c ≡ b ++ 32 ∷ codes "commits" ++ 32 ∷ decimal n → d ≡ c ++ 32 ∷ codes "rollbacks" ++ 32 ∷ decimal k → e ≡ d ++ 32 ∷ codes "out" → f ≡ e ++ 32 ∷ shown
+    → m ≡ transfers → n ≡ commits → k ≡ rollbacks → shown ≡ printed out → f ++ 10 ∷ [] ≡ big_line transfers commits rollbacks out
+big_text a b c d e f shown m n k transfers commits rollbacks out first second third fourth fifth sixth same_m same_n same_k is =
+    let whole : f ≡ ((((((codes "big" ++ 32 ∷ decimal m) ++ 32 ∷ codes "commits") ++ 32 ∷ decimal n) ++ 32 ∷ codes "rollbacks") ++ 32 ∷ decimal k) ++ 32 ∷ codes "out") ++ 32 ∷ shown =
+    sixth ∙ ap (λ (t : List ℕ). t ++ 32 ∷ shown) (fifth ∙ ap (λ (t : List ℕ). t ++ 32 ∷ codes "out") (fourth ∙ ap (λ (t : List ℕ). t ++ 32 ∷ codes "rollbacks" ++ 32 ∷ decimal k) (third ∙ ap (λ (t : List ℕ). t ++ 32 ∷ codes "commits" ++ 32 ∷ decimal n) (second ∙ ap (λ (t : List ℕ). t ++ 32 ∷ decimal m) first)))) in
+    ap (λ (t : List ℕ). t ++ 10 ∷ []) whole ∙ joined (decimal m) (decimal n) (decimal k) shown
+    ∙ ap (λ (t : List ℕ). spaced (codes "big" ∷ decimal m ∷ codes "commits" ∷ decimal n ∷ codes "rollbacks" ∷ decimal k ∷ codes "out" ∷ t ∷ [])) is
     ∙ ap (λ (x : ℕ). big_line x n k out) same_m ∙ ap (λ (x : ℕ). big_line transfers x k out) same_n ∙ ap (λ (x : ℕ). big_line transfers commits x out) same_k
 
 -- what is told of faults where a load was told so

@@ -1,8 +1,11 @@
 -- The names and events of a job that is ready.
-use Rattle.job_calls.proofs.Common.{◌≢◌, ℕ, suc, ◌<◌, List, [], ◌∷◌, length, refl, arith, All, IsUnbroken, Event, IsEventAmong, IsName, IsAsked}
+use Rattle.job_calls.proofs.Common.{◌≡◌, ◌≢◌, ℕ, suc, ◌<◌, List, [], ◌∷◌, length, refl, sym, ap, subst, arith, All, get_or, count_by-le-length, Ghosts, HoldsStore, IsUnbroken, Event, IsEventAmong, IsName, IsAsked, Job, Program, Session, activity, ghosts, is_turn, begins_in}
 use Rattle.std.proofs.lemmas.Bool.Decides.{nat_tests}
 use Rattle.desk.specs.declared.event.Event.TheVariants.{Begin, Turn, Checkpoint, Crash}
 use Rattle.desk_law.proofs.Unbroken.{unbroken_more}
+use Rattle.job_text.specs.Ready as ready
+use Rattle.schedule_replay.specs.Answered.{IsReady}
+use Rattle.supervisor.specs.Opened.{IsNew}
 use Rattle.job_text.proofs.NameLemmas.{name_no_feed}
 
 bytes-unbroken : (bytes : List ℕ) → All (λ byte. byte ≢ 10) bytes → IsUnbroken bytes
@@ -18,3 +21,17 @@ asked-among programs (Begin program args) is = is
 asked-among programs (Turn activation limit) is = is
 asked-among programs Checkpoint is = tt
 asked-among programs Crash is = tt
+
+-- the events of a job that is ready may be asked of a session that has just opened for their begins
+pub ready-to-run : {W : Type 0} (G : Ghosts W) (job : Job) (s : Session) (outside : W) (begins : ℕ) (events : List Event) → events ≡ job.events.items → begins ≡ begins_in job.events.items
+    → ready.IsReady job → IsNew job.programs.items begins s → HoldsStore G s.store.header outside → IsReady ghosts G events s outside
+ready-to-run G job s outside begins events same counted ready made bytes =
+    let programs : length job.programs.items ≡ length (activity s).programs = sym (ap (λ (these : List Program). length these) made.programs_are) in
+    subst (λ (these : List Event). IsReady ghosts G these s outside) (sym same)
+    (record {
+      sound = made.sound;
+      asked = λ k d within. asked-among (length (activity s).programs) (get_or job.events.items k d) (subst (λ (n : ℕ). IsEventAmong n (get_or job.events.items k d)) programs (ready.events k d within));
+      begins = omega (arith, made.none_given, counted, made.begins_are);
+      turns = omega (arith, count_by-le-length is_turn job.events.items, ready.few, made.no_turns);
+      bytes = bytes;
+    })

@@ -84,16 +84,13 @@ module _ (d : Layout) (pool : Pool) (committed : List ℕ) (page place : ℕ) (s
           in-range pool.bytes (frame * page_bytes pool.page) (page_bytes pool.page) (place % page_bytes d.page) (omega (arith, rest, ap page_bytes size)),
         )
 
-    elsewhere-over : (page == page_of d place) ≡ false → byte_over d (gone pool page) committed place ≡ byte_over d pool committed place
-    elsewhere-over a = grind (arith, nat_tests, gone-frame, marks, bytes, kept-is, rest-below, place-is, spot-same, overlaid_before, room, start, overlaid_behind, long, eqb-false)
-
     present : Leaves (gone pool page)
     present = by_tests (page == page_of d place) (is_marked d pool place) refl refl
       where
         by_tests : (here marked : Bool) → (page == page_of d place) ≡ here → is_marked d pool place ≡ marked
             → byte_over d (gone pool page) committed place ≡ (if here && not marked then slice_index committed place else byte_over d pool committed place)
         by_tests true marked a b = grind (arith, nat_tests, over-none, gone-frame, marks, kept-here, over-some)
-        by_tests false marked a b = elsewhere-over a
+        by_tests false marked a b = grind (arith, nat_tests, gone-frame, marks, bytes, kept-is, rest-below, place-is, spot-same, overlaid_before, room, start, overlaid_behind, long, eqb-false)
 
   pub gone-over : byte_over d (gone pool page) committed place ≡ (if page == page_of d place && not (is_marked d pool place) then slice_index committed place else byte_over d pool committed place)
   gone-over = grind (arith, nat_tests, present, gone-absent, absent)

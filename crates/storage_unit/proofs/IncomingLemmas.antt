@@ -39,6 +39,9 @@ module _ (unit brought_in : Unit) (page : ℕ) (keep : Option ℕ) (frame : ℕ)
   whole : length lent ≡ page_bytes brought_in.pool.places.page
   whole = ap length lends ∙ simp (length-take, length-drop) (omega (arith, inside))
 
+  pub lent-long : length lent ≡ page_bytes unit.directory.page
+  lent-long = whole ∙ ap page_bytes there.size
+
   -- private bytes stay, whatever fills the frame
   filled-low : (part : List ℕ) → length part ≡ length lent → (k : ℕ) → k < 262144
       → slice_index (pool_of (with_frame_part brought_in.pool (frame * page_bytes brought_in.pool.places.page) part)).bytes k ≡ slice_index (pool_of brought_in.pool).bytes k
@@ -91,7 +94,7 @@ module _ (unit brought_in : Unit) (page : ℕ) (keep : Option ℕ) (frame : ℕ)
       room = (reach_of brought_in).pool;
       came = came;
       fits = there;
-      long = keeps_length ∙ whole ∙ ap page_bytes there.size;
+      long = keeps_length ∙ lent-long;
       is = pool-filled;
       resident =
           ap (λ (pool : Pool). pool.resident) pool-filled

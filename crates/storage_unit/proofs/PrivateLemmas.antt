@@ -50,15 +50,12 @@ module _ (keys : List (Option Key)) (first segment all count : ℕ) (room : firs
       ]
 
 -- one frame more holds nothing
-none-more : (count : ℕ) → replicate (count + 1) (let none : Option Key = None in none) ≡ replicate count None ++ None ∷ []
-none-more count = sym (replicate-append-replicate count 1 (let none : Option Key = None in none))
-
 pub nones-more :
     (keys : List (Option Key)) (first count : ℕ) → first + count < length keys
     → slice_set (overlaid keys first (replicate count None)) (first + count) None ≡ overlaid keys first (replicate (count + 1) None)
 nones-more keys first count room =
     let long : length (replicate count (let none : Option Key = None in none)) ≡ count = length-replicate count (let none : Option Key = None in none) in
-    cc (overlaid-more keys first (replicate count None) None (omega (arith, room, long)), none-more count)
+    cc (overlaid-more keys first (replicate count None) None (omega (arith, room, long)), replicate-append-replicate count 1 (let none : Option Key = None in none))
 
 pub nones-long : (keys : List (Option Key)) (first count : ℕ) → first + count ≤ length keys → length (overlaid keys first (replicate count None)) ≡ length keys
 nones-long keys first count room = length-overlaid keys first (replicate count None) (omega (arith, room, length-replicate count (let none : Option Key = None in none)))

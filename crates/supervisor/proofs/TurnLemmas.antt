@@ -136,7 +136,9 @@ module _ {W : Type 0} (G : Ghosts W) (fewer_later : FewerLater G) (s : Session) 
         ordered = went.ordered;
         why = ⊎_elim (λ fine. inl fine) (λ rose. inr (subst (λ (n : ℕ). Rose n (G.disk_faults after)) calm rose)) went.why;
         numbers = subst (λ (n : ℕ). HasNumbers how n (number_after s.opened went.next)) (number ∙ found.1) went.numbers;
-        journal = λ still. grind (arith, found.1, asks.held, went.journal);
+        journal = λ still.
+            subst (λ j. JournalAfter (Turned activation (tally_counts counted) (ending_told how new.printed)) j (journal_in (held_of G after))) kept-journal
+            (subst (λ (n : ℕ). JournalAfter (Turned n (tally_counts counted) (ending_told how new.printed)) (journal_in (held_of G mid)) (journal_in (held_of G after))) (number ∙ found.1) (went.journal still));
         still = went.still;
         crash =
             leaves_on G fewer_later before mid after asks.calls.time writes.calls.time

@@ -1,26 +1,10 @@
-use Rattle.job_calls.proofs.Common.{◌≡◌, ◌≤◌, ◌∙◌, ap, sym, subst, arith, length, vec_len, get_or, All, List, ℕ, Some, length-map, count_by-le-length, [], Program, Fixed, order_told, Desk, Event, IsSure, held_of, IsEventAmong, activity, ghosts, is_turn, begins_in, turns_in, IsLasting, RunsQuietly, call, Loaded, fixed_of, opening_of, span}
-use Rattle.job_calls.proofs.NameLemmas.{asked-among}
+use Rattle.job_calls.proofs.Common.{◌≡◌, ◌≤◌, ◌∙◌, ap, sym, subst, arith, length, vec_len, All, List, ℕ, Some, length-map, count_by-le-length, [], Fixed, order_told, Desk, Event, IsSure, held_of, ghosts, is_turn, IsLasting, RunsQuietly, call, Loaded, fixed_of, opening_of, span}
+use Rattle.job_calls.proofs.NameLemmas.{ready-to-run}
 use Rattle.job_calls.proofs.BigLemmas.{faults_told, lasting, loaded, still-holds}
 use Rattle.job_calls.proofs.big.open_and_run.Goals as goal
 
 pub run_quiet-quiet-requires-clause-ready : goal.run_quiet-quiet-requires-clause-ready
-run_quiet-quiet-requires-clause-ready g c =
-    let made = c.in-Ok.ensures.new in
-    let ready = c.requires.ready in
-    let events = c.deref.ensures.value in
-    let begins : begins_in c.deref.result.now ≡ c.args.begins = ap (λ (these : List Event). begins_in these) events ∙ sym c.requires.begins in
-    let turns : turns_in c.deref.result.now ≤ length c.deref.result.now = count_by-le-length is_turn c.deref.result.now in
-    let few : length c.deref.result.now ≡ length c.args.job.events.items = ap (λ (these : List Event). length these) events in
-    let programs : length c.args.job.programs.items ≡ length (activity c.in-Ok.session).programs = sym (ap (λ (these : List Program). length these) made.programs_are) in
-    record {
-      sound = made.sound;
-      asked = λ k d within. asked-among (length (activity c.in-Ok.session).programs) (get_or c.deref.result.now k d)
-          (subst (λ (n : ℕ). IsEventAmong n (get_or c.deref.result.now k d)) programs
-          (subst (λ (these : List Event). All (IsEventAmong (length c.args.job.programs.items)) these) (sym events) ready.events k d within));
-      begins = omega (arith, made.none_given, begins, made.begins_are);
-      turns = omega (arith, turns, few, ready.few, made.no_turns);
-      bytes = c.in-Ok.ensures.room;
-    }
+run_quiet-quiet-requires-clause-ready g c = ready-to-run g.W.Outside c.args.job c.in-Ok.session c.open.new.outside c.args.begins c.deref.result.now c.deref.ensures.value c.requires.begins c.requires.ready c.in-Ok.ensures.new c.in-Ok.ensures.room
 
 pub run_quiet-quiet-requires-clause-lasting : goal.run_quiet-quiet-requires-clause-lasting
 run_quiet-quiet-requires-clause-lasting g c =

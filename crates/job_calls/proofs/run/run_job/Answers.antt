@@ -1,28 +1,12 @@
-use Rattle.job_calls.proofs.Common.{◌≡◌, ◌∙◌, ap, sym, ◌≤◌, subst, arith, length, vec_len, get_or, All, List, ℕ, refl, Some, map, length-map, count_by-le-length, Ghosts, Fixed, Program, order_told, Desk, IsUnbroken, Event, IsEventAmong, Job, activity, Session, ghosts, is_turn, begins_in, turns_in, HasOpened, Replays, Replayed, call, Status, status_of_replay, OpensBy, HappenedTo, names_of, fixed_of, opening_of, span, order_of, TellsBy}
+use Rattle.job_calls.proofs.Common.{◌≡◌, ◌∙◌, ap, sym, ◌≤◌, subst, arith, length, vec_len, get_or, All, List, ℕ, refl, Some, map, length-map, count_by-le-length, Ghosts, Fixed, order_told, Desk, IsUnbroken, Event, Job, Session, ghosts, is_turn, HasOpened, Replays, Replayed, call, Status, status_of_replay, OpensBy, HappenedTo, names_of, fixed_of, opening_of, span, order_of, TellsBy}
 use Rattle.arrayvec.specs.ArrayVec.{ArrayVec}
 use Rattle.job_calls.proofs.CauseLemmas.{opens-by, put-rose, put-same, disk-rose}
-use Rattle.job_calls.proofs.NameLemmas.{name-unbroken, asked-among}
+use Rattle.job_calls.proofs.NameLemmas.{name-unbroken, ready-to-run}
 use Rattle.job_calls.proofs.RunLemmas.{happened-by, has-opened, first_desk, first_opening}
 use Rattle.job_calls.proofs.run.run_job.Goals as goal
 
 pub replay-replayed-requires-clause-ready : goal.replay-replayed-requires-clause-ready
-replay-replayed-requires-clause-ready g c =
-    let made = c.in-Ok.ensures.new in
-    let ready = c.requires in
-    let events = c.deref-2.ensures.value in
-    let begins : begins_in c.deref-2.result.now ≡ c.args.begins = ap (λ (these : List Event). begins_in these) events ∙ sym c.requires.begins in
-    let turns : turns_in c.deref-2.result.now ≤ length c.deref-2.result.now = count_by-le-length is_turn c.deref-2.result.now in
-    let few : length c.deref-2.result.now ≡ length c.args.job.events.items = ap (λ (these : List Event). length these) events in
-    let programs : length c.args.job.programs.items ≡ length (activity c.in-Ok.session).programs = sym (ap (λ (these : List Program). length these) made.programs_are) in
-    record {
-      sound = made.sound;
-      asked = λ k d within. asked-among (length (activity c.in-Ok.session).programs) (get_or c.deref-2.result.now k d)
-          (subst (λ (n : ℕ). IsEventAmong n (get_or c.deref-2.result.now k d)) programs
-          (subst (λ (these : List Event). All (IsEventAmong (length c.args.job.programs.items)) these) (sym events) ready.ready.events k d within));
-      begins = omega (arith, made.none_given, begins, made.begins_are);
-      turns = omega (arith, turns, few, c.requires.ready.few, made.no_turns);
-      bytes = c.in-Ok.ensures.room;
-    }
+replay-replayed-requires-clause-ready g c = ready-to-run g.W.Outside c.args.job c.in-Ok.session c.open.new.outside c.args.begins c.deref-2.result.now c.deref-2.ensures.value c.requires.begins c.requires.ready c.in-Ok.ensures.new c.in-Ok.ensures.room
 
 pub replay-replayed-requires-clause-unbroken : goal.replay-replayed-requires-clause-unbroken
 replay-replayed-requires-clause-unbroken g c =

@@ -1,4 +1,4 @@
-use Rattle.activations.proofs.Lemmas.{refl, Result, sym, ◌∙◌, subst, TurnEnd, Activity, Tally, IsTurning, ComesBack, HasEnded, HasBroken, wants_of, instruction_in, with_pool, tally_counts, activity_of, keeps-broke, is-to-serve, prepare-broke, handed, turn-ends, under, turn-back}
+use Rattle.activations.proofs.Lemmas.{IsSound, KeepsParts, keeps-pool, refl, Result, sym, ◌∙◌, subst, TurnEnd, Activity, Tally, IsTurning, ComesBack, HasEnded, HasBroken, wants_of, instruction_in, with_pool, tally_counts, activity_of, keeps-broke, is-to-serve, prepare-broke, handed, turn-ends, under, turn-back}
 use Rattle.desk.specs.declared.answers.TurnEnd.TheVariants as end
 use Rattle.activations.proofs.activations.Activations.come_back.Goals as goal
 
@@ -28,3 +28,8 @@ returns-clause-turns g c begins left committed order some store turning =
     (subst (λ (t : Tally). IsTurning begins (with_pool a (activity_of c.bring.new.self).reach.pool) c.args.seat left committed order (tally_counts t)) (sym c.bring.ensures.counts.rest)
     (turn-back a c.args.seat committed order touch to.0 to.1 c.touch_of-touch.ensures.wanted (sym c.is_granted.ensures ∙ c.if-not-is_granted.false) begins left (tally_counts c.args.tally.now) (activity_of c.bring.new.self).reach.pool c.bring.new.tally.pages some c.bring.ensures.counts.more
     (c.in_ok-bring.ensures.fetched.fetched committed order store turning.follows.kept.clean) c.in_ok-bring.ensures.fetched.resident turning))
+
+pub returns-clause-keeps : goal.returns-clause-keeps
+returns-clause-keeps g c =
+    let a = activity_of c.args.self.now in
+    record { sound = subst IsSound (sym c.look_up.ensures) c.bring.ensures.sound; asks = c.bring.ensures.asks; parts = subst (λ (x : Activity). KeepsParts a x 0) (sym (c.look_up.ensures ∙ c.in_ok-bring.ensures.shape)) (keeps-pool a (activity_of c.bring.new.self).reach.pool) }

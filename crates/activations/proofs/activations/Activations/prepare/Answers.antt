@@ -1,4 +1,4 @@
-use Rattle.activations.proofs.Lemmas.{refl, Bool, List, ℕ, AreLetBut, WillTouch, IsMoved, pages_picked, picked-refused, taken-below, let-but, pages_refused, shut-touches, touch-on, TurnEnd, IsClean, Tally, Activity, HasBrokenOff, IsPrepared, Prepares, IsFetched, instruction_in, with_pool, wants_of, pages_wanted, HasEnded, HasBroken, tally_counts, activity_of, asks_none, ◌+◌, Result, sym, ◌∙◌, ap, subst, keeps-left, keeps-broke, is-to-serve, prepare-broke, prepared-so, handed}
+use Rattle.activations.proofs.Lemmas.{KeepsParts, keeps-pool, AreWithin, page_count, refl, Bool, List, ℕ, AreLetBut, WillTouch, IsMoved, pages_picked, picked-refused, taken-below, let-but, pages_refused, shut-touches, touch-on, TurnEnd, IsClean, Tally, Activity, HasBrokenOff, IsPrepared, Prepares, IsFetched, instruction_in, with_pool, wants_of, pages_wanted, HasEnded, HasBroken, tally_counts, activity_of, asks_none, ◌+◌, Result, sym, ◌∙◌, ap, subst, keeps-left, keeps-broke, is-to-serve, prepare-broke, prepared-so, handed}
 use Rattle.activations.proofs.activations.Activations.prepare.Goals as goal
 
 pub returns-in_err-keep_limit-clause-keeps : goal.returns-in_err-keep_limit-clause-keeps
@@ -77,3 +77,14 @@ returns-clause-prepared g c committed order is follows =
     (prepared-so a c.args.seat committed order counts c.touch_of-touch.result to.0 to.1 c.touch_of-touch.ensures.wanted c.in_ok-keep_limit.ensures.kept.1 new.reach.pool c.bring.new.tally.pages
     fetched new c.refused-refused.result c.from.result c.from-2.result (c.in_ok-bring.ensures.shape ∙ ap (λ (x : Activity). with_pool x new.reach.pool) same) c.refused-refused.ensures
     c.from.ensures c.from-2.ensures)
+
+pub returns-clause-keeps : goal.returns-clause-keeps
+returns-clause-keeps g c =
+    let came = c.in_ok-bring.ensures.shape ∙ ap (λ (x : Activity). with_pool x (activity_of c.bring.new.self).reach.pool) c.in_ok-keep_limit.ensures.kept.0 in
+    let a = activity_of c.args.self.now in
+    record { sound = c.bring.ensures.sound; asks = c.bring.ensures.asks; parts = subst (λ (x : Activity). KeepsParts a x 0) (sym came) (keeps-pool a (activity_of c.bring.new.self).reach.pool) }
+
+pub refused-refused-requires-clause-pages : goal.refused-refused-requires-clause-pages
+refused-refused-requires-clause-pages g c =
+    let came = c.in_ok-bring.ensures.shape ∙ ap (λ (x : Activity). with_pool x (activity_of c.bring.new.self).reach.pool) c.in_ok-keep_limit.ensures.kept.0 in
+    subst (λ (x : Activity). AreWithin (page_count x.reach.directory) (wants_of c.touch_of-touch.result)) (sym came) c.touch_of-touch.ensures.wanted.within

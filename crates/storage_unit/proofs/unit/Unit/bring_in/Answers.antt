@@ -1,5 +1,5 @@
-use Rattle.storage_unit.proofs.Common.{refl, sym, ◌∙◌, ap, inl, inr, arith, nat_tests, lines_of_bits, all-lines}
-use Rattle.storage_unit.proofs.IncomingLemmas.{is-filled, is-kept, all-marked, has-gone-out, still-ready, still-clear}
+use Rattle.storage_unit.proofs.Common.{subst, refl, sym, ◌∙◌, ap, inl, inr, arith, nat_tests, lines_of_bits, all-lines}
+use Rattle.storage_unit.proofs.IncomingLemmas.{is-filled, is-kept, all-marked, has-gone-out, still-ready, still-clear, lent-long}
 use Rattle.storage_unit.proofs.unit.Unit.bring_in.Goals as goal
 
 pub returns-then-bits-clause-came : goal.returns-then-bits-clause-came
@@ -51,3 +51,8 @@ invariant_of-self g c =
       opened = unit.opened;
       clear = still-clear c.args.self.now unit c.args.page c.args.keep c.bring-slot.result.frame c.page_mut.result.now c.bring-slot.ensures.brought c.bring-slot.ensures.rest c.page_mut.ensures.value c.read_page-read.new.into c.read_page-read.auto.into;
     }
+
+pub read_page-read-requires : goal.read_page-read-requires
+read_page-read-requires g c =
+    subst (g.P.Pages.can_read c.args.pages.now c.args.outside.now c.args.page)
+    (sym (lent-long c.args.self.now c.bring-slot.new.self c.args.page c.args.keep c.bring-slot.result.frame c.page_mut.result.now c.bring-slot.ensures.brought c.bring-slot.ensures.rest c.page_mut.ensures.value)) c.requires.can_read

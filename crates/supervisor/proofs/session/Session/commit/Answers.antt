@@ -235,3 +235,25 @@ committed_in-committed-requires-clause-sound g c = let s = c.args.self.now in st
 
 pub commit-requires-clause-usable : goal.commit-requires-clause-usable
 commit-requires-clause-usable g c = ap (λ (store : KeptStore). store.bank.spoiled) c.in_default.ensures.begun ∙ c.requires.sound.usable c.requires.open
+
+pub returns-in-Done-clause-told : goal.returns-in-Done-clause-told
+returns-in-Done-clause-told g c =
+    let s = c.args.self.now in
+    let seat = c.args.seat in
+    let entered = c.enter_order.new.self in
+    let others = c.enter_order.ensures.others in
+    let there : activity entered ≡ activity s = ap activity others ∙ c.in_default.ensures.kept in
+    let pool = (activity_of c.commit-in-Done.new.self).reach.pool in
+    let is : activity_of c.swap_printed.new.self ≡ reprinted (rolled (activity s) seat pool) seat entered.printed =
+    c.swap_printed.ensures.left ∙ ap (λ (a : Activity). reprinted a seat entered.printed) (c.commit-in-Done.ensures.shape ∙ ap (λ (a : Activity). rolled a seat pool) there) in
+    let header = ap (λ (n : Session). n.store.header) others ∙ c.commit.ensures.header ∙ ap (λ (store : KeptStore). store.header) c.in_default.ensures.begun in
+    let closed : entered.closed ≡ false = ap (λ (n : Session). n.closed) others ∙ c.requires.open in
+    record {
+      others = λ i.
+          let fixed : Fixed = record { programs = (is i).programs; opened = (others i).opened; header = header i; begins = (others i).begins } in
+          record (session_told entered) { closed = closed i; fixed = fixed; given = (is i).next - 1; turns = (others i).turns; printed = c.swap_printed.new.out };
+      printed = tt;
+      ordered =
+          order-more s.order.items _ c.committed_in-committed.result _ _ c.enter_order.ensures.order
+          (c.committed_in-committed.ensures.activation ∙ ap (λ (a : Activity). number_in a.seating seat) c.in_default.ensures.kept) refl;
+    }

@@ -51,3 +51,6 @@ returns-clause-calls g c = calls-store g.W.Outside c.args.self.now.store.header 
 
 pub returns-clause-stored : goal.returns-clause-stored
 returns-clause-stored g c = subst (λ (answer : Turn). LeavesStore g.W.Outside c.args.activation answer.end c.args.self.now.store c.end_of_turn-end.new.self c.args.outside.now c.end_of_turn-end.new.outside) (sym c.told-2.ensures) c.end_of_turn-end.ensures.stored
+
+pub end_of_turn-end-requires-clause-sound : goal.end_of_turn-end-requires-clause-sound
+end_of_turn-end-requires-clause-sound g c = grind (arith, c.requires.sound, c.requires.sound.room)
