@@ -1,11 +1,14 @@
--- What one deed more adds to the crash images of a file.
-use Rattle.real_files.proofs.Common.{◌≡◌, ◌⊎◌, inl, inr, ⊎_elim, ℕ, zero, suc, ◌+◌, ◌≤◌, List, [], ◌∷◌, ◌++◌, length, refl, sym, ◌∙◌, ap, subst, arith, length-append, written, Torn, Passes, ImagesFollow, AddsNoImage, Failed, Deed, Wrote, Tore, Synced, Unsynced, held_by, images_by, held_after, images_at, is_failed, StopsAtFailure}
+-- What one deed more adds to the crash images of a file, and what one put more prints.
+use Rattle.real_files.proofs.Common.{◌≡◌, ◌⊎◌, inl, inr, ⊎_elim, ℕ, ◌+◌, ◌≤◌, List, [], ◌∷◌, ◌++◌, length, refl, sym, ◌∙◌, ap, subst, arith, length-append, written, Torn, Passes, ImagesFollow, AddsNoImage, Failed, Deed, Wrote, Tore, Synced, Unsynced, held_by, images_by, held_after, images_at, is_failed, StopsAtFailure, take, Some, IsErr, Result, Ok, Err, Prints}
 use Rattle.std.specs.Prelude.{◌-◌, count_by, take, Bool, false, cond, Result, Ok, Err, OnOk, IsErr, is_err, Some}
 use Rattle.outside.specs.Bytes.{Writes}
 use Rattle.std.proofs.lemmas.List.Sums.{sum_by-append}
 use Rattle.std.proofs.Math.Seq.{take-append_seam}
 use Rattle.outside.proofs.Torn.{untouched, torn_by_written}
 use Rattle.real_files.specs.DeedLaws.{past, stays, newest, left_now, held_after-append}
+use Rattle.real_files.specs.Shown.{printed_of, marks_of}
+use Rattle.real_files.specs.ShownLaws.{printed_of-more, marks_of-more}
+use Rattle.std.proofs.lemmas.Bool.{cases_lt}
 
 -- the bytes first, and the deeds since
 abbrev pub Told : Type 0
@@ -16,12 +19,6 @@ moment_of told = length told.1
 
 abbrev pub images_of : Told → ℕ → List ℕ → Type 0
 images_of told = images_at told.0 told.1
-
--- a number is at most another, or more
-at_or_after : (a b : ℕ) → (a ≤ b) ⊎ (b + 1 ≤ a)
-at_or_after zero b = inl (omega arith)
-at_or_after (suc a) zero = inr (omega arith)
-at_or_after (suc a) (suc b) = ⊎_elim (λ le. inl (omega (arith, le))) (λ more. inr (omega (arith, more))) (at_or_after a b)
 
 -- where nothing was done
 pub adds_same : (first : List ℕ) (deeds : List Deed) (first' : List ℕ) (deeds' : List Deed) → first' ≡ first → deeds' ≡ deeds → AddsNoImage moment_of images_of (first, deeds) (first', deeds')
@@ -60,14 +57,14 @@ module _ (first held : List ℕ) (deeds : List Deed) (replayed : held ≡ held_a
 
   -- since the call began: an image of its start, or what the deed makes of those
   adds : (t : ℕ) (image : List ℕ) → length deeds ≤ t → t ≤ length deeds' → images_at first' deeds' t image → images_at first deeds (length deeds) image ⊎ images_by deed held (images_at first deeds (length deeds)) image
-  adds t image since by_now left = elim (at_or_after t (length deeds)) [
-    | inl now ↦
-        let is_now : t ≡ length deeds = omega (arith, now, since) in
-        inl (subst (λ (n : ℕ). images_at first deeds n image) is_now (past first deeds deed t image now (here t image left)))
-    | inr after ↦
+  adds t image since by_now left = elim (cases_lt (length deeds) t) [
+    | inl after ↦
         let is_next : t ≡ length deeds + 1 = omega (arith, after, by_now, counted) in
         let step = newest first deeds deed image (subst (λ (n : ℕ). images_at first (deeds ++ deed ∷ []) n image) is_next (here t image left)) in
         inr (subst (λ (these : List ℕ). images_by deed these (images_at first deeds (length deeds)) image) (sym replayed) step)
+    | inr now ↦
+        let is_now : t ≡ length deeds = omega (arith, now, since) in
+        inl (subst (λ (n : ℕ). images_at first deeds n image) is_now (past first deeds deed t image now (here t image left)))
   ]
 
   -- a sync adds no image, whether it succeeds or not
@@ -125,3 +122,20 @@ where_ok (Err failed) is holds = absurd (cc)
 pub wrote_some : {T : Type 0} (result : Result T Failed) (held held' : List ℕ) (at : ℕ) (bytes : List ℕ) → at ≤ length held → IsErr result → held' ≡ written held at bytes → Writes (Some held) (Some held') at bytes result
 wrote_some (Ok done) held held' at bytes within fails is = absurd (cc)
 wrote_some (Err failed) held held' at bytes within fails is = (held', refl, subst (λ (that : List ℕ). Torn at (length bytes) held that) (sym is) (torn_by_written held at bytes within (length bytes) (omega arith)))
+
+module _ (puts puts' : List Deed) (at : ℕ) (bytes : List ℕ) (is : puts' ≡ puts ++ Wrote at bytes ∷ []) where
+  pub printed_more : printed_of puts' ≡ printed_of puts ++ bytes
+  printed_more = ap printed_of is ∙ printed_of-more puts (Wrote at bytes)
+
+  pub marks_more : marks_of 0 puts' ≡ marks_of 0 puts ++ record { at = at; before = length (printed_of puts) } ∷ []
+  marks_more =
+      let same : 0 + length (printed_of puts) ≡ length (printed_of puts) = omega arith in
+      ap (marks_of 0) is ∙ marks_of-more 0 puts (Wrote at bytes) ∙ ap (λ (n : ℕ). marks_of 0 puts ++ record { at = at; before = n } ∷ []) same
+
+  pub marks_longer : length (marks_of 0 puts') ≡ length (marks_of 0 puts) + 1
+  marks_longer = omega (arith, ap length marks_more, length-append (marks_of 0 puts) (record { at = at; before = length (printed_of puts) } ∷ []))
+
+-- a put that failed
+pub prints_some : {T : Type 0} (result : Result T Failed) (puts puts' : List Deed) (at count : ℕ) (bytes : List ℕ) → IsErr result → puts' ≡ puts ++ Wrote at (take count bytes) ∷ [] → Prints (Some (printed_of puts)) (Some (printed_of puts')) bytes result
+prints_some (Ok done) puts puts' at count bytes fails is = absurd (cc)
+prints_some (Err failed) puts puts' at count bytes fails is = (count, ap Some (printed_more puts puts' at (take count bytes) is))

@@ -1,3 +1,2 @@
 mod DeedSteps
-mod PutSteps
 pub mod Common

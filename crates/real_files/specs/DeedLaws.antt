@@ -1,6 +1,6 @@
 -- What holds of the crash images that a list of deeds tells.
 use Rattle.std.proofs.Common.{◌≡◌, inl, ℕ, ◌+◌, ◌≤◌, List, [], ◌∷◌, ◌++◌, length, refl, sym, ◌∙◌, subst, arith, length-append}
-use Rattle.std.specs.Prelude.{Some}
+use Rattle.std.specs.Prelude.{Some, ◌≢◌, None}
 use Rattle.std.proofs.lemmas.List.{take_all, take-append-le}
 use Rattle.real_files.specs.Deeds.{Deed, Wrote, Tore, Synced, Unsynced, held_by, images_by, held_after, images_after, images_at}
 
@@ -49,3 +49,6 @@ module _ (first : List ℕ) (deeds : List Deed) (deed : Deed) where
       let here = subst (λ (these : List Deed). images_after first (λ image. image ≡ first) these image) all left in
       let step = images_after-append deeds deed first (λ image. image ≡ first) image here in
       subst (λ (these : List Deed). images_by deed (held_after first deeds) (images_after first (λ image. image ≡ first) these) image) (sym (take_all (length deeds) deeds (omega arith))) step
+
+pub none_told : (image : List ℕ) → None ≢ Some image
+none_told image is = cc

@@ -1,6 +1,6 @@
 -- What is asked of a file that may change it, and what that makes of its bytes and of what a crash may leave.
 use mathlib.Core.Path.{refl}
-use Rattle.std.specs.Prelude.{◌≡◌, ℕ, zero, suc, ◌-◌, List, [], ◌∷◌, length, take, count_by, Bool, true, false}
+use Rattle.std.specs.Prelude.{◌≡◌, ℕ, zero, suc, ◌-◌, List, [], ◌∷◌, length, take, count_by, Bool, true, false, slice_index}
 use Rattle.std.specs.Coded.{Coded, code_by, coded×, coded_ℕ, coded_list}
 use Rattle.outside.specs.Bytes.{written}
 use Rattle.outside.specs.Record.{MayTear}
@@ -84,3 +84,13 @@ back Unsynced = refl
 
 abbrev pub coded_deed : Coded Deed
 coded_deed = code_by (ℕ × (ℕ × List ℕ)) (coded× coded_ℕ (coded× coded_ℕ (coded_list coded_ℕ))) parts_of deed_from back
+
+-- of this kind, at this offset, with these bytes
+abbrev pub deed_by : ℕ → ℕ → List ℕ → Deed
+deed_by zero at bytes = Wrote at bytes
+deed_by (suc zero) at bytes = Tore at bytes
+deed_by (suc (suc zero)) at bytes = Synced
+deed_by (suc (suc (suc kind))) at bytes = Unsynced
+
+abbrev pub deed_of : List ℕ → List ℕ → Deed
+deed_of numbers bytes = deed_by (slice_index numbers 0) (slice_index numbers 1) bytes

@@ -36,7 +36,7 @@ impl Disk for AbsentDisk {
 
     ghost faults = { λ disk. disk.faults };
 
-    ghost use Rattle.real_files.specs.Untold.{none_told};
+    ghost use Rattle.real_files.specs.DeedLaws.{none_told};
 
     ghost held_now = { λ disk image is. none_told image is };
 

@@ -2,8 +2,7 @@
 ghost use Rattle.std.specs.Prelude.{◌≡◌, ◌++◌, [], ◌∷◌, List, ℕ};
 ghost use Rattle.std.specs.Borrow.{ftrue};
 ghost use Rattle.std.specs.Coded.{coded_list};
-ghost use Rattle.real_files.specs.Deeds.{Deed, coded_deed};
-ghost use Rattle.real_files.specs.Noted.{deed_of};
+ghost use Rattle.real_files.specs.Deeds.{Deed, coded_deed, deed_of};
 
 use std::marker::{Model, PhantomData};
 

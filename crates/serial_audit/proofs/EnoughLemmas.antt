@@ -1,10 +1,9 @@
 -- The lines of a trace are those that the agreement law asks for.
-use Rattle.serial_audit.proofs.Common.{◌≡◌, ℕ, zero, suc, ◌<◌, ◌||◌, Bool, true, false, List, [], ◌∷◌, map, Some, refl, sym, ◌∙◌, ap, arith, map-append, FlatStore, Lines, both, Plain, after, touched_next, touched_within, Outcome, Commit, row, Activation, if_commit, touch_at, touches, touches_of_step, nat_tests, same_Some, option_and_then_some, none-some}
+use Rattle.serial_audit.proofs.Common.{◌≡◌, ℕ, zero, suc, ◌<◌, ◌||◌, Bool, true, false, List, [], ◌∷◌, map, Some, refl, sym, ◌∙◌, ap, arith, map-append, FlatStore, Lines, both, Plain, after, touched_next, touched_within, Outcome, Commit, row, Activation, if_commit, touch_at, touches, touches_of_step, nat_tests, option_and_then_some, none-some, TraceIsEnough, lines_touched}
 use Rattle.lines.specs.Sets.{has}
 use Rattle.lines.proofs.SetLemmas.{has-append}
 use Rattle.flat_machine.specs.Agreement.{AgreeOn, DoesTheSame, SameWay, all_of, line_in}
 use Rattle.flat_machine.proofs.Agreement.{agreement-enough}
-use Rattle.serial_audit.specs.TraceLaws.{TraceIsEnough, lines_touched}
 use Rattle.serial_audit.proofs.StepLemmas.{touches_more}
 
 -- the lines of a step's touches are all that it touches
@@ -15,11 +14,8 @@ lines_of_kind step store (line ∷ lines) = ap (λ (rest : List ℕ). line ∷ r
 lines_of_step : (step : ℕ) (lines : Lines) → lines_touched (touches_of_step step lines) ≡ all_of lines
 lines_of_step step lines = grind (arith, nat_tests, map-append, lines_of_kind)
 
-swapped : (a b c d : Bool) → ((a || b) || (c || d)) ≡ ((a || c) || (b || d))
-swapped a b c d = grind (arith, nat_tests)
-
 in_both : (first second : Lines) (x : ℕ) → (has (all_of first) x || has (all_of second) x) ≡ has (all_of (both first second)) x
-in_both first second x = grind (arith, nat_tests, has-append, swapped)
+in_both first second x = grind (arith, nat_tests, has-append)
 
 -- whether a line is in the trace, one step more
 in_more : (activation : Activation) (store : FlatStore) (n x : ℕ)
@@ -51,20 +47,10 @@ touches_alike activation store other (suc n) alike =
 
 -- the row of a commit, and its state
 committed : (outcome : Outcome) (reached state : Plain) → if_commit outcome reached ≡ Some state → (outcome ≡ Commit) × (reached ≡ state)
-committed Commit reached state is = (refl, same_Some reached state is)
-committed _ reached state is = absurd (none-some state is)
+committed outcome reached state is = grind (arith, nat_tests)
 
 also_commits : (outcome : Outcome) → SameWay Commit outcome → outcome ≡ Commit
 also_commits outcome h1 = grind (arith, nat_tests)
-
-or_last : (a b : Bool) → b ≡ true → (a || b) ≡ true
-or_last a b h1 = grind (arith, nat_tests)
-
-no_last : (a b : Bool) → (a || b) ≡ false → b ≡ false
-no_last a b h1 = grind (arith, nat_tests)
-
-no_first : (a b : Bool) → (a || b) ≡ false → a ≡ false
-no_first a b h1 = grind (arith, nat_tests)
 
 -- the stores agree in the end on each line of the trace: one that a row wrote, and one that none did, which is as it was
 agree_at_line : (activation : Activation) (store other : FlatStore) (n : ℕ) (reached : Plain) (bytes : List ℕ)
@@ -73,7 +59,7 @@ agree_at_line : (activation : Activation) (store other : FlatStore) (n : ℕ) (r
     → (line : ℕ) → has (lines_touched (touches activation store (suc n))) line ≡ true
     → (is_written : Bool) → has (touched_within activation.program activation.args store n).writes line ≡ is_written
     → line_in store.directory reached.store line ≡ line_in store.directory bytes line
-agree_at_line activation store other n reached bytes same agree line inside true is = grind (arith, nat_tests, has-append, or_last)
+agree_at_line activation store other n reached bytes same agree line inside true is = grind (arith, nat_tests, has-append)
 agree_at_line activation store other n reached bytes same agree line inside false is =
     sym (same.kept line is) ∙ agree line inside ∙ same.kept_on_other line is
 
@@ -81,7 +67,7 @@ agree_at_line activation store other n reached bytes same agree line inside fals
 not_written : (activation : Activation) (store : FlatStore) (n line : ℕ)
     → has (lines_touched (touches activation store (suc n))) line ≡ false
     → has (touched_within activation.program activation.args store n).writes line ≡ false
-not_written activation store n line outside = grind (arith, nat_tests, no_last, has-append, in_trace, no_first, in_more)
+not_written activation store n line outside = grind (arith, nat_tests, has-append, in_trace, in_more)
 
 pub trace-enough : TraceIsEnough
 trace-enough activation zero store other state whole whole_other one commits agree = absurd (none-some state commits)

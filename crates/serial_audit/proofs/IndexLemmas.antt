@@ -1,6 +1,30 @@
 -- What a job says of its activations: the begins first, then the turns, then the marks of commits.
-use Rattle.serial_audit.proofs.Common.{◌≡◌, ◌≢◌, ℕ, zero, suc, ◌+◌, ◌-◌, ◌^◌, ◌<◌, ◌==◌, ◌||◌, ◌↔◌, Bool, true, false, IsTrue, List, [], ◌∷◌, ◌++◌, length, map, min, set, sum, take, get_or, slice_get, Option, Some, None, option_map, MatchOption, ◌⊎◌, inl, inr, refl, sym, ◌∙◌, ap, add-zero, zero-add, eq-eqb, ne_eqb, eqb, eqb-true, arith, All, Contains, eqb-false, get_or-set_same, length-set, map-append, take_more, slice_get-get_or, slice_get_within, Activation, numbered, Event, Turn, Job, Entry, Told, activations_of, limit_of, IsEntry, IsFresh, IsIndex, activation_in, marked, with_turns, nat_tests, All-append, Contains-append_cases, Contains-append_left, Contains-append_right}
+use Rattle.serial_audit.proofs.Common.{◌≡◌, ◌≢◌, ℕ, zero, suc, ◌+◌, ◌-◌, ◌^◌, ◌<◌, ◌==◌, ◌||◌, ◌↔◌, Bool, IsTrue, List, [], ◌∷◌, ◌++◌, length, map, min, set, sum, take, get_or, slice_get, Option, Some, None, option_map, MatchOption, inl, inr, refl, sym, ◌∙◌, ap, add-zero, zero-add, eq-eqb, ne_eqb, eqb-true, arith, Contains, get_or-set_same, length-set, map-append, take_more, slice_get-get_or, slice_get_within, Activation, numbered, Event, Turn, Job, Entry, Told, activations_of, limit_of, IsEntry, IsIndex, activation_in, marked, with_turns, nat_tests, Contains-append_cases, Contains-append_left, Contains-append_right, drop, add-one, drop-cons, Program, Begin, begun, cases_eq, or_cases}
 use Rattle.std.proofs.lemmas.List.Sums.{sum_by-append}
+
+-- a begin of a program that is there
+pub begun_here : (programs : List Program) (events : List Event) (i place : ℕ) (args : List ℕ) (program : Program) (d : Event)
+    → i < length events → get_or events i d ≡ Begin place args → slice_get programs place ≡ Some program
+    → begun programs (drop i events) ≡ record { program = program; args = args } ∷ begun programs (drop (i + 1) events)
+begun_here programs events i place args program d here is found =
+    rw (drop-cons events i d here, is, found, add-one) refl
+
+-- a begin of none
+pub begun_none : (programs : List Program) (events : List Event) (i place : ℕ) (args : List ℕ) (d : Event)
+    → i < length events → get_or events i d ≡ Begin place args → slice_get programs place ≡ None
+    → begun programs (drop i events) ≡ begun programs (drop (i + 1) events)
+begun_none programs events i place args d here is found = rw (drop-cons events i d here, is, found, add-one) refl
+
+not_begun : (programs : List Program) (event : Event) (events : List Event) → ((place : ℕ) (args : List ℕ) → event ≢ Begin place args)
+    → begun programs (event ∷ events) ≡ begun programs events
+not_begun programs event events other = grind (arith, nat_tests)
+
+-- an event that is no begin
+pub begun_later : (programs : List Program) (events : List Event) (i : ℕ) (d : Event) → i < length events
+    → ((place : ℕ) (args : List ℕ) → get_or events i d ≢ Begin place args)
+    → begun programs (drop i events) ≡ begun programs (drop (i + 1) events)
+begun_later programs events i d here other =
+    rw (drop-cons events i d here, add-one) (not_begun programs (get_or events i d) (drop (suc i) events) other)
 
 -- the element written, and another one
 set_here : {X : Type 0} → (xs : List X) (i : ℕ) (y : X) → i < length xs → slice_get (set xs i y) i ≡ Some y
@@ -20,8 +44,7 @@ limit_none : (number other limit : ℕ) → number ≢ other → limit_of number
 limit_none number other limit differ = rw (ne_eqb number other differ) refl
 
 not_turn : (number : ℕ) (event : Event) → ((activation limit : ℕ) → event ≢ Turn activation limit) → limit_of number event ≡ 0
-not_turn number (Turn activation limit) other = absurd (other activation limit refl)
-not_turn number _ other = refl
+not_turn number event other = grind (arith, nat_tests)
 
 -- the limits of one event more
 limits_more : (number : ℕ) (events : List Event) (i : ℕ) (d : Event) → i < length events
@@ -44,8 +67,7 @@ past_at : (events : List Event) (i : ℕ) (d : Event) → i < length events
     → (place : ℕ) (old found : Option Entry) → found ≡ option_map (with_turns (take i events) place) old
     → ((entry : Entry) → found ≡ Some entry → limit_of (place + 1) (get_or events i d) ≡ 0)
     → found ≡ option_map (with_turns (take (i + 1) events) place) old
-past_at events i d within place None found now none = now
-past_at events i d within place (Some entry) found now none = grind (arith, nat_tests, limits_more, take, sum, add-zero, min)
+past_at events i d within place old found now none = grind (arith, nat_tests, limits_more, take, sum, add-zero, min)
 
 -- an event that is no turn of any of them
 past : (events : List Event) (i : ℕ) (d : Event) (old now : List Entry) → i < length events
@@ -73,16 +95,7 @@ turned_at : (events : List Event) (i : ℕ) (d : Event) → i < length events
     → (place limit : ℕ) (old : Option Entry) (entry : Entry) → Some entry ≡ option_map (with_turns (take i events) place) old
     → limit_of (place + 1) (get_or events i d) ≡ limit
     → Some (record entry { steps = min (entry.steps + limit) (2 ^ 64 - 1) }) ≡ option_map (with_turns (take (i + 1) events) place) old
-turned_at events i d within place limit None entry now its = absurd (cc now)
-turned_at events i d within place limit (Some first) entry now its = grind (arith, nat_tests, take, sum, held_twice, min, limits_more)
-
--- two numbers are the same or not
-by_test : (a b : ℕ) (test : Bool) → eqb a b ≡ test → (a ≡ b) ⊎ (a ≢ b)
-by_test a b true same = inl (eqb-true a b same)
-by_test a b false same = inr (eqb-false a b same)
-
-equal : (a b : ℕ) → (a ≡ b) ⊎ (a ≢ b)
-equal a b = by_test a b (eqb a b) refl
+turned_at events i d within place limit old entry now its = grind (arith, nat_tests, take, sum, held_twice, min, limits_more)
 
 -- a turn of one of them
 pub turned : (events : List Event) (i activation limit place : ℕ) (d : Event) (old now : List Entry) (entry : Entry)
@@ -91,7 +104,7 @@ pub turned : (events : List Event) (i activation limit place : ℕ) (d : Event) 
     → HasTurns (take i events) old now
     → HasTurns (take (i + 1) events) old (set now place (record entry { steps = min (entry.steps + limit) (2 ^ 64 - 1) }))
 turned events i activation limit place d old now entry within turn inside its found has = λ other.
-    elim (equal other place) [
+    elim (cases_eq other place) [
       | inl here ↦
           rw here
           (set_here now place (record entry { steps = min (entry.steps + limit) (2 ^ 64 - 1) }) inside
@@ -103,24 +116,9 @@ turned events i activation limit place d old now entry within turn inside its fo
           (λ first same. rw turn (limit_none (other + 1) activation limit (λ one. there (omega (arith, one, its)))))
     ]
 
--- one entry more
-pub fresh_more : (entries : List Entry) (entry : Entry) → All IsFresh entries → IsFresh entry → All IsFresh (entries ++ entry ∷ [])
-fresh_more entries entry fresh is = All-append IsFresh entries (entry ∷ []) fresh one
-  where
-    one : (k : ℕ) (d : Entry) → k < length (entry ∷ []) → IsFresh (get_or (entry ∷ []) k d)
-    one zero d within = is
-    one (suc k) d within = absurd (omega arith)
-
 -- an entry marked as that of the last line
-or_true : (b : Bool) → (b || true) ≡ true
-or_true b = grind (arith, nat_tests)
-
-or_cases : (b c : Bool) → IsTrue (b || c) → IsTrue b ⊎ IsTrue c
-or_cases b c h1 = grind (arith, nat_tests)
-
-last_has : (told : Told) (number : ℕ) → Contains (told.activation ∷ []) number → told.activation ≡ number
-last_has told number (zero, within, is) = is
-last_has told number (suc k, within, is) = absurd (omega arith)
+pub last_has : (x number : ℕ) → Contains (x ∷ []) number → x ≡ number
+last_has x number has = grind (arith, nat_tests)
 
 committed_more : (before : List Told) (told : Told) (committed : Bool) (number : ℕ)
     → (IsTrue committed ↔ Contains (map (λ (earlier : Told). earlier.activation) before) number)
@@ -136,7 +134,7 @@ committed_more before told committed number was =
       λ has.
           elim (Contains-append_cases lines (told.activation ∷ []) number has) [
             | inl earlier ↦ rw (was.1 earlier) refl
-            | inr last ↦ rw (eq-eqb number told.activation (sym (last_has told number last))) (or_true committed)
+            | inr last ↦ rw (eq-eqb number told.activation (sym (last_has told.activation number last))) (grind (arith, nat_tests))
           ],
     )
 
@@ -156,8 +154,7 @@ index_more job before told old now index mark = λ place.
 -- marking none
 marked_none : (activation place : ℕ) (found : Option Entry) → ((entry : Entry) → found ≡ Some entry → place + 1 ≢ activation)
     → found ≡ option_map (marked activation place) found
-marked_none activation place None other = refl
-marked_none activation place (Some entry) other = grind (arith, nat_tests)
+marked_none activation place found other = grind (arith, nat_tests)
 
 pub none_marked : (entries : List Entry) (activation : ℕ) → ((place : ℕ) → place < length entries → place + 1 ≢ activation)
     → (place : ℕ) → slice_get entries place ≡ option_map (marked activation place) (slice_get entries place)
@@ -166,8 +163,7 @@ none_marked entries activation none place =
 
 -- the activation of a number is that of its entry
 numbered_at : (activations : List Activation) (place number : ℕ) → place + 1 ≡ number → numbered activations number ≡ slice_get activations place
-numbered_at activations place zero its = absurd (omega (arith, its))
-numbered_at activations place (suc n) its = grind (arith, nat_tests)
+numbered_at activations place number its = grind (arith, nat_tests)
 
 pub none_begun : (job : Job) (before : List Told) (entries : List Entry) (number : ℕ) (activation : Activation) → IsIndex job before entries
     → ((place : ℕ) → place < length entries → place + 1 ≢ number) → numbered (activations_of job) number ≡ Some activation → ⊥

@@ -1,12 +1,7 @@
 pub mod Common
-pub mod BegunLemmas
-pub mod BundleLemmas
 pub mod IndexLemmas
 pub mod OneLemmas
-pub mod RowLemmas
-pub mod SameLemmas
 pub mod VerdictLemmas
 pub mod Lemmas
 pub mod EnoughLemmas
-pub mod LineLemmas
 pub mod StepLemmas

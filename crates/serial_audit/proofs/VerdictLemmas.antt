@@ -1,7 +1,16 @@
 -- Commit lines one after another, and whether they are sound.
-use Rattle.serial_audit.proofs.Common.{◌≡◌, ℕ, ◌+◌, ◌%◌, ◌^◌, ◌<◌, ◌≤◌, Bool, true, false, List, [], ◌∷◌, ◌++◌, length, map, take, drop, get_or, slice_get, Option, Some, None, option_and_then, ◌⊎◌, inl, inr, refl, sym, ◌∙◌, ap, length-append, add-one, drop-cons, arith, map-append, take-append-drop, take_more, option_and_then_some, Layout, FlatStore, Plain, Activation, before_commit, committing, numbered, serial, Job, Entry, AreSound, IsSound, Told, activations_of, flat_of, pair_of, report_told, steps_allowed, IsIndex, activation_in, IsTaken, MayFollow, Replays, Stands, nat_tests, told_of, KeptStore, Progress}
+use Rattle.serial_audit.proofs.Common.{◌≡◌, ℕ, ◌+◌, ◌%◌, ◌^◌, ◌<◌, ◌≤◌, true, false, List, [], ◌∷◌, ◌++◌, length, map, take, drop, get_or, slice_get, Option, Some, None, option_and_then, ◌⊎◌, inl, inr, refl, sym, ◌∙◌, ap, length-append, add-one, drop-cons, arith, map-append, take-append-drop, take_more, option_and_then_some, Layout, FlatStore, Plain, Activation, before_commit, committing, numbered, serial, Job, Entry, AreSound, IsSound, Told, activations_of, flat_of, pair_of, report_told, steps_allowed, IsIndex, activation_in, IsTaken, MayFollow, Replays, Stands, nat_tests, told_of, KeptStore, Progress, ◌==◌, ◌&&◌, Decides, ◌≢◌, append_assoc, Contains, IsFirstUnsound, Touch, AreTouches, touches, Contains-append_cases, false_from_ne_true}
 use Rattle.report_text.specs.declared.line.CommitLine.{CommitLine}
-use Rattle.serial_audit.proofs.IndexLemmas.{begun_at, entry_at}
+use Rattle.serial_audit.proofs.IndexLemmas.{begun_at, entry_at, last_has}
+
+-- pairs are the same where their parts are
+pub pair_decides : (a b : ℕ × ℕ) → Decides ((a.0 == b.0) && (a.1 == b.1)) (a ≡ b)
+pair_decides (a, b) (c, d) = grind (arith, nat_tests)
+
+-- directories are the same where their pages and segments are
+pub layout_same : (a b : Layout) → a.page ≡ b.page → a.segments ≡ b.segments → a.fine ≡ b.fine → a ≡ b
+layout_same a b page segments fine =
+    let e : record { page = a.page; segments = a.segments; fine = a.fine } ≡ record { page = b.page; segments = b.segments; fine = b.fine } = cc in e
 
 -- one commit more leaves its state's store
 pub serial_more : (activations : List Activation) (commits : List (ℕ × ℕ)) (commit : ℕ × ℕ) (store left : FlatStore)
@@ -21,9 +30,6 @@ serial_more activations (first ∷ commits) commit store left is =
         ≡ option_and_then (λ (state : Plain). Some (record left { bytes = state.store })) (committing activations commit left)
     by_state later None same = absurd (cc same)
     by_state later (Some state) same = later (record store { bytes = state.store }) same
-
-pub not_true : false ≡ true → ⊥
-not_true same = cc
 
 -- a commit line that may follow, and whose activation commits as it tells on what the others leave, is sound
 pub sound_here : (job : Job) (opening : KeptStore) (before : List Told) (told : Told) (activation : Activation) (progress : Progress) (directory : Layout) (state : Plain)
@@ -87,7 +93,7 @@ may_follow job opening before told progress place entry stands found its next op
     let is = entry_at job before progress.entries.items place entry stands.index found in
     record {
       number = let number = stands.number_is in omega arith;
-      first = λ has. not_true (sym open_yet ∙ is.committed.1 (rw its has));
+      first = λ has. let no : false ≡ true = sym open_yet ∙ is.committed.1 (rw its has) in cc;
       allowed =
           let within : told.steps ≤ steps_allowed job (place + 1) = omega (arith, few, is.steps) in
           rw its at within;
@@ -102,13 +108,9 @@ pub follows_so : (job : Job) (opening : KeptStore) (before : List Told) (told : 
 follows_so job opening before told progress place entry activation stands found its follows =
     let is = entry_at job before progress.entries.items place entry stands.index found in (
       (let number = stands.number_is in let told_is = follows.number in omega arith),
-      open_yet entry.committed (λ committed. follows.first (rw its at (is.committed.0 committed))),
+      false_from_ne_true entry.committed (λ committed. follows.first (rw its at (is.committed.0 committed))),
       (λ small. let steps = rw its at is.steps in let allowed = follows.allowed in omega arith),
     )
-  where
-    open_yet : (b : Bool) → (b ≡ true → ⊥) → b ≡ false
-    open_yet true never = absurd (never refl)
-    open_yet false never = refl
 
 -- a list with one element more, cut at an element: the cut is at its last, or within the others
 last_or_within : (before : List Told) (last : Told) (first : List Told) (told : Told) (behind : List Told)
@@ -155,3 +157,35 @@ told_all report i line within is =
     let whole : take i report ++ line ∷ drop (i + 1) report ≡ report =
     rw (add-one) (ap (λ rest. take i report ++ rest) (sym (drop-cons report i line within ∙ rw (← is) refl)) ∙ take-append-drop i report) in
     ap report_told (sym whole) ∙ map-append told_of (take i report) (line ∷ drop (i + 1) report)
+
+-- a line of another activation more
+pub none_more : (lines : List Told) (told : Told) (activation : ℕ) → ¬ (Contains (map (λ (line : Told). line.activation) lines) activation)
+    → told.activation ≢ activation → ¬ (Contains (map (λ (line : Told). line.activation) (lines ++ told ∷ [])) activation)
+none_more lines told activation none other has =
+    elim (Contains-append_cases (map (λ (line : Told). line.activation) lines) (told.activation ∷ []) activation (rw map-append at has)) [
+      | inl earlier ↦ none earlier
+      | inr last ↦ other (last_has told.activation activation last)
+    ]
+
+-- the first unsound line is so with others behind
+pub unsound_among : (job : Job) (opening : KeptStore) (lines behind : List Told) (place : ℕ)
+    → IsFirstUnsound job opening lines place → IsFirstUnsound job opening (lines ++ behind) place
+unsound_among job opening lines behind place unsound = grind (arith, nat_tests, append_assoc unsound.before (unsound.told ∷ unsound.behind) behind)
+
+-- a line whose activation commits as it tells is sound, and has these touches
+pub traced_sound : (job : Job) (opening : KeptStore) (before : List Told) (told : Told) (activation : Activation) (progress : Progress) (directory : Layout)
+    → (state : Plain) (list : List Touch) → opening.directory ≡ directory → Stands job opening before progress
+    → MayFollow job opening before told activation
+    → (before_commit activation told.steps (record { directory = directory; bytes = progress.store }) ≡ Some state)
+    × (list ≡ touches activation (record { directory = directory; bytes = progress.store }) told.steps)
+    → told.out ≡ state.out → IsSound job opening before told × AreTouches job opening before told list
+traced_sound job opening before told activation progress directory state list same stands follows traced prints = (
+  sound_here job opening before told activation progress directory state same stands follows traced.0 prints,
+  record {
+    activation = activation;
+    begun = follows.begun;
+    left = record { directory = opening.directory; bytes = progress.store };
+    leaves = stands.leaves;
+    list_is = rw same traced.1;
+  },
+)

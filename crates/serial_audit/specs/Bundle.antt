@@ -2,6 +2,7 @@
 use Rattle.std.specs.Prelude.{◌≡◌, ◌≢◌, ℕ, ◌+◌, ◌≤◌, ◌⊎◌, List, [], ◌∷◌, ◌++◌, length, codes, decimal}
 use Rattle.desk.specs.Lines.{spaced}
 use Rattle.serial_audit.specs.declared.bundle.Bundle.{Bundle}
+use Rattle.serial_audit.specs.declared.bundle.Lengths.{Lengths}
 
 -- the four lengths of a bundle
 pub record Sizes : Type 0 where
@@ -59,3 +60,7 @@ IsWrongAt bytes part =
 pub record HasOneSplitting : Type 0 where
   pub one : (bytes : List ℕ) (first second : Bundle) → IsBundle bytes first → IsBundle bytes second → first ≡ second
   pub whole : (bytes : List ℕ) (bundle : Bundle) (part : ℕ) → IsBundle bytes bundle → ¬ (IsWrongAt bytes part)
+
+-- the four lengths
+abbrev pub sizes_of : Lengths → Sizes
+sizes_of lengths = record { job = lengths.job; report = lengths.report; opening = lengths.opening; closing = lengths.closing }

@@ -1,9 +1,5 @@
 pub mod Below
 pub mod Audit
 pub mod Bundle
-pub mod Index
-pub mod Lengths
 pub mod Progress
-pub mod TraceLaws
-pub mod Stretch
 pub mod Trace

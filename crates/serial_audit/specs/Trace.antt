@@ -1,6 +1,6 @@
 -- The lines that an activation touches as its serial run does.
-use Rattle.std.specs.Prelude.{◌≡◌, ℕ, ◌-◌, Bool, false, true, List, [], ◌∷◌, ◌++◌, map, Some, Result, Ok, Err}
-use Rattle.serial_audit.specs.Below.{Activation, Contains, flat_map, FlatStore, Job, Lines, numbered, range_with_len, serial}
+use Rattle.std.specs.Prelude.{◌≡◌, ℕ, ◌-◌, Bool, false, true, List, [], ◌∷◌, ◌++◌, map, Some, Result, Ok, Err, Option, None}
+use Rattle.serial_audit.specs.Below.{Activation, Contains, flat_map, FlatStore, Job, Lines, numbered, range_with_len, serial, before_commit, IsWhole, Plain, no_lines}
 use Rattle.flat_machine.specs.Due.{touched_next}
 use Rattle.serial_audit.specs.declared.auditing.KeptStore.{KeptStore}
 use Rattle.serial_audit.specs.Audit.{AreSound, IsFirstUnsound, Told, activations_of, flat_of, pair_of}
@@ -8,6 +8,18 @@ use Rattle.serial_audit.specs.declared.answer.Trace.{Trace}
 use Rattle.serial_audit.specs.declared.answer.TraceFault.{TraceFault}
 use Rattle.serial_audit.specs.declared.answer.TraceFault.TheVariants.{Memory, NoCommit, NotSerial}
 use Rattle.serial_audit.specs.declared.touch.Touch.{Touch}
+use Rattle.flat_machine.specs.Agreement.{AgreeOn, AgreeBut}
+use Rattle.serial_audit.specs.declared.touch.Stretch.{Stretch}
+
+-- lines that are read, or written
+abbrev pub lines_by : Bool → List ℕ → Lines
+lines_by false lines = record { reads = lines; writes = [] }
+lines_by true lines = record { reads = []; writes = lines }
+
+-- the lines of a stretch
+abbrev pub lines_of : Option Stretch → Lines
+lines_of None = no_lines
+lines_of (Some stretch) = lines_by stretch.store (range_with_len stretch.first stretch.count)
 
 -- a line that a step reads, or writes
 abbrev pub touch_at : ℕ → Bool → ℕ → Touch
@@ -55,3 +67,22 @@ IsAnswer job opening lines activation (Err (NotSerial place)) =
     (before : List Told) × (told : Told) × IsFirstOf lines activation before told
     × IsFirstUnsound job opening (before ++ told ∷ []) place
 IsAnswer job opening lines activation (Err Memory) = Unit {0}
+
+-- the lines of touches
+abbrev pub lines_touched : List Touch → List ℕ
+lines_touched list = map (λ touch. touch.line) list
+
+-- The law: where an activation commits as its step with a number on one store, it commits as that step on each other store of the same
+-- directory that agrees with the first on every line of the trace. The trace is the same, and so is all before the commit, the printed bytes
+-- among it, but the store's bytes: these agree on the lines of the trace, and are the other store's own on each other line.
+abbrev pub TraceIsEnough : Type 0
+TraceIsEnough =
+    (activation : Activation) (steps : ℕ) (store other : FlatStore) (state : Plain)
+    → IsWhole store → IsWhole other → other.directory ≡ store.directory
+    → before_commit activation steps store ≡ Some state
+    → AgreeOn store.directory (lines_touched (touches activation store steps)) store.bytes other.bytes
+    → (bytes : List ℕ)
+    × (before_commit activation steps other ≡ Some (record state { store = bytes }))
+    × (touches activation other steps ≡ touches activation store steps)
+    × AgreeOn store.directory (lines_touched (touches activation store steps)) state.store bytes
+    × AgreeBut store.directory (lines_touched (touches activation store steps)) other.bytes bytes

@@ -2,8 +2,7 @@ ghost use Rattle.std.specs.Prelude.{◌≡◌, ◌+◌, ◌-◌, ◌<◌, ◌≤
 ghost use Rattle.serial_audit.specs.Below.{Activation, byte_count, Job};
 ghost use Rattle.serial_audit.specs.declared.auditing.KeptStore.{KeptStore};
 ghost use Rattle.serial_audit.specs.Audit.{AreSound, IsFirstUnsound, IsVerdict, Told, report_told, told_of};
-ghost use Rattle.serial_audit.specs.Index.{IsEntryOf, activation_in};
-ghost use Rattle.serial_audit.specs.Progress.{IsTaken, MayFollow, Stands};
+ghost use Rattle.serial_audit.specs.Progress.{IsEntryOf, activation_in, IsTaken, MayFollow, Stands};
 
 use super::index::{Entry, index_of, mark, place_among};
 use super::replay::replayed;

@@ -1,7 +1,7 @@
 // What a job says of each of its activations.
 ghost use Rattle.std.specs.Prelude.{◌≡◌, ◌≢◌, ◌+◌, ◌<◌, ℕ, [], map, slice_get, option_map, IfOk, MatchOption};
 ghost use Rattle.serial_audit.specs.Below.{All, begun};
-ghost use Rattle.serial_audit.specs.Index.{IsFresh, IsIndex, activation_in, marked, with_turns};
+ghost use Rattle.serial_audit.specs.Progress.{IsFresh, IsIndex, activation_in, marked, with_turns};
 
 use desk::Event;
 use flat_machine::Program;

@@ -3,8 +3,7 @@ ghost use Rattle.std.specs.Prelude.{◌≡◌, ◌≢◌, ◌+◌, ◌≤◌, �
 ghost use Rattle.flat_machine.specs.Access.{IsAccess};
 ghost use Rattle.flat_machine.specs.Row.{located};
 ghost use Rattle.flat_machine.specs.Touched.{lines_at, lines_of_act, touched};
-ghost use Rattle.serial_audit.specs.Stretch.{lines_by, lines_of};
-ghost use Rattle.serial_audit.specs.Trace.{touches_of_step};
+ghost use Rattle.serial_audit.specs.Trace.{lines_by, lines_of, touches_of_step};
 
 use flat_machine::{Act, Located, Pending, Plain, Program, locate, start_row};
 use lines::Directory;

@@ -1,17 +1,11 @@
 pub mod Common
 pub mod PutLemmas
-pub mod GoLemmas
 pub mod TellLemmas
 pub mod StepLemmas
 pub mod BeginLemmas
-pub mod FollowLemmas
-pub mod DueLemmas
-pub mod ShowLemmas
 pub mod ShipLemmas
-pub mod ContentLemmas
 pub mod PartLemmas
 pub mod TailLemmas
-pub mod ReadLemmas
 pub mod OneLemmas
 pub mod Lemmas
 pub mod ShipCallLemmas

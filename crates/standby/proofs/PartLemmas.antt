@@ -1,14 +1,11 @@
 -- The parts of a line of a ship text: where each ends, and that none holds a line feed.
-use Rattle.standby.proofs.Common.{All, slice_index, AllByRecursion, prefix_len, lt-ltb, nat_tests, drop_at, take_at, All-get_or, recursion_from_All, AllPass-from_list_all, sum_by-append, decode_of-encode_lower, IsWord, number_word, word_cut, feeds, end_line, head_line, line_line, record_line, each_byte, ◌≡◌, ℕ, ◌+◌, ◌/◌, ◌%◌, ◌^◌, ◌<◌, ◌≤◌, ◌==◌, nat_lt, not, true, false, cond, List, [], ◌∷◌, ◌++◌, length, codes, decimal, get_or, position, Some, None, Ok, take, drop, refl, ◌∙◌, ap, append_assoc, length-append, arith, encode_lower, lower_digits, decode_of}
+use Rattle.standby.proofs.Common.{All, slice_index, AllByRecursion, prefix_len, lt-ltb, nat_tests, drop_at, take_at, All-get_or, recursion_from_All, AllPass-from_list_all, sum_by-append, decode_of-encode_lower, IsWord, number_word, word_cut, feeds, end_line, head_line, line_line, record_line, each_byte, ◌≡◌, ℕ, ◌+◌, ◌/◌, ◌%◌, ◌^◌, ◌<◌, ◌≤◌, ◌==◌, nat_lt, not, true, cond, List, [], ◌∷◌, ◌++◌, length, codes, decimal, get_or, position, Some, None, Ok, take, drop, refl, ◌∙◌, ap, append_assoc, length-append, arith, encode_lower, lower_digits, decode_of, ltb-true, eq-eqb, ne_eqb}
 use Rattle.hex.specs.Hex.{encode_with}
 use Rattle.std.proofs.lemmas.List.Quantifiers.{position-Some}
 use Rattle.standby.proofs.ShipLemmas.{split_at}
 
-behind_space : (byte : ℕ) → nat_lt 32 byte ≡ true → 32 < byte
-behind_space byte is = grind (arith, nat_tests)
-
 hex_digit : (k : ℕ) → k < 16 → 32 < slice_index lower_digits k
-hex_digit k small = behind_space (slice_index lower_digits k) (All-get_or (λ byte. nat_lt 32 byte ≡ true) lower_digits k 0 small (AllPass-from_list_all (nat_lt 32) lower_digits refl))
+hex_digit k small = ltb-true 32 (slice_index lower_digits k) (All-get_or (λ byte. nat_lt 32 byte ≡ true) lower_digits k 0 small (AllPass-from_list_all (nat_lt 32) lower_digits refl))
 
 hex_word_by : (bytes : List ℕ) → AllByRecursion (λ byte. byte < 256) bytes → IsWord (encode_lower bytes)
 unfolding encode_with
@@ -25,26 +22,17 @@ pub same_hex : (a b x y : List ℕ) → All (λ byte. byte < 256) a → All (λ 
 same_hex a b x y one two is = grind (arith, decodes a one, (word_cut 10 (encode_lower a) (encode_lower b) x y (omega arith) (hex_word a one) (hex_word b two) is).0, decodes b two, (word_cut 10 (encode_lower a) (encode_lower b) x y (omega arith) (hex_word a one) (hex_word b two) is).1)
 
 -- the place of the byte behind a word
-is_not : (stop : ℕ) → not (stop == stop) ≡ false
-is_not stop = grind (arith, nat_tests)
-
-is_other : (stop byte : ℕ) → stop ≤ 32 → 32 < byte → not (byte == stop) ≡ true
-is_other stop byte small inside = grind (arith, nat_tests)
-
 run : (stop : ℕ) (word tail : List ℕ) → stop ≤ 32 → IsWord word → prefix_len (λ byte. not (byte == stop)) (word ++ stop ∷ tail) ≡ length word
-run stop [] tail small is = rw (is_not stop) refl
-run stop (byte ∷ word) tail small is = rw (is_other stop byte small is.0, run stop word tail small is.1) (omega arith)
+run stop [] tail small is = rw (eq-eqb stop stop refl) refl
+run stop (byte ∷ word) tail small is = rw (ne_eqb byte stop (omega (arith, small, is.0)), run stop word tail small is.1) (omega arith)
 
 pub place_is : (stop : ℕ) (word tail : List ℕ) → stop ≤ 32 → IsWord word → position (λ byte. byte == stop) (word ++ stop ∷ tail) ≡ Some (length word)
 place_is stop word tail small is = grind (arith, run stop word tail small is, lt-ltb (length word) (length (word ++ stop ∷ tail)) (simp length-append (omega arith)))
 
 -- no line ends in a word
-no_feed : (byte : ℕ) → 32 < byte → (byte == 10) ≡ false
-no_feed byte inside = grind (arith, nat_tests)
-
 pub word_plain : (word : List ℕ) → IsWord word → feeds word ≡ 0
 word_plain [] is = refl
-word_plain (byte ∷ word) is = rw (no_feed byte is.0) (word_plain word is.1)
+word_plain (byte ∷ word) is = rw (ne_eqb byte 10 (omega (arith, is.0))) (word_plain word is.1)
 
 pub feeds_append : (a b : List ℕ) → feeds (a ++ b) ≡ feeds a + feeds b
 feeds_append a b = sum_by-append (λ byte. cond (byte == 10) 1 0) a b

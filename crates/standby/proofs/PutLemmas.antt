@@ -1,6 +1,7 @@
--- One line that is put, and what a crash leaves of it.
-use Rattle.standby.proofs.Common.{◌≡◌, ⊎_elim, ℕ, List, [], ◌++◌, take, sym, ◌∙◌, ap, subst, arith, IsSome, Option, None, Some, IfSome, Result, Ok, Err, IfSome_then, Failed, Ghosts, Prints, AreTold, IsSure, CallsDisk, FewerLater, Leaves, held_of, prints_none, prints_on, told_is, Puts, PrintsBy, SeesPart, Shipped, broken, feeds, put_of, well, nat_tests}
+-- One line that is put, and calls and puts, one after another.
+use Rattle.standby.proofs.Common.{◌≡◌, ⊎_elim, ℕ, List, [], ◌++◌, take, sym, ◌∙◌, ap, subst, arith, IsSome, Option, IfSome, Result, Ok, Err, IfSome_then, Failed, Ghosts, Prints, AreTold, IsSure, CallsDisk, FewerLater, Leaves, held_of, prints_none, prints_on, told_is, Puts, PrintsBy, SeesPart, Shipped, broken, feeds, put_of, well, nat_tests, OnlyGoesOn}
 use Rattle.standby.proofs.PartLemmas.{feeds_append}
+use Rattle.store.specs.Held.{IsMoreBy, OnlyWrites}
 
 -- a crash leaves the bytes printed
 abbrev pub PrintedNow : {W : Type 0} → Ghosts W → Type 0
@@ -8,8 +9,7 @@ PrintedNow {W} G = (w : W) (image seen : List ℕ) → G.left_since w (G.moment 
 
 -- what is so of the bytes printed after a put, where they are told, is so of those before with what was put
 pub on_printed : (old new : Option (List ℕ)) (bytes : List ℕ) {T : Type 0} (value : T) (P : List ℕ → Type 0) → Prints old new bytes (Ok value) → IfSome new P → IfSome old (λ shown. P (shown ++ bytes))
-on_printed None new bytes value P prints has = tt
-on_printed (Some old) new bytes value P prints has = subst (λ (those : Option (List ℕ)). IfSome those P) prints has
+on_printed old new bytes value P prints has = grind (arith, nat_tests)
 
 -- bytes printed that are told still are then
 pub told_on : (old new : Option (List ℕ)) (bytes : List ℕ) → Prints old new bytes well → IsSome old → IsSome new
@@ -41,10 +41,25 @@ module _ {W : Type 0} (G : Ghosts W) where
 
   -- one line is put
   pub by_put : (line : List ℕ) (old new : W) (result : Result (Unit {0}) Shipped) → feeds line ≡ 1 → Puts G line old new (put_of result) → PrintsBy G line old new result
-  by_put line old new (Ok done) one puts = (puts.printed, λ told. omega (arith, puts.once.done told, one))
-  by_put line old new (Err why) one puts = puts.printed
+  by_put line old new result one puts = grind (arith, nat_tests)
 
   -- bytes, and then more
   pub prints_by : (old mid new : W) (first second : List ℕ) (result : Result (Unit {0}) Shipped) → PrintsBy {T = Unit {0}} G first old mid (Ok tt) → PrintsBy G second mid new result → PrintsBy G (first ++ second) old new result
   prints_by old mid new first second (Ok done) one two = (prints_on (G.printed old) (G.printed mid) (G.printed new) first second tt well one.0 two.0, λ told. omega (arith, one.1 told, two.1 (told_on (G.printed old) (G.printed mid) first one.0 told), feeds_append first second))
   prints_by old mid new first second (Err why) one two = prints_on (G.printed old) (G.printed mid) (G.printed new) first second tt broken one.0 two
+
+more_same : (first second : Option ℕ) → second ≡ first → IsMoreBy 0 first second
+more_same first second same before is = (before, same ∙ is, omega arith)
+
+module _ {W : Type 0} (G : Ghosts W) where
+  pub goes_none : (now : W) → OnlyGoesOn G now now
+  goes_none now = grind (arith, nat_tests, more_same)
+
+  pub goes_writes : (old new : W) → OnlyWrites G old new → OnlyGoesOn G old new
+  goes_writes old new only = grind (arith, nat_tests)
+
+  pub goes_puts : {T : Type 0} (bytes : List ℕ) (old new : W) (result : Result T Failed) → Puts G bytes old new result → OnlyGoesOn G old new
+  goes_puts bytes old new result puts = grind (arith, nat_tests, more_same)
+
+  pub goes_on : (fewer_later : FewerLater G) (old mid new : W) → OnlyGoesOn G old mid → OnlyGoesOn G mid new → OnlyGoesOn G old new
+  goes_on fewer_later old mid new first second = grind (arith, nat_tests)

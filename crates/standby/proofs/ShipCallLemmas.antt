@@ -1,8 +1,8 @@
 -- What shipping the records of a store did.
-use Rattle.standby.proofs.Common.{◌≡◌, ◌⊎◌, ◌<◌, ◌≤◌, ℕ, List, [], inl, inr, ⊎_elim, refl, sym, ◌∙◌, ap, subst, Option, IsSome, IsTrue, Result, Ok, Err, unwrap_or, Ghosts, AreTold, FewerLater, OnlyAsks, held_of, AsksAndPuts, OpenFault, KeptStore, number_of, IsStoreOpenFault, IsShown, Shows, TracksStore, behind, IsContent, text_of, leaves_on, call, status_of_open, Status, cases_lt, RecordLine, Shipped, leaves_held, shows_asks, shows_on}
+use Rattle.standby.proofs.Common.{◌≡◌, ◌⊎◌, ◌<◌, ◌≤◌, ℕ, List, [], inl, inr, ⊎_elim, refl, sym, ◌∙◌, ap, subst, Option, IsSome, IsTrue, Result, Ok, Err, unwrap_or, Ghosts, AreTold, FewerLater, OnlyAsks, held_of, AsksAndPuts, OpenFault, KeptStore, number_of, IsStoreOpenFault, IsShown, Shows, TracksStore, behind, IsContent, text_of, leaves_on, call, status_of_open, Status, cases_lt, RecordLine, Shipped, leaves_held, shows_asks, shows_on, arith, nat_tests}
 use Rattle.standby.proofs.PutLemmas.{PrintedNow, prints_by, quiet_by, quiet_is}
 use Rattle.standby.specs.Shipped.{PrintsBy as PutsBy, ShipsBy, shipped}
-use Rattle.standby.proofs.ShowLemmas.{still_shown}
+use Rattle.standby.proofs.ShipLemmas.{still_shown}
 use Rattle.standby.specs.ShipCalled.{ShippedBy, ShippedFrom}
 use Rattle.store.specs.declared.fault.OpenFault.TheVariants as open_fault
 use Rattle.standby.specs.declared.shipping.Shipped.TheVariants as how
@@ -19,10 +19,7 @@ module _ {W : Type 0} (G : Ghosts W) (printed_now : PrintedNow G) (from : ℕ) (
       record { no_order = refl; only = shows_asks G before mid asks; sure = λ honest told image seen left. inl (quiet_is G printed_now before mid asks.calls image seen left); calm = λ other. calm (λ failed. other (is ∙ ap status_of_open failed)); by_status = subst (ShippedBy G from before mid) (sym is) (by fault why) }
     where
       by : (fault : OpenFault) → IsStoreOpenFault G before mid fault → ShippedBy G from before mid (status_of_open fault)
-      by (open_fault.NotAStore offset) why = (asks, λ told. inl (why told))
-      by (open_fault.Damaged offset) why = (asks, λ told. inr (why told))
-      by open_fault.DiskFault why = inl asks.calls.quiet.same
-      by open_fault.Memory why = asks
+      by fault why = grind (arith, nat_tests)
 
   module _ (fewer_later : FewerLater G) (mid after : W) (asks : OnlyAsks G before mid) (store : KeptStore) (shows : IsSome (G.held before) → Shows (held_of G before) store)
       (tracks : IsTrue (G.is_honest before) → IsSome (G.held before) → TracksStore G store mid) (only : AsksAndPuts G mid after) where

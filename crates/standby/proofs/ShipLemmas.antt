@@ -1,8 +1,20 @@
 -- The records of a bank, as they are shipped.
-use Rattle.standby.proofs.Common.{Some, slice_get, flat_map-append, All-push, get_or_from_slice_get, take_more, get_or-map, length-map, length-take-le, take-append-drop, PageSize, RecordLine, record_bytes, Record, KeptBank, IsCounted, IsRecordAt, area_bytes, Ghosts, held_of, KeptStore, IsShown, ShipLine, later, line_line, lines_text, next, record_text, records_text, told, All, ◌≡◌, ℕ, ◌+◌, ◌<◌, List, [], ◌∷◌, ◌++◌, length, map, take, drop, get_or, refl, sym, ◌∙◌, ap, subst, arith, append_assoc, append-nil, add-one}
+use Rattle.standby.proofs.Common.{Some, slice_get, flat_map-append, All-push, get_or_from_slice_get, take_more, get_or-map, length-map, length-take-le, take-append-drop, PageSize, RecordLine, record_bytes, Record, KeptBank, IsCounted, IsRecordAt, area_bytes, Ghosts, held_of, KeptStore, IsShown, ShipLine, later, line_line, lines_text, next, record_text, records_text, told, All, ◌≡◌, ℕ, ◌+◌, ◌<◌, List, [], ◌∷◌, ◌++◌, length, map, take, drop, get_or, refl, sym, ◌∙◌, ap, subst, arith, append_assoc, append-nil, add-one, IsSome, Option, Result, unwrap_or, Failed, AsksAndPuts, shows_puts, Shows, Puts, None, nat_tests, All-drop, All-map, recursion_from_All, AllByRecursion, line_count, line_bytes, wrong_line, HasBytes, shipped, behind, AreLines, IsContent, ◌^◌, flat_map_more}
 use Rattle.std.proofs.Math.Seq.{split_at as cut}
 use Rattle.store.specs.Opened.{IsRead}
-use Rattle.standby.proofs.ShowLemmas.{still_shown}
+use Rattle.store_format.proofs.Widths.{line-few, line-some}
+use Rattle.store.proofs.RecordLemmas.{stands_there}
+
+module _ {W : Type 0} (G : Ghosts W) where
+  pub shows_line : {T : Type 0} (bytes : List ℕ) (old new : W) (result : Result T Failed) → Puts G bytes old new result → AsksAndPuts G old new
+  shows_line bytes old new result puts = shows_puts G bytes old new result puts.only puts.printed (λ image seen left. let from = puts.crash image seen left in (from.0, from.1))
+
+  -- a store that is shown is shown still, with the same records
+  pub still_shown : (store : KeptStore) (old new : W) → (shown : IsShown G store old) → G.held new ≡ G.held old → (still : IsShown G store new) × (still.shows.read.records ≡ shown.shows.read.records)
+  still_shown store old new shown held =
+      let same : held_of G new ≡ held_of G old = ap (λ (these : Option (List ℕ)). unwrap_or these []) held in
+      let still = subst (λ (held : List ℕ). (shows : Shows held store) × (shows.read.records ≡ shown.shows.read.records)) (sym same) (shown.shows, refl) in
+      (record { told = subst (λ (these : Option (List ℕ)). IsSome these) (sym held) shown.told; shows = still.0 }, still.1)
 
 area_append : (page : PageSize) (xs : List (List RecordLine)) (lines : List RecordLine) → area_bytes page (xs ++ lines ∷ []) ≡ area_bytes page xs + record_bytes page (length lines)
 area_append page [] lines = omega arith
@@ -69,12 +81,9 @@ module _ (head : List ℕ) (lines : List RecordLine) (i : ℕ) (one : RecordLine
 
   pub text_more : (head ++ lines_text (take i (told lines))) ++ line_line one.line one.bytes ≡ head ++ lines_text (take (i + 1) (told lines))
   text_more =
-      append_assoc head (lines_text (take i (told lines))) (line_line one.line one.bytes)
-      ∙ ap (λ (these : List ℕ). head ++ these)
-      (ap (λ (line : ShipLine). lines_text (take i (told lines)) ++ line_of line) (sym here)
-      ∙ ap (λ (these : List ℕ). lines_text (take i (told lines)) ++ these) (sym (append-nil (line_of (get_or (told lines) i (bare one)))))
-      ∙ sym (flat_map-append line_of (take i (told lines)) (get_or (told lines) i (bare one) ∷ []))
-      ∙ ap lines_text (sym (take_more (told lines) i (bare one) inside)))
+      ap (λ (line : ShipLine). (head ++ lines_text (take i (told lines))) ++ line_of line) (sym here)
+      ∙ flat_map_more line_of head (take i (told lines)) (get_or (told lines) i (bare one))
+      ∙ ap (λ (these : List ShipLine). head ++ lines_text these) (sym (take_more (told lines) i (bare one) inside))
 
   pub text_rest : ((head ++ lines_text (take i (told lines))) ++ line_line one.line one.bytes) ++ lines_text (drop (i + 1) (told lines)) ≡ head ++ lines_text (told lines)
   text_rest = cc (text_more, append_assoc head (lines_text (take (i + 1) (told lines))) (lines_text (drop (i + 1) (told lines))), flat_map-append line_of (take (i + 1) (told lines)) (drop (i + 1) (told lines)), take-append-drop (i + 1) (told lines))
@@ -104,3 +113,32 @@ there_in G store old new shown index place held lt is =
     let inside = subst (λ (records : List (List RecordLine)). index < length records) (sym still.1) lt in
     let at = record_there (held_of G new) store.bank place still.0.shows.read index inside (is ∙ ap (λ (records : List (List RecordLine)). area_bytes store.bank.page (take index records)) (sym still.1)) in
     (still.0, (at.0, at.1 ∙ ap (λ (records : List (List RecordLine)). get_or records index []) still.1))
+
+-- lines in order are those of a text
+ordered : (bytes bound least : ℕ) (lines : List RecordLine) → wrong_line bound least lines ≡ None → AllByRecursion (HasBytes bytes) lines → AreLines bytes bound least (told lines)
+ordered bytes bound least [] none all = tt
+ordered bytes bound least (line ∷ lines) none all = grind (arith, nat_tests, ordered bytes bound (line.line + 1) lines)
+
+-- each record of a bank that was read is in order
+all_ordered : (held : List ℕ) (bank : KeptBank) (read : IsRead held bank) → All (λ lines. wrong_line (length bank.newest) 0 lines ≡ None) read.records
+all_ordered held bank read k d lt =
+    let records = read.records in
+    (stands_there held bank (area_bytes bank.page (take k records)) (record { read = read; before = take k records; lines = get_or records k d; after = drop (k + 1) records; are = split_at records k d lt; place_is = refl })).in_order
+
+pub content_is : (held : List ℕ) (store : KeptStore) (shows : Shows held store) (from : ℕ) → from < 2 ^ 64 → line_count store.header.directory < 2 ^ 32
+    → All (λ lines. All (HasBytes (line_bytes store.header.directory.page)) lines) (drop (behind store.bank.base from) shows.read.records) → IsContent (shipped store shows.read.records from)
+content_is held store shows from small few bytes =
+    let size = line_bytes store.header.directory.page in
+    let lines = line_count store.header.directory in
+    let passed = behind store.bank.base from in
+    let due = drop passed shows.read.records in
+    let orders = All-drop (λ (these : List RecordLine). wrong_line (length store.bank.newest) 0 these ≡ None) passed shows.read.records (all_ordered held store.bank shows.read) in
+    record {
+      some_bytes = omega (arith, line-some store.header.directory.page);
+      few_bytes = omega (arith, line-few store.header.directory.page);
+      few_lines = few;
+      number = small;
+      records =
+          All-map (λ (these : List ShipLine). AreLines size lines 0 these) told due
+          (λ k d lt. ordered size lines 0 (get_or due k d) (ap (λ (n : ℕ). wrong_line n 0 (get_or due k d)) shows.fits.lines ∙ orders k d lt) (recursion_from_All (HasBytes size) (get_or due k d) (bytes k d lt)));
+    }

@@ -7,8 +7,7 @@ use Rattle.standby.proofs.PutLemmas.{PrintedNow, quiet_is, image_is, sure_puts}
 
 -- what is so is so where it went well
 pub on_ok : {T E P : Type 0} (result : Result T E) → P → OnOk result P
-on_ok (Ok done) is = is
-on_ok (Err why) is = tt
+on_ok result is = grind (arith, nat_tests)
 
 -- the lines of a record lie over a store wherever they stand in the bank
 told_laid : (page : PageSize) (bytes : List ℕ) (lines : List RecordLine) → format.laid page bytes lines ≡ laid (line_bytes page) bytes (told lines)

@@ -1,6 +1,7 @@
 -- What may stand behind lines that were read, a line at a time.
-use Rattle.standby.proofs.Common.{◌≡◌, ◌≢◌, ◌⊎◌, inl, inr, ℕ, zero, suc, ◌+◌, ◌^◌, ◌<◌, ◌≤◌, List, [], ◌∷◌, ◌++◌, length, codes, decimal, refl, sym, ◌∙◌, ap, subst, append_assoc, append-nil, arith, All, AllByRecursion, All-from_recursion, recursion_from_All, encode_lower, AreWhole, feeds, GoesOn, IsFirstBad, IsRead, Tail, AreLines, Content, ShipLine, end_line, head_line, later, line_line, lines_text, next, record_line, record_text, records_text, text_of, same_number, replicate, length-replicate, All-replicate}
+use Rattle.standby.proofs.Common.{◌≡◌, ◌≢◌, ◌⊎◌, inl, inr, ℕ, zero, suc, ◌+◌, ◌^◌, ◌<◌, ◌≤◌, List, [], ◌∷◌, ◌++◌, length, codes, decimal, refl, sym, ◌∙◌, ap, subst, append_assoc, append-nil, arith, All, AllByRecursion, All-from_recursion, recursion_from_All, encode_lower, AreWhole, feeds, GoesOn, IsFirstBad, IsRead, Tail, AreLines, Content, ShipLine, end_line, head_line, later, line_line, lines_text, next, record_line, record_text, records_text, text_of, same_number, replicate, length-replicate, All-replicate, ◌-◌, ◌*◌, drop, length-drop, drop-append-le, take-append-le, take_all, flat_map-append, common_steps, parted, nat_tests, append_cancel_left, nil_from_length}
 use Rattle.standby.proofs.PartLemmas.{IsLine, end_is_line, end_parts, feeds_append, head_is_line, head_parts, line_is_line, line_parts, one_feed, record_is_line, record_parts, same_hex}
+use Rattle.standby.proofs.ShipLemmas.{records_append}
 
 -- lines that ascend below a bound are no more than lie between
 pub room_left : (bytes bound least : ℕ) (lines : List ShipLine) → AreLines bytes bound least lines → least ≤ bound → least + length lines ≤ bound
@@ -25,12 +26,6 @@ record First (bytes bound number owed least : ℕ) (text : List ℕ) : Type 0 wh
   pub next_is : Next bytes bound number owed least line
   pub text_is : text ≡ line ++ behind
 
-last_is : (number : ℕ) → number < 2 ^ 64 → later number 0 ≡ number
-last_is number small = omega (arith, small)
-
-on_is : (number count : ℕ) → later number (suc count) ≡ later (next number) count
-on_is number count = omega arith
-
 -- records behind a number begin with the first line of one
 pub records_are : (number : ℕ) (lines : List ShipLine) (records : List (List ShipLine)) (last : List ℕ)
     → records_text number (lines ∷ records) ++ last ≡ record_line (next number) (length lines) ++ (lines_text lines ++ (records_text (next number) records ++ last))
@@ -42,7 +37,8 @@ first_none : (bytes bound number least : ℕ) (text : List ℕ) (lines : List Sh
     → text ≡ lines_text lines ++ (records_text number records ++ end_line (later number (length records))) → First bytes bound number 0 least text
 first_none bytes bound number least text (line ∷ lines) records small many each is = absurd (omega (arith, many))
 first_none bytes bound number least text [] [] small many each is =
-    record { line = end_line number; behind = []; next_is = inl refl; text_is = is ∙ ap end_line (last_is number small) ∙ sym (append-nil (end_line number)) }
+    let last : later number 0 ≡ number = omega (arith, small) in
+    record { line = end_line number; behind = []; next_is = inl refl; text_is = is ∙ ap end_line last ∙ sym (append-nil (end_line number)) }
 first_none bytes bound number least text [] (first ∷ records) small many each is = record {
   line = record_line (next number) (length first);
   behind = lines_text first ++ (records_text (next number) records ++ end_line (later number (suc (length records))));
@@ -137,33 +133,31 @@ abbrev first_byte : List ℕ → ℕ
 first_byte [] = 0
 first_byte (byte ∷ bytes) = byte
 
--- the same where the first bytes differ
-differs : (one two : List ℕ) → first_byte one ≢ first_byte two → one ≡ two → ⊥
-differs one two other is = other (ap first_byte is)
-
 pub first_is : (text one two : List ℕ) → text ≡ one → text ≡ two → first_byte one ≢ first_byte two → ⊥
-first_is text one two is same other = differs one two other (sym is ∙ same)
-
-drop_same : (word a b : List ℕ) → word ++ a ≡ word ++ b → a ≡ b
-drop_same [] a b is = is
-drop_same (c ∷ word) a b is = let less : word ++ a ≡ word ++ b = cc in drop_same word a b less
+first_is text one two is same other = other (ap first_byte (sym is ∙ same))
 
 -- the same record, and what stands behind its first line
 pub same_record : (n count other : ℕ) (x y : List ℕ) → n < 2 ^ 64 → count < 2 ^ 64 → other < 2 ^ 64 → record_line n count ++ x ≡ record_line n other ++ y → (count ≡ other) × (x ≡ y)
 same_record n count other x y small one two is =
-    let all = drop_same (codes "record ") (decimal n ++ 32 ∷ (decimal count ++ 10 ∷ x)) (decimal n ++ 32 ∷ (decimal other ++ 10 ∷ y)) (sym (record_parts n count x) ∙ is ∙ record_parts n other y) in
+    let all =
+    append_cancel_left (codes "record ") (decimal n ++ 32 ∷ (decimal count ++ 10 ∷ x)) (decimal n ++ 32 ∷ (decimal other ++ 10 ∷ y))
+    (sym (record_parts n count x) ∙ is ∙ record_parts n other y) in
     same_number 10 count other x y (omega arith) one two (same_number 32 n n (decimal count ++ 10 ∷ x) (decimal other ++ 10 ∷ y) (omega arith) small small all).1
 
 pub same_line : (k other : ℕ) (held those x y : List ℕ) → k < 2 ^ 64 → other < 2 ^ 64 → All (λ byte. byte < 256) held → All (λ byte. byte < 256) those → line_line k held ++ x ≡ line_line other those ++ y → (k ≡ other) × (held ≡ those) × (x ≡ y)
 same_line k other held those x y one two all each is =
-    let parts = drop_same (codes "line ") (decimal k ++ 32 ∷ (encode_lower held ++ 10 ∷ x)) (decimal other ++ 32 ∷ (encode_lower those ++ 10 ∷ y)) (sym (line_parts k held x) ∙ is ∙ line_parts other those y) in
+    let parts =
+    append_cancel_left (codes "line ") (decimal k ++ 32 ∷ (encode_lower held ++ 10 ∷ x)) (decimal other ++ 32 ∷ (encode_lower those ++ 10 ∷ y))
+    (sym (line_parts k held x) ∙ is ∙ line_parts other those y) in
     let behind = same_number 32 k other (encode_lower held ++ 10 ∷ x) (encode_lower those ++ 10 ∷ y) (omega arith) one two parts in
     let rest = same_hex held those x y all each behind.1 in
     (behind.0, rest.0, rest.1)
 
 pub same_head : (w l n v m k : ℕ) (x y : List ℕ) → w < 2 ^ 64 → l < 2 ^ 64 → n < 2 ^ 64 → v < 2 ^ 64 → m < 2 ^ 64 → k < 2 ^ 64 → head_line w l n ++ x ≡ head_line v m k ++ y → (w ≡ v) × (l ≡ m) × (n ≡ k) × (x ≡ y)
 same_head w l n v m k x y one two three four five six is =
-    let parts = drop_same (codes "ship ") (decimal w ++ 32 ∷ (decimal l ++ 32 ∷ (decimal n ++ 10 ∷ x))) (decimal v ++ 32 ∷ (decimal m ++ 32 ∷ (decimal k ++ 10 ∷ y))) (sym (head_parts w l n x) ∙ is ∙ head_parts v m k y) in
+    let parts =
+    append_cancel_left (codes "ship ") (decimal w ++ 32 ∷ (decimal l ++ 32 ∷ (decimal n ++ 10 ∷ x)))
+    (decimal v ++ 32 ∷ (decimal m ++ 32 ∷ (decimal k ++ 10 ∷ y))) (sym (head_parts w l n x) ∙ is ∙ head_parts v m k y) in
     let first = same_number 32 w v (decimal l ++ 32 ∷ (decimal n ++ 10 ∷ x)) (decimal m ++ 32 ∷ (decimal k ++ 10 ∷ y)) (omega arith) one four parts in
     let second = same_number 32 l m (decimal n ++ 10 ∷ x) (decimal k ++ 10 ∷ y) (omega arith) two five first.1 in
     let third = same_number 10 n k x y (omega arith) three six second.1 in
@@ -172,14 +166,16 @@ same_head w l n v m k x y one two three four five six is =
 module _ (bytes bound : ℕ) (few : bound < 2 ^ 32) where
   -- a tail behind the first line of a record, and with that line
   count_out : (number count least : ℕ) (behind : List ℕ) → Tail bytes bound (next number) count 0 behind → Tail bytes bound number 0 least (record_line (next number) count ++ behind)
-  count_out number count least behind tail = record {
-    lines = [];
-    records = tail.lines ∷ tail.records;
-    many = refl;
-    are = tt;
-    each = (tail.are, tail.each);
-    text_is = cc (tail.text_is, tail.many, records_are number tail.lines tail.records (end_line (later (next number) (length tail.records))), on_is number (length tail.records));
-  }
+  count_out number count least behind tail =
+      let on : later number (suc (length tail.records)) ≡ later (next number) (length tail.records) = omega arith in
+      record {
+        lines = [];
+        records = tail.lines ∷ tail.records;
+        many = refl;
+        are = tt;
+        each = (tail.are, tail.each);
+        text_is = cc (tail.text_is, tail.many, records_are number tail.lines tail.records (end_line (later (next number) (length tail.records))), on);
+      }
 
   count_in_by : (number count least : ℕ) (behind : List ℕ) (lines : List ShipLine) (records : List (List ShipLine)) → count ≤ bound → length lines ≡ 0 → AllByRecursion (λ these. AreLines bytes bound 0 these) records
       → record_line (next number) count ++ behind ≡ lines_text lines ++ (records_text number records ++ end_line (later number (length records))) → Tail bytes bound (next number) count 0 behind
@@ -188,8 +184,9 @@ module _ (bytes bound : ℕ) (few : bound < 2 ^ 32) where
       absurd (first_is (record_line (next number) count ++ behind) (codes "record " ++ (decimal (next number) ++ 32 ∷ (decimal count ++ 10 ∷ behind))) (codes "end " ++ (decimal (later number 0) ++ 10 ∷ [])) (record_parts (next number) count behind) (is ∙ sym (append-nil (end_line (later number 0))) ∙ end_parts (later number 0) []) (omega arith))
   count_in_by number count least behind [] (first ∷ records) le many each is =
       let last = end_line (later number (suc (length records))) in
+      let on : later number (suc (length records)) ≡ later (next number) (length records) = omega arith in
       let same = same_record (next number) count (length first) behind (lines_text first ++ (records_text (next number) records ++ last)) (omega arith) (omega (arith, le, few)) (omega (arith, few, room_left bytes bound 0 first each.0 (omega arith))) (is ∙ records_are number first records last) in
-      record { lines = first; records = records; many = sym same.0; are = each.0; each = each.1; text_is = same.1 ∙ ap (λ (n : ℕ). lines_text first ++ (records_text (next number) records ++ end_line n)) (on_is number (length records)) }
+      record { lines = first; records = records; many = sym same.0; are = each.0; each = each.1; text_is = same.1 ∙ ap (λ (n : ℕ). lines_text first ++ (records_text (next number) records ++ end_line n)) on }
 
   count_in : (number count least : ℕ) (behind : List ℕ) → count ≤ bound → Tail bytes bound number 0 least (record_line (next number) count ++ behind) → Tail bytes bound (next number) count 0 behind
   count_in number count least behind le tail = count_in_by number count least behind tail.lines tail.records le tail.many tail.each tail.text_is
@@ -228,18 +225,18 @@ module _ (bytes bound : ℕ) (few : bound < 2 ^ 32) where
       → end_line number ++ behind ≡ lines_text lines ++ (records_text number records ++ end_line (later number (length records))) → behind ≡ []
   end_in_by number behind (line ∷ lines) records small many is = absurd (omega (arith, many))
   end_in_by number behind [] [] small many is =
-      let all = drop_same (codes "end ") (decimal number ++ 10 ∷ behind) (decimal (later number 0) ++ 10 ∷ []) (sym (end_parts number behind) ∙ is ∙ sym (append-nil (end_line (later number 0))) ∙ end_parts (later number 0) []) in
+      let all =
+      append_cancel_left (codes "end ") (decimal number ++ 10 ∷ behind) (decimal (later number 0) ++ 10 ∷ [])
+      (sym (end_parts number behind) ∙ is ∙ sym (append-nil (end_line (later number 0))) ∙ end_parts (later number 0) []) in
       (same_number 10 number (later number 0) behind [] (omega arith) small (omega arith) all).1
   end_in_by number behind [] (first ∷ records) small many is =
       absurd (first_is (end_line number ++ behind) _ _ (end_parts number behind) (is ∙ records_are number first records (end_line (later number (suc (length records)))) ∙ record_parts (next number) (length first) _) (omega arith))
-
-  end_tail : (number least : ℕ) → number < 2 ^ 64 → Tail bytes bound number 0 least (end_line number ++ [])
-  end_tail number least small = record { lines = []; records = []; many = refl; are = tt; each = tt; text_is = append-nil (end_line number) ∙ ap end_line (sym (last_is number small)) }
 
   -- more behind it is bad
   pub bad_behind : (front : List ℕ) (read number least : ℕ) (text behind : List ℕ) → IsRead bytes bound front read number 0 least → number < 2 ^ 64 → behind ≢ [] → text ≡ front ++ (end_line number ++ behind) → IsFirstBad text (read + 2)
   bad_behind front read number least text behind is small some text_is =
       let line = end_is_line number small in
+      let last : number ≡ later number 0 = omega (arith, small) in
       record {
         front = front ++ end_line number;
         behind = behind;
@@ -247,7 +244,7 @@ module _ (bytes bound : ℕ) (few : bound < 2 ^ 32) where
         whole = whole_more front (end_line number) line;
         place = omega (arith, feeds_more front (end_line number) read is.lines line);
         more = [];
-        before = further front (end_line number) [] (is.goes (end_line number ++ []) (end_tail number least small));
+        before = further front (end_line number) [] (is.goes (end_line number ++ []) (record { lines = []; records = []; many = refl; are = tt; each = tt; text_is = append-nil (end_line number) ∙ ap end_line last }));
         bad = λ first rest others at goes.
             let tail = is.came (end_line number ++ (first ++ 10 ∷ others)) (nearer front (end_line number) (first ++ 10 ∷ others) goes) in
             some_bytes first others (end_in_by number (first ++ 10 ∷ others) tail.lines tail.records small tail.many tail.text_is);
@@ -323,3 +320,92 @@ bad_head text refuses =
   where
     by_head : (content : Content) → text_of content ≡ head_line content.line_bytes content.lines content.start ++ (records_text content.start content.records ++ end_line (later content.start (length content.records)))
     by_head content = append_assoc (head_line content.line_bytes content.lines content.start) (records_text content.start content.records) (end_line (later content.start (length content.records)))
+
+-- a line more
+pub parted_more : (bytes : ℕ) (lines all : List ℕ) (k : ℕ) (held : List ℕ) → length all ≡ bytes * length lines → length held ≡ bytes → parted bytes (lines ++ k ∷ []) (all ++ held) ≡ parted bytes lines all ++ record { line = k; bytes = held } ∷ []
+parted_more bytes [] [] k held sized one = ap (λ (these : List ℕ). let it : List ShipLine = record { line = k; bytes = these } ∷ [] in it) (take_all bytes held (omega (arith, one)))
+parted_more bytes [] (byte ∷ all) k held sized one = let none : bytes * 0 ≡ 0 = omega arith in absurd (omega (arith, sized, none))
+parted_more bytes (line ∷ lines) all k held sized one = grind (arith, nat_tests, parted_more bytes lines (drop bytes all) k held, sized, take-append-le, drop-append-le, length-drop)
+
+pub lines_more : (bytes bound least k : ℕ) (lines : List ShipLine) (held : List ℕ) → AreLines bytes bound least lines → least ≤ k → bound ≤ k → length held ≡ bytes → All (λ byte. byte < 256) held → AreLines bytes (k + 1) least (lines ++ record { line = k; bytes = held } ∷ [])
+lines_more bytes bound least k [] held are le most sized all = (le, omega arith, sized, all, tt)
+lines_more bytes bound least k (line ∷ lines) held are le most sized all = grind (arith, are.0, are.1, are.2, are.3, lines_more bytes bound (line.line + 1) k lines held are.4 (omega (arith, are.1, most)) most sized all)
+
+pub wider : (bytes bound wide least : ℕ) (lines : List ShipLine) → AreLines bytes bound least lines → bound ≤ wide → AreLines bytes wide least lines
+wider bytes bound wide least [] are le = tt
+wider bytes bound wide least (line ∷ lines) are le = (are.0, omega (arith, are.1, le), are.2, are.3, wider bytes bound wide (line.line + 1) lines are.4 le)
+
+one_text : (lines : List ShipLine) (one : ShipLine) → lines_text (lines ++ one ∷ []) ≡ lines_text lines ++ line_line one.line one.bytes
+one_text lines one =
+    flat_map-append (λ (line : ShipLine). line_line line.line line.bytes) lines (one ∷ []) ∙ ap (λ (these : List ℕ). lines_text lines ++ these) (append-nil (line_line one.line one.bytes))
+
+pub text_on : (text left rest : List ℕ) (lines : List ShipLine) (k : ℕ) (held : List ℕ) → text ≡ lines_text lines ++ left → left ≡ line_line k held ++ rest → text ≡ lines_text (lines ++ record { line = k; bytes = held } ∷ []) ++ rest
+text_on text left rest lines k held is next_is = grind (arith, nat_tests, next_is, append_assoc, one_text)
+
+-- a line has bytes
+pub line_long : (k : ℕ) (held rest left : List ℕ) → left ≡ line_line k held ++ rest → length rest < length left
+line_long k held rest left is = let long = ap length (is ∙ line_parts k held rest) in grind (arith, common_steps)
+
+pub record_long : (n count : ℕ) (rest left : List ℕ) → left ≡ record_line n count ++ rest → length rest < length left
+record_long n count rest left is = let long = ap length (is ∙ record_parts n count rest) in grind (arith, common_steps)
+
+-- where no line of a record is owed none has a least number
+none_at : (bytes bound number least other : ℕ) (text : List ℕ) → Tail bytes bound number 0 least text → Tail bytes bound number 0 other text
+none_at bytes bound number least other text tail =
+    let rest = records_text number tail.records ++ end_line (later number (length tail.records)) in
+    let is = tail.text_is ∙ ap (λ (lines : List ShipLine). lines_text lines ++ rest) (nil_from_length tail.lines tail.many) in
+    record { lines = []; records = tail.records; many = refl; are = tt; each = tail.each; text_is = is }
+
+pub at_none : (bytes bound : ℕ) (front : List ℕ) (read number least : ℕ) → IsRead bytes bound front read number 0 least → IsRead bytes bound front read number 0 0
+at_none bytes bound front read number least is = record {
+  whole = is.whole;
+  lines = is.lines;
+  goes = λ behind tail. is.goes behind (none_at bytes bound number 0 least behind tail);
+  came = λ behind goes. none_at bytes bound number least 0 behind (is.came behind goes);
+}
+
+-- a record behind others
+records_one : (start number count : ℕ) (records : List (List ShipLine)) (lines : List ShipLine) → number ≡ later start (length records) → length lines ≡ count
+    → records_text start records ++ (record_line (next number) count ++ lines_text lines) ≡ records_text start (records ++ lines ∷ [])
+records_one start number count records lines number_is many = grind (arith, records_append start records lines)
+
+pub text_more : (start number count : ℕ) (text left rest behind : List ℕ) (records : List (List ShipLine)) (lines : List ShipLine) → number ≡ later start (length records) → length lines ≡ count
+    → text ≡ records_text start records ++ left → left ≡ record_line (next number) count ++ rest → rest ≡ lines_text lines ++ behind → text ≡ records_text start (records ++ lines ∷ []) ++ behind
+text_more start number count text left rest behind records lines number_is many one two three = cc (one, two, three, append_assoc (record_line (next number) count) (lines_text lines) behind, append_assoc (records_text start records) (record_line (next number) count ++ lines_text lines) behind, records_one start number count records lines number_is many)
+
+-- the whole text by what is left of it
+pub whole_text : (head text left : List ℕ) (start : ℕ) (records : List (List ShipLine)) → text ≡ records_text start records ++ left → head ++ text ≡ (head ++ records_text start records) ++ left
+whole_text head text left start records is = ap (λ (these : List ℕ). head ++ these) is ∙ sym (append_assoc head (records_text start records) left)
+
+module _ (bytes bound : ℕ) (few : bound < 2 ^ 32) where
+  pub record_step : (front : List ℕ) (read index count number least k : ℕ) (lines : List ShipLine) (held : List ℕ) → index < count → least ≤ k → k < bound → length held ≡ bytes → All (λ byte. byte < 256) held
+      → IsRead bytes bound (front ++ lines_text lines) (read + index) number (count - index) least
+      → IsRead bytes bound (front ++ lines_text (lines ++ record { line = k; bytes = held } ∷ [])) (read + (index + 1)) number (count - (index + 1)) (k + 1)
+  record_step front read index count number least k lines held inside le lt sized all is =
+      let owed : count - index ≡ suc (count - (index + 1)) = omega (arith, inside) in
+      let now = read_one bytes bound few (front ++ lines_text lines) (read + index) number (count - (index + 1)) least k held le lt sized all (rw owed at is) in
+      let text = append_assoc front (lines_text lines) (line_line k held) in
+      let one = one_text lines (record { line = k; bytes = held }) in
+      grind (arith, now, text, one)
+
+  pub record_bad : (front text left : List ℕ) (read index count number least : ℕ) (lines : List ShipLine) → index < count → least + (count - index) ≤ bound → number < 2 ^ 64 → text ≡ lines_text lines ++ left
+      → IsRead bytes bound (front ++ lines_text lines) (read + index) number (count - index) least
+      → ((k : ℕ) (held rest : List ℕ) → least ≤ k → k ≤ bound - (count - index) → length held ≡ bytes → All (λ byte. byte < 256) held → left ≢ line_line k held ++ rest) → IsFirstBad (front ++ text) (read + index + 1)
+  record_bad front text left read index count number least lines inside room small text_is is none =
+      let owed : count - index ≡ suc (count - (index + 1)) = omega (arith, inside) in
+      let was = subst (λ (n : ℕ). IsRead bytes bound (front ++ lines_text lines) (read + index) number n least) owed is in
+      bad_here bytes bound few (front ++ lines_text lines) (read + index) number (suc (count - (index + 1))) least (front ++ text) left was small (omega (arith, room, owed))
+      (ap (λ (these : List ℕ). front ++ these) text_is ∙ sym (append_assoc front (lines_text lines) left))
+      (λ line more may same. none may.0 may.1 more may.2 (omega (arith, may.3, owed)) may.4 may.5 (same ∙ ap (λ (these : List ℕ). these ++ more) may.6))
+
+  -- a record more
+  pub records_step : (head : List ℕ) (read number start count : ℕ) (records : List (List ShipLine)) (lines : List ShipLine) → number ≡ later start (length records) → count ≤ bound → length lines ≡ count
+      → IsRead bytes bound (head ++ records_text start records) read number 0 0
+      → (IsRead bytes bound ((head ++ records_text start records) ++ record_line (next number) count) (read + 1) (next number) count 0
+      → IsRead bytes bound (((head ++ records_text start records) ++ record_line (next number) count) ++ lines_text lines) (read + 1 + count) (next number) 0 0)
+      → IsRead bytes bound (head ++ records_text start (records ++ lines ∷ [])) (read + 1 + count) (next number) 0 0
+  records_step head read number start count records lines number_is le many is goes =
+      let front = head ++ records_text start records in
+      let now = goes (read_count bytes bound few front read number 0 count le is) in
+      let text : (front ++ record_line (next number) count) ++ lines_text lines ≡ head ++ records_text start (records ++ lines ∷ []) = cc (append_assoc front (record_line (next number) count) (lines_text lines), append_assoc head (records_text start records) (record_line (next number) count ++ lines_text lines), records_one start number count records lines number_is many) in
+      rw text at now

@@ -2,11 +2,10 @@
 use Rattle.std.specs.Prelude.{◌≡◌, ◌≢◌, ◌⊎◌, ℕ, ◌+◌, ◌≤◌, ◌<◌, List, [], length, IsSome}
 use Rattle.standby.specs.Below.{Call, call, Elapses, FlatStore, Ghosts, Given, held_of, IsFaultAt, IsOfOpening, IsOfStart, KeptStore, Leaves, number_of, OnlyAsks, PrintsBy, Rose, Shows, Stands, stands, Status, TellsStore}
 use Rattle.outside.specs.Durable.{IsSure}
-use Rattle.standby.specs.Bank.{bank_behind}
+use Rattle.standby.specs.State.{bank_behind, AllFit, IsAmong, IsTooLong, due, state}
 use Rattle.standby.specs.Followed.{IsAlike, IsAtNumber, StopsAt, followed_text}
 use Rattle.standby.specs.Puts.{CountsPuts}
 use Rattle.standby.specs.Read.{IsFirstBad}
-use Rattle.standby.specs.State.{AllFit, IsAmong, IsTooLong, due, state}
 use Rattle.standby.specs.Text.{Content, ShipLine, IsContent, IsTextOf, later, text_of}
 use Rattle.standby.specs.declared.text.Ship.{Ship}
 use Rattle.call_status.specs.SourceText.{HasRead, IsWhole}

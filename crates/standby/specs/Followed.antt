@@ -1,11 +1,12 @@
--- What following a text does.
-use Rattle.std.specs.Prelude.{◌≡◌, ℕ, zero, suc, ◌+◌, ◌<◌, ◌≤◌, ◌↔◌, List, [], ◌++◌, length, take, Option, Result, Ok, Err, IsSome, IfSome}
-use Rattle.standby.specs.Below.{Elapses, Failed, FlatStore, Ghosts, Header, held_of, HoldsAtLeast, IsMoreBy, KeptStore, Leaves, line_bytes, line_count, number_of, Prints, Rose, Stands, stands, TracksStore}
-use Rattle.standby.specs.Puts.{CountsPuts}
-use Rattle.standby.specs.State.{laid_by}
-use Rattle.standby.specs.Text.{Content, ShipLine, later, end_line, kept_line}
+-- What following a text does, and one record of it.
+use Rattle.std.specs.Prelude.{◌≡◌, ℕ, zero, suc, ◌+◌, ◌<◌, ◌≤◌, ◌↔◌, List, [], ◌++◌, length, take, Option, Result, Ok, Err, IsSome, IfSome, ◌⊎◌, map}
+use Rattle.standby.specs.Below.{Elapses, Failed, FlatStore, Ghosts, Header, held_of, HoldsAtLeast, IsMoreBy, KeptStore, Leaves, line_bytes, line_count, number_of, Prints, Rose, Stands, stands, TracksStore, AreTold, most_lines, RecordLine, with_begun}
+use Rattle.standby.specs.Puts.{CountsPuts, SeesPart}
+use Rattle.standby.specs.State.{laid_by, bank_begun, laid, IsAmong, IsTooLong, AllFit}
+use Rattle.standby.specs.Text.{Content, ShipLine, later, end_line, kept_line, AreLines, IsPacked, record_of, next, told}
 use Rattle.standby.specs.declared.following.Followed.{Followed}
-use Rattle.standby.specs.declared.following.Followed.TheVariants.{Done, DiskFault, PutFault}
+use Rattle.standby.specs.declared.following.Followed.TheVariants.{Done, Geometry, NotKept, Long, DiskFault, PutFault}
+use Rattle.standby.specs.declared.text.ShipRecord.{ShipRecord}
 
 -- the lines that tell of so many records behind a number
 abbrev pub kept_text : ℕ → ℕ → List ℕ
@@ -69,6 +70,13 @@ IsStopped DiskFault = Unit {0}
 IsStopped PutFault = Unit {0}
 IsStopped _ = ⊥
 
+-- what a text was found to be: of another store; not with the store's number; with a record that is too long, at this number; or one that fits
+abbrev pub FoundOf : Header → Content → (from : ℕ) → Followed → Type 0
+FoundOf header content from Geometry = ¬ (IsAlike header content)
+FoundOf header content from NotKept = IsAlike header content × (¬ (IsAmong content from))
+FoundOf header content from (Long number) = IsAlike header content × IsAmong content from × IsTooLong header content from number
+FoundOf header content from _ = IsAlike header content × IsAmong content from × AllFit header content from
+
 -- the store is tracked, and stands for what stood with these records laid over it
 pub record IsLater {W : Type 0} (G : Ghosts W) (bytes number : ℕ) (store : FlatStore) (records : List (List ShipLine)) (durable : KeptStore) (now : W) : Type 0 where
   pub tracks : TracksStore G durable now
@@ -125,3 +133,55 @@ Keeps G bytes number store records = FollowsWith G bytes number store records (k
 -- and with the last line behind them
 abbrev pub Follows : {W : Type 0} → Ghosts W → (bytes number : ℕ) → FlatStore → List (List ShipLine) → KeptStore → W → W → Followed → Type 0
 Follows G bytes number store records = FollowsWith G bytes number store records (followed_text number (length records)) (length records + 1)
+
+-- the record fits a store with such a header
+pub record IsFitting (header : Header) (kept : ShipRecord) : Type 0 where
+  pub packed : IsPacked (line_bytes header.directory.page) kept
+  pub lines : AreLines (line_bytes header.directory.page) (line_count header.directory) 0 (record_of (line_bytes header.directory.page) kept)
+  pub few : length kept.lines.items ≤ most_lines header
+
+-- records as the lines of a store with such a header
+abbrev pub records_as : Header → List ShipRecord → List (List ShipLine)
+records_as header records = map (record_of (line_bytes header.directory.page)) records
+
+-- a record of these lines is begun, by one line after another
+pub record IsBegun (store now : KeptStore) (lines : List ShipLine) : Type 0 where
+  pub begun : List RecordLine
+  pub now_is : now ≡ with_begun store begun
+  pub lines_are : told begun ≡ lines
+  pub bank_is : now.bank ≡ bank_begun store.bank lines
+
+-- a store with a record laid over it
+abbrev pub over : ℕ → FlatStore → List ShipLine → FlatStore
+over bytes store lines = record { directory = store.directory; bytes = laid bytes store.bytes lines }
+
+-- A crash left what stood, and what was printed before; or the store one record on, and of its line a first part.
+abbrev pub IsStep : (bytes number : ℕ) → FlatStore → List ShipLine → (printed : Option (List ℕ)) → (image seen : List ℕ) → Type 0
+IsStep bytes number store lines printed image seen =
+    ((stands image ≡ Stands number store) × AreTold printed seen)
+    ⊎ ((stands image ≡ Stands (next number) (over bytes store lines)) × SeesPart printed (kept_line (next number)) seen)
+
+-- how a record was kept and told: it stands, tracked, and its line is printed, by one put, or where that failed a first part of it; or the disk failed,
+-- and nothing was printed
+abbrev pub StepsBy : {W : Type 0} → Ghosts W → (bytes number : ℕ) → FlatStore → List ShipLine → KeptStore → W → W → Result (Unit {0}) Followed → Type 0
+StepsBy G bytes number store lines durable before after (Ok done) =
+    TracksStore G durable after × (stands (held_of G after) ≡ Stands (next number) (over bytes store lines)) × Prints (G.printed before) (G.printed after) (kept_line (next number)) well × CountsPuts G 1 before after
+StepsBy G bytes number store lines durable before after (Err PutFault) =
+    TracksStore G durable after × (stands (held_of G after) ≡ Stands (next number) (over bytes store lines)) × Prints (G.printed before) (G.printed after) (kept_line (next number)) broken
+StepsBy G bytes number store lines durable before after (Err DiskFault) = G.printed after ≡ G.printed before
+StepsBy G bytes number store lines durable before after (Err _) = ⊥
+
+-- what keeping a record of these lines did
+pub record Steps {W : Type 0} (G : Ghosts W) (bytes number : ℕ) (store : FlatStore) (lines : List ShipLine) (durable : KeptStore) (before after : W) (result : Result (Unit {0}) Followed) : Type 0 where
+  pub crash : Leaves G (IsStep bytes number store lines (G.printed before)) before after
+  pub ends : StepsBy G bytes number store lines durable before after result
+
+-- how it ended
+abbrev pub followed_of : Result (Unit {0}) Followed → Followed
+followed_of (Ok done) = Done
+followed_of (Err why) = why
+
+-- how a line was put
+abbrev pub put_of : {T E : Type 0} → Result T E → Result (Unit {0}) Failed
+put_of (Ok done) = well
+put_of (Err why) = broken

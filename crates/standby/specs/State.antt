@@ -1,9 +1,11 @@
--- The store at each number of a text.
-use Rattle.std.specs.Prelude.{◌≡◌, ℕ, ◌+◌, ◌*◌, ◌-◌, ◌%◌, ◌^◌, ◌<◌, ◌≤◌, List, length, take, drop, fold, slice_get, Some, All}
+-- The store at each number of a text, and the bank that commits of records make.
+use Rattle.std.specs.Prelude.{◌≡◌, ℕ, ◌+◌, ◌*◌, ◌-◌, ◌%◌, ◌^◌, ◌<◌, ◌≤◌, List, length, take, drop, fold, slice_get, Some, All, []}
 use Rattle.lines.specs.Overlay.{overlaid}
 use Rattle.standby.specs.Below.{FlatStore, Header, most_lines}
 use Rattle.standby.specs.Text.{Content, ShipLine, later}
 use Rattle.standby.specs.declared.text.ShipRecord.{ShipRecord}
+use Rattle.store.specs.Kept.{KeptBank, with_line, with_record}
+use Rattle.store.specs.Committed.{roomy}
 
 -- the bytes of a store with the lines of a record laid over them
 abbrev pub laid : ℕ → List ℕ → List ShipLine → List ℕ
@@ -50,3 +52,15 @@ pub record IsLongAt (most : ℕ) (records : List ShipRecord) (place : ℕ) : Typ
   pub there : slice_get records place ≡ Some kept
   pub long : most < length kept.lines.items
   pub before : All (λ these. length these.lines.items ≤ most) (take place records)
+
+-- the bank with a record of these lines begun
+abbrev pub bank_begun : KeptBank → List ShipLine → KeptBank
+bank_begun bank lines = fold (λ bank line. with_line bank line.line line.bytes) (record bank { begun = Some [] }) lines
+
+-- the bank behind a commit of this record: it is added where it fits, and else behind a checkpoint
+abbrev pub bank_with : KeptBank → List ShipLine → KeptBank
+bank_with bank lines = with_record (roomy (bank_begun bank lines))
+
+-- the bank behind commits of these records, one after another, and no other checkpoint
+abbrev pub bank_behind : KeptBank → List (List ShipLine) → KeptBank
+bank_behind bank records = fold bank_with bank records

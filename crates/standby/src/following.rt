@@ -1,11 +1,9 @@
 // The records of a ship text, committed to a store one after another.
 ghost use Rattle.std.specs.Prelude.{◌≡◌, ◌≢◌, ◌↔◌, ◌+◌, ◌≤◌, ◌<◌, ◌^◌, ◌⊎◌, ℕ, [], All, length, false, IsTrue, IfSome, IfNone, Err, IfErr, OnOk, OnErr};
 ghost use Rattle.standby.specs.Below.{HoldsAtLeast, line_bytes, number_of, total};
-ghost use Rattle.standby.specs.Bank.{bank_with, bank_behind};
-ghost use Rattle.standby.specs.Followed.{IsAlike, OfTracked, OnlyGoesOn, EndsBy, IsStopped, Keeps, Follows};
+ghost use Rattle.standby.specs.State.{bank_with, bank_behind, IsLongAt, due};
+ghost use Rattle.standby.specs.Followed.{IsAlike, OfTracked, OnlyGoesOn, EndsBy, FoundOf, IsStopped, Keeps, Follows, IsFitting, IsBegun, Steps, followed_of, put_of, records_as};
 ghost use Rattle.standby.specs.Puts.{Puts};
-ghost use Rattle.standby.specs.State.{AllFit, IsAmong, IsLongAt, IsTooLong, due};
-ghost use Rattle.standby.specs.Step.{IsFitting, IsBegun, Steps, followed_of, put_of, records_as};
 ghost use Rattle.standby.specs.Text.{IsShip, content_of, record_of, later, next};
 
 use super::line::{fill_end, fill_kept};
@@ -39,10 +37,7 @@ pub fn follow<W: Outside>(durable: &mut Durable, ship: &Ship, outside: &mut W) -
     requires ship { IsShip ship.now }
     requires usable { durable.old.bank.spoiled ≡ false }
     requires room { HoldsAtLeast W.Outside (total durable.old.header) outside.old }
-    ensures geometry { result ≡ Followed.Geometry ↔ (¬ (IsAlike durable.old.header (content_of ship.now))) }
-    ensures not_kept { result ≡ Followed.NotKept ↔ (IsAlike durable.old.header (content_of ship.now) × (¬ (IsAmong (content_of ship.now) (number_of durable.old)))) }
-    ensures long { (number : ℕ) → result ≡ Followed.Long number → IsAlike durable.old.header (content_of ship.now) × IsAmong (content_of ship.now) (number_of durable.old) × IsTooLong durable.old.header (content_of ship.now) (number_of durable.old) number }
-    ensures fits { (result ≡ Followed.Done) ⊎ (result ≡ Followed.DiskFault) ⊎ (result ≡ Followed.PutFault) → IsAlike durable.old.header (content_of ship.now) × IsAmong (content_of ship.now) (number_of durable.old) × AllFit durable.old.header (content_of ship.now) (number_of durable.old) }
+    ensures found { FoundOf durable.old.header (content_of ship.now) (number_of durable.old) result }
     ensures refused { (result ≡ Followed.Geometry) ⊎ (result ≡ Followed.NotKept) ⊎ ((number : ℕ) × (result ≡ Followed.Long number)) → (durable.new ≡ durable.old) × (outside.new ≡ outside.old) }
     ensures only { OnlyGoesOn W.Outside outside.old outside.new }
     ensures ends { EndsBy W.Outside outside.old outside.new result }

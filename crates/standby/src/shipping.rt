@@ -4,7 +4,7 @@ ghost use Rattle.standby.specs.Below.{area_bytes, AsksAndPuts, FailsOnlyCounted,
 ghost use Rattle.standby.specs.Puts.{Puts};
 ghost use Rattle.standby.specs.Shipped.{EndsBy, HasBytes, IsStopped, OfLineAt, OfRecordsAt, PrintsBy, ShipsBy, shipped, shipped_of};
 ghost use Rattle.standby.specs.State.{behind};
-ghost use Rattle.standby.specs.Step.{put_of};
+ghost use Rattle.standby.specs.Followed.{put_of};
 ghost use Rattle.standby.specs.Text.{IsContent, later, line_line, record_text, records_text, told, text_of};
 
 use super::line::{fill_end, fill_head, fill_line, fill_record};

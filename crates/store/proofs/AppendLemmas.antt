@@ -1,6 +1,5 @@
 -- What the images of an append stand for.
-use Rattle.store.proofs.Common.{◌≡◌, inl, inr, ℕ, zero, suc, ◌+◌, ◌*◌, ◌-◌, ◌%◌, ◌^◌, ◌<◌, ◌≤◌, Bool, true, false, List, [], ◌∷◌, ◌++◌, length, take, drop, refl, sym, ◌∙◌, ap, subst, arith, slice_index, slice_set, option_map, drop-drop, take_all, take-set-le, drop-set-lt, length-set, get_or-set_same, length-take-le, line_count, PageSize, Which, Header, number_at, home_at, bank_at, entry_bytes, RecordLine, lines_from, wrong_line, record_bytes, area_of, IsStore, stands, one_more, same_number_at, same_lines, same_byte, later_front, shorter_front, Around, area_within, store_same, stands_same, stands_more, store_more, Ghosts, held_of, Inside, is_open, HasBody, IsSafe, KeptBank, place_of, end_of, area_end, begun_of, needed_end, with_record, noted, AreNewest, buffered, begun_count, begun_lines, kept_of, IsWhole, TracksBank, IsEither, HoldsOneOf, Option, None, Some, unwrap_or, IsSome, ◌==◌, nat_tests}
-use Rattle.store_format.specs.declared.header.Which.TheVariants.{A, B}
+use Rattle.store.proofs.Common.{◌≡◌, inl, inr, ℕ, zero, suc, ◌+◌, ◌*◌, ◌-◌, ◌%◌, ◌^◌, ◌<◌, ◌≤◌, true, false, List, [], ◌∷◌, ◌++◌, length, take, drop, refl, sym, ◌∙◌, ap, subst, arith, slice_index, slice_set, option_map, drop-drop, take_all, take-set-le, drop-set-lt, length-set, get_or-set_same, length-take-le, line_count, PageSize, Which, Header, number_at, home_at, bank_at, entry_bytes, RecordLine, lines_from, wrong_line, record_bytes, area_of, IsStore, stands, one_more, same_number_at, same_lines, same_byte, later_front, shorter_front, Around, area_within, store_same, stands_same, stands_more, store_more, Ghosts, held_of, Inside, is_open, HasBody, IsSafe, KeptBank, place_of, end_of, area_end, begun_of, needed_end, with_record, noted, AreNewest, buffered, begun_count, begun_lines, kept_of, IsWhole, TracksBank, IsEither, HoldsOneOf, Option, None, Some, unwrap_or, IsSome, ◌==◌, nat_tests, cases_Bool}
 use Rattle.store_format.specs.Body.{IsBody}
 use Rattle.store_format.proofs.Stores as stores
 
@@ -12,13 +11,11 @@ pub record Ready (held : List ℕ) (header : Header) (which : Which) (base gate 
   pub fits : gate + length body < (area_of header which).end
 
 end_is : (header : Header) (which : Which) (bytes : ℕ) → header.bank_bytes ≡ bytes → (area_of header which).end ≡ end_of which bytes
-end_is header A bytes same = omega (arith, same)
-end_is header B bytes same = omega (arith, same)
+end_is header which bytes same = grind (arith, nat_tests)
 
 -- a bank lies where the header says
 pub place_is : (header : Header) (which : Which) (bytes : ℕ) → header.bank_bytes ≡ bytes → bank_at header which ≡ place_of which bytes
-place_is header A bytes same = refl
-place_is header B bytes same = omega (arith, same)
+place_is header which bytes same = grind (arith, nat_tests)
 
 -- the body that was filled in is one
 body_of : (page : PageSize) (bound due gate count : ℕ) (old new : List ℕ) → 11 + entry_bytes page * count ≤ length old → length new ≡ length old → number_at new 0 2 ≡ count → number_at new 2 8 ≡ due
@@ -90,19 +87,14 @@ module _ (held : List ℕ) (header : Header) (which : Which) (base gate : ℕ) (
     pub after : is_open gate image ≡ true → IsStore image header which base (gate + length body) (records ++ lines ∷ [])
     after shown = store_more held header which base gate records ready.store ready.big image around count lines body ready.good ready.fits shown (safe.whole shown)
 
-    either_by : (shown : Bool) → is_open gate image ≡ shown → (seen : List ℕ) → IsEither lines held image seen
-    either_by false is seen = inl (same is)
-    either_by true is seen = inr (more is)
-
     pub either : (seen : List ℕ) → IsEither lines held image seen
-    either seen = either_by (is_open gate image) refl seen
-
-    one_of_by : (shown : Bool) → is_open gate image ≡ shown → HoldsOneOf header which base records lines image
-    one_of_by false is = inl (record { gate = gate; store = before is })
-    one_of_by true is = inr (record { gate = gate + length body; store = after is })
+    either seen = elim (cases_Bool (is_open gate image)) [ inl is ↦ inr (more is) | inr is ↦ inl (same is) ]
 
     pub one_of : HoldsOneOf header which base records lines image
-    one_of = one_of_by (is_open gate image) refl
+    one_of = elim (cases_Bool (is_open gate image)) [
+      | inl is ↦ inr (record { gate = gate + length body; store = after is })
+      | inr is ↦ inl (record { gate = gate; store = before is })
+    ]
 
   pub doubted : (image : List ℕ) → IsSafe gate body held image → HasBody gate body image → stands (slice_set image gate 0xA5) ≡ one_more lines (stands held)
   doubted image safe body_there =
@@ -128,8 +120,7 @@ length-lines_from page (suc count) at bytes = omega (arith, length-lines_from pa
 
 -- the lines that are begun are those of the buffer
 begun_by : (begun : Option ℕ) (bank : Inside) → unwrap_or (option_map (buffered bank) begun) [] ≡ buffered bank (unwrap_or begun 0)
-begun_by None bank = refl
-begun_by (Some count) bank = refl
+begun_by begun bank = grind (arith, nat_tests)
 
 pub begun_is : (bank : Inside) (kept : KeptBank) → kept_of bank ≡ kept → begun_lines bank ≡ begun_of kept
 begun_is bank kept is = sym (begun_by bank.begun bank) ∙ ap begun_of is
@@ -139,8 +130,7 @@ length-begun bank kept is = ap length (sym (begun_is bank kept is)) ∙ length-l
 
 -- a record that is begun is in the fields
 some_by : (begun : Option ℕ) (bank : Inside) → IsSome (option_map (buffered bank) begun) → IsSome begun
-some_by None bank some = cc
-some_by (Some count) bank some = refl
+some_by begun bank some = grind (arith, nat_tests)
 
 pub is_begun : (bank : Inside) (kept : KeptBank) → kept_of bank ≡ kept → IsSome kept.begun → IsSome bank.begun
 is_begun bank kept is some = some_by bank.begun bank (subst (λ (those : KeptBank). IsSome those.begun) (sym is) some)

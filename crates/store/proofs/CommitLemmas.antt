@@ -1,15 +1,15 @@
 -- A record that is added behind a checkpoint.
-use Rattle.store.proofs.BanksCommon.{Option, None, Some, unwrap_or, nat_lt, if◌then◌else◌, Which, RecordLine, Standing, stands, one_more, KeptBank, area_end, needed_end, begun_of, number_of, IsEither, placed, turned, PageSize, emptied, roomy, other, slice_set, number_after, IsKeptAfter, IsMoreBy, SameShape, CountsKept, FailedLeaves, bank_appended, Elapses, FewerLater, Leaves, held_of, leaves_on, OnlyWrites, IsSome, Header, IsSameBut, IsCheckpointOffset, IsCommitOffset, HoldsCommitted, LeavesCommitted, IsApart, with_record, ◌≡◌, inl, inr, ⊎_elim, ℕ, ◌+◌, ◌<◌, ◌≤◌, Bool, true, false, List, [], ◌∷◌, length, refl, sym, subst, ◌∙◌, ap, arith, nat_tests, Kept, Ghosts}
-use Rattle.store.proofs.ApartLemmas.{but_between, more_offsets}
-use Rattle.store.proofs.StepLemmas.{held_since}
+use Rattle.store.proofs.Common.{Option, None, Some, unwrap_or, nat_lt, if◌then◌else◌, Which, RecordLine, Standing, stands, one_more, KeptBank, area_end, needed_end, begun_of, IsEither, placed, turned, PageSize, emptied, roomy, other, slice_set, number_after, IsKeptAfter, IsMoreBy, SameShape, CountsKept, FailedLeaves, bank_appended, Elapses, FewerLater, Leaves, held_of, leaves_on, OnlyWrites, IsSome, Header, IsSameBut, IsCheckpointOffset, IsCommitOffset, HoldsCommitted, LeavesCommitted, IsApart, with_record, ◌≡◌, inl, inr, ⊎_elim, ℕ, ◌+◌, ◌<◌, ◌≤◌, Bool, true, false, List, [], refl, subst, ◌∙◌, ap, arith, nat_tests, Kept, Ghosts}
+use Rattle.store.specs.Kept.{number_of}
+use Rattle.store.proofs.HomeLemmas.{but_between, more_offsets}
+use Rattle.store.proofs.WriteLemmas.{held_since}
 use Rattle.std.specs.Option.{option_map}
 use Rattle.store.proofs.TurnLemmas.{one_more_placed}
 use Rattle.store.specs.declared.keep.Kept.TheVariants as keeping
 
 -- the begun record behind another gate
 begun_by : (begun : Option (List RecordLine)) (page : PageSize) (at : ℕ) → unwrap_or (option_map (placed page at) begun) [] ≡ placed page at (unwrap_or begun [])
-begun_by None page at = refl
-begun_by (Some lines) page at = refl
+begun_by begun page at = grind (arith, nat_tests)
 
 -- it adds the same to what stands
 pub adds_same : (which : Which) (bank : KeptBank) (first second : Standing) → first ≡ second → one_more (begun_of (turned which bank)) first ≡ one_more (begun_of bank) second
@@ -28,8 +28,7 @@ roomy_fits bank fits = let no : nat_lt (area_end bank) (needed_end bank) ≡ fal
 
 -- an append that fits was answered, by what it was
 pub answered_by : (append : Option Kept) (kept : Kept) → (append ≡ None → ⊥) → kept ≡ unwrap_or append keeping.Unwritten → append ≡ Some kept
-answered_by None kept fits is = absurd (fits refl)
-answered_by (Some told) kept fits is = ap Some (sym is)
+answered_by append kept fits is = grind (arith, nat_tests)
 
 -- what is kept then, and how the disk's count stands behind calls that left it alone
 pub kept_after : (kept : Kept) (there old new : KeptBank) → new ≡ bank_appended (Some kept) there → IsKeptAfter kept there old new
@@ -76,15 +75,9 @@ behind_apart header bank records old image is = more_offsets (IsCheckpointOffset
 pub appended_apart : (header : Header) (there bank : KeptBank) (records : List (List RecordLine)) (old image : List ℕ) → IsApart there.gate (needed_end there) old image → IsSameBut (IsCommitOffset header there bank records) old image
 appended_apart header there bank records old image apart = but_between (IsCommitOffset header there bank records) there.gate (needed_end there) old image (λ at after inside. inl (after, inside)) apart
 
--- no records
-pub no_records : (records : List (List RecordLine)) → length records ≡ 0 → records ≡ []
-no_records [] none = refl
-no_records (lines ∷ records) none = absurd (omega arith)
-
 -- the number and the records of the bank that a record is added to
 roomy_by : (P : KeptBank → Type 0) (bank : KeptBank) (full : Bool) → P (emptied bank) → P bank → P (if full then emptied bank else bank)
-roomy_by P bank true there here = there
-roomy_by P bank false there here = here
+roomy_by P bank full there here = grind (arith, nat_tests)
 
 roomy_number : (bank : KeptBank) → number_of (roomy bank) ≡ number_of bank
 roomy_number bank = grind (arith, nat_tests, roomy_by)

@@ -1,10 +1,13 @@
 -- A page whose home lines have the newest lines over them.
-use Rattle.store.proofs.StoreCommon.{◌≡◌, inl, inr, ℕ, ◌+◌, ◌*◌, ◌-◌, ◌<◌, ◌≤◌, List, length, take, drop, get_or, refl, sym, ◌∙◌, ap, arith, Option, None, Some, IfSome, fold, slice_range, is_some, true, false, drop-drop, drop-take, take-take, length-drop, length-take-le, places, page_count, line_count, PageSize, page-lines, line_bytes, Header, home_at, laid, home_of, stands, stands_is, bytes_at, bytes_of_line, newest_bytes, same_line, other_line, same_lines, Agree, store_agrees, KeptStore, Shows, page_in, newest_over, list_any, nat_tests}
+use Rattle.store.proofs.Common.{◌≡◌, inl, inr, ℕ, ◌+◌, ◌*◌, ◌-◌, ◌<◌, ◌≤◌, List, length, take, drop, get_or, refl, sym, ◌∙◌, ap, arith, Option, None, Some, IfSome, fold, slice_range, is_some, false, drop-drop, drop-take, take-take, length-drop, length-take-le, places, page_count, line_count, PageSize, page-lines, line_bytes, Header, home_at, laid, home_of, stands, stands_is, bytes_at, KeptStore, Shows, page_in, newest_over, list_any, nat_tests, ◌++◌, append_assoc, newest_place, cases_eq, lines-below, lines-within}
+use Rattle.store.proofs.Newest.{bytes_of_line, newest_bytes, same_line, other_line, same_lines, Agree, store_agrees}
 use Rattle.std.proofs.lemmas.List.Folds.{list_any_at}
-use Rattle.std.proofs.lemmas.Bool.{cases_eq}
-use Rattle.store_format.proofs.Widths.{lines-below, lines-within}
-use Rattle.store.specs.Noted.{newest_place}
 use Rattle.store.proofs.ShowLemmas.{shown_store}
+use Rattle.lines.specs.Overlay.{overlaid}
+
+-- a part of a list written over in place
+pub spliced : (count : ℕ) (page front rest line tail part : List ℕ) (at : ℕ) → front ≡ take at page → rest ≡ drop at page → tail ≡ drop count rest → line ≡ part → length part ≡ count → front ++ (line ++ tail) ≡ overlaid page at part
+spliced count page front rest line tail part at is_front is_rest is_tail is_line long = grind (arith, nat_tests, drop-drop, append_assoc)
 
 -- the lines up to one are the newest, and those from it on are at home
 pub record Composed (size : PageSize) (image home : List ℕ) (newest : List (Option ℕ)) (first i : ℕ) (page : List ℕ) : Type 0 where
@@ -24,58 +27,26 @@ pub composed_more : (size : PageSize) (image home : List ℕ) (newest : List (Op
     → ((at : ℕ) → place ≡ Some at → at + line_bytes size ≤ length image) → new ≡ newest_over (line_bytes size) image place page (i * line_bytes size) → Composed size image home newest first i page → Composed size image home newest first (i + 1) new
 composed_more size image home newest first i page new None more long place_is within is composed = record {
   done = λ k few. elim (cases_eq k i) [
-    | inl same ↦
-        ap (λ (n : ℕ). bytes_of_line size n new) same
-        ∙ ap (bytes_of_line size i) is
-        ∙ composed.left i (omega arith) more
-        ∙ ap (newest_bytes size image home (first + i)) place_is
-        ∙ ap (λ (n : ℕ). newest_bytes size image home (first + n) (get_or newest (first + n) None)) (sym same)
-    | inr other ↦ ap (bytes_of_line size k) is ∙ composed.done k (below k i few other)
+    | inl same ↦ grind (arith, is, same, place_is, composed.left)
+    | inr other ↦ ap (bytes_of_line size k) is ∙ composed.done k (omega (arith, few, other))
   ];
-  left = λ k past few. ap (bytes_of_line size k) is ∙ composed.left k (omega arith) few;
+  left = λ k past few. ap (bytes_of_line size k) is ∙ composed.left k (omega (arith, past)) few;
 }
-  where
-    below : (k i : ℕ) → k < i + 1 → (k ≡ i → ⊥) → k < i
-    below k i few other = omega (arith, other)
-composed_more size image home newest first i page new (Some at) more long place_is within is composed = record {
-  done = λ k few. elim (cases_eq k i) [
-    | inl same ↦
-        ap (λ (n : ℕ). bytes_of_line size n new) same
-        ∙ ap (bytes_of_line size i) is
-        ∙ same_line size page (bytes_at image at (line_bytes size)) i whole (omega (arith, long, lines-below size i 16 more))
-        ∙ ap (newest_bytes size image home (first + i)) place_is
-        ∙ ap (λ (n : ℕ). newest_bytes size image home (first + n) (get_or newest (first + n) None)) (sym same)
-    | inr other ↦ ap (bytes_of_line size k) is ∙ other_line size page (bytes_at image at (line_bytes size)) i k whole (omega (arith, long, lines-below size i 16 more)) other ∙ composed.done k (below k i few other)
-  ];
-  left = λ k past few. ap (bytes_of_line size k) is ∙ other_line size page (bytes_at image at (line_bytes size)) i k whole (omega (arith, long, lines-below size i 16 more)) (behind k i past) ∙ composed.left k (omega arith) few;
-}
-  where
-    whole : length (bytes_at image at (line_bytes size)) ≡ line_bytes size
-    whole = length-take-le (line_bytes size) (drop at image) (omega (arith, length-drop at image, within at refl))
-
-    below : (k i : ℕ) → k < i + 1 → (k ≡ i → ⊥) → k < i
-    below k i few other = omega (arith, other)
-
-    behind : (k i : ℕ) → i + 1 ≤ k → k ≡ i → ⊥
-    behind k i past same = omega (arith, past, same)
+composed_more size image home newest first i page new (Some at) more long place_is within is composed =
+    let fits : i * line_bytes size + line_bytes size ≤ length page = omega (arith, long, lines-below size i 16 more) in
+    let part = bytes_at image at (line_bytes size) in
+    let whole : length part ≡ line_bytes size = length-take-le (line_bytes size) (drop at image) (omega (arith, length-drop at image, within at refl)) in
+    record {
+      done = λ k few. elim (cases_eq k i) [
+        | inl same ↦ grind (arith, is, same, place_is, same_line size page part i whole fits)
+        | inr other ↦ ap (bytes_of_line size k) is ∙ other_line size page part i k whole fits other ∙ composed.done k (omega (arith, few, other))
+      ];
+      left = λ k past few. ap (bytes_of_line size k) is ∙ other_line size page part i k whole fits (λ same. omega (arith, past, same)) ∙ composed.left k (omega (arith, past)) few;
+    }
 
 -- no place of a part in which none is
 nowhere : (newest : List (Option ℕ)) (first k : ℕ) → first + 16 ≤ length newest → list_any is_some (slice_range newest first (first + 16)) ≡ false → k < 16 → get_or newest (first + k) None ≡ None
-nowhere newest first k long none few = by_place (get_or newest (first + k) None) refl
-  where
-    part : List (Option ℕ)
-    part = slice_range newest first (first + 16)
-
-    there : get_or part k None ≡ get_or newest (first + k) None
-    there = grind (arith, places, few, long)
-
-    by_place : (place : Option ℕ) → get_or newest (first + k) None ≡ place → place ≡ None
-    by_place None is = refl
-    by_place (Some at) is =
-        let within : k < length part = grind (arith, places, few, long) in
-        let some : is_some (get_or part k None) ≡ true = ap is_some (there ∙ is) in
-        let any = list_any_at is_some part k None within some in
-        cc
+nowhere newest first k long none few = grind (arith, nat_tests, places, list_any_at is_some (slice_range newest first (first + 16)) k None)
 
 -- where none of the sixteen lines is in the bank, the page at home is that of the store
 pub composed_at_home : (size : PageSize) (image home : List ℕ) (newest : List (Option ℕ)) (first : ℕ) (page : List ℕ) → first + 16 ≤ length newest → list_any is_some (slice_range newest first (first + 16)) ≡ false → Composed size image home newest first 0 page → Composed size image home newest first 16 page
@@ -103,5 +74,4 @@ shown_page held store shows page page_number within long composed =
     cc (composed_all store.header.directory.page held (home_of held store.header) bytes store.bank.newest (λ k. newest_place k shows.read.records) (line_count store.header.directory) page_number page (store_agrees held store.header store.bank.which store.bank.base store.bank.gate shows.read.records is) (λ k below. shows.read.newest k (omega (arith, below, shows.fits.lines))) (omega (arith, within)) long composed, page-lines store.header.directory.page, stands_is held store.header store.bank.which store.bank.base store.bank.gate shows.read.records is)
 
 pub placed_at : (size : PageSize) (place : Option ℕ) (at end : ℕ) → place ≡ Some at → IfSome place (λ those. those + line_bytes size ≤ end) → at + line_bytes size ≤ end
-placed_at size None at end is within = cc
-placed_at size (Some those) at end is within = let same : those ≡ at = cc in omega (arith, same, within)
+placed_at size place at end is within = grind (arith, nat_tests)

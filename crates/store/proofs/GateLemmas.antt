@@ -1,9 +1,6 @@
 -- A body that is written behind a shut gate, and the gate after it.
-use Rattle.store.proofs.Common.{◌≡◌, ℕ, ◌+◌, ◌≤◌, true, false, List, [], ◌∷◌, ◌++◌, length, take, drop, refl, sym, ◌∙◌, ap, arith, append_assoc, slice_index, Option, Some, ◌==◌, unwrap_or, take_at, drop_at, drop-drop, length-take-le, get_or-drop, written, Torn, shorter_front, same_byte, is_open, HasBody, IsSafe, nat_tests}
-use Rattle.outside.proofs.Torn.{torn_by_written}
-
-pub drop-written : (held : List ℕ) (at : ℕ) (bytes : List ℕ) → at ≤ length held → drop at (written held at bytes) ≡ bytes ++ drop (at + length bytes) held
-drop-written held at bytes within = grind (arith, nat_tests, append_assoc, drop_at, length-take-le)
+use Rattle.store.proofs.Common.{◌≡◌, ℕ, ◌+◌, ◌≤◌, true, false, List, [], ◌∷◌, length, take, drop, refl, sym, ◌∙◌, ap, arith, Option, Some, ◌==◌, unwrap_or, take_at, drop-drop, written, Torn, shorter_front, same_byte, is_open, HasBody, IsSafe, torn_by_written}
+use Rattle.store.proofs.NoteLemmas.{drop-overlaid, byte_written}
 
 module _ (gate : ℕ) (body held : List ℕ) (room : gate + 1 + length body ≤ length held) where
   -- anything behind a gate that is shut
@@ -26,7 +23,7 @@ module _ (gate : ℕ) (body held : List ℕ) (room : gate + 1 + length body ≤ 
   after_torn = torn_by_written held (gate + 1) body (omega arith) (length body) (omega arith)
 
   after_body : HasBody gate body after
-  after_body = ap (λ (these : List ℕ). take (length body) these) (drop-written held (gate + 1) body (omega arith)) ∙ take_at body (drop (gate + 1 + length body) held) (length body) refl
+  after_body = ap (λ (these : List ℕ). take (length body) these) (drop-overlaid held (gate + 1) body (omega arith)) ∙ take_at body (drop (gate + 1 + length body) held) (length body) refl
 
   -- anything at the gate, with the body behind it
   module _ (image : List ℕ) (torn : Torn gate 1 after image) where
@@ -45,12 +42,7 @@ module _ (gate : ℕ) (body held : List ℕ) (room : gate + 1 + length body ≤ 
   opened_torn = torn_by_written after gate (0xA5 ∷ []) (omega (arith, after_torn.no_shorter)) 1 (omega arith)
 
   pub opened : is_open gate (written after gate (0xA5 ∷ [])) ≡ true
-  opened =
-      let read : slice_index (drop gate (written after gate (0xA5 ∷ []))) 0 ≡ slice_index (written after gate (0xA5 ∷ [])) (gate + 0) = get_or-drop gate (written after gate (0xA5 ∷ [])) 0 0 in
-      let front : slice_index (drop gate (written after gate (0xA5 ∷ []))) 0 ≡ 0xA5 = ap (λ (these : List ℕ). slice_index these 0) (drop-written after gate (0xA5 ∷ []) (omega (arith, after_torn.no_shorter))) in
-      let same : gate + 0 ≡ gate = omega arith in
-      let byte : slice_index (written after gate (0xA5 ∷ [])) gate ≡ 0xA5 = sym (ap (λ (n : ℕ). slice_index (written after gate (0xA5 ∷ [])) n) same) ∙ sym read ∙ front in
-      ap (λ (n : ℕ). n == 0xA5) byte
+  opened = ap (λ (n : ℕ). n == 0xA5) (byte_written after gate 0xA5 (omega (arith, after_torn.no_shorter)))
 
 pub held_is : {told : Option (List ℕ)} {bytes : List ℕ} → told ≡ Some bytes → unwrap_or told [] ≡ bytes
 held_is same = ap (λ (those : Option (List ℕ)). unwrap_or those []) same

@@ -1,10 +1,36 @@
--- Newest bytes that are written home.
-use Rattle.store.proofs.BanksCommon.{◌≡◌, inl, inr, ℕ, ◌+◌, ◌*◌, ◌-◌, ◌<◌, ◌≤◌, List, length, take, drop, refl, sym, ◌∙◌, ap, subst, arith, Option, None, Some, fold, drop-drop, take_at, length-drop, length-take-le, line_count, PageSize, Which, A, B, Header, home_at, bank_at, KeptBank, end_of, line_bytes_of, RecordLine, IsStore, laid, home_of, shorter_front, rest_front, area_within, store_front, behind_bytes, bytes_at, written, Torn, torn_by_written, drop-written, home_line, home_place, copied, TornLine, IsHomeOffset, IsCovered, IsHomed, cases_lt, cases_eq, nat_tests}
+-- Bytes that stay, and newest bytes that are written home.
+use Rattle.store.proofs.Common.{◌≡◌, inl, inr, ℕ, ◌+◌, ◌*◌, ◌-◌, ◌<◌, ◌≤◌, List, length, take, drop, refl, sym, ◌∙◌, ap, subst, arith, Option, None, Some, fold, drop-drop, take_at, length-drop, length-take-le, line_count, PageSize, Which, Header, home_at, bank_at, KeptBank, end_of, line_bytes_of, RecordLine, IsStore, laid, home_of, shorter_front, rest_front, area_within, store_front, behind_bytes, bytes_at, written, Torn, torn_by_written, home_line, home_place, copied, TornLine, IsHomeOffset, IsCovered, IsHomed, cases_lt, cases_eq, nat_tests, get_or-drop, same_byte, IsSameBut, IsApart, slice_index, store_big, newest_place, lines-below}
 use Rattle.lines.specs.Segments.{line_bytes}
-use Rattle.store_format.proofs.Widths.{lines-below}
-use Rattle.store.specs.Noted.{newest_place}
-use Rattle.store.proofs.ApartLemmas.{but_on, torn_but}
 use Rattle.store.proofs.Newest.{bytes_of_line, newest_bytes, store_agrees, held_records, newest_within, same_lines}
+use Rattle.store.proofs.NoteLemmas.{drop-overlaid}
+
+pub same_behind : (k i : ℕ) (xs ys : List ℕ) → drop k xs ≡ drop k ys → k ≤ i → slice_index xs i ≡ slice_index ys i
+same_behind k i xs ys same after =
+    let whole : k + (i - k) ≡ i = omega (arith, after) in
+    cc (whole, get_or-drop k xs (i - k) 0, same, get_or-drop k ys (i - k) 0)
+
+pub more_offsets : (P Q : ℕ → Type 0) (old image : List ℕ) → ((at : ℕ) → P at → Q at) → IsSameBut P old image → IsSameBut Q old image
+more_offsets P Q old image wider is = record { long = is.long; same = λ at no. is.same at (λ one. no (wider at one)) }
+
+module _ (P : ℕ → Type 0) where
+  pub but_on : (old mid image : List ℕ) → IsSameBut P old mid → IsSameBut P mid image → IsSameBut P old image
+  but_on old mid image first later = record { long = later.long ∙ first.long; same = λ at no. later.same at no ∙ first.same at no }
+
+  -- the same but between two places
+  pub but_between : (from to : ℕ) (old image : List ℕ) → ((at : ℕ) → from ≤ at → at < to → P at) → IsApart from to old image → IsSameBut P old image
+  but_between from to old image here apart = record {
+    long = apart.long;
+    same = λ at no. elim (cases_lt at from) [
+      | inl before ↦ same_byte at from image old apart.front before
+      | inr after ↦ elim (cases_lt at to) [
+        | inl inside ↦ absurd (no (here at after inside))
+        | inr beyond ↦ same_behind to at image old apart.behind beyond
+      ]
+    ];
+  }
+
+  pub torn_but : (from count : ℕ) (old image : List ℕ) → from + count ≤ length old → ((at : ℕ) → from ≤ at → at < from + count → P at) → Torn from count old image → IsSameBut P old image
+  torn_but from count old image within here torn = but_between from (from + count) old image here (record { front = torn.before; behind = torn.after; long = omega (arith, torn.no_shorter, torn.no_longer, within) })
 
 -- a line of the home lines
 home_is : (header : Header) (image : List ℕ) (line : ℕ) → bytes_of_line header.directory.page line (home_of image header) ≡ home_line header image line
@@ -12,19 +38,22 @@ home_is header image line = grind (arith, nat_tests, drop-drop)
 
 -- both banks lie in front of the home lines
 pub end_within : (which : Which) (bank : KeptBank) (lines : ℕ) → end_of which bank.bank_bytes ≤ home_place bank lines
-end_within A bank lines = omega arith
-end_within B bank lines = omega arith
+end_within which bank lines = grind (arith, nat_tests)
 
 -- bytes in the same front
 pub front_bytes : (page : PageSize) (old new : List ℕ) (k place : ℕ) → take k new ≡ take k old → place + line_bytes page ≤ k → bytes_at new place (line_bytes page) ≡ bytes_at old place (line_bytes page)
 front_bytes page old new k place same within = shorter_front (line_bytes page) (k - place) (drop place new) (drop place old) (rest_front place k new old same (omega arith)) (omega arith)
 
-module _ (header : Header) (which : Which) (base gate : ℕ) (records : List (List RecordLine)) (held : List ℕ) (is : IsStore held header which base gate records) (big : 0 < header.bank_bytes) where
+-- at first no line is written home
+pub homed_start : (header : Header) (records : List (List RecordLine)) (held : List ℕ) → IsHomed header records held 0 held
+homed_start header records held = record {
+  covered = record { front = refl; others = λ line below none. refl; apart = record { long = refl; same = λ at no. refl } };
+  homed = λ line place up below there. absurd (omega (arith, up));
+}
+
+module _ (header : Header) (which : Which) (base gate : ℕ) (records : List (List RecordLine)) (held : List ℕ) (is : IsStore held header which base gate records) where
   abbrev bound : ℕ
   bound = line_count header.directory
-
-  pub covered_self : IsCovered header records held held
-  covered_self = record { front = refl; others = λ line below none. refl; apart = record { long = refl; same = λ at no. refl } }
 
   -- the newest place of a line lies in front of the home lines
   placed : (line place : ℕ) → newest_place line records ≡ Some place → place + line_bytes header.directory.page ≤ home_at header 0
@@ -38,11 +67,12 @@ module _ (header : Header) (which : Which) (base gate : ℕ) (records : List (Li
     other_home : (k : ℕ) → (k ≡ line → ⊥) → k < bound → home_line header image k ≡ home_line header start k
     other_home k different within = elim (cases_lt k line) [
       | inl before ↦ front_bytes header.directory.page start image (home_at header line) (home_at header k) torn.before (omega (arith, lines-below header.directory.page k line before))
-      | inr behind ↦ ap (λ (these : List ℕ). take (line_bytes header.directory.page) these) (behind_bytes start image (home_at header line + line_bytes header.directory.page) (home_at header k) torn.after (beyond k behind different))
+      | inr behind ↦
+          let less : line < k = omega (arith, behind, different) in
+          ap (λ (these : List ℕ). take (line_bytes header.directory.page) these)
+          (behind_bytes start image (home_at header line + line_bytes header.directory.page) (home_at header k) torn.after
+          (omega (arith, lines-below header.directory.page line k less)))
     ]
-      where
-        beyond : (k : ℕ) → line ≤ k → (k ≡ line → ⊥) → home_at header line + line_bytes header.directory.page ≤ home_at header k
-        beyond k behind different = let less : line < k = omega (arith, behind, different) in omega (arith, lines-below header.directory.page line k less)
 
     pub torn_covered : IsCovered header records held image
     torn_covered = record {
@@ -58,11 +88,10 @@ module _ (header : Header) (which : Which) (base gate : ℕ) (records : List (Li
   pub homed_none : (upto : ℕ) (image : List ℕ) → IsHomed header records held upto image → newest_place upto records ≡ None → IsHomed header records held (upto + 1) image
   homed_none upto image homed none = record {
     covered = homed.covered;
-    homed = λ line place up below there. homed.homed line place (earlier line up (λ same. let both : None ≡ Some place = sym none ∙ ap (λ (n : ℕ). newest_place n records) (sym same) ∙ there in cc)) below there;
+    homed = λ line place up below there.
+        let other : line ≡ upto → ⊥ = λ same. let both : None ≡ Some place = sym none ∙ ap (λ (n : ℕ). newest_place n records) (sym same) ∙ there in cc in
+        homed.homed line place (omega (arith, up, other)) below there;
   }
-    where
-      earlier : (line : ℕ) → line < upto + 1 → (line ≡ upto → ⊥) → line < upto
-      earlier line up other = omega (arith, other)
 
   module _ (upto place : ℕ) (start : List ℕ) (homed : IsHomed header records held upto start) (below : upto < bound) (there : newest_place upto records ≡ Some place) where
     abbrev piece : List ℕ
@@ -79,11 +108,8 @@ module _ (header : Header) (which : Which) (base gate : ℕ) (records : List (Li
 
     here : home_line header now upto ≡ piece
     here =
-        ap (λ (these : List ℕ). take (line_bytes header.directory.page) these) (drop-written start (home_at header upto) piece (omega (arith, homed.covered.apart.long, is.whole, lines-below header.directory.page upto bound below)))
+        ap (λ (these : List ℕ). take (line_bytes header.directory.page) these) (drop-overlaid start (home_at header upto) piece (omega (arith, homed.covered.apart.long, is.whole, lines-below header.directory.page upto bound below)))
         ∙ take_at piece (drop (home_at header upto + length piece) start) (line_bytes header.directory.page) length-piece
-
-    earlier : (line : ℕ) → line < upto + 1 → (line ≡ upto → ⊥) → line < upto
-    earlier line up other = omega (arith, other)
 
     pub homed_more : IsHomed header records held (upto + 1) (written start (home_at header upto) (bytes_at start place (line_bytes header.directory.page)))
     homed_more = record {
@@ -93,13 +119,15 @@ module _ (header : Header) (which : Which) (base gate : ℕ) (records : List (Li
             let both : Some at ≡ Some place = sym found ∙ ap (λ (n : ℕ). newest_place n records) same ∙ there in
             let place_is : place ≡ at = cc in
             ap (home_line header now) same ∙ here ∙ front_bytes header.directory.page held start (home_at header 0) place homed.covered.front (placed upto place there) ∙ ap (λ (n : ℕ). bytes_at held n (line_bytes header.directory.page)) place_is
-        | inr other ↦ other_home start now homed.covered upto place below there torn_now line other within ∙ homed.homed line at (earlier line up other) within found
+        | inr other ↦ other_home start now homed.covered upto place below there torn_now line other within ∙ homed.homed line at (omega (arith, up, other)) within found
       ];
     }
 
   module _ (image : List ℕ) (covered : IsCovered header records held image) where
     pub covered_store : IsStore image header which base gate records
-    covered_store = store_front header which base gate records held is image (home_at header 0) big covered.front (area_within header which).0 covered.apart.long
+    covered_store =
+        store_front header which base gate records held is image (home_at header 0)
+        (store_big header which base gate records held is) covered.front (area_within header which).0 covered.apart.long
 
     line_same : (line : ℕ) (place : Option ℕ) → line < bound → newest_place line records ≡ place → newest_bytes header.directory.page image (home_of image header) line place ≡ newest_bytes header.directory.page held (home_of held header) line place
     line_same line None below none = home_is header image line ∙ covered.others line below none ∙ sym (home_is header held line)
@@ -141,6 +169,3 @@ module _ (header : Header) (which : Which) (base gate : ℕ) (records : List (Li
     step_homed None there start image homed is_copied = homed_none line image (subst (λ (those : List ℕ). IsHomed header records held line those) (sym is_copied) homed) there
     step_homed (Some place) there start image homed is_copied =
         subst (λ (those : List ℕ). IsHomed header records held (line + 1) those) (sym (is_copied ∙ ap (λ (n : ℕ). written start (home_place bank line) (bytes_at start place n)) width ∙ ap (λ (n : ℕ). written start n (bytes_at start place (line_bytes header.directory.page))) home_same)) (homed_more line place start homed below there)
-
-  pub homed_start : IsHomed header records held 0 held
-  homed_start = record { covered = covered_self; homed = λ line place up below there. absurd (omega (arith, up)) }

@@ -1,8 +1,28 @@
 -- The other bank, its head, and the selector.
-use Rattle.store.proofs.BanksCommon.{◌≡◌, inl, inr, ◌⊎◌, ℕ, ◌+◌, ◌%◌, ◌^◌, ◌<◌, ◌≤◌, List, [], ◌∷◌, length, drop, refl, sym, ◌∙◌, ap, arith, slice_index, ◌==◌, if◌then◌else◌, fold, get_or-drop, Which, A, B, Header, home_at, bank_at, RecordLine, area_at, IsStore, HasHeader, laid, home_of, chosen, stands, shorter_front, same_byte, area_within, same_header, header_held, base_behind, store_behind, store_front, store_empty, store_big, stands_alike, behind_bytes, line_count, written, Torn, torn_by_written, KeptBank, number_of, head_bytes, drop-written, other, selector_of, IsSameBut, IsHomeOffset, IsCheckpointOffset, IsCovered, IsHomed, IsSame, nat_tests}
-use Rattle.store.proofs.HeadLemmas.{IsEmpty, head_empty, head_long}
-use Rattle.store.proofs.ApartLemmas.{more_offsets, but_on, torn_but}
-use Rattle.store.proofs.HomeLemmas.{covered_store, covered_bytes, homed_bytes}
+use Rattle.store.proofs.Common.{◌≡◌, inl, inr, ◌⊎◌, ℕ, ◌+◌, ◌%◌, ◌^◌, ◌<◌, ◌≤◌, List, [], ◌∷◌, length, drop, refl, ◌∙◌, ap, arith, slice_index, ◌==◌, if◌then◌else◌, fold, Which, A, B, Header, home_at, bank_at, RecordLine, area_at, IsStore, HasHeader, laid, home_of, chosen, stands, shorter_front, same_byte, area_within, same_header, header_held, base_behind, store_behind, store_front, store_empty, store_big, stands_alike, behind_bytes, line_count, written, Torn, torn_by_written, KeptBank, head_bytes, other, selector_of, IsSameBut, IsHomeOffset, IsCheckpointOffset, IsCovered, IsHomed, IsSame, nat_tests, false, ◌++◌, append_assoc, big_bytes, big_number, big_number-reads_back, base_of, overlaid_within, ◌-◌}
+use Rattle.store.specs.Kept.{number_of}
+use Rattle.store.proofs.HomeLemmas.{more_offsets, but_on, torn_but, covered_store, covered_bytes, homed_bytes, same_behind}
+use Rattle.store.proofs.NoteLemmas.{drop-overlaid, byte_written}
+
+-- a bank that begins with a head
+pub record IsEmpty (header : Header) (which : Which) (number : ℕ) (image : List ℕ) : Type 0 where
+  pub base : base_of image header which ≡ number
+  pub closed : (slice_index image (area_at header which) == 0xA5) ≡ false
+
+pub head_long : (number : ℕ) → length (head_bytes number) ≡ 9
+head_long number = refl
+
+pub head_empty : (header : Header) (which : Which) (number : ℕ) (old : List ℕ) → bank_at header which ≤ length old → number < 2 ^ 64 → IsEmpty header which number (written old (bank_at header which) (head_bytes number))
+head_empty header which number old within fits =
+    let at = bank_at header which in
+    let image = written old at (head_bytes number) in
+    let rest = drop (at + length (head_bytes number)) old in
+    let shape : drop at image ≡ big_bytes 8 number ++ (0 ∷ rest) = drop-overlaid old at (head_bytes number) within ∙ append_assoc (big_bytes 8 number) (0 ∷ []) rest in
+    let eight : at + 8 - at ≡ 8 = omega arith in
+    record {
+      base = ap (λ (these : List ℕ). big_number 8 these) shape ∙ big_number-reads_back 8 number (0 ∷ rest) fits;
+      closed = ap (λ (n : ℕ). n == 0xA5) (overlaid_within old at (head_bytes number) (at + 8) 0 within (omega arith) (omega arith) ∙ ap (slice_index (head_bytes number)) eight);
+    }
 
 -- an image of the same store, with the same home lines
 pub record Alike (header : Header) (which : Which) (base gate : ℕ) (records : List (List RecordLine)) (old new : List ℕ) : Type 0 where
@@ -49,10 +69,7 @@ module _ (header : Header) (which : Which) (base gate : ℕ) (records : List (Li
     pub turns : chosen image ≡ other which → IsStore image header (other which) number (area_at header (other which)) []
     turns chooses =
         let from = behind_bytes old image 129 (bank_at header (other which)) torn.after (behind_selector (other which)) in
-        let at = area_at header (other which) in
-        let here : at + 0 ≡ at = omega arith in
-        let byte : slice_index image at ≡ slice_index old at =
-        ap (slice_index image) (sym here) ∙ sym (get_or-drop at image 0 0) ∙ ap (λ (these : List ℕ). slice_index these 0) (behind_bytes old image 129 at torn.after (omega (arith, behind_selector (other which)))) ∙ get_or-drop at old 0 0 ∙ ap (slice_index old) here in
+        let byte = same_behind 129 (area_at header (other which)) image old torn.after (omega (arith, behind_selector (other which))) in
         store_empty header (other which) number image has chooses (base_behind header (other which) old image from ∙ empty.base) (ap (λ (n : ℕ). n == 0xA5) byte ∙ empty.closed)
 
 -- a selector chooses the one bank or the other
@@ -61,16 +78,10 @@ one_of_two which those = grind (arith, nat_tests)
 
 -- the byte that was written chooses its bank
 pub selected : (old : List ℕ) (which : Which) → 129 ≤ length old → chosen (written old 128 (selector_of which ∷ [])) ≡ which
-selected old which within = ap (λ (n : ℕ). if n == 1 then B else A) byte ∙ by which
+selected old which within = ap (λ (n : ℕ). if n == 1 then B else A) (byte_written old 128 (selector_of which) (omega (arith, within))) ∙ by which
   where
-    byte : slice_index (written old 128 (selector_of which ∷ [])) 128 ≡ selector_of which
-    byte =
-        let read : slice_index (drop 128 (written old 128 (selector_of which ∷ []))) 0 ≡ slice_index (written old 128 (selector_of which ∷ [])) (128 + 0) = get_or-drop 128 (written old 128 (selector_of which ∷ [])) 0 0 in
-        sym read ∙ ap (λ (these : List ℕ). slice_index these 0) (drop-written old 128 (selector_of which ∷ []) (omega arith))
-
     by : (w : Which) → (if selector_of w == 1 then B else A) ≡ w
-    by A = refl
-    by B = refl
+    by w = grind (arith, nat_tests)
 
 module _ (header : Header) (bank : KeptBank) (records : List (List RecordLine)) (held : List ℕ) (is : IsStore held header bank.which bank.base bank.gate records) (counted : length records ≡ bank.count) where
   abbrev number : ℕ
@@ -105,13 +116,13 @@ module _ (header : Header) (bank : KeptBank) (records : List (List RecordLine)) 
   -- home lines were written
   pub covered_same : (image : List ℕ) → IsCovered header records held image → IsSame header bank records held image
   covered_same image covered =
-      same_by image (covered_store header bank.which bank.base bank.gate records held is big image covered) (covered_bytes header bank.which bank.base bank.gate records held is big image covered) (covered_apart image covered)
+      same_by image (covered_store header bank.which bank.base bank.gate records held is image covered) (covered_bytes header bank.which bank.base bank.gate records held is image covered) (covered_apart image covered)
 
   -- and the head of the other bank
   pub headed_same : (start image : List ℕ) → IsCovered header records held start → Torn (bank_at header away) 9 start image → IsSame header bank records held image
   headed_same start image covered torn =
-      let alike = head_alike header bank.which bank.base bank.gate records start image big (covered_store header bank.which bank.base bank.gate records held is big start covered) torn in
-      same_by image alike.store (ap (λ (home : List ℕ). fold (laid header.directory.page) home records) alike.home ∙ covered_bytes header bank.which bank.base bank.gate records held is big start covered) (headed_apart start image covered torn)
+      let alike = head_alike header bank.which bank.base bank.gate records start image big (covered_store header bank.which bank.base bank.gate records held is start covered) torn in
+      same_by image alike.store (ap (λ (home : List ℕ). fold (laid header.directory.page) home records) alike.home ∙ covered_bytes header bank.which bank.base bank.gate records held is start covered) (headed_apart start image covered torn)
 
   -- all lines are home, and the other bank begins with its head
   pub record IsHeaded (image : List ℕ) : Type 0 where
@@ -126,13 +137,13 @@ module _ (header : Header) (bank : KeptBank) (records : List (List RecordLine)) 
       let image = written start (bank_at header away) (head_bytes number) in
       let within : bank_at header away ≤ length start = omega (arith, homed.covered.apart.long, is.whole, (area_within header away).0) in
       let torn : Torn (bank_at header away) 9 start image = torn_by_written start (bank_at header away) (head_bytes number) within 9 (omega (arith, head_long number)) in
-      let covered = covered_store header bank.which bank.base bank.gate records held is big start homed.covered in
+      let covered = covered_store header bank.which bank.base bank.gate records held is start homed.covered in
       let alike = head_alike header bank.which bank.base bank.gate records start image big covered torn in
       record {
         store = alike.store;
         empty = head_empty header away number start within (omega arith);
-        same = ap (λ (home : List ℕ). fold (laid header.directory.page) home records) alike.home ∙ covered_bytes header bank.which bank.base bank.gate records held is big start homed.covered;
-        bytes = alike.home ∙ homed_bytes header bank.which bank.base bank.gate records held is big start homed;
+        same = ap (λ (home : List ℕ). fold (laid header.directory.page) home records) alike.home ∙ covered_bytes header bank.which bank.base bank.gate records held is start homed.covered;
+        bytes = alike.home ∙ homed_bytes header bank.which bank.base bank.gate records held is start homed;
         apart = headed_apart start image homed.covered torn;
       }
 

@@ -1,8 +1,6 @@
 -- The newest place of a line has its bytes of the store.
-use Rattle.store.proofs.Common.{◌≡◌, inl, inr, ℕ, zero, suc, ◌+◌, ◌*◌, ◌-◌, ◌<◌, ◌≤◌, List, [], ◌∷◌, ◌++◌, length, take, drop, refl, sym, ◌∙◌, ap, subst, arith, option_or, nat_tests, cases_lt, cases_eq, take_at, drop-drop, take-append-drop, length-drop, length-take-le, overlaid, big_number, line_count, PageSize, Which, line_bytes, Header, home_at, bank_at, number_at, entry_bytes, RecordLine, lines_from, wrong_line, lines_of, count_of, Area, Holds, HoldsFrom, gate_at, area_behind, bank_held, follows, has_bank, area_within, laid, home_of, IsStore, shorter_front, rest_front, length-overlaid, lines-below, place_in, newest_place, Option, None, Some, fold, if◌then◌else◌, ◌==◌}
-use Rattle.store.proofs.Overlaid.{take-overlaid, drop-overlaid, behind-overlaid}
-use Rattle.store.proofs.NoteLemmas.{first_in_order}
-use Rattle.store.proofs.Places.{or_assoc, or_none, last_of, if_some, AreBelow, AllBelow}
+use Rattle.store.proofs.Common.{◌≡◌, inl, inr, ℕ, zero, suc, ◌+◌, ◌*◌, ◌-◌, ◌<◌, ◌≤◌, List, [], ◌∷◌, ◌++◌, length, take, drop, refl, sym, ◌∙◌, ap, subst, arith, option_or, nat_tests, cases_lt, cases_eq, take_at, drop-drop, take-append-drop, length-drop, length-take-le, overlaid, big_number, line_count, PageSize, Which, line_bytes, Header, home_at, bank_at, number_at, entry_bytes, RecordLine, lines_from, wrong_line, lines_of, count_of, Area, Holds, HoldsFrom, gate_at, area_behind, bank_held, follows, has_bank, area_within, laid, home_of, IsStore, shorter_front, rest_front, length-overlaid, lines-below, place_in, newest_place, Option, None, Some, fold, option_or-assoc, nil_from_length}
+use Rattle.store.proofs.NoteLemmas.{take-overlaid, drop-overlaid, behind-overlaid, first_in_order, or_none, AreBelow, AllBelow, last_of}
 
 -- the bytes of a line in a list of lines
 abbrev pub bytes_of_line : PageSize → ℕ → List ℕ → List ℕ
@@ -65,12 +63,12 @@ AreRecords page bound end image (lines ∷ records) = AreLines page bound end im
 agree_lines : (page : PageSize) (bound end : ℕ) (image home bytes : List ℕ) (newest : ℕ → Option ℕ) (lines : List RecordLine) → AreLines page bound end image lines → Agree page bound image home bytes newest
     → Agree page bound image home (laid page bytes lines) (newer lines newest)
 agree_lines page bound end image home bytes newest [] are agree = agree
-agree_lines page bound end image home bytes newest (line ∷ lines) are agree = grind (arith, nat_tests, agree_line, or_assoc, newest, agree_lines page bound end image home (overlaid bytes (line.line * line_bytes page) line.bytes) (newer (line ∷ []) newest) lines are.1 (agree_line page bound end image home bytes newest line are.0 agree))
+agree_lines page bound end image home bytes newest (line ∷ lines) are agree = grind (arith, nat_tests, agree_line, option_or-assoc, newest, agree_lines page bound end image home (overlaid bytes (line.line * line_bytes page) line.bytes) (newer (line ∷ []) newest) lines are.1 (agree_line page bound end image home bytes newest line are.0 agree))
 
 agree_records : (page : PageSize) (bound end : ℕ) (image home bytes : List ℕ) (newest : ℕ → Option ℕ) (records : List (List RecordLine)) → AreRecords page bound end image records → Agree page bound image home bytes newest
     → Agree page bound image home (fold (laid page) bytes records) (λ k. option_or (newest_place k records) (newest k))
 agree_records page bound end image home bytes newest [] are agree = agree
-agree_records page bound end image home bytes newest (lines ∷ records) are agree = grind (arith, nat_tests, agree_lines, or_assoc, newest, agree_records page bound end image home (laid page bytes lines) (newer lines newest) records are.1 (agree_lines page bound end image home bytes newest lines are.0 agree))
+agree_records page bound end image home bytes newest (lines ∷ records) are agree = grind (arith, nat_tests, agree_lines, option_or-assoc, newest, agree_records page bound end image home (laid page bytes lines) (newer lines newest) records are.1 (agree_lines page bound end image home bytes newest lines are.0 agree))
 
 -- lines of an image are below its bound
 lines_below : (page : PageSize) (bound end : ℕ) (image : List ℕ) (lines : List RecordLine) → AreLines page bound end image lines → AreBelow bound lines
@@ -110,17 +108,11 @@ records_are image area number from gate (lines ∷ records) whole holds =
 -- where a line has its newest bytes there are as many before the end
 place_within : (page : PageSize) (bound end : ℕ) (image : List ℕ) (k place : ℕ) (lines : List RecordLine) → AreLines page bound end image lines → place_in k lines ≡ Some place → place + line_bytes page ≤ end
 place_within page bound end image k place [] are is = cc
-place_within page bound end image k place (line ∷ lines) are is = elim (last_of (place_in k lines) (if line.line == k then Some (line.at + 4) else None) place is) [
-  | inl later ↦ place_within page bound end image k place lines are.1 later
-  | inr here ↦ let at = if_some (line.line == k) (line.at + 4) place here in omega (arith, at, are.0.within)
-]
+place_within page bound end image k place (line ∷ lines) are is = grind (arith, nat_tests, place_within page bound end image k place lines, are.0.within)
 
 pub newest_within : (page : PageSize) (bound end : ℕ) (image : List ℕ) (k place : ℕ) (records : List (List RecordLine)) → AreRecords page bound end image records → newest_place k records ≡ Some place → place + line_bytes page ≤ end
 newest_within page bound end image k place [] are is = cc
-newest_within page bound end image k place (lines ∷ records) are is = elim (last_of (newest_place k records) (place_in k lines) place is) [
-  | inl later ↦ newest_within page bound end image k place records are.1 later
-  | inr here ↦ place_within page bound end image k place lines are.0 here
-]
+newest_within page bound end image k place (lines ∷ records) are is = grind (arith, nat_tests, last_of, newest_within page bound end image k place records, place_within)
 
 -- the records that a bank holds lie in the image
 pub held_records : (page : PageSize) (image : List ℕ) (bound at bank_bytes gate : ℕ) (records : List (List RecordLine)) → at + 8 + bank_bytes ≤ length image → bank_held image page bound at bank_bytes ≡ Holds gate records → AreRecords page bound (at + 8 + bank_bytes) image records
@@ -139,11 +131,7 @@ store_agrees image header which base gate records is =
 
 -- lists of as many lines that have the same lines
 pub same_lines : (page : PageSize) (n : ℕ) (xs ys : List ℕ) → length xs ≡ n * line_bytes page → length ys ≡ n * line_bytes page → ((k : ℕ) → k < n → bytes_of_line page k xs ≡ bytes_of_line page k ys) → xs ≡ ys
-same_lines page zero xs ys long long' each = empty xs (omega arith) ∙ sym (empty ys (omega arith))
-  where
-    empty : (zs : List ℕ) → length zs ≡ 0 → zs ≡ []
-    empty [] none = refl
-    empty (z ∷ zs) none = absurd (omega arith)
+same_lines page zero xs ys long long' each = nil_from_length xs (omega arith) ∙ sym (nil_from_length ys (omega arith))
 same_lines page (suc n) xs ys long long' each =
     sym (take-append-drop (line_bytes page) xs)
     ∙ ap (λ (these : List ℕ). these ++ drop (line_bytes page) xs) (first xs ∙ each 0 (omega arith) ∙ sym (first ys))

@@ -1,30 +1,7 @@
--- Records that are read.
-use Rattle.store.proofs.Common.{◌≡◌, ℕ, suc, ◌+◌, ◌*◌, ◌-◌, ◌<◌, ◌≤◌, true, false, List, [], ◌∷◌, take, drop, refl, sym, subst, ◌∙◌, ap, arith, slice_index, nat_tests, drop-drop, take-take, get_or-take, get_or-drop, big_number, big_from-take, overlaid, PageSize, line_bytes, entry_bytes, RecordLine, lines_from, wrong_line, count_of, number_of, lines_of, record_bytes, head_fault, lined_gate, gate_if, Wrong, same_number_at, fault_none, ForSome, bytes_at, noted, read_is, Option, None, Some, IsSome, IfSome, unwrap_or, ◌&&◌, nat_le, nat_lt, ◌==◌, length}
-
--- the lines from one on
-abbrev pub lines_after : (page : PageSize) (count i at : ℕ) → List ℕ → List RecordLine
-lines_after page count i at held = lines_from page (count - i) (at + entry_bytes page * i) (drop (at + entry_bytes page * i) held)
-
-abbrev line_here : (page : PageSize) (i at : ℕ) → List ℕ → ℕ → RecordLine
-line_here page i at held line = record { line = line; at = at + entry_bytes page * i; bytes = take (line_bytes page) (drop 4 (drop (at + entry_bytes page * i) held)) }
-
-module _ (page : PageSize) (count i at : ℕ) (held number : List ℕ) (line : ℕ) (more : i < count) (read : number ≡ bytes_at held (at + entry_bytes page * i) 4) (is : line ≡ big_number 4 number) where
-  begins : lines_after page count i at held ≡ line_here page i at held line ∷ lines_after page count (i + 1) at held
-  begins =
-      let fuel : count - i ≡ suc (count - (i + 1)) = omega arith in
-      let place : at + entry_bytes page * i + entry_bytes page ≡ at + entry_bytes page * (i + 1) = omega arith in
-      let rest : drop (entry_bytes page) (drop (at + entry_bytes page * i) held) ≡ drop (at + entry_bytes page * (i + 1)) held = drop-drop (entry_bytes page) (at + entry_bytes page * i) held ∙ ap (λ (n : ℕ). drop n held) place in
-      let line_is : big_number 4 (drop (at + entry_bytes page * i) held) ≡ line = sym (is ∙ ap (λ (these : List ℕ). big_number 4 these) read ∙ big_from-take 0 4 4 (drop (at + entry_bytes page * i) held) (omega arith)) in
-      cc (fuel, line_is, place, rest)
-
-  pub wrong_here : (bound least : ℕ) → nat_le least line && nat_lt line bound ≡ false → wrong_line bound least (lines_after page count i at held) ≡ Some (at + entry_bytes page * i)
-  wrong_here bound least wrong = ap (wrong_line bound least) begins ∙ rw wrong refl
-
-  pub right_here : (bound least : ℕ) → nat_le least line && nat_lt line bound ≡ true → wrong_line bound least (lines_after page count i at held) ≡ wrong_line bound (line + 1) (lines_after page count (i + 1) at held)
-  right_here bound least right = ap (wrong_line bound least) begins ∙ rw right refl
-
-  pub noted_here : (newest : List (Option ℕ)) → noted newest (lines_after page count i at held) ≡ noted (overlaid newest line (Some (at + entry_bytes page * i + 4) ∷ [])) (lines_after page count (i + 1) at held)
-  noted_here newest = ap (noted newest) begins
+-- Records that are read, and a walk from gate to gate of a bank.
+use Rattle.store.proofs.Common.{◌≡◌, ℕ, suc, ◌+◌, ◌*◌, ◌-◌, ◌<◌, ◌≤◌, true, false, List, [], ◌∷◌, take, drop, refl, sym, subst, ◌∙◌, ap, arith, slice_index, nat_tests, drop-drop, take-take, get_or-take, get_or-drop, big_number, big_from-take, PageSize, entry_bytes, RecordLine, lines_from, wrong_line, count_of, lined_gate, gate_if, Wrong, same_number_at, fault_none, ForSome, bytes_at, noted, read_is, Option, IsSome, IfSome, unwrap_or, ◌&&◌, nat_le, nat_lt, ◌==◌, length, ◌%◌, ◌^◌, ◌++◌, length-append, fold, append-nil, append_assoc, Area, Gate, Closed, Sound, Bank, Holds, Faulty, gate_at, holds_from, preceded, sound_is, AreRead, lines_of, record_bytes, head_fault, None}
+use Rattle.store_format.specs.Bank.{number_of}
+use Rattle.std.proofs.lemmas.List.Sums.{fold-append}
 
 pub is_low : (bound least line : ℕ) → line < least → nat_le least line && nat_lt line bound ≡ false
 is_low bound least line low = grind (arith, nat_tests)
@@ -72,9 +49,8 @@ gate_read page held head bound end due gate count number read counted numbered d
 pub first_read : (held first : List ℕ) (gate : ℕ) → first ≡ bytes_at held gate 1 → slice_index first 0 ≡ 0xA5 → (slice_index held gate == 0xA5) ≡ true
 first_read held first gate read shown =
     let same : gate + 0 ≡ gate = omega arith in
-    let byte : slice_index first 0 ≡ slice_index held gate =
-    ap (λ (these : List ℕ). slice_index these 0) read ∙ get_or-take 1 (drop gate held) 0 0 (omega arith) ∙ get_or-drop gate held 0 0 ∙ ap (slice_index held) same in
-    ap (λ (n : ℕ). n == 0xA5) (sym byte ∙ shown)
+    let byte : slice_index held gate ≡ 0xA5 = cc (same, read, shown, get_or-take 1 (drop gate held) 0 0 (omega arith), get_or-drop gate held 0 0) in
+    ap (λ (n : ℕ). n == 0xA5) byte
 
 -- a read within the bytes that are held
 pub reads_within : (told : Option (List ℕ)) (n count : ℕ) → n ≤ count → ForSome told (λ bytes. count ≤ length bytes) → ForSome told (λ bytes. n ≤ length bytes)
@@ -83,3 +59,83 @@ reads_within told n count few room bytes is = omega (arith, room bytes is)
 -- bytes that were read behind calls that left those held alone
 pub read_on : (old mid : Option (List ℕ)) (into : List ℕ) (at count : ℕ) → mid ≡ old → IsSome old → IfSome mid (λ bytes. into ≡ bytes_at bytes at count) → into ≡ bytes_at (unwrap_or old []) at count
 read_on old mid into at count same some read = read_is old into at count some (subst (λ (those : Option (List ℕ)). IfSome those (λ bytes. into ≡ bytes_at bytes at count)) same read)
+
+abbrev pub area_to : PageSize → ℕ → ℕ → Area
+area_to page bound end = record { page = page; bound = bound; end = end }
+
+-- a bank with records in front
+abbrev behind : List (List RecordLine) → Bank → Bank
+behind records (Holds gate rest) = Holds gate (records ++ rest)
+behind records (Faulty offset) = Faulty offset
+
+behind-none : (bank : Bank) → behind [] bank ≡ bank
+behind-none bank = grind (arith, nat_tests)
+
+behind-more : (records : List (List RecordLine)) (lines : List RecordLine) (bank : Bank) → behind records (preceded lines bank) ≡ behind (records ++ lines ∷ []) bank
+behind-more records lines bank = grind (arith, nat_tests, append_assoc)
+
+-- the records that were read so far lead to this gate
+pub record Reaches (page : PageSize) (held : List ℕ) (bound end most base from count gate : ℕ) (old new : List (Option ℕ)) : Type 0 where
+  pub records : List (List RecordLine)
+  pub count_is : length records ≡ count
+  pub noted : new ≡ fold noted old records
+  pub bank : holds_from held (area_to page bound end) most base (gate_at held (area_to page bound end) base from) ≡ behind records (holds_from held (area_to page bound end) (most - count) (base + count) (gate_at held (area_to page bound end) (base + count) gate))
+  pub far : from + 11 * count ≤ gate
+  pub inside : gate < end
+
+pub starts : (page : PageSize) (held : List ℕ) (bound end most base from : ℕ) (old : List (Option ℕ)) → from < end → Reaches page held bound end most base from 0 from old old
+starts page held bound end most base from old within = record {
+  records = [];
+  count_is = refl;
+  noted = refl;
+  bank =
+      let fuel : most ≡ most - 0 = omega arith in
+      let number : base ≡ base + 0 = omega arith in
+      ap (λ (n : ℕ). holds_from held (area_to page bound end) n base (gate_at held (area_to page bound end) base from)) fuel
+      ∙ ap (λ (n : ℕ). holds_from held (area_to page bound end) (most - 0) n (gate_at held (area_to page bound end) n from)) number
+      ∙ sym (behind-none (holds_from held (area_to page bound end) (most - 0) (base + 0) (gate_at held (area_to page bound end) (base + 0) from)));
+  far = omega arith;
+  inside = within;
+}
+
+-- the gate that was read, with the number that was due
+abbrev pub read_gate : PageSize → List ℕ → (bound end due gate : ℕ) → Gate
+read_gate page held bound end due gate = gate_if page (slice_index held gate == 0xA5) bound end due gate (drop gate held)
+
+module _ (page : PageSize) (held : List ℕ) (bound end most base from count gate due : ℕ) (old now : List (Option ℕ)) (reaches : Reaches page held bound end most base from count gate old now) (due_is : due ≡ (base + count + 1) % 2 ^ 64) where
+  abbrev here : gate_at held (area_to page bound end) (base + count) gate ≡ read_gate page held bound end due gate
+  here = ap (λ (n : ℕ). gate_if page (slice_index held gate == 0xA5) bound end n gate (drop gate held)) (sym due_is)
+
+  abbrev whole : Bank
+  whole = holds_from held (area_to page bound end) most base (gate_at held (area_to page bound end) base from)
+
+  abbrev left : Gate → Bank
+  left at = behind reaches.records (holds_from held (area_to page bound end) (most - count) (base + count) at)
+
+  pub read_closed : (new : List (Option ℕ)) → read_gate page held bound end due gate ≡ Closed gate → new ≡ now → AreRead gate count old new whole
+  unfolding holds_from
+  read_closed new is same = record {
+    records = reaches.records;
+    holds = reaches.bank ∙ ap left (here ∙ is) ∙ ap (Holds gate) (append-nil reaches.records);
+    count_is = reaches.count_is;
+    noted = same ∙ reaches.noted;
+  }
+
+  pub read_wrong : (offset : ℕ) → read_gate page held bound end due gate ≡ Wrong offset → whole ≡ Faulty offset
+  unfolding holds_from
+  read_wrong offset is = reaches.bank ∙ ap left (here ∙ is)
+
+  pub read_sound : (new : List (Option ℕ)) (lines : List RecordLine) (next : ℕ) → count < most → read_gate page held bound end due gate ≡ Sound lines next → new ≡ noted now lines → Reaches page held bound end most base from (count + 1) next old new
+  unfolding holds_from
+  read_sound new lines next more is noted_is =
+      let sound = sound_is page (slice_index held gate == 0xA5) bound end due gate (drop gate held) lines next is in
+      let fuel : most - count ≡ suc (most - (count + 1)) = omega arith in
+      let number : base + count + 1 ≡ base + (count + 1) = omega arith in
+      record {
+        records = reaches.records ++ lines ∷ [];
+        count_is = omega (arith, length-append reaches.records (lines ∷ []), reaches.count_is);
+        noted = noted_is ∙ ap (λ (these : List (Option ℕ)). noted these lines) reaches.noted ∙ sym (fold-append noted old reaches.records (lines ∷ []));
+        bank = grind (arith, nat_tests, behind-more);
+        far = omega (arith, reaches.far, sound.is_next);
+        inside = sound.fits;
+      }

@@ -1,5 +1,5 @@
 -- The records of a bank, each at its place.
-use Rattle.store.proofs.Common.{drop-drop, big_number, line_bytes, PageSize, entry_bytes, number_at, RecordLine, lines_from, lines_of, count_of, record_bytes, wrong_line, Area, Holds, HoldsFrom, gate_at, IsSound, follows, has_bank, KeptBank, place_of, area_bytes, IsRecordAt, IsCounted, IsLine, IsLineOf, Record, None, ◌≡◌, ℕ, zero, suc, ◌+◌, ◌*◌, ◌<◌, List, [], ◌∷◌, ◌++◌, length, take, drop, refl, sym, subst, ◌∙◌, ap, arith, Some, slice_get, Result, Ok, Err, IfOk, nat_tests}
+use Rattle.store.proofs.Common.{drop-drop, big_number, line_bytes, PageSize, entry_bytes, number_at, RecordLine, lines_from, lines_of, count_of, record_bytes, wrong_line, Area, Holds, HoldsFrom, gate_at, IsSound, follows, has_bank, KeptBank, place_of, area_bytes, IsRecordAt, IsCounted, IsLine, IsLineOf, Record, None, ◌≡◌, ℕ, zero, suc, ◌+◌, ◌*◌, ◌<◌, List, [], ◌∷◌, ◌++◌, length, take, drop, refl, sym, subst, ◌∙◌, ap, arith, Some, slice_get, nat_tests}
 use Rattle.store.proofs.AppendLemmas.{length-lines_from}
 
 -- where a record with these lines stands, in an area with this end, of a store with so many lines
@@ -45,11 +45,6 @@ line_there page (suc count) at bytes zero below =
     ap (λ (n : ℕ). Some (record { line = big_number 4 bytes; at = n; bytes = take (line_bytes page) (drop 4 bytes) })) place
     ∙ ap (λ (n : ℕ). Some (record { line = big_number 4 (drop n bytes); at = at + entry_bytes page * 0; bytes = take (line_bytes page) (drop 4 (drop n bytes)) })) none
 line_there page (suc count) at bytes (suc index) below = grind (arith, nat_tests, line_there page count (at + entry_bytes page) (drop (entry_bytes page) bytes) index, drop-drop)
-
--- what a value of one sort is, where it is of another
-pub if_ok : {T E : Type 0} (P Q : T → Type 0) (result : Result T E) → ((value : T) → P value → Q value) → IfOk result P → IfOk result Q
-if_ok P Q (Ok value) goes is = goes value is
-if_ok P Q (Err fault) goes is = tt
 
 module _ (held : List ℕ) (bank : KeptBank) (place area : ℕ) (at : IsRecordAt held bank place) (area_is : area ≡ place_of bank.which bank.bank_bytes + 8) where
   there : StandsAt bank.page held (length bank.newest) (area + bank.bank_bytes) (area + place) at.lines

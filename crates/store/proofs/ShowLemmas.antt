@@ -1,16 +1,11 @@
 -- What a store shows of bytes, and what these stand for.
-use Rattle.store.proofs.StoreCommon.{◌≡◌, ⊎_elim, ℕ, ◌+◌, ◌%◌, ◌^◌, ◌≤◌, List, [], ◌∷◌, ◌++◌, length, take, refl, sym, ◌∙◌, ap, subst, arith, IsSome, Option, None, fold, unwrap_or, Result, Ok, Err, IfErr, line_count, Header, bank_at, number_at, header_of, total, PageSize, Stands, Damaged, stands, standing_if, standing_by, HasHeader, IsStore, chosen, laid, home_of, stands_is, not_less, OnlyAsks, FewerLater, held_of, IsChosen, other, emptied, HoldsCommitted, ReopenFault, IsStoreOpenFault, IsStoreReopenFault, KeptStore, Fits, number_of, with_begun, Shows, IsStoreWith, IsReopened, TracksStore, ShownStands, nat_tests}
+use Rattle.store.proofs.Common.{◌≡◌, ℕ, ◌+◌, ◌%◌, ◌^◌, ◌≤◌, List, length, take, sym, ◌∙◌, ap, subst, arith, IsSome, Option, None, fold, line_count, Header, number_at, header_of, total, PageSize, Stands, Damaged, stands, standing_if, standing_by, HasHeader, IsStore, chosen, laid, home_of, stands_is, not_less, OnlyAsks, FewerLater, held_of, IsChosen, HoldsCommitted, ReopenFault, IsStoreOpenFault, IsStoreReopenFault, KeptStore, Fits, with_begun, Shows, IsStoreWith, IsReopened, TracksStore, ShownStands, nat_tests, bank_in, RecordLine, Holds, Faulty, base_of, bank_of, IsSure, HoldsRecords, store_bytes, ⊎_elim, [], ◌∷◌, ◌++◌, refl, unwrap_or, other, emptied, HoldsOneOf}
+use Rattle.store.specs.KeptStore.{number_of}
 use Rattle.store_format.specs.declared.header.Which.{Which}
-use Rattle.store_format.specs.declared.header.Which.TheVariants.{A, B}
-use Rattle.store_format.specs.Bank.{RecordLine, Holds, Faulty, base_of, bank_of, bank_held}
 use Rattle.outside.specs.declared.world.Outside.{Ghosts}
-use Rattle.outside.specs.Durable.{IsSure}
-use Rattle.store.specs.Kept.{KeptBank, area_end, place_of, end_of, begun_of, number_of as number_in}
-use Rattle.store.specs.Opened.{bank_in}
+use Rattle.store.specs.Kept.{KeptBank, area_end, end_of, begun_of, number_of as number_in}
 use Rattle.store.proofs.AppendLemmas.{place_is}
 use Rattle.store.specs.declared.fault.OpenFault.{OpenFault}
-use Rattle.store.specs.Tracks.{HoldsRecords, HoldsOneOf}
-use Rattle.store.specs.Home.{store_bytes}
 use Rattle.store.specs.Chosen as opened
 use Rattle.store.specs.declared.fault.ReopenFault.TheVariants as reopening
 use Rattle.store.specs.declared.fault.OpenFault.TheVariants as opening
@@ -18,11 +13,7 @@ use Rattle.store.specs.Tracks as journal
 
 -- the bank of a header is the one that such a bank's size says
 pub bank_is : (held : List ℕ) (header : Header) (which : Which) (page : PageSize) (bytes bound : ℕ) → header.directory.page ≡ page → header.bank_bytes ≡ bytes → line_count header.directory ≡ bound → bank_of held header which ≡ bank_in held page which bytes bound
-bank_is held header which page bytes bound sized same lines =
-    ap (λ (those : PageSize). bank_held held those (line_count header.directory) (bank_at header which) header.bank_bytes) sized
-    ∙ ap (λ (n : ℕ). bank_held held page n (bank_at header which) header.bank_bytes) lines
-    ∙ ap (λ (n : ℕ). bank_held held page bound n header.bank_bytes) (place_is header which bytes same)
-    ∙ ap (bank_held held page bound (place_of which bytes)) same
+bank_is held header which page bytes bound sized same lines = cc (sized, same, lines, place_is header which bytes same)
 
 -- what a store shows is a store with the records of its bank
 pub shown_store : (held : List ℕ) (store : KeptStore) (shows : Shows held store) → IsStore held store.header store.bank.which store.bank.base store.bank.gate shows.read.records
@@ -88,15 +79,8 @@ unfolding stands
 damaged_is held header which offset has chooses faulty =
     ap (λ (fault : Option ℕ). standing_if held fault (header_of (take 128 held))) has.sound
     ∙ ap (λ (those : Header). standing_if held None those) has.said
-    ∙ measured
-  where
-    chosen_bank : standing_by held header (base_of held header (chosen held)) (bank_of held header (chosen held)) ≡ Damaged offset
-    chosen_bank =
-        ap (λ (b : Which). standing_by held header (base_of held header b) (bank_of held header b)) chooses
-        ∙ ap (standing_by held header (base_of held header which)) faulty
-
-    measured : standing_if held None header ≡ Damaged offset
-    measured = rw (not_less (length held) (total header) (omega (arith, has.whole)), not_less (total header) (length held) (omega (arith, has.whole))) chosen_bank
+    ∙ rw (not_less (length held) (total header) (omega (arith, has.whole)), not_less (total header) (length held) (omega (arith, has.whole)))
+    (ap (λ (b : Which). standing_by held header (base_of held header b) (bank_of held header b)) chooses ∙ ap (standing_by held header (base_of held header which)) faulty)
 
 -- bytes that are sure stay sure while the disk is only asked
 pub sure_on : {W : Type 0} (G : Ghosts W) (fewer_later : FewerLater G) (old new : W) → IsSure G old → OnlyAsks G old new → IsSure G new
@@ -104,14 +88,12 @@ sure_on G fewer_later old new sure asks = grind (arith, nat_tests)
 
 -- what is wrong with the chosen bank is wrong with the store
 pub opening_fault : {W : Type 0} (G : Ghosts W) (old mid new : W) (header : Header) (fault : OpenFault) → OnlyAsks G old mid → (IsSome (G.held old) → HasHeader (held_of G old) header) → opened.IsChosenOpenFault G mid new header fault → IsStoreOpenFault G old new fault
-opening_fault G old mid new header (opening.NotAStore offset) asks has is = absurd is
 opening_fault G old mid new header (opening.Damaged offset) asks has is =
     λ told.
     let still : IsSome (G.held mid) = subst (λ (those : Option (List ℕ)). IsSome those) (sym asks.held) told in
     let same : held_of G mid ≡ held_of G old = ap (λ (those : Option (List ℕ)). unwrap_or those []) asks.held in
     damaged_is (held_of G old) header (chosen (held_of G old)) offset (has told) refl (ap (λ (held : List ℕ). bank_of held header (chosen held)) (sym same) ∙ is still)
-opening_fault G old mid new header opening.DiskFault asks has is = omega (arith, is, asks.calls.disk)
-opening_fault G old mid new header opening.Memory asks has is = tt
+opening_fault G old mid new header _ asks has is = grind (arith, nat_tests)
 
 -- the same of a store that is reopened
 pub reopening_fault : {W : Type 0} (G : Ghosts W) (old mid new : W) (header : Header) (bank : KeptBank) (fault : ReopenFault) → Fits header bank → OnlyAsks G old mid → opened.IsChosenReopenFault G mid new bank fault → IsStoreReopenFault G old new header fault
@@ -126,11 +108,6 @@ intact_fault G old new header (reopening.Damaged offset) told intact is =
     cc
 intact_fault G old new header reopening.DiskFault told intact is = refl
 
--- a fact on a fault that leads to another
-pub if_err : {T E : Type 0} (P Q : E → Type 0) (result : Result T E) → IfErr result P → ((fault : E) → P fault → Q fault) → IfErr result Q
-if_err P Q (Ok value) is leads = is
-if_err P Q (Err fault) is leads = leads fault is
-
 -- a chosen bank of the bytes of a store makes that store
 pub shows_read : (held : List ℕ) (header : Header) (bank : KeptBank) → HasHeader held header → Fits header bank → IsChosen held bank → Shows held (record { header = header; bank = bank })
 shows_read held header bank has fits read = record { header = has; chosen_is = read.chosen_is; read = read.read; fits = fits }
@@ -141,8 +118,7 @@ records_intact header which base records held is = record { which = which; base 
 
 -- a bank lies in front of the home lines
 pub end_inside : (header : Header) (which : Which) (bytes : ℕ) → header.bank_bytes ≡ bytes → end_of which bytes ≤ total header
-end_inside header A bytes same = omega (arith, same)
-end_inside header B bytes same = omega (arith, same)
+end_inside header which bytes same = grind (arith, nat_tests)
 
 pub bank_inside : (header : Header) (bank those : KeptBank) → those ≡ bank → Fits header bank → area_end those ≤ total header
 bank_inside header bank those same fits = subst (λ (that : KeptBank). area_end that ≤ total header) (sym same) (end_inside header bank.which bank.bank_bytes fits.bank_bytes)
@@ -152,14 +128,19 @@ pub reopened_holds : (held : List ℕ) (header : Header) (store : KeptStore) →
     → (gate : ℕ) × (records : List (List RecordLine)) × (bank_of held header (chosen held) ≡ Holds gate records) × (number_of store ≡ (base_of held header (chosen held) + length records) % 2 ^ 64)
 reopened_holds held header store same is =
     let bank = store.bank in
-    let bytes : header.bank_bytes ≡ bank.bank_bytes = ap (λ (that : Header). that.bank_bytes) (sym same) ∙ is.fits.bank_bytes in
-    let sized : header.directory.page ≡ bank.page = ap (λ (that : Header). that.directory.page) (sym same) ∙ is.fits.page in
-    let lines : line_count header.directory ≡ length bank.newest = ap (λ (that : Header). line_count that.directory) (sym same) ∙ is.fits.lines in
-    let base : base_of held header (chosen held) ≡ bank.base = ap (base_of held header) is.chosen_is ∙ ap (λ (n : ℕ). number_at held n 8) (place_is header bank.which bank.bank_bytes bytes) ∙ is.read.base in (
+    let fits = is.fits in
+    let base : base_of held store.header (chosen held) ≡ bank.base =
+    ap (base_of held store.header) is.chosen_is ∙ ap (λ (n : ℕ). number_at held n 8) (place_is store.header bank.which bank.bank_bytes fits.bank_bytes) ∙ is.read.base in
+    subst
+    (λ (that : Header). (gate : ℕ) × (records : List (List RecordLine)) × (bank_of held that (chosen held) ≡ Holds gate records)
+    × (number_of store ≡ (base_of held that (chosen held) + length records) % 2 ^ 64))
+    same (
       bank.gate,
       is.read.records,
-      ap (bank_of held header) is.chosen_is ∙ bank_is held header bank.which bank.page bank.bank_bytes (length bank.newest) sized bytes lines ∙ is.read.holds,
-      ap (λ (n : ℕ). (bank.base + n) % 2 ^ 64) (sym is.read.count) ∙ ap (λ (n : ℕ). (n + length is.read.records) % 2 ^ 64) (sym base),
+      ap (bank_of held store.header) is.chosen_is
+          ∙ bank_is held store.header bank.which bank.page bank.bank_bytes (length bank.newest) fits.page fits.bank_bytes fits.lines
+          ∙ is.read.holds,
+      cc (is.read.count, base),
     )
 
 -- bytes that a commit leaves are intact

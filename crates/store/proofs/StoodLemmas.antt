@@ -1,5 +1,7 @@
 -- The committed bytes of a store that bytes show.
-use Rattle.store.proofs.StoreCommon.{◌≡◌, ℕ, List, length, sym, ◌∙◌, fold, byte_count, byte_count-lines, Stands, stands, laid, home_of, stands_is, store_agrees, KeptStore, number_of, Shows}
+use Rattle.store.proofs.Common.{◌≡◌, ℕ, List, length, sym, ◌∙◌, fold, byte_count, byte_count-lines, Stands, stands, laid, home_of, stands_is, KeptStore, Shows}
+use Rattle.store.proofs.Newest.{store_agrees}
+use Rattle.store.specs.KeptStore.{number_of}
 use Rattle.lines.specs.FlatStore.{FlatStore}
 use Rattle.store.proofs.ShowLemmas.{shown_store}
 

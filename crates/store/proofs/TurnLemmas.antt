@@ -38,8 +38,6 @@ turned_fields which bank base at newest = record { which = which; page = bank.pa
 pub turned_is : (which : Which) (bank : Inside) (kept : KeptBank) (base at : ℕ) (newest : List (Option ℕ)) → kept_of bank ≡ kept → base ≡ (bank.base + bank.count) % 2 ^ 64 → at ≡ place_of which bank.bank_bytes → newest ≡ replicate (length bank.newest) None
     → kept_of (turned_fields which bank base at newest) ≡ turned which kept
 turned_is which bank kept base at newest is base_is at_is newest_is =
-    ap (λ (n : ℕ). kept_of (turned_fields which bank n at newest)) base_is
-    ∙ ap (λ (n : ℕ). kept_of (turned_fields which bank ((bank.base + bank.count) % 2 ^ 64) n newest)) at_is
-    ∙ ap (λ (these : List (Option ℕ)). kept_of (turned_fields which bank ((bank.base + bank.count) % 2 ^ 64) (place_of which bank.bank_bytes) these)) newest_is
-    ∙ ap (λ (lines : Option (List RecordLine)). record (turned which (kept_of bank)) { begun = lines }) (begun_placed bank.begun bank (place_of which bank.bank_bytes))
-    ∙ ap (turned which) is
+    rw (base_is, at_is, newest_is)
+    (ap (λ (lines : Option (List RecordLine)). record (turned which (kept_of bank)) { begun = lines })
+    (begun_placed bank.begun bank (place_of which bank.bank_bytes)) ∙ ap (turned which) is)

@@ -1,15 +1,95 @@
--- What a commit leaves, which makes its own room.
-use Rattle.std.specs.Prelude.{◌≡◌, ◌⊎◌, ℕ, ◌+◌, ◌%◌, ◌^◌, nat_lt, if◌then◌else◌, List, []}
-use Rattle.store.specs.Below.{Ghosts, Header, held_of, Leaves, RecordLine}
+-- Which bytes a checkpoint and a commit write, home lines, and what a checkpoint leaves, and a commit, which makes its own room.
+use Rattle.std.specs.Prelude.{◌≡◌, ◌⊎◌, ℕ, ◌+◌, ◌%◌, ◌^◌, nat_lt, if◌then◌else◌, List, [], ◌<◌, ◌≤◌, length, slice_index, Some, ◌*◌, take, Option, None, Result, Ok, Err}
+use Rattle.store.specs.Below.{Ghosts, Header, held_of, Leaves, RecordLine, bank_at, home_at, line_bytes, line_count, Which, B, bytes_at, Torn, written, area_at, Failed, header_of, IsStore, IsSure, stands}
 use Rattle.store.specs.declared.keep.Kept.{Kept}
 use Rattle.store.specs.declared.keep.Kept.TheVariants.{Done, Unwritten, Doubt}
 use Rattle.store.specs.Appended.{CountsKept, FailedLeaves}
 use Rattle.store.specs.Held.{IsMoreBy, OnlyWrites}
-use Rattle.store.specs.Kept.{KeptBank, SameShape, area_end, needed_end, number_of, begun_of, spoilt, with_record}
-use Rattle.store.specs.Tracks.{HoldsOneOf, IsAppended, IsEither, TracksBank}
+use Rattle.store.specs.Kept.{KeptBank, SameShape, area_end, needed_end, number_of, begun_of, spoilt, with_record, newest_place, end_of, line_bytes_of}
+use Rattle.store.specs.Tracks.{HoldsOneOf, IsAppended, IsEither, TracksBank, HoldsRecords}
 use Rattle.store.specs.Turned.{turned}
 use Rattle.store.specs.Chosen.{other}
-use Rattle.store.specs.Apart.{IsSameBut, IsCommitOffset}
+
+-- The image is as long as the old one, and has the same byte at each offset but these.
+pub record IsSameBut (offsets : ℕ → Type 0) (old image : List ℕ) : Type 0 where
+  pub long : length image ≡ length old
+  pub same : (at : ℕ) → (¬ (offsets at)) → slice_index image at ≡ slice_index old at
+
+-- The offset lies in the home of a line that records have.
+pub record IsHomeOffset (header : Header) (records : List (List RecordLine)) (at : ℕ) : Type 0 where
+  pub line : ℕ
+  pub place : ℕ
+  pub below : line < line_count header.directory
+  pub there : newest_place line records ≡ Some place
+  pub from : home_at header line ≤ at
+  pub to : at < home_at header line + line_bytes header.directory.page
+
+-- it lies there, in the base number or the first gate of the other bank, or is that of the selector
+abbrev pub IsCheckpointOffset : Header → Which → List (List RecordLine) → ℕ → Type 0
+IsCheckpointOffset header which records at =
+    IsHomeOffset header records at ⊎ (((bank_at header (other which) ≤ at) × (at < bank_at header (other which) + 9)) ⊎ (at ≡ 128))
+
+-- it lies in the begun record or a gate beside it, in the bank that the record is added to, or, where that is the other bank, it is one of the checkpoint in front
+abbrev pub IsCommitOffset : Header → (there bank : KeptBank) → List (List RecordLine) → ℕ → Type 0
+IsCommitOffset header there bank records at =
+    ((there.gate ≤ at) × (at < needed_end there)) ⊎ ((there.which ≡ other bank.which) × IsCheckpointOffset header bank.which records at)
+
+-- where the home of a line is, in a store whose banks are like this one
+abbrev pub home_place : KeptBank → ℕ → ℕ
+home_place bank line = end_of B bank.bank_bytes + line_bytes_of bank * line
+
+-- how many bytes a store has whose banks are like this one
+abbrev pub store_bytes : KeptBank → ℕ
+store_bytes bank = home_place bank (length bank.newest)
+
+-- the bytes of a line's home
+abbrev pub home_line : Header → List ℕ → ℕ → List ℕ
+home_line header image line = bytes_at image (home_at header line) (line_bytes header.directory.page)
+
+-- bytes of a disk after the newest bytes of a line, so many, were written to a place, where there are any
+abbrev pub copied : ℕ → List ℕ → Option ℕ → ℕ → List ℕ
+copied bytes held None at = held
+copied bytes held (Some from) at = written held at (bytes_at held from bytes)
+
+-- what a crash leaves of it
+abbrev pub TornLine : ℕ → Option ℕ → ℕ → List ℕ → List ℕ → Type 0
+TornLine bytes None at old new = new ≡ old
+TornLine bytes (Some from) at old new = Torn at bytes old new
+
+-- The image is the one held but for the home lines of lines that records have.
+pub record IsCovered (header : Header) (records : List (List RecordLine)) (held image : List ℕ) : Type 0 where
+  pub front : take (home_at header 0) image ≡ take (home_at header 0) held
+  pub others : (line : ℕ) → line < line_count header.directory → newest_place line records ≡ None → home_line header image line ≡ home_line header held line
+  pub apart : IsSameBut (IsHomeOffset header records) held image
+
+-- And up to a line each line that they have is at home.
+pub record IsHomed (header : Header) (records : List (List RecordLine)) (held : List ℕ) (upto : ℕ) (image : List ℕ) : Type 0 where
+  pub covered : IsCovered header records held image
+  pub homed : (line place : ℕ) → line < upto → line < line_count header.directory → newest_place line records ≡ Some place → home_line header image line ≡ bytes_at held place (line_bytes header.directory.page)
+
+-- The image stands for what was held, by its old bank or by the other one without records, and is what was held at each offset that a checkpoint doesn't write.
+pub record IsSame (header : Header) (bank : KeptBank) (records : List (List RecordLine)) (held image : List ℕ) : Type 0 where
+  pub stood : stands image ≡ stands held
+  pub one_of : HoldsRecords header bank.which bank.base records image ⊎ HoldsRecords header (other bank.which) (number_of bank) [] image
+  pub apart : IsSameBut (IsCheckpointOffset header bank.which records) held image
+
+-- The other bank is chosen, has the number as its base and no records; all is sure and stands for what stood.
+pub record IsMoved {W : Type 0} (G : Ghosts W) (header : Header) (bank : KeptBank) (old new : W) : Type 0 where
+  pub sure : IsSure G new
+  pub stood : stands (held_of G new) ≡ stands (held_of G old)
+  pub store : IsStore (held_of G new) header (other bank.which) (number_of bank) (area_at header (other bank.which)) []
+
+-- what is kept after a checkpoint: the other bank, or where it failed this one, which is to be reopened
+abbrev pub bank_checkpointed : Result (Unit {0}) Failed → KeptBank → KeptBank
+bank_checkpointed (Ok done) bank = turned (other bank.which) bank
+bank_checkpointed (Err failed) bank = spoilt bank
+
+-- The bank turned to is tracked, and the bytes stand for what they did. Each crash image of the moment has the number as its base, and no record.
+pub record IsCheckpointed {W : Type 0} (G : Ghosts W) (old_bank bank : KeptBank) (old new : W) : Type 0 where
+  pub tracks : TracksBank G bank new
+  pub stood : stands (held_of G new) ≡ stands (held_of G old)
+  pub header : header_of (take 128 (held_of G new)) ≡ header_of (take 128 (held_of G old))
+  pub emptied : Leaves G (λ image seen. HoldsRecords (header_of (take 128 (held_of G old))) (other old_bank.which) (number_of old_bank) [] image) new new
 
 -- the bank after a checkpoint
 abbrev pub emptied : KeptBank → KeptBank

@@ -1,6 +1,6 @@
--- What calls of a disk that may write keep.
-use Rattle.std.specs.Prelude.{◌≡◌, ℕ, ◌+◌, ◌≤◌, List, length, Option, Some, IsSome, IsTrue, Result}
-use Rattle.store.specs.Below.{CallsDisk, CountsWrite, Failed, FailsOnlyCounted, ForSome, Ghosts, LeavesStep, Torn, Writes}
+-- What calls of a disk that may write keep, and a body behind a gate.
+use Rattle.std.specs.Prelude.{◌≡◌, ℕ, ◌+◌, ◌≤◌, List, length, Option, Some, IsSome, IsTrue, Result, ◌==◌, Bool, true, false, take, drop, slice_index}
+use Rattle.store.specs.Below.{CallsDisk, CountsWrite, Failed, FailsOnlyCounted, ForSome, Ghosts, LeavesStep, Torn, Writes, held_of, IsSure}
 
 -- where the bytes are told, at least so many are held
 abbrev pub HoldsAtLeast : {W : Type 0} → Ghosts W → ℕ → W → Type 0
@@ -24,3 +24,29 @@ pub record WritesOnce {W : Type 0} (G : Ghosts W) {T : Type 0} (at : ℕ) (bytes
   pub counted : CountsWrite (G.writes old) (G.writes new) result
   pub crash : IsTrue (G.is_honest old) → IsSome (G.held old) → LeavesStep (Torn at (length bytes)) G.moment G.left_since old new
   pub cause : FailsOnlyCounted (G.disk_faults old) (G.disk_faults new) result
+
+-- whether the gate at an offset is open
+abbrev pub is_open : ℕ → List ℕ → Bool
+is_open gate image = slice_index image gate == 0xA5
+
+-- the body stands behind the gate
+abbrev pub HasBody : ℕ → List ℕ → List ℕ → Type 0
+HasBody gate body image = take (length body) (drop (gate + 1) image) ≡ body
+
+-- the bytes are sure, with this gate shut
+pub record IsShut {W : Type 0} (G : Ghosts W) (gate : ℕ) (outside : W) : Type 0 where
+  pub sure : IsSure G outside
+  pub shut : is_open gate (held_of G outside) ≡ false
+
+-- The image is the old one but for the gate and the range of the body, and an open gate has the whole body behind it.
+pub record IsSafe (gate : ℕ) (body old image : List ℕ) : Type 0 where
+  pub front : take gate image ≡ take gate old
+  pub behind : drop (gate + 1 + length body) image ≡ drop (gate + 1 + length body) old
+  pub long : length image ≡ length old
+  pub whole : is_open gate image ≡ true → HasBody gate body image
+
+-- the gate is open on the disk, with the body behind it
+pub record IsKept {W : Type 0} (G : Ghosts W) (gate : ℕ) (body : List ℕ) (old new : W) : Type 0 where
+  pub sure : IsSure G new
+  pub safe : IsSafe gate body (held_of G old) (held_of G new)
+  pub shown : is_open gate (held_of G new) ≡ true

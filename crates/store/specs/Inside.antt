@@ -2,8 +2,7 @@
 use Rattle.std.specs.Prelude.{◌≡◌, ℕ, ◌+◌, ◌*◌, ◌<◌, ◌≤◌, ◌^◌, List, length, drop, None, unwrap_or}
 use Rattle.store.specs.Below.{entry_bytes, lines_from, option_map, RecordLine, wrong_line}
 use Rattle.store.specs.declared.redo_journal.Bank.TheInside.{Inside}
-use Rattle.store.specs.Kept.{KeptBank, end_of}
-use Rattle.store.specs.Noted.{AreWithin}
+use Rattle.store.specs.Kept.{KeptBank, end_of, AreWithin}
 
 -- so many lines of the buffer
 abbrev pub buffered : Inside → ℕ → List RecordLine

@@ -1,7 +1,5 @@
 pub mod Below
 pub mod Held
-pub mod Gate
-pub mod Noted
 pub mod Kept
 pub mod Inside
 pub mod Read
@@ -11,11 +9,7 @@ pub mod Tracks
 pub mod Appended
 pub mod Turned
 pub mod Chosen
-pub mod Apart
-pub mod Home
-pub mod Moved
 pub mod Committed
 pub mod KeptStore
 pub mod Shows
 pub mod Faults
-pub mod Page

@@ -5,8 +5,7 @@ use Rattle.store.specs.declared.fault.OpenFault.{OpenFault}
 use Rattle.store.specs.declared.fault.OpenFault.TheVariants as opening
 use Rattle.store.specs.declared.fault.ReopenFault.{ReopenFault}
 use Rattle.store.specs.declared.fault.ReopenFault.TheVariants as reopening
-use Rattle.store.specs.Kept.{KeptBank, place_of}
-use Rattle.store.specs.Noted.{AreNewest, IsNowhere}
+use Rattle.store.specs.Kept.{KeptBank, place_of, AreNewest, IsNowhere}
 
 -- what these bytes hold where such a bank of a store with pages of a size and so many lines lies
 abbrev pub bank_in : List ℕ → PageSize → Which → (bank_bytes bound : ℕ) → Bank

@@ -6,7 +6,7 @@ use Rattle.store.specs.declared.read.Gate.{Gate}
 use Rattle.store.specs.declared.read.Gate.TheVariants.{Closed, Wrong, Sound}
 use Rattle.store.specs.declared.read.Found.{Found}
 use Rattle.store.specs.declared.read.Found.TheVariants.{Holds, Faulty}
-use Rattle.store.specs.Noted.{noted}
+use Rattle.store.specs.Kept.{noted}
 
 -- a next gate lies a record behind this one, in an area with this end
 abbrev pub IsNext : (gate end : ℕ) → Gate → Type 0

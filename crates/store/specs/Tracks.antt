@@ -1,8 +1,7 @@
 -- What a bank that is kept says of the bytes on the disk.
 use Rattle.std.specs.Prelude.{◌≡◌, ◌⊎◌, ℕ, List, [], ◌∷◌, ◌++◌, length, take}
 use Rattle.store.specs.Below.{Ghosts, Header, header_of, held_of, IsStore, IsSure, line_count, one_more, RecordLine, stands, Which}
-use Rattle.store.specs.Kept.{KeptBank, begun_of}
-use Rattle.store.specs.Noted.{AreNewest}
+use Rattle.store.specs.Kept.{KeptBank, begun_of, AreNewest}
 
 -- The bytes held are sure and stand, and what is kept is what they say of their chosen bank.
 pub record TracksBank {W : Type 0} (G : Ghosts W) (bank : KeptBank) (outside : W) : Type 0 where

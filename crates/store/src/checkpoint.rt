@@ -5,9 +5,7 @@ ghost use Rattle.store.specs.Held.{HoldsAtLeast, OnlyWrites};
 ghost use Rattle.store.specs.Tracks.{TracksBank};
 ghost use Rattle.store.specs.Appended.{Appends, TakesLine};
 ghost use Rattle.store.specs.Chosen.{other, IsChosen, IsOneOf, IsStoreLike, IsChosenReopenFault, IsChosenOpenFault};
-ghost use Rattle.store.specs.Committed.{emptied, roomy, Commits};
-ghost use Rattle.store.specs.Home.{store_bytes};
-ghost use Rattle.store.specs.Moved.{IsSame, IsMoved, IsCheckpointed, bank_checkpointed};
+ghost use Rattle.store.specs.Committed.{emptied, roomy, Commits, store_bytes, IsSame, IsMoved, IsCheckpointed, bank_checkpointed};
 
 use super::fault::{OpenFault, ReopenFault};
 use super::keep::{Appended, Kept};

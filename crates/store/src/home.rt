@@ -5,7 +5,7 @@ ghost use Rattle.store.specs.Below.{bytes_at, FailsOnlyCounted, held_of, Leaves,
 ghost use Rattle.store.specs.Held.{HoldsAtLeast, OnlyWrites};
 ghost use Rattle.store.specs.Kept.{line_bytes_of};
 ghost use Rattle.store.specs.Tracks.{TracksBank};
-ghost use Rattle.store.specs.Home.{home_place, store_bytes, copied, TornLine, IsCovered, IsHomed};
+ghost use Rattle.store.specs.Committed.{home_place, store_bytes, copied, TornLine, IsCovered, IsHomed};
 
 use super::keep::write_once;
 use super::redo_journal::Bank;

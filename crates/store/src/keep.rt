@@ -2,8 +2,7 @@
 ghost use Rattle.std.specs.Prelude.{◌≡◌, ◌+◌, ◌≤◌, ◌<◌, ◌^◌, length, false, None, Some, OnOk};
 ghost use Rattle.store.specs.Below.{FailsOnlyCounted, held_of, IsSure, IsWritten, Leaves, option_map, Torn};
 ghost use Rattle.store.specs.Appended.{CountsKept, kept_in};
-ghost use Rattle.store.specs.Held.{HoldsAtLeast, OnlyWrites, WritesOnce};
-ghost use Rattle.store.specs.Gate.{is_open, HasBody, IsShut, IsSafe, IsKept};
+ghost use Rattle.store.specs.Held.{HoldsAtLeast, OnlyWrites, WritesOnce, is_open, HasBody, IsShut, IsSafe, IsKept};
 
 use outside::{Failed, Outside};
 

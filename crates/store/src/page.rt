@@ -2,8 +2,7 @@
 ghost use Rattle.std.specs.Prelude.{◌≡◌, ◌+◌, ◌≤◌, ◌<◌, length, slice_index_or, None, IsSome, IfSome, OnOk};
 ghost use Rattle.store.specs.Below.{bytes_at, FailsOnlyCounted, held_of, OnlyAsks, overlaid};
 ghost use Rattle.store.specs.Held.{HoldsAtLeast};
-ghost use Rattle.store.specs.Kept.{area_end, line_bytes_of};
-ghost use Rattle.store.specs.Page.{newest_over};
+ghost use Rattle.store.specs.Kept.{area_end, line_bytes_of, newest_over};
 
 use super::checkpoint::Banks;
 use outside::{Failed, Outside};

@@ -1,7 +1,7 @@
 // Reading the records of a bank.
 ghost use Rattle.std.specs.Prelude.{◌≡◌, ℕ, ◌+◌, ◌*◌, ◌==◌, ◌≤◌, ◌<◌, ◌^◌, length, drop, slice_index, None, IsSome, IfOk};
 ghost use Rattle.store.specs.Below.{bank_held, entry_bytes, FailsOnlyCounted, gate_if, held_of, lines_from, number_at, OnlyAsks, wrong_line};
-ghost use Rattle.store.specs.Noted.{noted, AreWithin};
+ghost use Rattle.store.specs.Kept.{noted, AreWithin};
 ghost use Rattle.store.specs.Held.{HoldsAtLeast};
 ghost use Rattle.store.specs.Read.{IsGate, IsNext, IsBank, IsClosedIn};
 

@@ -1,7 +1,7 @@
 // The bytes of a record.
 ghost use Rattle.std.specs.Prelude.{◌≡◌, ℕ, ◌+◌, ◌*◌, ◌++◌, ◌≤◌, ◌<◌, ◌^◌, length, take, drop, replicate, slice_index, None};
 ghost use Rattle.store.specs.Below.{big_bytes, entry_bytes, lines_from, number_at, wrong_line};
-ghost use Rattle.store.specs.Noted.{noted, AreWithin};
+ghost use Rattle.store.specs.Kept.{noted, AreWithin};
 ghost use Rattle.store.specs.Turned.{head_bytes};
 
 use byteorder::{BigEndian, ByteOrder};

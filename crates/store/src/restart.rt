@@ -7,9 +7,8 @@ ghost use Rattle.store.specs.Kept.{KeptBank, area_end, begun_of, needed_end, wit
 ghost use Rattle.store.specs.Records.{ReadsRecord, ReadsLine};
 ghost use Rattle.store.specs.Tracks.{IsEither};
 ghost use Rattle.store.specs.KeptStore.{KeptStore, number_of};
-ghost use Rattle.store.specs.Moved.{IsSame, bank_checkpointed};
+ghost use Rattle.store.specs.Committed.{IsSame, bank_checkpointed, roomy, number_after, IsKeptAfter, LeavesCommitted};
 ghost use Rattle.store.specs.Shows.{Shows, IsShown, IsStoreWith, IsReopened, TracksStore, IsCommitted, IsEmptied, page_in};
-ghost use Rattle.store.specs.Committed.{roomy, number_after, IsKeptAfter, LeavesCommitted};
 ghost use Rattle.store.specs.Faults.{IsStoreOpenFault, IsStoreReopenFault};
 
 use super::checkpoint::Banks;

@@ -1,9 +1,6 @@
 pub mod Common
 pub mod ShowLemmas
-pub mod ShownLemmas
-pub mod NameLemmas
 pub mod WrittenLemmas
 pub mod RenewLemmas
 pub mod Lemmas
-pub mod BundleLemmas
 pub mod PromiseLemmas

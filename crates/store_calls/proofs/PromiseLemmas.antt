@@ -1,13 +1,16 @@
 -- A bundle that has what a call needs.
-use Rattle.store_calls.proofs.Common.{◌≡◌, ◌⊎◌, ℕ, List, inl, inr, refl, subst, ap, Option, IsFirstBad, job_of, IsBundle, Bundle, IsFaultAt, IsStanding, IsWholeBundle, Status, read_whole, AuditedBy, CanAudit, IsOfAudit, HasBundle, IsBadClosing, IsNoJob, IsWrongPart, part_of, CanTrace, IsOfTrace, TracedBy, Ghosts}
+use Rattle.store_calls.proofs.Common.{◌≡◌, ◌⊎◌, ℕ, List, inl, inr, subst, ap, Option, IsFirstBad, job_of, IsBundle, Bundle, IsFaultAt, IsStanding, IsWholeBundle, Status, read_whole, AuditedBy, CanAudit, IsOfAudit, HasBundle, IsBadClosing, IsNoJob, IsWrongPart, part_of, CanTrace, IsOfTrace, TracedBy, Ghosts, Result, IsErr, IsErrAnd, MatchResult, arith, nat_tests, refl}
 use Rattle.serial_audit.proofs.OneLemmas.{has_one_splitting}
 use Rattle.serial_audit.specs.declared.answer.TraceFault.TheVariants as fault
 use Rattle.call_status.specs.declared.status.Status.TheVariants as status
 
+-- a status that is handed on
+pub handed_on : {T : Type 0} (Good : T → Type 0) (Bad : Status → Type 0) (result : Result T Status) (status : Status) → IsErr result × IsErrAnd result (λ other. other ≡ status) → Bad status → MatchResult result Good Bad
+handed_on Good Bad result status is bad = grind (arith, nat_tests)
+
 -- bytes that stand have no fault
 stands_well : (bytes : List ℕ) (offset : ℕ) → IsStanding bytes → IsFaultAt bytes offset → ⊥
-stands_well bytes offset stood (inl is) = let those = stood.2 in cc
-stands_well bytes offset stood (inr is) = let those = stood.2 in cc
+stands_well bytes offset stood fault = grind (arith, nat_tests)
 
 module _ (left left_now : Option (List ℕ)) (has : HasBundle left) where
   -- what was read is the bundle

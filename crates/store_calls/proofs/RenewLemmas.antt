@@ -89,13 +89,8 @@ module _ {W : Type 0} (G : Ghosts W) (bank : ℕ) (given : Given) (before after 
 
   pub renewed_by_writing : (now : Status) → IsOfWriting now → Written G (renewed_image bank old.number (flat_of old)) (renew_line (length (renewed_image bank old.number (flat_of old))) old.number) (call before after [] now)
       → Renewed G bank given (call before after [] now)
-  renewed_by_writing status.Done of written = renewed_so status.Done written (renewed_from status.Done written)
-  renewed_by_writing status.PutFault of written = renewed_so status.PutFault written (renewed_from status.PutFault written)
-  renewed_by_writing status.DiskFault of written = renewed_so status.DiskFault written (renewed_from status.DiskFault written)
-  renewed_by_writing _ of written = absurd of
+  renewed_by_writing now of written = grind (arith, nat_tests, renewed_so, renewed_from)
 
   pub renewed_no_empty : (now : Status) → IsNoEmpty G before after now → Written G (renewed_image bank old.number (flat_of old)) (renew_line (length (renewed_image bank old.number (flat_of old))) old.number) (call before after [] now)
       → Renewed G bank given (call before after [] now)
-  renewed_no_empty status.DiskFault why written = renewed_so status.DiskFault written (renewed_from status.DiskFault written)
-  renewed_no_empty status.Exists why written = renewed_so status.Exists written (renewed_from status.Exists written)
-  renewed_no_empty _ why written = absurd why
+  renewed_no_empty now why written = grind (arith, nat_tests, renewed_so, renewed_from)

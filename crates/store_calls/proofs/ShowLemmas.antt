@@ -1,9 +1,13 @@
--- Calls that ask the disk, and puts, one after another.
-use Rattle.store_calls.proofs.Common.{Option, IsSome, Result, Ok, Err, div_ceil, cases_lt, drop-drop, drop-take, div-add-mod', PageSize, page_bytes, Ghosts, Failed, Prints, AsksAndPuts, OnlyAsks, FewerLater, held_of, held_same, shows_asks, shows_none, shows_on, shows_puts, stands_is, Standing, Stands, NotAStore, Damaged, stands, shown_store, IsShown, Shows, page_in, row_lines, Puts, PutsTimes, Status, AreRead, HasRead, PutsBytes, PutsDone, StopsBy, bytes_in, nat_tests, ◌≡◌, ◌≤◌, ◌<◌, ◌+◌, ◌-◌, ◌*◌, ◌/◌, ◌%◌, ⊎_elim, ℕ, zero, suc, List, [], ◌∷◌, ◌++◌, length, take, drop, refl, sym, ◌∙◌, ap, subst, arith, append-nil, length-append, prints_broken, prints_none, prints_on, prints_stop, prints_same, prints_unput}
+-- Calls that ask the disk, and puts, one after another, and what printing a range of a store did.
+use Rattle.store_calls.proofs.Common.{Option, IsSome, Result, Ok, Err, div_ceil, cases_lt, drop-drop, drop-take, div-add-mod', PageSize, page_bytes, Ghosts, Failed, Prints, AsksAndPuts, OnlyAsks, FewerLater, held_of, held_same, shows_asks, shows_none, shows_on, shows_puts, stands_is, Standing, Stands, NotAStore, Damaged, stands, shown_store, IsShown, Shows, page_in, row_lines, Puts, PutsTimes, Status, AreRead, HasRead, PutsBytes, PutsDone, StopsBy, bytes_in, nat_tests, ◌≡◌, ◌≤◌, ◌<◌, ◌+◌, ◌-◌, ◌*◌, ◌/◌, ◌%◌, ⊎_elim, ℕ, List, [], ◌++◌, length, take, drop, refl, sym, ◌∙◌, ap, subst, arith, append-nil, length-append, prints_broken, prints_none, prints_on, prints_stop, prints_same, prints_unput, ◌⊎◌, inl, inr, IsTrue, unwrap_or, AreTold, bytes_at, leaves_on, Layout, start_of, FlatStore, call, Range, HasRange, IsInside, RangeShown, ShownBy, rows_of, Leaves, leaves_held, TracksStore, take-take, drop_all, take_all}
 use Rattle.std.proofs.Math.Seq.{take-add}
 use Rattle.store.specs.KeptStore.{KeptStore}
 use Rattle.listing.proofs.RowLemmas.{rows_on}
 use Rattle.call_status.specs.declared.status.Status.TheVariants as status
+use Rattle.store.specs.declared.fault.OpenFault.{OpenFault}
+use Rattle.store.specs.declared.fault.OpenFault.TheVariants as open_fault
+use Rattle.store.specs.Faults.{IsStoreOpenFault}
+use Rattle.call_status.specs.Statuses.{status_of_open}
 
 abbrev pub went : Result (Unit {0}) Failed
 went = Ok tt
@@ -22,22 +26,13 @@ module _ {W : Type 0} (G : Ghosts W) (fewer_later : FewerLater G) where
   pub still_shown : (store : KeptStore) (old new : W) → IsShown G store old → AsksAndPuts G old new → IsShown G store new
   still_shown store old new shown shows = grind (arith, nat_tests)
 
-take_shorter : (n m : ℕ) (xs : List ℕ) → n ≤ m → take n (take m xs) ≡ take n xs
-take_shorter (suc n) zero xs le = absurd (omega arith)
-take_shorter (suc n) (suc m) (x ∷ xs) le = ap (λ (rest : List ℕ). x ∷ rest) (take_shorter n m xs (omega arith))
-take_shorter _ _ _ le = refl
-
 -- bytes from a place on, and those behind them
 pub bytes_on : (standing : Standing) (at first second : ℕ) → bytes_in standing at (first + second) ≡ bytes_in standing at first ++ bytes_in standing (at + first) second
 bytes_on (Stands number store) at first second = take-add first second (drop at store.bytes) ∙ ap (λ (these : List ℕ). take first (drop at store.bytes) ++ take second these) (drop-drop first at store.bytes)
 bytes_on _ at first second = refl
 
 pub none_in : (standing : Standing) (at : ℕ) → bytes_in standing at 0 ≡ []
-none_in (Stands number store) at = refl
-none_in _ at = refl
-
-prints_front : (old new : Option (List ℕ)) (first second : List ℕ) → Prints old new first broke → Prints old new (first ++ second) broke
-prints_front old new first second prints = prints_stop old new first second broke broke refl refl prints
+none_in standing at = grind (arith, nat_tests)
 
 -- a part was printed behind others of whole rows
 module _ {W : Type 0} (G : Ghosts W) (fewer_later : FewerLater G) (store : KeptStore) (at offset done part count : ℕ) (old mid new : W)
@@ -82,16 +77,13 @@ module _ {W : Type 0} (G : Ghosts W) (fewer_later : FewerLater G) (store : KeptS
   pub parts-long : HasRead G store (at + done) part mid new (Ok tt) → IsShown G store old → length (bytes_in (stands (held_of G old)) at (done + part)) ≡ done + part
   parts-long reads shown = grind (arith, nat_tests, part-long, bytes_on, length-append)
 
-  -- the bytes of what is left begin with the part's
-  rest-bytes : bytes_of (at + done) (count - done) ≡ bytes_of (at + done) part ++ bytes_of (at + done + part) (count - done - part)
-  rest-bytes =
-      let both : count - done ≡ part + (count - done - part) = omega (arith, inside) in
-      ap (bytes_of (at + done)) both ∙ bytes_on (stands (held_of G old)) (at + done) part (count - done - part)
-
-  -- and so do their rows, where the part's bytes are there
+  -- the rows of what is left begin with the part's, where the part's bytes are there
   rest-rows : length (bytes_of (at + done) part) ≡ part
       → row_lines (offset + done) (bytes_of (at + done) (count - done)) ≡ row_lines (offset + done) (bytes_of (at + done) part) ++ row_lines (offset + done + 2048) (bytes_of (at + done + part) (count - done - part))
-  rest-rows all = ap (row_lines (offset + done)) rest-bytes ∙ ⊎_elim more last (cases_lt (done + part) count)
+  rest-rows all =
+      let both : count - done ≡ part + (count - done - part) = omega (arith, inside) in
+      ap (row_lines (offset + done)) (ap (bytes_of (at + done)) both ∙ bytes_on (stands (held_of G old)) (at + done) part (count - done - part))
+      ∙ ⊎_elim more last (cases_lt (done + part) count)
     where
       more : done + part < count → row_lines (offset + done) (bytes_of (at + done) part ++ bytes_of (at + done + part) (count - done - part)) ≡ row_lines (offset + done) (bytes_of (at + done) part) ++ row_lines (offset + done + 2048) (bytes_of (at + done + part) (count - done - part))
       more lt = rows_on 128 (offset + done) (bytes_of (at + done) part) (bytes_of (at + done + part) (count - done - part)) (omega (arith, all, full lt))
@@ -111,7 +103,8 @@ module _ {W : Type 0} (G : Ghosts W) (fewer_later : FewerLater G) (store : KeptS
       (λ read.
       prints_same (G.printed mid) (G.printed new) (row_lines (offset + done) (bytes_of (at + done) part) ++ row_lines (offset + done + 2048) (bytes_of (at + done + part) (count - done - part))) (row_lines (offset + done) (bytes_of (at + done) (count - done))) broke
       (sym (rest-rows (part-long read shown)))
-      (prints_front (G.printed mid) (G.printed new) (row_lines (offset + done) (bytes_of (at + done) part)) (row_lines (offset + done + 2048) (bytes_of (at + done + part) (count - done - part))) (part-puts (Err status) puts shown)))
+      (prints_stop (G.printed mid) (G.printed new) (row_lines (offset + done) (bytes_of (at + done) part)) (row_lines (offset + done + 2048) (bytes_of (at + done + part) (count - done - part)))
+      broke broke refl refl (part-puts (Err status) puts shown)))
       reads
 
   pub parts_stop : (why : Status) → PutsBytes G store (at + done) (offset + done) part mid new (Err why) → HasRead G store (at + done) part mid new (Err why) → PutsBytes G store at offset count old new (Err why)
@@ -174,12 +167,6 @@ module _ {W : Type 0} (G : Ghosts W) (fewer_later : FewerLater G) (store : KeptS
     stops = let rose = puts.only.cause.failed in (omega (arith, rose, asks.calls.put), puts.only.disk ∙ same);
   }
 
-drop_none : (n : ℕ) → drop {A = ℕ} n [] ≡ []
-drop_none n = grind (arith, nat_tests)
-
-take_none : (n : ℕ) → take {A = ℕ} n [] ≡ []
-take_none n = grind (arith, nat_tests)
-
 -- what stands has pages of this size
 abbrev pub HasPages : Standing → PageSize → Type 0
 HasPages (Stands number store) size = store.directory.page ≡ size
@@ -199,20 +186,117 @@ in_page (Stands number store) size has at count inside =
     let less : behind + count - behind ≡ count = omega arith in
     let all : page_bytes size ≡ behind + (page_bytes size - behind) = omega (arith, inside) in
     let place : page * page_bytes size + behind ≡ at = div-add-mod' at (page_bytes size) in
-    ap (λ s. take (behind + count - behind) (drop behind (take (page_bytes s) (drop (page * page_bytes s) store.bytes)))) has
-    ∙ ap (λ (n : ℕ). take n (drop behind (take (page_bytes size) (drop (page * page_bytes size) store.bytes)))) less
-    ∙ ap (λ (n : ℕ). take count (drop behind (take n (drop (page * page_bytes size) store.bytes)))) all
-    ∙ ap (take count) (drop-take behind (page_bytes size - behind) (drop (page * page_bytes size) store.bytes))
-    ∙ take_shorter count (page_bytes size - behind) (drop behind (drop (page * page_bytes size) store.bytes)) (omega (arith, inside))
-    ∙ ap (take count) (drop-drop behind (page * page_bytes size) store.bytes ∙ ap (λ (n : ℕ). drop n store.bytes) place)
-in_page _ size has at count inside = ap (take (at % page_bytes size + count - at % page_bytes size)) (drop_none (at % page_bytes size)) ∙ take_none (at % page_bytes size + count - at % page_bytes size)
+    cc (
+      has,
+      less,
+      all,
+      drop-take behind (page_bytes size - behind) (drop (page * page_bytes size) store.bytes),
+      take-take count (page_bytes size - behind) (drop behind (drop (page * page_bytes size) store.bytes)) (omega (arith, inside)),
+      drop-drop behind (page * page_bytes size) store.bytes,
+      place,
+    )
+in_page _ size has at count inside =
+    ap (take {A = ℕ} (at % page_bytes size + count - at % page_bytes size)) (drop_all (at % page_bytes size) [] (omega arith))
+    ∙ take_all (at % page_bytes size + count - at % page_bytes size) [] (omega arith)
 
 -- a whole page
 pub page_whole : (standing : Standing) (size : PageSize) → HasPages standing size → (page : ℕ) → page_in standing page ≡ bytes_in standing (page * page_bytes size) (page_bytes size)
-page_whole (Stands number store) size has page = ap (λ s. take (page_bytes s) (drop (page * page_bytes s) store.bytes)) has
-page_whole _ size has page = refl
+page_whole standing size has page = grind (arith, nat_tests)
 
 -- bytes of two pages
 pub in_two_pages : (standing : Standing) (at here rest count : ℕ) (front back : List ℕ) → here + rest ≡ count → front ≡ bytes_in standing at here → back ≡ bytes_in standing (at + here) rest → front ++ back ≡ bytes_in standing at count
 in_two_pages standing at here rest count front back all is_front is_back =
     ap (λ (these : List ℕ). these ++ back) is_front ∙ ap (λ (these : List ℕ). bytes_in standing at here ++ these) is_back ∙ sym (bytes_on standing at here rest) ∙ ap (bytes_in standing at) all
+
+-- bytes that a store shows stand for one with its directory
+stood : (held : List ℕ) (store : KeptStore) → Shows held store → (number : ℕ) × (flat : FlatStore) × (stands held ≡ Stands number flat) × (flat.directory ≡ store.header.directory)
+stood held store shows = (_, _, stands_is held store.header store.bank.which store.bank.base store.bank.gate shows.read.records (shown_store held store shows), refl)
+
+module _ {W : Type 0} (G : Ghosts W) (fewer_later : FewerLater G) (printed_now : (w : W) (image seen : List ℕ) → G.left_since w (G.moment w) image seen → AreTold (G.printed w) seen)
+    (range : Range) (before start : W) (asks : OnlyAsks G before start) where
+  -- a crash in the opening leaves the bytes that were printed
+  quiet : Leaves G (λ image seen. AreTold (G.printed before) seen) before start
+  quiet image seen left = ⊎_elim (λ was. printed_now before image seen was) (λ is. is) (asks.calls.quiet.crash image seen left)
+
+  -- the store isn't opened
+  pub not_shown : (fault : OpenFault) (now : Status) → now ≡ status_of_open fault → IsStoreOpenFault G before start fault → ((fault ≡ open_fault.DiskFault → ⊥) → G.disk_faults start ≡ G.disk_faults before) → RangeShown G range (call before start [] now)
+  not_shown fault now is why calm = record {
+    no_order = refl;
+    only = shows_asks G before start asks;
+    sure = λ honest told image seen left. inl (quiet image seen left);
+    calm = λ other. calm (λ failed. other (is ∙ ap status_of_open failed));
+    by_status = subst (ShownBy G range before start) (sym is) (by fault why);
+  }
+    where
+      by : (fault : OpenFault) → IsStoreOpenFault G before start fault → ShownBy G range before start (status_of_open fault)
+      by (open_fault.NotAStore offset) why = (asks, λ told. inl (why told))
+      by (open_fault.Damaged offset) why = (asks, λ told. inr (why told))
+      by open_fault.DiskFault why = (λ told number flat stood. prints_unput (G.printed before) (G.printed start) (rows_of flat range) (Err (record {})) refl asks.calls.quiet.same, inl asks.calls.quiet.same)
+      by open_fault.Memory why = asks
+
+  module _ (store : KeptStore) (shows : IsSome (G.held before) → Shows (held_of G before) store) (tracks : IsTrue (G.is_honest before) → IsSome (G.held before) → TracksStore G store start)
+      (no_fault : G.disk_faults start ≡ G.disk_faults before) where
+    -- what a crash leaves once something is printed was sure when the store had opened
+    ended : (after : W) → AsksAndPuts G start after → (now : Status) → ((now ≡ status.DiskFault → ⊥) → G.disk_faults after ≡ G.disk_faults before) → ShownBy G range before after now → RangeShown G range (call before after [] now)
+    ended after only now calm by_status = record {
+      no_order = refl;
+      only = shows_on G fewer_later before start after (shows_asks G before start asks) only;
+      sure = λ honest told.
+          let sure = (tracks honest told).sure in
+          leaves_on G fewer_later before start after asks.calls.time only.time (λ (image seen : List ℕ). AreTold (G.printed before) seen ⊎ (image ≡ held_of G before)) (λ image seen left. inl (quiet image seen left))
+          (λ image seen left. let from = only.images sure.told image seen left in inr (leaves_held G start sure image from.0 from.1 ∙ ap (λ (these : Option (List ℕ)). unwrap_or these []) asks.held));
+      calm = calm;
+      by_status = by_status;
+    }
+
+    -- the range isn't there
+    pub no_range : (IsInside store.header.directory range → ⊥) → RangeShown G range (call before start [] status.NoRange)
+    no_range outside = ended start (shows_none G start) status.NoRange (λ other. no_fault) (
+      asks,
+      λ told.
+          let (number, flat, is, has) = stood (held_of G before) store (shows told) in
+          (number, flat, is, λ inside. outside (subst (λ (directory : Layout). IsInside directory range) has inside)),
+    )
+
+    module _ (at : ℕ) (inside : IsInside store.header.directory range) (is_at : at ≡ start_of store.header.directory range.segment + range.from) (after : W) where
+      has-range : HasRange G range before
+      has-range told =
+          let (number, flat, is, has) = stood (held_of G before) store (shows told) in
+          (number, flat, is, subst (λ (directory : Layout). IsInside directory range) (sym has) inside)
+
+      -- the rows that were put are those of the range
+      rows-put : (result : Result (Unit {0}) Status) → PutsBytes G store at range.from range.count start after result → (told : IsSome (G.held before)) → (number : ℕ) (flat : FlatStore) → stands (held_of G before) ≡ Stands number flat
+          → PutsDone G (rows_of flat range) before after result
+      rows-put result puts told number flat is =
+          let same : held_of G start ≡ held_of G before = held_same G before start (shows_asks G before start asks) in
+          let shown : IsShown G store start = record {
+            told = subst (λ (those : Option (List ℕ)). IsSome those) (sym asks.held) told;
+            shows = subst (λ (held : List ℕ). Shows held store) (sym same) (shows told);
+          } in
+          let directory : flat.directory ≡ store.header.directory = grind (arith, is, stood (held_of G before) store (shows told)) in
+          let place : at ≡ start_of flat.directory range.segment + range.from = is_at ∙ ap (λ (directory : Layout). start_of directory range.segment + range.from) (sym directory) in
+          let bytes : bytes_in (stands (held_of G start)) at range.count ≡ bytes_at flat.bytes (start_of flat.directory range.segment + range.from) range.count =
+          ap (λ (held : List ℕ). bytes_in (stands held) at range.count) same ∙ ap (λ that. bytes_in that at range.count) is ∙ ap (λ (n : ℕ). bytes_at flat.bytes n range.count) place in
+          from_start result (subst (λ (these : List ℕ). PutsDone G (row_lines range.from these) start after result) bytes (puts.printed shown))
+        where
+          from_start : (result : Result (Unit {0}) Status) → PutsDone G (rows_of flat range) start after result → PutsDone G (rows_of flat range) before after result
+          from_start (Ok done) prints = subst (λ (these : Option (List ℕ)). Prints {T = Unit {0}} these (G.printed after) (rows_of flat range) (Ok tt)) asks.calls.quiet.same prints
+          from_start (Err why) prints = subst (λ (these : Option (List ℕ)). Prints {T = Unit {0}} these (G.printed after) (rows_of flat range) (Err (record {}))) asks.calls.quiet.same prints
+
+      pub shown_whole : PutsBytes G store at range.from range.count start after (Ok tt) → RangeShown G range (call before after [] status.Done)
+      shown_whole puts =
+          ended after puts.only status.Done (λ other. puts.asked ∙ no_fault)
+          (has-range, rows-put (Ok tt) puts, λ told. puts.times (subst (λ (these : Option (List ℕ)). IsSome these) (sym asks.calls.quiet.same) told) ∙ ap (λ (n : ℕ). n + div_ceil range.count 16) asks.calls.puts)
+
+      pub shown_part : (why : Status) → PutsBytes G store at range.from range.count start after (Err why) → RangeShown G range (call before after [] why)
+      shown_part why puts = ended after puts.only why (calm why puts.stops) (by why puts puts.stops)
+        where
+          calm : (why : Status) → StopsBy G start after why → (why ≡ status.DiskFault → ⊥) → G.disk_faults after ≡ G.disk_faults before
+          calm status.DiskFault stops other = absurd (other refl)
+          calm status.PutFault stops other = stops.1 ∙ no_fault
+          calm _ stops other = absurd stops
+
+          by : (why : Status) → PutsBytes G store at range.from range.count start after (Err why) → StopsBy G start after why → ShownBy G range before after why
+          by status.DiskFault puts stops = (rows-put (Err status.DiskFault) puts, inr has-range)
+          by status.PutFault puts stops = (has-range, rows-put (Err status.PutFault) puts)
+          by _ puts stops = absurd stops

@@ -1,10 +1,136 @@
--- What making a store did.
-use Rattle.store_calls.proofs.Common.{◌≡◌, ◌⊎◌, inl, inr, ◌+◌, ◌<◌, ℕ, List, [], length, refl, sym, ◌∙◌, ap, subst, arith, Option, IsSome, IsTrue, Result, Ok, Err, unwrap_or, Ghosts, Failed, Prints, Torn, CallsDisk, FewerLater, OnlyAsks, held_of, elapses-trans, leaves_on, Puts, PutsTimes, call, Status, IsNoEmpty, IsOfWriting, IsStored, IsTornBy, IsWrittenWhole, LeavesTorn, Written, WrittenBy, nat_tests, IsNoStore, LeavesWhole}
-use Rattle.store_calls.proofs.NameLemmas.{empty as no_bytes}
+-- An image without the name of a store is none; what a torn write over the places of one leaves; and what making a store did.
+use Rattle.store_calls.proofs.Common.{◌≡◌, ◌⊎◌, inl, inr, ◌+◌, ◌<◌, ℕ, List, [], length, refl, sym, ◌∙◌, ap, subst, arith, Option, IsSome, IsTrue, Result, Ok, Err, unwrap_or, Ghosts, Failed, Prints, Torn, CallsDisk, FewerLater, OnlyAsks, held_of, elapses-trans, leaves_on, Puts, PutsTimes, call, Status, IsNoEmpty, IsOfWriting, IsStored, IsTornBy, IsWrittenWhole, LeavesTorn, Written, WrittenBy, nat_tests, IsNoStore, LeavesWhole, ⊎_elim, ◌-◌, ◌≤◌, true, ◌∷◌, ◌++◌, take, drop, length-drop, length-take, nat_eq, not, codes, replicate, slice_index, Some, cases_lt, append-nil, drop-drop, drop_all, take_all, take-append-drop, take-take, written, Field, fields, first_fault, header_of, name_field, number_at, page_of, segment_fields, segments_of, spare_fields, within, standing_if, IsOnTheWay, starts_with, suc, cases_Bool, false}
 use Rattle.outside.specs.Moments.{Elapses}
 use Rattle.outside.proofs.Torn.{untouched}
 use Rattle.call_status.specs.Printed.{put_of, PutsOnce}
 use Rattle.call_status.specs.declared.status.Status.TheVariants as status
+use Rattle.std.specs.Option.{option_map}
+unfoldable use Rattle.store_format.specs.Stands.{stands}
+
+abbrev pub name : List ℕ
+name = codes "801STORE"
+
+-- what begins with these has them in front
+starts : (needle bytes : List ℕ) → starts_with nat_eq bytes needle ≡ true → take (length needle) bytes ≡ needle
+starts [] bytes is = refl
+starts (x ∷ needle) [] is = absurd (cc)
+starts (x ∷ needle) (y ∷ bytes) is = grind (arith, nat_tests, starts needle bytes)
+
+-- the first fault of fields whose first is wrong, or right
+wrong_first : (bytes : ℕ) (field : Field) (rest : List Field) → field.at + field.bytes ≤ bytes → field.wrong ≡ true → first_fault bytes (field ∷ rest) ≡ Some field.at
+wrong_first bytes field rest fits wrong = grind (arith, nat_tests)
+
+cut_first : (bytes : ℕ) (field : Field) (rest : List Field) → bytes < field.at + field.bytes → first_fault bytes (field ∷ rest) ≡ Some bytes
+cut_first bytes field rest cut = grind (arith, nat_tests)
+
+right_first : (bytes : ℕ) (field : Field) (rest : List Field) → field.at + field.bytes ≤ bytes → field.wrong ≡ false → first_fault bytes (field ∷ rest) ≡ first_fault bytes rest
+right_first bytes field rest fits right = grind (arith, nat_tests)
+
+-- an image with such a fault is no store
+faulty : (image : List ℕ) (offset : ℕ) → first_fault (length image) (fields (take 128 image)) ≡ Some offset → IsNoStore image
+unfolding stands
+faulty image offset is = (offset, ap (λ fault. standing_if image fault (header_of (take 128 image))) is)
+
+-- the second field, and those behind it
+abbrev second : List ℕ → Field
+second image = within 8 2 (number_at image 8 2) 1 2
+
+abbrev others : List ℕ → List Field
+others image =
+    within 10 2 (number_at image 10 2) 1 15
+    ∷ within 12 4 (number_at image 12 4) 4096 131072
+    ∷ (segment_fields 16 1 1024 (segments_of image) ++ spare_fields (page_of (number_at image 8 2)) image (length (segments_of image)))
+
+-- one that doesn't begin with the name
+pub unnamed : (image : List ℕ) → 8 ≤ length image → starts_with nat_eq (take 128 image) name ≡ false → IsNoStore image
+unnamed image long other =
+    let head = take 128 image in
+    faulty image 0 (wrong_first (length image) (name_field head) (second head ∷ others head) long (ap (λ b. not b) other))
+
+-- one that has no more than its bytes
+pub short : (image : List ℕ) → length image ≤ 8 → IsNoStore image
+short image few =
+    let head = take 128 image in
+    let first = name_field head in
+    let more = second head ∷ others head in
+    ⊎_elim (λ (less : length image < 8). faulty image (length image) (cut_first (length image) first more less))
+    (λ (all : 8 ≤ length image).
+    ⊎_elim
+    (λ is.
+    faulty image (length image)
+    (right_first (length image) first more all (ap (λ b. not b) is) ∙ cut_first (length image) (second head) (others head) (omega (arith, few))))
+    (unnamed image all) (cases_Bool (starts_with nat_eq head name)))
+    (cases_lt (length image) 8)
+
+pub empty : (image : List ℕ) → image ≡ [] → IsNoStore image
+empty image is = short image (omega (arith, ap length is))
+
+-- zeros don't begin as a name does
+zero_first : (left : List ℕ) → take 8 left ≡ replicate 8 0 → starts_with nat_eq (take 128 left) name ≡ false
+zero_first [] is = absurd (cc)
+zero_first (x ∷ left) is = let zero : x ≡ 0 = ap (λ (those : List ℕ). slice_index those 0) is in ap (λ (first : ℕ). starts_with nat_eq (first ∷ take 127 left) name) zero
+
+-- an image that begins with the name has its bytes
+pub long_enough : (image : List ℕ) → take 8 image ≡ name → 8 ≤ length image
+long_enough image named = omega (arith, ap length named, length-take 8 image)
+
+-- what a slice behind the name is
+pub tail_is : (image : List ℕ) → take (length image - 8) (drop 8 image) ≡ drop 8 image
+tail_is image = take_all (length image - 8) (drop 8 image) (omega (arith, length-drop 8 image))
+
+-- behind sure zeros in the name's place the rest is being written
+pub tail_on_the_way : (image left start : List ℕ) → take 8 image ≡ name → start ≡ replicate 8 0
+    → Torn 8 (length (take (length image - 8) (drop 8 image))) start left → IsOnTheWay image left
+tail_on_the_way image left start named zeros torn = record {
+  few = omega (arith, torn.no_longer, ap length zeros, ap length (tail_is image), length-drop 8 image, long_enough image named);
+  which = inl (unnamed left (omega (arith, torn.no_shorter, ap length zeros)) (zero_first left (torn.before ∙ ap (take 8) zeros)));
+}
+
+-- and then the name in front of the sure rest
+pub name_on_the_way : (image left : List ℕ) → take 8 image ≡ name → Torn 0 8 (replicate 8 0 ++ drop 8 image) left → IsOnTheWay image left
+name_on_the_way image left named torn =
+    let begins = starts_with nat_eq (take 128 left) name in
+    let same = λ (is : begins ≡ true).
+    let front : take 8 left ≡ take 8 image = sym (take-take 8 128 left (omega arith)) ∙ starts name (take 128 left) is ∙ sym named in
+    sym (take-append-drop 8 left) ∙ ap (λ (those : List ℕ). those ++ drop 8 left) front ∙ ap (λ (those : List ℕ). take 8 image ++ those) torn.after ∙ take-append-drop 8 image in
+    record {
+      few = omega (arith, torn.no_longer, length-drop 8 image, long_enough image named);
+      which = ⊎_elim (λ is. inr (same is)) (λ is. inl (unnamed left (omega (arith, torn.no_shorter)) is)) (cases_Bool begins);
+    }
+
+-- what the second and the third write put down
+pub put_tail : (image : List ℕ) → written (replicate 8 0) 8 (drop 8 image) ≡ replicate 8 0 ++ drop 8 image
+put_tail image =
+    let none : drop (8 + length (drop 8 image)) (replicate 8 0) ≡ [] = drop_all (8 + length (drop 8 image)) (replicate 8 0) (omega arith) in
+    ap (λ (those : List ℕ). replicate 8 0 ++ (drop 8 image ++ those)) none ∙ ap (λ (those : List ℕ). replicate 8 0 ++ those) (append-nil (drop 8 image))
+
+pub put_name : (image : List ℕ) → take 8 image ≡ name → written (replicate 8 0 ++ drop 8 image) 0 (take 8 image) ≡ image
+put_name image named =
+    let eight : 0 + length (take 8 image) ≡ 8 = omega (arith, ap length named) in
+    ap (λ (n : ℕ). take 8 image ++ drop n (replicate 8 0 ++ drop 8 image)) eight ∙ take-append-drop 8 image
+
+-- one write, and more, were counted
+pub one_and : (more : ℕ) (count : Option ℕ) → option_map (λ n. n + more) (option_map (λ n. n + 1) count) ≡ option_map (λ n. n + suc more) count
+one_and more count = grind (arith, nat_tests)
+
+-- what is no longer than a range is it torn, over nothing; and a wider range may be torn too
+pub torn_empty : (count : ℕ) (left : List ℕ) → length left ≤ count → Torn 0 count [] left
+torn_empty count left few = record { before = refl; after = drop_all (0 + count) left (omega arith) ∙ sym (drop_all (0 + count) [] (omega arith)); no_shorter = omega arith; no_longer = omega (arith, few) }
+
+pub torn_wider : (count : ℕ) (start left : List ℕ) → 8 ≤ count → Torn 0 8 start left → Torn 0 count start left
+torn_wider count start left wide torn =
+    let more : 0 + count ≡ (0 + 8) + (count - 8) = omega arith in
+    record {
+      before = refl;
+      after =
+          ap (λ (n : ℕ). drop n left) more ∙ sym (drop-drop (count - 8) (0 + 8) left) ∙ ap (λ (those : List ℕ). drop (count - 8) those) torn.after
+          ∙ drop-drop (count - 8) (0 + 8) start ∙ ap (λ (n : ℕ). drop n start) (sym more);
+      no_shorter = torn.no_shorter;
+      no_longer = omega (arith, torn.no_longer);
+    }
+
+pub torn_short : (start left : List ℕ) → start ≡ [] → Torn 0 8 start left → length left ≤ 8
+torn_short start left none torn = omega (arith, torn.no_longer, ap length none)
 
 -- an image was written on an empty disk
 module _ {W : Type 0} (G : Ghosts W) (fewer_later : FewerLater G) (image line : List ℕ) (start mid : W) (calls : CallsDisk G start mid) (torn : LeavesTorn G (length image) start mid) (whole : LeavesWhole G image start mid) where
@@ -75,7 +201,7 @@ module _ {W : Type 0} (G : Ghosts W) (fewer_later : FewerLater G) (before start 
       (first, begun, asks.crash told first begun (fewer_later start (G.moment before) (G.moment start) first begun asks.calls.time.later since), is))
 
   whole_asked : (image : List ℕ) → LeavesWhole G image before start
-  whole_asked image honest told first left seen was = inl (no_bytes left (first left seen (asks.crash told left seen was)))
+  whole_asked image honest told first left seen was = inl (empty left (first left seen (asks.crash told left seen was)))
 
   whole_on : (image : List ℕ) (after : W) → Elapses G.moment G.left_since start after → LeavesWhole G image start after → LeavesWhole G image before after
   whole_on image after time whole honest told first =

@@ -4,8 +4,7 @@ use Rattle.store_calls.specs.Below.{Bundle, Call, CommitLine, Ghosts, Given, IsO
 use Rattle.serial_audit.specs.declared.auditing.Verdict.{Verdict}
 use Rattle.serial_audit.specs.declared.auditing.Verdict.TheVariants.{NotSerial, Serial}
 use Rattle.call_status.specs.declared.status.Status.TheVariants as status
-use Rattle.store_calls.specs.Bundled.{HasBundle, IsBadClosing, IsNoJob, AreBundleParts, IsWrongPart, WithBundle, part_of}
-use Rattle.store_calls.specs.Kept.{Keeps}
+use Rattle.store_calls.specs.Bundled.{HasBundle, IsBadClosing, IsNoJob, AreBundleParts, IsWrongPart, WithBundle, part_of, Keeps}
 
 -- the line of a verdict on so many commits
 abbrev pub verdict_line : (commits : ℕ) → Verdict → List ℕ

@@ -1,12 +1,31 @@
--- What the parts of a bundle are, and the first that is wrong.
+-- The store that bytes in memory are, and what the parts of a bundle are, and the first that is wrong.
 use Rattle.std.specs.Prelude.{◌≡◌, ℕ, ◌-◌, ◌≤◌, ◌⊎◌, List, length, Option, Some, Ok, Err}
-use Rattle.store_calls.specs.Below.{AreCommitsOf, Bundle, bytes_at, CommitLine, Given, HasRead, IsFaultAt, IsFirstBad, IsStanding, IsWholeBundle, Job, KeptStore, Rose, Status}
+use Rattle.store_calls.specs.Below.{AreCommitsOf, Bundle, bytes_at, CommitLine, Given, HasRead, IsFaultAt, IsFirstBad, IsStanding, IsWholeBundle, Job, KeptStore, Rose, Status, byte_count, flat_of, Stands, stands}
 use Rattle.job_text.specs.Grammar.{Content, content_of, job_of}
 use Rattle.serial_audit.specs.Bundle.{IsBundle, IsWrongAt}
 use Rattle.serial_audit.specs.declared.bundle.Span.{Span}
 use Rattle.call_status.specs.declared.status.Status.TheVariants as status
-use Rattle.store_calls.specs.Kept.{Keeps}
 use Rattle.call_status.specs.Reading.{IsSomeJob}
+use Rattle.store.specs.declared.fault.OpenFault.{OpenFault}
+use Rattle.store.specs.declared.fault.OpenFault.TheVariants as open_fault
+use Rattle.store_calls.specs.declared.kept.KeptFault.{KeptFault}
+use Rattle.store_calls.specs.declared.kept.KeptFault.TheVariants.{At, Memory}
+
+-- the bytes stand for a kept store, which has as many bytes as its segments
+pub record Keeps (bytes : List ℕ) (kept : KeptStore) : Type 0 where
+  pub stood : stands bytes ≡ Stands kept.number (flat_of kept)
+  pub whole : length kept.store.items ≡ byte_count kept.directory
+
+-- the fault of an opening
+abbrev pub fault_of : OpenFault → KeptFault
+fault_of (open_fault.NotAStore offset) = At offset
+fault_of (open_fault.Damaged offset) = At offset
+fault_of _ = Memory
+
+-- why there is none: the bytes stand for nothing, from an offset on, or there is no memory
+abbrev pub IsWhyNone : List ℕ → KeptFault → Type 0
+IsWhyNone bytes (At offset) = IsFaultAt bytes offset
+IsWhyNone bytes Memory = Unit {0}
 
 -- the bytes of a part
 abbrev pub part_of : List ℕ → Span → List ℕ

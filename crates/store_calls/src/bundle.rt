@@ -1,8 +1,7 @@
 // A bundle and its parts.
 ghost use Rattle.std.specs.Prelude.{◌≡◌, ◌⊎◌, ◌-◌, ◌≤◌, ◌<◌, ◌^◌, ℕ, length, IfOk, MatchResult};
 ghost use Rattle.store_calls.specs.Below.{AreCommitsOf, IsFaultAt, IsFirstBad};
-ghost use Rattle.store_calls.specs.Bundled.{AreBundleParts, IsShut, part_of};
-ghost use Rattle.store_calls.specs.Kept.{Keeps};
+ghost use Rattle.store_calls.specs.Bundled.{AreBundleParts, IsShut, part_of, Keeps};
 
 use super::kept::{KeptFault, kept_store};
 use call_status::Status;

@@ -2,7 +2,7 @@
 ghost use Rattle.store_calls.specs.declared.kept.KeptFault.TheVariants.{Memory};
 ghost use Rattle.std.specs.Prelude.{◌≡◌, IsSome, IfOk, IfErr, MatchResult, false};
 ghost use Rattle.store_calls.specs.Below.{byte_count, held_of, HoldsAtLeast, IsShown, OnlyAsks, stands, total};
-ghost use Rattle.store_calls.specs.Kept.{IsWhyNone, Keeps, fault_of};
+ghost use Rattle.store_calls.specs.Bundled.{IsWhyNone, Keeps, fault_of};
 ghost use Rattle.store_calls.specs.Show.{bytes_in};
 
 use outside::{Failed, Joint, MemoryDisk, MemoryScreen, Outside};

@@ -1,24 +1,18 @@
 -- The fields of a header looked at one after another.
-use Rattle.store_format.proofs.Common.{◌≡◌, ℕ, zero, suc, ◌+◌, ◌*◌, ◌-◌, ◌<◌, ◌≤◌, Bool, true, false, List, [], ◌∷◌, ◌++◌, length, refl, sym, ◌∙◌, arith, slice_index, Option, None, Some, nat_lt, min, if◌then◌else◌, is_some, option_or, nat_tests, Field, number_at, within, segments_at, segment_fields, zeros, last_zeros, first_fault}
-
-option_or-if : (b c : Bool) (n m : ℕ) (later : Option ℕ) → (if b then Some n else if c then Some m else later) ≡ option_or (if b then Some n else if c then Some m else None) later
-option_or-if b c n m later = grind (arith, nat_tests)
+use Rattle.store_format.proofs.Common.{◌≡◌, ℕ, zero, suc, ◌+◌, ◌*◌, ◌-◌, ◌<◌, ◌≤◌, true, false, List, [], ◌∷◌, ◌++◌, length, refl, sym, ◌∙◌, arith, slice_index, Option, None, min, is_some, option_or, nat_tests, Field, number_at, within, segments_at, segment_fields, zeros, last_zeros, first_fault}
 
 -- one field in front
 pub first_fault-cons : (bytes : ℕ) (field : Field) (fields : List Field) → first_fault bytes (field ∷ fields) ≡ option_or (first_fault bytes (field ∷ [])) (first_fault bytes fields)
-first_fault-cons bytes field fields = option_or-if (nat_lt bytes (field.at + field.bytes)) field.wrong bytes field.at (first_fault bytes fields)
+first_fault-cons bytes field fields = grind (arith, nat_tests)
 
 pub or_first : (a b : Option ℕ) → is_some a ≡ true → option_or a b ≡ a
-or_first None b some = cc
-or_first (Some x) b some = refl
+or_first a b some = grind (arith, nat_tests)
 
 pub or_second : (a b : Option ℕ) → is_some a ≡ false → option_or a b ≡ b
-or_second None b none = refl
-or_second (Some x) b none = cc
+or_second a b none = grind (arith, nat_tests)
 
 pub option_or-assoc : {T : Type 0} (a b c : Option T) → option_or a (option_or b c) ≡ option_or (option_or a b) c
-option_or-assoc None b c = refl
-option_or-assoc (Some x) b c = refl
+option_or-assoc a b c = grind (arith, nat_tests)
 
 pub first_fault-append : (bytes : ℕ) (front back : List Field) → first_fault bytes (front ++ back) ≡ option_or (first_fault bytes front) (first_fault bytes back)
 first_fault-append bytes [] back = refl
@@ -69,8 +63,7 @@ pub or_is : {result first second was is : Option ℕ} → result ≡ option_or f
 or_is result first second = cc
 
 or_none : (a b : Option ℕ) → option_or a b ≡ None → (a ≡ None) × (b ≡ None)
-or_none None b none = (refl, none)
-or_none (Some x) b none = absurd (cc)
+or_none a b none = grind (arith, nat_tests)
 
 -- where a list of fields has no fault, neither has its front nor its back
 pub none-append : (length : ℕ) (front back : List Field) → first_fault length (front ++ back) ≡ None → (first_fault length front ≡ None) × (first_fault length back ≡ None)

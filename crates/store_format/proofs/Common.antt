@@ -1,13 +1,13 @@
 -- The names that most proofs cite, passed on from one place. Declares nothing.
 pub use Rattle.std.proofs.Common.{Bool, List, [], ap, arith, codes, drop, false, inl, inr, length, length-append, refl, replicate, set, slice_index, subst, suc, sym, take, true, zero, ℕ, ◌%◌, ◌*◌, ◌++◌, ◌+◌, ◌-◌, ◌<◌, ◌^◌, ◌∙◌, ◌∷◌, ◌≡◌, ◌≤◌}
-pub use Rattle.std.proofs.lemmas.Bool.{cases_eq, cases_lt}
-pub use Rattle.std.proofs.lemmas.Bool.Decides.{Decides-eqb, nat_tests}
+pub use Rattle.std.proofs.lemmas.Bool.{cases_eq, cases_lt, le-ltb, lt-leb, ne_eqb}
+pub use Rattle.std.proofs.lemmas.Bool.Decides.{nat_tests}
 pub use Rattle.std.proofs.lemmas.List.{append-nil, append_assoc, drop-drop, drop-replicate, drop-take, drop_at, get_or-append_right, get_or-drop, get_or-take, get_or_append_left, get_or_past, length-drop, length-replicate, length-set, length-take, replicate-append-replicate, take-append-drop, take-append-le, take-take, take_all, take_at, take_more_set}
 pub use Rattle.std.proofs.lemmas.List.Elements.{All-append, All-cons, All-head, All-nil, All-tail}
 pub use Rattle.std.proofs.lemmas.Nat.{pow_below, pow_pos}
 pub use Rattle.std.specs.List.{starts_with}
 pub use Rattle.std.specs.Option.{option_or}
-pub use Rattle.std.specs.Prelude.{All, IfOk, IfSome, IsSome, None, Ok, Option, Some, cond, fold, if◌then◌else◌, is_some, min, nat_eq, nat_le, nat_lt, not, unwrap_or, ◌&&◌, ◌==◌, map, slice_set}
+pub use Rattle.std.specs.Prelude.{All, IfOk, IfSome, IsSome, None, Ok, Option, Some, fold, if◌then◌else◌, is_some, min, nat_eq, nat_le, nat_lt, not, unwrap_or, ◌&&◌, ◌==◌, map, slice_set}
 pub use Rattle.std.specs.Vec.{vec_len}
 pub use Rattle.byteorder.specs.Endian.{big_bytes, big_from, big_number}
 pub use Rattle.byteorder.specs.Numbers.{big_from-take, big_number-reads_back}

@@ -1,5 +1,5 @@
 -- What an image stands for where bytes outside its chosen bank have changed.
-use Rattle.store_format.proofs.Common.{◌≡◌, ℕ, zero, suc, ◌+◌, ◌%◌, ◌^◌, ◌<◌, ◌≤◌, false, List, [], length, take, drop, refl, sym, ◌∙◌, ap, arith, slice_index, drop-drop, get_or-drop, Which, Header, fields, first_fault, header_of, bank_at, number_at, RecordLine, Area, Gate, Closed, Wrong, Sound, gate_at, holds_from, area_at, area_of, base_of, bank_of, stands, IsStore, HasHeader, laid, home_of, chosen, ◌==◌, ◌-◌, fold}
+use Rattle.store_format.proofs.Common.{◌≡◌, ℕ, zero, suc, ◌+◌, ◌%◌, ◌^◌, ◌<◌, ◌≤◌, false, List, [], length, take, drop, refl, ◌∙◌, ap, arith, slice_index, drop-drop, get_or-drop, Which, Header, fields, first_fault, header_of, bank_at, number_at, RecordLine, Area, Gate, Closed, Wrong, Sound, gate_at, holds_from, area_at, area_of, base_of, bank_of, stands, IsStore, HasHeader, laid, home_of, chosen, ◌==◌, ◌-◌, fold}
 use Rattle.store_format.proofs.Fronts.{shorter_front, same_byte}
 use Rattle.store_format.proofs.Walk.{sound_is, closed_gate}
 use Rattle.store_format.proofs.Sound.{sound_header}
@@ -11,14 +11,15 @@ behind_bytes old new k place same behind =
     let whole : k + (place - k) ≡ place = omega arith in
     cc (whole, drop-drop (place - k) k new, same, drop-drop (place - k) k old)
 
+pub byte_behind : (old new : List ℕ) (k i : ℕ) → drop k new ≡ drop k old → k ≤ i → slice_index new i ≡ slice_index old i
+byte_behind old new k i same behind =
+    let whole : k + (i - k) ≡ i = omega (arith, behind) in
+    cc (whole, get_or-drop k new (i - k) 0, same, get_or-drop k old (i - k) 0)
+
 -- with the same bytes from an offset on the gates there are the same
 module _ (image new : List ℕ) (from : ℕ) (same : drop from new ≡ drop from image) where
   gate_behind : (area : Area) (number gate : ℕ) → from ≤ gate → gate_at new area number gate ≡ gate_at image area number gate
-  gate_behind area number gate behind =
-      let here : gate + 0 ≡ gate = omega arith in
-      let byte : slice_index new gate ≡ slice_index image gate =
-      ap (λ (n : ℕ). slice_index new n) (sym here) ∙ sym (get_or-drop gate new 0 0) ∙ ap (λ (these : List ℕ). slice_index these 0) (behind_bytes image new from gate same behind) ∙ get_or-drop gate image 0 0 ∙ ap (λ (n : ℕ). slice_index image n) here in
-      cc (byte, behind_bytes image new from gate same behind)
+  gate_behind area number gate behind = cc (byte_behind image new from gate same behind, behind_bytes image new from gate same behind)
 
   holds_behind : (area : Area) (most number gate : ℕ) (at : Gate) → from ≤ gate → gate_at image area number gate ≡ at → holds_from new area most number at ≡ holds_from image area most number at
   unfolding holds_from

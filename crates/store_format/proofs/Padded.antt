@@ -1,5 +1,5 @@
 -- A header that is cut, with zeros behind it.
-use Rattle.store_format.proofs.Common.{◌≡◌, ℕ, zero, suc, ◌+◌, ◌*◌, ◌-◌, ◌^◌, ◌≤◌, List, [], ◌∷◌, ◌++◌, length, take, drop, refl, sym, ◌∙◌, ap, arith, slice_index, replicate, inl, inr, Option, None, Some, min, unwrap_or, IsSome, IfSome, cases_lt, nat_tests, get_or-drop, get_or_append_left, get_or-append_right, get_or_past, take-append-le, take_all, drop-replicate, length-take, big_from, PageSize, Two, Four, Header, page_of, spare_fields, Field, number_at, within, name_field, segments_at, segments_of, segment_fields, zeros, fields, first_fault, header_of}
+use Rattle.store_format.proofs.Common.{◌≡◌, ℕ, zero, suc, ◌+◌, ◌*◌, ◌-◌, ◌^◌, ◌≤◌, List, [], ◌∷◌, ◌++◌, length, take, drop, refl, sym, ◌∙◌, ap, arith, slice_index, replicate, inl, inr, Option, min, unwrap_or, IsSome, IfSome, cases_lt, nat_tests, get_or-drop, get_or_append_left, get_or-append_right, get_or_past, take-append-le, take_all, drop-replicate, length-take, big_from, PageSize, Two, Four, Header, page_of, spare_fields, Field, number_at, within, name_field, segments_at, segments_of, segment_fields, zeros, fields, first_fault, header_of}
 use Rattle.outside.specs.Bytes.{bytes_at}
 use Rattle.store_format.proofs.Checks.{last_zeros_are}
 
@@ -72,12 +72,10 @@ same_fields xs ys bytes same whole =
     same_name xs ys bytes (behind_name xs) whole ∙ ap (λ (later : List Field). first_fault bytes (name_field ys ∷ later)) (same_behind xs ys same)
 
 pub read_is : (told : Option (List ℕ)) (into : List ℕ) (at count : ℕ) → IsSome told → IfSome told (λ bytes. into ≡ bytes_at bytes at count) → into ≡ bytes_at (unwrap_or told []) at count
-read_is None into at count some is = cc
-read_is (Some bytes) into at count some is = is
+read_is told into at count some is = grind (arith, nat_tests)
 
 pub number_is : (told : Option (List ℕ)) (number : ℕ) → IsSome told → IfSome told (λ bytes. number ≡ length bytes) → number ≡ length (unwrap_or told [])
-number_is None number some is = cc
-number_is (Some bytes) number some is = is
+number_is told number some is = grind (arith, nat_tests)
 
 -- what is read of a header, with zeros up to 128 bytes
 module _ (held : List ℕ) where

@@ -1,5 +1,5 @@
 -- The fields of segments are right exactly where the segments are a directory's.
-use Rattle.store_format.proofs.Common.{◌≡◌, ℕ, ◌+◌, ◌-◌, ◌<◌, ◌≤◌, false, List, [], ◌∷◌, length, refl, subst, arith, None, All, nat_lt, nat_le, ◌==◌, not, ◌&&◌, min, nat_tests, All-nil, All-cons, All-head, All-tail, fault_of, fault_after, is_strange, IsLegal, Field, within, segment_fields, first_fault}
+use Rattle.store_format.proofs.Common.{◌≡◌, ℕ, ◌+◌, ◌-◌, ◌≤◌, false, List, [], ◌∷◌, length, refl, subst, arith, None, All, nat_le, not, ◌&&◌, min, nat_tests, All-nil, All-cons, All-head, All-tail, fault_of, fault_after, is_strange, IsLegal, Field, within, segment_fields, first_fault, le-ltb, lt-leb, ne_eqb}
 use Rattle.lines.proofs.LegalLemmas.{first-fine, legal-none, none_legal}
 use Rattle.store_format.proofs.Checks.{none-append}
 
@@ -15,15 +15,6 @@ right_within number least most right = (grind (arith, nat_tests), grind (arith, 
 not_strange : (segment : ℕ × ℕ) → 1 ≤ segment.0 → segment.0 ≤ 3839 → 1 ≤ segment.1 → segment.1 ≤ 128 → is_strange segment ≡ false
 not_strange segment a b c d = grind (arith, nat_tests)
 
-not_low : (a b : ℕ) → b < a → nat_le a b ≡ false
-not_low a b less = grind (arith, nat_tests)
-
-not_many : (a b : ℕ) → b ≤ a → nat_lt a b ≡ false
-not_many a b le = grind (arith, nat_tests)
-
-few_left : (room pages : ℕ) → pages ≤ min room 128 → (pages ≤ room) × (pages ≤ 128)
-few_left room pages le = (omega arith, omega arith)
-
 -- right fields have no fault
 fine_after : (segments : List (ℕ × ℕ)) (at last pages : ℕ) → pages ≤ 1024 → All Stays (segment_fields at (last + 1) (1024 - pages) segments) → fault_after last pages segments ≡ None
 fine_after [] at last pages few right = refl
@@ -34,12 +25,11 @@ fine_after (segment ∷ segments) at last pages few right =
     let tail = All-tail Stays first (second ∷ later) right in
     let identifier = right_within segment.0 (last + 1) 3839 (All-head Stays first (second ∷ later) right) in
     let many = right_within segment.1 1 (min (1024 - pages) 128) (All-head Stays second later tail) in
-    let left = few_left (1024 - pages) segment.1 many.1 in
     let room : 1024 - pages - segment.1 ≡ 1024 - (pages + segment.1) = omega arith in
     let rest : All Stays (segment_fields (at + 4) (segment.0 + 1) (1024 - (pages + segment.1)) segments) =
     subst (λ (n : ℕ). All Stays (segment_fields (at + 4) (segment.0 + 1) n segments)) room (All-tail Stays second later tail) in
-    rw (not_strange segment (omega (arith, identifier.0)) identifier.1 many.0 left.1, not_low segment.0 last (omega (arith, identifier.0)), not_many 1024 (pages + segment.1) (omega (arith, left.0, few)))
-    (fine_after segments (at + 4) segment.0 (pages + segment.1) (omega (arith, left.0, few)) rest)
+    rw (not_strange segment (omega (arith, identifier.0)) identifier.1 many.0 (omega (arith, many.1)), lt-leb segment.0 last (omega (arith, identifier.0)), le-ltb 1024 (pages + segment.1) (omega (arith, many.1, few)))
+    (fine_after segments (at + 4) segment.0 (pages + segment.1) (omega (arith, many.1, few)) rest)
 
 -- segments without a fault have right fields
 right_after : (segments : List (ℕ × ℕ)) (at last pages : ℕ) → pages ≤ 1024 → fault_after last pages segments ≡ None → All Stays (segment_fields at (last + 1) (1024 - pages) segments)
@@ -56,19 +46,13 @@ right_after (segment ∷ segments) at last pages few fine =
 
 pub segments_legal : (segments : List (ℕ × ℕ)) → 1 ≤ length segments → length segments ≤ 15 → All Stays (segment_fields 16 1 1024 segments) → IsLegal segments
 segments_legal segments some few right =
-    let fine : fault_of segments ≡ None = rw (not_many 15 (length segments) few, not_empty (length segments) some) (fine_after segments 16 0 0 (omega arith) right) in
+    let fine : fault_of segments ≡ None = rw (le-ltb 15 (length segments) few, ne_eqb (length segments) 0 (omega (arith, some))) (fine_after segments 16 0 0 (omega arith) right) in
     legal-none segments fine
-  where
-    not_empty : (n : ℕ) → 1 ≤ n → (n == 0) ≡ false
-    not_empty n le = grind (arith, nat_tests)
 
 pub legal_segments : (segments : List (ℕ × ℕ)) → IsLegal segments → All Stays (segment_fields 16 1 1024 segments)
 legal_segments segments legal =
-    let fine : fault_after 0 0 segments ≡ None = (rw (not_many 15 (length segments) legal.few, not_empty (length segments) legal.some) at (none_legal segments legal)) in
+    let fine : fault_after 0 0 segments ≡ None = (rw (le-ltb 15 (length segments) legal.few, ne_eqb (length segments) 0 (omega (arith, legal.some))) at (none_legal segments legal)) in
     right_after segments 16 0 0 (omega arith) fine
-  where
-    not_empty : (n : ℕ) → 1 ≤ n → (n == 0) ≡ false
-    not_empty n le = grind (arith, nat_tests)
 
 -- fields without a fault are right
 pub stays_all : (length : ℕ) (fields : List Field) → first_fault length fields ≡ None → All Stays fields

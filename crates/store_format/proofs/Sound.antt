@@ -1,5 +1,5 @@
 -- What a header without a fault says.
-use Rattle.store_format.proofs.Common.{◌≡◌, ℕ, zero, suc, ◌+◌, ◌*◌, ◌-◌, ◌%◌, ◌^◌, ◌<◌, ◌≤◌, slice_index, true, false, List, [], ◌∷◌, ◌++◌, length, take, Bool, refl, codes, ◌∙◌, ap, arith, inl, inr, Option, None, Some, All, min, nat_lt, nat_eq, not, is_some, if◌then◌else◌, starts_with, FlatStore, cases_eq, nat_tests, PageSize, Two, Four, IsLegal, AreFlags, flag_count, Header, number_at, within, name_field, segments_of, segment_fields, zeros, last_zeros, spare_fields, page_of, fields, first_fault, header_of, total, Bank, Holds, Faulty, Stands, NotAStore, stands, standing_if, standing_by, All-head, All-tail, get_or-drop, length-drop, length-take, take-append-drop, big_number, pow_pos}
+use Rattle.store_format.proofs.Common.{◌≡◌, ℕ, zero, suc, ◌+◌, ◌*◌, ◌-◌, ◌^◌, ◌<◌, ◌≤◌, slice_index, true, List, [], ◌∷◌, ◌++◌, length, take, Bool, codes, ◌∙◌, ap, arith, inl, inr, Option, None, Some, All, min, nat_lt, nat_eq, not, is_some, if◌then◌else◌, starts_with, FlatStore, cases_eq, nat_tests, PageSize, Two, Four, IsLegal, AreFlags, flag_count, Header, number_at, within, name_field, segments_of, segment_fields, zeros, last_zeros, spare_fields, page_of, fields, first_fault, header_of, total, Bank, Stands, NotAStore, stands, standing_if, standing_by, All-head, All-tail, get_or-drop, length-drop, length-take, take-append-drop, big_number, pow_pos}
 use Rattle.std.proofs.lemmas.Slice.Eq.{starts_is}
 use Rattle.store_format.proofs.Checks.{none-append, right_number, length-segments_at}
 use Rattle.store_format.proofs.Segments.{Stays, right_within, segments_legal, stays_all}
@@ -19,11 +19,8 @@ zero_in head at (suc bytes) i stay low high = elim (cases_eq i at) [
   | inl same ↦
       let none = right_within (slice_index head at) 0 0 (All-head Stays (within at 1 (slice_index head at) 0 0) (zeros head (at + 1) bytes) stay) in
       ap (slice_index head) same ∙ omega (arith, none.1)
-  | inr other ↦ zero_in head (at + 1) bytes i (All-tail Stays (within at 1 (slice_index head at) 0 0) (zeros head (at + 1) bytes) stay) (above i low other) (omega (arith, high))
+  | inr other ↦ zero_in head (at + 1) bytes i (All-tail Stays (within at 1 (slice_index head at) 0 0) (zeros head (at + 1) bytes) stay) (omega (arith, low, other)) (omega (arith, high))
 ]
-  where
-    above : (i : ℕ) → at ≤ i → (i ≡ at → ⊥) → at + 1 ≤ i
-    above i low other = omega (arith, low, other)
 
 -- flags without a fault are those of the segments
 flags_right : (page : PageSize) (head : List ℕ) (bytes count : ℕ) → count ≤ 15 → first_fault bytes (spare_fields page head count) ≡ None → number_at head 76 2 < 2 ^ flag_count page count
@@ -83,17 +80,13 @@ stood_header image number store is = by_fault (first_fault (length image) (field
     header = header_of (take 128 image)
 
     by_bank : (base : ℕ) (bank : Bank) → standing_by image header base bank ≡ Stands number store → (store.directory ≡ header.directory) × (number < 2 ^ 64)
-    by_bank base (Holds gate records) is = (cc, let said : number ≡ (base + length records) % 2 ^ 64 = cc in omega (arith, said))
-    by_bank base (Faulty offset) is = absurd (cc)
+    by_bank base bank is = grind (arith, nat_tests)
 
     by_length : (short long : Bool) (less more base : ℕ) (bank : Bank) → (if short then NotAStore less else if long then NotAStore more else standing_by image header base bank) ≡ Stands number store → (store.directory ≡ header.directory) × (number < 2 ^ 64)
-    by_length true long less more base bank is = absurd (cc)
-    by_length false true less more base bank is = absurd (cc)
-    by_length false false less more base bank is = by_bank base bank is
+    by_length short long less more base bank is = grind (arith, nat_tests, by_bank)
 
     by_fault : (fault : Option ℕ) → standing_if image fault header ≡ Stands number store → (fault ≡ None) × (store.directory ≡ header.directory) × (number < 2 ^ 64)
-    by_fault (Some offset) is = absurd (cc)
-    by_fault None is = grind (arith, nat_tests, by_length)
+    by_fault fault is = grind (arith, nat_tests, by_length)
 
 -- a header without a fault has the name, and its version is 1 or 2
 pub named_header : (image : List ℕ) → first_fault (length image) (fields (take 128 image)) ≡ None
@@ -108,9 +101,7 @@ named_header image none =
     (named (nat_lt (length image) 8) (starts_with nat_eq head (codes "801STORE")) name.0, omega (arith, right.0), right.1, right.2)
   where
     named : (short right : Bool) → (if short then Some (length image) else if not right then Some 0 else None) ≡ None → right ≡ true
-    named true right none = absurd (cc)
-    named false true none = refl
-    named false false none = absurd (cc)
+    named short right none = grind (arith, nat_tests)
 
 -- a number in two bytes that is 2
 two_bytes : (bytes : List ℕ) → 2 ≤ length bytes → big_number 2 bytes ≡ 2 → (rest : List ℕ) × (bytes ≡ 0 ∷ 2 ∷ rest)

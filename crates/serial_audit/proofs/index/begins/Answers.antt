@@ -1,4 +1,4 @@
-use Rattle.serial_audit.proofs.Lemmas.{◌+◌, false, List, [], ◌∷◌, ◌++◌, map, drop, refl, sym, ◌∙◌, ap, append_assoc, map-append, slice_get_past, Begin, Activation, begun, Entry, activation_in, arith, common_steps, begun_here, begun_later, begun_none, got, fresh_more}
+use Rattle.serial_audit.proofs.Lemmas.{◌+◌, false, List, [], ◌∷◌, ◌++◌, map, drop, refl, sym, ◌∙◌, ap, append_assoc, map-append, slice_get_past, Begin, Activation, begun, Entry, activation_in, arith, common_steps, begun_here, begun_later, begun_none, IsFresh, All-push, slice_get_read}
 use Rattle.serial_audit.proofs.index.begins.Goals as goal
 use Rattle.serial_audit.proofs.index.begins.Goals.{in-Begin+in-Some+in_ok-push-in-Some, in-Begin+in-None, in_default}
 
@@ -11,7 +11,7 @@ loop-event-preserved c =
     elim c.match-event.branch [
       | in-Begin+in-Some+in_ok-push-in-Some w ↦
           let look = w.in-Some.ensures.lookup in
-          let found = rw w.from.ensures at (got programs w.from.result w.in-Some.program.now look.3.0 look.1) in
+          let found = rw w.from.ensures at (slice_get_read programs _ w.from.result w.in-Some.program.now refl look.3.0 look.1) in
           let entry : Entry = record { program = w.in-Some.program; args = w.in-Begin.args; steps = 0; committed = false } in
           let activation : Activation = record { program = w.in-Some.program.now; args = w.in-Begin.args } in
           let rest = begun programs (drop (i + 1) events) in
@@ -22,7 +22,7 @@ loop-event-preserved c =
                 ∙ ap (λ (list : List Activation). made ++ list)
                 (sym (begun_here programs events i w.in-Begin.program w.in-Begin.args w.in-Some.program.now (Begin 0 []) c.loop-event-test.true w.in-Begin.is found))
                 ∙ c.loop-event.invariant.begun;
-            fresh = fresh_more c.loop-event.entries.items entry c.loop-event.invariant.fresh (record { steps = refl; uncommitted = refl });
+            fresh = All-push IsFresh c.loop-event.entries.items entry c.loop-event.invariant.fresh (record { steps = refl; uncommitted = refl });
           })
       | in-Begin+in-None w ↦
           let past = rw w.from.ensures at (slice_get_past programs w.from.result w.in-None.ensures.lookup.3) in

@@ -1,5 +1,5 @@
 use Rattle.serial_audit.proofs.Common.{◌≡◌, ◌-◌, ◌<◌, Some, None, refl, sym, ◌∙◌, ap, arith, Plain, next_state, row}
-use Rattle.serial_audit.proofs.RowLemmas.{commit_at, no_commit, stopped, stops_early}
+use Rattle.serial_audit.proofs.StepLemmas.{commit_at, no_commit, stopped, stops_early}
 use Rattle.serial_audit.proofs.replay.run_to_commit.Goals as goal
 
 pub loop-row-init : goal.loop-row-init

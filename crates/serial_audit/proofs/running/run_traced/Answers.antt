@@ -1,6 +1,5 @@
 use Rattle.serial_audit.proofs.Common.{◌≡◌, ◌+◌, ◌-◌, ◌<◌, Some, None, refl, sym, ◌∙◌, ap, add-one, arith, Plain, FlatStore, next_state, row, Activation, touches}
-use Rattle.serial_audit.proofs.RowLemmas.{commit_at, no_commit, stopped, stops_early}
-use Rattle.serial_audit.proofs.StepLemmas.{touches_next}
+use Rattle.serial_audit.proofs.StepLemmas.{commit_at, no_commit, stopped, stops_early, touches_next}
 use Rattle.serial_audit.proofs.running.run_traced.Goals as goal
 
 pub loop-step-init : goal.loop-step-init

@@ -1,6 +1,5 @@
 use Rattle.serial_audit.proofs.Common.{◌+◌, take, drop, take_all, report_told, told_of}
-use Rattle.serial_audit.proofs.VerdictLemmas.{told_all, told_more}
-use Rattle.serial_audit.proofs.LineLemmas.{none_more}
+use Rattle.serial_audit.proofs.VerdictLemmas.{told_all, told_more, none_more}
 use Rattle.serial_audit.proofs.touch_trace.first_commit.Goals as goal
 
 pub returns-then-commit-activation : goal.returns-then-commit-activation

@@ -1,6 +1,5 @@
 use Rattle.serial_audit.proofs.Common.{◌≡◌, rules, told_of, activation_in}
-use Rattle.serial_audit.proofs.VerdictLemmas.{refused}
-use Rattle.serial_audit.proofs.LineLemmas.{traced_sound}
+use Rattle.serial_audit.proofs.VerdictLemmas.{refused, traced_sound}
 use Rattle.serial_audit.proofs.touch_trace.touches_of.Goals as goal
 
 pub returns-then-eq : goal.returns-then-eq

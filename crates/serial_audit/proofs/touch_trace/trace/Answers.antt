@@ -1,6 +1,5 @@
 use Rattle.serial_audit.proofs.Common.{[], ◌∷◌, take, refl, report_told, told_of}
-use Rattle.serial_audit.proofs.VerdictLemmas.{sound_more}
-use Rattle.serial_audit.proofs.LineLemmas.{unsound_among}
+use Rattle.serial_audit.proofs.VerdictLemmas.{sound_more, unsound_among}
 use Rattle.serial_audit.proofs.touch_trace.trace.Goals as goal
 
 pub returns-in-Err : goal.returns-in-Err

@@ -1,4 +1,4 @@
-use Rattle.standby.proofs.Common.{◌≡◌, inl, inr, length, refl, sym, ap, subst, arith, length-map, elapses-trans, OnlyAsks, content_of, later, record_of}
+use Rattle.standby.proofs.Common.{◌≡◌, inr, length, refl, sym, ap, subst, arith, length-map, elapses-trans, OnlyAsks, content_of, later, record_of}
 use Rattle.standby.proofs.FollowCallLemmas.{followed_disk, followed_done, followed_put, not_opened}
 use Rattle.standby.proofs.follow_call.follow_text.Goals as goal
 
@@ -7,12 +7,12 @@ returns-in-Err-clause-on g c =
     not_opened g.W.Outside g.met.W.Outside.fewer_later g.met.W.Outside.printed_now (content_of c.args.ship.now) c.args.outside.now c.open.new.outside c.in-Err.ensures.asks c.in-Err.fault c.from.result c.from.ensures c.in-Err.ensures.fault
 
 pub returns-in-Done-clause-on : goal.returns-in-Done-clause-on
-returns-in-Done-clause-on g c =
-    let fits = c.in-Done.ensures.fits (inl refl) in (
-      λ told. record { store = c.in-Ok.store; shows = c.in-Ok.ensures.shows told; due_on = fits },
-      followed_done g.W.Outside g.met.W.Outside.fewer_later g.met.W.Outside.printed_now (content_of c.args.ship.now) c.args.outside.now c.open.new.outside c.in-Ok.ensures.asks
-          c.in-Ok.store c.follow.new.durable c.in-Ok.ensures.shows c.in-Ok.ensures.tracks c.follow.new.outside c.in-Done.ensures.only.time c.requires.content.number fits.1 c.in-Done.ensures.header (c.in-Done.ensures.kept refl) c.in-Done.ensures.follows,
-    )
+returns-in-Done-clause-on g c = (
+  λ told. record { store = c.in-Ok.store; shows = c.in-Ok.ensures.shows told; due_on = c.in-Done.ensures.found },
+  followed_done g.W.Outside g.met.W.Outside.fewer_later g.met.W.Outside.printed_now (content_of c.args.ship.now) c.args.outside.now c.open.new.outside c.in-Ok.ensures.asks
+      c.in-Ok.store c.follow.new.durable c.in-Ok.ensures.shows c.in-Ok.ensures.tracks c.follow.new.outside c.in-Done.ensures.only.time
+      c.requires.content.number c.in-Done.ensures.found.1 c.in-Done.ensures.header (c.in-Done.ensures.kept refl) c.in-Done.ensures.follows,
+)
 
 pub returns-in-Done-clause-time : goal.returns-in-Done-clause-time
 returns-in-Done-clause-time g c =
@@ -20,16 +20,14 @@ returns-in-Done-clause-time g c =
 
 pub returns-in-NotKept-clause-on : goal.returns-in-NotKept-clause-on
 returns-in-NotKept-clause-on g c =
-    let due = c.in-NotKept.ensures.not_kept.0 refl in
     let many : c.len.result ≡ length (content_of c.args.ship.now).records = omega (arith, c.len.ensures, length-map c.args.ship.now.records.items (record_of c.args.ship.now.line_bytes)) in
-    λ told. record { store = c.in-Ok.store; shows = c.in-Ok.ensures.shows told; due_on = (refl, ap (later c.args.ship.now.start) many, due.0, due.1) }
+    let found = c.in-NotKept.ensures.found in
+    λ told. record { store = c.in-Ok.store; shows = c.in-Ok.ensures.shows told; due_on = (refl, ap (later c.args.ship.now.start) many, found.0, found.1) }
 
 pub returns-in-Long-clause-on : goal.returns-in-Long-clause-on
 returns-in-Long-clause-on g c =
-    let due = c.in-Long.ensures.long c.in-Long.number refl in (
-      inr refl,
-      λ told. record { store = c.in-Ok.store; shows = c.in-Ok.ensures.shows told; due_on = inr (refl, due.0, due.1, due.2) },
-    )
+    let found = c.in-Long.ensures.found in
+    (inr refl, λ told. record { store = c.in-Ok.store; shows = c.in-Ok.ensures.shows told; due_on = inr (refl, found.0, found.1, found.2) })
 
 pub returns-in-Long-clause-refused : goal.returns-in-Long-clause-refused
 returns-in-Long-clause-refused g c refusal =
@@ -41,24 +39,22 @@ returns-in-Long-clause-time g c =
     elapses-trans g.W.Outside g.met.W.Outside.fewer_later c.args.outside.now c.open.new.outside c.follow.new.outside c.in-Ok.ensures.asks.calls.time c.in-Long.ensures.only.time
 
 pub returns-in-DiskFault-clause-on : goal.returns-in-DiskFault-clause-on
-returns-in-DiskFault-clause-on g c =
-    let fits = c.in-DiskFault.ensures.fits (inr (inl refl)) in (
-      inr (λ told. record { store = c.in-Ok.store; shows = c.in-Ok.ensures.shows told; due_on = fits }),
-      followed_disk g.W.Outside g.met.W.Outside.fewer_later g.met.W.Outside.printed_now (content_of c.args.ship.now) c.args.outside.now c.open.new.outside c.in-Ok.ensures.asks
-          c.in-Ok.store c.follow.new.durable c.in-Ok.ensures.shows c.in-Ok.ensures.tracks c.follow.new.outside c.in-DiskFault.ensures.only.time c.in-DiskFault.ensures.follows,
-    )
+returns-in-DiskFault-clause-on g c = (
+  inr (λ told. record { store = c.in-Ok.store; shows = c.in-Ok.ensures.shows told; due_on = c.in-DiskFault.ensures.found }),
+  followed_disk g.W.Outside g.met.W.Outside.fewer_later g.met.W.Outside.printed_now (content_of c.args.ship.now) c.args.outside.now c.open.new.outside c.in-Ok.ensures.asks
+      c.in-Ok.store c.follow.new.durable c.in-Ok.ensures.shows c.in-Ok.ensures.tracks c.follow.new.outside c.in-DiskFault.ensures.only.time c.in-DiskFault.ensures.follows,
+)
 
 pub returns-in-DiskFault-clause-time : goal.returns-in-DiskFault-clause-time
 returns-in-DiskFault-clause-time g c =
     elapses-trans g.W.Outside g.met.W.Outside.fewer_later c.args.outside.now c.open.new.outside c.follow.new.outside c.in-Ok.ensures.asks.calls.time c.in-DiskFault.ensures.only.time
 
 pub returns-clause-on : goal.returns-clause-on
-returns-clause-on g c =
-    let fits = c.in-PutFault.ensures.fits (inr (inr refl)) in (
-      λ told. record { store = c.in-Ok.store; shows = c.in-Ok.ensures.shows told; due_on = fits },
-      followed_put g.W.Outside g.met.W.Outside.fewer_later g.met.W.Outside.printed_now (content_of c.args.ship.now) c.args.outside.now c.open.new.outside c.in-Ok.ensures.asks
-          c.in-Ok.store c.follow.new.durable c.in-Ok.ensures.shows c.in-Ok.ensures.tracks c.follow.new.outside c.in-PutFault.ensures.only.time c.in-PutFault.ensures.follows,
-    )
+returns-clause-on g c = (
+  λ told. record { store = c.in-Ok.store; shows = c.in-Ok.ensures.shows told; due_on = c.in-PutFault.ensures.found },
+  followed_put g.W.Outside g.met.W.Outside.fewer_later g.met.W.Outside.printed_now (content_of c.args.ship.now) c.args.outside.now c.open.new.outside c.in-Ok.ensures.asks
+      c.in-Ok.store c.follow.new.durable c.in-Ok.ensures.shows c.in-Ok.ensures.tracks c.follow.new.outside c.in-PutFault.ensures.only.time c.in-PutFault.ensures.follows,
+)
 
 pub returns-clause-time : goal.returns-clause-time
 returns-clause-time g c =

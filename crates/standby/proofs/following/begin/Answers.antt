@@ -1,4 +1,4 @@
-use Rattle.standby.proofs.Lemmas.{◌≡◌, ℕ, suc, ◌+◌, ◌*◌, ◌-◌, ◌<◌, ◌≤◌, List, [], ◌∷◌, ◌++◌, length, take, drop, get_or, sym, ◌∙◌, ap, subst, arith, refl, All, Some, fold-append, length-take-le, take_all, take_more, map-append, RecordLine, record_bytes, line_count, line_bytes, Layout, PageSize, Header, begun_of, record_bytes_of, KeptBank, KeptStore, bank_begun, with_begun, AreLines, ShipLine, parted, told, fold, with_line, before_next, get_or-parted, length-parted, line_below, no_line, part_at, room_for}
+use Rattle.standby.proofs.Lemmas.{◌≡◌, ℕ, ◌+◌, ◌*◌, ◌-◌, ◌<◌, ◌≤◌, List, [], ◌∷◌, ◌++◌, length, take, drop, get_or, sym, ◌∙◌, ap, subst, arith, All, Some, fold-append, length-take-le, take_all, take_more, map-append, RecordLine, record_bytes, line_count, line_bytes, Layout, PageSize, Header, begun_of, record_bytes_of, KeptBank, KeptStore, bank_begun, with_begun, AreLines, ShipLine, parted, told, fold, with_line, before_next, get_or-parted, length-parted, line_below, no_line, part_at, room_for, length-map}
 use Rattle.standby.proofs.following.begin.Goals as goal
 
 -- a line of the record is one of the store
@@ -9,13 +9,11 @@ line_fits size bound items bytes i are lt = grind (arith, line_below size bound 
 all_below : (size bound : ℕ) (items bytes : List ℕ) (begun : List RecordLine) (i : ℕ) → AreLines size bound 0 (parted size items bytes) → i < length items → told begun ≡ take i (parted size items bytes) → All (λ one. one.line < get_or items i 0) begun
 all_below size bound items bytes begun i are lt is = grind (arith, get_or-parted size items bytes i lt, before_next size bound 0 (parted size items bytes) begun i are (omega (arith, lt, length-parted size items bytes)) is)
 
-length-told : (begun : List RecordLine) → length (told begun) ≡ length begun
-length-told [] = refl
-length-told (one ∷ begun) = ap suc (length-told begun)
-
 -- there are as many as lines before it
 as_many : (size : ℕ) (items bytes : List ℕ) (begun : List RecordLine) (i : ℕ) → i < length items → told begun ≡ take i (parted size items bytes) → length begun ≡ i
-as_many size items bytes begun i lt is = sym (length-told begun) ∙ ap length is ∙ length-take-le i (parted size items bytes) (omega (arith, lt, length-parted size items bytes))
+as_many size items bytes begun i lt is =
+    sym (length-map begun (λ (each : RecordLine). let it : ShipLine = record { line = each.line; bytes = each.bytes } in it))
+    ∙ ap length is ∙ length-take-le i (parted size items bytes) (omega (arith, lt, length-parted size items bytes))
 
 -- and with it one more
 one_told : (size : ℕ) (items bytes : List ℕ) (begun : List RecordLine) (i : ℕ) (one : RecordLine) → i < length items → told begun ≡ take i (parted size items bytes) → told (one ∷ []) ≡ part_at size items bytes i ∷ [] → told (begun ++ one ∷ []) ≡ take (i + 1) (parted size items bytes)

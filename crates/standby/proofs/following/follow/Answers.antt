@@ -1,5 +1,5 @@
-use Rattle.standby.proofs.Lemmas.{◌≡◌, ℕ, ◌+◌, ◌-◌, List, length, map, take, drop, refl, sym, subst, ◌∙◌, ap, arith, length-map, line_bytes, most_lines, number_of, bank_behind, Follows, IsAlike, IsLongAt, behind, due, ShipLine, content_of, later, record_of, Done, Geometry, NotKept, Long, ShipRecord, common_steps, All, ◌≤◌, follows_none, not_done}
-use Rattle.standby.proofs.DueLemmas.{due_are, few_are, first_is, fitting}
+use Rattle.standby.proofs.Lemmas.{◌≡◌, ℕ, ◌+◌, ◌-◌, List, length, map, take, drop, refl, sym, subst, ◌∙◌, ap, arith, length-map, line_bytes, most_lines, number_of, bank_behind, Follows, IsAlike, IsLongAt, behind, due, ShipLine, content_of, later, record_of, Done, Geometry, NotKept, Long, ShipRecord, common_steps, All, ◌≤◌, follows_none, not_done, FlatStore, AllFit, found_stopped}
+use Rattle.standby.proofs.BeginLemmas.{due_are, few_are, first_is, fitting}
 use Rattle.standby.proofs.following.follow.Given.{Over}
 use Rattle.standby.proofs.following.follow.Goals as goal
 use Rattle.standby.proofs.following.follow.Goals.{After-long_among}
@@ -47,16 +47,15 @@ pub returns-in-Some-clause-follows : goal.returns-in-Some-clause-follows
 returns-in-Some-clause-follows g c store tracks stood =
     follows_none g.W.Outside g.met.W.Outside.fewer_later g.met.W.Outside.printed_now c.args.ship.now.line_bytes (number_of c.args.durable.now) store (due (content_of c.args.ship.now) (number_of c.args.durable.now)) c.args.durable.now c.args.outside.now (Long _) (omega arith) tracks stood refl
 
-pub returns-in-Some-clause-long : goal.returns-in-Some-clause-long
-returns-in-Some-clause-long g c number is =
-    let at = (goal.at.returns-in-Some-clause-long g c).After-long_among in
-    let same : later c.number-in-Some.result (c.in-Some.place + 1) ≡ number = cc in
+pub returns-in-Some-clause-found : goal.returns-in-Some-clause-found
+returns-in-Some-clause-found g c =
+    let at = (goal.at.returns-in-Some-clause-found g c).After-long_among in
     let long = subst (λ (n : ℕ). IsLongAt n (slice g at) c.in-Some.place) (most g at) c.in-Some.ensures.first in (
       alike g at,
       among g at,
       (
         c.in-Some.place,
-        sym same ∙ ap (λ (n : ℕ). later n (c.in-Some.place + 1)) c.number-in-Some.ensures,
+        ap (λ (n : ℕ). later n (c.in-Some.place + 1)) c.number-in-Some.ensures,
         first_is c.args.ship.now c.args.durable.now.header c.requires.ship (alike g at) (passed g at) c.deref.result.now (slice g at) c.deref.ensures.value (slice_is g at) c.in-Some.place long,
       ),
     )
@@ -66,63 +65,56 @@ keep_all-requires-clause-fitting g c =
     let at = (goal.at.keep_all-requires-clause-fitting g c).After-long_among in
     fitting c.args.ship.now c.args.durable.now.header c.requires.ship (alike g at) (passed g at) c.deref.result.now (slice g at) c.deref.ensures.value (slice_is g at) (few g at c.in-None.ensures.none)
 
-pub returns-in-Ok-clause-fits : goal.returns-in-Ok-clause-fits
-returns-in-Ok-clause-fits g c done =
-    let at = (goal.at.returns-in-Ok-clause-fits g c).After-long_among in
-    (alike g at, among g at, few_are c.args.ship.now c.args.durable.now.header c.requires.ship (alike g at) (passed g at) c.deref.result.now (slice g at) c.deref.ensures.value (slice_is g at) (few g at c.in-None.ensures.none))
+-- all records that are due fit
+all_few : (g : Over) (c : goal.After-long_among g) → All (λ kept. length kept.lines.items ≤ c.most_lines.result) (slice g c)
+    → AllFit c.args.durable.now.header (content_of c.args.ship.now) (number_of c.args.durable.now)
+all_few g c short =
+    few_are c.args.ship.now c.args.durable.now.header c.requires.ship (alike g c) (passed g c) c.deref.result.now (slice g c) c.deref.ensures.value
+    (slice_is g c) (few g c short)
 
-pub returns-in-Err-clause-fits : goal.returns-in-Err-clause-fits
-returns-in-Err-clause-fits g c stopped =
-    let at = (goal.at.returns-in-Err-clause-fits g c).After-long_among in
-    (alike g at, among g at, few_are c.args.ship.now c.args.durable.now.header c.requires.ship (alike g at) (passed g at) c.deref.result.now (slice g at) c.deref.ensures.value (slice_is g at) (few g at c.in-None.ensures.none))
+pub returns-in-Ok : goal.returns-in-Ok
+returns-in-Ok g c =
+    let at = (goal.at.returns-in-Ok g c).After-long_among in
+    let Goes = λ (bytes : ℕ) (records : List (List ShipLine)) (store : FlatStore).
+    Follows g.W.Outside bytes (number_of c.args.durable.now) store records c.keep_all.new.durable c.args.outside.now c.keep_all.new.outside Done in
+    record {
+      found = (alike g at, among g at, all_few g at c.in-None.ensures.none);
+      refused = grind arith;
+      only = c.in-Ok.ensures.only;
+      ends = c.in-Ok.ensures.ends;
+      header = c.in-Ok.ensures.header;
+      kept = λ done. c.in-Ok.ensures.kept ∙ ap (bank_behind c.args.durable.now.bank) (due_is g at);
+      follows = λ store tracks stood. of_due g at (λ bytes records. Goes bytes records store) (c.in-Ok.ensures.follows store tracks stood);
+    }
 
-pub returns-in-Ok-clause-kept : goal.returns-in-Ok-clause-kept
-returns-in-Ok-clause-kept g c done =
-    let at = (goal.at.returns-in-Ok-clause-kept g c).After-long_among in
-    c.in-Ok.ensures.kept ∙ ap (bank_behind c.args.durable.now.bank) (due_is g at)
-
-pub returns-in-Err-clause-kept : goal.returns-in-Err-clause-kept
-returns-in-Err-clause-kept g c done = absurd (not_done c.in-Err.why c.in-Err.ensures.stopped done)
-
-pub returns-in-Ok-clause-follows : goal.returns-in-Ok-clause-follows
-returns-in-Ok-clause-follows g c store tracks stood =
-    let at = (goal.at.returns-in-Ok-clause-follows g c).After-long_among in
-    of_due g at (λ (bytes : ℕ) (records : List (List ShipLine)). Follows g.W.Outside bytes (number_of c.args.durable.now) store records c.keep_all.new.durable c.args.outside.now c.keep_all.new.outside Done) (c.in-Ok.ensures.follows store tracks stood)
-
-pub returns-in-Err-clause-follows : goal.returns-in-Err-clause-follows
-returns-in-Err-clause-follows g c store tracks stood =
-    let at = (goal.at.returns-in-Err-clause-follows g c).After-long_among in
-    of_due g at (λ (bytes : ℕ) (records : List (List ShipLine)). Follows g.W.Outside bytes (number_of c.args.durable.now) store records c.keep_all.new.durable c.args.outside.now c.keep_all.new.outside c.in-Err.why) (c.in-Err.ensures.follows store tracks stood)
-
-pub returns-in-Err-clause-not_kept : goal.returns-in-Err-clause-not_kept
-returns-in-Err-clause-not_kept g c = grind (arith, common_steps)
-
-pub returns-in-Ok-clause-not_kept : goal.returns-in-Ok-clause-not_kept
-returns-in-Ok-clause-not_kept g c = grind (arith, common_steps)
-
-pub returns-in-Some-clause-not_kept : goal.returns-in-Some-clause-not_kept
-returns-in-Some-clause-not_kept g c = grind (arith, common_steps)
+pub returns-in-Err : goal.returns-in-Err
+returns-in-Err g c =
+    let at = (goal.at.returns-in-Err g c).After-long_among in
+    let Goes = λ (bytes : ℕ) (records : List (List ShipLine)) (store : FlatStore).
+    Follows g.W.Outside bytes (number_of c.args.durable.now) store records c.keep_all.new.durable c.args.outside.now c.keep_all.new.outside c.in-Err.why in
+    record {
+      found =
+          found_stopped c.args.durable.now.header (content_of c.args.ship.now) (number_of c.args.durable.now) c.in-Err.why c.in-Err.ensures.stopped
+          (alike g at, among g at, all_few g at c.in-None.ensures.none);
+      refused = grind arith;
+      only = c.in-Err.ensures.only;
+      ends = c.in-Err.ensures.ends;
+      header = c.in-Err.ensures.header;
+      kept = λ done. absurd (not_done c.in-Err.why c.in-Err.ensures.stopped done);
+      follows = λ store tracks stood. of_due g at (λ bytes records. Goes bytes records store) (c.in-Err.ensures.follows store tracks stood);
+    }
 
 pub returns-in-Some-clause-only : goal.returns-in-Some-clause-only
 returns-in-Some-clause-only g c = grind arith
 
+pub returns-then-passed-len-clause-found : goal.returns-then-passed-len-clause-found
+returns-then-passed-len-clause-found g c = grind (arith, common_steps)
+
 pub returns-then-passed-len-clause-only : goal.returns-then-passed-len-clause-only
 returns-then-passed-len-clause-only g c = grind arith
-
-pub returns-then-passed-len-clause-not_kept : goal.returns-then-passed-len-clause-not_kept
-returns-then-passed-len-clause-not_kept g c = grind (arith, common_steps)
 
 pub keep_all-requires-clause-room : goal.keep_all-requires-clause-room
 keep_all-requires-clause-room g c = grind arith
 
-pub returns-in-Err-clause-long : goal.returns-in-Err-clause-long
-returns-in-Err-clause-long g c = grind arith
-
 pub returns-then-not-is_alike-clause-only : goal.returns-then-not-is_alike-clause-only
 returns-then-not-is_alike-clause-only g c = grind (arith, common_steps)
-
-pub returns-in-Ok-clause-long : goal.returns-in-Ok-clause-long
-returns-in-Ok-clause-long g c = grind arith
-
-pub returns-in-Err-clause-refused : goal.returns-in-Err-clause-refused
-returns-in-Err-clause-refused g c = grind arith

@@ -1,5 +1,5 @@
-use Rattle.standby.proofs.Lemmas.{◌≡◌, ℕ, ◌≤◌, List, [], ◌++◌, length, map, take, drop, refl, sym, subst, ◌∙◌, ap, arith, Result, Ok, Err, All, OnOk, length-drop, length-map, Layout, line_count, Header, line_bytes, RecordLine, Prints, PrintsBy, Puts, Shipped, feeds, prints_on, prints_stop, prints_unput, area_bytes, broken, HasBytes, shipped, behind, put_of, end_line, head_line, later, records_text, text_of, told, held_of, AsksAndPuts, shows_asks, shows_on, IsShown, nat_tests, later_later, end_is_line, head_is_line, one_feed, by_put, prints_by, quiet_by, shows_line, still_shown}
-use Rattle.standby.proofs.ContentLemmas.{content_is}
+use Rattle.standby.proofs.Lemmas.{◌≡◌, ℕ, ◌≤◌, List, [], ◌++◌, length, map, take, drop, refl, sym, subst, ◌∙◌, ap, arith, Result, Ok, Err, All, length-drop, length-map, Layout, line_count, Header, line_bytes, RecordLine, Prints, PrintsBy, Puts, Shipped, feeds, prints_on, prints_stop, prints_unput, area_bytes, broken, HasBytes, shipped, behind, put_of, end_line, head_line, later, records_text, text_of, told, held_of, AsksAndPuts, shows_asks, shows_on, IsShown, nat_tests, later_later, end_is_line, head_is_line, one_feed, by_put, prints_by, quiet_by, shows_line, still_shown, on_ok}
+use Rattle.standby.proofs.ShipLemmas.{content_is}
 use Rattle.standby.proofs.shipping.put_text.Given.{Over}
 use Rattle.standby.proofs.shipping.put_text.Goals as goal
 use Rattle.standby.proofs.shipping.put_text.Goals.{After-put_line, After-put_records}
@@ -113,19 +113,9 @@ returns-clause-content g c =
     content_is (held_of g.W.Outside c.args.outside.now) c.args.durable.now shown.shows c.args.from c.ranges.from.fits (omega (arith, c.requires.lines, c.ranges.lines.fits))
     (subst (λ (n : ℕ). All (λ lines. All (HasBytes (line_bytes c.args.durable.now.header.directory.page)) lines) (drop n shown.shows.read.records)) c.requires.behind
     (subst (λ (records : List (List RecordLine)). All (λ lines. All (HasBytes (line_bytes c.args.durable.now.header.directory.page)) lines) (drop c.args.passed records)) still.1.0 (c.in-Ok-put_records.ensures.bytes still.0 still.1.1))))
-  where
-    on_ok : {T E P : Type 0} (result : Result T E) → P → OnOk result P
-    on_ok (Ok value) is = is
-    on_ok (Err why) is = tt
 
 pub put_records-requires-clause-room : goal.put_records-requires-clause-room
 put_records-requires-clause-room g c = grind arith
 
 pub returns-in-Err-clause-only : goal.returns-in-Err-clause-only
 returns-in-Err-clause-only g c = grind arith
-
-pub returns-in-Err-put_records-clause-ends : goal.returns-in-Err-put_records-clause-ends
-returns-in-Err-put_records-clause-ends g c = grind arith
-
-pub returns-clause-ends : goal.returns-clause-ends
-returns-clause-ends g c = grind arith

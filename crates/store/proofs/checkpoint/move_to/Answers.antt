@@ -1,16 +1,8 @@
-use Rattle.store.proofs.BanksCommon.{◌≡◌, ℕ, ◌∷◌, [], List, length, sym, subst, ◌∙◌, ap, arith, IsTrue, Bool, line_count, Which, bank_at, Torn, written, IsSure, Leaves, OnlyAsks, held_of, leaves_on, leaves_same, asks_one, OnlyWrites, place_of, end_of, number_of, TracksBank, head_bytes, place_is, held_is, writes_on, asks_only, other, selector_of, IsCovered, IsHomed, IsSame}
-use Rattle.store.proofs.StepLemmas.{leaves_step, same_held, written_held, synced_sure, map_ok}
-use Rattle.store.proofs.MoveLemmas.{IsHeaded, covered_same, headed_same, headed, selected_same, IsThere, moved}
-use Rattle.store.proofs.HomeLemmas.{end_within}
+use Rattle.store.proofs.Lemmas.{◌≡◌, ℕ, ◌∷◌, [], List, length, sym, subst, ◌∙◌, ap, arith, IsTrue, Bool, line_count, Which, bank_at, Torn, written, IsSure, Leaves, OnlyAsks, held_of, leaves_on, leaves_same, asks_one, OnlyWrites, place_of, end_of, TracksBank, head_bytes, place_is, held_is, writes_on, asks_only, other, selector_of, IsCovered, IsHomed, IsSame, leaves_step, same_held, written_held, synced_sure, IsHeaded, covered_same, headed_same, headed, selected_same, IsThere, moved, end_within, on_ok_weaker}
+use Rattle.store.specs.Kept.{number_of}
 use Rattle.store.proofs.checkpoint.move_to.Given.{Over}
 use Rattle.store.proofs.checkpoint.move_to.Goals as goal
-use Rattle.store.proofs.checkpoint.move_to.Goals.{After-write_home, After-write_head, After-sync, After-write_selector}
-
--- the images after the home lines
-first : (g : Over) (c : goal.After-write_home g) (tracks : TracksBank g.W.Outside c.args.bank.now c.args.outside.now)
-    → Leaves g.W.Outside (λ image seen. IsSame tracks.header c.args.bank.now tracks.records (held_of g.W.Outside c.args.outside.now) image) c.args.outside.now c.write_home.new.outside
-first g c tracks image seen left =
-    covered_same tracks.header c.args.bank.now tracks.records (held_of g.W.Outside c.args.outside.now) tracks.store tracks.count image (c.write_home.ensures.crash tracks image seen left)
+use Rattle.store.proofs.checkpoint.move_to.Goals.{After-write_head, After-sync, After-write_selector}
 
 -- where the other bank lies
 place : (g : Over) (c : goal.After-write_head g) (tracks : TracksBank g.W.Outside c.args.bank.now c.args.outside.now) → place_of c.args.which c.args.bank.now.bank_bytes ≡ bank_at tracks.header (other c.args.bank.now.which)
@@ -54,7 +46,8 @@ pub write_head-requires-clause-room : goal.write_head-requires-clause-room
 write_head-requires-clause-room g c = c.write_home.ensures.only.longer (end_of c.args.which c.args.bank.now.bank_bytes) (λ held is. omega (arith, c.requires.room held is, end_within c.args.which c.args.bank.now (length c.args.bank.now.newest)))
 
 pub returns-in_err-write_home-clause-crash : goal.returns-in_err-write_home-clause-crash
-returns-in_err-write_home-clause-crash g c tracks = first g (goal.at.returns-in_err-write_home-clause-crash g c).After-write_home tracks
+returns-in_err-write_home-clause-crash g c tracks image seen left =
+    covered_same tracks.header c.args.bank.now tracks.records (held_of g.W.Outside c.args.outside.now) tracks.store tracks.count image (c.write_home.ensures.crash tracks image seen left)
 
 pub returns-in_err-write_head-clause-only : goal.returns-in_err-write_head-clause-only
 returns-in_err-write_head-clause-only g c = wrote g (goal.at.returns-in_err-write_head-clause-only g c).After-write_head
@@ -69,11 +62,6 @@ pub returns-in_err-sync-clause-crash : goal.returns-in_err-sync-clause-crash
 returns-in_err-sync-clause-crash g c tracks =
     let at = goal.at.returns-in_err-sync-clause-crash g c in
     third g at.After-sync tracks (wrote g at.After-write_head) (second g at.After-write_head tracks)
-
-pub returns-clause-only : goal.returns-clause-only
-returns-clause-only g c =
-    let at = goal.at.returns-clause-only g c in
-    writes_on g.W.Outside g.met.W.Outside.fewer_later c.args.outside.now c.sync.new.self c.write_selector.new.outside (three g at.After-sync (wrote g at.After-write_head)) c.write_selector.ensures.only
 
 -- the bytes before the selector are sure, and the other bank begins with its head
 sure : (g : Over) (c : goal.After-write_selector g) (tracks : TracksBank g.W.Outside c.args.bank.now c.args.outside.now) → OnlyAsks g.W.Outside c.write_head.new.outside c.sync.new.self → OnlyWrites g.W.Outside c.args.outside.now c.write_head.new.outside → IsSure g.W.Outside c.sync.new.self
@@ -96,38 +84,37 @@ ready g c tracks asks at =
     ∙ ap (λ (n : ℕ). written home n (head_bytes (number_of bank))) at in
     subst (λ (those : List ℕ). IsHeaded tracks.header bank tracks.records held tracks.store tracks.count those) (sym is) (headed tracks.header bank tracks.records held tracks.store tracks.count home homed)
 
-pub returns-clause-crash : goal.returns-clause-crash
-returns-clause-crash g c tracks =
-    let at = goal.at.returns-clause-crash g c in
+pub returns : goal.returns
+returns g c =
+    let at = goal.at.returns g c in
     let G = g.W.Outside in
     let bank = c.args.bank.now in
     let held = held_of G c.args.outside.now in
     let before = wrote g at.After-write_head in
     let asks = synced g at.After-sync in
-    leaves_on G g.met.W.Outside.fewer_later c.args.outside.now c.sync.new.self c.write_selector.new.outside (three g at.After-sync before).calls.time c.write_selector.ensures.only.calls.time
-    (λ (image seen : List ℕ). IsSame tracks.header bank tracks.records held image)
-    (third g at.After-sync tracks before (second g at.After-write_head tracks))
-    (λ image seen left.
-    selected_same tracks.header bank tracks.records held tracks.store tracks.count (held_of G c.sync.new.self) (ready g at.After-write_selector tracks asks (place g at.After-write_head tracks)) image (c.write_selector.ensures.crash (sure g at.After-write_selector tracks asks before) image seen left))
-
-pub returns-clause-done : goal.returns-clause-done
-returns-clause-done g c =
-    let at = goal.at.returns-clause-done g c in
-    let G = g.W.Outside in
-    let bank = c.args.bank.now in
-    let held = held_of G c.args.outside.now in
-    map_ok c.write_selector.result c.write_selector.ensures.done (λ done tracks.
-    let before = wrote g at.After-write_head in
-    let asks = synced g at.After-sync in
-    let wrote_it = done (sure g at.After-write_selector tracks asks before) in
-    let is : held_of G c.write_selector.new.outside ≡ written (held_of G c.sync.new.self) 128 (selector_of (other bank.which) ∷ []) =
-    held_is wrote_it.held ∙ ap (λ (which : Which). written (held_of G c.sync.new.self) 128 (selector_of which ∷ [])) c.requires.other in
-    let there = moved tracks.header bank tracks.records held tracks.store tracks.count (held_of G c.sync.new.self) (ready g at.After-write_selector tracks asks (place g at.After-write_head tracks)) in
-    let here = subst (λ (those : List ℕ). IsThere tracks.header bank tracks.records held tracks.store tracks.count (held_of G c.sync.new.self) (ready g at.After-write_selector tracks asks (place g at.After-write_head tracks)) those) (sym is) there in
-    record { sure = wrote_it.sure; stood = here.stood; store = here.store })
+    let so_far = three g at.After-sync before in
+    let synced_bytes = held_of G c.sync.new.self in
+    let is_sure = λ (tracks : TracksBank G bank c.args.outside.now). sure g at.After-write_selector tracks asks before in
+    let is_ready = λ (tracks : TracksBank G bank c.args.outside.now). ready g at.After-write_selector tracks asks (place g at.After-write_head tracks) in
+    record {
+      only = writes_on G g.met.W.Outside.fewer_later c.args.outside.now c.sync.new.self c.write_selector.new.outside so_far c.write_selector.ensures.only;
+      crash = λ tracks.
+          leaves_on G g.met.W.Outside.fewer_later c.args.outside.now c.sync.new.self c.write_selector.new.outside so_far.calls.time c.write_selector.ensures.only.calls.time
+          (λ (image seen : List ℕ). IsSame tracks.header bank tracks.records held image)
+          (third g at.After-sync tracks before (second g at.After-write_head tracks))
+          (λ image seen left.
+          selected_same tracks.header bank tracks.records held tracks.store tracks.count synced_bytes (is_ready tracks) image (c.write_selector.ensures.crash (is_sure tracks) image seen left));
+      done = on_ok_weaker c.write_selector.result
+          (λ done tracks.
+          let wrote_it = done (is_sure tracks) in
+          let is : held_of G c.write_selector.new.outside ≡ written synced_bytes 128 (selector_of (other bank.which) ∷ []) =
+          held_is wrote_it.held ∙ ap (λ (which : Which). written synced_bytes 128 (selector_of which ∷ [])) c.requires.other in
+          let there = moved tracks.header bank tracks.records held tracks.store tracks.count synced_bytes (is_ready tracks) in
+          let here = subst (λ (those : List ℕ). IsThere tracks.header bank tracks.records held tracks.store tracks.count synced_bytes (is_ready tracks) those) (sym is) there in
+          record { sure = wrote_it.sure; stood = here.stood; store = here.store })
+          c.write_selector.ensures.done;
+      cause = grind arith;
+    }
 
 pub write_selector-requires : goal.write_selector-requires
 write_selector-requires g c = grind arith
-
-pub returns-clause-cause : goal.returns-clause-cause
-returns-clause-cause g c = grind arith

@@ -1,5 +1,4 @@
-use Rattle.store.proofs.BanksCommon.{◌≡◌, ℕ, length, List, refl, sym, subst, arith, IsTrue, Bool, Option, IsSome, Torn, LeavesStep, OnlyAsks, asks_one}
-use Rattle.store.proofs.StepLemmas.{follows_asked}
+use Rattle.store.proofs.Lemmas.{◌≡◌, ℕ, length, List, refl, sym, subst, arith, IsTrue, Bool, Option, IsSome, Torn, LeavesStep, OnlyAsks, asks_one, follows_asked}
 use Rattle.store.proofs.home.copy_line.Goals as goal
 
 pub returns-clause-crash : goal.returns-clause-crash
@@ -13,12 +12,3 @@ returns-clause-crash g c honest told =
     (follows_asked G g.met.W.Outside.fewer_later c.args.outside.now c.read_at.new.self c.write_once.new.outside read.time c.write_once.ensures.only.calls.time (Torn c.args.to (length c.read_at.new.into))
     (λ image. record { before = refl; after = refl; no_shorter = omega arith; no_longer = omega arith }) told asks
     (c.write_once.ensures.crash (subst (λ (b : Bool). IsTrue b) (sym read.honest) honest) (subst (λ (those : Option (List ℕ)). IsSome those) (sym read.held) told)))
-
-pub returns-clause-done : goal.returns-clause-done
-returns-clause-done g c = grind arith
-
-pub write_once-requires : goal.write_once-requires
-write_once-requires g c = grind arith
-
-pub returns-clause-cause : goal.returns-clause-cause
-returns-clause-cause g c = grind arith

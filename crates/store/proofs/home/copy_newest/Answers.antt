@@ -1,5 +1,4 @@
-use Rattle.store.proofs.BanksCommon.{◌≡◌, ℕ, get_or, sym, subst, ◌∙◌, Option, None, Some, OnOk, IsSome, line_bytes_of, Torn, written, bytes_at, LeavesStep, held_of, home_place, copied, TornLine, common_steps, arith}
-use Rattle.std.proofs.lemmas.Option.{get_or_from_slice_get}
+use Rattle.store.proofs.Common.{◌≡◌, ℕ, get_or, sym, subst, ◌∙◌, Option, None, Some, OnOk, IsSome, line_bytes_of, Torn, written, bytes_at, LeavesStep, held_of, home_place, copied, TornLine, common_steps, arith, get_or_from_slice_get}
 use Rattle.store.proofs.home.copy_newest.Given.{Over}
 use Rattle.store.proofs.home.copy_newest.Goals as goal
 use Rattle.store.proofs.home.copy_newest.Goals.{In-Some}

@@ -1,6 +1,4 @@
-use Rattle.store.proofs.BanksCommon.{◌≡◌, ℕ, ◌<◌, List, length, refl, sym, subst, ◌∙◌, arith, IsTrue, Bool, line_count, store_big, Leaves, held_of, leaves_held, TracksBank, writes_on, wrote_nothing, store_bytes, IsCovered, IsHomed}
-use Rattle.store.proofs.StepLemmas.{leaves_step}
-use Rattle.store.proofs.HomeLemmas.{covered_self, homed_start, step_covered, step_homed}
+use Rattle.store.proofs.Lemmas.{◌≡◌, ℕ, ◌<◌, List, length, refl, sym, subst, ◌∙◌, arith, IsTrue, Bool, line_count, Leaves, held_of, leaves_held, TracksBank, writes_on, wrote_nothing, store_bytes, IsCovered, IsHomed, leaves_step, homed_start, step_covered, step_homed}
 use Rattle.store.proofs.home.write_home.Given.{Over}
 use Rattle.store.proofs.home.write_home.Goals as goal
 use Rattle.store.proofs.home.write_home.Goals.{After-copy_newest}
@@ -13,11 +11,8 @@ loop-line-init g c =
       only = wrote_nothing G start;
       no_fault = refl;
       crash = λ tracks image seen left.
-          let big = store_big tracks.header c.args.bank.now.which c.args.bank.now.base c.args.bank.now.gate tracks.records (held_of G start) tracks.store in
-          subst (λ (those : List ℕ). IsCovered tracks.header tracks.records (held_of G start) those) (sym (leaves_held G start tracks.sure image seen left)) (covered_self tracks.header c.args.bank.now.which c.args.bank.now.base c.args.bank.now.gate tracks.records (held_of G start) tracks.store big);
-      homed = λ tracks.
-          let big = store_big tracks.header c.args.bank.now.which c.args.bank.now.base c.args.bank.now.gate tracks.records (held_of G start) tracks.store in
-          homed_start tracks.header c.args.bank.now.which c.args.bank.now.base c.args.bank.now.gate tracks.records (held_of G start) tracks.store big;
+          subst (λ (those : List ℕ). IsCovered tracks.header tracks.records (held_of G start) those) (sym (leaves_held G start tracks.sure image seen left)) (homed_start tracks.header tracks.records (held_of G start)).covered;
+      homed = λ tracks. homed_start tracks.header tracks.records (held_of G start);
     }
 
 pub copy_newest-requires-clause-room : goal.copy_newest-requires-clause-room
@@ -30,7 +25,6 @@ covered g c tracks =
     let bank = c.args.bank.now in
     let start = c.args.outside.now in
     let before = c.loop-line.invariant.only in
-    let big = store_big tracks.header bank.which bank.base bank.gate tracks.records (held_of G start) tracks.store in
     let below : c.loop-line.line < line_count tracks.header.directory = omega (arith, tracks.bound, c.loop-line-test.true, c.lines-line-end.ensures) in
     let P = λ (image seen : List ℕ). IsCovered tracks.header tracks.records (held_of G start) image in
     leaves_step G g.met.W.Outside.fewer_later start c.loop-line.outside c.copy_newest.new.outside before.calls.time c.copy_newest.ensures.only.calls.time P P _
@@ -38,7 +32,7 @@ covered g c tracks =
     (c.copy_newest.ensures.crash (subst (λ (b : Bool). IsTrue b) (sym before.calls.honest) tracks.sure.honest) (before.told tracks.sure.told))
     (λ image seen so. so)
     (λ from image seen so torn.
-    step_covered tracks.header bank.which bank.base bank.gate tracks.records (held_of G start) tracks.store big bank c.loop-line.line tracks.page tracks.bank_bytes below _ (sym (tracks.newest c.loop-line.line (omega (arith, tracks.bound, below)))) from image so torn)
+    step_covered tracks.header bank.which bank.base bank.gate tracks.records (held_of G start) tracks.store bank c.loop-line.line tracks.page tracks.bank_bytes below _ (sym (tracks.newest c.loop-line.line (omega (arith, tracks.bound, below)))) from image so torn)
 
 pub returns-in_err-copy_newest-clause-only : goal.returns-in_err-copy_newest-clause-only
 returns-in_err-copy_newest-clause-only g c = writes_on g.W.Outside g.met.W.Outside.fewer_later c.args.outside.now c.loop-line.outside c.copy_newest.new.outside c.loop-line.invariant.only c.copy_newest.ensures.only
@@ -57,9 +51,8 @@ loop-line-preserved g c =
       no_fault = c.in_ok-copy_newest.ensures.cause.done ∙ c.loop-line.invariant.no_fault;
       crash = λ tracks. covered g (goal.at.loop-line-preserved g c).After-copy_newest tracks;
       homed = λ tracks.
-          let big = store_big tracks.header bank.which bank.base bank.gate tracks.records (held_of G start) tracks.store in
           let below : c.loop-line.line < line_count tracks.header.directory = omega (arith, tracks.bound, c.loop-line-test.true, c.lines-line-end.ensures) in
-          step_homed tracks.header bank.which bank.base bank.gate tracks.records (held_of G start) tracks.store big bank c.loop-line.line tracks.page tracks.bank_bytes below _ (sym (tracks.newest c.loop-line.line (omega (arith, tracks.bound, below))))
+          step_homed tracks.header bank.which bank.base bank.gate tracks.records (held_of G start) tracks.store bank c.loop-line.line tracks.page tracks.bank_bytes below _ (sym (tracks.newest c.loop-line.line (omega (arith, tracks.bound, below))))
           (held_of G c.loop-line.outside) (held_of G c.copy_newest.new.outside) (c.loop-line.invariant.homed tracks) (c.in_ok-copy_newest.ensures.done (before.told tracks.sure.told));
     }
 

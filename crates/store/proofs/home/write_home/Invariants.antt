@@ -1,4 +1,4 @@
-use Rattle.store.proofs.BanksCommon.{◌≡◌, Leaves, held_of, OnlyWrites, TracksBank, IsCovered, IsHomed}
+use Rattle.store.proofs.Common.{◌≡◌, Leaves, held_of, OnlyWrites, TracksBank, IsCovered, IsHomed}
 use Rattle.store.proofs.home.write_home.Given as goal
 
 abbrev pub invariant-loop-line : goal.invariant-loop-line

@@ -1,6 +1,4 @@
-use Rattle.store.proofs.Lemmas.{◌≡◌, List, ℕ, ◌+◌, ◌≤◌, ◌∷◌, [], length, sym, subst, ap, ◌∙◌, Torn, written, held_of, Leaves, told_some, leaves_on, IsSafe, IsShut, is_open, common_steps, arith, writes_on}
-use Rattle.outside.specs.Durable.{IsWritten}
-use Rattle.store.proofs.GateLemmas.{safe_behind, safe_at, opened, opened_torn, held_is}
+use Rattle.store.proofs.Lemmas.{◌≡◌, List, ℕ, ◌+◌, ◌≤◌, ◌∷◌, [], length, sym, subst, ap, ◌∙◌, Torn, written, held_of, Leaves, told_some, leaves_on, IsSafe, IsShut, is_open, common_steps, arith, writes_on, safe_behind, safe_at, opened, opened_torn, held_is, IsWritten}
 use Rattle.store.proofs.keep.keep_body.Given.{Over}
 use Rattle.store.proofs.keep.keep_body.Goals as goal
 use Rattle.store.proofs.keep.keep_body.Goals.{After-write_sure, After-write_sure-2}

@@ -1,7 +1,7 @@
 use Rattle.store.proofs.Lemmas.{◌≡◌, ℕ, ◌+◌, ◌*◌, List, [], length, drop, sym, subst, ◌∙◌, ap, arith, IsSome, entry_bytes, RecordLine, lines_from, wrong_line, gate_if, lined_gate, held_of, OnlyAsks, noted, read_is, asks_on, asks_one, common_steps, Option, None, Some, unwrap_or, slice_index, ◌==◌, first_read, gate_read, gate_misnumbered, read_on}
 use Rattle.store.proofs.read.read_gate.Given.{Over}
 use Rattle.store.proofs.read.read_gate.Goals as goal
-use Rattle.store.proofs.read.read_gate.Goals.{After-read_lines}
+use Rattle.store.proofs.read.read_gate.Goals.{After-read_at-2, After-read_lines}
 
 -- the lines behind the gate
 lines : (g : Over) (c : goal.After-read_lines g) → List RecordLine
@@ -25,21 +25,21 @@ same g c = ap (λ (those : Option (List ℕ)). lines_from c.args.page c.read_u16
 still : (g : Over) (c : goal.After-read_lines g) → IsSome (g.W.Outside.held c.args.outside.now) → IsSome (g.W.Outside.held c.read_at-2.new.self)
 still g c some = subst (λ (those : Option (List ℕ)). IsSome those) (sym (c.read_at-2.ensures.held ∙ c.read_at.ensures.held)) some
 
--- the two reads in front of the lines
-asked : (g : Over) (c : goal.After-read_lines g) → OnlyAsks g.W.Outside c.args.outside.now c.read_at-2.new.self
+-- the two reads in front
+asked : (g : Over) (c : goal.After-read_at-2 g) → OnlyAsks g.W.Outside c.args.outside.now c.read_at-2.new.self
 asked g c =
     asks_on g.W.Outside g.met.W.Outside.fewer_later c.args.outside.now c.read_at.new.self c.read_at-2.new.self
     (asks_one g.W.Outside c.args.outside.now c.read_at.new.self c.read_at.ensures.held c.read_at.ensures.writes c.read_at.ensures.honest c.read_at.ensures.time c.read_at.ensures.once c.read_at.ensures.quiet c.read_at.ensures.crash c.read_at.ensures.cause.later c.read_at.ensures.puts)
     (asks_one g.W.Outside c.read_at.new.self c.read_at-2.new.self c.read_at-2.ensures.held c.read_at-2.ensures.writes c.read_at-2.ensures.honest c.read_at-2.ensures.time c.read_at-2.ensures.once c.read_at-2.ensures.quiet c.read_at-2.ensures.crash c.read_at-2.ensures.cause.later c.read_at-2.ensures.puts)
 
 pub returns-in_err-offset-clause-asks : goal.returns-in_err-offset-clause-asks
-returns-in_err-offset-clause-asks g c = asks_on g.W.Outside g.met.W.Outside.fewer_later c.args.outside.now c.read_at-2.new.self c.read_lines.new.outside (asked g (goal.at.returns-in_err-offset-clause-asks g c).After-read_lines) c.in_err-offset.ensures.asks
+returns-in_err-offset-clause-asks g c = asks_on g.W.Outside g.met.W.Outside.fewer_later c.args.outside.now c.read_at-2.new.self c.read_lines.new.outside (asked g (goal.at.returns-in_err-offset-clause-asks g c).After-read_at-2) c.in_err-offset.ensures.asks
 
 pub returns-in-Some-clause-asks : goal.returns-in-Some-clause-asks
-returns-in-Some-clause-asks g c = asks_on g.W.Outside g.met.W.Outside.fewer_later c.args.outside.now c.read_at-2.new.self c.read_lines.new.outside (asked g (goal.at.returns-in-Some-clause-asks g c).After-read_lines) c.in_ok-offset.ensures.asks
+returns-in-Some-clause-asks g c = asks_on g.W.Outside g.met.W.Outside.fewer_later c.args.outside.now c.read_at-2.new.self c.read_lines.new.outside (asked g (goal.at.returns-in-Some-clause-asks g c).After-read_at-2) c.in_ok-offset.ensures.asks
 
 pub returns-in-None-clause-asks : goal.returns-in-None-clause-asks
-returns-in-None-clause-asks g c = asks_on g.W.Outside g.met.W.Outside.fewer_later c.args.outside.now c.read_at-2.new.self c.read_lines.new.outside (asked g (goal.at.returns-in-None-clause-asks g c).After-read_lines) c.in_ok-offset.ensures.asks
+returns-in-None-clause-asks g c = asks_on g.W.Outside g.met.W.Outside.fewer_later c.args.outside.now c.read_at-2.new.self c.read_lines.new.outside (asked g (goal.at.returns-in-None-clause-asks g c).After-read_at-2) c.in_ok-offset.ensures.asks
 
 pub returns-in-Some-clause-found : goal.returns-in-Some-clause-found
 returns-in-Some-clause-found g c some =
@@ -59,8 +59,7 @@ returns-in-None-clause-found g c some =
     )
 
 pub returns-then-read_u64-due-clause-asks : goal.returns-then-read_u64-due-clause-asks
-returns-then-read_u64-due-clause-asks g c =
-    asks_on g.W.Outside g.met.W.Outside.fewer_later c.args.outside.now c.read_at.new.self c.read_at-2.new.self (asks_one g.W.Outside c.args.outside.now c.read_at.new.self c.read_at.ensures.held c.read_at.ensures.writes c.read_at.ensures.honest c.read_at.ensures.time c.read_at.ensures.once c.read_at.ensures.quiet c.read_at.ensures.crash c.read_at.ensures.cause.later c.read_at.ensures.puts) (asks_one g.W.Outside c.read_at.new.self c.read_at-2.new.self c.read_at-2.ensures.held c.read_at-2.ensures.writes c.read_at-2.ensures.honest c.read_at-2.ensures.time c.read_at-2.ensures.once c.read_at-2.ensures.quiet c.read_at-2.ensures.crash c.read_at-2.ensures.cause.later c.read_at-2.ensures.puts)
+returns-then-read_u64-due-clause-asks g c = asked g (goal.at.returns-then-read_u64-due-clause-asks g c).After-read_at-2
 
 pub returns-then-read_u64-due-clause-found : goal.returns-then-read_u64-due-clause-found
 returns-then-read_u64-due-clause-found g c some =
@@ -88,13 +87,7 @@ pub returns-then-end-gate-clause-found : goal.returns-then-end-gate-clause-found
 returns-then-end-gate-clause-found g c = grind (arith, common_steps)
 
 pub returns-then-end-next-clause-asks : goal.returns-then-end-next-clause-asks
-returns-then-end-next-clause-asks g c =
-    asks_on g.W.Outside g.met.W.Outside.fewer_later c.args.outside.now c.read_at.new.self c.read_at-2.new.self
-    (asks_one g.W.Outside c.args.outside.now c.read_at.new.self c.read_at.ensures.held c.read_at.ensures.writes c.read_at.ensures.honest c.read_at.ensures.time c.read_at.ensures.once c.read_at.ensures.quiet c.read_at.ensures.crash c.read_at.ensures.cause.later c.read_at.ensures.puts)
-    (asks_one g.W.Outside c.read_at.new.self c.read_at-2.new.self c.read_at-2.ensures.held c.read_at-2.ensures.writes c.read_at-2.ensures.honest c.read_at-2.ensures.time c.read_at-2.ensures.once c.read_at-2.ensures.quiet c.read_at-2.ensures.crash c.read_at-2.ensures.cause.later c.read_at-2.ensures.puts)
+returns-then-end-next-clause-asks g c = asked g (goal.at.returns-then-end-next-clause-asks g c).After-read_at-2
 
 pub returns-in_err-read_at-2-clause-asks : goal.returns-in_err-read_at-2-clause-asks
-returns-in_err-read_at-2-clause-asks g c =
-    asks_on g.W.Outside g.met.W.Outside.fewer_later c.args.outside.now c.read_at.new.self c.read_at-2.new.self
-    (asks_one g.W.Outside c.args.outside.now c.read_at.new.self c.read_at.ensures.held c.read_at.ensures.writes c.read_at.ensures.honest c.read_at.ensures.time c.read_at.ensures.once c.read_at.ensures.quiet c.read_at.ensures.crash c.read_at.ensures.cause.later c.read_at.ensures.puts)
-    (asks_one g.W.Outside c.read_at.new.self c.read_at-2.new.self c.read_at-2.ensures.held c.read_at-2.ensures.writes c.read_at-2.ensures.honest c.read_at-2.ensures.time c.read_at-2.ensures.once c.read_at-2.ensures.quiet c.read_at-2.ensures.crash c.read_at-2.ensures.cause.later c.read_at-2.ensures.puts)
+returns-in_err-read_at-2-clause-asks g c = asked g (goal.at.returns-in_err-read_at-2-clause-asks g c).After-read_at-2

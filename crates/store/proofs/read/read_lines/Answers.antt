@@ -1,10 +1,11 @@
-use Rattle.store.proofs.Lemmas.{nat_tests, ◌≡◌, ℕ, ◌+◌, ◌*◌, List, [], ◌∷◌, length, sym, subst, ◌∙◌, ap, arith, IsSome, Option, Some, overlaid, entry_bytes, wrong_line, bytes_at, OnlyAsks, held_of, noted, AreWithin, read_is, asks_on, asks_one, in_order, entries-below, within-overlaid, lines_after, wrong_here, right_here, noted_here, is_low, reads_within}
+use Rattle.store.proofs.Lemmas.{nat_tests, ◌≡◌, ℕ, ◌+◌, ◌*◌, List, length, sym, subst, ◌∙◌, ap, arith, IsSome, Option, entry_bytes, wrong_line, OnlyAsks, held_of, noted, AreWithin, read_is, asks_on, asks_one, in_order, entries-below, within-overlaid, lines_after, wrong_here, right_here, noted_here, is_low, reads_within, big_number, drop, big_from-take}
 use Rattle.store.proofs.read.read_lines.Given.{Over}
 use Rattle.store.proofs.read.read_lines.Goals as goal
-use Rattle.store.proofs.read.read_lines.Goals.{After-read_u32-line, then-from-least-via-then-from-least, then-from-least-via-else-from-least+then-len-line}
+use Rattle.store.proofs.read.read_lines.Goals.{After-read_u32-line}
 
-read : (g : Over) (c : goal.After-read_u32-line g) → IsSome (g.W.Outside.held c.args.outside.now) → c.read_at.new.into ≡ bytes_at (held_of g.W.Outside c.args.outside.now) (c.args.at + entry_bytes c.args.page * c.loop-i.i) 4
-read g c some = grind (arith, nat_tests, read_is, c.loop-i.invariant.asks.held, g.W.Outside.held)
+read : (g : Over) (c : goal.After-read_u32-line g) → IsSome (g.W.Outside.held c.args.outside.now)
+    → c.read_u32-line.result ≡ big_number 4 (drop (c.args.at + entry_bytes c.args.page * c.loop-i.i) (held_of g.W.Outside c.args.outside.now))
+read g c some = grind (arith, nat_tests, read_is, c.loop-i.invariant.asks.held, g.W.Outside.held, big_from-take)
 
 -- the reads so far and this one
 asked : (g : Over) (c : goal.After-read_u32-line g) → OnlyAsks g.W.Outside c.args.outside.now c.read_at.new.self
@@ -33,14 +34,13 @@ loop-i-preserved g c =
           (within-overlaid c.args.page end line (c.args.at + c.from.result + 4) c.loop-i.newest (omega (arith, few, c.from.ensures, c.entries_bytes.ensures.value, entries-below c.args.page c.loop-i.i c.args.count c.loop-i-test.true)) (c.loop-i.invariant.placed end few are));
       len = c.write.ensures.len ∙ c.loop-i.invariant.len;
       fault = λ some.
-          ap (λ (n : ℕ). wrong_line n (c.from-least.result + 1) (lines_after c.args.page c.args.count (c.loop-i.i + 1) c.args.at held)) c.write.ensures.len
-          ∙ ap (λ (n : ℕ). wrong_line bound (n + 1) (lines_after c.args.page c.args.count (c.loop-i.i + 1) c.args.at held)) c.from-least.ensures
-          ∙ sym (right_here c.args.page c.args.count c.loop-i.i c.args.at held c.read_at.new.into line c.loop-i-test.true (read g at some) c.read_u32-line.ensures bound c.loop-i.least right)
+          ap (λ (n : ℕ). wrong_line n (c.from-least.result + 1) (lines_after c.args.page c.args.count (c.loop-i.i + 1) c.args.at c.args.at held)) c.write.ensures.len
+          ∙ ap (λ (n : ℕ). wrong_line bound (n + 1) (lines_after c.args.page c.args.count (c.loop-i.i + 1) c.args.at c.args.at held)) c.from-least.ensures
+          ∙ sym (right_here c.args.page c.args.count c.loop-i.i c.args.at c.args.at line held c.loop-i-test.true (read g at some) bound c.loop-i.least right)
           ∙ c.loop-i.invariant.fault some;
       noted = λ some.
-          ap (λ (these : List (Option ℕ)). noted these (lines_after c.args.page c.args.count (c.loop-i.i + 1) c.args.at held)) c.write.ensures.value
-          ∙ ap (λ (n : ℕ). noted (overlaid c.loop-i.newest line (Some n ∷ [])) (lines_after c.args.page c.args.count (c.loop-i.i + 1) c.args.at held)) place
-          ∙ sym (noted_here c.args.page c.args.count c.loop-i.i c.args.at held c.read_at.new.into line c.loop-i-test.true (read g at some) c.read_u32-line.ensures c.loop-i.newest)
+          ap (λ (these : List (Option ℕ)). noted these (lines_after c.args.page c.args.count (c.loop-i.i + 1) c.args.at c.args.at held)) c.write.ensures.value
+          ∙ sym (noted_here c.args.page c.args.count c.loop-i.i c.args.at c.args.at line held c.loop-i-test.true (read g at some) c.loop-i.newest _ place)
           ∙ c.loop-i.invariant.noted some;
     }
 

@@ -7,6 +7,6 @@ invariant-loop-i g l = record {
   no_fault : g.W.Outside.disk_faults l.outside ≡ g.W.Outside.disk_faults l.initial.outside;
   placed : (end : ℕ) → l.at + entry_bytes l.page * l.count ≤ end → AreWithin l.page end l.initial.newest → AreWithin l.page end l.newest;
   len : length l.newest ≡ length l.initial.newest;
-  fault : IsSome (g.W.Outside.held l.initial.outside) → wrong_line (length l.newest) l.least (lines_after l.page l.count l.i l.at (held_of g.W.Outside l.initial.outside)) ≡ wrong_line (length l.initial.newest) 0 (lines_from l.page l.count l.at (drop l.at (held_of g.W.Outside l.initial.outside)));
-  noted : IsSome (g.W.Outside.held l.initial.outside) → noted l.newest (lines_after l.page l.count l.i l.at (held_of g.W.Outside l.initial.outside)) ≡ noted l.initial.newest (lines_from l.page l.count l.at (drop l.at (held_of g.W.Outside l.initial.outside)));
+  fault : IsSome (g.W.Outside.held l.initial.outside) → wrong_line (length l.newest) l.least (lines_after l.page l.count l.i l.at l.at (held_of g.W.Outside l.initial.outside)) ≡ wrong_line (length l.initial.newest) 0 (lines_from l.page l.count l.at (drop l.at (held_of g.W.Outside l.initial.outside)));
+  noted : IsSome (g.W.Outside.held l.initial.outside) → noted l.newest (lines_after l.page l.count l.i l.at l.at (held_of g.W.Outside l.initial.outside)) ≡ noted l.initial.newest (lines_from l.page l.count l.at (drop l.at (held_of g.W.Outside l.initial.outside)));
 }

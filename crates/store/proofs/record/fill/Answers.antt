@@ -1,5 +1,4 @@
-use Rattle.store.proofs.Common.{◌≡◌, ◌+◌, ◌*◌, ◌∷◌, [], List, ℕ, length, ◌∙◌, ap, overlaid, number_at, entry_bytes, common_steps, arith, nat_tests}
-use Rattle.store.proofs.FillLemmas.{lines_stay, numbered}
+use Rattle.store.proofs.Lemmas.{◌≡◌, ◌+◌, ◌*◌, ◌∷◌, [], List, ℕ, length, ◌∙◌, ap, overlaid, number_at, entry_bytes, common_steps, arith, nat_tests, lines_stay, numbered}
 use Rattle.store.proofs.record.fill.Goals as goal
 
 whole : (c : goal.After-write-2) → c.write-2.new.self ≡ overlaid (overlaid c.args.body.now 0 c.head_of-head.result) (10 + entry_bytes c.args.page * c.args.count) (0 ∷ [])

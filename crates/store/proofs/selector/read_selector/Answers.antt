@@ -1,4 +1,4 @@
-use Rattle.store.proofs.BanksCommon.{common_steps, arith}
+use Rattle.store.proofs.Common.{common_steps, arith}
 use Rattle.store.proofs.selector.read_selector.Goals as goal
 
 pub returns-else-selector-eq1-clause-selected : goal.returns-else-selector-eq1-clause-selected

@@ -1,4 +1,4 @@
-use Rattle.store.proofs.StoreLemmas.{shown_stands}
+use Rattle.store.proofs.Lemmas.{shown_stands}
 use Rattle.store.proofs.shown_law.what_is_shown_stands.Goals as goal
 
 pub returns : goal.returns

@@ -1,4 +1,4 @@
-use Rattle.store.proofs.StoreLemmas.{arith, asks_on, sure_on}
+use Rattle.store.proofs.Lemmas.{asks_on, sure_on}
 use Rattle.store.proofs.start.start.Goals as goal
 
 pub returns-in-Ok-read_header-clause-sure : goal.returns-in-Ok-read_header-clause-sure
@@ -6,9 +6,6 @@ returns-in-Ok-read_header-clause-sure g c honest told = sure_on g.W.Outside g.me
 
 pub returns-in-Ok-read_header-clause-asks : goal.returns-in-Ok-read_header-clause-asks
 returns-in-Ok-read_header-clause-asks g c = asks_on g.W.Outside g.met.W.Outside.fewer_later c.args.outside.now c.synced.new.outside c.read_header.new.outside c.synced.ensures.asks c.read_header.ensures.asks
-
-pub returns-in-Ok-read_header-clause-room : goal.returns-in-Ok-read_header-clause-room
-returns-in-Ok-read_header-clause-room g c = grind arith
 
 pub returns-in-Err-DiskFault-clause-asks : goal.returns-in-Err-DiskFault-clause-asks
 returns-in-Err-DiskFault-clause-asks g c = asks_on g.W.Outside g.met.W.Outside.fewer_later c.args.outside.now c.synced.new.outside c.read_header.new.outside c.synced.ensures.asks c.read_header.ensures.asks

@@ -1,6 +1,6 @@
 use Rattle.store_calls.proofs.Common.{◌≡◌, ◌⊎◌, ℕ, List, inl, inr, refl, sym, ap, subst, ◌∙◌, length, told_of, CommitLine, IsVerdict, report_told, Bundle, Status, IsUnchecked, AreBundleParts, part_of, IsFaultAt, length-map, KeptStore, Keeps}
 use Rattle.job_text.specs.declared.job.Job.{Job}
-use Rattle.store_calls.proofs.BundleLemmas.{handed_on}
+use Rattle.store_calls.proofs.PromiseLemmas.{handed_on}
 use Rattle.store_calls.proofs.audit.checked.Goals as goal
 
 -- a closing store that stands for nothing

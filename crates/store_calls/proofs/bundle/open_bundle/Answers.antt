@@ -1,5 +1,5 @@
 use Rattle.store_calls.proofs.Common.{◌≡◌, ◌⊎◌, ℕ, List, inl, inr, refl, sym, ap, subst, ◌∙◌, Ok, Content, content_of, job_of, AreCommitsOf, IsFirstBad, CommitLine, IsBundle, Bundle, Status, IsShut, part_of, IsFaultAt}
-use Rattle.store_calls.proofs.BundleLemmas.{handed_on}
+use Rattle.store_calls.proofs.PromiseLemmas.{handed_on}
 use Rattle.store_calls.proofs.bundle.open_bundle.Goals as goal
 
 module _ (bytes : List ℕ) (bundle : Bundle) (parts : IsBundle bytes bundle) (content : Content) (job_is : job_of (part_of bytes bundle.job) ≡ Ok content) where

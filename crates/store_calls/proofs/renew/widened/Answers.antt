@@ -1,4 +1,4 @@
-use Rattle.store_calls.proofs.Lemmas.{◌≡◌, ◌+◌, ◌<◌, ◌/◌, ◌++◌, ℕ, List, [], ◌∷◌, length, take, slice_index_or, sym, ◌∙◌, ap, subst, arith, Result, Ok, Err, IsOk, OnOk, length-map, length-take, take_all, IsLegal, Four, widened_segments, widened_legal, widened_more}
+use Rattle.store_calls.proofs.Lemmas.{◌≡◌, ◌+◌, ◌<◌, ◌/◌, ◌++◌, ℕ, List, [], ◌∷◌, length, take, slice_index_or, sym, ◌∙◌, ap, subst, arith, Result, Ok, Err, IsOk, OnOk, length-map, length-take, take_all, IsLegal, Four, widened_segments, widened_legal, widened_more, nat_tests}
 use Rattle.store_calls.proofs.renew.widened.Goals as goal
 
 pub loop-segment-init : goal.loop-segment-init
@@ -10,8 +10,7 @@ pushed (Ok value) fits room added = added
 pushed (Err fault) fits room added = let no = fits room in cc
 
 not_ok : {T E : Type 0} (result : Result T E) {fault : E} → result ≡ Err fault → IsOk result → ⊥
-not_ok (Ok value) is ok = cc
-not_ok (Err fault) is ok = cc
+not_ok result is ok = grind (arith, nat_tests)
 
 pub loop-segment-preserved : goal.loop-segment-preserved
 loop-segment-preserved c =

@@ -1,16 +1,8 @@
-use Rattle.store_calls.proofs.Lemmas.{◌≡◌, ◌+◌, Bool, true, List, ℕ, [], ◌∷◌, refl, length, ap, ◌∙◌, sym, arith, Result, Ok, Err, OnOk, ◌==◌, nat_tests, asks_on, held_of, stands, bytes_in, held_same, shows_asks, in_two_pages, none_in, still_shown}
+use Rattle.store_calls.proofs.Lemmas.{◌≡◌, ◌+◌, Bool, true, List, ℕ, length, ap, ◌∙◌, sym, arith, ◌==◌, nat_tests, asks_on, held_of, stands, bytes_in, held_same, shows_asks, in_two_pages, none_in, still_shown, on_ok_weaker, nil_from_length}
 use Rattle.store_calls.proofs.show.read_bytes.Goals as goal
-
-on_ok : {T E P Q : Type 0} (result : Result T E) → (P → Q) → OnOk result P → OnOk result Q
-on_ok (Ok value) leads given = leads given
-on_ok (Err fault) leads given = tt
 
 no_more : (bytes : List ℕ) (empty : Bool) → empty ≡ (length bytes == 0) → empty ≡ true → length bytes ≡ 0
 no_more bytes empty is so = grind (arith, nat_tests)
-
-nothing : (bytes : List ℕ) → length bytes ≡ 0 → bytes ≡ []
-nothing [] none = refl
-nothing (byte ∷ bytes) none = absurd (omega arith)
 
 pub returns-then-is_empty-clause-read : goal.returns-then-is_empty-clause-read
 returns-then-is_empty-clause-read g c = λ shown.
@@ -19,14 +11,14 @@ returns-then-is_empty-clause-read g c = λ shown.
     let empty : length back ≡ 0 = no_more back c.is_empty.result c.is_empty.ensures c.if-is_empty.true in
     in_two_pages (stands (held_of g.W.Outside c.args.outside.now)) c.args.at (length c.split_at_mut-front.result.0.now) 0 (length c.args.into.now) c.read_in_page.new.into back
     (omega (arith, split.front_len, split.back_len, empty)) (c.in_ok-read_in_page.ensures.read shown)
-    (nothing back empty ∙ sym (none_in (stands (held_of g.W.Outside c.args.outside.now)) (c.args.at + length c.split_at_mut-front.result.0.now)))
+    (nil_from_length back empty ∙ sym (none_in (stands (held_of g.W.Outside c.args.outside.now)) (c.args.at + length c.split_at_mut-front.result.0.now)))
 
 pub returns-clause-asks : goal.returns-clause-asks
 returns-clause-asks g c = asks_on g.W.Outside g.met.W.Outside.fewer_later c.args.outside.now c.read_in_page.new.outside c.read_in_page-2.new.outside c.in_ok-read_in_page.ensures.asks c.read_in_page-2.ensures.asks
 
 pub returns-clause-read : goal.returns-clause-read
 returns-clause-read g c =
-    on_ok c.read_in_page-2.result
+    on_ok_weaker c.read_in_page-2.result
     (λ reads shown.
     let split = c.split_at_mut-front.ensures in
     let old = c.args.outside.now in

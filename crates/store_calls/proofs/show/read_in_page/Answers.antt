@@ -1,4 +1,4 @@
-use Rattle.store_calls.proofs.Lemmas.{◌≡◌, ◌<◌, ◌+◌, ◌-◌, ◌*◌, ◌%◌, ◌/◌, List, ℕ, length, take, drop, sym, ap, subst, ◌∙◌, arith, PageSize, Two, Four, page_bytes, Layout, byte_count, page_count, byte_count_pages, held_of, Header, stands, page_in, has_pages, in_page}
+use Rattle.store_calls.proofs.Lemmas.{◌≡◌, ◌<◌, ◌+◌, ◌-◌, ◌*◌, ◌%◌, ◌/◌, List, ℕ, length, take, drop, sym, ap, subst, ◌∙◌, arith, PageSize, page_bytes, Layout, byte_count, page_count, byte_count_pages, held_of, Header, stands, page_in, has_pages, in_page, nat_tests}
 use Rattle.lines.specs.Lines.{page_of}
 use Rattle.store_calls.proofs.show.read_in_page.Goals as goal
 
@@ -7,8 +7,7 @@ page-below : (directory : Layout) (place : ℕ) → place < byte_count directory
 page-below directory place below = by_size directory.page (omega (arith, below, byte_count_pages directory))
   where
     by_size : (size : PageSize) → place < page_count directory * page_bytes size → place / page_bytes size < page_count directory
-    by_size Two less = omega (arith, less)
-    by_size Four less = omega (arith, less)
+    by_size size less = grind (arith, nat_tests)
 
 pub read_page-requires-clause-page : goal.read_page-requires-clause-page
 read_page-requires-clause-page g c =

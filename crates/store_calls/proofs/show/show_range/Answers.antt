@@ -1,5 +1,5 @@
 use Rattle.store_calls.proofs.Common.{◌+◌, ◌∙◌, ap, subst, sym, start_of, Header, IsInside}
-use Rattle.store_calls.proofs.ShownLemmas.{no_range, not_shown, shown_part, shown_whole}
+use Rattle.store_calls.proofs.ShowLemmas.{no_range, not_shown, shown_part, shown_whole}
 use Rattle.store_calls.proofs.show.show_range.Goals as goal
 
 pub returns-in-Err-clause-shown : goal.returns-in-Err-clause-shown

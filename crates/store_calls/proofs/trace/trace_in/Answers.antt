@@ -1,4 +1,4 @@
-use Rattle.store_calls.proofs.Common.{ℕ, List, sym, subst, Ok, Err, CommitLine, report_told, status_of_trace, IsFound, IsUntraced}
+use Rattle.store_calls.proofs.Common.{ℕ, List, sym, subst, Ok, Err, CommitLine, report_told, status_of_trace, IsFound, IsUntraced, arith, nat_tests}
 use Rattle.serial_audit.specs.declared.answer.TraceFault.{TraceFault}
 use Rattle.serial_audit.specs.Trace.{IsAnswer}
 use Rattle.serial_audit.specs.declared.answer.TraceFault.TheVariants as fault
@@ -18,9 +18,7 @@ returns-in-Ok c =
 
 -- why there is none, as a status
 untraced : (bytes : List ℕ) (activation : ℕ) (why : TraceFault) → IsFound bytes activation (Err why) → IsUntraced bytes activation (status_of_trace why)
-untraced bytes activation fault.NoCommit found = found
-untraced bytes activation (fault.NotSerial place) found = found
-untraced bytes activation fault.Memory found = tt
+untraced bytes activation why found = grind (arith, nat_tests)
 
 pub returns : goal.returns
 returns c =

@@ -1,4 +1,4 @@
-use Rattle.store_calls.proofs.Lemmas.{◌≡◌, ◌++◌, ◌∙◌, ◌+◌, ◌-◌, [], List, ℕ, Some, sym, refl, ap, subst, length, take, drop, replicate, unwrap_or, IsTrue, IsSome, Torn, Option, held_of, leaves_on, option_map, leaves_held, written, IsOnTheWay, long_enough, name_on_the_way, put_name, put_tail, tail_is, tail_on_the_way, two_more, where_ok}
+use Rattle.store_calls.proofs.Lemmas.{◌≡◌, ◌++◌, ◌∙◌, ◌+◌, ◌-◌, [], List, ℕ, Some, sym, refl, ap, subst, length, take, drop, replicate, unwrap_or, IsTrue, IsSome, Torn, Option, held_of, leaves_on, option_map, leaves_held, written, IsOnTheWay, name_on_the_way, put_name, put_tail, tail_is, tail_on_the_way, on_ok_weaker, one_and}
 use Rattle.store_calls.proofs.written.fill.Given as given
 use Rattle.store_calls.proofs.written.fill.Goals as goal
 
@@ -8,8 +8,7 @@ returns-in_err-write_sure-clause-left g c sure left seen was =
     let image = c.args.image.now in
     let (start, begun, since, torn) = c.in_err-write_sure.ensures.crash sure.honest sure.told left seen was in
     let zeros : start ≡ replicate 8 0 = leaves_held G c.args.outside.now sure start begun since ∙ c.requires.begun sure.told in
-    tail_on_the_way image left (long_enough image c.requires.named)
-    (subst (λ (held : List ℕ). Torn 8 (length (drop 8 image)) held left) zeros (subst (λ (tail : List ℕ). Torn 8 (length tail) start left) (tail_is image) torn))
+    tail_on_the_way image left start c.requires.named zeros torn
 
 -- what is held behind the first write
 mid-held : (g : given.Over) (c : goal.After-write_sure-2 g) → IsSome (g.W.Outside.held c.args.outside.now) → g.W.Outside.held c.write_sure.new.outside ≡ Some (replicate 8 0 ++ drop 8 c.args.image.now)
@@ -32,14 +31,14 @@ mid-bytes g c told = ap (λ (those : Option (List ℕ)). unwrap_or those []) (mi
 pub returns-clause-done : goal.returns-clause-done
 returns-clause-done g c =
     let image = c.args.image.now in
-    where_ok c.write_sure-2.result
+    on_ok_weaker c.write_sure-2.result
     (λ second. record {
       held = λ told.
           second.held (mid-told g c told)
           ∙ ap (λ (held : List ℕ). Some (written held 0 (take 8 image))) (mid-bytes g c told)
           ∙ ap Some (put_name image c.requires.named);
       sure = λ honest told. second.sure (mid-honest g c honest) (mid-told g c told);
-      writes = second.writes ∙ ap (option_map (λ n. n + 1)) c.in_ok-write_sure.ensures.done.writes ∙ two_more _;
+      writes = second.writes ∙ ap (option_map (λ n. n + 1)) c.in_ok-write_sure.ensures.done.writes ∙ one_and 1 _;
     })
     c.write_sure-2.ensures.done
 
@@ -53,8 +52,7 @@ returns-clause-left g c sure =
     (λ left seen was.
     let (start, begun, since, torn) = c.write_sure.ensures.crash sure.honest sure.told left seen was in
     let zeros : start ≡ replicate 8 0 = leaves_held G c.args.outside.now sure start begun since ∙ c.requires.begun sure.told in
-    tail_on_the_way image left (long_enough image c.requires.named)
-    (subst (λ (held : List ℕ). Torn 8 (length (drop 8 image)) held left) zeros (subst (λ (tail : List ℕ). Torn 8 (length tail) start left) (tail_is image) torn)))
+    tail_on_the_way image left start c.requires.named zeros torn)
     (λ left seen was.
     let (start, begun, since, torn) = c.write_sure-2.ensures.crash mid-sure.honest mid-sure.told left seen was in
     let held : start ≡ replicate 8 0 ++ drop 8 image = leaves_held G mid mid-sure start begun since ∙ mid-bytes g c sure.told in

@@ -1,4 +1,4 @@
-use Rattle.store_calls.proofs.Lemmas.{◌≡◌, ◌⊎◌, ◌∙◌, ◌+◌, [], inl, List, ℕ, Some, sym, refl, ap, subst, length, replicate, unwrap_or, IsTrue, IsSome, Torn, Option, held_of, leaves_on, option_map, told_some, written, IsNoStore, long_enough, put_zeros, short, three_more, torn_empty, torn_short, torn_wider, where_ok}
+use Rattle.store_calls.proofs.Lemmas.{◌≡◌, ◌⊎◌, ◌∙◌, ◌+◌, [], inl, List, ℕ, Some, sym, refl, ap, subst, length, replicate, unwrap_or, IsTrue, IsSome, Torn, Option, held_of, leaves_on, option_map, told_some, written, IsNoStore, long_enough, short, torn_empty, torn_short, torn_wider, on_ok_weaker, one_and}
 use Rattle.store_calls.proofs.written.write.Given as given
 use Rattle.store_calls.proofs.written.write.Goals as goal
 
@@ -7,7 +7,6 @@ fill-requires-clause-begun g c told =
     let before = c.write_sure.ensures.untold told in
     ap (λ (those : Option (List ℕ)). unwrap_or those []) (c.in_ok-write_sure.ensures.done.held before)
     ∙ ap (λ (held : List ℕ). written held 0 (replicate 8 0)) (c.requires.empty before)
-    ∙ put_zeros
 
 pub returns-in_err-write_sure-clause-torn : goal.returns-in_err-write_sure-clause-torn
 returns-in_err-write_sure-clause-torn g c told =
@@ -34,11 +33,11 @@ mid-honest g c honest = subst (λ b. IsTrue b) (sym c.write_sure.ensures.calls.h
 
 pub returns-clause-done : goal.returns-clause-done
 returns-clause-done g c =
-    where_ok c.fill.result
+    on_ok_weaker c.fill.result
     (λ filled. record {
       held = λ told empty. filled.held (mid-told g c told);
       sure = λ honest told. filled.sure (mid-honest g c honest) (mid-told g c told);
-      writes = filled.writes ∙ ap (option_map (λ n. n + 2)) c.in_ok-write_sure.ensures.done.writes ∙ three_more _;
+      writes = filled.writes ∙ ap (option_map (λ n. n + 2)) c.in_ok-write_sure.ensures.done.writes ∙ one_and 2 _;
     })
     c.fill.ensures.done
 

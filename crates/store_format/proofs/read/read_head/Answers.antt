@@ -15,6 +15,3 @@ returns-clause-head g c told =
 
 pub returns-clause-number : goal.returns-clause-number
 returns-clause-number g c = grind (arith, common_steps)
-
-pub read_at-requires : goal.read_at-requires
-read_at-requires g c = grind (arith, common_steps)

@@ -1,4 +1,4 @@
-use Rattle.store_format.proofs.Lemmas.{◌≡◌, ℕ, ◌∙◌, sym, ap, length, List, take, refl, Option, None, Some, IsSome, held_of, fields, first_fault, header_of, padded_fault, padded_header, faulty_header, faulty_length}
+use Rattle.store_format.proofs.Lemmas.{◌≡◌, ℕ, ◌∙◌, sym, ap, length, List, take, Option, None, Some, IsSome, held_of, fields, first_fault, header_of, padded_fault, padded_header, faulty_header, faulty_length, arith, nat_tests}
 use Rattle.store_format.proofs.read.read_header.Given.{Over}
 use Rattle.store_format.proofs.read.read_header.Goals as goal
 use Rattle.store_format.proofs.read.read_header.Goals.{After-header_fault, After-total-total}
@@ -14,8 +14,7 @@ found g c told =
     ∙ padded_fault held)
 
 none_is : (fault : Option ℕ) → ((offset : ℕ) → fault ≡ Some offset → ⊥) → fault ≡ None
-none_is None none = refl
-none_is (Some offset) none = absurd (none offset refl)
+none_is fault none = grind (arith, nat_tests)
 
 said : (g : Over) (c : goal.After-total-total g) → IsSome (g.W.Outside.held c.args.outside.now) → header_of (take 128 (held_of g.W.Outside c.args.outside.now)) ≡ c.header_in-header.result
 said g c told =

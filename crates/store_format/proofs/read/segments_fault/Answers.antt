@@ -1,4 +1,4 @@
-use Rattle.store_format.proofs.Lemmas.{◌≡◌, ℕ, ◌+◌, ◌*◌, ◌∷◌, [], ◌∙◌, sym, ap, arith, is_some, min, Option, within, first_fault, common_steps, wrong_identifier, wrong_pages, right_segment}
+use Rattle.store_format.proofs.Lemmas.{◌≡◌, ℕ, ◌+◌, ◌*◌, ◌∷◌, [], ◌∙◌, sym, ap, arith, is_some, min, Option, within, first_fault, wrong_identifier, wrong_pages, right_segment}
 use Rattle.store_format.proofs.read.segments_fault.Goals as goal
 use Rattle.store_format.proofs.read.segments_fault.Goals.{After-is_some, After-is_some-in-loop-i}
 
@@ -36,9 +36,3 @@ loop-i-preserved c =
           ∙ c.loop-i.invariant.fault;
       room = omega arith;
     }
-
-pub overflow_sub-room : goal.overflow_sub-room
-overflow_sub-room c = grind (arith, common_steps)
-
-pub overflow_add-least : goal.overflow_add-least
-overflow_add-least c = grind (arith, common_steps)

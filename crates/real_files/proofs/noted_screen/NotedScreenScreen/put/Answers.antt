@@ -1,5 +1,5 @@
 use Rattle.real_files.proofs.Common.{inl, ap, Some, take}
-use Rattle.real_files.proofs.PutSteps.{printed_more, marks_more, count_more, prints_some}
+use Rattle.real_files.proofs.DeedSteps.{printed_more, marks_more, marks_longer, prints_some}
 use Rattle.real_files.proofs.noted_screen.NotedScreenScreen.put.Goals as goal
 
 pub returns-in-Ok-clause-printed : goal.returns-in-Ok-clause-printed
@@ -15,7 +15,7 @@ returns-in-Ok-clause-record g c =
 pub returns-in-Ok-clause-once : goal.returns-in-Ok-clause-once
 returns-in-Ok-clause-once g c told =
     let puts = g.R.RawScreen.puts in
-    count_more (puts c.args.self.now.screen) (puts c.put.new.self) c.args.at c.args.bytes.now c.in-Ok.ensures.done
+    marks_longer (puts c.args.self.now.screen) (puts c.put.new.self) c.args.at c.args.bytes.now c.in-Ok.ensures.done
 
 pub returns-in-Err-clause-printed : goal.returns-in-Err-clause-printed
 returns-in-Err-clause-printed g c =

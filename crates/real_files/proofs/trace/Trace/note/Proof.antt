@@ -7,16 +7,15 @@ use contract.Running.{tables, tables_of}
 use types.SemTy.{Body}
 use denote.RattleType.{owns}
 use denote.Memory.{mem}
-use denote.Ref.{MutRef, mut_vals, mut_Tells}
+use denote.Ref.{MutRef, mut_vals, mut_Tells, Bor}
 use denote.Signature.{plain}
 use denote.Triple.Walked.{says, Stays, stay_ref, walk_of, AllGo, Goes-ref, Walks, ends_at, walked, walk_Meets}
-use Rattle.real_files.specs.Noted.{deed_of}
+use Rattle.real_files.specs.Deeds.{deed_of}
 use Rattle.real_files.specs.contracts.trace.Trace as T
 use Rattle.real_files.specs.contracts.trace.Trace.note.Key.{name as #it}
 use Rattle.real_files.specs.contracts.trace.Trace.note as it
 use Rattle.real_files.proofs.trace.Trace.note.Statement as stated
 use Rattle.real_files.proofs.trace.Trace.note.Code as code
-use denote.Ref.{Bor}
 use denote.Builtin.{u8, u64}
 use denote.Exit.{yes}
 use denote.Slice.{ShrSlice, slice_val, shr_slice_vals, shr_slice_Tells}

@@ -1,4 +1,4 @@
-use Rattle.store.proofs.BanksCommon.{arith}
+use Rattle.store.proofs.Common.{arith}
 use Rattle.store.proofs.checkpoint.Banks.append.Goals as goal
 
 pub returns : goal.returns

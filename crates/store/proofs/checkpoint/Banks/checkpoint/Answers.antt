@@ -1,5 +1,5 @@
-use Rattle.store.proofs.BanksCommon.{◌≡◌, ℕ, ◌+◌, List, [], length, refl, sym, subst, ◌∙◌, ap, arith, replicate, length-replicate, get_or-replicate, Which, Header, header_of, area_at, IsStore, Leaves, held_of, leaves_held, KeptBank, number_of, TracksBank, HoldsRecords, turned, place_is, other, IsSame, IsMoved, Option, None, take}
-use Rattle.store.proofs.StepLemmas.{held_since}
+use Rattle.store.proofs.Lemmas.{◌≡◌, ℕ, ◌+◌, List, [], length, refl, sym, subst, ◌∙◌, ap, arith, replicate, length-replicate, get_or-replicate, Which, Header, header_of, area_at, IsStore, Leaves, held_of, leaves_held, KeptBank, TracksBank, HoldsRecords, turned, place_is, other, IsSame, IsMoved, Option, None, take, held_since}
+use Rattle.store.specs.Kept.{number_of}
 use Rattle.store.proofs.checkpoint.Banks.checkpoint.Given.{Over}
 use Rattle.store.proofs.checkpoint.Banks.checkpoint.Goals as goal
 use Rattle.store.proofs.checkpoint.Banks.checkpoint.Goals.{After-move_to}
@@ -61,9 +61,3 @@ returns-in-Ok-clause-done g c tracks =
           subst (λ (those : List ℕ). HoldsRecords (header_of (take 128 (held_of G c.args.outside.now))) away (number_of bank) [] those) (sym (leaves_held G c.move_to.new.outside moved.sure image seen left))
           (subst (λ (those : Header). HoldsRecords those away (number_of bank) [] new) (sym said) there);
     }
-
-pub invariant_of-self-in-Ok : goal.invariant_of-self-in-Ok
-invariant_of-self-in-Ok g c = grind arith
-
-pub move_to-requires-clause-room : goal.move_to-requires-clause-room
-move_to-requires-clause-room g c = grind arith

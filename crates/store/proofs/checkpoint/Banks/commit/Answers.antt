@@ -1,5 +1,4 @@
-use Rattle.store.proofs.BanksCommon.{◌≡◌, inl, sym, subst, ◌∙◌, ap, arith, Option, IfSome, held_of, None, Some, KeptBank, emptied, roomy, Commits, CountsKept, FailedLeaves, bank_appended, kept_in, Kept}
-use Rattle.store.proofs.CommitLemmas.{appended_apart, carried, leaves_committed, kept_after, roomy_full, roomy_fits, two_more}
+use Rattle.store.proofs.Lemmas.{◌≡◌, inl, sym, subst, ◌∙◌, ap, arith, Option, IfSome, held_of, None, Some, KeptBank, emptied, roomy, Commits, CountsKept, FailedLeaves, bank_appended, kept_in, Kept, appended_apart, carried, leaves_committed, kept_after, roomy_full, roomy_fits, two_more}
 use Rattle.store.proofs.checkpoint.Banks.commit.Goals as goal
 
 -- a full bank was left alone, and so was the disk
@@ -38,6 +37,3 @@ returns-in-Some g c =
           (λ image seen left. appended_apart tracks.header bank bank tracks.records (held_of G before) image (c.append.ensures.apart tracks image seen left));
       done = λ is. c.append.ensures.done (c.kept.ensures.done (c.in-Some.is ∙ ap Some is));
     })
-
-pub commit_behind_checkpoint-requires-clause-room : goal.commit_behind_checkpoint-requires-clause-room
-commit_behind_checkpoint-requires-clause-room g c = grind arith

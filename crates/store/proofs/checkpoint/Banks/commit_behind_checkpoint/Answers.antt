@@ -1,6 +1,4 @@
-use Rattle.store.proofs.BanksCommon.{◌≡◌, inl, inr, ⊎_elim, ℕ, List, [], sym, subst, ◌∙◌, ap, arith, Option, IfSome, Some, Header, RecordLine, stands, one_more, Leaves, held_of, leaves_on, KeptBank, begun_of, TracksBank, IsEither, HoldsOneOf, HoldsCommitted, IsSameBut, IsCommitOffset, needed_end, writes_on, other, emptied, CountsKept, FailedLeaves, bank_appended, kept_in, Kept, IsApart}
-use Rattle.store.proofs.ApartLemmas.{but_on}
-use Rattle.store.proofs.CommitLemmas.{adds_same, appended_apart, behind_apart, leaves_committed, answered_by, counts_on, either_same, failed_behind, kept_after, no_records, shape_on, two_more}
+use Rattle.store.proofs.Lemmas.{◌≡◌, inl, inr, ⊎_elim, ℕ, List, [], sym, subst, ◌∙◌, ap, arith, Option, IfSome, Some, Header, RecordLine, stands, one_more, Leaves, held_of, leaves_on, KeptBank, begun_of, TracksBank, IsEither, HoldsOneOf, HoldsCommitted, IsSameBut, IsCommitOffset, needed_end, writes_on, other, emptied, CountsKept, FailedLeaves, bank_appended, kept_in, Kept, IsApart, but_on, adds_same, appended_apart, behind_apart, leaves_committed, answered_by, counts_on, either_same, failed_behind, kept_after, shape_on, two_more, nil_from_length}
 use Rattle.store.proofs.checkpoint.Banks.commit_behind_checkpoint.Given.{Over}
 use Rattle.store.proofs.checkpoint.Banks.commit_behind_checkpoint.Goals as goal
 use Rattle.store.proofs.checkpoint.Banks.commit_behind_checkpoint.Goals.{After-checkpoint}
@@ -65,7 +63,7 @@ returns-in-Ok g c =
           let made = c.in-Ok.ensures.done tracks in
           let now = held_of G after in
           let header : made.tracks.header ≡ tracks.header = sym made.tracks.store.said ∙ made.header ∙ tracks.store.said in
-          let none : made.tracks.records ≡ [] = no_records made.tracks.records (made.tracks.count ∙ ap (λ (bank : KeptBank). bank.count) turned) in
+          let none : made.tracks.records ≡ [] = nil_from_length made.tracks.records (made.tracks.count ∙ ap (λ (bank : KeptBank). bank.count) turned) in
           let held : HoldsCommitted tracks.header old tracks.records now =
           inr (subst (λ (those : Header). HoldsOneOf those (other old.which) (emptied old).base [] (begun_of (emptied old)) now) header
           (subst (λ (those : List (List RecordLine)). HoldsOneOf made.tracks.header (other old.which) (emptied old).base those (begun_of (emptied old)) now) none

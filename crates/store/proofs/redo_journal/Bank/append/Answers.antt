@@ -1,8 +1,6 @@
-use Rattle.store.proofs.Lemmas.{nat_tests, ◌≡◌, ℕ, ◌+◌, ◌*◌, List, [], ◌∷◌, ◌++◌, length, drop, slice_set, refl, sym, subst, ◌∙◌, ap, arith, rules, length-append, Option, None, Some, IfSome, SameShape, IsAppended, entry_bytes, RecordLine, lines_from, wrong_line, record_bytes, length-take-le, leaves_held, IsStore, stands, one_more, held_of, noted, AreNewest, KeptBank, end_of, begun_of, spoilt, begun_count, begun_lines, kept_of, TracksBank, IsEither, HoldsOneOf, IsSafe, IsShut, needed_end, take, IsReadied, make_ready, shut, either, one_of, same, more, after, doubted, filled_lines, says_room, begun_is, fields_tracked, with_record_is, is_begun, unwrapped, below_in_order, newest_more, held_left}
-use Rattle.store.specs.Appended.{Appends, CountsKept, FailedLeaves, bank_appended, kept_in}
+use Rattle.store.proofs.Lemmas.{nat_tests, ◌≡◌, ℕ, ◌+◌, ◌*◌, List, [], ◌∷◌, ◌++◌, length, drop, slice_set, refl, sym, subst, ◌∙◌, ap, arith, rules, length-append, Option, None, Some, IfSome, SameShape, IsAppended, entry_bytes, RecordLine, lines_from, wrong_line, record_bytes, length-take-le, leaves_held, IsStore, stands, one_more, held_of, noted, AreNewest, KeptBank, end_of, begun_of, spoilt, begun_count, begun_lines, kept_of, TracksBank, IsEither, HoldsOneOf, IsSafe, IsShut, needed_end, take, IsReadied, make_ready, shut, either, one_of, same, more, after, doubted, filled_lines, says_room, begun_is, fields_tracked, with_record_is, is_begun, unwrapped, below_in_order, newest_more, held_left, Appends, CountsKept, FailedLeaves, bank_appended, kept_in, Kept}
 use Rattle.store.specs.declared.keep.Appended.{Appended}
 use Rattle.store.specs.declared.keep.Appended.TheVariants as appending
-use Rattle.store.specs.declared.keep.Kept.{Kept}
 use Rattle.store.specs.declared.keep.Kept.TheVariants as keeping
 use Rattle.store.proofs.redo_journal.Bank.append.Given.{Over}
 use Rattle.store.proofs.redo_journal.Bank.append.Goals as goal
@@ -179,6 +177,3 @@ invariant_of-self-in-Doubt g c = grind arith
 
 pub note-requires-clause-body : goal.note-requires-clause-body
 note-requires-clause-body g c = grind arith
-
-pub record_of-requires : goal.record_of-requires
-record_of-requires g c = grind arith

@@ -1,4 +1,4 @@
-use Rattle.store.proofs.Lemmas.{◌≡◌, ◌+◌, ◌*◌, ℕ, length, drop, ap, subst, ◌∙◌, arith, PageSize, entry_bytes, held_of, KeptBank, place_of, IsRecordAt, IsLine, IsLineOf, IsSome, if_ok, lined}
+use Rattle.store.proofs.Lemmas.{◌≡◌, ◌+◌, ◌*◌, ℕ, length, drop, ap, subst, ◌∙◌, arith, PageSize, entry_bytes, held_of, KeptBank, place_of, IsRecordAt, IsLine, IsLineOf, IsSome, lined, IfOk-weaker}
 use Rattle.store.proofs.redo_journal.Bank.line_at.Goals as goal
 
 pub returns : goal.returns
@@ -13,12 +13,16 @@ returns g c =
     record {
       asks = c.read_line.ensures.asks;
       read =
-          if_ok (λ (line : ℕ). IsSome (g.W.Outside.held c.args.outside.now) → IsLine c.self.inside.page (drop (c.place_of.result + 8 + c.from.result + 11 + c.from-2.result) held) line c.read_line.new.into)
-          (λ (line : ℕ). IsSome (g.W.Outside.held c.args.outside.now) → (at : IsRecordAt held bank c.args.of.now.place) → length at.lines ≡ c.args.of.now.count → IsLineOf at.lines c.args.index line c.read_line.new.into)
-          c.read_line.result
+          IfOk-weaker c.read_line.result
+          (λ (line : ℕ). IsSome (g.W.Outside.held c.args.outside.now)
+          → IsLine c.self.inside.page (drop (c.place_of.result + 8 + c.from.result + 11 + c.from-2.result) held) line c.read_line.new.into)
+          (λ (line : ℕ). IsSome (g.W.Outside.held c.args.outside.now) → (at : IsRecordAt held bank c.args.of.now.place)
+          → length at.lines ≡ c.args.of.now.count → IsLineOf at.lines c.args.index line c.read_line.new.into)
           (λ line is some at many.
           lined held bank c.args.of.now.place area at place c.args.index line c.read_line.new.into (omega (arith, many, c.requires.below))
-          (subst (λ (n : ℕ). IsLine bank.page (drop n held) line c.read_line.new.into) from (subst (λ (size : PageSize). IsLine size (drop (c.place_of.result + 8 + c.from.result + 11 + c.from-2.result) held) line c.read_line.new.into) page (is some))))
+          (subst (λ (n : ℕ). IsLine bank.page (drop n held) line c.read_line.new.into) from
+          (subst (λ (size : PageSize).
+          IsLine size (drop (c.place_of.result + 8 + c.from.result + 11 + c.from-2.result) held) line c.read_line.new.into) page (is some))))
           c.read_line.ensures.read;
       cause = c.read_line.ensures.cause;
     }

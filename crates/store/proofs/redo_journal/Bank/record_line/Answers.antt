@@ -1,5 +1,4 @@
-use Rattle.store.proofs.Lemmas.{◌≡◌, ℕ, ◌+◌, ◌*◌, ◌<◌, ◌≤◌, List, [], ◌∷◌, ◌++◌, length, drop, refl, sym, ◌∙◌, ap, subst, arith, All, Some, entry_bytes, RecordLine, lines_from, wrong_line, record_bytes, wrong_line-push, KeptBank, begun_of, with_line, record_bytes_of, line_bytes_of, Inside, begun_count, begun_lines, kept_of, nat_tests, begun_is, length-begun, is_begun, unwrapped}
-use Rattle.store.proofs.LineLemmas.{line_added, least_low}
+use Rattle.store.proofs.Lemmas.{◌≡◌, ℕ, ◌+◌, ◌*◌, ◌<◌, ◌≤◌, List, [], ◌∷◌, ◌++◌, length, drop, refl, sym, ◌∙◌, ap, subst, arith, All, Some, entry_bytes, RecordLine, lines_from, wrong_line, record_bytes, wrong_line-push, KeptBank, begun_of, with_line, record_bytes_of, line_bytes_of, Inside, begun_count, begun_lines, kept_of, nat_tests, begun_is, length-begun, is_begun, unwrapped, line_added, least_low}
 use Rattle.store.proofs.redo_journal.Bank.record_line.Goals as goal
 use Rattle.store.proofs.redo_journal.Bank.record_line.Goals.{After-write-2}
 

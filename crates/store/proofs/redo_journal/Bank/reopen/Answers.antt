@@ -1,6 +1,5 @@
-use Rattle.store.proofs.Lemmas.{◌≡◌, ℕ, ◌+◌, List, length, sym, ◌∙◌, ap, subst, arith, replicate, length-replicate, Option, None, fold, number_at, Holds, bank_held, held_of, told_some, noted, KeptBank, place_of, end_of, IsBank, elements, common_steps, are_newest}
+use Rattle.store.proofs.Lemmas.{◌≡◌, ℕ, ◌+◌, List, length, sym, ◌∙◌, ap, subst, arith, replicate, length-replicate, Option, None, fold, number_at, Holds, bank_held, held_of, told_some, noted, KeptBank, place_of, end_of, IsBank, elements, common_steps, are_newest, held_records, all_below}
 use Rattle.store.specs.declared.read.Found.{Found}
-use Rattle.store.proofs.Newest.{held_records, all_below}
 use Rattle.store.proofs.redo_journal.Bank.reopen.Goals as goal
 
 pub returns-in-Ok-Holds-clause-read : goal.returns-in-Ok-Holds-clause-read

@@ -1,5 +1,4 @@
-use Rattle.store.proofs.Lemmas.{nat_tests, ◌≡◌, ℕ, ◌+◌, ◌*◌, List, length, drop, refl, sym, subst, ◌∙◌, ap, arith, Option, None, length-replicate, entry_bytes, RecordLine, wrong_line, end_of, AreWithin, begun_count, begun_lines, kept_of, length-begun}
-use Rattle.store.proofs.TurnLemmas.{lines_placed, placed_order, none_within, turned_fields, turned_is}
+use Rattle.store.proofs.Lemmas.{nat_tests, ◌≡◌, ℕ, ◌+◌, ◌*◌, List, length, drop, refl, sym, subst, ◌∙◌, ap, arith, Option, None, length-replicate, entry_bytes, RecordLine, wrong_line, end_of, AreWithin, begun_count, begun_lines, kept_of, length-begun, lines_placed, placed_order, none_within, turned_fields, turned_is}
 use Rattle.store.proofs.redo_journal.Bank.turn_to.Goals as goal
 
 pub invariant_of-self : goal.invariant_of-self

@@ -1,4 +1,4 @@
-use Rattle.store.proofs.StoreLemmas.{ap, arith, subst, ◌∙◌, total, KeptBank, KeptStore, ReadsLine, bank_inside}
+use Rattle.store.proofs.Lemmas.{ap, arith, subst, ◌∙◌, total, KeptBank, KeptStore, ReadsLine, bank_inside}
 use Rattle.store.proofs.restart.Durable.line_at.Goals as goal
 
 pub returns : goal.returns

@@ -1,4 +1,4 @@
-use Rattle.store.proofs.StoreLemmas.{◌≡◌, ℕ, List, [], ap, subst, sym, IsSome, ◌∙◌, Option, unwrap_or, held_of, asks_on, IsChosen, Shows, arith, opening_fault, sure_on, shows_read}
+use Rattle.store.proofs.Lemmas.{◌≡◌, ℕ, List, [], ap, subst, sym, IsSome, ◌∙◌, Option, unwrap_or, held_of, asks_on, IsChosen, Shows, arith, opening_fault, sure_on, shows_read}
 use Rattle.store.proofs.restart.Durable.open.Goals as goal
 
 pub returns-in-Err-clause-fault : goal.returns-in-Err-clause-fault

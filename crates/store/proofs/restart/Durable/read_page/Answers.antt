@@ -1,4 +1,4 @@
-use Rattle.store.proofs.StoreLemmas.{◌≡◌, ℕ, ◌+◌, ◌*◌, ◌≤◌, List, [], length, get_or, ap, subst, sym, IsSome, ◌∙◌, arith, refl, ◌<◌, Option, None, is_some, slice_range, unwrap_or, Layout, page_count, PageSize, page_bytes, line_bytes, page-lines, home_at, total, home_of, bytes_at, held_of, asks_on, asks_one, told_some, area_end, read_is, KeptBank, KeptStore, Shows, newest_over, list_any, Composed, composed_none, composed_more, composed_at_home, shown_page, placed_at, end_inside}
+use Rattle.store.proofs.Lemmas.{◌≡◌, ℕ, ◌+◌, ◌*◌, ◌≤◌, List, [], length, get_or, ap, subst, sym, IsSome, ◌∙◌, arith, refl, ◌<◌, Option, None, is_some, slice_range, unwrap_or, Layout, page_count, PageSize, page_bytes, line_bytes, page-lines, home_at, total, home_of, bytes_at, held_of, asks_on, asks_one, told_some, area_end, read_is, KeptBank, KeptStore, Shows, newest_over, list_any, Composed, composed_none, composed_more, composed_at_home, shown_page, placed_at, end_inside}
 use Rattle.store.proofs.restart.Durable.read_page.Goals as goal
 
 pub loop-i-init : goal.loop-i-init

@@ -1,4 +1,4 @@
-use Rattle.store.proofs.StoreLemmas.{◌≡◌, ◌*◌, length, IsSome, line_bytes, home_of, OnlyAsks, held_of, Composed}
+use Rattle.store.proofs.Lemmas.{◌≡◌, ◌*◌, length, IsSome, line_bytes, home_of, OnlyAsks, held_of, Composed}
 use Rattle.store.proofs.restart.Durable.read_page.Given as goal
 
 abbrev pub invariant-loop-i : goal.invariant-loop-i

@@ -1,4 +1,4 @@
-use Rattle.store.proofs.StoreLemmas.{ℕ, ap, arith, subst, sym, PageSize, total, KeptBank, KeptStore, ReadsRecord, bank_inside}
+use Rattle.store.proofs.Lemmas.{ℕ, ap, arith, subst, sym, PageSize, total, KeptBank, KeptStore, ReadsRecord, bank_inside}
 use Rattle.store.proofs.restart.Durable.record_at.Goals as goal
 
 -- the sizes are those of the header

@@ -12,12 +12,3 @@ add_zeros-requires c = grind (arith, common_steps)
 
 pub overflow_cast-segments : goal.overflow_cast-segments
 overflow_cast-segments c = grind (arith, common_steps)
-
-pub slice_bounds-extend_from_slice-end-5 : goal.slice_bounds-extend_from_slice-end-5
-slice_bounds-extend_from_slice-end-5 c = grind (arith, common_steps)
-
-pub returns-clause-len : goal.returns-clause-len
-returns-clause-len c = grind (arith, common_steps)
-
-pub slice_bounds-extend_from_slice-end-4 : goal.slice_bounds-extend_from_slice-end-4
-slice_bounds-extend_from_slice-end-4 c = grind (arith, common_steps)
