@@ -102,7 +102,8 @@ pub use Rattle.romp_cpu.specs.Segments.{registers_of_program}
 pub use Rattle.romp_cpu.specs.declared.cpu.Cpu.{Cpu}
 pub use Rattle.romp_cpu.specs.declared.storage.Access.{Access}
 pub use Rattle.seats.proofs.Ascending.{all-has, none-free, some-free}
-pub use Rattle.seats.proofs.Kept.{few-taken, has-at, kept-left, kept-seated, kept-took, long-seat, other-with, same-with, taken-below}
+pub use Rattle.seats.proofs.Kept.{few-taken, kept-left, kept-seated, kept-took, long-seat, other-with, same-with, taken-below}
+pub use Rattle.seats.proofs.ListedLemmas.{has-at}
 pub use Rattle.seats.proofs.Numbers.{apart-taken, cycle-numbers, holders-flat, seat-found, seat-of-taken, waits-flat, waits-none}
 pub use Rattle.seats.specs.Seating.{IsSeating, Seating, left, newcomer, nobody_sits, number_in, numbers, seat_of, sitter, took, waiting_for, went_on, with_sitter}
 unfoldable pub use Rattle.seats.specs.Seating.{next_seat}
@@ -138,7 +139,7 @@ pub use Rattle.activations.specs.Touched.{AreLetBut, AreWanted, IsApart, each_re
 pub use Rattle.activations.specs.declared.live.Live.{Live}
 pub use Rattle.activations.specs.declared.tally.Tally.{Tally}
 pub use Rattle.activations.specs.declared.touch.Touch.{Touch}
-pub use Rattle.frame_pool.proofs.ApartLemmas.{differs, has-remove_other, turned}
+pub use Rattle.frame_pool.proofs.SoundLemmas.{differs, has-remove_other, turned}
 pub use Rattle.store.proofs.WriteLemmas.{asks_only}
 pub use Rattle.std.proofs.lemmas.Simd.{map-map}
 pub use Rattle.flat_machine.specs.Agreement.{SameWay, all_of}

@@ -9,7 +9,7 @@ use Rattle.store.proofs.ShowLemmas.{sure_on, shown_store}
 use Rattle.frame_pool.specs.declared.pages.StorePages.{StorePages}
 use Rattle.frame_pool.specs.Places.{index_out}
 use Rattle.frame_pool.specs.PlacesView.{places_of}
-use Rattle.frame_pool.proofs.PlaceLemmas.{none-room}
+use Rattle.frame_pool.proofs.SoundLemmas.{none-room}
 use Rattle.storage_unit.specs.declared.unit.Unit.{Unit}
 use Rattle.storage_unit.specs.Incoming.{IsFilled, IsKept, HasGoneOut}
 use Rattle.storage_unit.proofs.BringKeeps.{bring-keeps, page_in-long}

@@ -1,6 +1,6 @@
 -- A row that goes on, and whose access was served: it goes on still, and its lines are open.
 use Rattle.activations.proofs.Common.{◌≡◌, refl, ℕ, ◌+◌, ◌*◌, ◌%◌, ◌<◌, ◌==◌, ◌&&◌, ◌||◌, not, Bool, true, false, List, [], ◌∷◌, All, length, replicate, list_any, map, slice_index_or, slice_set, arith, ap, sym, ◌∙◌, subst, inl, inr, eqb-true, eqb-false, eq-eqb, and_parts, or_cases, or_left, or_parts, or_right, nat_tests, get_or-set_other, get_or-set_same, length-replicate, length-set, All-cons, All-head, All-nil, All-tail, cases_Bool, Layout, byte_count, has, page_of_line, has_left, has_right, Want, AreWithin, lines_wanted, held_at, of_seat, of_page-below, AreOfPage, IsFlat, IsOfPage, Authority, unowned, grant_of, lets, Plain, Program, Outcome, On, Commit, Check, row, touched, Reach, IsOpen, IsOpenLine, bytes_over, private_bytes, lines_of_access, Access, Activity, live_in, locks_in, program_in, Pool, IsMoved, with_pool, taken-below, long-seat, plain_in, IsShut, TookEffect, WasAttempted, WillTouch, CameTo, IsSound, AreGranted, AreSet, authority_given, locked, AreWanted, IsApart, AreLetBut, pages_refused, pages_wanted, refuses_want, stores_into, with_whole_page, refuses, Grant, SameWay, Plan, Does, Fails, plan_at, touched_by, IsCheckCode, over_all}
-use Rattle.flat_machine.proofs.SameWay.{on, row-way}
+use Rattle.flat_machine.proofs.Steps.{on, row-way}
 use Rattle.desk_law.proofs.Granted.{lets-loads, lets-stores}
 use Rattle.desk_law.proofs.Permitted.{any-none}
 use Rattle.romp_cpu.specs.declared.cpu.Attempt.{Attempt}

@@ -4,7 +4,7 @@ pub use Rattle.std.proofs.Math.Seq.{drop-cons, get_or-append_seam}
 pub use Rattle.std.proofs.lemmas.Bool.{and_parts, le-leb, lt-ltb, cond_both}
 pub use Rattle.std.proofs.lemmas.Bool.Decides.{Decides-and, Decides-ltb, nat_tests}
 pub use Rattle.std.proofs.lemmas.Int.Digits.{digits_more, digits_value_more}
-pub use Rattle.std.proofs.lemmas.List.{drop_at, get_or_append_left, take_at}
+pub use Rattle.std.proofs.lemmas.List.{drop_at, get_or_append_left, length-map, take_at}
 pub use Rattle.std.specs.Char.{digit_value, is_ascii_alphanumeric, is_ascii_digit, is_digit}
 pub use Rattle.std.specs.List.{AllByRecursion, after_first, before_first, list_all, position_or_len, prefix_len, slice_split, starts_with, take_while}
 pub use Rattle.std.specs.Option.{SomeIff, option_map}

@@ -1,5 +1,5 @@
 -- Statements that are kept whole, and one more.
-use Rattle.asm_parse.proofs.Common.{◌≡◌, ℕ, ◌+◌, ◌<◌, ◌≤◌, List, [], ◌∷◌, ◌++◌, length, map, get_or, Option, None, Result, Ok, Err, ap, ◌∙◌, arith, length-append, AllByRecursion, get_or-append_seam, get_or_append_left, Statement, Nothing, Gains, on_line}
+use Rattle.asm_parse.proofs.Common.{◌≡◌, ℕ, ◌+◌, ◌<◌, ◌≤◌, List, [], ◌∷◌, ◌++◌, length, map, Option, None, Result, Ok, Err, ap, ◌∙◌, arith, length-append, AllByRecursion, get_or-append_seam, get_or_append_left, Statement, Nothing, Gains, on_line, nat_tests}
 use Rattle.asm_parse.specs.declared.head.Head.{Head}
 use Rattle.asm_parse.specs.declared.head.Head.TheVariants.{Bare, Whole}
 use Rattle.asm_parse.specs.declared.statement.Body.{Body}
@@ -9,8 +9,7 @@ abbrev none : Statement
 none = record { line = 0; label = None; body = Nothing }
 
 kept_more : (wholes : List Statement) (heads : List Head) (statement : Statement) (place : ℕ) → AllByRecursion (IsKept (length wholes)) heads → place ≡ length wholes → map (stated_by (wholes ++ statement ∷ [])) (heads ++ Whole place ∷ []) ≡ map (stated_by wholes) heads ++ statement ∷ []
-kept_more wholes [] statement place each is =
-    ap (λ (last : Statement). last ∷ []) (ap (λ (n : ℕ). get_or (wholes ++ statement ∷ []) n none) is ∙ get_or-append_seam wholes statement [] none)
+kept_more wholes [] statement place each is = grind (arith, nat_tests, get_or-append_seam)
 kept_more wholes (Bare line label ∷ heads) statement place each is =
     ap (λ (rest : List Statement). stated_by wholes (Bare line label) ∷ rest) (kept_more wholes heads statement place each.1 is)
 kept_more wholes (Whole at ∷ heads) statement place each is = cc (get_or_append_left wholes (statement ∷ []) none at each.0, kept_more wholes heads statement place each.1 is)

@@ -3,9 +3,7 @@ pub mod NumberLemmas
 pub mod TokenLemmas
 pub mod OperandLemmas
 pub mod TextLemmas
-pub mod RunLemmas
 pub mod FrontLemmas
-pub mod FoundLemmas
 pub mod DirectiveLemmas
 pub mod KeptLemmas
 pub mod Lemmas

@@ -1,5 +1,5 @@
 -- Numbers in a radix.
-use Rattle.asm_parse.proofs.Common.{◌≡◌, ℕ, zero, suc, ◌+◌, ◌*◌, ◌^◌, ◌<◌, ◌≤◌, Bool, cond, List, [], ◌∷◌, length, get_or, take, Option, Some, None, refl, arith, Decides, digit_value, is_digit, list_all, SomeIff, AllDigits, digits_value, lt-ltb, Decides-and, Decides-ltb, digits_value_more, number_in, common_steps, nat_tests}
+use Rattle.asm_parse.proofs.Common.{◌≡◌, ℕ, zero, suc, ◌+◌, ◌*◌, ◌^◌, ◌<◌, ◌≤◌, List, [], ◌∷◌, length, get_or, take, Option, refl, arith, Decides, digit_value, is_digit, list_all, SomeIff, AllDigits, digits_value, lt-ltb, Decides-and, Decides-ltb, digits_value_more, number_in, common_steps, nat_tests}
 use Rattle.std.proofs.lemmas.Str.Parse.{digits_value-take-le}
 
 -- each of the digits is one
@@ -26,12 +26,7 @@ all_taken radix digits i number past told =
 -- the test of the digits tells whether all are digits
 digits_told : (radix : ℕ) (digits : List ℕ) → Decides (list_all (λ byte. is_digit byte radix) digits) (AllDigits radix digits)
 digits_told radix [] = (λ _. tt, λ _. refl)
-digits_told radix (d ∷ digits) =
-    Decides-and (is_digit d radix) (list_all (λ byte. is_digit byte radix) digits) (Decides-ltb (digit_value d) radix) (digits_told radix digits)
-
--- whether there is a number is the test of the definition
-by_test : (r : Option ℕ) (test : Bool) (P : Type 0) (value : ℕ) → Decides test P → SomeIff r P value → r ≡ cond test (Some value) None
-by_test r test P value told given = grind (arith, nat_tests)
+digits_told radix (d ∷ digits) = grind (arith, nat_tests, Decides-and, Decides-ltb, digits_told radix digits)
 
 pub as_number : (radix : ℕ) (digits : List ℕ) (r : Option ℕ) → 0 < length digits → SomeIff r (AllDigits radix digits × (digits_value radix digits < 2 ^ 32)) (digits_value radix digits) → r ≡ number_in radix digits
-as_number radix digits r some given = grind (arith, nat_tests, Decides-and, digits_told, Decides-ltb, lt-ltb, by_test)
+as_number radix digits r some given = grind (arith, nat_tests, Decides-and, digits_told, Decides-ltb, lt-ltb)

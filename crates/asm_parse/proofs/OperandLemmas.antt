@@ -1,5 +1,5 @@
 -- The operands of an instruction, as they are read one after the other.
-use Rattle.asm_parse.proofs.Common.{◌≡◌, ℕ, suc, ◌+◌, ◌<◌, Bool, not, cond, List, [], ◌∷◌, ◌++◌, length, map, drop, Option, Some, None, refl, ap, position, Bor, drop-cons, prefix_len, option_map, Token, operands_of}
+use Rattle.asm_parse.proofs.Common.{◌≡◌, ℕ, ◌+◌, ◌<◌, Bool, not, cond, length-map, List, [], ◌∷◌, ◌++◌, length, map, drop, Option, Some, None, refl, ap, position, Bor, drop-cons, prefix_len, option_map, Token, operands_of}
 use Rattle.asm_parse.specs.declared.form.Sort.{Sort}
 use Rattle.asm_parse.specs.declared.statement.Operand.{Operand}
 
@@ -8,13 +8,9 @@ prefix_mapped : {A B : Type 0} (p : B → Bool) (f : A → B) (xs : List A) → 
 prefix_mapped p f [] = refl
 prefix_mapped p f (x ∷ xs) = ap (λ n. cond (p (f x)) (1 + n) 0) (prefix_mapped p f xs)
 
-length_mapped : {A B : Type 0} (f : A → B) (xs : List A) → length (map f xs) ≡ length xs
-length_mapped f [] = refl
-length_mapped f (x ∷ xs) = ap suc (length_mapped f xs)
-
 -- the first place at which a test of what was mapped passes
 pub position_mapped : {A B : Type 0} (p : B → Bool) (f : A → B) (xs : List A) → position p (map f xs) ≡ position (λ x. p (f x)) xs
-position_mapped p f xs = rw (prefix_mapped (λ x. not (p x)) f xs, length_mapped f xs) refl
+position_mapped p f xs = rw (prefix_mapped (λ x. not (p x)) f xs, length-map xs f) refl
 
 -- operands behind those that were read
 abbrev pub operands_behind : List Operand → Option (List Operand) → Option (List Operand)

@@ -1,6 +1,28 @@
--- The tokens of a line, as they are found one after the other.
-use Rattle.asm_parse.proofs.Common.{◌≡◌, ℕ, zero, suc, ◌+◌, ◌<◌, ◌≤◌, ◌≢◌, ◌==◌, true, false, List, [], ◌∷◌, ◌++◌, length, take, drop, Option, Some, None, Result, Ok, Err, refl, sym, ap, ◌∙◌, arith, append_assoc, append-nil, add-one, is_ascii_alphanumeric, is_ascii_digit, prefix_len, IsAscii, nat_tests, number_of, Token, Begin, begins, begins_word, before, continues_word, is_blank, more_of, number_begins, then_tokens, tokens_past, word_begins}
+-- Runs of bytes that pass a test, and the tokens of a line, as they are found one after the other.
+use Rattle.asm_parse.proofs.Common.{◌≡◌, ℕ, zero, suc, ◌+◌, ◌≤◌, ◌≢◌, true, false, List, [], ◌∷◌, ◌++◌, length, take, drop, Option, Result, Ok, Err, refl, sym, ap, ◌∙◌, arith, append_assoc, append-nil, add-one, is_ascii_alphanumeric, is_ascii_digit, prefix_len, IsAscii, nat_tests, number_of, Token, Begin, begins, begins_word, before, continues_word, is_blank, more_of, number_begins, then_tokens, tokens_past, word_begins, Bool, list_all, take_while}
 use Rattle.std.proofs.lemmas.Str.Ascii.{IsAscii-nil, IsAscii-cons}
+use Rattle.std.proofs.lemmas.List.Sums.{take_while-cons}
+
+-- a list doesn't go on with a byte that passes
+abbrev pub Stops : (ℕ → Bool) → List ℕ → Type 0
+Stops test [] = Unit {0}
+Stops test (byte ∷ bytes) = test byte ≡ false
+
+-- a run of bytes that pass is as long as it is
+pub run_length : (test : ℕ → Bool) (run tail : List ℕ) → list_all test run ≡ true → Stops test tail → prefix_len test (run ++ tail) ≡ length run
+run_length test [] [] pass stops = refl
+run_length test [] (byte ∷ tail) pass stops = rw stops refl
+run_length test (byte ∷ run) tail pass stops = grind (arith, nat_tests, run_length test run tail)
+
+-- what is taken while a test passes passes it
+pub taken_pass : (test : ℕ → Bool) (bytes : List ℕ) → list_all test (take_while test bytes) ≡ true
+taken_pass test [] = refl
+taken_pass test (byte ∷ bytes) = rw (take_while-cons test byte bytes) (grind (arith, taken_pass test bytes))
+
+-- bytes that pass one test pass another that is weaker
+pub each_also : (test other : ℕ → Bool) (bytes : List ℕ) → ((byte : ℕ) → test byte ≡ true → other byte ≡ true) → list_all test bytes ≡ true → list_all other bytes ≡ true
+each_also test other [] weaker pass = refl
+each_also test other (byte ∷ bytes) weaker pass = grind (arith, weaker byte, each_also test other bytes weaker)
 
 -- tokens behind those that were found
 abbrev pub behind : List Token → Result (List Token) ℕ → Result (List Token) ℕ
@@ -8,12 +30,10 @@ behind found (Ok tokens) = Ok (found ++ tokens)
 behind found (Err kind) = Err kind
 
 pub behind_none : (others : Result (List Token) ℕ) → behind [] others ≡ others
-behind_none (Ok tokens) = refl
-behind_none (Err kind) = refl
+behind_none others = grind (arith, nat_tests)
 
 pub behind_one : (found : List Token) (token : Token) (others : Result (List Token) ℕ) → behind (found ++ token ∷ []) others ≡ behind found (before token others)
-behind_one found token (Ok tokens) = ap Ok (append_assoc found (token ∷ []) tokens)
-behind_one found token (Err kind) = refl
+behind_one found token others = grind (arith, nat_tests, append_assoc)
 
 -- what is passed over is left out
 pub passed : (bytes : List ℕ) (n : ℕ) → tokens_past bytes n ≡ tokens_past (drop n bytes) 0
@@ -35,9 +55,6 @@ from_none = refl
 pub step : (found : List Token) (left rest : List ℕ) (first : ℕ) (begin : Begin) (whole : Result (List Token) ℕ) → left ≡ first ∷ rest → begin ≡ begins first rest → behind found (tokens_past left 0) ≡ whole → behind found (then_tokens begin (tokens_past (drop (more_of begin) rest) 0)) ≡ whole
 step found left rest first begin whole split is so_far = rw (is, ← from_byte first rest, ← split) so_far
 
-first_byte : (byte : ℕ) → begins_word byte ≡ true → byte < 128
-first_byte byte e = grind (arith, nat_tests)
-
 tail_ascii : (rest : List ℕ) → IsAscii (take (prefix_len continues_word rest) rest)
 tail_ascii [] = IsAscii-nil
 tail_ascii (byte ∷ rest) =
@@ -51,29 +68,25 @@ front left rest first more split = rw (split, add-one) refl
 
 -- a word is of bytes below 128
 pub word_ascii : (left rest : List ℕ) (first more : ℕ) → left ≡ first ∷ rest → begins_word first ≡ true → more ≡ prefix_len continues_word rest → IsAscii (take (more + 1) left)
-word_ascii left rest first more split begins is =
-    rw (front left rest first more split, is) (IsAscii-cons first _ (first_byte first begins) (tail_ascii rest))
+word_ascii left rest first more split begins is = grind (arith, nat_tests, front, IsAscii-cons, tail_ascii)
 
 -- how far what begins reaches
 pub word_inside : (more n : ℕ) (bytes : List ℕ) → more ≤ n → more_of (word_begins more bytes) ≤ n
 word_inside more n bytes h = grind arith
 
 pub number_inside : (more n : ℕ) (o : Option ℕ) → more ≤ n → more_of (number_begins more o) ≤ n
-number_inside more n None h = omega arith
-number_inside more n (Some x) h = h
-
--- a semicolon is no other byte
-no_comment : (first : ℕ) → first ≢ 59 → (first == 59) ≡ false
-no_comment first h = grind (arith, nat_tests)
+number_inside more n o h = grind (arith, nat_tests)
 
 -- what begins where a word does, and where a number does
 pub begins_with_word : (left rest : List ℕ) (first more : ℕ) (begin : Begin) → left ≡ first ∷ rest → false ≡ is_blank first → first ≢ 59 → true ≡ begins_word first → more ≡ prefix_len continues_word rest → begin ≡ word_begins more (take (more + 1) left) → begin ≡ begins first rest
 begins_with_word left rest first more begin split blank comment word is made =
-    rw (sym blank, no_comment first comment, sym word) (made ∙ rw (front left rest first more split, is) refl)
+    let text = front left rest first more split in
+    grind (arith, nat_tests, blank, comment, word, is, made, text)
 
 pub begins_with_digit : (left rest : List ℕ) (first more : ℕ) (begin : Begin) → left ≡ first ∷ rest → false ≡ is_blank first → first ≢ 59 → false ≡ begins_word first → true ≡ is_ascii_digit first → more ≡ prefix_len is_ascii_alphanumeric rest → begin ≡ number_begins more (number_of (take (more + 1) left)) → begin ≡ begins first rest
 begins_with_digit left rest first more begin split blank comment word digit is made =
-    rw (sym blank, no_comment first comment, sym word, sym digit) (made ∙ rw (front left rest first more split, is) refl)
+    let text = front left rest first more split in
+    grind (arith, nat_tests, blank, comment, word, digit, is, made, text)
 
 -- what was found is all where no byte is left
 pub behind_all : (found : List Token) (left : List ℕ) (whole : Result (List Token) ℕ) → length left ≡ 0 → behind found (tokens_past left 0) ≡ whole → whole ≡ Ok found

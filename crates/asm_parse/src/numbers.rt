@@ -16,6 +16,7 @@ pub(crate) fn number_of(run: &[u8]) -> Option<u32>
 }
 
 /// The number that digits write, if there is one and it has at most 32 bits.
+#[tactic(auto, using(crate::proofs::NumberLemmas::as_number))]
 fn number_in(digits: &[u8], radix: u32) -> Option<u32>
     requires low { 2 ≤ radix }
     requires high { radix ≤ 36 }

@@ -16,11 +16,9 @@ unfoldable pub use Rattle.desk.specs.Instruction.{instruction, turns}
 pub use Rattle.desk.specs.Run.{Busy, Nothing, Turned, absent_segment, begin_if, begins, event_of, restarted, run, step, turned, Step, Begun, CheckpointFailed, CheckpointMade, CrashFailed, Crashed, Happening, IsRunOf, NoSegment, OpenBeforeEach, faulted, is_fine}
 pub use Rattle.desk.specs.declared.event.Event.{Event}
 pub use Rattle.desk.specs.declared.event.Event.TheVariants.{Begin, Checkpoint, Crash, Turn}
-pub use Rattle.flat_machine.proofs.Agreement.{after-kept, after-whole, agreement-enough}
-pub use Rattle.flat_machine.proofs.Below.{touched-below}
+pub use Rattle.flat_machine.proofs.Agreement.{after-kept, after-whole, agreement_enough}
+pub use Rattle.flat_machine.proofs.Steps.{touched-below, on, row-way, Keeps, Steps, lines_of_plan, row-steps}
 pub use Rattle.flat_machine.proofs.Ranges.{in_line, part}
-pub use Rattle.flat_machine.proofs.SameWay.{on, row-way}
-pub use Rattle.flat_machine.proofs.Steps.{Keeps, Steps, lines_of_plan, row-steps}
 pub use Rattle.flat_machine.specs.After.{after, next_state, start}
 pub use Rattle.flat_machine.specs.Agreement.{AgreeBut, DoesTheSame, SameWay, all_of, line_in}
 pub use Rattle.flat_machine.specs.Due.{due_locks, touched_next, touched_within}

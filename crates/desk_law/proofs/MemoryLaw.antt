@@ -1,6 +1,6 @@
 -- The law of isolation.
 use Rattle.desk_law.proofs.Common.{◌≤◌, ◌≡◌, refl, ℕ, zero, suc, ◌+◌, ◌<◌, ◌==◌, ◌||◌, if◌then◌else◌, Bool, true, false, List, [], ◌∷◌, ◌++◌, length, map, find, Option, Some, None, slice_get, arith, ap, sym, ◌∙◌, subst, inl, inr, eqb-true, ne_eqb, ltb-true, cond-false, FlatStore, IsWhole, has, Program, start, after, Event, Begin, Turn, Checkpoint, Crash, Desk, Entry, opened, numbers, Word, Failed, Counts, Turning, Going, Over, Idle, Committed, Attempt, instruction, turns, turn_of, no_counts, Turned, Nothing, turned, begin_if, absent_segment, restarted, event_of, step, run, gone_on, row_done, IsAmong, IsConsistent, current_bytes, turn_desk, Machine, Memory, first_machine, with_machine, given_back, row_of, after_instruction, after_turns, after_event, memory_after, memory_of, IsAlone, IsMemory, FindTheirOwn, RunsAreIsolated, CommitsTellTheMachine, SideBySideIsSerial, IsOrderly, nat_tests, next_attempt, begun, IsSerial, event_lines, cases_Bool, granted, printed, Activation, run_serial}
-use Rattle.flat_machine.proofs.Whole.{serial-whole}
+use Rattle.flat_machine.proofs.Agreement.{serial-whole}
 use Rattle.desk_law.proofs.Entries.{orderly, among-found, new-among, among-push, between, found-among, one-entry, numbers-replaced}
 use Rattle.desk_law.proofs.Others.{others, among-others, others-among}
 use Rattle.desk_law.proofs.Waiting.{number-of, has-number}

@@ -1,5 +1,5 @@
 -- A commit of one activation leaves the others as they were.
-use Rattle.desk_law.proofs.Common.{◌+◌, ◌≡◌, ℕ, ◌==◌, not, Bool, true, false, List, filter, Some, arith, not-true, not_from_false, FlatStore, IsWhole, has, Lines, with_whole_pages, has-append, has_left, has_right, Plain, after, On, row, touched_next, all_of, DoesTheSame, agreement-enough, after-whole, after-kept, Entry, left_by, IsAmong, due_to, IsLive, AreApart, AreConsistent, nat_tests}
+use Rattle.desk_law.proofs.Common.{◌+◌, ◌≡◌, ℕ, ◌==◌, not, Bool, true, false, List, filter, Some, arith, not-true, not_from_false, FlatStore, IsWhole, has, Lines, with_whole_pages, has-append, has_left, has_right, Plain, after, On, row, touched_next, all_of, DoesTheSame, agreement_enough, after-whole, after-kept, Entry, left_by, IsAmong, due_to, IsLive, AreApart, AreConsistent, nat_tests}
 use Rattle.desk_law.proofs.Entries.{among-filter, filter-among, ascend-filter}
 
 -- the state after a row more
@@ -19,7 +19,7 @@ pub another-same :
     → after other.runs.program other.runs.args store other.rows ≡ Some state
     → AreApart (due_to store entry) (due_to store other)
     → (bytes : List ℕ) × DoesTheSame other.runs.program other.runs.args store (left_by store now) other.rows state bytes
-another-same store entry other now state whole here there apart = grind (arith, nat_tests, agreement-enough, after-whole, after-kept, unwritten)
+another-same store entry other now state whole here there apart = grind (arith, nat_tests, agreement_enough, after-whole, after-kept, unwritten)
 
 -- what is due to another stays, and what it wants
 pub record StaysSame (store later : FlatStore) (other : Entry) : Type 0 where

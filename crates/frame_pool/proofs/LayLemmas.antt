@@ -2,15 +2,14 @@
 use Rattle.frame_pool.proofs.Common.{fold, slice_range, range_with_len, length-append, length-take-le, length-drop, append-nil, take-append-drop, drop-drop, take_at, overlaid, length-overlaid, PageSize, page_bytes, passing, lines_of_bits, Pool, frame_count, line_size, line_place, frame_at, marks_at, line_laid, line_kept, with_bytes, laid, IsSeen, pool_of, FramePool, nat_tests, ◌≡◌, ℕ, zero, suc, ◌+◌, ◌-◌, ◌*◌, ◌<◌, ◌≤◌, Some, List, [], ◌++◌, length, take, drop, refl, sym, ◌∙◌, ap, arith, append_assoc}
 use Rattle.std.proofs.Math.Seq.{take-add, drop-append-add, drop-append_seam}
 use Rattle.frame_pool.proofs.SoundLemmas.{page_part}
-use Rattle.frame_pool.proofs.PoolLemmas.{frame-within}
+use Rattle.frame_pool.proofs.PoolLemmas.{frame_within}
 use Rattle.frame_pool.proofs.SeenLemmas.{pool-seen}
 
 -- nothing written over a list
 overlaid-none : {X : Type 0} (xs : List X) (at : ℕ) → overlaid xs at [] ≡ xs
 overlaid-none {X = X} xs at =
-    ap (λ (front : List X). front ++ drop (at + 0) xs) (append-nil (take at xs))
-    ∙ ap (λ n. take at xs ++ drop n xs) (let same : at + 0 ≡ at = omega arith in same)
-    ∙ take-append-drop at xs
+    let same : at + 0 ≡ at = omega arith in
+    rw (append-nil, same) (take-append-drop at xs)
 
 -- two parts written end to end are one
 pub overlaid-joined :
@@ -154,6 +153,6 @@ pub whole-laid :
 whole-laid p page frame inside there all =
     let seen : IsSeen (pool_of p) = pool-seen p in
     let size : ℕ = page_bytes p.places.page in
-    let fits : frame * size + size ≤ length p.bytes.items.items = omega (arith, page_part frame (frame_count p.places.page p.places.frames) size (frame-within p page frame there), seen.bytes) in
+    let fits : frame * size + size ≤ length p.bytes.items.items = omega (arith, page_part frame (frame_count p.places.page p.places.frames) size (frame_within p page frame there), seen.bytes) in
     let kept : page * size + size ≤ length p.kept = omega (arith, page_part page (length p.places.frame_of.items) size inside, seen.kept) in
     sym (page-laid page frame (pool_of p) fits kept) ∙ laid-all page frame (pool_of p) there all

@@ -1,7 +1,5 @@
 pub mod Common
-pub mod ApartLemmas
 pub mod SoundLemmas
-pub mod PlaceLemmas
 pub mod PoolLemmas
 pub mod LendLemmas
 pub mod LayLemmas

@@ -1,9 +1,7 @@
 -- What a step of the pool needs and leaves.
-use Rattle.frame_pool.proofs.Common.{◌≡◌, ℕ, zero, suc, ◌+◌, ◌*◌, ◌<◌, ◌≤◌, Bool, true, false, List, [], ◌∷◌, length, refl, sym, ◌∙◌, ap, arith, Some, None, All, vec_len, ◌==◌, ◌||◌, not, cond, nat_lt, position, find, remove, IfSome, slice_index, slice_set, if◌then◌else◌, Option, unwrap_or, option_to_list, prefix_len, list_any, option_map_or, overlaid, nat_tests, All-from_get_or, position-Some, page_bytes, IsOfPage, has, first_out, taken_out, FramePool, Pool, private_frames, frame_count, Places, left, index_out, CameIn, places_of, is_apart, frame_at, page_at, marks_at, frame_bytes, paging_after, gone, page_out, with_room, Brought, emptied, pool_of}
+use Rattle.frame_pool.proofs.Common.{◌≡◌, ℕ, zero, suc, ◌+◌, ◌*◌, ◌<◌, ◌≤◌, Bool, true, false, List, [], ◌∷◌, length, refl, sym, ap, arith, Some, None, All, vec_len, ◌==◌, not, nat_lt, position, find, remove, IfSome, slice_index, slice_set, if◌then◌else◌, Option, unwrap_or, option_to_list, prefix_len, list_any, option_map_or, overlaid, nat_tests, All-from_get_or, position-Some, page_bytes, IsOfPage, has, first_out, taken_out, FramePool, Pool, private_frames, frame_count, Places, left, index_out, CameIn, places_of, is_apart, frame_at, page_at, marks_at, frame_bytes, paging_after, gone, page_out, with_room, Brought, emptied, pool_of}
 use Rattle.lines.proofs.LineSetLemmas.{of_page-below}
-use Rattle.frame_pool.proofs.ApartLemmas.{first-apart, turned, differs, has-at, has-push_last, or_none}
-use Rattle.frame_pool.proofs.SoundLemmas.{resident-in_frame, page-within, frame-of_store, page_part}
-use Rattle.frame_pool.proofs.PlaceLemmas.{none-room, index-out_below}
+use Rattle.frame_pool.proofs.SoundLemmas.{first-apart, has-at, has-push_last, resident-in_frame, page-within, frame-of_store, page_part, none-room, index-out_below}
 
 -- the pool of places and the other parts
 abbrev pub shown : Places → (bytes : List ℕ) → List (List ℕ) → (kept : List ℕ) → Pool
@@ -22,10 +20,7 @@ shown places bytes marked kept =
 -- a list that lacks a number is as before without it
 absent-taken : (x : ℕ) (xs : List ℕ) → has xs x ≡ false → taken_out (x ∷ []) xs ≡ xs
 absent-taken x [] absent = refl
-absent-taken x (y ∷ ys) absent =
-    let parts = or_none (y == x) (has ys x) absent in
-    ap (λ b. cond (not (b || false)) (y ∷ taken_out (x ∷ []) ys) (taken_out (x ∷ []) ys)) (turned y x parts.0)
-    ∙ ap (λ (rest : List ℕ). y ∷ rest) (absent-taken x ys parts.1)
+absent-taken x (y ∷ ys) absent = grind (arith, nat_tests, absent-taken x ys)
 
 equal : (n : ℕ) → (n == n) ≡ true
 equal n = grind arith
@@ -35,11 +30,7 @@ pub removed-taken : (xs : List ℕ) (i : ℕ) → is_apart xs ≡ true → i < l
 removed-taken [] i apart below = absurd (omega arith)
 removed-taken (x ∷ xs) zero apart below = grind (arith, nat_tests, equal, absent-taken, first-apart)
 removed-taken (x ∷ xs) (suc i) apart below =
-    let parts = first-apart x xs apart in
-    let inside : i < length xs = omega arith in
-    let other : (slice_index xs i == x) ≡ false = turned x (slice_index xs i) (differs xs x (slice_index xs i) parts.0 (has-at xs i inside)) in
-    ap (λ (rest : List ℕ). x ∷ rest) (removed-taken xs i parts.1 inside)
-    ∙ sym (ap (λ b. cond (not (b || false)) (x ∷ taken_out (slice_index xs i ∷ []) xs) (taken_out (slice_index xs i ∷ []) xs)) other)
+    grind (arith, nat_tests, first-apart x xs apart, has-at xs i, removed-taken xs i)
 
 -- a page that is in a frame leaves it
 pub gone-from :
@@ -58,14 +49,16 @@ pub frame-at_index :
     → frame ≡ unwrap_or (frame_at (pool_of p) page) 0 → frame_at (pool_of p) page ≡ Some frame
 frame-at_index p index page frame below is found = grind (arith, nat_tests, resident-in_frame (places_of p.places) index p.places.sound below)
 
-pub frame-within : (p : FramePool) (page frame : ℕ) → frame_at (pool_of p) page ≡ Some frame → frame < frame_count p.places.page p.places.frames
-frame-within p page frame there = (frame-of_store (places_of p.places) page frame p.places.sound there).below
+pub frame_within : (p : FramePool) (page frame : ℕ) → frame_at (pool_of p) page ≡ Some frame
+    → frame < frame_count p.places.page p.places.frames
+frame_within p page frame there = (frame-of_store (places_of p.places) page frame p.places.sound there).below
 
 pub page-inside : (p : FramePool) (page frame : ℕ) → frame_at (pool_of p) page ≡ Some frame → page < vec_len p.places.frame_of
 page-inside p page frame there = omega (arith, page-within (places_of p.places) page frame there, p.places.frame_of.ok.0)
 
-pub page-in_frame : (p : FramePool) (page frame : ℕ) → page_at (pool_of p) frame ≡ Some page → page < vec_len p.places.frame_of
-page-in_frame p page frame there = page-inside p page frame (p.places.sound.placed.back page frame there)
+pub page_in_frame : (p : FramePool) (page frame : ℕ) → page_at (pool_of p) frame ≡ Some page
+    → page < vec_len p.places.frame_of
+page_in_frame p page frame there = page-inside p page frame (p.places.sound.placed.back page frame there)
 
 -- the bytes of a frame
 pub frame-part : (p : FramePool) (frame : ℕ) → frame < frame_count p.places.page p.places.frames → frame * page_bytes p.places.page + page_bytes p.places.page ≤ vec_len p.bytes.items
@@ -96,10 +89,10 @@ find-first :
     (test : ℕ → Bool) (xs : List ℕ) (i : ℕ) → i < length xs → test (slice_index xs i) ≡ true → ((k : ℕ) → k < i → test (slice_index xs k) ≡ false)
     → find test xs ≡ Some (slice_index xs i)
 find-first test [] i below passes before = absurd (omega arith)
-find-first test (x ∷ xs) zero below passes before = ap (λ b. cond b (Some x) (find test xs)) passes
+find-first test (x ∷ xs) zero below passes before = grind (arith, passes)
 find-first test (x ∷ xs) (suc i) below passes before =
-    ap (λ b. cond b (Some x) (find test xs)) (before zero (omega arith))
-    ∙ find-first test xs i (omega arith) passes (λ k less. before (suc k) (omega arith))
+    let others = find-first test xs i (omega arith) passes (λ k less. before (suc k) (omega arith)) in
+    grind (arith, before zero (omega arith), others)
 
 pub find-position : (test : ℕ → Bool) (xs : List ℕ) (i : ℕ) → position test xs ≡ Some i → find test xs ≡ Some (slice_index xs i)
 find-position test xs i is = let told = position-Some test xs i 0 is in find-first test xs i told.0 told.1 told.2
@@ -150,36 +143,12 @@ room-resident :
     (p : FramePool) (keep : Option ℕ)
     → (with_room (pool_of p) keep).resident
     ≡ (if nat_lt (length p.places.resident.items) p.places.frames then p.places.resident.items else first_out (option_to_list keep) p.places.resident.items)
-room-resident p keep = by_index (index_out (places_of p.places) keep) refl
-  where
-    full : (index : ℕ) → index_out (places_of p.places) keep ≡ Some index → (nat_lt (length p.places.resident.items) p.places.frames ≡ false) × (position (λ page. not (has (option_to_list keep) page)) p.places.resident.items ≡ Some index)
-    full index is = by_test (nat_lt (length p.places.resident.items) p.places.frames) refl is
-      where
-        by_test :
-            (b : Bool) → nat_lt (length p.places.resident.items) p.places.frames ≡ b
-            → (if b then None else position (λ page. not (has (option_to_list keep) page)) p.places.resident.items) ≡ Some index
-            → (nat_lt (length p.places.resident.items) p.places.frames ≡ false) × (position (λ page. not (has (option_to_list keep) page)) p.places.resident.items ≡ Some index)
-        by_test true same is = absurd (cc)
-        by_test false same is = (same, is)
-
-    by_index :
-        (o : Option ℕ) → index_out (places_of p.places) keep ≡ o
-        → (with_room (pool_of p) keep).resident
-        ≡ (if nat_lt (length p.places.resident.items) p.places.frames then p.places.resident.items else first_out (option_to_list keep) p.places.resident.items)
-    by_index None is =
-        let room : length p.places.resident.items < p.places.frames = omega (arith, none-room p.places keep is, p.places.resident.ok.0) in
-        sym (ap (λ (pool : Pool). pool.resident) (room-none (pool_of p) keep (out-none p keep is)))
-        ∙ sym (ap (λ b. if b then p.places.resident.items else first_out (option_to_list keep) p.places.resident.items) (ltb-of (length p.places.resident.items) p.places.frames room))
-    by_index (Some index) is =
-        let below = index-out_below p.places keep index is in
-        let facts = full index is in
-        let page : ℕ = slice_index p.places.resident.items index in
-        let there = resident-in_frame (places_of p.places) index p.places.sound below in
-        sym (ap (λ (pool : Pool). pool.resident) (room-some (pool_of p) keep page (out-some p keep index is)))
-        ∙ ap (λ (pool : Pool). pool.resident) (gone-from (pool_of p) page (unwrap_or (frame_at (pool_of p) page) 0) there)
-        ∙ sym (removed-taken p.places.resident.items index p.places.sound.placed.pages_apart below)
-        ∙ sym (ap (λ (o : Option ℕ). remove p.places.resident.items (unwrap_or o 0)) facts.1)
-        ∙ sym (ap (λ b. if b then p.places.resident.items else first_out (option_to_list keep) p.places.resident.items) facts.0)
+room-resident p keep =
+    let there = λ (index : ℕ). resident-in_frame (places_of p.places) index p.places.sound in
+    let taken = λ (index : ℕ). removed-taken p.places.resident.items index p.places.sound.placed.pages_apart in
+    let none = out-none p keep in
+    let some = out-some p keep in
+    grind (arith, nat_tests, none-room p.places keep, index-out_below p.places keep, gone-from (pool_of p), there, taken, none, some, p.places.resident.ok)
 
 -- a page came in
 pub came-brought :
@@ -188,10 +157,12 @@ pub came-brought :
 came-brought old mid keep page frame after room came = grind (arith, nat_tests, has-push_last after.free frame, room-sizes (pool_of old) keep, room-resident old keep)
 
 -- the frame of a page is one of the store
-pub some-above : (p : FramePool) (page : ℕ) (o : Option ℕ) → o ≡ frame_at (pool_of p) page → IfSome o (λ frame. private_frames p.places.page ≤ frame)
-some-above p page None is = tt
-some-above p page (Some frame) is = (frame-of_store (places_of p.places) page frame p.places.sound (sym is)).above
+pub some_above : (p : FramePool) (page : ℕ) (o : Option ℕ) → o ≡ frame_at (pool_of p) page
+    → IfSome o (λ frame. private_frames p.places.page ≤ frame)
+some_above p page o is =
+    let store = λ (frame : ℕ). frame-of_store (places_of p.places) page frame p.places.sound in grind (arith, store, is)
 
-pub some-below : (p : FramePool) (page : ℕ) (o : Option ℕ) → o ≡ frame_at (pool_of p) page → IfSome o (λ frame. frame < frame_count p.places.page p.places.frames)
-some-below p page None is = tt
-some-below p page (Some frame) is = (frame-of_store (places_of p.places) page frame p.places.sound (sym is)).below
+pub some_below : (p : FramePool) (page : ℕ) (o : Option ℕ) → o ≡ frame_at (pool_of p) page
+    → IfSome o (λ frame. frame < frame_count p.places.page p.places.frames)
+some_below p page o is =
+    let store = λ (frame : ℕ). frame-of_store (places_of p.places) page frame p.places.sound in grind (arith, store, is)

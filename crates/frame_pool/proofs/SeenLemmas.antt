@@ -1,5 +1,5 @@
 -- What holds of every pool, and stays where a page leaves.
-use Rattle.frame_pool.proofs.Common.{◌==◌, if◌then◌else◌, slice_index_or, slice_set, is_some, option_map_or, cases_eq, eq-eqb, ne_eqb, length-set, get_or-set_same, get_or-set_other, get_or_past, length-take, length-drop, overlaid, length-overlaid, page_bytes, has, taken_out, has-filter, IsSeen, frame_count, pool_of, frame_at, page_at, marks_at, frame_bytes, paging_after, gone, Pool, FramePool, nat_tests, ◌≡◌, ◌≢◌, ℕ, ◌*◌, ◌<◌, Bool, true, false, List, [], ◌∷◌, length, refl, sym, ◌∙◌, ap, subst, arith, Option, Some, None, ◌⊎◌, inl, inr}
+use Rattle.frame_pool.proofs.Common.{◌+◌, ◌≤◌, ◌==◌, if◌then◌else◌, slice_index_or, slice_set, is_some, length-set, get_or-set_same, get_or-set_other, get_or_past, length-take, length-drop, length-overlaid, page_bytes, has, taken_out, has-filter, IsSeen, frame_count, pool_of, frame_at, page_at, frame_bytes, paging_after, gone, Pool, FramePool, nat_tests, ◌≡◌, ◌≢◌, ℕ, ◌*◌, ◌<◌, List, [], ◌∷◌, length, sym, ◌∙◌, ap, arith, Option, Some, None}
 use Rattle.frame_pool.proofs.SoundLemmas.{page_part}
 use Rattle.frame_pool.proofs.PoolLemmas.{gone-from}
 
@@ -16,22 +16,7 @@ none-set xs at other = grind (arith, nat_tests, get_or-set_other xs, get_or-set_
 
 -- the frame of each page after one left
 pub gone-frame : (pool : Pool) (page other : ℕ) → frame_at (gone pool page) other ≡ (if page == other then None else frame_at pool other)
-gone-frame pool page other = by_frame (frame_at pool page) refl
-  where
-    by_frame : (o : Option ℕ) → frame_at pool page ≡ o → frame_at (gone pool page) other ≡ (if page == other then None else frame_at pool other)
-    by_frame (Some frame) is = ap (λ (p : Pool). frame_at p other) (gone-from pool page frame is) ∙ none-set pool.frame_of page other
-    by_frame None is =
-        ap (λ (o : Option ℕ). frame_at (option_map_or (λ frame. record pool {
-          resident = taken_out (page ∷ []) pool.resident;
-          frame_of = slice_set pool.frame_of page None;
-          page_in = slice_set pool.page_in frame None;
-          kept = paging_after pool page frame;
-        }) o pool) other) is
-        ∙ by_test (cases_eq page other)
-      where
-        by_test : (page ≡ other) ⊎ (page ≡ other → ⊥) → frame_at pool other ≡ (if page == other then None else frame_at pool other)
-        by_test (inl same) = ap (frame_at pool) (sym same) ∙ is ∙ sym (ap (λ (b : Bool). if b then None else frame_at pool other) (eq-eqb page other same))
-        by_test (inr apart) = sym (ap (λ (b : Bool). if b then None else frame_at pool other) (ne_eqb page other apart))
+gone-frame pool page other = grind (arith, nat_tests, none-set pool.frame_of page other)
 
 -- what stays where a page leaves
 pub record Stays (old new : Pool) : Type 0 where
@@ -65,13 +50,10 @@ module _ (pool : Pool) (seen : IsSeen pool) (page frame : ℕ) (there : frame_at
       simp (length-take, length-drop) (omega (arith, part, seen.bytes))
 
   kept-long : length (paging_after pool page frame) ≡ length pool.kept
-  kept-long = by_marks (length (marks_at pool page) == 0)
-    where
-      by_marks : (b : Bool) → length (if b then pool.kept else overlaid pool.kept (page * page_bytes pool.page) (frame_bytes pool frame)) ≡ length pool.kept
-      by_marks true = refl
-      by_marks false =
-          length-overlaid pool.kept (page * page_bytes pool.page) (frame_bytes pool frame)
-          (omega (arith, frame-long, page_part page (length pool.frame_of) (page_bytes pool.page) inside, seen.kept))
+  kept-long =
+      let fits : page * page_bytes pool.page + length (frame_bytes pool frame) ≤ length pool.kept =
+      omega (arith, frame-long, page_part page (length pool.frame_of) (page_bytes pool.page) inside, seen.kept) in
+      grind (arith, nat_tests, length-overlaid pool.kept (page * page_bytes pool.page) (frame_bytes pool frame) fits)
 
   resident-left : (p : ℕ) → has (taken_out (page ∷ []) pool.resident) p ≡ is_some (slice_index_or (slice_set pool.frame_of page None) p None)
   resident-left p = grind (arith, nat_tests, has-filter, none-set)
@@ -81,7 +63,7 @@ module _ (pool : Pool) (seen : IsSeen pool) (page frame : ℕ) (there : frame_at
   before xs at other value is = grind (arith, nat_tests, none-set xs)
 
   after : (xs : List (Option ℕ)) (at other value : ℕ) → at ≢ other → slice_index_or xs other None ≡ Some value → slice_index_or (slice_set xs at None) other None ≡ Some value
-  after xs at other value apart is = none-set xs at other ∙ ap (λ (b : Bool). if b then None else slice_index_or xs other None) (ne_eqb at other apart) ∙ is
+  after xs at other value apart is = grind (arith, nat_tests, none-set xs)
 
   one : (a b : ℕ) → Some a ≡ Some b → a ≡ b
   one a b same = cc
@@ -104,19 +86,7 @@ module _ (pool : Pool) (seen : IsSeen pool) (page frame : ℕ) (there : frame_at
   }
 
 pub seen-gone : (pool : Pool) (page : ℕ) → IsSeen pool → IsSeen (gone pool page)
-seen-gone pool page seen = by_frame (frame_at pool page) refl
-  where
-    by_frame : (o : Option ℕ) → frame_at pool page ≡ o → IsSeen (gone pool page)
-    by_frame (Some frame) is = subst IsSeen (sym (gone-from pool page frame is)) (seen-left pool seen page frame is)
-    by_frame None is =
-        subst IsSeen
-        (sym (ap (λ (o : Option ℕ). option_map_or (λ frame. record pool {
-          resident = taken_out (page ∷ []) pool.resident;
-          frame_of = slice_set pool.frame_of page None;
-          page_in = slice_set pool.page_in frame None;
-          kept = paging_after pool page frame;
-        }) o pool) is))
-        seen
+seen-gone pool page seen = grind (arith, gone-from pool page, seen-left pool seen page, seen)
 
 -- a page that is in no frame leaves none
 pub gone-absent : (pool : Pool) (page : ℕ) → frame_at pool page ≡ None → gone pool page ≡ pool

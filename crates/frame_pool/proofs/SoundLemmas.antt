@@ -1,9 +1,80 @@
--- A pool's pages agree after a page left its frame, and after one came into a frame.
-use Rattle.frame_pool.proofs.Common.{◌≡◌, ℕ, zero, suc, ◌+◌, ◌*◌, ◌<◌, ◌≤◌, ◌⊎◌, Bool, true, false, List, [], ◌∷◌, ◌++◌, length, refl, sym, ◌∙◌, ap, arith, inl, inr, Some, None, ◌==◌, remove, replicate, slice_index, slice_index_or, slice_set, Option, is_some, unwrap_or, range_with_len, cases_eq, nat_tests, length-set, length-append, get_or-set_same, get_or-set_other, length-replicate, get_or-replicate, PageSize, has-range, has, private_frames, frame_count, IsSound, IsSized, IsPlaced, IsOfStore, is_apart, length-remove}
+-- A pool's pages agree after a page left its frame, and after one came into a frame; and what such a step needs.
+use Rattle.frame_pool.proofs.Common.{◌≡◌, ℕ, zero, suc, ◌+◌, ◌*◌, ◌<◌, ◌≤◌, Bool, true, false, List, [], ◌∷◌, ◌++◌, length, refl, sym, ◌∙◌, ap, arith, Some, None, ◌==◌, remove, replicate, slice_index, slice_index_or, slice_set, Option, is_some, unwrap_or, range_with_len, cases_eq, nat_tests, length-set, length-append, get_or-set_same, get_or-set_other, length-replicate, get_or-replicate, PageSize, has-range, has, private_frames, frame_count, IsSound, IsSized, IsPlaced, IsOfStore, is_apart, length-remove, ◌||◌, not, and_from, or_from, not_from_false, has-append, vec_len, vec_capacity, position, if◌then◌else◌, Result, Ok, Err, is_ok, IsOk, IsSome, option_to_list, prefix_len, get_or_read_under, place_of, index_out, places_of}
 use Rattle.std.proofs.Math.ListN.{get_or-eq_default}
 use Rattle.std.proofs.lemmas.List.FromFn.{length-range_with_len}
 use Rattle.frame_pool.specs.Places.{Places, place_of, page_at, resident_at, frame_of_index, fresh_places, left}
-use Rattle.frame_pool.proofs.ApartLemmas.{apart-cons, has-at, has-removed, has-remove_other, apart-remove, apart-push, apart-front, has-push_last, has-push_other}
+use Rattle.frame_pool.specs.declared.pages.StorePages.{StorePages}
+
+-- lists in which no number stands twice, under a push and a removal
+pub or_none : (x y : Bool) → (x || y) ≡ false → (x ≡ false) × (y ≡ false)
+or_none x y h1 = grind (arith, nat_tests)
+
+not_true : (x : Bool) → not x ≡ true → x ≡ false
+not_true x h1 = grind (arith, nat_tests)
+
+pub turned : (x y : ℕ) → (x == y) ≡ false → (y == x) ≡ false
+turned x y differ = grind (arith, nat_tests)
+
+-- the parts of a list in which no number stands twice
+pub first-apart : (x : ℕ) (xs : List ℕ) → is_apart (x ∷ xs) ≡ true → (has xs x ≡ false) × (is_apart xs ≡ true)
+first-apart x xs apart = grind (arith, nat_tests)
+
+pub apart-cons : (x : ℕ) (xs : List ℕ) → has xs x ≡ false → is_apart xs ≡ true → is_apart (x ∷ xs) ≡ true
+apart-cons x xs absent apart = and_from (not (has xs x)) (is_apart xs) (not_from_false (has xs x) absent) apart
+
+pub has-push : (xs : List ℕ) (y z : ℕ) → has (xs ++ y ∷ []) z ≡ (has xs z || (y == z || false))
+has-push xs y z = has-append xs (y ∷ []) z
+
+pub has-push_last : (xs : List ℕ) (y : ℕ) → has (xs ++ y ∷ []) y ≡ true
+has-push_last [] y = grind (arith, nat_tests)
+has-push_last (x ∷ xs) y = grind (arith, nat_tests, has-push_last xs y)
+
+pub has-push_other : (xs : List ℕ) (y z : ℕ) → (y == z) ≡ false → has (xs ++ y ∷ []) z ≡ has xs z
+has-push_other [] y z differ = or_from (y == z) false differ refl
+has-push_other (x ∷ xs) y z differ = ap (λ (b : Bool). (x == z) || b) (has-push_other xs y z differ)
+
+pub apart-push : (xs : List ℕ) (y : ℕ) → is_apart xs ≡ true → has xs y ≡ false → is_apart (xs ++ y ∷ []) ≡ true
+apart-push [] y apart absent = refl
+apart-push (x ∷ xs) y apart absent = grind (arith, nat_tests, has-push, first-apart x xs apart, apart-push xs y)
+
+pub apart-front : (xs : List ℕ) (y : ℕ) → is_apart (xs ++ y ∷ []) ≡ true → (is_apart xs ≡ true) × (has xs y ≡ false)
+apart-front [] y apart = (refl, refl)
+apart-front (x ∷ xs) y apart = grind (arith, nat_tests, has-push, first-apart x (xs ++ y ∷ []) apart, apart-front xs y)
+
+pub has-at : (xs : List ℕ) (i : ℕ) → i < length xs → has xs (slice_index xs i) ≡ true
+has-at [] i below = absurd (omega arith)
+has-at (x ∷ xs) zero below = grind (arith, nat_tests)
+has-at (x ∷ xs) (suc i) below = grind (arith, nat_tests, has-at xs i)
+
+pub has-remove_none : (xs : List ℕ) (i z : ℕ) → has xs z ≡ false → has (remove xs i) z ≡ false
+has-remove_none [] zero z none = refl
+has-remove_none [] (suc i) z none = refl
+has-remove_none (x ∷ xs) zero z none = grind (arith, nat_tests)
+has-remove_none (x ∷ xs) (suc i) z none = grind (arith, nat_tests, has-remove_none xs i z)
+
+pub has-remove_other : (xs : List ℕ) (i z : ℕ) → (slice_index xs i == z) ≡ false → has (remove xs i) z ≡ has xs z
+has-remove_other [] zero z differ = refl
+has-remove_other [] (suc i) z differ = refl
+has-remove_other (x ∷ xs) zero z differ = sym (ap (λ (b : Bool). b || has xs z) differ)
+has-remove_other (x ∷ xs) (suc i) z differ = ap (λ (b : Bool). (x == z) || b) (has-remove_other xs i z differ)
+
+pub apart-remove : (xs : List ℕ) (i : ℕ) → is_apart xs ≡ true → is_apart (remove xs i) ≡ true
+apart-remove [] zero apart = refl
+apart-remove [] (suc i) apart = refl
+apart-remove (x ∷ xs) zero apart = (first-apart x xs apart).1
+apart-remove (x ∷ xs) (suc i) apart =
+    grind (arith, nat_tests, first-apart x xs apart, has-remove_none xs i x, apart-remove xs i)
+
+-- a number that isn't in a list differs from one that is
+pub differs : (xs : List ℕ) (x z : ℕ) → has xs x ≡ false → has xs z ≡ true → (x == z) ≡ false
+differs xs x z none some = grind (arith, nat_tests)
+
+pub has-removed : (xs : List ℕ) (i : ℕ) → is_apart xs ≡ true → i < length xs → has (remove xs i) (slice_index xs i) ≡ false
+has-removed [] zero apart below = refl
+has-removed [] (suc i) apart below = refl
+has-removed (x ∷ xs) zero apart below = (first-apart x xs apart).0
+has-removed (x ∷ xs) (suc i) apart below =
+    grind (arith, nat_tests, first-apart x xs apart, has-at xs i, has-removed xs i)
 
 -- a page that is somewhere is one of the pages, and a frame one of the frames
 within : (X : Type 0) → (xs : List (Option X)) (i : ℕ) (x : X) → slice_index_or xs i None ≡ Some x → i < length xs
@@ -69,25 +140,14 @@ sound-left pages index page frame sound below is_page in_frame = record { sized 
     }
 
     not_free : has pages.free frame ≡ false
-    not_free = by_test (has pages.free frame) refl
-      where
-        by_test : (b : Bool) → has pages.free frame ≡ b → has pages.free frame ≡ false
-        by_test true free = absurd (let clash : None ≡ Some page = sym ((old.is_free frame free).0) ∙ back in cc)
-        by_test false free = free
+    not_free = let free = old.is_free frame in grind (arith, nat_tests, free, back)
 
     resident : (p : ℕ) → has (remove pages.resident index) p ≡ is_some (slice_index_or (slice_set pages.frame_of page None) p None)
-    resident p = by_case (cases_eq p page)
-      where
-        by_case : (p ≡ page) ⊎ (p ≡ page → ⊥) → has (remove pages.resident index) p ≡ is_some (slice_index_or (slice_set pages.frame_of page None) p None)
-        by_case (inl same) =
-            let gone : has (remove pages.resident index) (slice_index pages.resident index) ≡ false = has-removed pages.resident index old.pages_apart below in
-            let none : slice_index_or (slice_set pages.frame_of page None) page None ≡ None = get_or-set_same pages.frame_of page None None page_inside in
-            ap (λ (q : ℕ). has (remove pages.resident index) q) (same ∙ sym is_page) ∙ gone
-            ∙ sym (ap (λ (q : ℕ). is_some (slice_index_or (slice_set pages.frame_of page None) q None)) same ∙ ap (λ (o : Option ℕ). is_some o) none)
-        by_case (inr apart) =
-            has-remove_other pages.resident index p (differ (slice_index pages.resident index) p (λ e. apart (sym e ∙ is_page)))
-            ∙ old.resident p
-            ∙ ap (λ (o : Option ℕ). is_some o) (sym (get_or-set_other pages.frame_of page p None None apart))
+    resident p =
+        let gone = has-removed pages.resident index old.pages_apart below in
+        let other = has-remove_other pages.resident index p in
+        let was = old.resident p in
+        grind (arith, nat_tests, gone, other, was, is_page, get_or-set_same pages.frame_of page None None page_inside, get_or-set_other pages.frame_of page p)
 
     there : (p f : ℕ) → slice_index_or (slice_set pages.frame_of page None) p None ≡ Some f → slice_index_or (slice_set pages.page_in frame None) f None ≡ Some p
     there p f is = pair-left pages.frame_of pages.page_in page frame page_inside back old.there p f is
@@ -96,26 +156,14 @@ sound-left pages index page frame sound below is_page in_frame = record { sized 
     back_again p f is = pair-left pages.page_in pages.frame_of frame page frame_inside in_frame (λ f p. old.back p f) f p is
 
     in_use : (p f : ℕ) → slice_index_or (slice_set pages.page_in frame None) f None ≡ Some p → IsOfStore (left pages index page frame) f
-    in_use p f is = by_case (cases_eq f frame)
-      where
-        by_case : (f ≡ frame) ⊎ (f ≡ frame → ⊥) → IsOfStore (left pages index page frame) f
-        by_case (inl same) = record { above = omega (arith, store.above, same); below = omega (arith, store.below, same) }
-        by_case (inr apart) =
-            let held : IsOfStore pages f = old.in_use p f (sym (get_or-set_other pages.page_in frame f None None apart) ∙ is) in
-            record { above = held.above; below = held.below }
+    in_use p f is =
+        let was = old.in_use p f in
+        grind (arith, nat_tests, get_or-set_other pages.page_in frame f, was, store, is)
 
     is_free : (f : ℕ) → has (pages.free ++ frame ∷ []) f ≡ true → (slice_index_or (slice_set pages.page_in frame None) f None ≡ None) × IsOfStore (left pages index page frame) f
-    is_free f free = by_case (cases_eq f frame)
-      where
-        by_case : (f ≡ frame) ⊎ (f ≡ frame → ⊥) → (slice_index_or (slice_set pages.page_in frame None) f None ≡ None) × IsOfStore (left pages index page frame) f
-        by_case (inl same) = (
-          ap (λ (q : ℕ). slice_index_or (slice_set pages.page_in frame None) q None) same ∙ get_or-set_same pages.page_in frame None None frame_inside,
-          record { above = omega (arith, store.above, same); below = omega (arith, store.below, same) },
-        )
-        by_case (inr apart) =
-            let was : has pages.free f ≡ true = sym (has-push_other pages.free frame f (differ frame f (λ e. apart (sym e)))) ∙ free in
-            let facts : (page_at pages f ≡ None) × IsOfStore pages f = old.is_free f was in
-            (get_or-set_other pages.page_in frame f None None apart ∙ facts.0, record { above = facts.1.above; below = facts.1.below })
+    is_free f free =
+        let was = old.is_free f in
+        grind (arith, nat_tests, get_or-set_same pages.page_in frame None None frame_inside, get_or-set_other pages.page_in frame f, has-push_other pages.free frame f, was, store, free)
 
     placed : IsPlaced (left pages index page frame)
     placed = record {
@@ -172,11 +220,7 @@ sound-came pages page frame free sound absent page_inside split = record { sized
     frame_inside = omega (arith, was_free.1.below, sound.sized.page_in)
 
     not_there : place_of pages page ≡ None
-    not_there = none_of (place_of pages page) (sym (old.resident page) ∙ absent)
-      where
-        none_of : (o : Option ℕ) → is_some o ≡ false → o ≡ None
-        none_of None none = refl
-        none_of (Some x) none = absurd (cc)
+    not_there = let was = old.resident page in grind (arith, nat_tests, was, absent)
 
     sized : IsSized new
     sized = record {
@@ -186,17 +230,9 @@ sound-came pages page frame free sound absent page_inside split = record { sized
     }
 
     resident : (p : ℕ) → has (pages.resident ++ page ∷ []) p ≡ is_some (slice_index_or (slice_set pages.frame_of page (Some frame)) p None)
-    resident p = by_case (cases_eq p page)
-      where
-        by_case : (p ≡ page) ⊎ (p ≡ page → ⊥) → has (pages.resident ++ page ∷ []) p ≡ is_some (slice_index_or (slice_set pages.frame_of page (Some frame)) p None)
-        by_case (inl same) =
-            let some : slice_index_or (slice_set pages.frame_of page (Some frame)) page None ≡ Some frame = get_or-set_same pages.frame_of page (Some frame) None page_inside in
-            ap (λ (q : ℕ). has (pages.resident ++ page ∷ []) q) same ∙ has-push_last pages.resident page
-            ∙ sym (ap (λ (q : ℕ). is_some (slice_index_or (slice_set pages.frame_of page (Some frame)) q None)) same ∙ ap (λ (o : Option ℕ). is_some o) some)
-        by_case (inr apart) =
-            has-push_other pages.resident page p (differ page p (λ e. apart (sym e)))
-            ∙ old.resident p
-            ∙ ap (λ (o : Option ℕ). is_some o) (sym (get_or-set_other pages.frame_of page p (Some frame) None apart))
+    resident p =
+        let was = old.resident p in
+        grind (arith, nat_tests, has-push_last pages.resident page, has-push_other pages.resident page p, was, get_or-set_same pages.frame_of page (Some frame) None page_inside, get_or-set_other pages.frame_of page p)
 
     there : (p f : ℕ) → slice_index_or (slice_set pages.frame_of page (Some frame)) p None ≡ Some f → slice_index_or (slice_set pages.page_in frame (Some page)) f None ≡ Some p
     there p f is = pair-came pages.frame_of pages.page_in page frame page_inside frame_inside was_free.0 old.there p f is
@@ -205,23 +241,14 @@ sound-came pages page frame free sound absent page_inside split = record { sized
     back_again p f is = pair-came pages.page_in pages.frame_of frame page frame_inside page_inside not_there (λ f p. old.back p f) f p is
 
     in_use : (p f : ℕ) → slice_index_or (slice_set pages.page_in frame (Some page)) f None ≡ Some p → IsOfStore new f
-    in_use p f is = by_case (cases_eq f frame)
-      where
-        by_case : (f ≡ frame) ⊎ (f ≡ frame → ⊥) → IsOfStore new f
-        by_case (inl same) = record { above = omega (arith, was_free.1.above, same); below = omega (arith, was_free.1.below, same) }
-        by_case (inr apart) =
-            let held : IsOfStore pages f = old.in_use p f (sym (get_or-set_other pages.page_in frame f (Some page) None apart) ∙ is) in
-            record { above = held.above; below = held.below }
+    in_use p f is =
+        let was = old.in_use p f in
+        grind (arith, nat_tests, get_or-set_other pages.page_in frame f, was, was_free, is)
 
     is_free : (f : ℕ) → has free f ≡ true → (slice_index_or (slice_set pages.page_in frame (Some page)) f None ≡ None) × IsOfStore new f
-    is_free f inside = by_case (cases_eq f frame)
-      where
-        by_case : (f ≡ frame) ⊎ (f ≡ frame → ⊥) → (slice_index_or (slice_set pages.page_in frame (Some page)) f None ≡ None) × IsOfStore new f
-        by_case (inl same) = absurd (let clash : true ≡ false = sym inside ∙ ap (has free) same ∙ apart_before.1 in cc)
-        by_case (inr apart) =
-            let was : has pages.free f ≡ true = ap (λ (xs : List ℕ). has xs f) split ∙ has-push_other free frame f (differ frame f (λ e. apart (sym e))) ∙ inside in
-            let facts : (page_at pages f ≡ None) × IsOfStore pages f = old.is_free f was in
-            (get_or-set_other pages.page_in frame f (Some page) None apart ∙ facts.0, record { above = facts.1.above; below = facts.1.below })
+    is_free f inside =
+        let was = old.is_free f in
+        grind (arith, nat_tests, get_or-set_other pages.page_in frame f, has-push_other free frame f, was, split, apart_before, inside)
 
     placed : IsPlaced new
     placed = record {
@@ -286,3 +313,85 @@ pub sound-fresh_by :
     → IsSound (record { page = size; frames = frames; resident = resident; frame_of = frame_of; page_in = page_in; free = free })
 sound-fresh_by size frames pages first resident free frame_of page_in some few e0 e1 e2 e3 e4 =
     rw (e1, e2, e3, e4, e0) (sound-fresh size frames pages some few)
+
+-- what holds of a page at a place of the resident ones
+pub record Leaves (p : StorePages) (index page : ℕ) : Type 0 where
+  pub at : slice_index p.resident.items index ≡ page
+  pub below : index < length p.resident.items
+  pub in_frame : place_of (places_of p) page ≡ Some (unwrap_or (place_of (places_of p) page) 0)
+  pub inside : page < vec_len p.frame_of
+  pub frame : unwrap_or (place_of (places_of p) page) 0 < vec_len p.page_in
+  pub free : vec_len p.free < vec_capacity p.free
+
+pub leaves : (p : StorePages) (index page : ℕ) → index < vec_len p.resident → page ≡ slice_index_or p.resident.items index page → Leaves p index page
+leaves p index page index_below read =
+    record { at = sym at; below = below; in_frame = in_frame; inside = omega (arith, inside, p.frame_of.ok.0); frame = frame; free = omega (arith, sound.placed.used, below, p.free_room, p.free.ok.0) }
+  where
+    sound : IsSound (places_of p)
+    sound = p.sound
+
+    below : index < length p.resident.items
+    below = omega (arith, index_below, p.resident.ok.0)
+
+    at : page ≡ slice_index p.resident.items index
+    at = get_or_read_under p.resident.items index (vec_len p.resident) page 0 read index_below p.resident.ok.0
+
+    in_frame : place_of (places_of p) page ≡ Some (unwrap_or (place_of (places_of p) page) 0)
+    in_frame = rw at (resident-in_frame (places_of p) index sound below)
+
+    inside : page < length p.frame_of.items
+    inside = page-within (places_of p) page (unwrap_or (place_of (places_of p) page) 0) in_frame
+
+    frame : unwrap_or (place_of (places_of p) page) 0 < vec_len p.page_in
+    frame =
+        let store = frame-of_store (places_of p) page (unwrap_or (place_of (places_of p) page) 0) sound in_frame in
+        omega (arith, store.below, sound.sized.page_in, p.page_in.ok.0)
+
+-- the frame that was read of a page
+pub read_frame :
+    (p : StorePages) (place page frame : ℕ) (read : Option ℕ) → place ≡ page → page < vec_len p.frame_of → read ≡ slice_index_or p.frame_of.items place read
+    → frame ≡ unwrap_or read 0 → frame ≡ unwrap_or (place_of (places_of p) page) 0
+read_frame p place page frame read same inside is value =
+    let at : read ≡ slice_index_or p.frame_of.items place None = get_or_read_under p.frame_of.items place (vec_len p.frame_of) read None is (omega arith) p.frame_of.ok.0 in
+    value ∙ ap (λ (o : Option ℕ). unwrap_or o 0) (at ∙ ap (λ (i : ℕ). slice_index_or p.frame_of.items i None) same)
+
+-- a push for which there was room
+pub pushed : (X Y : Type 0) (r : Result X Y) (new old : List ℕ) (x : ℕ) → new ≡ (if is_ok r then old ++ x ∷ [] else old) → IsOk r → new ≡ old ++ x ∷ []
+pushed X Y (Ok v) new old x is ok = is
+pushed X Y (Err v) new old x is ok = absurd (cc)
+
+-- a pop where there was something
+pub popped : (old new : List ℕ) (o : Option ℕ) → old ≡ new ++ option_to_list o → IsSome o → old ≡ new ++ unwrap_or o 0 ∷ []
+popped old new None is some = absurd (cc)
+popped old new (Some x) is some = is
+
+-- a frame is free where not all are in use
+pub some-free : (p : StorePages) → vec_len p.resident < p.frames → 0 < vec_len p.free
+some-free p room = omega (arith, p.sound.placed.used, p.resident.ok.0, p.free.ok.0)
+
+pub free-within : (p : StorePages) (frame : ℕ) (free : List ℕ) → p.free.items ≡ free ++ frame ∷ [] → frame < vec_len p.page_in
+free-within p frame free split = grind (arith, nat_tests, has-push_last free frame)
+
+some-goes :
+    (keep : Option ℕ) (x y : ℕ) (rest : List ℕ) → is_apart (x ∷ y ∷ rest) ≡ true
+    → length (x ∷ y ∷ rest) ≤ prefix_len (λ page. not (not (has (option_to_list keep) page))) (x ∷ y ∷ rest) → ⊥
+some-goes keep x y rest apart all = grind (arith, nat_tests)
+
+not-all-stay : (keep : Option ℕ) (xs : List ℕ) → is_apart xs ≡ true → 2 ≤ length xs → position (λ page. not (has (option_to_list keep) page)) xs ≡ None → ⊥
+not-all-stay keep [] apart two none = omega arith
+not-all-stay keep (x ∷ []) apart two none = omega arith
+not-all-stay keep (x ∷ y ∷ rest) apart two none = let all = some-goes keep x y rest apart in grind (arith, nat_tests, all)
+
+-- where no page goes out a frame is free
+pub none-room : (p : StorePages) (keep : Option ℕ) → index_out (places_of p) keep ≡ None → vec_len p.resident < p.frames
+none-room p keep none = grind (arith, nat_tests, not-all-stay)
+
+-- the place of the page that goes out is one of the resident ones
+pub index-out_below : (p : StorePages) (keep : Option ℕ) (index : ℕ) → index_out (places_of p) keep ≡ Some index → index < length p.resident.items
+index-out_below p keep index is = grind (arith, nat_tests)
+
+-- one more number of a range
+pub range_push : (first count : ℕ)
+    → range_with_len first count ++ (first + count) ∷ [] ≡ range_with_len first (count + 1)
+range_push first zero = let at : first + 0 ≡ first = omega arith in ap (λ (x : ℕ). x ∷ []) at
+range_push first (suc count) = grind (arith, nat_tests, range_push (first + 1) count)

@@ -314,6 +314,7 @@ impl FramePool {
 
     /// Marks lines of the page of the store in a frame, if there is one.
     #[inline(always)]
+    #[tactic(auto, using(crate::proofs::PoolLemmas::page_in_frame, std::proofs::lemmas::Bool::Decides::nat_tests))]
     fn mark(&mut self, frame: u16, lines: LineSet)
         ensures value { self.new ≡ with_marked self.old frame lines }
         ensures bytes { self.new.bytes ≡ self.old.bytes }
@@ -348,6 +349,7 @@ impl FramePool {
     }
 
     /// The bytes of a line of a page: in its frame, or where it is in none as they are kept.
+    #[tactic(auto, using(crate::proofs::PoolLemmas::frame_within))]
     pub fn written_line(&self, page: u16, line: u8) -> &[u8]
         requires page { page < length (pool_of self.now).frame_of }
         requires line { line < 16 }

@@ -6,7 +6,7 @@ use Rattle.desk_law.proofs.Unbroken.{unbroken_more}
 use Rattle.job_text.specs.Ready as ready
 use Rattle.schedule_replay.specs.Answered.{IsReady}
 use Rattle.supervisor.specs.Opened.{IsNew}
-use Rattle.job_text.proofs.NameLemmas.{name_no_feed}
+use Rattle.job_text.proofs.BackLemmas.{name_no_feed}
 
 bytes-unbroken : (bytes : List ℕ) → All (λ byte. byte ≢ 10) bytes → IsUnbroken bytes
 bytes-unbroken [] none = refl

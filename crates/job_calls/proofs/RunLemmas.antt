@@ -11,7 +11,7 @@ use Rattle.desk_law.proofs.HeadlineLemmas.{left_is_prefix, doubt_is_whole, stage
 use Rattle.supervisor.specs.ShownLaws.{shown-told}
 use Rattle.schedule_replay.specs.Puts.{PutsTimes, shown_of}
 use Rattle.schedule_replay.specs.RanTo.{RanTo}
-use Rattle.schedule_replay.proofs.ToldLemmas.{told_since}
+use Rattle.schedule_replay.proofs.ReportLemmas.{told_since}
 use Rattle.schedule_replay.proofs.CountLemmas.{on_ok_as}
 use Rattle.job_text.specs.Grammar.{job_of, content_of}
 use Rattle.call_status.specs.SourceText.{IsWhole}

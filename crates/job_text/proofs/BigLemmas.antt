@@ -1,8 +1,13 @@
--- The events of `big N`.
-use Rattle.job_text.proofs.Common.{flat_map, range_with_len, flat_map-append, All-append, All-cons, All-nil, All-map, Event, Begin, Turn, Job, batch, batches, big_events, move_of, account_of, other_of, transfer, turns_of, IsEventAmong, IsReady, nat_tests, map-id}
+-- The events of `big N`, and its sources, as the checker reads them.
+use Rattle.job_text.proofs.Common.{flat_map, range_with_len, flat_map-append, All-append, All-cons, All-nil, All-map, Event, Begin, Turn, Job, batch, batches, big_events, move_of, account_of, other_of, transfer, turns_of, IsEventAmong, IsReady, nat_tests, map-id, ◌≡◌, ℕ, List, [], length, refl, ap, ◌∙◌, sym, Option, Some, None, Result, Ok, Err, length-map, tokens_past, image_behind, parts_of, fault_among, fault_behind, Content, content_of, job_of, read_from, big_sources, arith}
 use Rattle.std.proofs.Common.{Global, ◌≡◌, ℕ, ◌+◌, ◌-◌, ◌*◌, ◌/◌, ◌%◌, ◌<◌, ◌≤◌, ◌==◌, min, Bool, List, [], ◌∷◌, ◌++◌, length, map, ap, ◌∙◌, sym, subst, arith, append_assoc, append-nil, length-append, if◌then◌else◌, All}
 use Rattle.std.proofs.lemmas.List.FromFn.{map-range_with_len_more, length-map-range_with_len, length-range_with_len}
 use Rattle.std.specs.declared.vec.Vec.{Vec}
+use Rattle.asm_parse.specs.Form.{form_of}
+use Rattle.romp_table.specs.Names.{mnemonic, op_named}
+use Rattle.romp_table.specs.Rows.{row_of}
+use Rattle.romp_asm.specs.Sources.{joined_from}
+use Rattle.romp_asm.specs.Value.{address_from}
 
 -- a list with more events behind it, and then one more
 pub one_more : (old mid new : List Event) (f : ℕ → Event) (first n k : ℕ) → first + n ≡ k → mid ≡ old ++ map f (range_with_len first n) → new ≡ mid ++ f k ∷ [] → new ≡ old ++ map f (range_with_len first (n + 1))
@@ -88,3 +93,23 @@ big_ready n job events small ready three are = record {
 -- an empty list of events and these are these
 pub from_none : (old new these : List Event) → old ≡ [] → new ≡ old ++ these → new ≡ these
 from_none old new these none is = is ∙ ap (λ (front : List Event). front ++ these) none
+
+-- how many programs a reading gives, and the events
+abbrev told_of : Result Content (ℕ × ℕ) → Option (ℕ × List Event)
+told_of (Ok content) = Some (length content.programs, content.events)
+told_of (Err fault) = None
+
+-- the sources have no fault
+sources_read : told_of (job_of big_sources) ≡ Some (3, [])
+unfolding tokens_past form_of mnemonic op_named row_of image_behind joined_from address_from fault_among fault_behind read_from
+sources_read = refl
+
+text_read : (text : List ℕ) → text ≡ big_sources → told_of (job_of text) ≡ Some (3, [])
+text_read text same = ap (λ (these : List ℕ). told_of (job_of these)) same ∙ sources_read
+
+pub never_faulty : (text : List ℕ) (line kind : ℕ) → text ≡ big_sources → job_of text ≡ Err (line, kind) → ⊥
+never_faulty text line kind same is = cc (text_read text same, ap told_of is)
+
+-- a job that they mean has three programs and no event
+pub sources_told : (text : List ℕ) (job : Job) → text ≡ big_sources → job_of text ≡ Ok (content_of job) → (length job.programs.items ≡ 3) × (job.events.items ≡ [])
+sources_told text job same is = let told = sym (ap told_of is) ∙ text_read text same in grind (arith, length-map job.programs.items parts_of, told)

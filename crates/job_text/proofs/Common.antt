@@ -13,8 +13,7 @@ pub use Rattle.std.specs.Int.{from_be_bytes, w32}
 pub use Rattle.std.specs.List.{All, AllByRecursion, AllZip, after_first, before_first, flat_map, list_all, position_or_len, range_with_len, zip}
 pub use Rattle.std.specs.Str.{bytes_eq}
 pub use Rattle.arrayvec.specs.ArrayVec.{ArrayVec}
-pub use Rattle.asm_parse.proofs.FoundLemmas.{found_tokens}
-pub use Rattle.asm_parse.proofs.FrontLemmas.{IsToken, IsWord, blank_front, mark_front, number_front, number_pass, word_front}
+pub use Rattle.asm_parse.proofs.FrontLemmas.{found_tokens, IsToken, IsWord, blank_front, mark_front, number_front, number_pass, word_front}
 pub use Rattle.asm_parse.specs.Operand.{place_among}
 pub use Rattle.asm_parse.specs.Statement.{is_label, line_of, statement_of}
 pub use Rattle.asm_parse.specs.Text.{at_line, is_feed, lines_of, then_statements}

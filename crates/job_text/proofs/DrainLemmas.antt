@@ -1,11 +1,6 @@
 -- A drain, written out.
 use Rattle.job_text.proofs.Common.{◌≡◌, ℕ, zero, suc, ◌+◌, ◌*◌, ◌<◌, ◌≤◌, List, [], ◌∷◌, ◌++◌, length, refl, ap, ◌∙◌, arith, append_assoc, add-one, length-append, Event, Turn, rounds_of, turns_to, nat_tests}
 
--- no turn
-pub no_turns : (limit : ℕ) → turns_to limit 0 ≡ []
-unfolding turns_to
-no_turns limit = refl
-
 -- one turn more
 pub turn_more : (before now next : List Event) (limit n : ℕ) → now ≡ before ++ turns_to limit n → next ≡ now ++ Turn (n + 1) limit ∷ [] → next ≡ before ++ turns_to limit (n + 1)
 unfolding turns_to
@@ -17,10 +12,6 @@ unfolding turns_to
 length-turns_to limit zero = refl
 length-turns_to limit (suc n) = omega (arith, length-append (turns_to limit n) (Turn (n + 1) limit ∷ []), length-turns_to limit n)
 
-pub no_rounds : (limit last : ℕ) → rounds_of limit last 0 ≡ []
-unfolding rounds_of
-no_rounds limit last = refl
-
 -- one round more
 pub round_more : (before now next : List Event) (limit last n : ℕ) → now ≡ before ++ rounds_of limit last n → next ≡ now ++ turns_to limit last → next ≡ before ++ rounds_of limit last (n + 1)
 unfolding rounds_of
@@ -31,10 +22,6 @@ pub length-rounds_of : (limit last n : ℕ) → length (rounds_of limit last n) 
 unfolding rounds_of
 length-rounds_of limit last zero = omega arith
 length-rounds_of limit last (suc n) = omega (arith, length-append (rounds_of limit last n) (turns_to limit last), length-rounds_of limit last n, length-turns_to limit last)
-
--- how many events there are so far
-pub turns_short : (before now : List Event) (limit n : ℕ) → now ≡ before ++ turns_to limit n → length now ≡ length before + n
-turns_short before now limit n so_far = omega (arith, ap length so_far, length-append before (turns_to limit n), length-turns_to limit n)
 
 pub rounds_short : (before now : List Event) (limit last n : ℕ) → now ≡ before ++ rounds_of limit last n → length now ≡ length before + n * last
 rounds_short before now limit last n so_far = omega (arith, ap length so_far, length-append before (rounds_of limit last n), length-rounds_of limit last n)

@@ -1,5 +1,5 @@
 -- The job of a text, as its lines are read one after the other.
-use Rattle.job_text.proofs.Common.{◌≡◌, ℕ, ◌+◌, ◌<◌, ◌≤◌, Bool, true, false, cond, nat_lt, List, [], ◌∷◌, length, take, Option, Some, None, Result, Ok, refl, sym, ap, ◌∙◌, arith, after_first, before_first, position_or_len, nat_tests, common_steps, is_feed, lines_of, JobFault, Content, job_of, last_part, read_from, then_read, IsJobFaultOf, Reading, line_read}
+use Rattle.job_text.proofs.Common.{◌≡◌, ℕ, ◌+◌, ◌<◌, List, [], ◌∷◌, length, Option, Some, None, Result, Ok, refl, sym, ap, ◌∙◌, arith, before_first, take_all, nat_tests, is_feed, lines_of, JobFault, Content, job_of, last_part, read_from, then_read, IsJobFaultOf, Reading, line_read}
 use Rattle.asm_parse.specs.Cut.{behind_first}
 use Rattle.asm_parse.proofs.TextLemmas.{behind_shorter, cut}
 
@@ -38,18 +38,6 @@ first_cut text line behind rest first after some = cut is_feed text ∙ rw (← 
 pub first_shorter : (text behind : List ℕ) (rest : Option (List ℕ)) → rest ≡ behind_first is_feed text → rest ≡ Some behind → length behind < length text
 first_shorter text behind rest after some = grind (arith, behind_shorter text rest after)
 
-not_below : (n m : ℕ) → nat_lt n m ≡ false → m ≤ n
-not_below n m e = grind (arith, nat_tests)
-
-take_whole : (text : List ℕ) (n : ℕ) → nat_lt n (length text) ≡ false → take n text ≡ text
-take_whole text n e = let past : length text ≤ n = not_below n (length text) e in grind (arith, common_steps)
-
-only_by : (text : List ℕ) (inside : Bool) → nat_lt (position_or_len is_feed text) (length text) ≡ inside → cond inside (Some (after_first is_feed text)) None ≡ None → lines_of text ≡ text ∷ []
-only_by text true e none = absurd (cc none)
-only_by text false e none =
-    let whole : take (position_or_len is_feed text) text ≡ text = take_whole text (position_or_len is_feed text) e in
-    cut is_feed text ∙ rw (e, whole) refl
-
 -- the only part, where there is no line feed
 pub only_part : (text : List ℕ) (rest : Option (List ℕ)) → rest ≡ behind_first is_feed text → rest ≡ None → lines_of text ≡ text ∷ []
-only_part text rest after none = only_by text (nat_lt (position_or_len is_feed text) (length text)) refl (sym after ∙ none)
+only_part text rest after none = grind (arith, nat_tests, cut is_feed text, take_all, after, none)

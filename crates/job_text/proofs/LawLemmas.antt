@@ -1,7 +1,6 @@
 -- Each text has one job or one first fault, which ends its reading.
-use Rattle.job_text.proofs.Common.{◌≡◌, ◌⊎◌, inl, inr, ℕ, ◌+◌, List, [], ◌∷◌, ◌++◌, length, Result, Ok, Err, refl, sym, ap, ◌∙◌, arith, Stage, Content, job_of, last_part, read_from, then_read, Reading, line_read, FaultsEndTheReading, IsJobText, nat_tests}
-use Rattle.job_text.proofs.FormLemmas.{has_form}
-use Rattle.job_text.proofs.FormReadLemmas.{form_read, read_some, some_behind}
+use Rattle.job_text.proofs.Common.{◌≡◌, ◌⊎◌, inl, inr, ℕ, ◌+◌, List, [], ◌∷◌, ◌++◌, length, Result, Ok, Err, refl, ap, ◌∙◌, arith, Stage, Content, job_of, last_part, read_from, Reading, FaultsEndTheReading, IsJobText, nat_tests}
+use Rattle.job_text.proofs.FormLemmas.{has_form, form_read, read_some, some_behind}
 
 pub job_or_fault : (text : List ℕ) → ((content : Content) × IsJobText text content) ⊎ ((fault : ℕ × ℕ) × (job_of text ≡ Err fault))
 job_or_fault text = by_answer (job_of text) refl
@@ -24,23 +23,9 @@ faults_end : (reading : Reading) (number : ℕ) (lines more : List (List ℕ)) (
 unfolding read_from
 faults_end reading number [] more last next fault is = inl (last_fault reading.stage reading number last fault refl is ∙ ap (λ n. (n, 10)) (omega arith))
 faults_end reading number (line ∷ lines) more last next fault is =
-    on (line_read reading.stage reading number line) refl
-    (sym (read_some reading number line (lines ++ (last ∷ [])) (some_behind lines (last ∷ []) (last, [], refl))) ∙ is)
-    (λ read one. faults_end read (number + 1) lines more last next fault one)
-  where
-    other : read_from reading number (line ∷ (lines ++ (next ∷ more))) ≡ then_read (λ read. read_from read (number + 1) (lines ++ (next ∷ more))) (line_read reading.stage reading number line)
-    other = read_some reading number line (lines ++ (next ∷ more)) (some_behind lines (next ∷ more) (next, more, refl))
-
-    on : (answer : Result Reading (ℕ × ℕ)) → line_read reading.stage reading number line ≡ answer → then_read (λ read. read_from read (number + 1) (lines ++ (last ∷ []))) (line_read reading.stage reading number line) ≡ Err fault
-        → ((read : Reading) → read_from read (number + 1) (lines ++ (last ∷ [])) ≡ Err fault → (fault ≡ (number + 1 + length lines, 10)) ⊎ (read_from read (number + 1) (lines ++ (next ∷ more)) ≡ Err fault))
-        → (fault ≡ (number + length (line ∷ lines), 10)) ⊎ (read_from reading number (line ∷ (lines ++ (next ∷ more))) ≡ Err fault)
-    on (Ok read) answer one others = told (others read (sym (ap (then_read (λ read. read_from read (number + 1) (lines ++ (last ∷ [])))) answer) ∙ one))
-      where
-        told : ((fault ≡ (number + 1 + length lines, 10)) ⊎ (read_from read (number + 1) (lines ++ (next ∷ more)) ≡ Err fault)) → ((fault ≡ (number + length (line ∷ lines), 10)) ⊎ (read_from reading number (line ∷ (lines ++ (next ∷ more))) ≡ Err fault))
-        told (inl is) = inl (is ∙ ap (λ n. (n, 10)) (omega arith))
-        told (inr is) = inr (other ∙ ap (then_read (λ read. read_from read (number + 1) (lines ++ (next ∷ more)))) answer ∙ is)
-    on (Err why) answer one others =
-        inr (other ∙ ap (then_read (λ read. read_from read (number + 1) (lines ++ (next ∷ more)))) answer ∙ sym (ap (then_read (λ read. read_from read (number + 1) (lines ++ (last ∷ [])))) answer) ∙ one)
+    let front = read_some reading number line (lines ++ (last ∷ [])) (some_behind lines (last ∷ []) (last, [], refl)) in
+    let other = read_some reading number line (lines ++ (next ∷ more)) (some_behind lines (next ∷ more) (next, more, refl)) in
+    grind (arith, nat_tests, front, other, is, λ (read : Reading). faults_end read (number + 1) lines more last next fault)
 
 -- a fault ends the reading
 pub first_fault : FaultsEndTheReading

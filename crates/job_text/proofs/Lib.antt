@@ -1,17 +1,11 @@
 pub mod Common
 pub mod WrittenFormLemmas
 pub mod LawLemmas
-pub mod FormReadLemmas
 pub mod FormLemmas
-pub mod ReadyLemmas
 pub mod DrainLemmas
 pub mod GrammarLemmas
-pub mod WrittenLemmas
 pub mod SourceLemmas
 pub mod BackLemmas
 pub mod BigLemmas
-pub mod BigSources
 pub mod PutLemmas
-pub mod NameLemmas
-pub mod LengthLemmas
 pub mod Lemmas

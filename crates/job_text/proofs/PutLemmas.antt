@@ -11,8 +11,7 @@ pair_more f g _ _ n x y in_x in_y is_x is_y = absurd (omega arith)
 
 -- all pairs
 pub pairs_whole : {A B C D : Type 0} (f : A → C) (g : B → D) (xs : List A) (ys : List B) (n : ℕ) → n ≡ min (length xs) (length ys) → take n (zip (map f xs) (map g ys)) ≡ zip (map f xs) (map g ys)
-pairs_whole f g xs ys n is =
-    take_all n (zip (map f xs) (map g ys)) (omega (arith, is, length-zip (map f xs) (map g ys), length-map xs f, length-map ys g))
+pairs_whole f g xs ys n is = grind (arith, nat_tests, take_all, is, length-zip, length-map)
 
 -- what holds of the pairs so far and of one more
 pub all_more : {X : Type 0} (P : X → Type 0) (pairs : List X) (n m : ℕ) (x : X) → m ≡ suc n → take (suc n) pairs ≡ take n pairs ++ x ∷ [] → All P (take n pairs) → P x → All P (take m pairs)

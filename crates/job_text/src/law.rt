@@ -19,11 +19,13 @@ pub fn a_text_has_one_answer()
 
 /// The first fault from the top ends the reading: it is kind 10 of what comes after the last line feed, or it stays,
 /// whatever follows the lines of the text.
+#[tactic(auto, using(crate::proofs::LawLemmas::first_fault))]
 pub fn faults_end_the_reading()
     ensures { FaultsEndTheReading }
 {}
 
 /// No byte of a name is a line feed, so a report's line that has a name is one line.
+#[tactic(auto, using(crate::proofs::BackLemmas::name_no_feed))]
 pub fn names_have_no_line_feed()
     ensures { NamesHaveNoFeed }
 {}

@@ -1,18 +1,9 @@
 -- The buffer after a pair came in, and after the pairs of a frame went.
-use Rattle.page_table.proofs.Common.{same_lists, get_or_default, All-filter, ◌≡◌, ◌≢◌, ◌%◌, inl, inr, subst, ℕ, suc, ◌<◌, Bool, true, false, List, [], ◌∷◌, ◌++◌, length, drop, map, refl, sym, ◌∙◌, ap, arith, Some, None, All, ◌==◌, not, cond, filter, find, slice_index_or, slice_set, Option, option_to_list, get_or-map, map-set, length-map, All-push, All-drop, All-set, All-same, All-get_or, All-nil, All-cons, All-head, All-tail, eqb-true, all_pairs_push, Key, holds, look_up, position-Some, cases_eq, get_or-set_same, get_or-set_other, length-set, Pair, Ways, class_of, page_of, pair_to, is_pair_of, pairs_in, remembered, after_table, after_found, with_newest, forgotten, AreApart, ArePlaced, IsOfTable, pairs_of, unless_of, ways_without, AreClasses, nat_tests, option_map_or, get_or-eq_default}
+use Rattle.page_table.proofs.Common.{same_lists, get_or_default, All-filter, ◌≡◌, ◌≢◌, inl, inr, subst, ℕ, suc, ◌<◌, List, [], ◌∷◌, ◌++◌, length, drop, map, refl, sym, ◌∙◌, ap, arith, Some, None, All, ◌==◌, not, filter, find, slice_index_or, slice_set, Option, get_or-map, map-set, length-map, All-push, All-drop, All-set, All-same, All-get_or, All-nil, All-cons, All-head, All-tail, all_pairs_push, Key, holds, look_up, position-Some, cases_eq, get_or-set_same, get_or-set_other, length-set, Pair, Ways, class_of, page_of, pair_to, is_pair_of, pairs_in, remembered, after_table, after_found, with_newest, forgotten, AreApart, ArePlaced, IsOfTable, pairs_of, ways_without, AreClasses, nat_tests, option_map_or, get_or-eq_default}
 use Rattle.std.proofs.lemmas.List.Kept.{AllPairs-filter}
 
--- what is left of a class
-without-pair : (frame : ℕ) (o : Option Pair) (rest : List Pair) → option_to_list (unless_of frame o) ++ filter (λ pair. not (pair.frame == frame)) rest ≡ filter (λ pair. not (pair.frame == frame)) (option_to_list o ++ rest)
-without-pair frame None rest = refl
-without-pair frame (Some pair) rest = grind (arith, nat_tests)
-
-last-pair : (frame : ℕ) (o : Option Pair) → option_to_list (unless_of frame o) ≡ filter (λ pair. not (pair.frame == frame)) (option_to_list o)
-last-pair frame None = refl
-last-pair frame (Some pair) = grind (arith, nat_tests)
-
 pairs-without : (frame : ℕ) (ways : Ways) → pairs_of (ways_without frame ways) ≡ filter (λ pair. not (pair.frame == frame)) (pairs_of ways)
-pairs-without frame ways = grind (arith, nat_tests, last-pair, without-pair)
+pairs-without frame ways = grind (arith, nat_tests)
 
 pub classes-without : (frame : ℕ) (classes : List Ways) → map pairs_of (map (ways_without frame) classes) ≡ forgotten (map pairs_of classes) frame
 classes-without frame [] = refl
@@ -26,9 +17,6 @@ forgotten-apart (pairs ∷ classes) frame apart =
     (AllPairs-filter (λ pair other. page_of pair ≢ page_of other) (λ pair. not (pair.frame == frame)) pairs (All-head AreApart pairs classes apart))
     (forgotten-apart classes frame (All-tail AreApart pairs classes apart))
 
-page-is : (wanted : Key) (pair : Pair) → is_pair_of wanted pair ≡ true → page_of pair ≡ wanted
-page-is wanted pair is = grind (arith, nat_tests)
-
 -- where no pair of a class is of a page, each is of another
 others : (wanted : Key) (pairs : List Pair) → find (is_pair_of wanted) pairs ≡ None → All (λ pair. page_of pair ≢ wanted) pairs
 others wanted [] none = All-nil (λ pair. page_of pair ≢ wanted)
@@ -38,15 +26,7 @@ others wanted (pair ∷ pairs) none = grind (arith, nat_tests, others wanted pai
 found-pair : (P : Pair → Type 0) (wanted : Key) (pairs : List Pair) (pair : Pair) → All P pairs → find (is_pair_of wanted) pairs ≡ Some pair → P pair × (page_of pair ≡ wanted)
 found-pair P wanted [] pair all is = absurd (cc)
 found-pair P wanted (first ∷ pairs) pair all is =
-    by_test (is_pair_of wanted first) refl is (λ later. found-pair P wanted pairs pair (All-tail P first pairs all) later)
-  where
-    by_test :
-        (b : Bool) → is_pair_of wanted first ≡ b → cond b (Some first) (find (is_pair_of wanted) pairs) ≡ Some pair
-        → (find (is_pair_of wanted) pairs ≡ Some pair → P pair × (page_of pair ≡ wanted)) → P pair × (page_of pair ≡ wanted)
-    by_test true test is later =
-        let same : first ≡ pair = cc in
-        (subst P same (All-head P first pairs all), ap page_of (sym same) ∙ page-is wanted first test)
-    by_test false test is later = later is
+    grind (arith, nat_tests, All-tail, All-head, found-pair P wanted pairs pair (All-tail P first pairs all))
 
 -- what holds of each pair of the classes holds of each pair of one
 inside-all : (P : Pair → Type 0) (classes : List (List Pair)) (class : ℕ) → (class < length classes → All P (pairs_in classes class)) → All P (pairs_in classes class)
@@ -66,8 +46,8 @@ forgotten-placed classes frame placed class =
 -- so classes stay as they are to be where the pairs of a frame went
 pub still-classes : (classes after : List Ways) (frame : ℕ) → map pairs_of after ≡ forgotten (map pairs_of classes) frame → AreClasses classes → AreClasses after
 still-classes classes after frame now are = record {
-  apart = subst (λ (list : List (List Pair)). All AreApart list) (sym now) (forgotten-apart (map pairs_of classes) frame are.apart);
-  placed = subst ArePlaced (sym now) (forgotten-placed (map pairs_of classes) frame are.placed);
+  apart = rw now (forgotten-apart (map pairs_of classes) frame are.apart);
+  placed = rw now (forgotten-placed (map pairs_of classes) frame are.placed);
 }
 
 -- the frame of a pair that the buffer finds is the table's
@@ -86,19 +66,12 @@ remembered-of classes keys wanted pair all is =
 pub unremembered :
     (classes : List (List Pair)) (keys : List (Option Key)) (wanted : Key) → IsOfTable classes keys → look_up keys wanted ≡ None
     → find (is_pair_of wanted) (pairs_in classes (class_of wanted)) ≡ None
-unremembered classes keys wanted all none = by_pair (find (is_pair_of wanted) (pairs_in classes (class_of wanted))) refl
-  where
-    by_pair : (o : Option Pair) → find (is_pair_of wanted) (pairs_in classes (class_of wanted)) ≡ o → o ≡ None
-    by_pair None is = refl
-    by_pair (Some pair) is = absurd (let clash : None ≡ Some pair.frame = sym none ∙ remembered-of classes keys wanted pair all is in cc)
+unremembered classes keys wanted all none = grind (arith, nat_tests, remembered-of)
 
 -- the pairs of a class with a new one: what holds of all before and of the new one holds of all
 newest-all : (P : Pair → Type 0) (pairs : List Pair) (pair : Pair) → All P pairs → P pair → All P (with_newest pairs pair)
-newest-all P pairs pair all new = by_test (length pairs == 2)
-  where
-    by_test : (b : Bool) → All P ((cond b (drop 1 pairs) pairs) ++ pair ∷ [])
-    by_test true = All-push P (drop 1 pairs) pair (All-drop P 1 pairs all) new
-    by_test false = All-push P pairs pair all new
+newest-all P pairs pair all new =
+    grind (arith, nat_tests, All-push P (drop 1 pairs) pair (All-drop P 1 pairs all) new, All-push P pairs pair all new)
 
 apart-rest : (pairs : List Pair) → AreApart pairs → AreApart (drop 1 pairs)
 apart-rest [] apart = apart
@@ -187,17 +160,12 @@ no-pair : (keys : List (Option Key)) (key : Key) (frame class : ℕ) (pairs : Li
     → All (λ pair. class_of (page_of pair) ≡ class) pairs → All (λ pair. look_up keys (page_of pair) ≡ Some pair.frame) pairs → filter (λ pair. not (pair.frame == frame)) pairs ≡ pairs
 no-pair keys key frame class [] there other placed all = refl
 no-pair keys key frame class (pair ∷ pairs) there other placed all =
-    by_test (pair.frame == frame) refl
-    (no-pair keys key frame class pairs there other (All-tail (λ p. class_of (page_of p) ≡ class) pair pairs placed) (All-tail (λ p. look_up keys (page_of p) ≡ Some p.frame) pair pairs all))
-  where
-    by_test :
-        (b : Bool) → (pair.frame == frame) ≡ b → filter (λ p. not (p.frame == frame)) pairs ≡ pairs
-        → cond (not b) (pair ∷ filter (λ p. not (p.frame == frame)) pairs) (filter (λ p. not (p.frame == frame)) pairs) ≡ pair ∷ pairs
-    by_test true is rest =
-        absurd (other
-        (sym (All-head (λ p. class_of (page_of p) ≡ class) pair pairs placed)
-        ∙ ap (λ (n : ℕ). n % 16) (one-page keys (page_of pair) key frame (All-head (λ p. look_up keys (page_of p) ≡ Some p.frame) pair pairs all ∙ ap Some (eqb-true pair.frame frame is)) there)))
-    by_test false is rest = ap (λ (list : List Pair). pair ∷ list) rest
+    let rest = no-pair keys key frame class pairs there other
+    (All-tail (λ p. class_of (page_of p) ≡ class) pair pairs placed)
+    (All-tail (λ p. look_up keys (page_of p) ≡ Some p.frame) pair pairs all) in
+    let here = All-head (λ p. class_of (page_of p) ≡ class) pair pairs placed in
+    let found = All-head (λ p. look_up keys (page_of p) ≡ Some p.frame) pair pairs all in
+    grind (arith, nat_tests, one-page keys (page_of pair) key frame, rest, here, found)
 
 -- so the pairs of that frame go where they go from the class of the page
 pub forgotten-there :

@@ -1,8 +1,8 @@
--- The table stays chained where a frame enters.
-use Rattle.page_table.proofs.Common.{◌≡◌, ◌≢◌, ◌⊎◌, ℕ, ◌<◌, ◌≤◌, Bool, true, false, List, length, refl, sym, ◌∙◌, ap, arith, inl, inr, Some, None, Option, ◌==◌, ◌||◌, slice_set, option_map_or, get_or-set_same, get_or-set_other, length-set, get_or-eq_default, eqb-true, eqb-false, ne_eqb, cases_lt, has, distinct, Key, key_in, look_up, hash_of, following, chain_from, chain_end, chain_of, IsChain, IsChained}
-use Rattle.page_table.proofs.ApartLemmas.{equal, apart-cons, few-apart}
+-- The table is chained with nothing in it, and stays so where a frame enters, and where one leaves.
+use Rattle.page_table.proofs.Common.{◌∷◌, ◌≡◌, ◌≢◌, ℕ, ◌<◌, Bool, true, false, List, length, refl, sym, ◌∙◌, ap, arith, Some, None, Option, ◌==◌, ◌||◌, slice_set, option_map_or, get_or-set_same, get_or-set_other, length-set, get_or-eq_default, eqb-true, eqb-false, ne_eqb, has, nat_tests, Key, key_in, look_up, hash_of, following, chain_from, chain_end, chain_of, IsChain, IsChained, zero, suc, filter, has-filter, before_in, length-replicate, get_or-replicate, replicate, slice_index_or}
+use Rattle.page_table.proofs.ApartLemmas.{equal, apart-cons, few-apart, is_other, apart-filter, filter-absent, before-none, before-in, chain-untouched, chain-in_front, chain-headless, chain-unlinked, chain-none, end-none}
 use Rattle.page_table.proofs.FindLemmas.{look_up-none, is-held}
-use Rattle.page_table.proofs.WalkLemmas.{chain-untouched, chain-in_front}
+use Rattle.std.specs.Int.{IsPowerOfTwo}
 
 -- whether a frame that holds this is in the chain of a hash
 abbrev pub is_hashed : (anchors hash : ℕ) → Option Key → Bool
@@ -10,12 +10,7 @@ is_hashed anchors hash held = option_map_or (λ key. hash_of anchors key == hash
 
 -- a frame that a chain has holds a page, so it is one of the frames
 pub frame-below : (anchors hash : ℕ) (keys : List (Option Key)) (frame : ℕ) → is_hashed anchors hash (key_in keys frame) ≡ true → frame < length keys
-frame-below anchors hash keys frame hashed = by_case (cases_lt frame (length keys))
-  where
-    by_case : (frame < length keys) ⊎ (length keys ≤ frame) → frame < length keys
-    by_case (inl below) = below
-    by_case (inr past) =
-        absurd (let clash : false ≡ true = sym (ap (is_hashed anchors hash) (get_or-eq_default keys None past)) ∙ hashed in cc)
+frame-below anchors hash keys frame hashed = grind (arith, get_or-eq_default)
 
 -- what a frame holds, where another one changed or itself
 pub held-same : (keys : List (Option Key)) (frame x : ℕ) (held : Option Key) → frame < length keys → frame ≡ x → key_in (slice_set keys frame held) x ≡ held
@@ -23,14 +18,6 @@ held-same keys frame x held inside same = ap (key_in (slice_set keys frame held)
 
 pub held-other : (keys : List (Option Key)) (frame x : ℕ) (held : Option Key) → frame ≢ x → key_in (slice_set keys frame held) x ≡ key_in keys x
 held-other keys frame x held other = get_or-set_other keys frame x held None (λ e. other (sym e))
-
--- a chain by where its anchor leads, and by how many frames there are
-module _ (anchors next : List (Option ℕ)) (count hash : ℕ) (at : Option ℕ) (sized : length next ≡ count) (anchor : following anchors hash ≡ at) where
-  pub chain-by : chain_of anchors next hash ≡ chain_from next count at
-  chain-by = ap (λ (n : ℕ). chain_from next n (following anchors hash)) sized ∙ ap (chain_from next count) anchor
-
-  pub end-by : chain_end next (length next) (following anchors hash) ≡ chain_end next count at
-  end-by = ap (λ (n : ℕ). chain_end next n (following anchors hash)) sized ∙ ap (chain_end next count) anchor
 
 -- a frame without a page is in no chain
 free-absent :
@@ -55,29 +42,26 @@ entered-own :
 entered-own anchors next keys frame hash key chained inside free below own =
     let chain = chained.chains hash below in
     let within : frame < length next = omega (arith, chained.sized, inside) in
-    let front = chain-in_front next frame (following anchors hash) within chain.ends (free-absent anchors next keys hash frame chain free) (chain-few anchors next keys hash frame chain chained.sized within free) in
+    let absent = free-absent anchors next keys hash frame chain free in
+    let few = chain-few anchors next keys hash frame chain chained.sized within free in
+    let front = chain-in_front next frame (following anchors hash) within chain.ends absent few in
     let anchor : following (slice_set anchors hash (Some frame)) hash ≡ Some frame = get_or-set_same anchors hash (Some frame) None below in
     let count = length-set next frame (following anchors hash) in
-    let same = chain-by (slice_set anchors hash (Some frame)) (slice_set next frame (following anchors hash)) (length next) hash (Some frame) count anchor ∙ front.0 in
+    let same : chain_of (slice_set anchors hash (Some frame))
+    (slice_set next frame (following anchors hash)) hash ≡ frame ∷ chain_of anchors next hash =
+    rw (count, anchor) front.0 in
     record {
-      ends = end-by (slice_set anchors hash (Some frame)) (slice_set next frame (following anchors hash)) (length next) hash (Some frame) count anchor ∙ front.1;
-      apart = ap distinct same ∙ apart-cons frame (chain_of anchors next hash) (free-absent anchors next keys hash frame chain free) chain.apart ∙ sym same;
-      has_its = λ x. ap (λ (xs : List ℕ). has xs x) same ∙ its x (frame == x) refl (chain.has_its x);
+      ends = rw (count, anchor) front.1;
+      apart = rw same (apart-cons frame (chain_of anchors next hash) absent chain.apart);
+      has_its = λ x. rw same (its x);
     }
   where
-    its :
-        (x : ℕ) (b : Bool) → (frame == x) ≡ b → has (chain_of anchors next hash) x ≡ is_hashed (length anchors) hash (key_in keys x)
+    its : (x : ℕ)
         → ((frame == x) || has (chain_of anchors next hash) x)
         ≡ is_hashed (length (slice_set anchors hash (Some frame))) hash (key_in (slice_set keys frame (Some key)) x)
-    its x true is old =
-        ap (λ b. b || has (chain_of anchors next hash) x) is
-        ∙ sym (ap (λ (n : ℕ). is_hashed n hash (key_in (slice_set keys frame (Some key)) x)) (length-set anchors hash (Some frame))
-        ∙ ap (is_hashed (length anchors) hash) (held-same keys frame x (Some key) inside (eqb-true frame x is))
-        ∙ ap (λ (n : ℕ). n == hash) (sym own) ∙ equal hash)
-    its x false is old =
-        ap (λ b. b || has (chain_of anchors next hash) x) is ∙ old
-        ∙ sym (ap (λ (n : ℕ). is_hashed n hash (key_in (slice_set keys frame (Some key)) x)) (length-set anchors hash (Some frame))
-        ∙ ap (is_hashed (length anchors) hash) (held-other keys frame x (Some key) (eqb-false frame x is)))
+    its x =
+        let old = (chained.chains hash below).has_its x in
+        grind (arith, nat_tests, length-set, held-same, held-other, old, own)
 
 -- the chain of another hash
 entered-other :
@@ -89,27 +73,23 @@ entered-other anchors next keys frame hash own key value chained inside free bel
     let still = chain-untouched next (length next) frame (following anchors hash) value (free-absent anchors next keys hash frame chain free) in
     let anchor : following (slice_set anchors own (Some frame)) hash ≡ following anchors hash = get_or-set_other anchors own hash (Some frame) None (λ e. other (sym e)) in
     let count = length-set next frame value in
-    let same = chain-by (slice_set anchors own (Some frame)) (slice_set next frame value) (length next) hash (following anchors hash) count anchor ∙ still.0 in
+    let same : chain_of (slice_set anchors own (Some frame))
+    (slice_set next frame value) hash ≡ chain_of anchors next hash =
+    rw (count, anchor) still.0 in
     record {
-      ends = end-by (slice_set anchors own (Some frame)) (slice_set next frame value) (length next) hash (following anchors hash) count anchor ∙ still.1 ∙ chain.ends;
-      apart = ap distinct same ∙ chain.apart ∙ sym same;
-      has_its = λ x. ap (λ (xs : List ℕ). has xs x) same ∙ its x (frame == x) refl (chain.has_its x) (free-absent anchors next keys hash frame chain free);
+      ends = rw (count, anchor, still.1) chain.ends;
+      apart = rw same chain.apart;
+      has_its =
+          λ x. rw same (its x);
     }
   where
-    its :
-        (x : ℕ) (b : Bool) → (frame == x) ≡ b → has (chain_of anchors next hash) x ≡ is_hashed (length anchors) hash (key_in keys x)
-        → has (chain_of anchors next hash) frame ≡ false
-        → has (chain_of anchors next hash) x
-        ≡ is_hashed (length (slice_set anchors own (Some frame))) hash (key_in (slice_set keys frame (Some key)) x)
-    its x true is old absent =
-        ap (has (chain_of anchors next hash)) (sym (eqb-true frame x is)) ∙ absent
-        ∙ sym (ap (λ (n : ℕ). is_hashed n hash (key_in (slice_set keys frame (Some key)) x)) (length-set anchors own (Some frame))
-        ∙ ap (is_hashed (length anchors) hash) (held-same keys frame x (Some key) inside (eqb-true frame x is))
-        ∙ ap (λ (n : ℕ). n == hash) (sym is_own) ∙ ne_eqb own hash other)
-    its x false is old absent =
-        old
-        ∙ sym (ap (λ (n : ℕ). is_hashed n hash (key_in (slice_set keys frame (Some key)) x)) (length-set anchors own (Some frame))
-        ∙ ap (is_hashed (length anchors) hash) (held-other keys frame x (Some key) (eqb-false frame x is)))
+    its : (x : ℕ)
+        → has (chain_of anchors next hash) x ≡ is_hashed (length (slice_set anchors own (Some frame))) hash
+        (key_in (slice_set keys frame (Some key)) x)
+    its x =
+        let old = (chained.chains hash below).has_its x in
+        let absent = free-absent anchors next keys hash frame (chained.chains hash below) free in
+        grind (arith, nat_tests, length-set, held-same, held-other, old, absent, is_own, other)
 
 -- no page is in two frames, after one entered that was in none
 entered-once :
@@ -117,21 +97,9 @@ entered-once :
     → ((x y : ℕ) (held : Key) → key_in keys x ≡ Some held → key_in keys y ≡ Some held → x ≡ y)
     → (x y : ℕ) (held : Key) → key_in (slice_set keys frame (Some key)) x ≡ Some held → key_in (slice_set keys frame (Some key)) y ≡ Some held → x ≡ y
 entered-once keys frame key inside absent once x y held first second =
-    by_test (frame == x) (frame == y) refl refl
-  where
-    clash : (z : ℕ) → frame ≢ z → key_in (slice_set keys frame (Some key)) z ≡ Some held → Some key ≡ Some held → ⊥
-    clash z other there same =
-        let here : key_in keys z ≡ Some key = sym (held-other keys frame z (Some key) other) ∙ there ∙ sym same in
-        let found : true ≡ false = sym (is-held key (key_in keys z) here) ∙ look_up-none keys key absent z in absurd (cc)
-
-    by_test : (a b : Bool) → (frame == x) ≡ a → (frame == y) ≡ b → x ≡ y
-    by_test true true is also = sym (eqb-true frame x is) ∙ eqb-true frame y also
-    by_test true false is also =
-        absurd (clash y (eqb-false frame y also) second (sym (held-same keys frame x (Some key) inside (eqb-true frame x is)) ∙ first))
-    by_test false true is also =
-        absurd (clash x (eqb-false frame x is) first (sym (held-same keys frame y (Some key) inside (eqb-true frame y also)) ∙ second))
-    by_test false false is also =
-        once x y held (sym (held-other keys frame x (Some key) (eqb-false frame x is)) ∙ first) (sym (held-other keys frame y (Some key) (eqb-false frame y also)) ∙ second)
+    let none = look_up-none keys key absent in
+    let holds_key = λ (z : ℕ). is-held key (key_in keys z) in
+    grind (arith, nat_tests, held-same, held-other, none, holds_key, once, first, second)
 
 -- a table into which a frame entered
 pub enter-chained :
@@ -153,3 +121,139 @@ enter-chained anchors next keys frame own key chained inside free absent within 
         rw (← eqb-true own hash is) (entered-own anchors next keys frame own key chained inside free within is_own)
     by_test hash false is below =
         entered-other anchors next keys frame hash own key (following anchors own) chained inside free below is_own (eqb-false own hash is)
+
+-- a chain that lost a frame which holds nothing now
+left-chain :
+    (anchors next moved changed : List (Option ℕ)) (keys : List (Option Key)) (hash frame : ℕ) → IsChain anchors next keys hash
+    → length moved ≡ length anchors → frame < length keys → chain_end changed (length changed) (following moved hash) ≡ None
+    → chain_of moved changed hash ≡ filter (is_other frame) (chain_of anchors next hash) → IsChain moved changed (slice_set keys frame None) hash
+left-chain anchors next moved changed keys hash frame chain sized inside ends same = grind (arith, nat_tests, apart-filter, is_other, has-filter, is_hashed, held-same, held-other, eqb-false)
+
+-- a page has one hash
+hashed-once : (anchors own hash : ℕ) (held : Option Key) → is_hashed anchors own held ≡ true → own ≢ hash → is_hashed anchors hash held ≡ false
+hashed-once anchors own hash held is other = grind (arith, nat_tests, ne_eqb, eqb-true)
+
+-- a frame is in the chain of the hash of its page
+hashed-own : (anchors own : ℕ) (keys : List (Option Key)) (frame : ℕ) (key : Key) → key_in keys frame ≡ Some key → own ≡ hash_of anchors key → is_hashed anchors own (key_in keys frame) ≡ true
+hashed-own anchors own keys frame key holds is_own = ap (is_hashed anchors own) holds ∙ ap (λ (n : ℕ). n == own) (sym is_own) ∙ equal own
+
+-- the anchor leads to a frame that has none in front of it
+first-is :
+    (next : List (Option ℕ)) (count frame : ℕ) (at : Option ℕ) → has (chain_from next count at) frame ≡ true
+    → before_in (chain_from next count at) frame ≡ None → at ≡ Some frame
+first-is next zero frame at there none = absurd (cc)
+first-is next (suc count) frame None there none = absurd (cc)
+first-is next (suc count) frame (Some x) there none =
+    ap (λ (n : ℕ). Some n) (before-none x frame (chain_from next count (following next x)) there none)
+
+-- no page is in two frames, after one left
+left-once :
+    (keys : List (Option Key)) (frame : ℕ) → frame < length keys
+    → ((x y : ℕ) (held : Key) → key_in keys x ≡ Some held → key_in keys y ≡ Some held → x ≡ y)
+    → (x y : ℕ) (held : Key) → key_in (slice_set keys frame None) x ≡ Some held → key_in (slice_set keys frame None) y ≡ Some held → x ≡ y
+left-once keys frame inside once x y held first second = grind (arith, nat_tests, held-same, held-other, eqb-false)
+
+-- a table of which a frame left that led its chain
+pub leave-first :
+    (anchors next : List (Option ℕ)) (keys : List (Option Key)) (frame own : ℕ) (key : Key) → IsChained anchors next keys → frame < length keys
+    → key_in keys frame ≡ Some key → own < length anchors → own ≡ hash_of (length anchors) key → before_in (chain_of anchors next own) frame ≡ None
+    → IsChained (slice_set anchors own (following next frame)) next (slice_set keys frame None)
+leave-first anchors next keys frame own key chained inside holds within is_own before =
+    record {
+      power = (chained.power.0, length-set anchors own (following next frame) ∙ chained.power.1);
+      sized = chained.sized ∙ sym (length-set keys frame None);
+      chains = λ hash below. by_test hash (own == hash) refl (omega (arith, length-set anchors own (following next frame)));
+      once = left-once keys frame inside chained.once;
+    }
+  where
+    by_test :
+        (hash : ℕ) (b : Bool) → (own == hash) ≡ b → hash < length anchors
+        → IsChain (slice_set anchors own (following next frame)) next (slice_set keys frame None) hash
+    by_test hash true is below =
+        let chain = chained.chains own within in
+        let there : has (chain_of anchors next own) frame ≡ true = chain.has_its frame ∙ hashed-own (length anchors) own keys frame key holds is_own in
+        let first = first-is next (length next) frame (following anchors own) there before in
+        let head = chain-headless next (length next) frame (rw first at chain.ends) (rw first at chain.apart) in
+        let anchor : following (slice_set anchors own (following next frame)) own ≡ following next frame = get_or-set_same anchors own (following next frame) None within in
+        rw (← eqb-true own hash is)
+        (left-chain anchors next (slice_set anchors own (following next frame)) next keys own frame chain (length-set anchors own (following next frame)) inside
+        (rw anchor head.1) (rw (anchor, first) head.0))
+    by_test hash false is below =
+        let chain = chained.chains hash below in
+        let other = eqb-false own hash is in
+        let absent : has (chain_of anchors next hash) frame ≡ false =
+        chain.has_its frame ∙ hashed-once (length anchors) own hash (key_in keys frame) (hashed-own (length anchors) own keys frame key holds is_own) other in
+        let anchor : following (slice_set anchors own (following next frame)) hash ≡ following anchors hash = get_or-set_other anchors own hash (following next frame) None (λ e. other (sym e)) in
+        left-chain anchors next (slice_set anchors own (following next frame)) next keys hash frame chain (length-set anchors own (following next frame)) inside
+        (rw anchor chain.ends) (rw (anchor, filter-absent frame (chain_of anchors next hash) absent) refl)
+
+-- a table of which a frame left that followed on another
+pub leave-behind :
+    (anchors next : List (Option ℕ)) (keys : List (Option Key)) (frame own other : ℕ) (key : Key) → IsChained anchors next keys → frame < length keys
+    → key_in keys frame ≡ Some key → own < length anchors → own ≡ hash_of (length anchors) key → before_in (chain_of anchors next own) frame ≡ Some other
+    → IsChained anchors (slice_set next other (following next frame)) (slice_set keys frame None)
+leave-behind anchors next keys frame own other key chained inside holds within is_own before =
+    record {
+      power = chained.power;
+      sized = length-set next other (following next frame) ∙ chained.sized ∙ sym (length-set keys frame None);
+      chains = λ hash below. by_test hash (own == hash) refl below;
+      once = left-once keys frame inside chained.once;
+    }
+  where
+    hashed : is_hashed (length anchors) own (key_in keys other) ≡ true
+    hashed =
+        let chain = chained.chains own within in
+        sym (chain.has_its other) ∙ (before-in (chain_of anchors next own) frame other before).1
+
+    by_test :
+        (hash : ℕ) (b : Bool) → (own == hash) ≡ b → hash < length anchors
+        → IsChain anchors (slice_set next other (following next frame)) (slice_set keys frame None) hash
+    by_test hash true is below =
+        let chain = chained.chains own within in
+        let there : other < length next = omega (arith, chained.sized, frame-below (length anchors) own keys other hashed) in
+        let cut = chain-unlinked next (length next) frame other (following anchors own) chain.ends chain.apart before there in
+        let count = length-set next other (following next frame) in
+        rw (← eqb-true own hash is)
+        (left-chain anchors next anchors (slice_set next other (following next frame)) keys own frame chain refl inside
+        (rw count cut.1) (rw count cut.0))
+    by_test hash false is below =
+        let chain = chained.chains hash below in
+        let apart = eqb-false own hash is in
+        let absent : has (chain_of anchors next hash) frame ≡ false =
+        chain.has_its frame ∙ hashed-once (length anchors) own hash (key_in keys frame) (hashed-own (length anchors) own keys frame key holds is_own) apart in
+        let unseen : has (chain_of anchors next hash) other ≡ false =
+        chain.has_its other ∙ hashed-once (length anchors) own hash (key_in keys other) hashed apart in
+        let still = chain-untouched next (length next) other (following anchors hash) (following next frame) unseen in
+        let count = length-set next other (following next frame) in
+        left-chain anchors next anchors (slice_set next other (following next frame)) keys hash frame chain refl inside
+        (rw (count, still.1) chain.ends)
+        (rw (count, still.0, filter-absent frame (chain_of anchors next hash) absent) refl)
+
+-- the frame in front, as it was looked for along the frames from the anchor on
+pub found-before :
+    (anchors next list : List (Option ℕ)) (own frame : ℕ) (first answer : Option ℕ) → answer ≡ before_in (chain_from list (length list) first) frame
+    → list ≡ next → first ≡ following anchors own → answer ≡ before_in (chain_of anchors next own) frame
+found-before anchors next list own frame first answer is same anchor = grind (arith, nat_tests)
+
+-- a frame that is in front of another is one of the frames
+pub before-below :
+    (anchors next : List (Option ℕ)) (keys : List (Option Key)) (own frame other : ℕ) → IsChained anchors next keys → own < length anchors
+    → before_in (chain_of anchors next own) frame ≡ Some other → other < length next
+before-below anchors next keys own frame other chained within before =
+    let chain = chained.chains own within in
+    omega (arith, chained.sized, frame-below (length anchors) own keys other (sym (chain.has_its other) ∙ (before-in (chain_of anchors next own) frame other before).1))
+
+-- A table with nothing in it.
+
+nothing : (X : Type 0) → (count i : ℕ) → slice_index_or (replicate {A = Option X} count None) i None ≡ None
+nothing X count i = grind (arith, nat_tests, get_or-replicate, get_or-eq_default, length-replicate)
+
+chained-fresh :
+    (anchors frames : ℕ) → IsPowerOfTwo anchors
+    → IsChained (replicate anchors None) (replicate frames None) (replicate frames None)
+chained-fresh anchors frames power = grind (arith, nat_tests, length-replicate, nothing, chain-none, end-none)
+
+pub chained-fresh_by :
+    (anchors frames : ℕ) (list next : List (Option ℕ)) (keys : List (Option Key)) → IsPowerOfTwo anchors
+    → list ≡ replicate anchors None → next ≡ replicate frames None → keys ≡ replicate frames None → IsChained list next keys
+chained-fresh_by anchors frames list next keys power e1 e2 e3 = rw (e1, e2, e3) (chained-fresh anchors frames power)

@@ -8,8 +8,7 @@ holds_it keys wanted frame = holds wanted (key_in keys frame)
 
 -- what holds a page is that page
 pub held-is : (wanted : Key) (o : Option Key) → holds wanted o ≡ true → o ≡ Some wanted
-held-is wanted None held = absurd (cc)
-held-is wanted (Some key) held = grind (arith, nat_tests)
+held-is wanted o held = grind (arith, nat_tests)
 
 pub is-held : (wanted : Key) (o : Option Key) → o ≡ Some wanted → holds wanted o ≡ true
 is-held wanted o is = ap (holds wanted) is ∙ ap (λ (b : Bool). b && (wanted.page == wanted.page)) (equal wanted.segment) ∙ equal wanted.page
@@ -17,13 +16,11 @@ is-held wanted o is = ap (holds wanted) is ∙ ap (λ (b : Bool). b && (wanted.p
 -- the first of a list that passes, and where none does
 find-here : (p : ℕ → Bool) (xs : List ℕ) (x : ℕ) → has xs x ≡ true → p x ≡ true → ((y : ℕ) → p y ≡ true → y ≡ x) → find p xs ≡ Some x
 find-here p [] x inside passes only = absurd (cc)
-find-here p (y ∷ ys) x inside passes only =
-    let rest = λ (later : has ys x ≡ true). find-here p ys x later passes only in
-    grind (arith, nat_tests, only, rest)
+find-here p (y ∷ ys) x inside passes only = grind (arith, nat_tests, find-here p ys x)
 
 find-none : (p : ℕ → Bool) (xs : List ℕ) → ((x : ℕ) → p x ≡ false) → find p xs ≡ None
 find-none p [] none = refl
-find-none p (x ∷ xs) none = ap (λ (b : Bool). cond b (Some x) (find p xs)) (none x) ∙ find-none p xs none
+find-none p (x ∷ xs) none = grind (arith, none x, find-none p xs none)
 
 -- along the keys: the first that holds the page, or none does
 prefix-holds : (q : Option Key → Bool) (keys : List (Option Key)) → prefix_len (λ o. not (q o)) keys < length keys → q (slice_index_or keys (prefix_len (λ o. not (q o)) keys) None) ≡ true

@@ -1,11 +1,8 @@
 pub mod Common
 pub mod ClearLemmas
 pub mod FindLemmas
-pub mod FreshLemmas
-pub mod WalkLemmas
 pub mod ApartLemmas
 pub mod EnterLemmas
-pub mod LeaveLemmas
 pub mod BufferLemmas
 pub mod TableLemmas
 pub mod LineLemmas

@@ -1,5 +1,5 @@
 -- Each pair of the buffer stays in the table where a frame enters, and where one leaves that the buffer forgot.
-use Rattle.page_table.proofs.Common.{◌≡◌, ◌≢◌, ◌⊎◌, inl, inr, ℕ, zero, suc, ◌+◌, ◌<◌, Bool, true, false, List, [], ◌∷◌, length, refl, sym, ◌∙◌, ap, arith, Some, None, All, ◌==◌, not, cond, filter, nat_lt, position, slice_index_or, slice_set, Option, eqb-false, cases_eq, length-set, get_or-set_same, get_or-set_other, All-nil, All-cons, All-head, All-tail, All-weaker, position-Some, Key, holds, key_in, look_up, Pair, page_of, forgotten, IsOfTable, nat_tests, prefix_len}
+use Rattle.page_table.proofs.Common.{◌≡◌, ◌≢◌, ℕ, zero, suc, ◌+◌, ◌<◌, Bool, true, false, List, [], ◌∷◌, length, refl, sym, ◌∙◌, ap, arith, Some, None, All, ◌==◌, not, cond, filter, position, slice_index_or, slice_set, Option, length-set, get_or-set_same, get_or-set_other, All-nil, All-cons, All-head, All-tail, All-weaker, position-Some, Key, holds, key_in, look_up, Pair, page_of, forgotten, IsOfTable, nat_tests, prefix_len}
 
 -- the first place at which a list passes
 prefix-is :
@@ -11,13 +11,10 @@ prefix-is p (x ∷ xs) (suc at) inside passes before =
     ap (λ b. cond (not b) (1 + prefix_len (λ y. not (p y)) xs) 0) (before zero (omega arith))
     ∙ omega (arith, prefix-is p xs at (omega arith) passes (λ k less. before (suc k) (omega arith)))
 
-below-is : (a b : ℕ) → a < b → nat_lt a b ≡ true
-below-is a b below = grind (arith, nat_tests)
-
 position-is :
     (p : Option Key → Bool) (xs : List (Option Key)) (at : ℕ) → at < length xs → p (slice_index_or xs at None) ≡ true
     → ((k : ℕ) → k < at → p (slice_index_or xs k None) ≡ false) → position p xs ≡ Some at
-position-is p xs at inside passes before = grind (arith, nat_tests, prefix-is, below-is)
+position-is p xs at inside passes before = grind (arith, nat_tests, prefix-is)
 
 -- it stays where another place changes to what doesn't pass
 position-kept :
@@ -27,11 +24,7 @@ position-kept p xs frame at value inside is fails other =
     let told = position-Some p xs at None is in
     position-is p (slice_set xs frame value) at (omega (arith, length-set xs frame value, told.0))
     (ap p (get_or-set_other xs frame at value None (λ e. other (sym e))) ∙ told.1)
-    (λ k less. by_case k (told.2 k less) (cases_eq k frame))
-  where
-    by_case : (k : ℕ) → p (slice_index_or xs k None) ≡ false → (k ≡ frame) ⊎ (k ≢ frame) → p (slice_index_or (slice_set xs frame value) k None) ≡ false
-    by_case k before (inl same) = ap (λ (n : ℕ). p (slice_index_or (slice_set xs frame value) n None)) same ∙ ap p (get_or-set_same xs frame value None inside) ∙ fails
-    by_case k before (inr apart) = ap p (get_or-set_other xs frame k value None apart) ∙ before
+    (λ k less. grind (arith, nat_tests, told.2 k less, get_or-set_same, get_or-set_other, fails))
 
 -- a frame left the table, and the buffer forgot it
 left-pairs :
@@ -39,19 +32,11 @@ left-pairs :
     → All (λ pair. look_up (slice_set keys frame None) (page_of pair) ≡ Some pair.frame) (filter (λ pair. not (pair.frame == frame)) pairs)
 left-pairs keys frame [] inside all = All-nil (λ pair. look_up (slice_set keys frame None) (page_of pair) ≡ Some pair.frame)
 left-pairs keys frame (pair ∷ pairs) inside all =
-    by_test (pair.frame == frame) refl (left-pairs keys frame pairs inside (All-tail (λ pair. look_up keys (page_of pair) ≡ Some pair.frame) pair pairs all))
-  where
-    by_test :
-        (b : Bool) → (pair.frame == frame) ≡ b
-        → All (λ pair. look_up (slice_set keys frame None) (page_of pair) ≡ Some pair.frame) (filter (λ pair. not (pair.frame == frame)) pairs)
-        → All (λ pair. look_up (slice_set keys frame None) (page_of pair) ≡ Some pair.frame)
-        (cond (not b) (pair ∷ filter (λ pair. not (pair.frame == frame)) pairs) (filter (λ pair. not (pair.frame == frame)) pairs))
-    by_test true is rest = rest
-    by_test false is rest =
-        All-cons (λ pair. look_up (slice_set keys frame None) (page_of pair) ≡ Some pair.frame) pair (filter (λ pair. not (pair.frame == frame)) pairs)
-        (position-kept (holds (page_of pair)) keys frame pair.frame None inside
-        (All-head (λ pair. look_up keys (page_of pair) ≡ Some pair.frame) pair pairs all) refl (λ e. eqb-false pair.frame frame is (sym e)))
-        rest
+    let rest = left-pairs keys frame pairs inside
+    (All-tail (λ pair. look_up keys (page_of pair) ≡ Some pair.frame) pair pairs all) in
+    let kept = position-kept (holds (page_of pair)) keys frame pair.frame None inside
+    (All-head (λ pair. look_up keys (page_of pair) ≡ Some pair.frame) pair pairs all) refl in
+    grind (arith, nat_tests, All-cons, rest, kept)
 
 pub of_table-left : (classes : List (List Pair)) (keys : List (Option Key)) (frame : ℕ) → frame < length keys → IsOfTable classes keys → IsOfTable (forgotten classes frame) (slice_set keys frame None)
 of_table-left [] keys frame inside all = All-nil (All (λ pair. look_up (slice_set keys frame None) (page_of pair) ≡ Some pair.frame))

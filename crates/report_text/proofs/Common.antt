@@ -6,7 +6,7 @@ pub use Rattle.std.proofs.lemmas.List.{drop_at, map-append, take_at}
 pub use Rattle.std.proofs.lemmas.List.Elements.{All-get_or, All-push, filter-append, recursion_from_All}
 pub use Rattle.std.specs.Option.{option_to_list}
 pub use Rattle.std.specs.List.{All, AllByRecursion, flat_map, join_with_byte, list_all, prefix_len}
-pub use Rattle.asm_parse.proofs.RunLemmas.{each_also, run_length}
+pub use Rattle.asm_parse.proofs.TokenLemmas.{each_also, run_length}
 pub use Rattle.byteorder.specs.Endian.{big_bytes, big_number}
 pub use Rattle.desk.specs.Commits.{is_commit}
 pub use Rattle.desk.specs.Lines.{Begin, Busy, Check, Closed, Commit, Cycle, Disk, Doubt, End, Idle, Journal, Left, Line, Lost, NoSegment, Open, Stored, Turn, Victim, Wait, line_text, printed}

@@ -1,8 +1,7 @@
 -- A program, as its statements are laid one after the other.
-use Rattle.romp_asm.proofs.Common.{◌≡◌, ℕ, ℤ, pos, suc, zero, ◌+◌, ◌<◌, ◌≤◌, nat_lt, Bool, true, false, is_some, List, [], ◌∷◌, ◌++◌, length, take, drop, get_or, Option, None, Result, Ok, Err, refl, sym, ap, subst, ◌∙◌, arith, append_assoc, append-nil, add-one, length-append, replicate, unwrap_or, option_map, drop-cons, nat_tests, drop_all, get_or_default, take_all, take_more, sum_by_push, fold_push, Statement, Body, Place, BTreeMap, addresses_in, found_in, place_from, place_of, repeated_in, stands_before, AreReadAs, IsLaid, IsReadAs, LaidTo, image_joined, Scope, Parts, assembled, entry_of, has_label_of, image_behind, parts_of, piece_before, piece_of, windows_of, with_entry, with_image, with_window, size_of, total, address_from, addresses_of, LabelKey}
+use Rattle.romp_asm.proofs.Common.{◌≡◌, ℕ, ℤ, pos, suc, zero, ◌+◌, ◌<◌, ◌≤◌, Bool, false, is_some, List, [], ◌∷◌, ◌++◌, length, take, drop, get_or, Option, None, Result, Ok, Err, refl, sym, ap, ◌∙◌, arith, append_assoc, append-nil, add-one, length-append, replicate, unwrap_or, option_map, drop-cons, nat_tests, drop_all, get_or_default, take_all, take_more, sum_by_push, fold_push, Statement, Place, BTreeMap, addresses_in, found_in, place_from, place_of, repeated_in, stands_before, AreReadAs, IsLaid, IsReadAs, LaidTo, image_joined, Scope, assembled, entry_of, has_label_of, image_behind, parts_of, piece_before, piece_of, windows_of, with_image, size_of, total, address_from, addresses_of, LabelKey}
 use Rattle.asm_parse.specs.declared.fault.AsmFault.{AsmFault}
 use Rattle.flat_machine.specs.declared.machine.Program.{Program}
-use Rattle.flat_machine.specs.declared.machine.Window.{Window as Sight}
 use Rattle.asm_parse.specs.Answers.{IsTextFaultOf}
 use Rattle.asm_parse.specs.Text.{at_line}
 use Rattle.romp_asm.specs.declared.output.Output.{Output}
@@ -13,17 +12,12 @@ unfolding place_from address_from
 address_same index at [] word = refl
 address_same index at (x ∷ statements) word = grind (arith, nat_tests, address_same (index + 1) (at + size_of x.body) statements word)
 
-not_below : (m n : ℕ) → n ≤ m → nat_lt m n ≡ false
-not_below m n h = grind (arith, nat_tests)
-
-below : (m n : ℕ) → m < n → nat_lt m n ≡ true
-below m n h = grind (arith, nat_tests)
-
 -- no label of these statements stands before a number that isn't above the first
 not_earlier : (bound index at : ℕ) (statements : List Statement) (word : List ℕ) → bound ≤ index → stands_before bound (place_from index at statements word) ≡ false
 unfolding place_from
 not_earlier bound index at [] word h = refl
-not_earlier bound index at (x ∷ statements) word h = grind (arith, nat_tests, not_earlier bound (index + 1) (at + size_of x.body) statements word, not_below)
+not_earlier bound index at (x ∷ statements) word h =
+    grind (arith, nat_tests, not_earlier bound (index + 1) (at + size_of x.body) statements word)
 
 -- a label stands among the first n statements where its place is before the n-th
 pub among_first : (bound index at : ℕ) (statements : List Statement) (n : ℕ) (word : List ℕ) → bound ≡ index + n → stands_before bound (place_from index at statements word) ≡ is_some (address_from at (take n statements) word)
@@ -31,7 +25,8 @@ unfolding place_from address_from
 among_first bound index at [] zero word h = refl
 among_first bound index at [] (suc n) word h = refl
 among_first bound index at (x ∷ statements) zero word h = not_earlier bound index at (x ∷ statements) word (omega arith)
-among_first bound index at (x ∷ statements) (suc n) word h = grind (arith, nat_tests, among_first bound (index + 1) (at + size_of x.body) statements n word, below)
+among_first bound index at (x ∷ statements) (suc n) word h =
+    grind (arith, nat_tests, among_first bound (index + 1) (at + size_of x.body) statements n word)
 
 -- where no source gives a word, the table tells the addresses of all labels
 pub all_addresses : (scope : Scope) (statements : List Statement) → ((word : List ℕ) → found_in scope.own.now.labels word ≡ place_of statements word) → ((word : List ℕ) → found_in scope.givers.now word ≡ None) → addresses_in scope ≡ addresses_of statements
@@ -40,27 +35,6 @@ all_addresses scope statements table none = grind (arith, nat_tests, address_sam
 -- the table tells whether a statement's label stands before it
 pub repeated_told : (labels : BTreeMap LabelKey Place) (statements : List Statement) (i : ℕ) (statement : Statement) → ((word : List ℕ) → found_in labels word ≡ place_of statements word) → repeated_in labels i statement ≡ has_label_of (take i statements) statement
 repeated_told labels statements i statement table = grind (arith, nat_tests, among_first)
-
-joined_more : (image bytes : List ℕ) (line : ℕ) (others : Result (List ℕ) (ℕ × ℕ)) → image_joined (image ++ bytes) others ≡ image_joined image (piece_before line (Ok bytes) others)
-joined_more image bytes line (Ok others) = ap Ok (append_assoc image bytes others)
-joined_more image bytes line (Err fault) = refl
-
-image_by : (addresses : List ℕ → Option ℤ) (old new : Output) (body : Body) (line : ℕ) (reading : Result (List ℕ) ℕ) (others whole : Result (List ℕ) (ℕ × ℕ)) → IsLaid addresses old new body reading → image_joined old.image.items (piece_before line reading others) ≡ whole → image_joined new.image.items others ≡ whole
-image_by addresses old new body line (Ok bytes) others whole laid so_far =
-    ap (λ image. image_joined image others) laid.image ∙ joined_more old.image.items bytes line others ∙ so_far
-image_by addresses old new body line (Err kind) others whole laid so_far = absurd laid
-
-size_by : (addresses : List ℕ → Option ℤ) (old new : Output) (body : Body) (reading : Result (List ℕ) ℕ) → IsLaid addresses old new body reading → length new.image.items ≡ length old.image.items + size_of body
-size_by addresses old new body (Ok bytes) laid = omega (arith, ap length laid.image, length-append old.image.items bytes, laid.size)
-size_by addresses old new body (Err kind) laid = absurd laid
-
-entry_by : (addresses : List ℕ → Option ℤ) (old new : Output) (body : Body) (reading : Result (List ℕ) ℕ) → IsLaid addresses old new body reading → new.entry ≡ with_entry addresses old.entry body
-entry_by addresses old new body (Ok bytes) laid = laid.entry
-entry_by addresses old new body (Err kind) laid = absurd laid
-
-windows_by : (addresses : List ℕ → Option ℤ) (old new : Output) (body : Body) (reading : Result (List ℕ) ℕ) → IsLaid addresses old new body reading → new.windows ≡ with_window old.windows body
-windows_by addresses old new body (Ok bytes) laid = laid.windows
-windows_by addresses old new body (Err kind) laid = absurd laid
 
 fault_by : (line : ℕ) (image : List ℕ) (reading : Result (List ℕ) ℕ) (others : Result (List ℕ) (ℕ × ℕ)) (all : List Statement) (whole : Result (List ℕ) (ℕ × ℕ)) (fault : AsmFault) → IsTextFaultOf fault (at_line line reading) → image_joined image (piece_before line reading others) ≡ whole → IsTextFaultOf fault (with_image all whole)
 fault_by line image reading others all whole fault told so_far = grind (arith, nat_tests, told, so_far)
@@ -77,43 +51,33 @@ module _ (addresses : List ℕ → Option ℤ) (repeated : Bool) (statement : St
   unfolding image_behind
   so_far = cc (reads.line, same_reading, to.so_far)
 
+  laid_by : (new : Output) (piece : Result (List ℕ) ℕ) → reading ≡ piece → IsLaid addresses old new statement.body piece
+      → LaidTo all (before ++ named ∷ []) rest new
+  laid_by new (Err kind) is laid = absurd laid
+  laid_by new (Ok bytes) is laid = record {
+    so_far = grind (arith, nat_tests, append_assoc, so_far, is, laid.image);
+    size =
+        omega (arith, ap length laid.image, length-append old.image.items bytes, laid.size, to.size, reads.size, sum_by_push (λ (statement : Statement). size_of statement.body) before named);
+    entry = rw (laid.entry, fold_push, ← to.entry) (reads.entry old.entry);
+    windows = rw (laid.windows, fold_push, ← to.windows) (reads.windows old.windows);
+  }
+
   -- it was laid
   pub laid_more : (new : Output) → IsLaid addresses old new statement.body reading → LaidTo all (before ++ named ∷ []) rest new
-  laid_more new laid = record {
-    so_far = image_by addresses old new statement.body statement.line reading (image_behind all (before ++ named ∷ []) rest) _ laid so_far;
-    size = size_by addresses old new statement.body reading laid ∙ omega (arith, to.size, reads.size, sum_by_push (λ (statement : Statement). size_of statement.body) before named);
-    entry = entry_by addresses old new statement.body reading laid ∙ reads.entry old.entry ∙ ap (λ entry. with_entry (addresses_of all) entry named.body) to.entry ∙ sym (fold_push (λ entry (statement : Statement). with_entry (addresses_of all) entry statement.body) None before named);
-    windows = windows_by addresses old new statement.body reading laid ∙ reads.windows old.windows ∙ ap (λ windows. with_window windows named.body) to.windows ∙ sym (fold_push (λ windows (statement : Statement). with_window windows statement.body) (replicate 15 None) before named);
-  }
+  laid_more new laid = laid_by new reading refl laid
 
   -- it has a fault
   pub laid_fault : (fault : AsmFault) → IsTextFaultOf fault (at_line statement.line reading) → IsTextFaultOf fault (assembled all)
-  laid_fault fault told = fault_by statement.line old.image.items reading (image_behind all (before ++ named ∷ []) rest) all _ fault told so_far
+  laid_fault fault told = fault_by statement.line old.image.items reading _ all _ fault told so_far
 
 -- nothing was laid
 pub laid_none : (all : List Statement) (output : Output) → output.image.items ≡ [] → output.entry ≡ None → output.windows ≡ replicate 15 None → LaidTo all [] all output
 laid_none all output image entry windows = grind (arith, nat_tests, so_far)
 
-abbrev with_parts : List ℕ → ℕ → List (Option Sight) → Result Parts (ℕ × ℕ)
-with_parts image entry windows = Ok (record { image = image; entry = entry; windows = windows })
-
 -- all statements were laid
 pub laid_all : (all : List Statement) (output : Output) (program : Program) → LaidTo all all [] output → program.image ≡ output.image.items → program.entry ≡ unwrap_or output.entry 0 → program.windows ≡ output.windows → assembled all ≡ Ok (parts_of program)
 unfolding image_behind
 laid_all all output program to image entry windows = grind (arith, nat_tests, append-nil, so_far)
-
--- a statement of a text, read by the table of the text, is itself
-pub read_as_itself : (scope : Scope) (all : List Statement) (i : ℕ) (statement : Statement) → ((word : List ℕ) → found_in scope.own.now.labels word ≡ place_of all word) → ((word : List ℕ) → found_in scope.givers.now word ≡ None)
-    → IsReadAs (addresses_in scope) (repeated_in scope.own.now.labels i statement) statement all (take i all) statement
-read_as_itself scope all i statement table none =
-    let same = all_addresses scope all table none in
-    record {
-      line = refl;
-      piece = λ at entry windows. grind (arith, nat_tests, repeated_told);
-      size = refl;
-      entry = λ entry. ap (λ addresses. with_entry addresses entry statement.body) same;
-      windows = λ windows. refl;
-    }
 
 -- the statements of a text are read as themselves
 pub text_as_itself : (scope : Scope) (all : List Statement) → ((word : List ℕ) → found_in scope.own.now.labels word ≡ place_of all word) → ((word : List ℕ) → found_in scope.givers.now word ≡ None) → AreReadAs scope all all [] all
@@ -121,7 +85,14 @@ text_as_itself scope all table none = record {
   many = refl;
   each = λ index one other within here there.
       let same : one ≡ other = here ∙ get_or_default all index one other within ∙ sym there in
-      subst (λ (that : Statement). IsReadAs (addresses_in scope) (repeated_in scope.own.now.labels index one) one all (take index all) that) same (read_as_itself scope all index one table none);
+      let told = all_addresses scope all table none in
+      rw (← same) (record {
+        line = refl;
+        piece = λ at entry windows. grind (arith, nat_tests, repeated_told, told);
+        size = refl;
+        entry = λ entry. rw told refl;
+        windows = λ windows. refl;
+      });
 }
 
 -- statements of a source, laid one by one
@@ -147,21 +118,20 @@ module _ (scope : Scope) (statements all before rest named : List Statement) (ar
     front = rw (take_more named i other inside, ← there) (sym (append_assoc before (take i named) (other ∷ [])))
 
     to_other : LaidTo all (before ++ take i named) (other ∷ (drop (i + 1) named ++ rest)) old
-    to_other = subst (λ (these : List Statement). LaidTo all (before ++ take i named) these old) behind to
+    to_other = rw behind at to
 
     abbrev reading_of : Result (List ℕ) ℕ
     reading_of = piece_of (addresses_in scope) (repeated_in scope.own.now.labels i one) (length old.image.items) old.entry old.windows one.body
 
     pub source_more : (new : Output) → IsLaid (addresses_in scope) old new one.body reading_of → LaidTo all (before ++ take (i + 1) named) (drop (i + 1) named ++ rest) new
     source_more new laid =
-        subst (λ (these : List Statement). LaidTo all these (drop (i + 1) named ++ rest) new) (sym front)
-        (laid_more (addresses_in scope) (repeated_in scope.own.now.labels i one) one all (before ++ take i named) (drop (i + 1) named ++ rest) other reads old to_other new laid)
+        rw front
+        (laid_more (addresses_in scope) (repeated_in scope.own.now.labels i one) one all _ _ other reads old to_other new laid)
 
     pub source_fault : (fault : AsmFault) → IsTextFaultOf fault (at_line one.line reading_of) → IsTextFaultOf fault (assembled all)
-    source_fault fault told = laid_fault (addresses_in scope) (repeated_in scope.own.now.labels i one) one all (before ++ take i named) (drop (i + 1) named ++ rest) other reads old to_other fault told
+    source_fault fault told =
+        laid_fault (addresses_in scope)
+        (repeated_in scope.own.now.labels i one) one all _ _ other reads old to_other fault told
 
   pub source_laid : (output : Output) → length statements ≤ i → LaidTo all (before ++ take i named) (drop i named ++ rest) output → LaidTo all (before ++ named) rest output
   source_laid output past to = grind (arith, nat_tests, take_all, drop_all)
-
-pub source_start : (all before rest named : List Statement) (output : Output) → LaidTo all before (named ++ rest) output → LaidTo all (before ++ take 0 named) (drop 0 named ++ rest) output
-source_start all before rest named output to = subst (λ (these : List Statement). LaidTo all these (named ++ rest) output) (sym (append-nil before)) to

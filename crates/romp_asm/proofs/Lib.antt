@@ -1,12 +1,8 @@
 pub mod Common
 pub mod LegalLemmas
 pub mod ValueLemmas
-pub mod NoteLemmas
 pub mod WordLemmas
-pub mod LayLemmas
 pub mod LayoutLemmas
-pub mod AloneLemmas
-pub mod LawLemmas
 pub mod MadeLemmas
 pub mod WindowLemmas
 pub mod RenamedLemmas

@@ -1,5 +1,5 @@
 -- Where the labels of several sources stand.
-use Rattle.romp_asm.proofs.Common.{◌≡◌, inl, inr, ℕ, ℤ, pos, zero, suc, ◌+◌, ◌<◌, ◌≤◌, Bool, true, false, is_some, cond, List, [], ◌∷◌, ◌++◌, length, map, take, drop, get_or, sum_by, unwrap_or, replicate, Option, Some, None, Result, Ok, Err, refl, sym, ap, subst, ◌∙◌, arith, append-nil, append_assoc, length-append, list_any, option_map, option_map_or, option_or, fun_ext, drop-cons, cases_lt, nat_tests, drop_all, get_or_push, get_or_append_left, get_or_default, get_or-map, take-append-le, take_all, take_more, take-map, map-append, length-map, length-take-le, fold_push, sum_by-append, sum_by-cons, Statement, Place, Scope, Table, addresses_in, found_in, given_in, repeated_in, stands_before, AreAlone, AreTables, IsTable, AreReadAs, IsReadAs, assembled, entry_of, has_label_of, image_behind, piece_before, piece_of, windows_of, with_entry, with_image, with_window, size_of, total, defines, joined_from, meant, name_in, named, renamed_body, address_from, address_of, addresses_of, is_labelled, if◌then◌else◌, option_and_then, slice_get}
+use Rattle.romp_asm.proofs.Common.{◌≡◌, inl, inr, ℕ, ℤ, pos, suc, ◌+◌, ◌<◌, ◌≤◌, false, is_some, List, [], ◌∷◌, ◌++◌, length, map, take, drop, get_or, sum_by, Option, Some, None, refl, sym, ap, subst, ◌∙◌, arith, append-nil, append_assoc, length-append, list_any, option_map, option_or, fun_ext, drop-cons, cases_lt, nat_tests, get_or_push, get_or_append_left, get_or_default, get_or-map, take-append-le, take_all, take_more, take-map, map-append, length-map, length-take-le, take-append-drop, fold_push, sum_by-append, sum_by-cons, Statement, Place, Scope, Table, addresses_in, found_in, repeated_in, stands_before, AreAlone, AreTables, IsTable, AreReadAs, IsReadAs, assembled, entry_of, has_label_of, image_behind, piece_of, windows_of, size_of, total, joined_from, meant, name_in, named, renamed_body, address_from, address_of, addresses_of, is_labelled, option_and_then, slice_get}
 use Rattle.std.proofs.lemmas.Option.{slice_get-get_or, slice_get_past}
 use Rattle.romp_asm.proofs.LayoutLemmas.{address_same, among_first}
 use Rattle.romp_asm.proofs.RenamedLemmas.{entry_renamed, piece_renamed, size_renamed, window_renamed}
@@ -8,27 +8,24 @@ use Rattle.romp_asm.proofs.RenamedLemmas.{entry_renamed, piece_renamed, size_ren
 pub tables_more : (tables : List Table) (sources : List (List Statement)) (table : Table) (source : List Statement) → AreTables tables sources → IsTable table (sum_by total sources) source → AreTables (tables ++ table ∷ []) (sources ++ source ∷ [])
 tables_more tables sources table source are is = grind (arith, nat_tests, length-append, cases_lt, get_or_append_left, take-append-le, get_or_push, take_all)
 
+total-cons : (x : Statement) (xs : List Statement) → total (x ∷ xs) ≡ size_of x.body + total xs
+total-cons x xs = sum_by-cons (λ (statement : Statement). size_of statement.body) x xs
+
 nothing-named : (at : ℕ) (word : List ℕ) → address_from at [] word ≡ None
 unfolding address_from
 nothing-named at word = refl
 
-or_none : {A : Type 0} (found : Option A) → option_or found None ≡ found
+pub or_none : {A : Type 0} (found : Option A) → option_or found None ≡ found
 or_none None = refl
 or_none (Some value) = refl
 
 -- the address of a label in statements behind others
-address-append : (at : ℕ) (xs ys : List Statement) (word : List ℕ) → address_from at (xs ++ ys) word ≡ option_or (address_from at xs word) (address_from (at + total xs) ys word)
+address-append : (at next : ℕ) (xs ys : List Statement) (word : List ℕ) → next ≡ at + total xs
+    → address_from at (xs ++ ys) word ≡ option_or (address_from at xs word) (address_from next ys word)
 unfolding address_from
-address-append at [] ys word = let same : at + 0 ≡ at = omega arith in ap (λ (n : ℕ). address_from n ys word) (sym same)
-address-append at (x ∷ xs) ys word = by_test (is_labelled word x) (address-append (at + size_of x.body) xs ys word)
-  where
-    later : at + size_of x.body + total xs ≡ at + total (x ∷ xs)
-    later = omega (arith, sum_by-cons (λ (statement : Statement). size_of statement.body) x xs)
-
-    by_test : (test : Bool) → address_from (at + size_of x.body) (xs ++ ys) word ≡ option_or (address_from (at + size_of x.body) xs word) (address_from (at + size_of x.body + total xs) ys word)
-        → cond test (Some at) (address_from (at + size_of x.body) (xs ++ ys) word) ≡ option_or (cond test (Some at) (address_from (at + size_of x.body) xs word)) (address_from (at + total (x ∷ xs)) ys word)
-    by_test true others = refl
-    by_test false others = others ∙ ap (λ (n : ℕ). option_or (address_from (at + size_of x.body) xs word) (address_from n ys word)) later
+address-append at next [] ys word is = grind (arith, nat_tests)
+address-append at next (x ∷ xs) ys word is =
+    grind (arith, nat_tests, address-append (at + size_of x.body) next xs ys word (omega (arith, total-cons x xs)))
 
 -- a label has an address exactly where a statement has it
 pub has_address : (at : ℕ) (xs : List Statement) (word : List ℕ) → list_any (is_labelled word) xs ≡ is_some (address_from at xs word)
@@ -48,13 +45,7 @@ module _ (giver : List ℕ → Option ℕ) where
   total-named : (source : ℕ) (whole xs : List Statement) → total (map (named giver source whole) xs) ≡ total xs
   total-named source whole [] = refl
   total-named source whole (x ∷ xs) =
-      omega (
-        arith,
-        total-named source whole xs,
-        sum_by-cons (λ (statement : Statement). size_of statement.body) x xs,
-        sum_by-cons (λ (statement : Statement). size_of statement.body) (named giver source whole x) (map (named giver source whole) xs),
-        size_renamed (addresses_of []) (meant giver source whole) x.body,
-      )
+      omega (arith, total-named source whole xs, total-cons x xs, total-cons (named giver source whole x) (map (named giver source whole) xs), size_renamed (addresses_of []) (meant giver source whole) x.body)
 
   address-own : (source at : ℕ) (whole xs : List Statement) (word : List ℕ) → address_from at (map (named giver source whole) xs) (name_in source word) ≡ address_from at xs word
   unfolding address_from
@@ -77,19 +68,31 @@ module _ (giver : List ℕ → Option ℕ) where
   address-outside : (first other at : ℕ) (sources : List (List Statement)) (word : List ℕ) → ((k : ℕ) → k < length sources → other ≡ first + k → ⊥) → address_from at (joined_from giver first sources) (name_in other word) ≡ None
   unfolding joined_from
   address-outside first other at [] word apart = nothing-named at (name_in other word)
-  address-outside first other at (source ∷ sources) word apart = cc (address-append at (map (named giver first source) source) (joined_from giver (first + 1) sources) (name_in other word), address-other first other at source source word (λ same. apart 0 (omega arith) (omega (arith, same))), address-outside (first + 1) other (at + total (map (named giver first source) source)) sources word (λ k within same. apart (k + 1) (omega (arith, within)) (omega (arith, same))))
+  address-outside first other at (source ∷ sources) word apart =
+      rw (
+        address-append at _ (map (named giver first source) source) (joined_from giver (first + 1) sources) (name_in other word) refl,
+        address-other first other at source source word (λ same. apart 0 (omega arith) (omega (arith, same))),
+      )
+      (address-outside (first + 1) other (at + total (map (named giver first source) source)) sources word (λ k within same. apart (k + 1) (omega (arith, within)) (omega (arith, same))))
 
-  -- the sources in front of one, it, and those behind it
-  pub joined-split : (first k n : ℕ) (sources : List (List Statement)) → n ≡ first + k → k < length sources
-      → joined_from giver first sources ≡ joined_from giver first (take k sources) ++ (map (named giver n (get_or sources k [])) (get_or sources k []) ++ joined_from giver (n + 1) (drop (k + 1) sources))
+  joined-append : (first next : ℕ) (xs ys : List (List Statement)) → next ≡ first + length xs
+      → joined_from giver first (xs ++ ys) ≡ joined_from giver first xs ++ joined_from giver next ys
   unfolding joined_from
-  joined-split first k n [] is within = absurd (omega arith)
-  joined-split first zero n (source ∷ sources) is within = let same : first ≡ n = omega arith in ap (λ (m : ℕ). map (named giver m source) source ++ joined_from giver (m + 1) sources) same
-  joined-split first (suc k) n (source ∷ sources) is within =
-      let next : suc (k + 1) ≡ suc k + 1 = omega arith in
-      ap (λ (these : List Statement). map (named giver first source) source ++ these) (joined-split (first + 1) k n sources (omega arith) (omega arith))
-      ∙ sym (append_assoc (map (named giver first source) source) (joined_from giver (first + 1) (take k sources)) (map (named giver n (get_or sources k [])) (get_or sources k []) ++ joined_from giver (n + 1) (drop (k + 1) sources)))
-      ∙ ap (λ (m : ℕ). (map (named giver first source) source ++ joined_from giver (first + 1) (take k sources)) ++ (map (named giver n (get_or sources k [])) (get_or sources k []) ++ joined_from giver (n + 1) (drop m (source ∷ sources)))) next
+  joined-append first next [] ys is = grind arith
+  joined-append first next (x ∷ xs) ys is =
+      grind (arith, nat_tests, joined-append (first + 1) next xs ys (omega arith), append_assoc)
+
+  joined-from-one : (i : ℕ) (sources : List (List Statement)) → i < length sources
+      → joined_from giver i (drop i sources) ≡ map (named giver i (get_or sources i [])) (get_or sources i []) ++ joined_from giver (i + 1) (drop (i + 1) sources)
+  unfolding joined_from
+  joined-from-one i sources within = let next : suc i ≡ i + 1 = omega arith in cc (drop-cons sources i [] within, next)
+
+  -- the sources in front of one, and those from it on
+  joined-split : (k : ℕ) (sources : List (List Statement)) → k < length sources
+      → joined_from giver 0 sources ≡ joined_from giver 0 (take k sources) ++ joined_from giver k (drop k sources)
+  joined-split k sources within =
+      ap (joined_from giver 0) (sym (take-append-drop k sources)) ∙ joined-append 0 k (take k sources) (drop k sources)
+      (omega (arith, length-take-le k sources (omega (arith, within))))
 
   module _ (sources : List (List Statement)) where
     abbrev all : List Statement
@@ -112,34 +115,32 @@ module _ (giver : List ℕ → Option ℕ) where
       front : (word : List ℕ) → address_from 0 before (name_in place word) ≡ None
       front word = address-outside 0 place 0 (take place sources) word (λ k inside same. let few : length (take place sources) ≡ place = length-take-le place sources (omega (arith, within)) in omega (arith, inside, same, few))
 
-      starts : 0 + total before ≡ start
+      starts : start ≡ 0 + total before
       starts = omega (arith, total-joined 0 (take place sources))
 
       -- a name among the first of its source's statements
       address-front : (xs rest : List Statement) (word : List ℕ) → ((at : ℕ) → address_from at rest (name_in place word) ≡ None) → address_of (before ++ (map (named giver place source) xs ++ rest)) (name_in place word) ≡ address_from start xs word
       address-front xs rest word none =
-          address-append 0 before (map (named giver place source) xs ++ rest) (name_in place word)
-          ∙ ap (λ (found : Option ℕ). option_or found (address_from (0 + total before) (map (named giver place source) xs ++ rest) (name_in place word))) (front word)
-          ∙ ap (λ (n : ℕ). address_from n (map (named giver place source) xs ++ rest) (name_in place word)) starts
-          ∙ address-append start (map (named giver place source) xs) rest (name_in place word)
-          ∙ ap (option_or (address_from start (map (named giver place source) xs) (name_in place word))) (none (start + total (map (named giver place source) xs)))
-          ∙ or_none (address_from start (map (named giver place source) xs) (name_in place word))
-          ∙ address-own place start source xs word
+          rw (
+            address-append 0 start before (map (named giver place source) xs ++ rest) (name_in place word) starts,
+            front word,
+            address-append start _ (map (named giver place source) xs) rest (name_in place word) refl,
+            none (start + total (map (named giver place source) xs)),
+            or_none,
+          )
+          (address-own place start source xs word)
 
       address-name : (word : List ℕ) → address_of all (name_in place word) ≡ address_from start source word
       address-name word =
-          ap (λ (these : List Statement). address_of these (name_in place word)) (joined-split 0 place place sources (omega arith) within)
-          ∙ address-front source (joined_from giver (place + 1) (drop (place + 1) sources)) word
-          (λ at. address-outside (place + 1) place at (drop (place + 1) sources) word (λ k inside same. omega (arith, same)))
+          rw (joined-split place sources within, joined-from-one place sources within)
+          (address-front source (joined_from giver (place + 1) (drop (place + 1) sources)) word (λ at. address-outside (place + 1) place at (drop (place + 1) sources) word (λ k inside same. omega (arith, same))))
 
 -- a table of a source that tells the addresses of its labels
 told : (place : Option Place) (others : Option Place) (address : ℤ) → option_map (λ (place : Place). place.address) place ≡ Some address → option_map (λ (place : Place). place.address) (option_or place others) ≡ Some address
-told None others address is = absurd (cc is)
-told (Some place) others address is = is
+told place others address is = grind (arith, nat_tests)
 
 untold : (place : Option Place) (others : Option Place) → option_map (λ (place : Place). place.address) place ≡ None → option_or place others ≡ others
-untold None others is = refl
-untold (Some place) others is = absurd (cc is)
+untold place others is = grind (arith, nat_tests)
 
 module _ (scope : Scope) (sources : List (List Statement)) (are : AreTables scope.tables.now sources) where
   abbrev giver : List ℕ → Option ℕ
@@ -158,13 +159,9 @@ module _ (scope : Scope) (sources : List (List Statement)) (are : AreTables scop
         let table = get_or scope.tables.now place scope.own.now in
         let inside : place < length scope.tables.now = omega (arith, less, are.many) in
         let is = are.each place table inside (get_or_default scope.tables.now place scope.own.now table inside) in
-        ap (λ (found : Option Table). address_in_place (option_and_then (λ (table : Table). found_in table.labels word) found)) (slice_get-get_or scope.tables.now place scope.own.now inside)
-        ∙ ap address_in_place (is.found word)
-        ∙ address_same 0 (sum_by total (take place sources)) (get_or sources place []) word
-        ∙ ap (option_map pos) (sym (address-name giver sources place less word))
+        rw (slice_get-get_or scope.tables.now place scope.own.now inside, is.found word, address-name giver sources place less word) (address_same 0 (sum_by total (take place sources)) (get_or sources place []) word)
     | inr not_less ↦
-        ap (λ (found : Option Table). address_in_place (option_and_then (λ (table : Table). found_in table.labels word) found)) (slice_get_past scope.tables.now place (omega (arith, not_less, are.many)))
-        ∙ ap (option_map pos) (sym (address-past giver sources place word not_less))
+        rw (slice_get_past scope.tables.now place (omega (arith, not_less, are.many)), address-past giver sources place word not_less) refl
   ]
 
   module _ (place : ℕ) (within : place < length sources) (own : scope.own.now ≡ get_or scope.tables.now place scope.own.now) where
@@ -182,121 +179,63 @@ module _ (scope : Scope) (sources : List (List Statement)) (are : AreTables scop
 
     -- what the source's statements are told of a label is the address of its name
     told_as_meant : (word : List ℕ) → addresses_in scope word ≡ addresses_of whole (meant giver place here word)
-    told_as_meant word = by_address (address_from from here word) refl
-      where
-        defined : defines here word ≡ is_some (address_from from here word)
-        defined = has_address from here word
-
-        by_giver : (source : Option ℕ) → giver word ≡ source → address_from from here word ≡ None
-            → address_in_place (option_and_then (λ source. option_and_then (λ (table : Table). found_in table.labels word) (slice_get scope.tables.now source)) source) ≡ addresses_of whole (name_in (unwrap_or source place) word)
-        by_giver None is none = ap (option_map pos) (sym (address-name giver sources place within word ∙ none))
-        by_giver (Some source) is none = given word source
-
-        by_address : (address : Option ℕ) → address_from from here word ≡ address → addresses_in scope word ≡ addresses_of whole (meant giver place here word)
-        by_address (Some address) is =
-            told (found_in scope.own.now.labels word) (given_in scope word) (pos address) (own_told word ∙ ap (option_map pos) is)
-            ∙ ap (option_map pos) (sym (address-name giver sources place within word ∙ is))
-            ∙ ap (λ (test : Bool). addresses_of whole (name_in (if test then place else unwrap_or (giver word) place) word)) (sym (defined ∙ ap is_some is))
-        by_address None is =
-            ap address_in_place (untold (found_in scope.own.now.labels word) (given_in scope word) (own_told word ∙ ap (option_map pos) is))
-            ∙ by_giver (giver word) refl is
-            ∙ ap (λ (test : Bool). addresses_of whole (name_in (if test then place else unwrap_or (giver word) place) word)) (sym (defined ∙ ap is_some is))
+    told_as_meant word =
+        grind (arith, nat_tests, has_address from here word, own_told word, given word, address-name giver sources place within word)
 
     abbrev front_of : ℕ → List Statement
     front_of i = joined_from giver 0 (take place sources) ++ take i (map (named giver place here) here)
 
     repeated_as_named : (i : ℕ) (one : Statement) → repeated_in scope.own.now.labels i one ≡ has_label_of (front_of i) (named giver place here one)
-    repeated_as_named i one = by_label one.label
+    repeated_as_named i one = grind (arith, nat_tests, by_word)
       where
         by_word : (word : List ℕ) → stands_before i (found_in scope.own.now.labels word) ≡ is_some (address_of (front_of i) (name_in place word))
         by_word word =
-            ap (stands_before i) (table_is.found word)
-            ∙ among_first i 0 from here i word (omega arith)
-            ∙ ap is_some (sym (address-front giver sources place within (take i here) [] word (λ at. nothing-named at (name_in place word))))
-            ∙ ap (λ (these : List Statement). is_some (address_of (joined_from giver 0 (take place sources) ++ these) (name_in place word))) (append-nil (map (named giver place here) (take i here)) ∙ sym (take-map (named giver place here) i here))
-
-        by_label : (label : Option (List ℕ)) → option_map_or (λ label. stands_before i (found_in scope.own.now.labels label)) label false ≡ option_map_or (λ label. is_some (address_of (front_of i) label)) (option_map (name_in place) label) false
-        by_label None = refl
-        by_label (Some label) = by_word label
+            let named_front = address-front giver sources place within (take i here) [] word (λ at. nothing-named at (name_in place word)) in
+            rw (table_is.found word, take-map, among_first i 0 from here i word (omega arith), ← named_front, append-nil) refl
 
     -- its statements are read as those with names
     pub source_as_named : AreReadAs scope here whole (joined_from giver 0 (take place sources)) (map (named giver place here) here)
     source_as_named = record {
       many = sym (length-map here (named giver place here));
       each = λ i one other inside is there.
-          let same : other ≡ named giver place here one = there ∙ get_or-map-at i one other inside is in
-          subst (λ (that : Statement). IsReadAs (addresses_in scope) (repeated_in scope.own.now.labels i one) one whole (front_of i) that) (sym same) (reads i one);
+          let same : other ≡ named giver place here one = there ∙ get_or-map (named giver place here) here i one other inside ∙ ap (named giver place here) (sym is) in
+          rw same (reads i one);
     }
       where
-        get_or-map-at : (i : ℕ) (one other : Statement) → i < length here → one ≡ get_or here i one → get_or (map (named giver place here) here) i other ≡ named giver place here one
-        get_or-map-at i one other inside is = get_or-map (named giver place here) here i one other inside ∙ ap (named giver place here) (sym is)
-
         reads : (i : ℕ) (one : Statement) → IsReadAs (addresses_in scope) (repeated_in scope.own.now.labels i one) one whole (front_of i) (named giver place here one)
         reads i one =
             let name = meant giver place here in
             let same : addresses_in scope ≡ (λ (word : List ℕ). addresses_of whole (name word)) = fun_ext told_as_meant in
             record {
               line = refl;
-              piece = λ at entry windows.
-                  ap (λ addresses. piece_of addresses (repeated_in scope.own.now.labels i one) at entry windows one.body) same
-                  ∙ ap (λ repeated. piece_of (λ (word : List ℕ). addresses_of whole (name word)) repeated at entry windows one.body) (repeated_as_named i one)
-                  ∙ piece_renamed (addresses_of whole) name (has_label_of (front_of i) (named giver place here one)) at entry windows one.body;
+              piece =
+                  λ at entry windows. rw (same, repeated_as_named i one) (piece_renamed (addresses_of whole) name (has_label_of (front_of i) (named giver place here one)) at entry windows one.body);
               size = size_renamed (addresses_of whole) name one.body;
-              entry = λ entry. ap (λ addresses. with_entry addresses entry one.body) same ∙ entry_renamed (addresses_of whole) name entry one.body;
+              entry = λ entry. rw same (entry_renamed (addresses_of whole) name entry one.body);
               windows = λ windows. window_renamed (addresses_of whole) name windows one.body;
             }
-
--- sources from one on, and up to one
-joined-append : (giver : List ℕ → Option ℕ) (first : ℕ) (xs ys : List (List Statement)) → joined_from giver first (xs ++ ys) ≡ joined_from giver first xs ++ joined_from giver (first + length xs) ys
-unfolding joined_from
-joined-append giver first [] ys = let same : first ≡ first + 0 = omega arith in ap (λ (n : ℕ). joined_from giver n ys) same
-joined-append giver first (x ∷ xs) ys = grind (arith, nat_tests, joined-append giver (first + 1) xs ys, append_assoc)
-
-module _ (giver : List ℕ → Option ℕ) (sources : List (List Statement)) (i : ℕ) where
-  pub joined-from-one : i < length sources → joined_from giver i (drop i sources) ≡ map (named giver i (get_or sources i [])) (get_or sources i []) ++ joined_from giver (i + 1) (drop (i + 1) sources)
-  unfolding joined_from
-  joined-from-one within = let next : suc i ≡ i + 1 = omega arith in cc (drop-cons sources i [] within, next)
-
-  pub joined-to-one : i < length sources → joined_from giver 0 (take i sources) ++ map (named giver i (get_or sources i [])) (get_or sources i []) ≡ joined_from giver 0 (take (i + 1) sources)
-  unfolding joined_from
-  joined-to-one within =
-      let long : 0 + length (take i sources) ≡ i = omega (arith, length-take-le i sources (omega (arith, within))) in
-      let one = map (named giver i (get_or sources i [])) (get_or sources i []) in
-      sym (
-      ap (joined_from giver 0) (take_more sources i [] within)
-      ∙ joined-append giver 0 (take i sources) (get_or sources i [] ∷ [])
-      ∙ ap (λ (n : ℕ). joined_from giver 0 (take i sources) ++ joined_from giver n (get_or sources i [] ∷ [])) long
-      ∙ ap (λ (these : List Statement). joined_from giver 0 (take i sources) ++ these) (append-nil one)
-      )
-
-  pub joined-none : length sources ≤ i → joined_from giver i (drop i sources) ≡ []
-  unfolding joined_from
-  joined-none past = ap (joined_from giver i) (drop_all i sources past)
-
-  pub joined-all : length sources ≤ i → joined_from giver 0 (take i sources) ≡ joined_from giver 0 sources
-  joined-all past = ap (joined_from giver 0) (take_all i sources past)
 
 -- where no label of a source stands twice
 pub alone_of : (tables : List Table) (sources : List (List Statement)) → AreTables tables sources → (i : ℕ) (table : Table) (source : List Statement) → i < length sources → table ≡ get_or tables i table → get_or sources i [] ≡ source → table.repeats ≡ false → AreAlone table.labels source (length source)
 alone_of tables sources are i table source within here is =
-    subst (λ (those : List Statement). table.repeats ≡ false → AreAlone table.labels those (length those)) is (are.each i table (omega (arith, within, are.many)) here).alone
+    rw is at (are.each i table (omega (arith, within, are.many)) here).alone
 
 -- the statements of the source at hand, by whatever they are known
-module _ (scope : Scope) (sources : List (List Statement)) (i : ℕ) (source : List Statement) (within : i < length sources) (is : get_or sources i [] ≡ source) where
-  abbrev these_names : List ℕ → Option ℕ
-  these_names = found_in scope.givers.now
-
-  pub reads_source : AreTables scope.tables.now sources → scope.own.now ≡ get_or scope.tables.now i scope.own.now
-      → AreReadAs scope source (joined_from these_names 0 sources) (joined_from these_names 0 (take i sources)) (map (named these_names i source) source)
-  reads_source are own =
-      subst (λ (those : List Statement). AreReadAs scope those (joined_from these_names 0 sources) (joined_from these_names 0 (take i sources)) (map (named these_names i those) those)) is (source_as_named scope sources are i within own)
+pub reads_source : (scope : Scope) (sources : List (List Statement)) (i : ℕ) (source : List Statement)
+    → i < length sources → get_or sources i [] ≡ source → AreTables scope.tables.now sources
+    → scope.own.now ≡ get_or scope.tables.now i scope.own.now
+    → AreReadAs scope source (joined_from (found_in scope.givers.now) 0 sources) (joined_from (found_in scope.givers.now) 0 (take i sources)) (map (named (found_in scope.givers.now) i source) source)
+reads_source scope sources i source within is are own = rw is at (source_as_named scope sources are i within own)
 
 module _ (giver : List ℕ → Option ℕ) (sources : List (List Statement)) (i : ℕ) (source : List Statement) (within : i < length sources) (is : get_or sources i [] ≡ source) where
   pub left_from : joined_from giver i (drop i sources) ≡ map (named giver i source) source ++ joined_from giver (i + 1) (drop (i + 1) sources)
-  left_from = joined-from-one giver sources i within ∙ ap (λ (those : List Statement). map (named giver i those) those ++ joined_from giver (i + 1) (drop (i + 1) sources)) is
+  left_from = rw is at (joined-from-one giver i sources within)
 
   pub laid_to : joined_from giver 0 (take i sources) ++ map (named giver i source) source ≡ joined_from giver 0 (take (i + 1) sources)
-  laid_to = ap (λ (those : List Statement). joined_from giver 0 (take i sources) ++ map (named giver i those) those) (sym is) ∙ joined-to-one giver sources i within
+  unfolding joined_from
+  laid_to =
+      rw
+      (take_more sources i [] within, is, joined-append giver 0 i (take i sources) (source ∷ []) (omega (arith, length-take-le i sources (omega (arith, within)))), append-nil) refl
 
 -- what one source makes where none gives it a word is what its statements make
 module _ (statements : List Statement) where
@@ -323,11 +262,7 @@ module _ (statements : List Statement) where
   same_addresses = fun_ext told_alone
 
   repeated_alone : (earlier : List Statement) (one : Statement) → has_label_of earlier one ≡ has_label_of (map name_of earlier) (name_of one)
-  repeated_alone earlier one = by_label one.label
-    where
-      by_label : (label : Option (List ℕ)) → option_map_or (λ label. is_some (address_of earlier label)) label false ≡ option_map_or (λ label. is_some (address_of (map name_of earlier) label)) (option_map (name_in 0) label) false
-      by_label None = refl
-      by_label (Some label) = ap is_some (sym (address-own nobody 0 0 statements earlier label))
+  repeated_alone earlier one = grind (arith, nat_tests, address-own nobody 0 0 statements earlier)
 
   -- what stands in front is the same
   record IsSame (earlier : List Statement) : Type 0 where
@@ -336,36 +271,25 @@ module _ (statements : List Statement) where
 
   same_more : (earlier : List Statement) (one : Statement) → IsSame earlier → IsSame (earlier ++ one ∷ [])
   same_more earlier one is = record {
-    entry = fold_push (λ entry (statement : Statement). with_entry (addresses_of statements) entry statement.body) None earlier one
-        ∙ ap (λ addresses. with_entry addresses (entry_of (addresses_of statements) earlier) one.body) same_addresses
-        ∙ entry_renamed (addresses_of (map name_of statements)) (meant nobody 0 statements) (entry_of (addresses_of statements) earlier) one.body
-        ∙ ap (λ entry. with_entry (addresses_of (map name_of statements)) entry (name_of one).body) is.entry
-        ∙ sym (fold_push (λ entry (statement : Statement). with_entry (addresses_of (map name_of statements)) entry statement.body) None (map name_of earlier) (name_of one))
-        ∙ ap (entry_of (addresses_of (map name_of statements))) (sym (map-append name_of earlier (one ∷ [])));
-    windows = fold_push (λ windows (statement : Statement). with_window windows statement.body) (replicate 15 None) earlier one
-        ∙ window_renamed (addresses_of statements) (meant nobody 0 statements) (windows_of earlier) one.body
-        ∙ ap (λ windows. with_window windows (name_of one).body) is.windows
-        ∙ sym (fold_push (λ windows (statement : Statement). with_window windows statement.body) (replicate 15 None) (map name_of earlier) (name_of one))
-        ∙ ap windows_of (sym (map-append name_of earlier (one ∷ [])));
+    entry =
+        rw (fold_push, map-append, fold_push, ← is.entry, same_addresses)
+        (entry_renamed (addresses_of (map name_of statements)) (meant nobody 0 statements) _ one.body);
+    windows =
+        rw (fold_push, map-append, fold_push, ← is.windows)
+        (window_renamed (addresses_of statements) (meant nobody 0 statements) (windows_of earlier) one.body);
   }
 
   image_alone : (earlier rest : List Statement) → IsSame earlier → image_behind statements earlier rest ≡ image_behind (map name_of statements) (map name_of earlier) (map name_of rest)
   unfolding image_behind
   image_alone earlier [] is = refl
   image_alone earlier (one ∷ rest) is =
-      ap (λ others. piece_before one.line (piece_of (addresses_of statements) (has_label_of earlier one) (total earlier) (entry_of (addresses_of statements) earlier) (windows_of earlier) one.body) others)
-      (image_alone (earlier ++ one ∷ []) rest (same_more earlier one is) ∙ ap (λ (these : List Statement). image_behind (map name_of statements) these (map name_of rest)) (map-append name_of earlier (one ∷ [])))
-      ∙ ap (λ reading. piece_before one.line reading (image_behind (map name_of statements) (map name_of earlier ++ name_of one ∷ []) (map name_of rest))) same_piece
+      rw (same_piece, image_alone (earlier ++ one ∷ []) rest (same_more earlier one is), map-append) refl
     where
       same_piece : piece_of (addresses_of statements) (has_label_of earlier one) (total earlier) (entry_of (addresses_of statements) earlier) (windows_of earlier) one.body
           ≡ piece_of (addresses_of (map name_of statements)) (has_label_of (map name_of earlier) (name_of one)) (total (map name_of earlier)) (entry_of (addresses_of (map name_of statements)) (map name_of earlier)) (windows_of (map name_of earlier)) (name_of one).body
       same_piece =
-          ap (λ addresses. piece_of addresses (has_label_of earlier one) (total earlier) (entry_of (addresses_of statements) earlier) (windows_of earlier) one.body) same_addresses
-          ∙ piece_renamed (addresses_of (map name_of statements)) (meant nobody 0 statements) (has_label_of earlier one) (total earlier) (entry_of (addresses_of statements) earlier) (windows_of earlier) one.body
-          ∙ ap (λ repeated. piece_of (addresses_of (map name_of statements)) repeated (total earlier) (entry_of (addresses_of statements) earlier) (windows_of earlier) (name_of one).body) (repeated_alone earlier one)
-          ∙ ap (λ at. piece_of (addresses_of (map name_of statements)) (has_label_of (map name_of earlier) (name_of one)) at (entry_of (addresses_of statements) earlier) (windows_of earlier) (name_of one).body) (sym (total-named nobody 0 statements earlier))
-          ∙ ap (λ entry. piece_of (addresses_of (map name_of statements)) (has_label_of (map name_of earlier) (name_of one)) (total (map name_of earlier)) entry (windows_of earlier) (name_of one).body) is.entry
-          ∙ ap (λ windows. piece_of (addresses_of (map name_of statements)) (has_label_of (map name_of earlier) (name_of one)) (total (map name_of earlier)) (entry_of (addresses_of (map name_of statements)) (map name_of earlier)) windows (name_of one).body) is.windows
+          rw (← repeated_alone earlier one, ← is.entry, ← is.windows, total-named nobody 0 statements earlier, same_addresses)
+          (piece_renamed (addresses_of (map name_of statements)) (meant nobody 0 statements) _ _ _ _ one.body)
 
   whole_same : (done left : List Statement) → done ++ left ≡ statements → IsSame done → IsSame statements
   whole_same done [] is same = subst IsSame (sym (append-nil done) ∙ is) same
@@ -374,11 +298,6 @@ module _ (statements : List Statement) where
   -- one source alone
   pub assembled-alone : assembled alone ≡ assembled statements
   assembled-alone =
-      let same = whole_same [] statements refl (record { entry = refl; windows = refl }) in
-      ap assembled alone-is
-      ∙ ap (with_image (map name_of statements)) (sym (image_alone [] statements (record { entry = refl; windows = refl })))
-      ∙ parts_same (image_behind statements [] statements) same.entry same.windows
-    where
-      parts_same : (image : Result (List ℕ) (ℕ × ℕ)) → entry_of (addresses_of statements) statements ≡ entry_of (addresses_of (map name_of statements)) (map name_of statements) → windows_of statements ≡ windows_of (map name_of statements) → with_image (map name_of statements) image ≡ with_image statements image
-      parts_same (Err fault) entry windows = refl
-      parts_same (Ok image) entry windows = rw (← entry, ← windows) refl
+      let none : IsSame [] = record { entry = refl; windows = refl } in
+      let same = whole_same [] statements refl none in
+      rw (alone-is, ← image_alone [] statements none) (grind (arith, nat_tests, same.entry, same.windows))

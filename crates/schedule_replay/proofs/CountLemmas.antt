@@ -1,5 +1,5 @@
--- What lines tell of the journal and of faults of the disk, and how many puts they are.
-use Rattle.schedule_replay.proofs.Common.{◌≡◌, ℕ, ◌+◌, List, [], ◌∷◌, ◌++◌, map, cond, refl, subst, arith, false, count_by, Result, IsErr, OnOk, flat_map, sum_by-append, Failed, Begun, Turn, TurnEnd, Stored, Reopened, begun_told, turn_told, counts_told, stored_told, reopened_told, Counts, Ending, Journal, JournalAfter, KeepsJournal, journal_emptied, journal_with, tells_fault, turn_fails, stored_fails, reopened_fails, Line, cycle_lines, turn_lines, happening_lines, ending_lines, nat_tests, Happening, Turned, Crashed, CrashFailed}
+-- What lines tell of the journal and of faults of the disk, how many puts they are, and how many writes one event wants.
+use Rattle.schedule_replay.proofs.Common.{◌≡◌, ℕ, ◌+◌, List, [], ◌∷◌, ◌++◌, map, cond, refl, subst, arith, false, count_by, Result, IsErr, OnOk, flat_map, sum_by-append, Failed, Begun, Turn, TurnEnd, Stored, Reopened, begun_told, turn_told, counts_told, stored_told, reopened_told, Counts, Ending, Journal, JournalAfter, KeepsJournal, journal_emptied, journal_with, tells_fault, turn_fails, stored_fails, reopened_fails, Line, cycle_lines, turn_lines, happening_lines, ending_lines, nat_tests, Happening, Turned, Crashed, CrashFailed, ◌*◌, ◌≤◌, Option, WritesMore, writes_due, commits_in, counted_quiet, lost_behind}
 use Rattle.desk.specs.Instruction as turn
 use Rattle.desk.specs.Lines as line
 
@@ -76,3 +76,28 @@ begun_keep program answer journal = grind arith
 -- what is said of success is said of another result, which fails where this one does
 pub on_ok_as : {T U : Type 0} (P : Type 0) (result : Result T Failed) (other : Result U Failed) → (IsErr result → IsErr other) → OnOk result P → OnOk other P
 on_ok_as P result other so on = grind arith
+
+-- as many as before
+pub writes_same : (told : Option ℕ) → WritesMore told told 0
+writes_same told = grind (arith, nat_tests)
+
+-- fewer are wanted
+pub writes_fewer : (before after : Option ℕ) (more fewer : ℕ) → fewer ≤ more → WritesMore before after more → WritesMore before after fewer
+writes_fewer before after more fewer le writes = grind arith
+
+-- some and then some more
+pub writes_on : (before between after : Option ℕ) (one two : ℕ) → WritesMore before between one → WritesMore between after two → WritesMore before after (one + two)
+writes_on before between after one two first second = grind (arith, nat_tests)
+
+module _ (names : List (List ℕ)) (number : ℕ) where
+  pub begin_writes : (program : ℕ) (answer : Begun) → commits_in (happening_lines names number (begun_told program answer)) ≡ 0
+  begin_writes program answer = grind arith
+
+  pub stored_writes : (answer : Stored) → commits_in (happening_lines names number (stored_told answer)) ≡ 0
+  stored_writes answer = grind (arith, nat_tests)
+
+  pub reopened_writes : (lost : List ℕ) (answer : Reopened) → commits_in (happening_lines names number (reopened_told lost answer)) ≡ 0
+  reopened_writes lost answer = grind (arith, lost_behind)
+
+  pub turn_writes : (activation : ℕ) (answer : Turn) (ends : TurnEnd) (printed : List ℕ) → 2 * commits_in (happening_lines names number (turn_told activation (record answer { end = ends }) printed)) ≤ writes_due ends
+  turn_writes activation answer ends printed = grind (arith, counted_quiet activation (counts_told answer))

@@ -7,12 +7,11 @@ use Rattle.desk.specs.declared.answers.Stored.TheVariants as stored
 use Rattle.desk.specs.declared.answers.Reopened.TheVariants as reopened
 use Rattle.desk.specs.declared.supervisor.Supervisor as desk
 use Rattle.schedule_replay.specs.declared.events.Going.TheVariants as going
-use Rattle.schedule_replay.proofs.CountLemmas.{begun_keep, turn_calm, stored_calm, reopened_calm}
+use Rattle.schedule_replay.proofs.CountLemmas.{begun_keep, turn_calm, stored_calm, reopened_calm, writes_same, writes_fewer, begin_writes, turn_writes, reopened_writes, stored_writes}
 use Rattle.schedule_replay.proofs.PutsLemmas.{PrintedNow, puts_and}
-use Rattle.schedule_replay.proofs.ToldLemmas.{tells_event}
+use Rattle.schedule_replay.proofs.ReportLemmas.{tells_event}
 use Rattle.schedule_replay.proofs.RanToLemmas.{ShownTold}
 use Rattle.schedule_replay.proofs.WentLemmas.{ran_event}
-use Rattle.schedule_replay.proofs.WriteLemmas.{writes_same, writes_fewer, begin_writes, turn_writes, reopened_writes, stored_writes}
 
 -- an answer that closes and doesn't tell of a failed disk is that it was shut
 pub turn_shut : (ends : TurnEnd) → turn_closes ends ≡ true → turn_fails ends ≡ false → ends ≡ end.Shut

@@ -1,13 +1,11 @@
 pub mod Common
 pub mod CountLemmas
 pub mod PutsLemmas
-pub mod WriteLemmas
 pub mod RanToLemmas
 pub mod WentLemmas
 pub mod EventLemmas
 pub mod AnsweredLemmas
 pub mod RanLemmas
 pub mod ReportLemmas
-pub mod ToldLemmas
 pub mod QuietLemmas
 pub mod Lemmas

@@ -1,5 +1,5 @@
 -- Puts of lines, one after another.
-use Rattle.schedule_replay.proofs.Common.{◌≡◌, ℕ, ◌+◌, ◌<◌, List, [], ◌∷◌, ◌++◌, length, map, get_or, take, drop, min, refl, sym, ◌∙◌, ap, subst, append_assoc, append-nil, length-append, arith, rules, IsSome, Option, None, Some, Result, Ok, Err, IsErr, unwrap_or, map-append, take_more, take-append-drop, take_min, take-append-le, flat_map-append, flat_map, Failed, Ghosts, Prints, AreTold, Elapses, Shows, OnlyPuts, FewerLater, prints_on, prints_stop, prints_same, prints_well, only_on, leaves_on, told_is, Cycle, Line, line_text, cycle_lines, Puts, PutsTimes, shown_of, BeginsWith, nat_tests, result_and}
+use Rattle.schedule_replay.proofs.Common.{◌≡◌, ℕ, ◌+◌, ◌<◌, List, [], ◌∷◌, ◌++◌, length, map, get_or, take, drop, min, refl, sym, ◌∙◌, ap, subst, append_assoc, append-nil, length-append, arith, rules, IsSome, Option, Result, Ok, Err, IsErr, unwrap_or, map-append, take_more, take-append-drop, take_min, take-append-le, flat_map-append, flat_map, Failed, Ghosts, Prints, AreTold, Elapses, Shows, OnlyPuts, FewerLater, prints_on, prints_stop, prints_same, prints_well, only_on, leaves_on, told_is, Cycle, Line, line_text, cycle_lines, Puts, PutsTimes, shown_of, BeginsWith, nat_tests, result_and}
 use Rattle.std.proofs.Math.Seq.{take-append-add}
 
 -- a put that went well
@@ -62,8 +62,7 @@ module _ {W : Type 0} (G : Ghosts W) where
   no_time w = grind (arith, nat_tests)
 
   pub printed_none : {T : Type 0} (told : Option (List ℕ)) (value : T) → Prints told told [] (Ok value)
-  printed_none None value = refl
-  printed_none (Some bytes) value = ap (λ (these : List ℕ). Some these) (sym (append-nil bytes))
+  printed_none told value = grind (arith, append-nil)
 
   module _ (printed_now : PrintedNow G) where
     -- nothing is put

@@ -1,8 +1,7 @@
 -- What runs leave, one after another.
 use Rattle.schedule_replay.proofs.Common.{◌≡◌, ℕ, ◌+◌, ◌*◌, ◌≤◌, ◌⊎◌, List, [], ◌∷◌, ◌++◌, sym, ◌∙◌, subst, arith, false, Option, unwrap_or, Ghosts, Rose, RoseBy, IsSure, held_of, Program, Event, Desk, KeepsJournal, WritesMore, journal_in, Line, number_after, faulted, commits_in, commits_on, RanTo, TellsDesk, WasStep, nat_tests, Word, Fine, opening, span}
 use Rattle.desk.specs.declared.supervisor.Supervisor as desk
-use Rattle.schedule_replay.proofs.CountLemmas.{faults_front, faults_behind, happened_keep, journal_on}
-use Rattle.schedule_replay.proofs.WriteLemmas.{writes_on}
+use Rattle.schedule_replay.proofs.CountLemmas.{faults_front, faults_behind, happened_keep, journal_on, writes_on}
 
 -- what a supervisor tells while it shows a desk is that desk's
 abbrev pub ShownTold : {D : Type 0} → desk.Ghosts D → Type 0

@@ -11,16 +11,9 @@ one_event names programs number event word desk after is = grind (arith, nat_tes
 -- the last of two lists that are one
 pub last_is : {A : Type 0} (xs ys : List A) (x y : A) → xs ++ x ∷ [] ≡ ys ++ y ∷ [] → (xs ≡ ys) × (x ≡ y)
 last_is [] [] x y is = (refl, cc)
-last_is [] (z ∷ []) x y is = absurd (let no : ⊥ = cc in no)
-last_is [] (z ∷ w ∷ ys) x y is = absurd (let no : ⊥ = cc in no)
-last_is (z ∷ []) [] x y is = absurd (let no : ⊥ = cc in no)
-last_is (z ∷ w ∷ xs) [] x y is = absurd (let no : ⊥ = cc in no)
-last_is {A} (z ∷ xs) (w ∷ ys) x y is =
-    let rest : xs ++ x ∷ [] ≡ ys ++ y ∷ [] = cc in
-    let first : z ≡ w = cc in
-    let more = last_is xs ys x y rest in
-    let front : xs ≡ ys = more.0 in
-    (cc, more.1)
+last_is [] (z ∷ ys) x y is = absurd (omega (arith, ap length is, length-append ys (y ∷ [])))
+last_is (z ∷ xs) [] x y is = absurd (omega (arith, ap length is, length-append xs (x ∷ [])))
+last_is (z ∷ xs) (w ∷ ys) x y is = grind (arith, last_is xs ys x y, is)
 
 -- names without line feeds
 pub names_are : {A : Type 0} (items : A → List ℕ) (names : List A) → All (λ name. IsUnbroken (items name)) names → AreNames (map items names)

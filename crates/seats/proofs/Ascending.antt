@@ -1,14 +1,10 @@
 -- Seats in which numbers ascend: each stands once, its number is its own, and sixteen of them are all there are.
-use Rattle.seats.proofs.Common.{range_with_len, AllPairs, arith, ap, sym, ◌∙◌, subst, inl, inr, eqb-true, eq-eqb, ne_eqb, or_cases, not-true, not-false, and_parts, ltb-true, cond-false, All-head, All-tail, has, distinct, size, has-range, in_range, found-has, found-passes, none-passes, nat_tests, ◌≡◌, refl, ℕ, suc, ◌+◌, ◌<◌, ◌≤◌, ◌==◌, not, nat_le, nat_lt, Bool, true, false, List, [], ◌∷◌, length, All, Some, None, find, IsPart, size-part, size-range}
+use Rattle.seats.proofs.Common.{range_with_len, AllPairs, arith, ap, sym, ◌∙◌, inl, inr, eqb-true, or_cases, not-true, not-false, and_parts, ltb-true, cond-false, All-head, All-tail, has, distinct, size, has-range, in_range, found-has, found-passes, none-passes, nat_tests, ◌≡◌, refl, ℕ, suc, ◌+◌, ◌<◌, ◌≤◌, ◌==◌, not, nat_le, nat_lt, true, false, List, [], ◌∷◌, length, All, Some, None, find, IsPart, size-part, size-range}
 
 -- what holds of each number holds of one that is there
 pub all-has : (P : ℕ → Type 0) (xs : List ℕ) (x : ℕ) → All P xs → has xs x ≡ true → P x
 all-has P [] x all inside = absurd (cc)
-all-has P (y ∷ ys) x all inside =
-    elim (or_cases (y == x) (has ys x) inside) [
-      | inl same ↦ subst P (eqb-true y x same) (All-head P y ys all)
-      | inr later ↦ all-has P ys x (All-tail P y ys all) later
-    ]
+all-has P (y ∷ ys) x all inside = grind (arith, nat_tests, All-head P y ys all, all-has P ys x (All-tail P y ys all))
 
 -- the first of some seats is below all later ones, and so on from the next
 pairs-head : (R : ℕ → ℕ → Type 0) (x : ℕ) (xs : List ℕ) → AllPairs R (x ∷ xs) → All (R x) xs
@@ -26,44 +22,21 @@ module _ (number : ℕ → ℕ) where
   pub apart : (seats : List ℕ) (x y : ℕ) → Ascends seats → has seats x ≡ true → has seats y ≡ true → (number x == number y) ≡ (x == y)
   apart [] x y ascends here there = absurd (cc)
   apart (seat ∷ seats) x y ascends here there =
-      elim (or_cases (seat == x) (has seats x) here) [
-        | inl first ↦ elim (or_cases (seat == y) (has seats y) there) [
-          | inl also ↦
-              let same : x ≡ y = sym (eqb-true seat x first) ∙ eqb-true seat y also in
-              eq-eqb (number x) (number y) (ap number same) ∙ sym (eq-eqb x y same)
-          | inr later ↦
-              let less : number x < number y = subst (λ (s : ℕ). number s < number y) (eqb-true seat x first) (above y later) in
-              differ x y (λ same. let no : ⊥ = omega (arith, less, same) in no)
-        ]
-        | inr behind ↦ elim (or_cases (seat == y) (has seats y) there) [
-          | inl also ↦
-              let less : number y < number x = subst (λ (s : ℕ). number s < number x) (eqb-true seat y also) (above x behind) in
-              differ x y (λ same. let no : ⊥ = omega (arith, less, same) in no)
-          | inr later ↦ apart seats x y (pairs-tail (λ s t. number s < number t) seat seats ascends) behind later
-        ]
-      ]
+      grind (arith, nat_tests, above, apart seats x y (pairs-tail (λ s t. number s < number t) seat seats ascends))
     where
       above : (z : ℕ) → has seats z ≡ true → number seat < number z
       above z inside = all-has (λ later. number seat < number later) seats z (pairs-head (λ s t. number s < number t) seat seats ascends) inside
 
-      differ : (x y : ℕ) → (number x ≡ number y → ⊥) → (number x == number y) ≡ (x == y)
-      differ x y not_same = ne_eqb (number x) (number y) not_same ∙ sym (ne_eqb x y (λ same. not_same (ap number same)))
-
   -- the first doesn't stand again
   once : (seat : ℕ) (seats : List ℕ) → Ascends (seat ∷ seats) → has seats seat ≡ false
-  once seat seats ascends = by_test (has seats seat) refl
-    where
-      by_test : (again : Bool) → has seats seat ≡ again → again ≡ false
-      by_test false is = refl
-      by_test true is =
-          absurd (let less = all-has (λ later. number seat < number later) seats seat (pairs-head (λ s t. number s < number t) seat seats ascends) is in omega (arith, less))
+  once seat seats ascends =
+      grind (arith, nat_tests, all-has (λ later. number seat < number later) seats seat (pairs-head (λ s t. number s < number t) seat seats ascends))
 
   -- so there are as many as are listed
   size-listed : (seats : List ℕ) → Ascends seats → size seats ≡ length seats
   size-listed [] ascends = refl
   size-listed (seat ∷ seats) ascends =
-      ap length (cond-false (has seats seat) (distinct seats) (seat ∷ distinct seats) (once seat seats ascends))
-      ∙ ap suc (size-listed seats (pairs-tail (λ s t. number s < number t) seat seats ascends))
+      grind (arith, nat_tests, once seat seats ascends, size-listed seats (pairs-tail (λ s t. number s < number t) seat seats ascends))
 
   -- seats of the sixteen are no more than these
   part-of : (seats : List ℕ) → All (λ seat. seat < 16) seats → IsPart seats (range_with_len 0 16)

@@ -1,5 +1,5 @@
 -- What a seat holds page by page, and what it holds in flat lines.
-use Rattle.seats.proofs.Common.{flat_map, list_any, ◌⊎◌, arith, ap, sym, subst, ◌∙◌, get_or-set_same, get_or-set_other, eqb-true, eqb-false, or_left, or_right, nat_tests, append-nil, append_assoc, length-set, All-head, All-tail, list_any-append, has, meets, has-append, IsOfPage, union, of_page-below, is_in_where-below, Want, of_page, together, with_want, with_wants, AreWithin, conflicts_with, ◌≡◌, ◌≢◌, refl, ℕ, ◌+◌, ◌*◌, ◌<◌, ◌==◌, ◌||◌, Bool, true, false, List, [], ◌∷◌, ◌++◌, length, All, Lines, both, conflicts, flat_lines, lines_wanted, IsFlat}
+use Rattle.seats.proofs.Common.{flat_map, list_any, ◌⊎◌, arith, ap, sym, ◌∙◌, get_or-set_same, get_or-set_other, eqb-true, eqb-false, or_right, nat_tests, append-nil, append_assoc, length-set, All-head, All-tail, list_any-append, has, meets, has-append, IsOfPage, union, of_page-below, is_in_where-below, Want, of_page, together, with_want, with_wants, AreWithin, conflicts_with, ◌≡◌, ◌≢◌, refl, ℕ, ◌+◌, ◌*◌, ◌<◌, ◌==◌, ◌||◌, Bool, true, false, List, [], ◌∷◌, ◌++◌, length, All, Lines, both, conflicts, flat_lines, lines_wanted, IsFlat}
 
 -- lines of a page meet flat lines as they meet what these are of the page
 meets-page :
@@ -7,8 +7,7 @@ meets-page :
     → ((line : ℕ) → has lines line ≡ true → line < 16) → meets (flat_lines page lines) flat ≡ meets lines held
 meets-page page held flat [] same below = refl
 meets-page page held flat (x ∷ xs) same below =
-    ap (λ c. c || meets (flat_lines page xs) flat) (sym (same x (below x (or_left (x == x) (has xs x) (grind (arith, nat_tests))))))
-    ∙ ap (λ c. has held x || c) (meets-page page held flat xs same (λ line inside. below line (or_right (x == line) (has xs line) inside)))
+    grind (arith, nat_tests, same x, below x, meets-page page held flat xs same (λ line inside. below line (or_right (x == line) (has xs line) inside)))
 
 -- the lines of some wants meet flat lines where those of one of them do
 meets-wants :
@@ -19,11 +18,8 @@ meets-wants :
 meets-wants wanted held flat same [] sets = refl
 meets-wants wanted held flat same (want ∷ wants) sets =
     let set : IsOfPage (wanted want) = All-head (λ (w : Want). IsOfPage (wanted w)) want wants sets in
-    list_any-append (has flat) (flat_lines want.page (wanted want)) (flat_map (λ w. flat_lines w.page (wanted w)) wants)
-    ∙ ap (λ c. c || meets (flat_map (λ w. flat_lines w.page (wanted w)) wants) flat)
-    (meets-page want.page (held want) flat (wanted want) (same want) (of_page-below (wanted want) set))
-    ∙ ap (λ c. meets (wanted want) (held want) || c)
-    (meets-wants wanted held flat same wants (All-tail (λ (w : Want). IsOfPage (wanted w)) want wants sets))
+    rw (list_any-append, meets-page want.page (held want) flat (wanted want) (same want) (of_page-below (wanted want) set))
+    (ap (λ c. meets (wanted want) (held want) || c) (meets-wants wanted held flat same wants (All-tail (λ (w : Want). IsOfPage (wanted w)) want wants sets)))
 
 any-or : (p q : Want → Bool) (wants : List Want) → (list_any p wants || list_any q wants) ≡ list_any (λ want. p want || q want) wants
 any-or p q [] = refl
@@ -62,12 +58,6 @@ has-other_page page other line (x ∷ xs) apart below few =
     let rest = has-other_page page other line xs apart below (λ y inside. few y (grind arith)) in
     grind (arith, first, rest)
 
--- the wanted page
-taken-here :
-    (page line : ℕ) (held wanted flat : List ℕ) → line < 16 → has held line ≡ has flat (page * 16 + line)
-    → has (union held wanted) line ≡ has (flat ++ flat_lines page wanted) (page * 16 + line)
-taken-here page line held wanted flat below same = grind (arith, is_in_where-below, has-page, has-append)
-
 -- the other pages
 taken-there :
     (page other line : ℕ) (held wanted flat : List ℕ) → line < 16 → other ≢ page → IsOfPage wanted → has held line ≡ has flat (other * 16 + line)
@@ -88,7 +78,8 @@ taken-lines :
     (pages : List (List ℕ × List ℕ)) (want : Want) (part : List ℕ × List ℕ → List ℕ) (wanted set : List ℕ) → want.page < length pages → IsOfPage wanted → ((held : List ℕ × List ℕ) → part (together held want) ≡ union (part held) wanted)
     → (page line : ℕ) → line < 16 → ((page : ℕ) → has (part (of_page pages page)) line ≡ has set (page * 16 + line))
     → has (part (of_page (with_want pages want) page)) line ≡ has (set ++ flat_lines want.page wanted) (page * 16 + line)
-taken-lines pages want part wanted set within of_page_is joins page line below flat = grind (arith, nat_tests, page-taken, taken-here, taken-there, part, joins, flat)
+taken-lines pages want part wanted set within of_page_is joins page line below flat =
+    grind (arith, nat_tests, page-taken, is_in_where-below, has-page, has-append, taken-there, part, joins, flat)
 
 -- one want
 taken-one :
@@ -121,16 +112,12 @@ flat-taken pages lines (want ∷ wants) flat within reads writes =
       reads = lines.reads ++ flat_lines want.page want.reads;
       writes = lines.writes ++ flat_lines want.page want.writes;
     } in
-    let long : length pages ≡ length (with_want pages want) =
-    sym (length-set pages want.page (together (of_page pages want.page) want)) in
     let rest : IsFlat (with_wants (with_want pages want) wants) (both next (lines_wanted wants)) =
     flat-taken (with_want pages want) next wants
     (taken-one pages lines want (All-head (λ (w : Want). w.page < length pages) want wants within) flat
-    (All-head (λ (w : Want). IsOfPage w.reads) want wants reads)
-    (All-head (λ (w : Want). IsOfPage w.writes) want wants writes))
-    (subst (λ n. AreWithin n wants) long (All-tail (λ (w : Want). w.page < length pages) want wants within))
-    (All-tail (λ (w : Want). IsOfPage w.reads) want wants reads)
-    (All-tail (λ (w : Want). IsOfPage w.writes) want wants writes) in
+    (All-head (λ (w : Want). IsOfPage w.reads) want wants reads) (All-head (λ (w : Want). IsOfPage w.writes) want wants writes))
+    (rw length-set (All-tail (λ (w : Want). w.page < length pages) want wants within))
+    (All-tail (λ (w : Want). IsOfPage w.reads) want wants reads) (All-tail (λ (w : Want). IsOfPage w.writes) want wants writes) in
     flat-again (with_wants (with_want pages want) wants) (both next (lines_wanted wants)) (both lines (lines_wanted (want ∷ wants)))
     (append_assoc lines.reads (flat_lines want.page want.reads) (lines_wanted wants).reads)
     (append_assoc lines.writes (flat_lines want.page want.writes) (lines_wanted wants).writes)

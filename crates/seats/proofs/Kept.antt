@@ -1,14 +1,9 @@
 -- Sixteen seats stay what they are as one is taken, left, or holds more.
-use Rattle.seats.proofs.Common.{ForSome, arith, ap, sym, ◌∙◌, get_or-set_same, get_or-set_other, eqb-true, eqb-false, eq-eqb, or_left, or_right, or_parts, and_cases, not_from_false, length-set, length-replicate, All-set, All-push, All-filter, All-get_or, has, has-append, has-filter, Want, with_want, with_wants, AreWithin, Holding, IsWhole, no_lines_of, of_seat, with_seat, Seat, Seating, IsSeating, newcomer, number_in, seated, left, took, nat_tests, ◌≡◌, refl, ℕ, zero, suc, ◌<◌, ◌≤◌, ◌==◌, ◌&&◌, not, Bool, true, false, List, [], ◌∷◌, length, All, slice_index_or}
+use Rattle.seats.proofs.Common.{ForSome, arith, ap, sym, ◌∙◌, get_or-set_same, get_or-set_other, eqb-true, eqb-false, or_parts, and_cases, not_from_false, length-set, length-replicate, All-set, All-push, All-filter, All-get_or, has, has-append, has-filter, Want, with_want, with_wants, AreWithin, Holding, IsWhole, no_lines_of, of_seat, with_seat, Seat, Seating, IsSeating, newcomer, number_in, seated, left, took, nat_tests, ◌≡◌, refl, ℕ, ◌<◌, ◌≤◌, ◌==◌, ◌&&◌, not, Bool, true, false, List, [], ◌∷◌, length, All, slice_index_or}
 use Rattle.std.proofs.lemmas.List.Kept.{AllPairs-filter}
 use Rattle.std.proofs.lemmas.List.Quantifiers.{all_pairs_push}
 use Rattle.seats.proofs.Ascending.{all-has, few}
-
--- what stands at a place is there
-pub has-at : (xs : List ℕ) (k d : ℕ) → k < length xs → has xs (slice_index_or xs k d) ≡ true
-has-at [] k d within = absurd (omega (arith, within))
-has-at (x ∷ xs) zero d within = or_left (x == x) (has xs x) (eq-eqb x x refl)
-has-at (x ∷ xs) (suc k) d within = or_right (x == slice_index_or xs k d) (has xs (slice_index_or xs k d)) (has-at xs k d (omega (arith, within)))
+use Rattle.seats.proofs.ListedLemmas.{has-at}
 
 length-wants : (pages : List (List ℕ × List ℕ)) (wants : List Want) → length (with_wants pages wants) ≡ length pages
 length-wants pages [] = refl

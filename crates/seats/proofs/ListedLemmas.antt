@@ -1,5 +1,9 @@
--- The pages of which something is held, as they are listed.
-use Rattle.seats.proofs.Common.{range_with_len, arith, ap, sym, ◌∙◌, subst, get_or, get_or-set_same, get_or-set_other, eqb-true, eqb-false, eq-eqb, or_parts, or_left, or_right, not-false, get_or-replicate, length_push, nil_from_length, get_or_past, same_lists, get_or_default, length-replicate, has, meets, size, has-append, in_range, size-part, size-range, size-apart, IsOfPage, union, is_in_where-below, of_page-below, Want, nothing, of_page, holds_some, together, conflicts_in, conflicts_with, AreListed, nat_tests, ◌≡◌, refl, ℕ, zero, suc, ◌+◌, ◌<◌, ◌==◌, ◌&&◌, ◌||◌, not, if◌then◌else◌, Bool, true, false, List, [], ◌∷◌, ◌++◌, length, replicate, slice_set}
+-- The pages of which something is held, as they are listed and ascend, and how many lines are held to write.
+use Rattle.seats.proofs.Common.{range_with_len, arith, ap, sym, ◌∙◌, subst, get_or, get_or-set_same, get_or-set_other, eqb-true, eqb-false, eq-eqb, or_parts, or_left, or_right, not-false, get_or-replicate, length_push, nil_from_length, get_or_past, same_lists, get_or_default, length-replicate, has, meets, size, has-append, in_range, size-part, size-range, size-apart, IsOfPage, union, is_in_where-below, of_page-below, Want, nothing, of_page, holds_some, together, conflicts_with, AreListed, nat_tests, ◌≡◌, refl, ℕ, zero, suc, ◌+◌, ◌<◌, ◌==◌, ◌&&◌, not, if◌then◌else◌, Bool, true, false, List, [], ◌∷◌, ◌++◌, length, replicate, slice_set, insert, IsPermutation, IsBinarySearchResult, inl, inr, both_ways, cases_lt, size-alike, Ascend, ◌≢◌, ◌-◌, ◌≤◌, ◌⊎◌, Result, Ok, Err, sum_by-le, sum_by-replicate, All-replicate, IsCounted, ◌*◌}
+use Rattle.std.specs.Ordering.{nat_cmp}
+use Rattle.std.specs.Result.{MatchResult}
+use Rattle.std.proofs.lemmas.List.Edits.{get_or-insert_below, get_or-insert_at, get_or-insert_above, length-insert}
+use Rattle.std.proofs.lemmas.List.Sorted.{IsPermutation-trans, IsPermutation-to_front, IsPermutation-insert, list_any-IsPermutation, length_permutation, searched}
 
 -- where nothing is held, no line is
 pub none-held : (held : List ℕ × List ℕ) → holds_some held ≡ false → held ≡ nothing
@@ -57,15 +61,8 @@ module _ (pages : List (List ℕ × List ℕ)) (listed : List ℕ) (are : AreLis
   pub listed-next : (page : ℕ) (new : List ℕ × List ℕ) (first : Bool) (list : List ℕ) → page < length pages
       → (holds_some (of_page pages page) ≡ true → holds_some new ≡ true) → first ≡ (not (holds_some (of_page pages page)) && holds_some new)
       → list ≡ (if first then listed ++ page ∷ [] else listed) → AreListed (slice_set pages page new) list
-  listed-next page new first list below still is_first is = subst (AreListed (slice_set pages page new)) (sym is) (by_test (holds_some (of_page pages page)) (holds_some new) first refl refl is_first)
-    where
-      by_test : (before now first : Bool) → holds_some (of_page pages page) ≡ before → holds_some new ≡ now → first ≡ (not (holds_some (of_page pages page)) && holds_some new)
-          → AreListed (slice_set pages page new) (if first then listed ++ page ∷ [] else listed)
-      by_test true now first e f is = grind (arith, nat_tests, listed-same)
-      by_test false true first e f is =
-          subst (λ (b : Bool). AreListed (slice_set pages page new) (if b then listed ++ page ∷ [] else listed)) (sym (is ∙ (λ i. not (e i) && f i)))
-          (listed-more page new below e f)
-      by_test false false first e f is = grind (arith, nat_tests, listed-same, e)
+  listed-next page new first list below still is_first is =
+      rw (is, is_first) (grind (arith, nat_tests, still, listed-same page new below, listed-more page new below))
 
 -- nothing is listed where nothing is held
 pub listed-none : (count : ℕ) → AreListed (replicate count nothing) []
@@ -81,12 +78,118 @@ all-none pages count long none =
 pub none-conflicts : (pages : List (List ℕ × List ℕ)) → AreListed pages [] → (wants : List Want) → conflicts_with pages wants ≡ false
 none-conflicts pages are [] = refl
 none-conflicts pages are (want ∷ wants) =
-    ap (λ b. b || conflicts_with pages wants) (ap (conflicts_in want) (none-held (of_page pages want.page) (sym (are.each want.page))) ∙ calm want)
-    ∙ none-conflicts pages are wants
+    grind (arith, none-held (of_page pages want.page), are.each want.page, free want.writes, free want.reads, none-conflicts pages are wants)
   where
     free : (set : List ℕ) → meets set [] ≡ false
     free [] = refl
     free (x ∷ set) = free set
 
-    calm : (want : Want) → conflicts_in want nothing ≡ false
-    calm want = ap (λ b. b || meets want.reads []) (free want.writes) ∙ free want.reads
+-- a page comes between those before it and those behind it
+pub ascend-insert : (list : List ℕ) (at page : ℕ) → at ≤ length list → Ascend list → has list page ≡ false
+    → ((k d : ℕ) → k < at → get_or list k d < page) → ((k d : ℕ) → at ≤ k → k < length list → page ≤ get_or list k d)
+    → Ascend (insert list at page)
+ascend-insert list at page within ascend absent before behind i j d less inside = by_place (cases_lt j at) (cases_lt at j) (cases_lt i at) (cases_lt at i)
+  where
+    long : length (insert list at page) ≡ length list + 1
+    long = length-insert list at page within
+
+    low : (k : ℕ) → k < at → get_or (insert list at page) k d ≡ get_or list k d
+    low k below = get_or-insert_below list at page d k below within
+
+    high : (k : ℕ) → at < k → get_or (insert list at page) k d ≡ get_or list (k - 1) d
+    high k above = let back : k - 1 + 1 ≡ k = omega (arith, above) in ap (λ (n : ℕ). get_or (insert list at page) n d) (sym back) ∙ get_or-insert_above list at page d (k - 1) (omega (arith, above)) within
+
+    here : (k : ℕ) → k ≡ at → get_or (insert list at page) k d ≡ page
+    here k same = ap (λ (n : ℕ). get_or (insert list at page) n d) same ∙ get_or-insert_at list at page d within
+
+    over : (k : ℕ) → at ≤ k → k < length list → page < get_or list k d
+    over k from to =
+        let other : get_or list k d ≢ page = λ same. absurd (both_ways (has list page) absent (ap (has list) (sym same) ∙ has-at list k d to)) in
+        omega (arith, behind k d from to, other)
+
+    by_place : (j < at) ⊎ (at ≤ j) → (at < j) ⊎ (j ≤ at) → (i < at) ⊎ (at ≤ i) → (at < i) ⊎ (i ≤ at) → get_or (insert list at page) i d < get_or (insert list at page) j d
+    by_place (inl j_low) _ _ _ = omega (arith, low i (omega (arith, j_low, less)), low j j_low, ascend i j d less (omega (arith, j_low, within)))
+    by_place (inr j_from) (inr j_to) _ _ =
+        let same : j ≡ at = omega (arith, j_from, j_to) in
+        omega (arith, here j same, low i (omega (arith, same, less)), before i d (omega (arith, same, less)))
+    by_place (inr j_from) (inl j_high) (inl i_low) _ =
+        let last : j - 1 < length list = omega (arith, inside, long, j_high) in
+        omega (arith, low i i_low, high j j_high, before i d i_low, over (j - 1) (omega (arith, j_high)) last)
+    by_place (inr j_from) (inl j_high) (inr i_from) (inl i_high) =
+        let last : j - 1 < length list = omega (arith, inside, long, j_high) in
+        omega (arith, high i i_high, high j j_high, ascend (i - 1) (j - 1) d (omega (arith, less, i_high)) last)
+    by_place (inr j_from) (inl j_high) (inr i_from) (inr i_to) =
+        let same : i ≡ at = omega (arith, i_from, i_to) in
+        let last : j - 1 < length list = omega (arith, inside, long, j_high) in
+        omega (arith, here i same, high j j_high, over (j - 1) (omega (arith, j_high)) last)
+
+pub insert-moves : (list : List ℕ) (at page : ℕ) → IsPermutation (list ++ page ∷ []) (insert list at page)
+insert-moves list at page = IsPermutation-trans (list ++ page ∷ []) (page ∷ list) (insert list at page) (IsPermutation-to_front list page) (IsPermutation-insert list at page)
+
+-- pages that are listed in another order
+pub listed-moved : (pages : List (List ℕ × List ℕ)) (list other : List ℕ) → IsPermutation list other → AreListed pages list → AreListed pages other
+listed-moved pages list other moved are = record {
+  each = λ page. sym (same page) ∙ are.each page;
+  once = sym (size-alike list other (record { among = λ page inside. sym (same page) ∙ inside }) (record { among = λ page inside. same page ∙ inside }))
+      ∙ are.once ∙ sym (length_permutation list other moved);
+}
+  where
+    same : (page : ℕ) → has list page ≡ has other page
+    same page = list_any-IsPermutation (λ y. y == page) list other moved
+
+-- a search among pages that ascend
+module _ (list : List ℕ) (ascend : Ascend list) where
+  pub not-less : (i j : ℕ) → i ≤ j → j < length list → get_or list i 0 ≤ get_or list j 0
+  not-less i j less within = elim (cases_lt i j) [
+    | inl below ↦ let is = ascend i j 0 below within in omega (arith, is)
+    | inr same ↦ let is = ap (λ (n : ℕ). get_or list n 0) (let e : i ≡ j = omega (arith, less, same) in e) in omega (arith, is)
+  ]
+
+  module _ (page : ℕ) (result : Result ℕ ℕ) (is : IsBinarySearchResult (λ y. nat_cmp y page) list result) where
+    answer : MatchResult result (λ at. (at < length list) × (get_or list at 0 ≡ page))
+        (λ at. (at ≤ length list) × ((k : ℕ) → k < at → get_or list k 0 < page) × ((k : ℕ) → at ≤ k → k < length list → page < get_or list k 0))
+    answer = searched list page result is not-less
+
+    pub found : (at : ℕ) → result ≡ Ok at → (at < length list) × (get_or list at 0 ≡ page)
+    found at e =
+        subst (λ (r : Result ℕ ℕ). MatchResult r (λ at. (at < length list) × (get_or list at 0 ≡ page))
+        (λ at. (at ≤ length list) × ((k : ℕ) → k < at → get_or list k 0 < page) × ((k : ℕ) → at ≤ k → k < length list → page < get_or list k 0))) e answer
+
+    pub missed : (at : ℕ) → result ≡ Err at → (at ≤ length list) × ((k : ℕ) → k < at → get_or list k 0 < page) × ((k : ℕ) → at ≤ k → k < length list → page < get_or list k 0)
+    missed at e =
+        subst (λ (r : Result ℕ ℕ). MatchResult r (λ at. (at < length list) × (get_or list at 0 ≡ page))
+        (λ at. (at ≤ length list) × ((k : ℕ) → k < at → get_or list k 0 < page) × ((k : ℕ) → at ≤ k → k < length list → page < get_or list k 0))) e answer
+
+    -- what lies before and behind
+    pub found-before : (at : ℕ) → result ≡ Ok at → (k d : ℕ) → k < at → get_or list k d < page
+    found-before at e k d less =
+        let (within, here) = found at e in
+        omega (arith, ascend k at d less within, get_or_default list at d 0 within, here)
+
+    pub found-behind : (at : ℕ) → result ≡ Ok at → (k d : ℕ) → at ≤ k → k < length list → page ≤ get_or list k d
+    found-behind at e k d from to =
+        let (within, here) = found at e in
+        omega (arith, not-less at k from to, get_or_default list k d 0 to, here)
+
+    pub missed-before : (at : ℕ) → result ≡ Err at → (k d : ℕ) → k < at → get_or list k d < page
+    missed-before at e k d less =
+        let (within, low, high) = missed at e in
+        omega (arith, low k less, get_or_default list k d 0 (omega (arith, less, within)))
+
+    pub missed-behind : (at : ℕ) → result ≡ Err at → (k d : ℕ) → at ≤ k → k < length list → page ≤ get_or list k d
+    missed-behind at e k d from to =
+        let (within, low, high) = missed at e in
+        omega (arith, high k from to, get_or_default list k d 0 to)
+
+-- they are few
+pub all_few : (pages : List (List ℕ × List ℕ)) (written : ℕ) → IsCounted pages written → written ≤ 16 * 65535
+all_few pages written kept =
+    omega (arith, kept.counted, kept.few, sum_by-le (λ (held : List ℕ × List ℕ). length held.1) 16 pages kept.lines)
+
+-- none are held where nothing is
+pub none-counted : (count : ℕ) → count < 65536 → IsCounted (replicate count nothing) 0
+none-counted count few = record {
+  few = omega (arith, few, length-replicate count nothing);
+  lines = All-replicate (λ (held : List ℕ × List ℕ). length held.1 ≤ 16) count nothing (omega arith);
+  counted = sym (sum_by-replicate (λ (held : List ℕ × List ℕ). length held.1) count nothing ∙ (let none : count * 0 ≡ 0 = omega arith in none));
+}

@@ -9,10 +9,6 @@ and-on p q small other = grind (arith, nat_tests)
 on-both : (a b x : ℕ) → is_on (bit_and a b) x ≡ (is_on a x && is_on b x)
 on-both a b x = ap (λ m. m == 1) (bit_at_and a b x) ∙ and-on (bit_at a x) (bit_at b x) (bit_at-lt a x) (bit_at-lt b x)
 
--- the lines in both sets
-has-both : (a b x : ℕ) → has (lines_of_bits (bit_and a b)) x ≡ (has (lines_of_bits a) x && has (lines_of_bits b) x)
-has-both a b x = grind (arith, is_in-where, on-both)
-
 -- two sets meet exactly where some number is in both
 meets-some : (set other shared : List ℕ) → ((x : ℕ) → has shared x ≡ (has set x && has other x)) → not (length shared == 0) ≡ meets set other
 meets-some set other [] same = grind (arith, nat_tests, any-some, same)
@@ -22,7 +18,7 @@ meets-some set other (y ∷ ys) same =
 
 -- two sets of lines meet exactly where some bit is on in both
 pub meets-bits : (a b : ℕ) → bit_and a b < 65536 → not (bit_and a b == 0) ≡ meets (lines_of_bits a) (lines_of_bits b)
-meets-bits a b small = grind (arith, nat_tests, none-bits, meets-some, has-both)
+meets-bits a b small = grind (arith, nat_tests, none-bits, meets-some, is_in-where, on-both)
 
 -- a set meets two together exactly where it meets one of them
 pub meets_append : (set first second : List ℕ) → meets set (first ++ second) ≡ (meets set first || meets set second)

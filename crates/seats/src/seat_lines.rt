@@ -104,7 +104,7 @@ impl SeatLines {
 
     /// What is wanted of a page is held too.
     #[inline]
-    #[tactic(auto, using(crate::proofs::CountLemmas::all_few))]
+    #[tactic(auto, using(crate::proofs::ListedLemmas::all_few))]
     fn add(&mut self, want: &Want)
         requires { want.now.page < length self.old }
         ensures { self.new ≡ with_want self.old want.now }

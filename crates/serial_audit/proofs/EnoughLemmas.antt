@@ -3,7 +3,7 @@ use Rattle.serial_audit.proofs.Common.{◌≡◌, ℕ, zero, suc, ◌<◌, ◌||
 use Rattle.lines.specs.Sets.{has}
 use Rattle.lines.proofs.SetLemmas.{has-append}
 use Rattle.flat_machine.specs.Agreement.{AgreeOn, DoesTheSame, SameWay, all_of, line_in}
-use Rattle.flat_machine.proofs.Agreement.{agreement-enough}
+use Rattle.flat_machine.proofs.Agreement.{agreement_enough}
 use Rattle.serial_audit.proofs.StepLemmas.{touches_more}
 
 -- the lines of a step's touches are all that it touches
@@ -76,7 +76,7 @@ trace-enough activation (suc n) store other state whole whole_other one commits 
     (after activation.program activation.args store n) state commits
     (λ reached before went.
     let ends = committed (row activation.program store.directory reached) reached state went in
-    let (bytes, same) = agreement-enough activation.program activation.args store other n reached whole whole_other one before (agree_within activation store other n agree) in
+    let (bytes, same) = agreement_enough activation.program activation.args store other n reached whole whole_other one before (agree_within activation store other n agree) in
     let last = also_commits _ (rw ends.0 at same.next_row) in (
       bytes,
       rw (same.state_on_other, last) (ap (λ (s : Plain). Some (record s { store = bytes })) ends.1),

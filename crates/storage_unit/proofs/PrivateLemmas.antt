@@ -1,12 +1,12 @@
 -- The private pages of a seat: what comes into the table, and what its frames are filled with.
 use Rattle.storage_unit.proofs.Common.{◌≡◌, ◌≢◌, ℕ, ◌+◌, ◌-◌, ◌*◌, ◌/◌, ◌<◌, ◌≤◌, Bool, true, false, List, [], ◌∷◌, ◌++◌, length, replicate, sym, ◌∙◌, ap, arith, get_or, Option, Some, None, inl, inr, if◌then◌else◌, slice_index_or, slice_set, range_with_len, cases_lt, nat_tests, same_lists, map-append, length-replicate, get_or-replicate, get_or-set_same, get_or-set_other, get_or_past, get_or-map-range_with_len, length-map-range_with_len, overlaid, overlaid_before, overlaid_within, overlaid_behind, length-overlaid, Key, key_to, key_in, look_up, look_up-is, look_up-none, is-held, PageSize, Layout, private_frames, private_segment, seat_pages, first_keys, pages_begun, held_private, held_in, keys_of, replicate-append-replicate}
-use Rattle.frame_pool.proofs.PlaceLemmas.{range-push}
+use Rattle.frame_pool.proofs.SoundLemmas.{range_push}
 use Rattle.storage_unit.proofs.SizeLemmas.{seat-first, seat-rest}
 use Rattle.storage_unit.proofs.HeldLemmas.{overlaid-more}
 
 -- one page more
 first-more : (segment count : ℕ) → first_keys segment (count + 1) ≡ first_keys segment count ++ Some (key_to segment count) ∷ []
-first-more segment count = grind (arith, nat_tests, range-push 0 count, map-append (λ index. Some (key_to segment index)) (range_with_len 0 count) ((0 + count) ∷ []))
+first-more segment count = grind (arith, nat_tests, range_push 0 count, map-append (λ index. Some (key_to segment index)) (range_with_len 0 count) ((0 + count) ∷ []))
 
 pub first-long : (segment count : ℕ) → length (first_keys segment count) ≡ count
 first-long segment count = length-map-range_with_len (λ (index : ℕ). Some (key_to segment index)) 0 count

@@ -7,6 +7,3 @@ returns-in_default c =
 
 pub loop-sort-preserved : goal.loop-sort-preserved
 loop-sort-preserved c = grind (arith, common_steps)
-
-pub returns-in_err-operand_of : goal.returns-in_err-operand_of
-returns-in_err-operand_of c = grind (arith, common_steps)

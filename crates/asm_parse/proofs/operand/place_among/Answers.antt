@@ -1,10 +1,8 @@
-use Rattle.asm_parse.proofs.Lemmas.{sym, ◌∙◌, bytes_eq, position_mapped}
+use Rattle.asm_parse.proofs.Lemmas.{position_mapped, arith, common_steps}
 use Rattle.asm_parse.proofs.operand.place_among.Goals as goal
 
 pub returns-in-Some : goal.returns-in-Some
-returns-in-Some c =
-    c.in-Some.ensures.value ∙ sym (position_mapped (λ name. bytes_eq name c.args.word.now) (λ name. name.now) c.args.names.now)
+returns-in-Some c = grind (arith, common_steps, position_mapped)
 
 pub returns-in-None : goal.returns-in-None
-returns-in-None c =
-    c.in-None.ensures.value ∙ sym (position_mapped (λ name. bytes_eq name c.args.word.now) (λ name. name.now) c.args.names.now)
+returns-in-None c = grind (arith, common_steps, position_mapped)

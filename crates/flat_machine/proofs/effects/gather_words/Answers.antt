@@ -1,4 +1,4 @@
-use Rattle.flat_machine.proofs.Common.{flat_map, flat_map-append, append-nil, length-drop, length-take, take_more, nil_from_length, get_or-drop, big_bytes, length-bytes_high_first, ◌≡◌, ℕ, ◌+◌, ◌-◌, ◌*◌, ◌<◌, ◌≤◌, List, [], ◌∷◌, ◌++◌, length, take, drop, get_or, sym, ap, ◌∙◌, arith}
+use Rattle.flat_machine.proofs.Common.{flat_map, flat_map-append, append-nil, length-drop, length-take, take_more, nil_from_length, get_or-drop, big_bytes, length-bytes_high_first, ◌≡◌, ℕ, ◌+◌, ◌-◌, ◌*◌, ◌<◌, ◌≤◌, List, [], ◌∷◌, ◌++◌, length, take, drop, get_or, ap, ◌∙◌, arith}
 use Rattle.std.proofs.lemmas.Slice.{take-put_mid}
 use borrow.Rule.Slice.PartMut.{put_mid}
 use Rattle.flat_machine.proofs.effects.gather_words.Goals as goal

@@ -1,9 +1,8 @@
-use Rattle.job_text.proofs.Lemmas.{◌≡◌, ap, ◌∙◌, ◌++◌, arith, map, flat_map, range_with_len, transfer, turns_of, some_more, three_more}
+use Rattle.job_text.proofs.Lemmas.{◌≡◌, ap, ◌∙◌, ◌++◌, arith, map, flat_map, range_with_len, transfer, turns_of, some_more, three_more, common_steps}
 use Rattle.job_text.proofs.big.put_batch.Goals as goal
 
 pub loop-round-preserved : goal.loop-round-preserved
-loop-round-preserved c =
-    some_more c.put_turns.new.events.items c.loop-round.events.items c.put_turns-in-loop-round.new.events.items (λ round. turns_of 50 c.args.first c.args.count) c.loop-round._round c.loop-round.invariant c.in_ok-put_turns-2.ensures
+loop-round-preserved c = grind (arith, common_steps, some_more)
 
 pub returns : goal.returns
 returns c =

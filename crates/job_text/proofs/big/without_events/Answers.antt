@@ -1,11 +1,9 @@
-use Rattle.job_text.proofs.Common.{ap, sym, ◌∙◌, subst, job_of, IsJobFaultOf}
-use Rattle.job_text.proofs.BigSources.{never_faulty, sources_told}
+use Rattle.job_text.proofs.Common.{ap, sym, ◌∙◌, job_of, arith, common_steps}
+use Rattle.job_text.proofs.BigLemmas.{never_faulty, sources_told}
 use Rattle.job_text.proofs.big.without_events.Goals as goal
 
 pub unreachable-requires : goal.unreachable-requires
-unreachable-requires c =
-    never_faulty c.as_bytes.result.now c.in-Err-Fault.field-0-0 c.in-Err-Fault.field-0-1 c.as_bytes.ensures.value
-    (subst (λ fault. IsJobFaultOf fault (job_of c.as_bytes.result.now)) c.in-Err-Fault.field-0-is c.in-Err-Fault.ensures.answer)
+unreachable-requires c = grind (arith, common_steps, never_faulty)
 
 pub returns-in-Ok-clause-job : goal.returns-in-Ok-clause-job
 returns-in-Ok-clause-job c = ap job_of (sym c.as_bytes.ensures.value) ∙ c.in-Ok.ensures.answer

@@ -1,5 +1,4 @@
-use Rattle.job_text.proofs.FormLemmas.{has_form}
-use Rattle.job_text.proofs.FormReadLemmas.{form_read}
+use Rattle.job_text.proofs.FormLemmas.{has_form, form_read}
 use Rattle.job_text.proofs.law.jobs_have_their_form.Goals as goal
 
 pub returns : goal.returns

@@ -1,8 +1,10 @@
-use Rattle.job_text.proofs.Lemmas.{common_steps, arith, sym, append-nil, no_rounds, round_more, rounds_short, rounds_within, round_fits}
+use Rattle.job_text.proofs.Lemmas.{common_steps, arith, sym, append-nil, round_more, rounds_short, rounds_within, round_fits}
+use Rattle.job_text.proofs.Common.{rounds_of}
 use Rattle.job_text.proofs.reader.drain.Goals as goal
 
 pub loop-round-init : goal.loop-round-init
-loop-round-init c = rw (no_rounds c.args.limit c.args.last) (sym (append-nil c.args.events.now.items))
+unfolding rounds_of
+loop-round-init c = sym (append-nil c.args.events.now.items)
 
 pub loop-round-preserved : goal.loop-round-preserved
 loop-round-preserved c =

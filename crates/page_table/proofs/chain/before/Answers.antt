@@ -1,5 +1,5 @@
 use Rattle.page_table.proofs.Common.{ℕ, ◌-◌, ◌+◌, List, length, sym, ◌∙◌, ap, before_in, arith, nat_tests}
-use Rattle.page_table.proofs.WalkLemmas.{walked-none, walked-one, ends-one, before-here, before-later, before-lead, same-option, other-option}
+use Rattle.page_table.proofs.ApartLemmas.{walked-none, walked-one, ends-one, before-here, before-later, before-lead, same-option, other-option}
 use Rattle.page_table.proofs.chain.before.Goals as goal
 
 pub returns-in_err-at : goal.returns-in_err-at

@@ -1,5 +1,5 @@
 use Rattle.page_table.proofs.Common.{find, holds, key_in, chain_from, following, nat_tests, ℕ, ◌-◌, ◌+◌, length, sym, ◌∙◌, ap, cond, Some, refl, arith}
-use Rattle.page_table.proofs.WalkLemmas.{walked-none, walked-one}
+use Rattle.page_table.proofs.ApartLemmas.{walked-none, walked-one}
 use Rattle.page_table.proofs.chain.find_along.Goals as goal
 
 pub returns-in_err-frame : goal.returns-in_err-frame

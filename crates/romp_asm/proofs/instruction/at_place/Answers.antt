@@ -1,4 +1,4 @@
-use Rattle.romp_asm.proofs.Lemmas.{refl, sym, ap, ◌∙◌, arith, Use, legal_S, legal_D, shape_of, scale_some}
+use Rattle.romp_asm.proofs.Lemmas.{arith, nat_tests, sym, ◌∙◌, scale_some, legal}
 use Rattle.romp_asm.proofs.instruction.at_place.Goals as goal
 
 pub short_field-requires : goal.short_field-requires
@@ -6,8 +6,8 @@ short_field-requires c = scale_some c.args.op _ (sym c.in-Short.is ∙ c.require
 
 pub returns-in_ok-c-in-Short-clause-legal : goal.returns-in_ok-c-in-Short-clause-legal
 returns-in_ok-c-in-Short-clause-legal c =
-    legal_S c.args.op c.args.form c.in-Short.scale _ _ _ c.requires c.in-Short.is c.in_ok-k-in-Short.ensures.small (omega (arith, c.in_ok-b-in-Short.ensures.small)) (omega (arith, c.in_ok-c-in-Short.ensures.small))
+    legal _ c.args.form c.requires (grind arith) (λ row told. grind (arith, nat_tests, c.in-Short.is))
 
 pub returns-in_ok-c-in-Long-clause-legal : goal.returns-in_ok-c-in-Long-clause-legal
 returns-in_ok-c-in-Long-clause-legal c =
-    legal_D c.args.op c.args.form _ _ _ Use.Any Use.Any c.requires (ap shape_of c.in-Long.is) refl refl (omega (arith, c.in_ok-b-in-Long.ensures.small)) (omega (arith, c.in_ok-c-in-Long.ensures.small)) (omega arith)
+    legal _ c.args.form c.requires (grind arith) (λ row told. grind (arith, nat_tests, c.in-Long.is))

@@ -1,10 +1,10 @@
-use Rattle.romp_asm.proofs.Lemmas.{refl, ap, arith, Use, legal_D, shape_of}
+use Rattle.romp_asm.proofs.Lemmas.{arith, nat_tests, legal}
 use Rattle.romp_asm.proofs.instruction.immediate.Goals as goal
 
 pub returns-in_ok-i-in-Signed-clause-legal : goal.returns-in_ok-i-in-Signed-clause-legal
 returns-in_ok-i-in-Signed-clause-legal c =
-    legal_D c.args.op c.args.form _ _ _ Use.Any Use.Any c.requires (ap shape_of c.in-Signed.is) refl refl (omega (arith, c.in_ok-b-in-Signed.ensures.small)) (omega (arith, c.in_ok-c-in-Signed.ensures.small)) (omega arith)
+    legal _ c.args.form c.requires (grind arith) (λ row told. grind (arith, nat_tests, c.in-Signed.is))
 
 pub returns-in_ok-i-in-Unsigned-clause-legal : goal.returns-in_ok-i-in-Unsigned-clause-legal
 returns-in_ok-i-in-Unsigned-clause-legal c =
-    legal_D c.args.op c.args.form _ _ _ Use.Any Use.Any c.requires (ap shape_of c.in-Unsigned.is) refl refl (omega (arith, c.in_ok-b-in-Unsigned.ensures.small)) (omega (arith, c.in_ok-c-in-Unsigned.ensures.small)) (omega (arith, c.in_ok-i-in-Unsigned.ensures.small))
+    legal _ c.args.form c.requires (grind arith) (λ row told. grind (arith, nat_tests, c.in-Unsigned.is))

@@ -1,8 +1,8 @@
-use Rattle.romp_asm.proofs.Lemmas.{◌≡◌, get_or, sym, ap, ◌∙◌, err_from_is_err_and, stated, source_fault, source_laid, source_more, source_start}
+use Rattle.romp_asm.proofs.Lemmas.{◌≡◌, append-nil, get_or, sym, ap, ◌∙◌, err_from_is_err_and, stated, source_fault, source_laid, source_more}
 use Rattle.romp_asm.proofs.layout.add_text.Goals as goal
 
 pub loop-index-init : goal.loop-index-init
-loop-index-init c all before rest named are to = source_start all before rest named c.args.output.now to
+loop-index-init c all before rest named are to = rw append-nil to
 
 pub loop-index-preserved : goal.loop-index-preserved
 loop-index-preserved c all before rest named are to =

@@ -1,10 +1,10 @@
-use Rattle.romp_asm.proofs.Lemmas.{List, [], ◌++◌, append-nil, refl, sym, subst, err_from_is_err_and, Statement, LaidTo, laid_all, laid_none, text_as_itself}
+use Rattle.romp_asm.proofs.Lemmas.{[], ◌++◌, append-nil, refl, err_from_is_err_and, LaidTo, laid_all, laid_none, text_as_itself}
 use Rattle.romp_asm.proofs.layout.assemble.Goals as goal
 use Rattle.romp_asm.proofs.layout.assemble.Goals.{After-add_text}
 
 start : (c : goal.After-add_text) → LaidTo c.args.statements.now [] (c.args.statements.now ++ []) c.new-output.result
 start c =
-    subst (λ (these : List Statement). LaidTo c.args.statements.now [] these c.new-output.result) (sym (append-nil c.args.statements.now))
+    rw append-nil
     (laid_none c.args.statements.now c.new-output.result c.new-output.ensures.image c.new-output.ensures.entry c.new-output.ensures.windows)
 
 pub returns-in_err-add_text : goal.returns-in_err-add_text

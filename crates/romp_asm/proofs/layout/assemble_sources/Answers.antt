@@ -1,5 +1,5 @@
-use Rattle.romp_asm.proofs.Lemmas.{laid_all, laid_none, alone_of, joined-all, joined-none, laid_to, left_from, reads_source}
-use Rattle.romp_asm.proofs.Common.{◌≡◌, ◌+◌, List, [], ◌++◌, map, take, drop, get_or, sym, subst, ◌∙◌, err_from_is_err_and, get_or_default, Statement, Table, found_in, AreTables, LaidTo, joined_from, named}
+use Rattle.romp_asm.proofs.Lemmas.{laid_all, laid_none, alone_of, laid_to, left_from, reads_source}
+use Rattle.romp_asm.proofs.Common.{◌≡◌, ◌+◌, [], ◌++◌, map, take, drop, get_or, sym, ◌∙◌, err_from_is_err_and, drop_all, get_or_default, take_all, found_in, AreTables, LaidTo, joined_from, named}
 use Rattle.romp_asm.proofs.layout.assemble_sources.Goals as goal
 use Rattle.romp_asm.proofs.layout.assemble_sources.Goals.{After-index-tables-source}
 
@@ -13,7 +13,7 @@ source_is : (c : goal.After-index-tables-source) → get_or c.args.sources.now c
 source_is c = sym (c.index-sources-source.is ∙ get_or_default c.args.sources.now c.loop-source.source c.index-sources-source.result [] c.loop-source-test.true)
 
 tables_are : (c : goal.After-index-tables-source) → AreTables c.as_slice-tables.result.now c.args.sources.now
-tables_are c = subst (λ (these : List Table). AreTables these c.args.sources.now) (sym c.as_slice-tables.ensures.value) c.in_ok-kept.ensures
+tables_are c = rw c.as_slice-tables.ensures.value c.in_ok-kept.ensures
 
 pub add_source-requires : goal.add_source-requires
 add_source-requires c =
@@ -24,11 +24,8 @@ add_source-requires c =
 to_source : (c : goal.After-index-tables-source) → (let giver = found_in c.args.givers.now in let here = c.index-sources-source.result in let all = joined_from giver 0 c.args.sources.now in let i = c.loop-source.source in
     LaidTo all (joined_from giver 0 (take i c.args.sources.now)) (map (named giver i here) here ++ joined_from giver (i + 1) (drop (i + 1) c.args.sources.now)) c.loop-source.output)
 to_source c =
-    let giver = found_in c.args.givers.now in
-    let sources = c.args.sources.now in
-    let i = c.loop-source.source in
-    subst (λ (these : List Statement). LaidTo (joined_from giver 0 sources) (joined_from giver 0 (take i sources)) these c.loop-source.output)
-    (left_from giver sources i c.index-sources-source.result c.loop-source-test.true (source_is c)) c.loop-source.invariant
+    rw
+    (left_from _ c.args.sources.now c.loop-source.source c.index-sources-source.result c.loop-source-test.true (source_is c)) at c.loop-source.invariant
 
 pub loop-source-preserved : goal.loop-source-preserved
 loop-source-preserved c =
@@ -40,7 +37,7 @@ loop-source-preserved c =
     let is = source_is at.After-index-tables-source in
     let laid = c.in_ok-add_source.ensures (joined_from giver 0 sources) (joined_from giver 0 (take i sources)) (joined_from giver (i + 1) (drop (i + 1) sources)) (map (named giver i here) here)
     (reads_source _ sources i here c.loop-source-test.true is (tables_are at.After-index-tables-source) c.index-tables-source.is) (to_source at.After-index-tables-source) in
-    subst (λ (these : List Statement). LaidTo (joined_from giver 0 sources) these (joined_from giver (i + 1) (drop (i + 1) sources)) c.add_source.new.output) (laid_to giver sources i here c.loop-source-test.true is) laid
+    rw (laid_to giver sources i here c.loop-source-test.true is) at laid
 
 pub returns-in_err-add_source : goal.returns-in_err-add_source
 returns-in_err-add_source c =
@@ -56,12 +53,8 @@ returns-in_err-add_source c =
     (reads_source _ sources i here c.loop-source-test.true is (tables_are at.After-index-tables-source) c.index-tables-source.is) (to_source at.After-index-tables-source))
 
 pub returns : goal.returns
+unfolding joined_from
 returns c =
-    let giver = found_in c.args.givers.now in
     let sources = c.args.sources.now in
     let i = c.loop-source.source in
-    let all = joined_from giver 0 sources in
-    laid_all all c.loop-source.output c.finish.result
-    (subst (λ (these : List Statement). LaidTo all these [] c.loop-source.output) (joined-all giver sources i c.loop-source-test.false)
-    (subst (λ (these : List Statement). LaidTo all (joined_from giver 0 (take i sources)) these c.loop-source.output) (joined-none giver sources i c.loop-source-test.false) c.loop-source.invariant))
-    c.finish.ensures.image c.finish.ensures.entry c.finish.ensures.windows
+    laid_all _ c.loop-source.output c.finish.result (rw (take_all i sources c.loop-source-test.false, drop_all i sources c.loop-source-test.false) at c.loop-source.invariant) c.finish.ensures.image c.finish.ensures.entry c.finish.ensures.windows

@@ -1,7 +1,6 @@
 use Rattle.schedule_replay.proofs.Lemmas.{◌≡◌, [], map, refl, rules, arith, ap, true, Ok, false, is_closed, puts_broken, puts_well, answered_on, answered_puts, goes_since, Laws, names_are, if_ok_broken, reports_unopened, some_ran, reports_stopped, reports_shut, reports_ended}
 use Rattle.schedule_replay.specs.declared.events.Going.TheVariants as going
-use Rattle.schedule_replay.proofs.ReportLemmas.{not_on_closed}
-use Rattle.schedule_replay.proofs.ToldLemmas.{some_broken, told_ended, told_stopped, told_unopened}
+use Rattle.schedule_replay.proofs.ReportLemmas.{not_on_closed, some_broken, told_ended, told_stopped, told_unopened}
 use Rattle.schedule_replay.proofs.events.put_report.Given as given
 use Rattle.schedule_replay.proofs.events.put_report.Goals as goal
 

@@ -1,5 +1,5 @@
-use Rattle.seats.proofs.Common.{if◌then◌else◌, Result, Ok, Err, is_ok, IsOk, insert, IsPermutation, Ascend, ◌≡◌, ◌<◌, ◌≤◌, ℕ, List, ◌∷◌, [], ◌++◌, Bool, length, sym, ap, subst, arith, get_or}
-use Rattle.seats.proofs.OrderLemmas.{ascend-insert, insert-moves}
+use Rattle.seats.proofs.Common.{if◌then◌else◌, Result, Ok, Err, is_ok, IsOk, insert, Ascend, ◌≡◌, ◌<◌, ◌≤◌, ℕ, List, length, sym, ap, subst, arith, get_or, common_steps}
+use Rattle.seats.proofs.ListedLemmas.{ascend-insert, insert-moves}
 use Rattle.seats.proofs.seat_lines.list_if.Goals as goal
 
 at_ok : {T E : Type 0} (result : Result T E) (list inserted left : List ℕ) → IsOk result → list ≡ (if is_ok result then inserted else left) → list ≡ inserted
@@ -11,10 +11,7 @@ listed : (c : goal.After-insert-room) → c.insert-room.new.self.items ≡ inser
 listed c = at_ok c.insert-room.result _ _ _ (c.insert-room.ensures.succeeds (c.requires.room c.if-is_first.true)) c.insert-room.ensures.items
 
 pub returns-then-is_first-clause-listed : goal.returns-then-is_first-clause-listed
-returns-then-is_first-clause-listed c =
-    subst (IsPermutation (if c.args.is_first then c.args.list.now.items ++ c.args.page ∷ [] else c.args.list.now.items)) (sym (listed c))
-    (subst (λ (first : Bool). IsPermutation (if first then c.args.list.now.items ++ c.args.page ∷ [] else c.args.list.now.items) (insert c.args.list.now.items c.place_of-at.result c.args.page)) (sym c.if-is_first.true)
-    (insert-moves c.args.list.now.items c.place_of-at.result c.args.page))
+returns-then-is_first-clause-listed c = grind (arith, common_steps, listed, insert-moves)
 
 pub returns-then-is_first-clause-ascending : goal.returns-then-is_first-clause-ascending
 returns-then-is_first-clause-ascending c =

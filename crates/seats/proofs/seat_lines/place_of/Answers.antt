@@ -1,4 +1,4 @@
-use Rattle.seats.proofs.OrderLemmas.{found-before, found-behind, missed-before, missed-behind}
+use Rattle.seats.proofs.ListedLemmas.{found-before, found-behind, missed-before, missed-behind}
 use Rattle.seats.proofs.seat_lines.place_of.Goals as goal
 
 pub returns-in-Ok-clause-before : goal.returns-in-Ok-clause-before

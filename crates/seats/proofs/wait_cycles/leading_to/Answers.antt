@@ -1,5 +1,5 @@
 use Rattle.seats.proofs.Common.{◌≡◌, ◌≤◌, ◌+◌, ◌-◌, ◌&&◌, ℕ, Bool, List, nat_lt, length, arith, ap, ◌∙◌, refl, leads, is_on, waits_in, places_of}
-use Rattle.seats.proofs.Walk.{Leading, leads-more, leads-still}
+use Rattle.seats.proofs.RowBits.{Leading, leads-more, leads-still}
 use Rattle.seats.proofs.wait_cycles.leading_to.Goals as goal
 
 pub loop-step-preserved : goal.loop-step-preserved

@@ -1,4 +1,4 @@
-use Rattle.frame_pool.proofs.Lemmas.{◌≡◌, ℕ, ◌+◌, ◌*◌, sym, ◌∙◌, ap, arith, slice_range, slice_index, unwrap_or, Option, get_or_read_under, page_bytes, left, frame_of_index, places_of, frame_at, gone, paging_after, pool_of, nat_tests, common_steps, frame-at_index, frame-within, frame-part, kept-after_by, left-gone}
+use Rattle.frame_pool.proofs.Lemmas.{◌≡◌, ℕ, ◌+◌, ◌*◌, sym, ◌∙◌, ap, arith, slice_range, slice_index, unwrap_or, Option, get_or_read_under, page_bytes, left, frame_of_index, places_of, frame_at, gone, paging_after, pool_of, nat_tests, common_steps, frame-at_index, frame_within, frame-part, kept-after_by, left-gone}
 use Rattle.frame_pool.proofs.pool.FramePool.leave.Goals.{After-unwrap_or-frame}
 use Rattle.frame_pool.proofs.pool.FramePool.leave.Goals as goal
 
@@ -10,7 +10,7 @@ frame_is : (c : After-unwrap_or-frame) → c.unwrap_or-frame.result ≡ unwrap_o
 frame_is c = c.unwrap_or-frame.ensures ∙ ap (λ (o : Option ℕ). unwrap_or o 0) c.frame_of.ensures
 
 pub part-requires : goal.part-requires
-part-requires c = grind (arith, nat_tests, frame-at_index, page_is, frame_is, frame-part, frame-within)
+part-requires c = grind (arith, nat_tests, frame-at_index, page_is, frame_is, frame-part, frame_within)
 
 pub returns-clause-value : goal.returns-clause-value
 returns-clause-value c =
@@ -44,6 +44,3 @@ keep_over-requires c = grind (arith, common_steps)
 
 pub returns-clause-page : goal.returns-clause-page
 returns-clause-page c = grind (arith, common_steps)
-
-pub invariant_of-self-2 : goal.invariant_of-self-2
-invariant_of-self-2 c = grind (arith, common_steps)

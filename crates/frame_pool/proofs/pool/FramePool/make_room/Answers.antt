@@ -17,6 +17,3 @@ returns-in-None-clause-value c =
 
 pub returns-in-None-clause-room : goal.returns-in-None-clause-room
 returns-in-None-clause-room c = none-room c.args.self.now.places c.args.keep (sym c.index_out.ensures ∙ c.in-None.is)
-
-pub returns-in-Some-clause-room : goal.returns-in-Some-clause-room
-returns-in-Some-clause-room c = grind (arith, nat_tests)

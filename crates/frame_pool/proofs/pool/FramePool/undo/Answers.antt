@@ -11,6 +11,3 @@ returns-in-Some c =
 
 pub returns-in_default : goal.returns-in_default
 returns-in_default c = grind (arith, nat_tests, gone-none, not-resident)
-
-pub leave-requires : goal.leave-requires
-leave-requires c = grind (arith, nat_tests)

@@ -1,5 +1,5 @@
 use Rattle.page_table.proofs.Common.{◌≡◌, ℕ, ◌<◌, List, length, sym, ◌∙◌, ap, arith, vec_len, Some, Option, None, slice_set, get_or_read_under, Placed, key_in, hash_of, following, chain_of, before_in, IsChained, Key, common_steps, nat_tests}
-use Rattle.page_table.proofs.LeaveLemmas.{found-before, before-below, leave-first, leave-behind}
+use Rattle.page_table.proofs.EnterLemmas.{found-before, before-below, leave-first, leave-behind}
 use Rattle.page_table.proofs.inverted_table.Table.leave.Goals as goal
 use Rattle.page_table.proofs.inverted_table.Table.leave.Goals.{in-Some-before, in-None}
 

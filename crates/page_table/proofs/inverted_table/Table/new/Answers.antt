@@ -1,5 +1,5 @@
 use Rattle.page_table.proofs.Common.{ℕ, ◌∙◌, ap, None, Key, replicate, Option}
-use Rattle.page_table.proofs.FreshLemmas.{chained-fresh_by}
+use Rattle.page_table.proofs.EnterLemmas.{chained-fresh_by}
 use Rattle.page_table.proofs.inverted_table.Table.new.Goals as goal
 
 pub invariant_of-result : goal.invariant_of-result

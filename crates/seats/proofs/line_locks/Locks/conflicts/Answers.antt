@@ -1,5 +1,5 @@
 use Rattle.seats.proofs.Common.{◌∙◌, sym, is_in_conflict}
-use Rattle.seats.proofs.SeatLemmas.{seats-start, seat-on, seat-off}
+use Rattle.seats.proofs.RowBits.{seats-start, seat-on, seat-off}
 use Rattle.seats.proofs.line_locks.Locks.conflicts.Goals.{then-is_in_conflict, else-is_in_conflict}
 use Rattle.seats.proofs.line_locks.Locks.conflicts.Goals as goal
 

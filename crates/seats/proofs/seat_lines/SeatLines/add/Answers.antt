@@ -1,6 +1,5 @@
-use Rattle.seats.proofs.Common.{if◌then◌else◌, slice_set, IsPermutation, and_parts, not-true, sum_by-set, get_or-le-sum_by, All-set, get_or_default, length-set, nothing, of_page, holds_some, IsCounted, ◌≡◌, ◌<◌, ◌≤◌, ◌&&◌, ℕ, false, not, List, [], ◌∷◌, ◌++◌, length, true, refl, arith, ap, sym, ◌∙◌, subst}
-use Rattle.seats.proofs.ListedLemmas.{room, some-more, listed-next}
-use Rattle.seats.proofs.OrderLemmas.{listed-moved}
+use Rattle.seats.proofs.Common.{if◌then◌else◌, slice_set, IsPermutation, and_parts, not-true, sum_by-set, get_or-le-sum_by, All-set, get_or_default, length-set, nothing, of_page, holds_some, IsCounted, ◌≡◌, ◌<◌, ◌≤◌, ◌&&◌, ℕ, false, not, List, [], ◌∷◌, ◌++◌, length, true, refl, arith, ap, sym, ◌∙◌, subst, common_steps}
+use Rattle.seats.proofs.ListedLemmas.{room, some-more, listed-next, listed-moved}
 use Rattle.seats.proofs.seat_lines.SeatLines.add.Goals as goal
 
 below : (c : goal.After-list_if-arg-1) → c.from-page.result < length c.self.inside.pages.items
@@ -20,8 +19,7 @@ list_if-requires-clause-room c =
     omega (arith, less, c.self.invariant.2, c.self.inside.held.ok)
 
 pub list_if-requires-clause-absent : goal.list_if-requires-clause-absent
-list_if-requires-clause-absent c =
-    λ first. c.self.invariant.1.each c.args.want.now.page ∙ ap (λ (page : ℕ). holds_some (of_page c.self.inside.pages.items page)) (sym c.from-page.ensures) ∙ before c first
+list_if-requires-clause-absent c = grind (arith, common_steps, before)
 
 pub list_if-requires-clause-ascending : goal.list_if-requires-clause-ascending
 list_if-requires-clause-ascending c = c.self.invariant.3

@@ -1,5 +1,5 @@
 use Rattle.seats.proofs.Lemmas.{take_more, map-append, waits_in, Seating, number_in, seat_waits, seat_at, cycle_of, nat_tests, common_steps, ◌≡◌, ◌<◌, ℕ, List, [], ◌∷◌, ◌++◌, Some, map, take, length, get_or, take_all, arith, ap, sym, subst, ◌∙◌, has-at}
-use Rattle.seats.proofs.Places.{cycle-numbered, cycle-none, member-below}
+use Rattle.seats.proofs.Numbers.{cycle-numbered, cycle-none, member-below}
 use Rattle.seats.proofs.seats.Seats.cycle_from.Goals as goal
 
 -- rows of waits among the taken seats

@@ -1,4 +1,4 @@
-use Rattle.seats.proofs.Lemmas.{ArrayVec, map-append, filter_more, Holding, is_in_conflict, number_in, nat_tests, ◌≡◌, ◌+◌, ◌<◌, ℕ, Bool, true, false, cond, List, [], ◌∷◌, ◌++◌, length, map, filter, take, get_or, append-nil, arith, ap, sym, ◌∙◌, few-taken}
+use Rattle.seats.proofs.Lemmas.{ArrayVec, map-append, filter_more, Holding, is_in_conflict, number_in, nat_tests, ◌≡◌, ◌+◌, ◌<◌, ℕ, Bool, true, false, cond, List, [], ◌∷◌, ◌++◌, length, map, filter, take, get_or, append-nil, arith, ap, sym, ◌∙◌, few-taken, common_steps}
 use Rattle.seats.proofs.seats.Seats.holders.Goals as goal
 use Rattle.seats.proofs.seats.Seats.holders.Goals.{then-is_in_conflict, else-is_in_conflict}
 
@@ -8,9 +8,7 @@ push-requires c = grind (arith, nat_tests, few-taken)
 -- one more is looked at
 one-more : (p : ℕ → Bool) (number : ℕ → ℕ) (seats : List ℕ) (k : ℕ) (here : Bool) → k < length seats → p (get_or seats k 0) ≡ here
     → map number (filter p (take (k + 1) seats)) ≡ map number (filter p (take k seats)) ++ map number (cond here (get_or seats k 0 ∷ []) [])
-one-more p number seats k here within is =
-    ap (map number) (filter_more p seats k 0 within ∙ ap (λ (b : Bool). filter p (take k seats) ++ cond b (get_or seats k 0 ∷ []) []) is)
-    ∙ map-append number (filter p (take k seats)) (cond here (get_or seats k 0 ∷ []) [])
+one-more p number seats k here within is = grind (arith, common_steps, filter_more, map-append)
 
 pub loop-other-preserved : goal.loop-other-preserved
 loop-other-preserved c =

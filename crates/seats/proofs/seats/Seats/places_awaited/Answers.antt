@@ -1,9 +1,6 @@
 use Rattle.seats.proofs.Common.{le-ltb, nat_tests, arith}
-use Rattle.seats.proofs.Bits.{all-on}
+use Rattle.seats.proofs.RowBits.{all-on}
 use Rattle.seats.proofs.seats.Seats.places_awaited.Goals as goal
-
-pub conflicts-requires : goal.conflicts-requires
-conflicts-requires c = grind (arith, nat_tests)
 
 pub returns-in-Some : goal.returns-in-Some
 returns-in-Some c = λ place below. grind (arith, nat_tests, all-on, le-ltb, c.locks.ensures, c.places_of.ensures)

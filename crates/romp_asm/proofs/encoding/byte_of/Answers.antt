@@ -1,5 +1,0 @@
-use Rattle.romp_asm.proofs.Common.{arith}
-use Rattle.romp_asm.proofs.encoding.byte_of.Goals as goal
-
-pub overflow_cast-result : goal.overflow_cast-result
-overflow_cast-result c = grind arith
