@@ -2,7 +2,8 @@
 use Rattle.std.specs.Prelude.{◌≡◌, ℕ, ◌+◌, ◌≤◌, false, List, [], length, take, count_by, All, Option, None, Some, Result, Ok, IsTrue}
 use Rattle.file_runs.specs.Below.{begun, ByOpening, content_of, Deed, Event, event_lines, Failed, FlatStore, Given, images_at, is_write, IsFaultAt, IsRunOf, IsSerial, IsWhole, Job, job_desk, job_of, marks_of, names_of, printed_of, Prints, put_by, report, run, Session, Stands, stands, Status, Synced, Tore, Unsynced, Word, Wrote}
 use Rattle.outside.specs.declared.world.Outside.{Ghosts}
-use Rattle.outside.specs.Clock.{shown_by, LeftAt}
+use Rattle.outside.specs.Clock.{shown_by}
+use Rattle.real_files.specs.Shown.{LeftBy}
 use Rattle.outside.specs.Moments.{Moment}
 use Rattle.outside.specs.Runs.{Leaves}
 use Rattle.desk.specs.Kept.{KeepsJournal, journal_in}
@@ -118,5 +119,5 @@ pub record AreBehind {W : Type 0} (G : Ghosts W) (before after : W) (first : Lis
   pub calls : (G.moment after).calls ≡ length deeds
   pub unwritten : G.writes before ≡ Some 0
   pub writes : G.writes after ≡ Some (count_by is_write deeds)
-  pub since : (t : Moment) (image seen : List ℕ) → LeftAt (length deeds) (images_at first deeds) (marks_of 0 puts) (printed_of puts) t image seen → G.left_since after t image seen
+  pub since : (t : Moment) (image seen : List ℕ) → LeftBy first deeds puts t image seen → G.left_since after t image seen
   pub now : (image : List ℕ) → images_at first deeds (length deeds) image → (seen : List ℕ) × G.left_since after (G.moment after) image seen

@@ -7,9 +7,7 @@ use Rattle.frame_pool.proofs.SeenLemmas.{pool-seen}
 
 -- nothing written over a list
 overlaid-none : {X : Type 0} (xs : List X) (at : ℕ) → overlaid xs at [] ≡ xs
-overlaid-none {X = X} xs at =
-    let same : at + 0 ≡ at = omega arith in
-    rw (append-nil, same) (take-append-drop at xs)
+overlaid-none {X = X} xs at = grind (arith, nat_tests, append-nil, take-append-drop)
 
 -- two parts written end to end are one
 pub overlaid-joined :

@@ -1,5 +1,5 @@
 -- What a step of the pool needs and leaves.
-use Rattle.frame_pool.proofs.Common.{◌≡◌, ℕ, zero, suc, ◌+◌, ◌*◌, ◌<◌, ◌≤◌, Bool, true, false, List, [], ◌∷◌, length, refl, sym, ap, arith, Some, None, All, vec_len, ◌==◌, not, nat_lt, position, find, remove, IfSome, slice_index, slice_set, if◌then◌else◌, Option, unwrap_or, option_to_list, prefix_len, list_any, option_map_or, overlaid, nat_tests, All-from_get_or, position-Some, page_bytes, IsOfPage, has, first_out, taken_out, FramePool, Pool, private_frames, frame_count, Places, left, index_out, CameIn, places_of, is_apart, frame_at, page_at, marks_at, frame_bytes, paging_after, gone, page_out, with_room, Brought, emptied, pool_of}
+use Rattle.frame_pool.proofs.Common.{◌≡◌, ℕ, zero, suc, ◌+◌, ◌*◌, ◌<◌, ◌≤◌, Bool, true, false, List, [], ◌∷◌, length, refl, arith, Some, None, All, vec_len, ◌==◌, not, nat_lt, position, find, remove, IfSome, slice_index, slice_set, if◌then◌else◌, Option, unwrap_or, option_to_list, prefix_len, list_any, overlaid, nat_tests, All-from_get_or, position-Some, page_bytes, IsOfPage, has, first_out, taken_out, FramePool, Pool, private_frames, frame_count, Places, left, index_out, CameIn, places_of, is_apart, frame_at, page_at, marks_at, frame_bytes, paging_after, gone, page_out, with_room, Brought, emptied, pool_of}
 use Rattle.lines.proofs.LineSetLemmas.{of_page-below}
 use Rattle.frame_pool.proofs.SoundLemmas.{first-apart, has-at, has-push_last, resident-in_frame, page-within, frame-of_store, page_part, none-room, index-out_below}
 
@@ -22,13 +22,10 @@ absent-taken : (x : ℕ) (xs : List ℕ) → has xs x ≡ false → taken_out (x
 absent-taken x [] absent = refl
 absent-taken x (y ∷ ys) absent = grind (arith, nat_tests, absent-taken x ys)
 
-equal : (n : ℕ) → (n == n) ≡ true
-equal n = grind arith
-
 -- what is removed of a list in which no number stands twice is taken out of it
 pub removed-taken : (xs : List ℕ) (i : ℕ) → is_apart xs ≡ true → i < length xs → remove xs i ≡ taken_out (slice_index xs i ∷ []) xs
 removed-taken [] i apart below = absurd (omega arith)
-removed-taken (x ∷ xs) zero apart below = grind (arith, nat_tests, equal, absent-taken, first-apart)
+removed-taken (x ∷ xs) zero apart below = grind (arith, nat_tests, absent-taken, first-apart)
 removed-taken (x ∷ xs) (suc i) apart below =
     grind (arith, nat_tests, first-apart x xs apart, has-at xs i, removed-taken xs i)
 
@@ -97,22 +94,12 @@ find-first test (x ∷ xs) (suc i) below passes before =
 pub find-position : (test : ℕ → Bool) (xs : List ℕ) (i : ℕ) → position test xs ≡ Some i → find test xs ≡ Some (slice_index xs i)
 find-position test xs i is = let told = position-Some test xs i 0 is in find-first test xs i told.0 told.1 told.2
 
-ltb-of : (a b : ℕ) → a < b → nat_lt a b ≡ true
-ltb-of a b below = grind (arith, nat_tests)
-
 -- the page that goes out, by its index
 pub out-some : (p : FramePool) (keep : Option ℕ) (index : ℕ) → index_out (places_of p.places) keep ≡ Some index → page_out (pool_of p) keep ≡ Some (slice_index p.places.resident.items index)
 out-some p keep index is = grind (arith, nat_tests, find-position)
 
 pub out-none : (p : FramePool) (keep : Option ℕ) → index_out (places_of p.places) keep ≡ None → page_out (pool_of p) keep ≡ None
-out-none p keep is = grind (arith, nat_tests, none-room, ltb-of)
-
--- the pool with room
-pub room-some : (pool : Pool) (keep : Option ℕ) (page : ℕ) → page_out pool keep ≡ Some page → gone pool page ≡ with_room pool keep
-room-some pool keep page is = sym (ap (λ (o : Option ℕ). option_map_or (gone pool) o pool) is)
-
-pub room-none : (pool : Pool) (keep : Option ℕ) → page_out pool keep ≡ None → pool ≡ with_room pool keep
-room-none pool keep is = sym (ap (λ (o : Option ℕ). option_map_or (gone pool) o pool) is)
+out-none p keep is = grind (arith, nat_tests, none-room)
 
 split : (xs : List ℕ) → 0 < length xs → (rest : List ℕ) × (xs ≡ slice_index xs 0 ∷ rest)
 split [] some = absurd (omega arith)
@@ -131,13 +118,6 @@ pub kept-after_by :
     → part ≡ frame_bytes (pool_of p) frame → kept ≡ (if length marks == 0 then p.kept else overlaid p.kept at part) → kept ≡ paging_after (pool_of p) page frame
 kept-after_by p page frame at marks part kept marked place bytes is = grind (arith, nat_tests)
 
--- the sizes of a pool stay where a page leaves
-gone-sizes : (pool : Pool) (page : ℕ) → ((gone pool page).page ≡ pool.page) × ((gone pool page).frames ≡ pool.frames)
-gone-sizes pool page = grind (arith, nat_tests)
-
-room-sizes : (pool : Pool) (keep : Option ℕ) → ((with_room pool keep).page ≡ pool.page) × ((with_room pool keep).frames ≡ pool.frames)
-room-sizes pool keep = grind (arith, nat_tests, gone-sizes)
-
 -- the resident pages when one has gone out for another
 room-resident :
     (p : FramePool) (keep : Option ℕ)
@@ -154,7 +134,8 @@ room-resident p keep =
 pub came-brought :
     (old mid : FramePool) (keep : Option ℕ) (page frame : ℕ) (after : Places) → pool_of mid ≡ with_room (pool_of old) keep
     → CameIn (places_of mid.places) after page frame → Brought (pool_of old) (shown after mid.bytes.items.items mid.marked.items mid.kept) page keep frame
-came-brought old mid keep page frame after room came = grind (arith, nat_tests, has-push_last after.free frame, room-sizes (pool_of old) keep, room-resident old keep)
+came-brought old mid keep page frame after room came =
+    grind (arith, nat_tests, has-push_last after.free frame, room-resident old keep)
 
 -- the frame of a page is one of the store
 pub some_above : (p : FramePool) (page : ℕ) (o : Option ℕ) → o ≡ frame_at (pool_of p) page

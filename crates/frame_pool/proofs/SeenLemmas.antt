@@ -10,13 +10,9 @@ pool-seen p = grind (arith, nat_tests)
 pub some-within : (xs : List (Option ℕ)) (at value : ℕ) → slice_index_or xs at None ≡ Some value → at < length xs
 some-within xs at value is = grind (arith, nat_tests, get_or_past)
 
--- a place of a list after another was set to nothing
-pub none-set : (xs : List (Option ℕ)) (at other : ℕ) → slice_index_or (slice_set xs at None) other None ≡ (if at == other then None else slice_index_or xs other None)
-none-set xs at other = grind (arith, nat_tests, get_or-set_other xs, get_or-set_same xs, get_or_past (slice_set xs at None), length-set xs)
-
 -- the frame of each page after one left
 pub gone-frame : (pool : Pool) (page other : ℕ) → frame_at (gone pool page) other ≡ (if page == other then None else frame_at pool other)
-gone-frame pool page other = grind (arith, nat_tests, none-set pool.frame_of page other)
+gone-frame pool page other = grind (arith, nat_tests, get_or-set_other, get_or-set_same, get_or_past, length-set)
 
 -- what stays where a page leaves
 pub record Stays (old new : Pool) : Type 0 where
@@ -56,14 +52,15 @@ module _ (pool : Pool) (seen : IsSeen pool) (page frame : ℕ) (there : frame_at
       grind (arith, nat_tests, length-overlaid pool.kept (page * page_bytes pool.page) (frame_bytes pool frame) fits)
 
   resident-left : (p : ℕ) → has (taken_out (page ∷ []) pool.resident) p ≡ is_some (slice_index_or (slice_set pool.frame_of page None) p None)
-  resident-left p = grind (arith, nat_tests, has-filter, none-set)
+  resident-left p = grind (arith, nat_tests, has-filter, get_or-set_other, get_or-set_same, get_or_past, length-set)
 
   -- what stands somewhere after it stood there before
   before : (xs : List (Option ℕ)) (at other value : ℕ) → slice_index_or (slice_set xs at None) other None ≡ Some value → (at ≢ other) × (slice_index_or xs other None ≡ Some value)
-  before xs at other value is = grind (arith, nat_tests, none-set xs)
+  before xs at other value is = grind (arith, nat_tests, get_or-set_other, get_or-set_same, get_or_past, length-set)
 
   after : (xs : List (Option ℕ)) (at other value : ℕ) → at ≢ other → slice_index_or xs other None ≡ Some value → slice_index_or (slice_set xs at None) other None ≡ Some value
-  after xs at other value apart is = grind (arith, nat_tests, none-set xs)
+  after xs at other value apart is =
+      grind (arith, nat_tests, get_or-set_other, get_or-set_same, get_or_past, length-set)
 
   one : (a b : ℕ) → Some a ≡ Some b → a ≡ b
   one a b same = cc

@@ -1,5 +1,5 @@
 -- A pool's pages agree after a page left its frame, and after one came into a frame; and what such a step needs.
-use Rattle.frame_pool.proofs.Common.{◌≡◌, ℕ, zero, suc, ◌+◌, ◌*◌, ◌<◌, ◌≤◌, Bool, true, false, List, [], ◌∷◌, ◌++◌, length, refl, sym, ◌∙◌, ap, arith, Some, None, ◌==◌, remove, replicate, slice_index, slice_index_or, slice_set, Option, is_some, unwrap_or, range_with_len, cases_eq, nat_tests, length-set, length-append, get_or-set_same, get_or-set_other, length-replicate, get_or-replicate, PageSize, has-range, has, private_frames, frame_count, IsSound, IsSized, IsPlaced, IsOfStore, is_apart, length-remove, ◌||◌, not, and_from, or_from, not_from_false, has-append, vec_len, vec_capacity, position, if◌then◌else◌, Result, Ok, Err, is_ok, IsOk, IsSome, option_to_list, prefix_len, get_or_read_under, place_of, index_out, places_of}
+use Rattle.frame_pool.proofs.Common.{◌≡◌, ℕ, zero, suc, ◌+◌, ◌*◌, ◌<◌, ◌≤◌, Bool, true, false, List, [], ◌∷◌, ◌++◌, length, refl, sym, ◌∙◌, ap, arith, Some, None, ◌==◌, remove, replicate, slice_index, slice_index_or, slice_set, Option, is_some, unwrap_or, range_with_len, cases_eq, nat_tests, length-set, length-append, get_or-set_same, get_or-set_other, length-replicate, get_or-replicate, PageSize, has-range, has, private_frames, frame_count, IsSound, IsSized, IsPlaced, IsOfStore, is_apart, length-remove, ◌||◌, not, and_from, or_from, not_from_false, has-append, vec_len, vec_capacity, position, if◌then◌else◌, Result, is_ok, IsOk, IsSome, option_to_list, prefix_len, get_or_read_under, place_of, index_out, places_of}
 use Rattle.std.proofs.Math.ListN.{get_or-eq_default}
 use Rattle.std.proofs.lemmas.List.FromFn.{length-range_with_len}
 use Rattle.frame_pool.specs.Places.{Places, place_of, page_at, resident_at, frame_of_index, fresh_places, left}
@@ -86,12 +86,8 @@ page-within pages page frame there = within ℕ pages.frame_of page frame there
 differ : (x y : ℕ) → (x ≡ y → ⊥) → (x == y) ≡ false
 differ x y apart = grind (arith, nat_tests)
 
--- the page at a place of the resident ones is in a frame
-is_some-unwrapped : (o : Option ℕ) → is_some o ≡ true → o ≡ Some (unwrap_or o 0)
-is_some-unwrapped o h1 = grind (arith, nat_tests)
-
 pub resident-in_frame : (pages : Places) (index : ℕ) → IsSound pages → index < length pages.resident → place_of pages (resident_at pages index) ≡ Some (frame_of_index pages index)
-resident-in_frame pages index sound below = grind (arith, nat_tests, is_some-unwrapped, has-at)
+resident-in_frame pages index sound below = grind (arith, nat_tests, has-at)
 
 pub frame-of_store : (pages : Places) (page frame : ℕ) → IsSound pages → place_of pages page ≡ Some frame → IsOfStore pages frame
 frame-of_store pages page frame sound there = sound.placed.in_use page frame (sound.placed.there page frame there)
@@ -357,13 +353,11 @@ read_frame p place page frame read same inside is value =
 
 -- a push for which there was room
 pub pushed : (X Y : Type 0) (r : Result X Y) (new old : List ℕ) (x : ℕ) → new ≡ (if is_ok r then old ++ x ∷ [] else old) → IsOk r → new ≡ old ++ x ∷ []
-pushed X Y (Ok v) new old x is ok = is
-pushed X Y (Err v) new old x is ok = absurd (cc)
+pushed X Y r new old x is ok = grind (arith, nat_tests)
 
 -- a pop where there was something
 pub popped : (old new : List ℕ) (o : Option ℕ) → old ≡ new ++ option_to_list o → IsSome o → old ≡ new ++ unwrap_or o 0 ∷ []
-popped old new None is some = absurd (cc)
-popped old new (Some x) is some = is
+popped old new o is some = grind (arith, nat_tests)
 
 -- a frame is free where not all are in use
 pub some-free : (p : StorePages) → vec_len p.resident < p.frames → 0 < vec_len p.free

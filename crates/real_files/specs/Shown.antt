@@ -1,7 +1,9 @@
 -- What a list of puts printed.
 use Rattle.std.specs.Prelude.{ℕ, ◌+◌, List, [], ◌∷◌, ◌++◌, length}
 use Rattle.outside.specs.declared.screen.PutMark.{PutMark}
-use Rattle.real_files.specs.Deeds.{Deed, Wrote, Tore, Synced, Unsynced}
+use Rattle.outside.specs.Clock.{LeftAt}
+use Rattle.outside.specs.Moments.{Moment}
+use Rattle.real_files.specs.Deeds.{Deed, Wrote, Tore, Synced, Unsynced, images_at}
 
 -- the bytes of a put, and its number
 abbrev pub bytes_of : Deed → List ℕ
@@ -25,3 +27,7 @@ printed_of (put ∷ puts) = bytes_of put ++ printed_of puts
 abbrev pub marks_of : ℕ → List Deed → List PutMark
 marks_of before [] = []
 marks_of before (put ∷ puts) = record { at = number_of put; before = before } ∷ marks_of (before + length (bytes_of put)) puts
+
+-- what a crash leaves of a file and a screen: the pairs that follow from the file's deeds and the screen's puts
+abbrev pub LeftBy : (first : List ℕ) → (deeds puts : List Deed) → Moment → (image seen : List ℕ) → Type 0
+LeftBy first deeds puts = LeftAt (length deeds) (images_at first deeds) (marks_of 0 puts) (printed_of puts)

@@ -1,10 +1,9 @@
 // A file and a screen as one outside.
 ghost use Rattle.std.specs.Prelude.{◌≡◌, ◌↔◌, ℕ, List, [], length, None, Some, IsTrue};
 ghost use Rattle.outside.specs.Runs.{Leaves};
-ghost use Rattle.outside.specs.Clock.{LeftAt};
 ghost use Rattle.outside.specs.Moments.{Moment};
-ghost use Rattle.real_files.specs.Deeds.{images_at, StopsAtFailure};
-ghost use Rattle.real_files.specs.Shown.{printed_of, marks_of};
+ghost use Rattle.real_files.specs.Deeds.{StopsAtFailure};
+ghost use Rattle.real_files.specs.Shown.{printed_of, LeftBy};
 
 use crate::{KeptDisk, NotedScreen, RawFile, RawScreen};
 use outside::{Joint, Outside};
@@ -37,7 +36,7 @@ pub fn raw_of<F: RawFile, R: RawScreen>(outside: Joint<KeptDisk<F>, NotedScreen<
     ensures stops { StopsAtFailure (F.deeds result.0) }
     ensures printed { ⟦<Joint<KeptDisk<F>, NotedScreen<R>> as Outside>⟧.printed outside ≡ Some (printed_of (R.puts result.1)) }
     ensures origin { (⟦<Joint<KeptDisk<F>, NotedScreen<R>> as Outside>⟧.moment outside).origin ≡ record { first = F.first result.0; stop = None } }
-    ensures left { (t : Moment) (image seen : List ℕ) → ⟦<Joint<KeptDisk<F>, NotedScreen<R>> as Outside>⟧.left_since outside t image seen ↔ LeftAt (length (F.deeds result.0)) (images_at (F.first result.0) (F.deeds result.0)) (marks_of 0 (R.puts result.1)) (printed_of (R.puts result.1)) t image seen }
+    ensures left { (t : Moment) (image seen : List ℕ) → ⟦<Joint<KeptDisk<F>, NotedScreen<R>> as Outside>⟧.left_since outside t image seen ↔ LeftBy (F.first result.0) (F.deeds result.0) (R.puts result.1) t image seen }
 {
     let (disk, screen) = outside.into_parts();
     (disk.into_file(), screen.into_screen())

@@ -3,13 +3,8 @@ use Rattle.romp_asm.proofs.Common.{◌≡◌, ℕ, ◌+◌, ◌<◌, ◌≤◌, 
 use Rattle.std.proofs.lemmas.List.Folds.{list_any-append}
 use Rattle.romp_asm.proofs.SourcesLemmas.{assembled-alone}
 
-or_assoc : {A : Type 0} (a b c : Option A) → option_or a (option_or b c) ≡ option_or (option_or a b) c
-or_assoc None b c = refl
-or_assoc (Some x) b c = refl
-
 or_none : {A : Type 0} (a : Option A) → option_or a None ≡ a
-or_none None = refl
-or_none (Some x) = refl
+or_none a = grind (arith, nat_tests)
 
 -- the lines of sources, one behind the other
 abbrev pub flat : List (List Statement) → List Statement
@@ -31,16 +26,14 @@ exporter-push sources source word =
 -- a label is exported by a line where it is by a source
 exporter-some : (n : ℕ) (sources : List (List Statement)) (word : List ℕ) → is_some (position_from (λ those. export those word) n sources) ≡ export (flat sources) word
 exporter-some n [] word = refl
-exporter-some n (source ∷ sources) word =
-    grind (arith, nat_tests, exporter-some (n + 1) sources word, list_any-append (λ (statement : Statement). gives word statement.body) source (flat sources))
+exporter-some n (source ∷ sources) word = grind (arith, nat_tests, list_any-append, exporter-some (n + 1) sources word)
 
 -- the first fault, with one source more
 fault-push : (front : List Statement) (sources : List (List Statement)) (source : List Statement) → fault_behind front (sources ++ source ∷ []) ≡ option_or (fault_behind front sources) (fault_among source (front ++ flat sources) source)
 unfolding fault_behind
 fault-push front [] source = rw (or_none, append-nil) refl
 fault-push front (x ∷ sources) source =
-    rw (fault-push (front ++ x) sources source, append_assoc)
-    (or_assoc (fault_among x front x) (fault_behind (front ++ x) sources) (fault_among source (front ++ flat (x ∷ sources)) source))
+    grind (arith, nat_tests, front, append_assoc, fault-push (front ++ x) sources source)
 
 -- the fault of an export by a line, by whether its source has the label and an earlier line exports it
 abbrev pub told_by : ℕ → Bool → Bool → Option (ℕ × ℕ)

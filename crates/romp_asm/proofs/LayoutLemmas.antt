@@ -1,5 +1,5 @@
 -- A program, as its statements are laid one after the other.
-use Rattle.romp_asm.proofs.Common.{◌≡◌, ℕ, ℤ, pos, suc, zero, ◌+◌, ◌<◌, ◌≤◌, Bool, false, is_some, List, [], ◌∷◌, ◌++◌, length, take, drop, get_or, Option, None, Result, Ok, Err, refl, sym, ap, ◌∙◌, arith, append_assoc, append-nil, add-one, length-append, replicate, unwrap_or, option_map, drop-cons, nat_tests, drop_all, get_or_default, take_all, take_more, sum_by_push, fold_push, Statement, Place, BTreeMap, addresses_in, found_in, place_from, place_of, repeated_in, stands_before, AreReadAs, IsLaid, IsReadAs, LaidTo, image_joined, Scope, assembled, entry_of, has_label_of, image_behind, parts_of, piece_before, piece_of, windows_of, with_image, size_of, total, address_from, addresses_of, LabelKey}
+use Rattle.romp_asm.proofs.Common.{◌≡◌, ℕ, ℤ, pos, suc, zero, ◌+◌, ◌<◌, ◌≤◌, Bool, false, is_some, List, [], ◌∷◌, ◌++◌, length, take, drop, get_or, Option, None, Result, Ok, refl, sym, ◌∙◌, arith, append_assoc, append-nil, add-one, length-append, replicate, unwrap_or, option_map, drop-cons, nat_tests, drop_all, get_or_default, take_all, take_more, sum_by_push, fold_push, Statement, Place, addresses_in, found_in, place_from, place_of, repeated_in, stands_before, AreReadAs, IsLaid, IsReadAs, LaidTo, image_joined, Scope, assembled, entry_of, has_label_of, image_behind, parts_of, piece_before, piece_of, windows_of, with_image, size_of, total, address_from, addresses_of}
 use Rattle.asm_parse.specs.declared.fault.AsmFault.{AsmFault}
 use Rattle.flat_machine.specs.declared.machine.Program.{Program}
 use Rattle.asm_parse.specs.Answers.{IsTextFaultOf}
@@ -32,10 +32,6 @@ among_first bound index at (x ∷ statements) (suc n) word h =
 pub all_addresses : (scope : Scope) (statements : List Statement) → ((word : List ℕ) → found_in scope.own.now.labels word ≡ place_of statements word) → ((word : List ℕ) → found_in scope.givers.now word ≡ None) → addresses_in scope ≡ addresses_of statements
 all_addresses scope statements table none = grind (arith, nat_tests, address_same, none, table)
 
--- the table tells whether a statement's label stands before it
-pub repeated_told : (labels : BTreeMap LabelKey Place) (statements : List Statement) (i : ℕ) (statement : Statement) → ((word : List ℕ) → found_in labels word ≡ place_of statements word) → repeated_in labels i statement ≡ has_label_of (take i statements) statement
-repeated_told labels statements i statement table = grind (arith, nat_tests, among_first)
-
 fault_by : (line : ℕ) (image : List ℕ) (reading : Result (List ℕ) ℕ) (others : Result (List ℕ) (ℕ × ℕ)) (all : List Statement) (whole : Result (List ℕ) (ℕ × ℕ)) (fault : AsmFault) → IsTextFaultOf fault (at_line line reading) → image_joined image (piece_before line reading others) ≡ whole → IsTextFaultOf fault (with_image all whole)
 fault_by line image reading others all whole fault told so_far = grind (arith, nat_tests, told, so_far)
 
@@ -53,14 +49,7 @@ module _ (addresses : List ℕ → Option ℤ) (repeated : Bool) (statement : St
 
   laid_by : (new : Output) (piece : Result (List ℕ) ℕ) → reading ≡ piece → IsLaid addresses old new statement.body piece
       → LaidTo all (before ++ named ∷ []) rest new
-  laid_by new (Err kind) is laid = absurd laid
-  laid_by new (Ok bytes) is laid = record {
-    so_far = grind (arith, nat_tests, append_assoc, so_far, is, laid.image);
-    size =
-        omega (arith, ap length laid.image, length-append old.image.items bytes, laid.size, to.size, reads.size, sum_by_push (λ (statement : Statement). size_of statement.body) before named);
-    entry = rw (laid.entry, fold_push, ← to.entry) (reads.entry old.entry);
-    windows = rw (laid.windows, fold_push, ← to.windows) (reads.windows old.windows);
-  }
+  laid_by new piece is laid = grind (arith, nat_tests, so_far, append_assoc, length-append, sum_by_push, fold_push)
 
   -- it was laid
   pub laid_more : (new : Output) → IsLaid addresses old new statement.body reading → LaidTo all (before ++ named ∷ []) rest new
@@ -88,7 +77,7 @@ text_as_itself scope all table none = record {
       let told = all_addresses scope all table none in
       rw (← same) (record {
         line = refl;
-        piece = λ at entry windows. grind (arith, nat_tests, repeated_told, told);
+        piece = λ at entry windows. grind (arith, nat_tests, among_first, told);
         size = refl;
         entry = λ entry. rw told refl;
         windows = λ windows. refl;

@@ -1,5 +1,5 @@
 -- The instruction of a form is one that the table has.
-use Rattle.romp_asm.proofs.Common.{◌≡◌, ℕ, ◌≤◌, Option, Some, None, refl, sym, ap, ◌∙◌, arith, option_map, IsSomeAnd, Use, form_of}
+use Rattle.romp_asm.proofs.Common.{◌≡◌, ℕ, ◌≤◌, Option, Some, refl, sym, ap, ◌∙◌, arith, option_map, IsSomeAnd, Use, form_of, nat_tests}
 use Rattle.romp_table.specs.declared.inst.Op.{Op}
 use Rattle.romp_table.specs.declared.inst.Inst.{Inst}
 use Rattle.romp_table.specs.declared.table.Format.{Format}
@@ -48,8 +48,7 @@ scale_in _ = 1
 
 scales : (op : Op) → 1 ≤ scale_in (form_of op)
 unfolding form_of
-scales Op.Stcs = omega arith
-scales _ = omega arith
+scales op = grind (arith, nat_tests)
 
 -- a scale isn't 0
 pub scale_some : (op : Op) (scale : ℕ) → Form.Short scale ≡ form_of op → 1 ≤ scale
@@ -57,8 +56,7 @@ scale_some op scale e = rw (← e) at (scales op)
 
 -- the row of an operation, by its shape
 row_told : (o : Option Row) (shape : Shape) (P : Row → Type 0) → option_map row_shape o ≡ Some shape → ((row : Row) → row_shape row ≡ shape → P row) → IsSomeAnd o P
-row_told None shape P e f = cc
-row_told (Some row) shape P e f = f row cc
+row_told o shape P e f = grind (arith, nat_tests)
 
 -- an instruction of an operation of this form, whose fields are as the form's rows use them
 pub legal : (inst : Inst) (form : Form) → form ≡ form_of (op_of inst) → HasWidths inst

@@ -1,6 +1,6 @@
 -- The program that an entry address, windows and data make.
 use Rattle.romp_asm.proofs.Common.{AllByRecursion, fold, eq-eqb, le-leb, le-ltb, set_at, fold_push, sum_by_push, Statement, Body, Data, Window, Entry, encoding_of, even_at_most, Parts, assembled, entry_of, image_behind, is_entry, is_free, takes_window, windows_of, with_entry, with_window, size_of, total, addresses_of, ◌≡◌, ℕ, ℤ, pos, zero, suc, ◌+◌, ◌-◌, ◌%◌, ◌<◌, ◌≤◌, ◌&&◌, true, false, is_some, List, [], ◌∷◌, ◌++◌, length, map, get_or, replicate, slice_get, Option, Some, None, Ok, refl, sym, ap, ◌∙◌, arith, append_assoc, length-append, nat_tests}
-use Rattle.std.specs.Int.{from_be_bytes, to_be_bytes, w32}
+use Rattle.std.specs.Int.{from_be_bytes, w32}
 use Rattle.std.proofs.lemmas.Nat.{be_bytes_4}
 use Rattle.flat_machine.specs.declared.machine.Window.{Window as Sight}
 use Rattle.asm_parse.specs.declared.statement.Expr.TheVariants.{Number}
@@ -69,21 +69,15 @@ byte_at (byte ∷ bytes) are (suc i) = byte_at bytes are.1 i
 pub word_small : (a b c d : ℕ) → a < 256 → b < 256 → c < 256 → d < 256 → from_be_bytes w32 (a ∷ b ∷ c ∷ d ∷ []) ≤ 4294967295
 word_small a b c d small_a small_b small_c small_d = omega arith
 
-word_by : (addresses : List ℕ → Option ℤ) (at number : ℕ) (bytes : List ℕ) → number ≤ 4294967295 → to_be_bytes w32 number ≡ bytes → encoding_of addresses at (Data 4 (Number (pos number))) ≡ Ok bytes
-word_by addresses at number bytes small is = rw (le-leb number 4294967295 small) (ap Ok is)
-
 -- a word is its four bytes
 word_encoded : (addresses : List ℕ → Option ℤ) (at a b c d : ℕ) → AllByRecursion IsByte (a ∷ b ∷ c ∷ d ∷ []) → encoding_of addresses at (Data 4 (Number (pos (from_be_bytes w32 (a ∷ b ∷ c ∷ d ∷ []))))) ≡ Ok (a ∷ b ∷ c ∷ d ∷ [])
-word_encoded addresses at a b c d are = grind (arith, nat_tests, word_by, word_small, be_bytes_4, byte_at)
-
-byte_encoded : (addresses : List ℕ → Option ℤ) (at byte : ℕ) → byte < 256 → encoding_of addresses at (byte_body byte) ≡ Ok (byte ∷ [])
-byte_encoded addresses at byte small = rw (le-leb byte 255 (omega arith)) refl
+word_encoded addresses at a b c d are = grind (arith, nat_tests, le-leb, word_small, be_bytes_4, byte_at)
 
 -- bytes one by one
 bytes_made : (all before : List Statement) (number : ℕ) (bytes : List ℕ) → AllByRecursion IsByte bytes → total before + length bytes ≤ 16384 → image_behind all before (made number (map byte_body bytes)) ≡ Ok bytes
 unfolding image_behind
 bytes_made all before number [] are fits = refl
-bytes_made all before number (byte ∷ bytes) are fits = grind (arith, nat_tests, byte_encoded, total_push, bytes_made all (before ++ plain_at number (byte_body byte) ∷ []) (number + 1) bytes are.1 (omega (arith, total_push before (plain_at number (byte_body byte)))))
+bytes_made all before number (byte ∷ bytes) are fits = grind (arith, nat_tests, le-leb, total_push, bytes_made all (before ++ plain_at number (byte_body byte) ∷ []) (number + 1) bytes are.1 (omega (arith, total_push before (plain_at number (byte_body byte)))))
 
 -- an image
 image_made : (all before : List Statement) (number : ℕ) (bytes : List ℕ) → AllByRecursion IsByte bytes → total before + length bytes ≤ 16384 → image_behind all before (made number (image_bodies bytes)) ≡ Ok bytes
@@ -100,8 +94,7 @@ free_at (window ∷ done) windows zero is = absurd (omega arith)
 free_at (window ∷ done) windows (suc place) is = free_at done windows place (omega arith)
 
 takes : (done windows : List (Option Sight)) (register : ℕ) (window : Sight) → length done + 1 ≡ register → IsLegalPlace (Some window) → takes_window (done ++ None ∷ windows) (Window register window.segment window.write) ≡ true
-takes done windows register window is legal =
-    rw (le-leb 1 register (omega arith), free_at done windows (register - 1) (omega arith), le-leb 1 window.segment legal.0, le-leb window.segment 3839 legal.1) refl
+takes done windows register window is legal = grind (arith, nat_tests, le-leb, free_at, legal)
 
 -- windows, and an image behind them
 windows_made : (all before : List Statement) (number register : ℕ) (done windows : List (Option Sight)) (image : List ℕ) → AllByRecursion IsLegalPlace windows → length done + 1 ≡ register → windows_of before ≡ done ++ replicate (length windows) None → AllByRecursion IsByte image → total before + length image ≤ 16384

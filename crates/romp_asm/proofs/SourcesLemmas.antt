@@ -16,8 +16,7 @@ unfolding address_from
 nothing-named at word = refl
 
 pub or_none : {A : Type 0} (found : Option A) → option_or found None ≡ found
-or_none None = refl
-or_none (Some value) = refl
+or_none found = grind (arith, nat_tests)
 
 -- the address of a label in statements behind others
 address-append : (at next : ℕ) (xs ys : List Statement) (word : List ℕ) → next ≡ at + total xs
@@ -34,14 +33,6 @@ has_address at [] word = refl
 has_address at (x ∷ xs) word = grind (arith, nat_tests, has_address (at + size_of x.body) xs word)
 
 module _ (giver : List ℕ → Option ℕ) where
-  -- a statement has a name of its source where it has the word
-  own_label : (source : ℕ) (whole : List Statement) (statement : Statement) (word : List ℕ) → is_labelled (name_in source word) (named giver source whole statement) ≡ is_labelled word statement
-  own_label source whole statement word = grind (arith, nat_tests)
-
-  -- and no name of another source
-  other_label : (source other : ℕ) (whole : List Statement) (statement : Statement) (word : List ℕ) → (other ≡ source → ⊥) → is_labelled (name_in other word) (named giver source whole statement) ≡ false
-  other_label source other whole statement word apart = grind (arith, nat_tests)
-
   total-named : (source : ℕ) (whole xs : List Statement) → total (map (named giver source whole) xs) ≡ total xs
   total-named source whole [] = refl
   total-named source whole (x ∷ xs) =
@@ -50,12 +41,13 @@ module _ (giver : List ℕ → Option ℕ) where
   address-own : (source at : ℕ) (whole xs : List Statement) (word : List ℕ) → address_from at (map (named giver source whole) xs) (name_in source word) ≡ address_from at xs word
   unfolding address_from
   address-own source at whole [] word = refl
-  address-own source at whole (x ∷ xs) word = grind (arith, nat_tests, address-own source (at + size_of x.body) whole xs word, own_label, size_renamed)
+  address-own source at whole (x ∷ xs) word =
+      grind (arith, nat_tests, address-own source (at + size_of x.body) whole xs word, size_renamed)
 
   address-other : (source other at : ℕ) (whole xs : List Statement) (word : List ℕ) → (other ≡ source → ⊥) → address_from at (map (named giver source whole) xs) (name_in other word) ≡ None
   unfolding address_from
   address-other source other at whole [] word apart = refl
-  address-other source other at whole (x ∷ xs) word apart = grind (arith, nat_tests, address-other source other (at + size_of (renamed_body (meant giver source whole) x.body)) whole xs word, other_label)
+  address-other source other at whole (x ∷ xs) word apart = grind (arith, nat_tests, address-other source other (at + size_of (renamed_body (meant giver source whole) x.body)) whole xs word)
 
   total-joined : (first : ℕ) (sources : List (List Statement)) → total (joined_from giver first sources) ≡ sum_by total sources
   unfolding joined_from
@@ -90,9 +82,7 @@ module _ (giver : List ℕ → Option ℕ) where
   -- the sources in front of one, and those from it on
   joined-split : (k : ℕ) (sources : List (List Statement)) → k < length sources
       → joined_from giver 0 sources ≡ joined_from giver 0 (take k sources) ++ joined_from giver k (drop k sources)
-  joined-split k sources within =
-      ap (joined_from giver 0) (sym (take-append-drop k sources)) ∙ joined-append 0 k (take k sources) (drop k sources)
-      (omega (arith, length-take-le k sources (omega (arith, within))))
+  joined-split k sources within = grind (arith, nat_tests, take-append-drop, joined-append, length-take-le)
 
   module _ (sources : List (List Statement)) where
     abbrev all : List Statement

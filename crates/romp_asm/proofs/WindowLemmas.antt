@@ -12,10 +12,6 @@ set_legal (old ∷ windows) (suc place) window legal is = (legal.0, set_legal wi
 legal_with : (windows : List (Option Sight)) (body : Body) → takes_window windows body ≡ true → AllByRecursion IsLegalPlace windows → AllByRecursion IsLegalPlace (with_window windows body)
 legal_with windows body takes legal = grind (arith, nat_tests, set_legal, takes)
 
--- a fault of kind 8 or 9, or the bytes
-abbrev fitted_by : Bool → Bool → List ℕ → Result (List ℕ) ℕ
-fitted_by past takes laid = if past then Err 8 else if takes then Ok laid else Err 9
-
 -- a fault of kind 5, or what is read
 abbrev refused_by : Bool → Result (List ℕ) ℕ → Result (List ℕ) ℕ
 refused_by refused reading = if refused then Err 5 else reading
@@ -47,10 +43,6 @@ windows_long windows (s ∷ statements) = grind (arith, nat_tests, windows_long 
 none_legal : (n : ℕ) → AllByRecursion IsLegalPlace (replicate n None)
 none_legal zero = tt
 none_legal (suc n) = (tt, none_legal n)
-
-abbrev windows_in : Result Parts (ℕ × ℕ) → List (Option Sight)
-windows_in (Ok parts) = parts.windows
-windows_in (Err fault) = []
 
 -- a program that was assembled has 15 places for windows, and legal ones
 pub assembled_windows : (all : List Statement) (parts : Parts) → assembled all ≡ Ok parts → AllByRecursion IsLegalPlace parts.windows × (length parts.windows ≡ 15)

@@ -27,8 +27,7 @@ noted_new before label word place none = grind (arith, nat_tests, bytes_eq-Decid
 
 -- the same at a statement with this label
 pub noted_label : (before : List ℕ → Option Place) (statement : Statement) (label text word : List ℕ) (place : Place) → statement.label ≡ Some label → text ≡ label → false ≡ is_some (before text) → cond (bytes_eq text word) (Some place) (before word) ≡ noted (before word) (is_labelled word statement) place
-noted_label before statement label text word place has same none =
-    rw (has, ← same) (noted_new before text word place none)
+noted_label before statement label text word place has same none = grind (arith, nat_tests, noted_new)
 
 -- a label that had a place gets it back, and the others keep theirs
 pub noted_back : (before : List ℕ → Option Place) (statement : Statement) (label text word : List ℕ) (place first : Place) → statement.label ≡ Some label → text ≡ label → before text ≡ Some first → cond (bytes_eq text word) (Some first) (cond (bytes_eq text word) (Some place) (before word)) ≡ noted (before word) (is_labelled word statement) place

@@ -92,12 +92,12 @@ impl Cpu {
         ensures few { IsOfFewBytes (how_went result went.new) }
         ensures whole { StoresAll (plan_over S.Storage storage.old (at self.old iar.old)) }
     {
-        self.iar = *iar;
         if let Some(row) = storage.ready(*iar) {
             if let Some(next) = do_alone(row, &mut self.regs, &mut self.cs, *iar) {
                 *iar = next;
                 return true;
             }
+            self.iar = *iar;
             if let Some(Pending::Does { act, next, link }) = start_wanting(row, &self.regs, *iar) {
                 if self.act_at_once(storage, act, next, link) {
                     *iar = self.iar;
@@ -133,6 +133,7 @@ impl Cpu {
                 }
             }
         }
+        self.iar = *iar;
         self.carry_out_anew(storage, went);
         *iar = self.iar;
         false

@@ -54,12 +54,9 @@ module _ (names : List (List ℕ)) (number : ℕ) where
   happened_keep (CrashFailed lost) old new is = journal_on (map line.Lost lost) (line.Closed ∷ []) old old new (lost_keep lost old) is
   happened_keep _ old new is = is
 
-  counted_faults : (activation : ℕ) (counts : Counts) (ends : List Line) → faults_in (line.Turn activation counts.ran counts.pages counts.locks ∷ (flat_map cycle_lines counts.cycles ++ ends)) ≡ faults_in ends
-  counted_faults activation counts ends = grind (arith, nat_tests, faults_on, cycles_calm)
-
   -- a turn whose lines tell of no fault didn't fail
   pub turn_calm : (activation : ℕ) (answer : Turn) (ends : TurnEnd) (printed : List ℕ) → faults_in (happening_lines names number (turn_told activation (record answer { end = ends }) printed)) ≡ 0 → turn_fails ends ≡ false
-  turn_calm activation answer ends printed none = grind (arith, nat_tests, counted_faults activation (counts_told answer))
+  turn_calm activation answer ends printed none = grind (arith, nat_tests, faults_on, cycles_calm)
 
   -- nor a checkpoint
   pub stored_calm : (answer : Stored) → faults_in (happening_lines names number (stored_told answer)) ≡ 0 → stored_fails answer ≡ false
@@ -68,10 +65,6 @@ module _ (names : List (List ℕ)) (number : ℕ) where
   -- nor a crash
   pub reopened_calm : (lost : List ℕ) (answer : Reopened) → faults_in (happening_lines names number (reopened_told lost answer)) ≡ 0 → reopened_fails answer ≡ false
   reopened_calm lost answer none = grind (arith, nat_tests, faults_on (map line.Lost lost) (line.Closed ∷ []))
-
--- a begin leaves the journal
-pub begun_keep : (program : ℕ) (answer : Begun) (journal : Journal) → JournalAfter (begun_told program answer) journal journal
-begun_keep program answer journal = grind arith
 
 -- what is said of success is said of another result, which fails where this one does
 pub on_ok_as : {T U : Type 0} (P : Type 0) (result : Result T Failed) (other : Result U Failed) → (IsErr result → IsErr other) → OnOk result P → OnOk other P
@@ -90,9 +83,6 @@ pub writes_on : (before between after : Option ℕ) (one two : ℕ) → WritesMo
 writes_on before between after one two first second = grind (arith, nat_tests)
 
 module _ (names : List (List ℕ)) (number : ℕ) where
-  pub begin_writes : (program : ℕ) (answer : Begun) → commits_in (happening_lines names number (begun_told program answer)) ≡ 0
-  begin_writes program answer = grind arith
-
   pub stored_writes : (answer : Stored) → commits_in (happening_lines names number (stored_told answer)) ≡ 0
   stored_writes answer = grind (arith, nat_tests)
 

@@ -7,7 +7,7 @@ use Rattle.desk.specs.declared.answers.Stored.TheVariants as stored
 use Rattle.desk.specs.declared.answers.Reopened.TheVariants as reopened
 use Rattle.desk.specs.declared.supervisor.Supervisor as desk
 use Rattle.schedule_replay.specs.declared.events.Going.TheVariants as going
-use Rattle.schedule_replay.proofs.CountLemmas.{begun_keep, turn_calm, stored_calm, reopened_calm, writes_same, writes_fewer, begin_writes, turn_writes, reopened_writes, stored_writes}
+use Rattle.schedule_replay.proofs.CountLemmas.{turn_calm, stored_calm, reopened_calm, writes_same, writes_fewer, turn_writes, reopened_writes, stored_writes}
 use Rattle.schedule_replay.proofs.PutsLemmas.{PrintedNow, puts_and}
 use Rattle.schedule_replay.proofs.ReportLemmas.{tells_event}
 use Rattle.schedule_replay.proofs.RanToLemmas.{ShownTold}
@@ -19,10 +19,6 @@ turn_shut ends closes calm = grind arith
 
 pub stored_shut : (answer : Stored) → stored_closes answer ≡ true → stored_fails answer ≡ false → answer ≡ stored.Shut
 stored_shut answer closes calm = grind arith
-
--- the line of a begin tells no number of the store, and the number that another answer tells is the store's
-begun_numbered : (names : List (List ℕ)) (program : ℕ) (answer : Begun) (one two : ℕ) → happening_lines names one (begun_told program answer) ≡ happening_lines names two (begun_told program answer)
-begun_numbered names program answer one two = grind arith
 
 lines_numbered : (names : List (List ℕ)) (activation : ℕ) (answer : Turn) (ends : TurnEnd) (printed : List ℕ) (number : ℕ) → HasNumbers ends activation number → happening_lines names (number_told ends) (turn_told activation (record answer { end = ends }) printed) ≡ happening_lines names number (turn_told activation (record answer { end = ends }) printed)
 lines_numbered names activation answer ends printed number has = grind arith
@@ -89,7 +85,7 @@ module _ {D W : Type 0} (S : desk.Ghosts D) (G : Ghosts W) where
         (program : ℕ) (args : List ℕ) (answer : Begun) (start : Desk) (old new : D) (w : W) → IsSure G w → S.shows old (held_of G w) start
         → (next : Desk) × (step programs (event.Begin program args) Fine start ≡ record { desk = next; happening = begun_told program answer }) × S.shows new (held_of G w) next
         → WasStep S G (opening names programs (S.told old).fixed.opened start) (event.Begin program args) (happening_lines names 0 (begun_told program answer)) new (span w w)
-    begin_step law program args answer start old new w sure shows (next, is, shown) = grind (arith, nat_tests, begun_keep, leaves_held, begun_numbered, begin_writes, writes_same)
+    begin_step law program args answer start old new w sure shows (next, is, shown) = grind (arith, nat_tests, leaves_held, writes_same)
 
     module _ (number : ℕ) (start : Desk) (new : D) (before after : W) where
       pub turn_step : (activation limit : ℕ) (answer : Turn) (printed : List ℕ)

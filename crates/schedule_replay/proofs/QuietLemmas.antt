@@ -28,11 +28,6 @@ begin_tells number program answer last = grind arith
 pub stored_tells : (number : ℕ) (answer : Stored) (last : List ℕ) → IfSome (tally_stored answer) (λ tally. Tells tally last last (happening_lines [] number (stored_told answer)))
 stored_tells number answer last = grind arith
 
--- the tally of a turn's counts, its cycles and the lines of its end
-counted_tells : (activation commits rollbacks : ℕ) (answer : Turn) (ends : List Line) (old new : List ℕ) → commits ≡ count_by is_commit ends → rollbacks ≡ length answer.cycles.items + count_by is_rollback ends → new ≡ fold out_after old ends
-    → Tells (record { commits = commits; rollbacks = rollbacks }) old new (line.Turn activation answer.ran answer.pages answer.locks ∷ (flat_map cycle_lines (counts_told answer).cycles ++ ends))
-counted_tells activation commits rollbacks answer ends old new one two last = grind (arith, counted_quiet activation (counts_told answer) ends, rolled activation answer ends, cycles_last old (counts_told answer).cycles ends)
-
 -- the tally of a turn is that of its lines
 pub turn_tells : (number activation : ℕ) (answer : Turn) (ends : TurnEnd) (printed last : List ℕ) → IfSome (tally_by ends (length answer.cycles.items)) (λ tally. Tells tally last (last_by ends printed last) (happening_lines [] number (turn_told activation (record answer { end = ends }) printed)))
 turn_tells number activation answer ends printed last = grind (arith, rolled activation answer, counted_quiet activation (counts_told answer), cycles_last last (counts_told answer).cycles)

@@ -1,7 +1,7 @@
 -- What a commit of a session did: its step of the desk, and what the disk held at each moment.
 use Rattle.std.specs.Prelude.{◌≡◌, ℕ, ◌⊎◌, true, false, List, slice_set}
 use Rattle.flat_machine.specs.declared.machine.Plain.{Plain}
-use Rattle.supervisor.specs.Below.{commit_call, commits, Desk, Doubt, ended, ending_told, Fine, fine_step, Ghosts, HasNumbers, held_of, IsEitherOf, IsSure, journal_in, JournalAfter, Leaves, number_after, number_in, ordered, Over, Reads, Rose, standing_of, stands, Tally, tally_counts, turn, Turned, TurnEnd, Word}
+use Rattle.supervisor.specs.Below.{commit_call, commits, Desk, Doubt, ended, ending_told, Fine, fine_step, Ghosts, HasNumbers, held_of, IsAtCommit, IsEitherOf, IsSure, journal_in, JournalAfter, Leaves, number_after, number_in, ordered, Over, Reads, Rose, standing_of, stands, Tally, tally_counts, turn, Turned, TurnEnd, Turning, Word}
 use Rattle.desk.specs.declared.answers.TurnEnd.TheVariants as end
 use Rattle.desk.specs.declared.event.Event.TheVariants as event
 use Rattle.supervisor.specs.declared.session.Session.{Session}
@@ -48,6 +48,13 @@ pub record HasCommitted {W : Type 0} (G : Ghosts W) (seat : ℕ) (now : Plain) (
   pub still : new.closed ≡ false → IsSure G after × ((over : IsOpenOver new (held_of G after)) × (next ≡ session_desk new over.committed))
   pub crash : Leaves G (λ image seen. IsEitherSide old committed (fine_desk old committed seat now) next image) before after
   pub doubt : word ≡ Doubt → ((fine_desk old committed seat now).order ≡ next.order) × ((gate : ℕ) × Leaves G (λ image seen. stands (slice_set image gate 165) ≡ standing_of old.opened (fine_desk old committed seat now)) after after)
+
+-- where the session is open over sure bytes, at the commit call of a run of the desk
+abbrev pub CommitsAt : {W : Type 0} (G : Ghosts W) (seat : ℕ) (end : TurnEnd) (old new : Session) (tallied told : Tally) (before after : W) → Type 0
+CommitsAt G seat end old new tallied told before after =
+    (begins : Word → Turning) → IsSure G before → (over : IsOpenOver old (held_of G before))
+    → (at : IsAtCommit begins (activity old) seat over.committed (order_of old) (tally_counts tallied))
+    → HasCommitted G seat at.now end old new tallied told before after over.committed
 
 -- A turn was one of the desk, in the same way.
 pub record TurnHasRun {W : Type 0} (G : Ghosts W) (activation limit : ℕ) (end : TurnEnd) (old new : Session) (told : Tally) (before after : W) (committed : List ℕ) : Type 0 where

@@ -1,6 +1,6 @@
 // The commit call of who sits in a seat.
 ghost use Rattle.std.specs.Prelude.{◌≡◌, ◌+◌, ◌<◌, ◌≤◌, ◌++◌, ◌∷◌, [], true, false, vec_len, vec_capacity};
-ghost use Rattle.supervisor.specs.Below.{FailsCounted, has, held_of, HoldsStore, IsSure, number_in, OnlyWrites, sitter, tally_counts, ToldAfterEnd, turn_fails, Turning, Word, writes_due, WritesMore};
+ghost use Rattle.supervisor.specs.Below.{FailsCounted, has, HoldsStore, number_in, OnlyWrites, sitter, ToldAfterEnd, turn_fails, writes_due, WritesMore};
 
 use super::session::Session;
 use activations::Tally;
@@ -9,11 +9,10 @@ use outside::Outside;
 use store::Kept;
 
 impl Session {
-    ghost use Rattle.supervisor.specs.Below.{IfJournal, IsAtCommit, most_lines, number_of};
-    ghost use Rattle.supervisor.specs.Session.{IsSound, activity, order_of, session_told};
-    ghost use Rattle.supervisor.specs.Shown.{IsOpenOver};
+    ghost use Rattle.supervisor.specs.Below.{IfJournal, most_lines, number_of};
+    ghost use Rattle.supervisor.specs.Session.{IsSound, activity, session_told};
     ghost use Rattle.supervisor.specs.Causes.{TellsNumber, LeavesStore};
-    ghost use Rattle.supervisor.specs.Went.{HasCommitted, IsCommitEnd};
+    ghost use Rattle.supervisor.specs.Went.{CommitsAt, IsCommitEnd};
 
     /// The commit call of who sits in a seat: his record, and the end of the turn.
     pub(super) fn commit<W: Outside>(
@@ -37,7 +36,7 @@ impl Session {
         ensures told { ToldAfterEnd (number_in (activity self.old).seating seat) result (session_told self.old) (session_told self.new) }
         ensures stored { LeavesStore W.Outside (number_in (activity self.old).seating seat) result self.old.store self.new outside.old outside.new }
         ensures failed { FailsCounted (turn_fails result) (W.disk_faults outside.old) (W.disk_faults outside.new) }
-        ensures went { (begins : Word → Turning) → IsSure W.Outside outside.old → (over : IsOpenOver self.old (held_of W.Outside outside.old)) → (at : IsAtCommit begins (activity self.old) seat over.committed (order_of self.old) (tally_counts tally.old)) → HasCommitted W.Outside seat at.now result self.old self.new tally.old tally.new outside.old outside.new over.committed }
+        ensures went { CommitsAt W.Outside seat result self.old self.new tally.old tally.new outside.old outside.new }
     {
         if let Err(end) = self.activations.record(seat, &mut self.store) {
             return end;

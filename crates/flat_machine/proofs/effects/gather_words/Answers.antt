@@ -1,4 +1,4 @@
-use Rattle.flat_machine.proofs.Common.{flat_map, flat_map-append, append-nil, length-drop, length-take, take_more, nil_from_length, get_or-drop, big_bytes, length-bytes_high_first, ◌≡◌, ℕ, ◌+◌, ◌-◌, ◌*◌, ◌<◌, ◌≤◌, List, [], ◌∷◌, ◌++◌, length, take, drop, get_or, ap, ◌∙◌, arith}
+use Rattle.flat_machine.proofs.Common.{flat_map, flat_map-append, append-nil, length-drop, length-take, take_more, nil_from_length, get_or-drop, big_bytes, length-bytes_high_first, ◌≡◌, ℕ, ◌+◌, ◌*◌, ◌<◌, ◌≤◌, List, [], ◌∷◌, ◌++◌, length, take, drop, get_or, ap, ◌∙◌, arith, common_steps}
 use Rattle.std.proofs.lemmas.Slice.{take-put_mid}
 use borrow.Rule.Slice.PartMut.{put_mid}
 use Rattle.flat_machine.proofs.effects.gather_words.Goals as goal
@@ -21,8 +21,4 @@ gather_step i first k into old ys regs below fits four before written =
     cc (take-put_mid (4 * i) k into ys (4 * (i + 1)) (omega arith) (omega arith))
 
 pub loop-i-preserved : goal.loop-i-preserved
-loop-i-preserved c =
-    let i = c.loop-i.i in
-    let into = c.loop-i.into in
-    gather_step i c.args.first (4 * i + 4 - 4 * i) into (take (4 * i + 4 - 4 * i) (drop (4 * i) into)) c.write_u32.new.buf c.args.regs.now
-    (omega arith) (omega arith) (simp (length-take, length-drop) (omega arith)) c.loop-i.invariant c.write_u32.ensures
+loop-i-preserved c = grind (arith, common_steps, gather_step, length-take, length-drop)

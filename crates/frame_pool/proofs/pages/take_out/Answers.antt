@@ -1,4 +1,4 @@
-use Rattle.frame_pool.proofs.Common.{◌≡◌, ℕ, ◌+◌, ◌-◌, ◌<◌, ◌≤◌, List, length, refl, sym, ◌∙◌, ap, arith, get_or, inl, inr, cases_eq, same_number_lists, get_or-set_other, get_or-set_same, get_or-take, get_or_read_under, length-set, length-take, get_or-remove_above, length-remove}
+use Rattle.frame_pool.proofs.Common.{◌≡◌, ℕ, ◌+◌, ◌-◌, ◌<◌, ◌≤◌, List, length, ◌∙◌, ap, arith, get_or, same_number_lists, get_or-set_other, get_or-set_same, get_or-take, get_or_read_under, length-set, length-take, get_or-remove_above, length-remove, common_steps}
 use Rattle.std.specs.Prelude.{remove, slice_set, take}
 use Rattle.frame_pool.proofs.pages.take_out.Goals as goal
 
@@ -7,14 +7,8 @@ moved-on :
     (now old : List ℕ) (index place value : ℕ) → length now ≡ length old → index + 1 ≤ place → place < length old → value ≡ get_or now place value
     → ((k : ℕ) → k + 1 < place → get_or now k 0 ≡ get_or (remove old index) k 0) → ((k : ℕ) → place ≤ k + 1 → get_or now k 0 ≡ get_or old k 0)
     → (k : ℕ) → k + 1 < place + 1 → get_or (slice_set now (place - 1) value) k 0 ≡ get_or (remove old index) k 0
-moved-on now old index place value long above inside is moved still k less = elim (cases_eq k (place - 1)) [
-  | inl same ↦
-      let next : place ≡ k + 1 = omega (arith, same, above) in
-      ap (λ n. get_or (slice_set now (place - 1) value) n 0) same ∙ get_or-set_same now (place - 1) value 0 (omega (arith, long, above, inside))
-      ∙ get_or_read_under now place (length now) value 0 is (omega (arith, long, inside)) refl ∙ still place (omega arith) ∙ ap (λ n. get_or old n 0) next
-      ∙ sym (get_or-remove_above old index 0 k (omega (arith, same, above)) (omega (arith, above, inside)))
-  | inr other ↦ get_or-set_other now (place - 1) k value 0 other ∙ moved k (omega (arith, other, less, above))
-]
+moved-on now old index place value long above inside is moved still k less =
+    grind (arith, common_steps, get_or-set_same, get_or_read_under, still, get_or-remove_above, get_or-set_other, moved)
 
 pub loop-place-preserved : goal.loop-place-preserved
 loop-place-preserved c =

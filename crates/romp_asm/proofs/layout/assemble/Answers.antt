@@ -1,11 +1,9 @@
-use Rattle.romp_asm.proofs.Lemmas.{[], ◌++◌, append-nil, refl, err_from_is_err_and, LaidTo, laid_all, laid_none, text_as_itself}
+use Rattle.romp_asm.proofs.Lemmas.{[], ◌++◌, append-nil, refl, err_from_is_err_and, LaidTo, laid_all, laid_none, text_as_itself, arith, common_steps}
 use Rattle.romp_asm.proofs.layout.assemble.Goals as goal
 use Rattle.romp_asm.proofs.layout.assemble.Goals.{After-add_text}
 
 start : (c : goal.After-add_text) → LaidTo c.args.statements.now [] (c.args.statements.now ++ []) c.new-output.result
-start c =
-    rw append-nil
-    (laid_none c.args.statements.now c.new-output.result c.new-output.ensures.image c.new-output.ensures.entry c.new-output.ensures.windows)
+start c = grind (arith, common_steps, append-nil, laid_none)
 
 pub returns-in_err-add_text : goal.returns-in_err-add_text
 returns-in_err-add_text c =

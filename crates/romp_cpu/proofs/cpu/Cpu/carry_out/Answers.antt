@@ -109,18 +109,19 @@ returns-clause-tried g c =
     let cpu = at c.args.self.now c.args.iar.now in
     let state = s.state c.args.storage.now in
     let seen_of = seen_in s.byte_at (answer_in s.registers s.is_in_frame s.refuses) s.stored in
-    let same : (c.match-ready.self ≡ cpu) × (s.state c.match-ready.storage ≡ state) = elim c.match-ready.branch [
+    let standing = λ (now : Cpu). at now c.args.iar.now in
+    let same : (standing c.match-ready.self ≡ cpu) × (s.state c.match-ready.storage ≡ state) = elim c.match-ready.branch [
       | in-Some+in_default-do_alone+in-Some-Does+else-act_at_once+in-Load+in-Some-link w ↦
           let none = idle w.act_at_once.result (seen_of state) (record cpu { regs = w.do_alone.new.regs; cs = w.do_alone.new.cs }) w.act_at_once.new.self (s.state w.act_at_once.new.storage) _ w.if-act_at_once.false w.act_at_once.ensures in
-          (w.self-is ∙ none.0 ∙ whole cpu w.do_alone.new.regs w.do_alone.new.cs w.in_default-do_alone.ensures.stays, ap s.state w.storage-is ∙ none.1)
+          (ap standing (w.self-is ∙ none.0 ∙ whole cpu w.do_alone.new.regs w.do_alone.new.cs w.in_default-do_alone.ensures.stays), ap s.state w.storage-is ∙ none.1)
       | in-Some+in_default-do_alone+in-Some-Does+else-act_at_once+in-Store+in-Some-this w ↦
           let none = idle w.act_at_once.result (seen_of state) (record cpu { regs = w.do_alone.new.regs; cs = w.do_alone.new.cs }) w.act_at_once.new.self (s.state w.act_at_once.new.storage) _ w.if-act_at_once.false w.act_at_once.ensures in
-          (w.self-is ∙ none.0 ∙ whole cpu w.do_alone.new.regs w.do_alone.new.cs w.in_default-do_alone.ensures.stays, ap s.state w.storage-is ∙ none.1)
+          (ap standing (w.self-is ∙ none.0 ∙ whole cpu w.do_alone.new.regs w.do_alone.new.cs w.in_default-do_alone.ensures.stays), ap s.state w.storage-is ∙ none.1)
       | in-Some+in_default-do_alone+in-Some-Does+else-act_at_once+in-Nothing-1 w ↦
           let none = idle w.act_at_once.result (seen_of state) (record cpu { regs = w.do_alone.new.regs; cs = w.do_alone.new.cs }) w.act_at_once.new.self (s.state w.act_at_once.new.storage) _ w.if-act_at_once.false w.act_at_once.ensures in
-          (w.self-is ∙ none.0 ∙ whole cpu w.do_alone.new.regs w.do_alone.new.cs w.in_default-do_alone.ensures.stays, ap s.state w.storage-is ∙ none.1)
-      | in-Some+in_default-do_alone+in-Some+in-Fails-1 w ↦ (w.self-is ∙ whole cpu w.do_alone.new.regs w.do_alone.new.cs w.in_default-do_alone.ensures.stays, ap s.state w.storage-is)
-      | in-Some+in_default-do_alone+in-None-1 w ↦ (w.self-is ∙ whole cpu w.do_alone.new.regs w.do_alone.new.cs w.in_default-do_alone.ensures.stays, ap s.state w.storage-is)
-      | in_default w ↦ (w.self-is, ap s.state w.storage-is)
+          (ap standing (w.self-is ∙ none.0 ∙ whole cpu w.do_alone.new.regs w.do_alone.new.cs w.in_default-do_alone.ensures.stays), ap s.state w.storage-is ∙ none.1)
+      | in-Some+in_default-do_alone+in-Some+in-Fails-1 w ↦ (ap standing (w.self-is ∙ whole cpu w.do_alone.new.regs w.do_alone.new.cs w.in_default-do_alone.ensures.stays), ap s.state w.storage-is)
+      | in-Some+in_default-do_alone+in-None-1 w ↦ (ap standing (w.self-is ∙ whole cpu w.do_alone.new.regs w.do_alone.new.cs w.in_default-do_alone.ensures.stays), ap s.state w.storage-is)
+      | in_default w ↦ (ap standing w.self-is, ap s.state w.storage-is)
     ] in
-    again seen_of (λ (at : g.row.S-State.Denot) (now : Cpu). plan (halfword_of (s.byte_at at)) now.regs now.cs now.iar) state (s.state c.match-ready.storage) cpu c.match-ready.self _ same c.carry_out_anew.ensures.tried
+    again seen_of (λ (at : g.row.S-State.Denot) (now : Cpu). plan (halfword_of (s.byte_at at)) now.regs now.cs now.iar) state (s.state c.match-ready.storage) cpu (standing c.match-ready.self) _ same c.carry_out_anew.ensures.tried
