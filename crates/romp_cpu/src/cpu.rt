@@ -97,12 +97,12 @@ impl Cpu {
                 *iar = next;
                 return true;
             }
-            self.iar = *iar;
             if let Some(Pending::Does { act, next, link }) = start_wanting(row, &self.regs, *iar) {
                 if self.act_at_once(storage, act, next, link) {
                     *iar = self.iar;
                     return true;
                 }
+                self.iar = *iar;
                 match (act, link) {
                     (
                         Act::Load {
