@@ -1,3 +1,4 @@
+pub mod Guesses
 pub mod Line
 pub mod ReadLines
 pub mod Words

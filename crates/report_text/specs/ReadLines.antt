@@ -1,5 +1,5 @@
 -- The lines whose bytes make up a text, and the first that is none.
-use Rattle.std.specs.Prelude.{◌≡◌, ◌≢◌, ℕ, ◌+◌, ◌^◌, ◌<◌, ◌≤◌, List, [], ◌++◌, ◌∷◌, length, map, filter, All, Option}
+use Rattle.std.specs.Prelude.{◌≡◌, ◌≢◌, ℕ, ◌+◌, ◌^◌, ◌<◌, ◌≤◌, List, [], ◌++◌, ◌∷◌, ◌⊎◌, length, map, filter, All, Option, Result, IfOk, MatchOption}
 use Rattle.std.specs.List.{flat_map}
 use Rattle.std.specs.Option.{option_to_list}
 use Rattle.desk.specs.Commits.{is_commit}
@@ -7,7 +7,10 @@ use Rattle.desk.specs.Lines as report
 use Rattle.desk.specs.Lines.{line_text}
 use Rattle.job_text.specs.Ready.{IsName}
 use Rattle.report_text.specs.Line.{commit_told}
+use Rattle.report_text.specs.Words.{bytes_in, numbers_in}
 use Rattle.report_text.specs.declared.line.CommitLine.{CommitLine}
+use Rattle.report_text.specs.declared.read.LinesFault.{LinesFault}
+use Rattle.report_text.specs.declared.read.LinesFault.TheVariants as lines
 
 -- the numbers of a line are of the widths of their types
 abbrev pub HasWidths : report.Line → Type 0
@@ -65,6 +68,27 @@ Tells told line = map commit_told (option_to_list told) ≡ filter is_commit (li
 abbrev pub BeginsWithNone : List ℕ → Type 0
 BeginsWithNone text = (line : report.Line) (behind : List ℕ) → IsLine line → text ≢ line_text line ++ behind
 
+-- a text begins with a line of which this is told, and this stands behind it
+abbrev pub BeginsWith : (text : List ℕ) → Option CommitLine → (rest : List ℕ) → Type 0
+BeginsWith text told rest = (line : report.Line) × IsLine line × Tells told line × (text ≡ line_text line ++ rest)
+
+-- a text is a line of which this is told
+abbrev pub IsToldLine : (text : List ℕ) → Option CommitLine → Type 0
+IsToldLine text told = (line : report.Line) × IsLine line × Tells told line × (text ≡ line_text line)
+
+-- a text is no line
+abbrev pub IsNoLine : List ℕ → Type 0
+IsNoLine text = (line : report.Line) → IsLine line → text ≢ line_text line
+
+-- a text is no line that has these lists
+abbrev pub IsNoLineWith : (numbers bytes text : List ℕ) → Type 0
+IsNoLineWith numbers bytes text =
+    (line : report.Line) → IsLine line → numbers ≡ numbers_in line → bytes ≡ bytes_in line → text ≢ line_text line
+
+-- where there was memory nothing is found, and this holds, or what is found is such a one
+abbrev pub Finds : {A E : Type 0} → Result (Option A) E → (none : Type 0) → (some : A → Type 0) → Type 0
+Finds result none some = IfOk result (λ found. MatchOption found none some)
+
 -- the first line of a text that is none has this number, counted from 1: behind the lines before it more stands, and begins with no line
 pub record IsFirstBad (text : List ℕ) (number : ℕ) : Type 0 where
   pub before : List report.Line
@@ -74,3 +98,7 @@ pub record IsFirstBad (text : List ℕ) (number : ℕ) : Type 0 where
   pub bytes : text ≡ flat_map line_text before ++ rest
   pub more : rest ≢ []
   pub none : BeginsWithNone rest
+
+-- why a text isn't read: its first line that is none, or no memory
+abbrev pub IsLinesFault : (text : List ℕ) → LinesFault → Type 0
+IsLinesFault text fault = ((number : ℕ) × (fault ≡ lines.Bad number) × IsFirstBad text number) ⊎ (fault ≡ lines.Memory)

@@ -1,6 +1,6 @@
 -- A line as its words.
-use Rattle.std.specs.Prelude.{◌≡◌, ℕ, ◌==◌, nat_lt, Bool, true, List, [], ◌∷◌, map, codes, decimal}
-use Rattle.std.specs.List.{list_all}
+use Rattle.std.specs.Prelude.{◌≡◌, ℕ, ◌<◌, ◌^◌, ◌==◌, nat_lt, Bool, true, List, [], ◌∷◌, map, codes, decimal, All}
+use Rattle.std.specs.List.{AllByRecursion, join_with_byte, list_all}
 use Rattle.byteorder.specs.Endian.{big_bytes}
 use Rattle.hex.specs.Hex.{encode_lower}
 use Rattle.desk.specs.Lines.{Line, Open, Begin, Busy, NoSegment, Idle, Turn, Cycle, Victim, Commit, Check, Wait, Journal, Disk, Doubt, Closed, Stored, Lost, Left, End, printed}
@@ -16,6 +16,32 @@ is_feed byte = byte == 10
 -- the bytes of a word all come behind the space
 abbrev pub IsOneWord : List ℕ → Type 0
 IsOneWord word = list_all (nat_lt 32) word ≡ true
+
+-- a text is these words, with a space between two
+abbrev pub AreWordsOf : List ℕ → List (List ℕ) → Type 0
+AreWordsOf text words = text ≡ join_with_byte 32 words
+
+-- where a text is a word and others behind it, these are that word and the text of the others
+abbrev pub IsSplit : (text first rest : List ℕ) → Type 0
+IsSplit text first rest =
+    (word : List ℕ) (words : List (List ℕ)) → IsOneWord word → AreWordsOf text (word ∷ words) → (first ≡ word) × AreWordsOf rest words
+
+-- where a text is a word and others behind it, this is the text of the others
+abbrev pub IsBehind : (text rest : List ℕ) → Type 0
+IsBehind text rest = (word : List ℕ) (words : List (List ℕ)) → IsOneWord word → AreWordsOf text (word ∷ words) → AreWordsOf rest words
+
+-- where a text is a number of so many bits and words behind it, these are that number and the text of the words
+abbrev pub IsFirstNumber : (bits : ℕ) → (text : List ℕ) → (number : ℕ) → (rest : List ℕ) → Type 0
+IsFirstNumber bits text number rest =
+    (n : ℕ) (words : List (List ℕ)) → n < 2 ^ bits → AreWordsOf text (decimal n ∷ words) → (number ≡ n) × AreWordsOf rest words
+
+-- where a text is numbers of 32 bits, these are they
+abbrev pub AreSmallNumbers : (text numbers : List ℕ) → Type 0
+AreSmallNumbers text numbers = (ns : List ℕ) → AllByRecursion (λ n. n < 2 ^ 32) ns → AreWordsOf text (map decimal ns) → numbers ≡ ns
+
+-- where a word is printed bytes, these are they
+abbrev pub ArePrinted : (word bytes : List ℕ) → Type 0
+ArePrinted word bytes = (out : List ℕ) → All (λ byte. byte < 256) out → word ≡ printed out → bytes ≡ out
 
 -- the word that a line begins with
 abbrev pub kind_of : Line → List ℕ

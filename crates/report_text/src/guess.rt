@@ -1,12 +1,10 @@
 // The line that a text can only be, if it is one. Whether it is one shows by writing the line again.
-ghost use Rattle.std.specs.Prelude.{◌≡◌, ℕ, ◌<◌, ◌^◌, List, [], ◌∷◌, map, codes, decimal, All, IfOk};
-ghost use Rattle.std.specs.List.{join_with_byte};
+ghost use Rattle.std.specs.Prelude.{ℕ, List, IfOk};
 ghost use Rattle.desk.specs.Lines as report;
-ghost use Rattle.desk.specs.Lines.{printed};
 ghost use Rattle.job_text.specs.Ready.{IsName};
+ghost use Rattle.report_text.specs.Guesses.{AreBytesOf, AreCommitParts, AreListsOf, AreNamedParts, AreNumbersOf, AreWaitParts, IsGuess, IsGuessOf, IsIfParts};
 ghost use Rattle.report_text.specs.Line.{line_told};
-ghost use Rattle.report_text.specs.ReadLines.{HasWidths, IsLine};
-ghost use Rattle.report_text.specs.Words.{bytes_in, kind_of, numbers_in, parts_of};
+ghost use Rattle.report_text.specs.ReadLines.{HasWidths};
 
 use super::line::Line;
 use super::word::{address, all_small, behind, bytes, first_number, first_small, small, split};
@@ -23,8 +21,7 @@ pub(crate) struct Lists {
 impl Lists {
     /// The lists of the line that a text without its line feed can only be.
     pub(crate) fn of(alloc: Global, text: &[u8]) -> Result<Self, AllocError>
-        ensures { IfOk result (λ lists. (line : report.Line) → IsLine line → text.now ≡ join_with_byte 32 (kind_of line ∷ parts_of line)
-            → (lists.numbers.items ≡ numbers_in line) × (lists.bytes.items ≡ bytes_in line)) }
+        ensures { IfOk result (λ lists. AreListsOf text.now lists.numbers.items lists.bytes.items) }
     {
         let (kind, rest) = split(text);
         Ok(Lists {
@@ -36,8 +33,7 @@ impl Lists {
 
 /// The list of numbers that a line has which begins with this word.
 fn numbers_of(alloc: Global, kind: &[u8], rest: &[u8]) -> Result<Vec<u32>, AllocError>
-    ensures { IfOk result (λ numbers. (line : report.Line) → IsLine line → kind.now ≡ kind_of line
-        → rest.now ≡ join_with_byte 32 (parts_of line) → numbers.items ≡ numbers_in line) }
+    ensures { IfOk result (λ numbers. AreNumbersOf kind.now rest.now numbers.items) }
 {
     if kind == b"cycle".as_slice() {
         all_small(alloc, rest)
@@ -50,8 +46,7 @@ fn numbers_of(alloc: Global, kind: &[u8], rest: &[u8]) -> Result<Vec<u32>, Alloc
 
 /// The printed bytes that a line has which begins with this word.
 fn bytes_of(alloc: Global, kind: &[u8], rest: &[u8]) -> Result<Vec<u8>, AllocError>
-    ensures { IfOk result (λ bytes. (line : report.Line) → IsLine line → kind.now ≡ kind_of line
-        → rest.now ≡ join_with_byte 32 (parts_of line) → bytes.items ≡ bytes_in line) }
+    ensures { IfOk result (λ bytes. AreBytesOf kind.now rest.now bytes.items) }
 {
     if kind == b"commit".as_slice() {
         bytes(alloc, commit(rest).3)
@@ -62,8 +57,7 @@ fn bytes_of(alloc: Global, kind: &[u8], rest: &[u8]) -> Result<Vec<u8>, AllocErr
 
 /// The line that a text without its line feed can only be, whose lists are these.
 pub(crate) fn guess<'a>(lists: &'a Lists, text: &'a [u8]) -> Line<'a>
-    ensures is { (line : report.Line) → IsLine line → text.now ≡ join_with_byte 32 (kind_of line ∷ parts_of line)
-        → lists.now.numbers.items ≡ numbers_in line → lists.now.bytes.items ≡ bytes_in line → line_told result ≡ line }
+    ensures is { IsGuess text.now lists.now.numbers.items lists.now.bytes.items (line_told result) }
     ensures widths { HasWidths (line_told result) }
 {
     let (kind, rest) = split(text);
@@ -72,8 +66,7 @@ pub(crate) fn guess<'a>(lists: &'a Lists, text: &'a [u8]) -> Line<'a>
 
 /// The line that begins with this word and has these lists.
 fn of_kind<'a>(numbers: &'a [u32], bytes: &'a [u8], kind: &[u8], rest: &'a [u8]) -> Line<'a>
-    ensures is { (line : report.Line) → IsLine line → kind.now ≡ kind_of line → rest.now ≡ join_with_byte 32 (parts_of line)
-        → numbers.now ≡ numbers_in line → bytes.now ≡ bytes_in line → line_told result ≡ line }
+    ensures is { IsGuessOf kind.now rest.now numbers.now bytes.now (line_told result) }
     ensures widths { HasWidths (line_told result) }
 {
     if kind == b"open".as_slice() {
@@ -127,15 +120,14 @@ fn of_kind<'a>(numbers: &'a [u32], bytes: &'a [u8], kind: &[u8], rest: &'a [u8])
 
 /// `begin A NAME` and `busy A NAME`: the activation and the name.
 fn named(rest: &[u8]) -> (u32, &[u8])
-    ensures { (a : ℕ) (name : List ℕ) → a < 2 ^ 32 → rest.now ≡ join_with_byte 32 (decimal a ∷ name ∷ []) → (result.0 ≡ a) × (result.1.now ≡ name) }
+    ensures { AreNamedParts rest.now result.0 result.1.now }
 {
     first_small(rest)
 }
 
 /// `nosegment A NAME S`.
 fn no_segment<'a>(rest: &'a [u8]) -> Line<'a>
-    ensures is { (a : ℕ) (name : List ℕ) (s : ℕ) → a < 2 ^ 32 → IsName name → s < 2 ^ 32
-        → rest.now ≡ join_with_byte 32 (decimal a ∷ name ∷ decimal s ∷ []) → line_told result ≡ report.NoSegment a name s }
+    ensures is { (a s : ℕ) (name : List ℕ) → IsName name → IsIfParts rest.now (line_told result) (report.NoSegment a name s) }
     ensures widths { HasWidths (line_told result) }
 {
     let (activation, rest) = first_small(rest);
@@ -146,8 +138,7 @@ fn no_segment<'a>(rest: &'a [u8]) -> Line<'a>
 
 /// `turn A ran E page P lock L`.
 fn turn<'a>(rest: &[u8]) -> Line<'a>
-    ensures is { (a r p l : ℕ) → a < 2 ^ 32 → r < 2 ^ 32 → p < 2 ^ 32 → l < 2 ^ 32
-        → rest.now ≡ join_with_byte 32 (parts_of (report.Turn a r p l)) → line_told result ≡ report.Turn a r p l }
+    ensures is { (a r p l : ℕ) → IsIfParts rest.now (line_told result) (report.Turn a r p l) }
     ensures widths { HasWidths (line_told result) }
 {
     let (activation, rest) = first_small(rest);
@@ -164,8 +155,7 @@ fn turn<'a>(rest: &[u8]) -> Line<'a>
 
 /// `commit A number N steps S out HEX`: its numbers, and the word of the bytes.
 fn commit(rest: &[u8]) -> (u32, u64, u64, &[u8])
-    ensures { (a n s : ℕ) (out : List ℕ) → a < 2 ^ 32 → n < 2 ^ 64 → s < 2 ^ 64 → rest.now ≡ join_with_byte 32 (parts_of (report.Commit a n s out))
-        → (result.0 ≡ a) × (result.1 ≡ n) × (result.2 ≡ s) × (result.3.now ≡ printed out) }
+    ensures { AreCommitParts rest.now result.0 result.1 result.2 result.3.now }
 {
     let (activation, rest) = first_small(rest);
     let (number, rest) = first_number(behind(rest));
@@ -175,8 +165,7 @@ fn commit(rest: &[u8]) -> (u32, u64, u64, &[u8])
 
 /// `check A code C at H`.
 fn check<'a>(rest: &[u8]) -> Line<'a>
-    ensures is { (a c h : ℕ) → a < 2 ^ 32 → c < 2 ^ 32 → h < 2 ^ 32
-        → rest.now ≡ join_with_byte 32 (parts_of (report.Check a c h)) → line_told result ≡ report.Check a c h }
+    ensures is { (a c h : ℕ) → IsIfParts rest.now (line_told result) (report.Check a c h) }
     ensures widths { HasWidths (line_told result) }
 {
     let (activation, rest) = first_small(rest);
@@ -190,8 +179,7 @@ fn check<'a>(rest: &[u8]) -> Line<'a>
 
 /// `wait A for U ..`: its activation, and the words of the others.
 fn wait(rest: &[u8]) -> (u32, &[u8])
-    ensures { (a : ℕ) (holders : List ℕ) → a < 2 ^ 32 → rest.now ≡ join_with_byte 32 (parts_of (report.Wait a holders))
-        → (result.0 ≡ a) × (result.1.now ≡ join_with_byte 32 (map decimal holders)) }
+    ensures { AreWaitParts rest.now result.0 result.1.now }
 {
     let (activation, rest) = first_small(rest);
     (activation, behind(rest))
@@ -199,8 +187,7 @@ fn wait(rest: &[u8]) -> (u32, &[u8])
 
 /// `journal A lines L limit M`.
 fn journal<'a>(rest: &[u8]) -> Line<'a>
-    ensures is { (a l m : ℕ) → a < 2 ^ 32 → l < 2 ^ 32 → m < 2 ^ 32
-        → rest.now ≡ join_with_byte 32 (parts_of (report.Journal a l m)) → line_told result ≡ report.Journal a l m }
+    ensures is { (a l m : ℕ) → IsIfParts rest.now (line_told result) (report.Journal a l m) }
     ensures widths { HasWidths (line_told result) }
 {
     let (activation, rest) = first_small(rest);
@@ -215,8 +202,7 @@ fn journal<'a>(rest: &[u8]) -> Line<'a>
 
 /// `doubt A number N`.
 fn doubt<'a>(rest: &[u8]) -> Line<'a>
-    ensures is { (a n : ℕ) → a < 2 ^ 32 → n < 2 ^ 64
-        → rest.now ≡ join_with_byte 32 (parts_of (report.Doubt a n)) → line_told result ≡ report.Doubt a n }
+    ensures is { (a n : ℕ) → IsIfParts rest.now (line_told result) (report.Doubt a n) }
     ensures widths { HasWidths (line_told result) }
 {
     let (activation, rest) = first_small(rest);

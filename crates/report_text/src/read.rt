@@ -9,7 +9,7 @@ ghost use Rattle.job_text.specs.Ready.{IsName};
 ghost use Rattle.report_text.specs.declared.read.LinesFault.TheVariants as lines;
 ghost use Rattle.report_text.specs.Line.{IsShort, commit_told, line_told};
 ghost use Rattle.report_text.specs.Words.{bytes_in, numbers_in};
-ghost use Rattle.report_text.specs.ReadLines.{Tells, AreCommitsOf, BeginsWithNone, IsFirstBad, IsLine, IsWhole};
+ghost use Rattle.report_text.specs.ReadLines.{AreCommitsOf, BeginsWith, BeginsWithNone, Finds, IsLinesFault, IsNoLine, IsNoLineWith, IsToldLine, IsWhole};
 
 use super::guess::{Lists, guess};
 use super::line::{CommitLine, Line};
@@ -51,8 +51,7 @@ impl<T: Drop> From<AllocFailed<T>> for LinesFault {
 /// [`LinesFault::Memory`] where there is no memory.
 pub fn read_commits(alloc: Global, text: &[u8]) -> Result<Vec<CommitLine>, LinesFault>
     requires { length text.now < 2 ^ 32 }
-    ensures { MatchResult result (λ read. AreCommitsOf text.now read.items)
-        (λ told. ((number : ℕ) × (told ≡ lines.Bad number) × IsFirstBad text.now number) ⊎ (told ≡ lines.Memory)) }
+    ensures { MatchResult result (λ read. AreCommitsOf text.now read.items) (IsLinesFault text.now) }
 {
     let mut commits = Vec::new(alloc);
     let mut room = TextLine::new();
@@ -88,8 +87,7 @@ fn next_line<'a>(
     room: &mut TextLine,
     text: &'a [u8],
 ) -> Result<Option<(Option<CommitLine>, &'a [u8])>, AllocError>
-    ensures { IfOk result (λ found. MatchOption found (BeginsWithNone text.now)
-        (λ told. (line : report.Line) × IsLine line × Tells told.0 line × (text.now ≡ line_text line ++ told.1.now))) }
+    ensures { Finds result (BeginsWithNone text.now) (λ told. BeginsWith text.now told.0 told.1.now) }
 {
     match place_of(b'\n', text) {
         Some(at) => match whole_line(alloc, room, &text[..at + 1])? {
@@ -107,9 +105,7 @@ fn whole_line(
     text: &[u8],
 ) -> Result<Option<Option<CommitLine>>, AllocError>
     requires { 0 < length text.now }
-    ensures { IfOk result (λ found. MatchOption found
-        ((line : report.Line) → IsLine line → text.now ≢ line_text line)
-        (λ told. (line : report.Line) × IsLine line × Tells told line × (text.now ≡ line_text line))) }
+    ensures { Finds result (IsNoLine text.now) (IsToldLine text.now) }
 {
     let lists = Lists::of(alloc, &text[..text.len() - 1])?;
     line_with(alloc, room, &lists, text)
@@ -123,9 +119,7 @@ fn line_with(
     text: &[u8],
 ) -> Result<Option<Option<CommitLine>>, AllocError>
     requires { 0 < length text.now }
-    ensures { IfOk result (λ found. MatchOption found
-        ((line : report.Line) → IsLine line → lists.now.numbers.items ≡ numbers_in line → lists.now.bytes.items ≡ bytes_in line → text.now ≢ line_text line)
-        (λ told. (line : report.Line) × IsLine line × Tells told line × (text.now ≡ line_text line))) }
+    ensures { Finds result (IsNoLineWith lists.now.numbers.items lists.now.bytes.items text.now) (IsToldLine text.now) }
 {
     let line = guess(lists, &text[..text.len() - 1]);
     if are_bytes_of(room, &line, text) {

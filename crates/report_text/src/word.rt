@@ -5,7 +5,7 @@ ghost use Rattle.byteorder.specs.Endian.{big_bytes};
 ghost use Rattle.hex.specs.Hex.{encode_lower};
 ghost use Rattle.hex.specs.declared.error.FromHexError.TheVariants.{OutOfMemory};
 ghost use Rattle.desk.specs.Lines.{printed};
-ghost use Rattle.report_text.specs.Words.{IsOneWord, is_space};
+ghost use Rattle.report_text.specs.Words.{ArePrinted, AreSmallNumbers, IsBehind, IsFirstNumber, IsSplit, is_space};
 
 use byteorder::{BigEndian, ByteOrder};
 use hex::FromHexError;
@@ -16,8 +16,7 @@ use text_line::{number, place_of};
 pub(crate) fn split(text: &[u8]) -> (&[u8], &[u8])
     ensures first { result.0.now ≡ before_first is_space text.now }
     ensures rest { result.1.now ≡ after_first is_space text.now }
-    ensures parts { (word : List ℕ) (words : List (List ℕ)) → IsOneWord word
-        → text.now ≡ join_with_byte 32 (word ∷ words) → (result.0.now ≡ word) × (result.1.now ≡ join_with_byte 32 words) }
+    ensures parts { IsSplit text.now result.0.now result.1.now }
     ensures shorter { length text.now ≢ 0 → length result.1.now < length text.now }
 {
     match place_of(b' ', text) {
@@ -29,8 +28,7 @@ pub(crate) fn split(text: &[u8]) -> (&[u8], &[u8])
 /// What comes after the first word of a text.
 pub fn behind(text: &[u8]) -> &[u8]
     ensures value { result.now ≡ after_first is_space text.now }
-    ensures parts { (word : List ℕ) (words : List (List ℕ)) → IsOneWord word
-        → text.now ≡ join_with_byte 32 (word ∷ words) → result.now ≡ join_with_byte 32 words }
+    ensures parts { IsBehind text.now result.now }
 {
     split(text).1
 }
@@ -45,8 +43,7 @@ pub(crate) fn small(word: &[u8]) -> u32
 /// The number that a text begins with, anything where its first word is none; and what comes after that word.
 pub fn first_number(text: &[u8]) -> (u64, &[u8])
     ensures rest { result.1.now ≡ after_first is_space text.now }
-    ensures parts { (n : ℕ) (words : List (List ℕ)) → n < 2 ^ 64
-        → text.now ≡ join_with_byte 32 (decimal n ∷ words) → (result.0 ≡ n) × (result.1.now ≡ join_with_byte 32 words) }
+    ensures parts { IsFirstNumber 64 text.now result.0 result.1.now }
 {
     let (word, rest) = split(text);
     (number(word), rest)
@@ -54,8 +51,7 @@ pub fn first_number(text: &[u8]) -> (u64, &[u8])
 
 /// The number of 32 bits that a text begins with, and what comes after it.
 pub(crate) fn first_small(text: &[u8]) -> (u32, &[u8])
-    ensures parts { (n : ℕ) (words : List (List ℕ)) → n < 2 ^ 32
-        → text.now ≡ join_with_byte 32 (decimal n ∷ words) → (result.0 ≡ n) × (result.1.now ≡ join_with_byte 32 words) }
+    ensures parts { IsFirstNumber 32 text.now result.0 result.1.now }
     ensures shorter { length text.now ≢ 0 → length result.1.now < length text.now }
 {
     let (word, rest) = split(text);
@@ -64,8 +60,7 @@ pub(crate) fn first_small(text: &[u8]) -> (u32, &[u8])
 
 /// The numbers of 32 bits that a text is.
 pub(crate) fn all_small(alloc: Global, text: &[u8]) -> Result<Vec<u32>, AllocError>
-    ensures { IfOk result (λ numbers. (ns : List ℕ) → AllByRecursion (λ n. n < 2 ^ 32) ns
-        → text.now ≡ join_with_byte 32 (map decimal ns) → numbers.items ≡ ns) }
+    ensures { IfOk result (λ numbers. AreSmallNumbers text.now numbers.items) }
 {
     let mut numbers = Vec::new(alloc);
     let mut left = text;
@@ -79,7 +74,7 @@ pub(crate) fn all_small(alloc: Global, text: &[u8]) -> Result<Vec<u32>, AllocErr
 
 /// The printed bytes that a word is.
 pub(crate) fn bytes(alloc: Global, word: &[u8]) -> Result<Vec<u8>, AllocError>
-    ensures { IfOk result (λ bytes. (out : List ℕ) → All (λ byte. byte < 256) out → word.now ≡ printed out → bytes.items ≡ out) }
+    ensures { IfOk result (λ bytes. ArePrinted word.now bytes.items) }
 {
     match hex::decode(alloc, word) {
         Ok(bytes) => Ok(bytes),

@@ -4,7 +4,8 @@ pub use Rattle.desk.specs.Commits.{begun}
 pub use Rattle.desk.specs.declared.event.Event.{Event}
 pub use Rattle.flat_machine.specs.Serial.{Activation, before_commit, committing, numbered, serial}
 pub use Rattle.flat_machine.specs.declared.machine.Plain.{Plain}
+pub use Rattle.flat_machine.specs.declared.machine.Program.{Program}
 pub use Rattle.job_text.specs.declared.job.Job.{Job}
 pub use Rattle.lines.specs.Conflicts.{Lines, no_lines}
-pub use Rattle.lines.specs.Directory.{byte_count}
+pub use Rattle.lines.specs.Directory.{byte_count, Layout}
 pub use Rattle.lines.specs.FlatStore.{FlatStore, IsWhole}

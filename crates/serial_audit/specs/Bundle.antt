@@ -1,6 +1,7 @@
 -- A bundle: a first line with four lengths, and behind it so many bytes of a job, of a report, of an opening store and of a closing store.
-use Rattle.std.specs.Prelude.{◌≡◌, ◌≢◌, ℕ, ◌+◌, ◌≤◌, ◌⊎◌, List, [], ◌∷◌, ◌++◌, length, codes, decimal}
+use Rattle.std.specs.Prelude.{◌≡◌, ◌≢◌, ℕ, ◌+◌, ◌≤◌, ◌⊎◌, List, [], ◌∷◌, ◌++◌, length, codes, decimal, Option, MatchOption}
 use Rattle.desk.specs.Lines.{spaced}
+use Rattle.report_text.specs.Words.{AreWordsOf}
 use Rattle.serial_audit.specs.declared.bundle.Bundle.{Bundle}
 use Rattle.serial_audit.specs.declared.bundle.Lengths.{Lengths}
 
@@ -64,3 +65,12 @@ pub record HasOneSplitting : Type 0 where
 -- the four lengths
 abbrev pub sizes_of : Lengths → Sizes
 sizes_of lengths = record { job = lengths.job; report = lengths.report; opening = lengths.opening; closing = lengths.closing }
+
+-- where a line is the words of a first line with allowed lengths, these are they
+abbrev pub TellsSizes : (line : List ℕ) → Sizes → Type 0
+TellsSizes line told = (sizes : Sizes) → AreAllowed sizes → AreWordsOf line (head_words sizes) → told ≡ sizes
+
+-- parts of these sizes, one behind the other from a place on, if they end at this end
+abbrev pub ArePlaced : (begin end : ℕ) → Sizes → Option Bundle → Type 0
+ArePlaced begin end sizes found =
+    MatchOption found (begin + size_of sizes ≢ end) (λ bundle. (begin + size_of sizes ≡ end) × (bundle ≡ bundle_from begin sizes))

@@ -1,10 +1,11 @@
 -- What a job says of its activations, and how far commit lines are sound.
-use Rattle.std.specs.Prelude.{◌≡◌, ℕ, ◌+◌, ◌≤◌, ◌%◌, ◌^◌, List, [], ◌∷◌, ◌++◌, length, map, Option, Some, None, ◌-◌, ◌==◌, ◌||◌, ◌↔◌, IsTrue, false, min, sum, slice_get, MatchOption}
-use Rattle.serial_audit.specs.Below.{Activation, before_commit, Contains, FlatStore, Job, numbered, Plain, serial, Event}
+use Rattle.std.specs.Prelude.{◌≡◌, ℕ, ◌+◌, ◌≤◌, ◌%◌, ◌^◌, List, [], ◌∷◌, ◌++◌, length, map, Option, Some, None, ◌-◌, ◌==◌, ◌||◌, ◌↔◌, IsTrue, false, min, sum, slice_get, MatchOption, Result, option_map, ◌<◌, ◌≢◌, IfOk, MatchResult, IfSome}
+use Rattle.serial_audit.specs.Below.{Activation, before_commit, Contains, FlatStore, Job, numbered, Plain, serial, Event, Layout, Program, byte_count, begun, All}
 use Rattle.serial_audit.specs.declared.auditing.KeptStore.{KeptStore}
 use Rattle.serial_audit.specs.declared.auditing.Progress.{Progress}
-use Rattle.serial_audit.specs.Audit.{IsSound, Told, activations_of, flat_of, pair_of, steps_allowed, limit_of}
+use Rattle.serial_audit.specs.Audit.{IsSound, Told, activations_of, flat_of, pair_of, steps_allowed, limit_of, told_of, AreSound, IsFirstUnsound}
 use Rattle.serial_audit.specs.declared.index.Entry.{Entry}
+use Rattle.report_text.specs.declared.line.CommitLine.{CommitLine}
 
 -- the activation of an entry
 abbrev pub activation_in : Entry → Activation
@@ -69,3 +70,70 @@ pub record Replays (activation : Activation) (store : FlatStore) (told : Told) (
   pub commits : before_commit activation told.steps store ≡ Some state
   pub prints : told.out ≡ state.out
   pub leaves : bytes ≡ state.store
+
+-- where there was memory this holds of what was found, if something was
+abbrev pub IfFound : {A E : Type 0} → Result (Option A) E → (A → Type 0) → Type 0
+IfFound result is = IfOk result (λ found. IfSome found is)
+
+-- how far commit lines are sound: all are, and a check stands behind them; or the first that isn't has this number
+abbrev pub IsProgress : Job → KeptStore → List Told → Result Progress ℕ → Type 0
+IsProgress job opening lines found =
+    MatchResult found (λ progress. AreSound job opening lines × Stands job opening lines progress) (IsFirstUnsound job opening lines)
+
+-- at most so many commits were taken, and the store is one of a directory
+pub record IsWithin (directory : Layout) (most : ℕ) (progress : Progress) : Type 0 where
+  pub few : progress.commits ≤ most
+  pub whole : length progress.store ≡ byte_count directory
+
+-- a check takes a commit line exactly where it is sound behind those at which the check stands
+abbrev pub Takes : Layout → Progress → Told → Option Progress → Type 0
+Takes directory progress told found =
+    (job : Job) (opening : KeptStore) (before : List Told)
+    → opening.directory ≡ directory → Stands job opening before progress → IsTaken job opening before told found
+
+-- the entry of a commit line that may follow those at which a check stands; none where it may not
+abbrev pub IsEntryFor : Progress → CommitLine → Option Entry → Type 0
+IsEntryFor progress commit found =
+    (job : Job) (opening : KeptStore) (before : List Told) → Stands job opening before progress
+    → MatchOption found
+    ((activation : Activation) → ¬ (MayFollow job opening before (told_of commit) activation))
+    (λ entry. MayFollow job opening before (told_of commit) (activation_in entry) × IsEntryOf job before commit.activation entry)
+
+-- a kept store is the one at which a check stands, over this directory
+abbrev pub IsAt : Layout → Progress → KeptStore → Type 0
+IsAt directory progress closing =
+    (closing.directory ≡ directory) × (closing.number ≡ progress.number) × (closing.store.items ≡ progress.store)
+
+-- two directories have the same pages and segments, with whatever flags
+abbrev pub AreAlike : Layout → Layout → Type 0
+AreAlike one other = (one.page ≡ other.page) × (one.segments ≡ other.segments)
+
+-- these are the entries of the begins among events, of no turn and no commit
+pub record AreFresh (programs : List Program) (events : List Event) (entries : List Entry) : Type 0 where
+  pub begun : map activation_in entries ≡ begun programs events
+  pub fresh : All IsFresh entries
+
+-- each entry is the old one at its place, changed so
+abbrev pub AreChanged : (change : ℕ → Entry → Entry) → (old new : List Entry) → Type 0
+AreChanged change old new = (place : ℕ) → slice_get new place ≡ option_map (change place) (slice_get old place)
+
+-- the place of an activation among so many, if it is one of them
+abbrev pub IsPlaceOf : (count activation : ℕ) → Option ℕ → Type 0
+IsPlaceOf count activation found =
+    MatchOption found ((place : ℕ) → place < count → place + 1 ≢ activation) (λ place. (place < count) × (place + 1 ≡ activation))
+
+-- the bytes that a program leaves where it runs again on a store as a commit line tells; none where it doesn't
+abbrev pub RunsAgain : Program → (args : List ℕ) → Layout → (store : List ℕ) → Told → Option (List ℕ) → Type 0
+RunsAgain program args directory store told found =
+    let activation : Activation = record { program = program; args = args } in
+    let flat : FlatStore = record { directory = directory; bytes = store } in
+    MatchOption found ((bytes : List ℕ) → ¬ (Replays activation flat told bytes)) (Replays activation flat told)
+
+-- the store of a state that printed just these bytes; none where it printed others
+abbrev pub IsLeftBy : Plain → (out : List ℕ) → Option (List ℕ) → Type 0
+IsLeftBy state out found = MatchOption found (out ≢ state.out) (λ bytes. (out ≡ state.out) × (bytes ≡ state.store))
+
+-- the state in which a program comes to the commit call as its step with this number, on a store
+abbrev pub ComesToCommit : Program → (args : List ℕ) → (steps : ℕ) → Layout → (store : List ℕ) → Option Plain → Type 0
+ComesToCommit program args steps directory store found =
+    found ≡ before_commit (record { program = program; args = args }) steps (record { directory = directory; bytes = store })

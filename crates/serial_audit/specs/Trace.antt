@@ -1,15 +1,21 @@
 -- The lines that an activation touches as its serial run does.
-use Rattle.std.specs.Prelude.{◌≡◌, ℕ, ◌-◌, Bool, false, true, List, [], ◌∷◌, ◌++◌, map, Some, Result, Ok, Err, Option, None}
-use Rattle.serial_audit.specs.Below.{Activation, Contains, flat_map, FlatStore, Job, Lines, numbered, range_with_len, serial, before_commit, IsWhole, Plain, no_lines}
+use Rattle.std.specs.Prelude.{◌≡◌, ℕ, ◌-◌, Bool, false, true, List, [], ◌∷◌, ◌++◌, map, Some, Result, Ok, Err, Option, None, Vec, ◌<◌, MatchOption, length, take}
+use Rattle.serial_audit.specs.Below.{Activation, Contains, flat_map, FlatStore, Job, Lines, numbered, range_with_len, serial, before_commit, IsWhole, Plain, no_lines, Layout, Program}
 use Rattle.flat_machine.specs.Due.{touched_next}
 use Rattle.serial_audit.specs.declared.auditing.KeptStore.{KeptStore}
-use Rattle.serial_audit.specs.Audit.{AreSound, IsFirstUnsound, Told, activations_of, flat_of, pair_of}
+use Rattle.serial_audit.specs.Audit.{AreSound, IsFirstUnsound, Told, activations_of, flat_of, pair_of, report_told, IsSound, told_of}
 use Rattle.serial_audit.specs.declared.answer.Trace.{Trace}
 use Rattle.serial_audit.specs.declared.answer.TraceFault.{TraceFault}
 use Rattle.serial_audit.specs.declared.answer.TraceFault.TheVariants.{Memory, NoCommit, NotSerial}
 use Rattle.serial_audit.specs.declared.touch.Touch.{Touch}
 use Rattle.flat_machine.specs.Agreement.{AgreeOn, AgreeBut}
 use Rattle.serial_audit.specs.declared.touch.Stretch.{Stretch}
+use Rattle.report_text.specs.declared.line.CommitLine.{CommitLine}
+use Rattle.std.specs.declared.alloc.Global.{Global}
+use Rattle.flat_machine.specs.Touched.{lines_at, touched}
+use Rattle.serial_audit.specs.declared.auditing.Progress.{Progress}
+use Rattle.flat_machine.specs.Row.{located}
+use Rattle.serial_audit.specs.Progress.{Stands}
 
 -- lines that are read, or written
 abbrev pub lines_by : Bool → List ℕ → Lines
@@ -86,3 +92,39 @@ TraceIsEnough =
     × (touches activation other steps ≡ touches activation store steps)
     × AgreeOn store.directory (lines_touched (touches activation store steps)) state.store bytes
     × AgreeBut store.directory (lines_touched (touches activation store steps)) other.bytes bytes
+
+-- the touches of a step were added, which reads and writes these lines
+abbrev pub Adds : (step : ℕ) → Lines → (old new : Vec Touch Global) → Type 0
+Adds step lines old new = new.items ≡ old.items ++ touches_of_step step lines
+
+-- the touches of a step were added, whose row is the next one at a state
+abbrev pub AddsNext : Program → Layout → Plain → (step : ℕ) → (old new : Vec Touch Global) → Type 0
+AddsNext program directory plain step old new = Adds step (touched program directory plain) old new
+
+-- the state in which a program comes to the commit call as its step with this number, and its touches; none where it doesn't
+abbrev pub IsTraced : Program → (args : List ℕ) → (steps : ℕ) → Layout → (store : List ℕ) → Option (Plain × Vec Touch Global) → Type 0
+IsTraced program args steps directory store found =
+    let activation : Activation = record { program = program; args = args } in
+    let flat : FlatStore = record { directory = directory; bytes = store } in
+    MatchOption found (before_commit activation steps flat ≡ None)
+    (λ traced. (before_commit activation steps flat ≡ Some traced.0) × (traced.1.items ≡ touches activation flat steps))
+
+-- these are the lines of an access to so many bytes at an effective address
+abbrev pub AreLinesAt : Program → Layout → (address bytes : ℕ) → (store : Bool) → Lines → Type 0
+AreLinesAt program directory address bytes store lines =
+    lines_by store (lines_at directory (located program directory address bytes store) bytes) ≡ lines
+
+-- no commit line is of an activation
+abbrev pub CommitsNever : List CommitLine → ℕ → Type 0
+CommitsNever report activation = ¬ (Contains (map (λ (line : Told). line.activation) (report_told report)) activation)
+
+-- the first commit line of an activation, behind so many others
+abbrev pub IsFirstAt : List CommitLine → (activation place : ℕ) → CommitLine → Type 0
+IsFirstAt report activation place commit =
+    (place < length report) × IsFirstOf (report_told report) activation (report_told (take place report)) (told_of commit)
+
+-- the touches of a commit line exactly where it is sound behind those at which a check stands
+abbrev pub Traces : Layout → Progress → Told → Option (Vec Touch Global) → Type 0
+Traces directory progress told found =
+    (job : Job) (opening : KeptStore) (before : List Told) → opening.directory ≡ directory → Stands job opening before progress
+    → MatchOption found (¬ (IsSound job opening before told)) (λ touches. IsSound job opening before told × AreTouches job opening before told touches.items)

@@ -2,7 +2,7 @@ ghost use Rattle.std.specs.Prelude.{◌≡◌, ◌+◌, ◌-◌, ◌<◌, ◌≤
 ghost use Rattle.serial_audit.specs.Below.{Activation, byte_count, Job};
 ghost use Rattle.serial_audit.specs.declared.auditing.KeptStore.{KeptStore};
 ghost use Rattle.serial_audit.specs.Audit.{AreSound, IsFirstUnsound, IsVerdict, Told, report_told, told_of};
-ghost use Rattle.serial_audit.specs.Progress.{IsEntryOf, activation_in, IsTaken, MayFollow, Stands};
+ghost use Rattle.serial_audit.specs.Progress.{IsEntryOf, activation_in, IsTaken, MayFollow, Stands, AreAlike, IsEntryFor, IsAt, Takes, IfFound, IsProgress, IsWithin};
 
 use super::index::{Entry, index_of, mark, place_among};
 use super::replay::replayed;
@@ -73,11 +73,8 @@ pub fn audit_lines<'j>(
 ) -> Result<Result<Progress<'j>, u32>, AllocError>
     requires store { length opening.now.store.items ≡ byte_count opening.now.directory }
     requires few { length lines.now < 2 ^ 32 - 1 }
-    ensures sound { IfOk result (λ found. MatchResult found
-        (λ progress. AreSound job.now opening.now (report_told lines.now) × Stands job.now opening.now (report_told lines.now) progress)
-        (λ place. IsFirstUnsound job.now opening.now (report_told lines.now) place)) }
-    ensures few { IfOk result (λ found. IfOk found (λ progress. progress.commits ≤ length lines.now)) }
-    ensures whole { IfOk result (λ found. IfOk found (λ progress. length progress.store ≡ byte_count opening.now.directory)) }
+    ensures sound { IfOk result (IsProgress job.now opening.now (report_told lines.now)) }
+    ensures bounds { IfOk result (λ found. IfOk found (IsWithin opening.now.directory (length lines.now))) }
 {
     let mut progress = Progress::new(alloc, job, opening)?;
     for commit in lines {
@@ -126,10 +123,9 @@ impl<'j> Progress<'j> {
     ) -> Result<Option<Self>, AllocError>
         requires whole { length self.store ≡ byte_count directory.now }
         requires few { self.commits < 2 ^ 32 - 1 }
-        ensures taken { IfOk result (λ found. (job : Job) (opening : KeptStore) (before : List Told) → opening.directory ≡ directory.now
-            → Stands job opening before self.entry → IsTaken job opening before (told_of commit.now) found) }
-        ensures one { IfOk result (λ found. IfSome found (λ progress. progress.commits ≡ self.entry.commits + 1)) }
-        ensures whole { IfOk result (λ found. IfSome found (λ progress. length progress.store ≡ byte_count directory.now)) }
+        ensures taken { IfOk result (Takes directory.now self.entry (told_of commit.now)) }
+        ensures one { IfFound result (λ progress. progress.commits ≡ self.entry.commits + 1) }
+        ensures whole { IfFound result (λ progress. length progress.store ≡ byte_count directory.now) }
     {
         let entry = match self.entry_for(commit) {
             Some(entry) => entry,
@@ -159,9 +155,7 @@ impl<'j> Progress<'j> {
     /// its activation, and tells no more steps than the activation's turns allow; none too where the job begins no such
     /// activation (docs/MODEL.md, "An audit").
     pub fn entry_for(&self, commit: &CommitLine) -> Option<Entry<'j>>
-        ensures { (job : Job) (opening : KeptStore) (before : List Told) → Stands job opening before self.now
-            → MatchOption result ((activation : Activation) → ¬ (MayFollow job opening before (told_of commit.now) activation))
-            (λ entry. MayFollow job opening before (told_of commit.now) (activation_in entry) × IsEntryOf job before commit.now.activation entry) }
+        ensures { IsEntryFor self.now commit.now result }
     {
         let place = match place_among(self.entries.len(), commit.activation) {
             Some(place) => place,
@@ -188,7 +182,7 @@ impl<'j> Progress<'j> {
 
     /// Whether a store is the one that the commits so far leave, under their number.
     fn is_at(&self, directory: &Directory, closing: &KeptStore) -> bool
-        ensures { IsTrue result ↔ ((closing.now.directory ≡ directory.now) × (closing.now.number ≡ self.now.number) × (closing.now.store.items ≡ self.now.store)) }
+        ensures { IsTrue result ↔ IsAt directory.now self.now closing.now }
     {
         is_same(&closing.directory, directory)
             && closing.number == self.number
@@ -205,7 +199,7 @@ fn is_same(one: &Directory, other: &Directory) -> bool
 
 /// Whether two directories have the same pages and segments, with whatever flags.
 fn are_alike(one: &Directory, other: &Directory) -> bool
-    ensures { IsTrue result ↔ ((one.now.page ≡ other.now.page) × (one.now.segments ≡ other.now.segments)) }
+    ensures { IsTrue result ↔ AreAlike one.now other.now }
 {
     one.page() == other.page() && one.segments() == other.segments()
 }

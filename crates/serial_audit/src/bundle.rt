@@ -1,6 +1,6 @@
 ghost use Rattle.std.specs.Prelude.{◌≡◌, ◌≢◌, ◌+◌, ◌≤◌, ◌<◌, ◌^◌, ◌↔◌, IsTrue, ℕ, List, [], ◌∷◌, length, codes, decimal, MatchOption, MatchResult};
 ghost use Rattle.std.specs.List.{join_with_byte};
-ghost use Rattle.serial_audit.specs.Bundle.{AreAllowed, IsBundle, IsWrongAt, Sizes, bundle_from, head_text, head_words, size_of, sizes_of};
+ghost use Rattle.serial_audit.specs.Bundle.{AreAllowed, IsBundle, IsWrongAt, Sizes, bundle_from, head_text, head_words, size_of, sizes_of, TellsSizes, ArePlaced};
 
 use report_text::{behind, first_number, place_of};
 use text_line::TextLine;
@@ -42,7 +42,7 @@ struct Lengths {
 /// 0 where the first line is of another form or a length is too large, and 5 where the bytes after it aren't as many as
 /// the four lengths together.
 pub fn split_bundle(bytes: &[u8]) -> Result<Bundle, u8>
-    ensures { MatchResult result (λ bundle. IsBundle bytes.now bundle) (λ part. IsWrongAt bytes.now part) }
+    ensures { MatchResult result (IsBundle bytes.now) (IsWrongAt bytes.now) }
 {
     match place_of(b'\n', bytes) {
         Some(at) => {
@@ -61,7 +61,7 @@ pub fn split_bundle(bytes: &[u8]) -> Result<Bundle, u8>
 
 /// The lengths that a line can only tell, if it is a first line.
 fn lengths_in(line: &[u8]) -> Lengths
-    ensures { (sizes : Sizes) → AreAllowed sizes → line.now ≡ join_with_byte 32 (head_words sizes) → sizes_of result ≡ sizes }
+    ensures { TellsSizes line.now (sizes_of result) }
 {
     let (job, rest) = first_number(behind(line));
     let (report, rest) = first_number(rest);
@@ -102,8 +102,7 @@ impl Lengths {
     fn parts(&self, begin: u64, end: u64) -> Option<Bundle>
         requires allowed { AreAllowed (sizes_of self.now) }
         requires begin { begin ≤ 100 }
-        ensures { MatchOption result (begin + size_of (sizes_of self.now) ≢ end)
-            (λ bundle. (begin + size_of (sizes_of self.now) ≡ end) × (bundle ≡ bundle_from begin (sizes_of self.now))) }
+        ensures { ArePlaced begin end (sizes_of self.now) result }
     {
         let job = span_of(begin, self.job);
         let report = span_of(begin + self.job, self.report);

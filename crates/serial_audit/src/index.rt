@@ -1,7 +1,7 @@
 // What a job says of each of its activations.
 ghost use Rattle.std.specs.Prelude.{◌≡◌, ◌≢◌, ◌+◌, ◌<◌, ℕ, [], map, slice_get, option_map, IfOk, MatchOption};
 ghost use Rattle.serial_audit.specs.Below.{All, begun};
-ghost use Rattle.serial_audit.specs.Progress.{IsFresh, IsIndex, activation_in, marked, with_turns};
+ghost use Rattle.serial_audit.specs.Progress.{IsFresh, IsIndex, activation_in, marked, with_turns, IsPlaceOf, AreChanged, AreFresh};
 
 use desk::Event;
 use flat_machine::Program;
@@ -35,8 +35,7 @@ fn begins<'j>(
     programs: &'j [Program],
     events: &[Event],
 ) -> Result<Vec<Entry<'j>>, AllocError>
-    ensures begun { IfOk result (λ entries. map activation_in entries.items ≡ begun programs.now events.now) }
-    ensures fresh { IfOk result (λ entries. All IsFresh entries.items) }
+    ensures { IfOk result (λ entries. AreFresh programs.now events.now entries.items) }
 {
     let mut entries = Vec::new(alloc);
     for event in events {
@@ -58,7 +57,7 @@ fn begins<'j>(
 /// Gives each activation the steps that its turns among these events allow.
 fn allow_turns(entries: &mut [Entry], events: &[Event])
     requires { All IsFresh entries.old }
-    ensures { (place : ℕ) → slice_get entries.new place ≡ option_map (with_turns events.now place) (slice_get entries.old place) }
+    ensures { AreChanged (with_turns events.now) entries.old entries.new }
 {
     for event in events {
         if let Event::Turn { activation, limit } = event {
@@ -75,7 +74,7 @@ fn allow_turns(entries: &mut [Entry], events: &[Event])
 
 /// Marks an activation as one that committed, if there is one with this number.
 pub(super) fn mark(entries: &mut [Entry], activation: u32)
-    ensures { (place : ℕ) → slice_get entries.new place ≡ option_map (marked activation place) (slice_get entries.old place) }
+    ensures { AreChanged (marked activation) entries.old entries.new }
 {
     match place_among(entries.len(), activation) {
         Some(place) => entries[place].committed = true,
@@ -85,7 +84,7 @@ pub(super) fn mark(entries: &mut [Entry], activation: u32)
 
 /// The place of an activation among so many, which are counted from 1.
 pub(super) fn place_among(count: usize, activation: u32) -> Option<usize>
-    ensures { MatchOption result ((place : ℕ) → place < count → place + 1 ≢ activation) (λ place. (place < count) × (place + 1 ≡ activation)) }
+    ensures { IsPlaceOf count activation result }
 {
     let place = (activation as usize).checked_sub(1)?;
     if place < count { Some(place) } else { None }

@@ -2,7 +2,7 @@
 ghost use Rattle.std.specs.Prelude.{◌≡◌, ◌≢◌, ℕ, List, length, IfOk, IfSome, MatchOption};
 ghost use Rattle.serial_audit.specs.Below.{before_commit, byte_count};
 ghost use Rattle.serial_audit.specs.Audit.{told_of};
-ghost use Rattle.serial_audit.specs.Progress.{Replays};
+ghost use Rattle.serial_audit.specs.Progress.{Replays, IsLeftBy, ComesToCommit, IfFound, RunsAgain};
 
 use flat_machine::{Plain, Program, Went};
 use lines::{Directory, OwnedList};
@@ -19,10 +19,8 @@ pub(crate) fn replayed(
     store: OwnedList<u8>,
 ) -> Result<Option<OwnedList<u8>>, AllocError>
     requires { length store ≡ byte_count directory.now }
-    ensures value { IfOk result (λ found. MatchOption found
-        ((bytes : List ℕ) → ¬ (Replays (record { program = program.now; args = args }) (record { directory = directory.now; bytes = store }) (told_of commit.now) bytes))
-        (λ bytes. Replays (record { program = program.now; args = args }) (record { directory = directory.now; bytes = store }) (told_of commit.now) bytes)) }
-    ensures whole { IfOk result (λ found. IfSome found (λ bytes. length bytes ≡ byte_count directory.now)) }
+    ensures value { IfOk result (RunsAgain program.now args directory.now store (told_of commit.now)) }
+    ensures whole { IfFound result (λ bytes. length bytes ≡ byte_count directory.now) }
 {
     match run_to_commit(alloc, program, args, directory, store, commit.steps)? {
         Some(state) => Ok(left_by(state, commit.out.as_slice())),
@@ -32,7 +30,7 @@ pub(crate) fn replayed(
 
 /// The store of a state that printed just these bytes.
 fn left_by(state: Plain, out: &[u8]) -> Option<OwnedList<u8>>
-    ensures { MatchOption result (out.now ≢ state.out) (λ bytes. (out.now ≡ state.out) × (bytes ≡ state.store)) }
+    ensures { IsLeftBy state out.now result }
 {
     let Plain {
         regs: _,
@@ -59,8 +57,8 @@ fn run_to_commit(
     steps: u64,
 ) -> Result<Option<Plain>, AllocError>
     requires { length store ≡ byte_count directory.now }
-    ensures value { IfOk result (λ found. found ≡ before_commit (record { program = program.now; args = args }) steps (record { directory = directory.now; bytes = store })) }
-    ensures whole { IfOk result (λ found. IfSome found (λ state. length state.store ≡ byte_count directory.now)) }
+    ensures value { IfOk result (ComesToCommit program.now args steps directory.now store) }
+    ensures whole { IfFound result (λ state. length state.store ≡ byte_count directory.now) }
 {
     if steps == 0 {
         return Ok(None);

@@ -1,8 +1,8 @@
 // One program run again, with the lines that it touches.
-ghost use Rattle.std.specs.Prelude.{◌≡◌, ◌++◌, length, IfOk, MatchOption};
+ghost use Rattle.std.specs.Prelude.{◌≡◌, ◌++◌, length, IfOk, MatchOption, OnOk};
 ghost use Rattle.serial_audit.specs.Below.{before_commit, byte_count};
 ghost use Rattle.flat_machine.specs.Touched.{touched};
-ghost use Rattle.serial_audit.specs.Trace.{touches, touches_of_step};
+ghost use Rattle.serial_audit.specs.Trace.{touches, touches_of_step, IsTraced, AddsNext};
 
 use super::touch::{Touch, next_lines};
 use flat_machine::{Plain, Program, Went};
@@ -20,10 +20,7 @@ pub(super) fn run_traced(
     steps: u64,
 ) -> Result<Option<(Plain, Vec<Touch>)>, AllocError>
     requires { length store ≡ byte_count directory.now }
-    ensures { IfOk result (λ found. MatchOption found
-        (before_commit (record { program = program.now; args = args }) steps (record { directory = directory.now; bytes = store }) ≡ None)
-        (λ traced. (before_commit (record { program = program.now; args = args }) steps (record { directory = directory.now; bytes = store }) ≡ Some traced.0)
-        × (traced.1.items ≡ touches (record { program = program.now; args = args }) (record { directory = directory.now; bytes = store }) steps))) }
+    ensures { IfOk result (IsTraced program.now args steps directory.now store) }
 {
     if steps == 0 {
         return Ok(None);
@@ -53,7 +50,7 @@ fn tell_next(
     touches: &mut Vec<Touch>,
 ) -> Result<(), AllocError>
     requires { length plain.now.private ≡ 16384 }
-    ensures { IfOk result (λ _. touches.new.items ≡ touches.old.items ++ touches_of_step step (touched program.now directory.now plain.now)) }
+    ensures { OnOk result (AddsNext program.now directory.now plain.now step touches.old touches.new) }
 {
     match next_lines(program, directory, plain) {
         Some(stretch) => stretch.tell(step, touches),

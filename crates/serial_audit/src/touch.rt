@@ -1,9 +1,9 @@
 // The lines that one row touches.
-ghost use Rattle.std.specs.Prelude.{◌≡◌, ◌≢◌, ◌+◌, ◌≤◌, ◌<◌, ◌^◌, ◌++◌, ℕ, length, IfOk, IfSome, MatchOption};
+ghost use Rattle.std.specs.Prelude.{◌≡◌, ◌≢◌, ◌+◌, ◌≤◌, ◌<◌, ◌^◌, ◌++◌, ℕ, length, IfOk, IfSome, MatchOption, OnOk};
 ghost use Rattle.flat_machine.specs.Access.{IsAccess};
 ghost use Rattle.flat_machine.specs.Row.{located};
 ghost use Rattle.flat_machine.specs.Touched.{lines_at, lines_of_act, touched};
-ghost use Rattle.serial_audit.specs.Trace.{lines_by, lines_of, touches_of_step};
+ghost use Rattle.serial_audit.specs.Trace.{lines_by, lines_of, touches_of_step, AreLinesAt, Adds};
 
 use flat_machine::{Act, Located, Pending, Plain, Program, locate, start_row};
 use lines::Directory;
@@ -29,7 +29,7 @@ impl Stretch {
     /// Tells each of the lines as one that a step touches.
     pub fn tell(self, step: u64, touches: &mut Vec<Touch>) -> Result<(), AllocError>
         requires { self.first + self.count < 2 ^ 32 }
-        ensures { IfOk result (λ _. touches.new.items ≡ touches.old.items ++ touches_of_step step (lines_of (Some self))) }
+        ensures { OnOk result (Adds step (lines_of (Some self)) touches.old touches.new) }
     {
         for line in self.first..self.first + self.count {
             touches.push(Touch {
@@ -91,7 +91,7 @@ fn access(
     store: bool,
 ) -> Option<Stretch>
     requires { 0 < bytes }
-    ensures lines { lines_by store (lines_at directory.now (located program.now directory.now address bytes store) bytes) ≡ lines_of result }
+    ensures lines { AreLinesAt program.now directory.now address bytes store (lines_of result) }
     ensures small { IfSome result (λ stretch. stretch.first + stretch.count < 2 ^ 32) }
 {
     let Located::Shared(at) = locate(program, directory, address, bytes, store) else {

@@ -3,7 +3,7 @@ ghost use Rattle.serial_audit.specs.Below.{byte_count, Contains, Job};
 ghost use Rattle.serial_audit.specs.declared.auditing.KeptStore.{KeptStore};
 ghost use Rattle.serial_audit.specs.Audit.{IsSound, Told, report_told, told_of};
 ghost use Rattle.serial_audit.specs.Progress.{Stands};
-ghost use Rattle.serial_audit.specs.Trace.{AreTouches, IsAnswer, IsFirstOf};
+ghost use Rattle.serial_audit.specs.Trace.{AreTouches, IsAnswer, IsFirstOf, CommitsNever, Traces, IsFirstAt};
 
 use super::answer::{Trace, TraceFault};
 use super::auditing::{KeptStore, Progress, audit_lines};
@@ -53,8 +53,7 @@ pub fn trace(
 
 /// The first commit line of an activation, and how many lines are before it.
 fn first_commit(report: &[CommitLine], activation: u32) -> Option<(usize, &CommitLine)>
-    ensures { MatchOption result (¬ (Contains (map (λ (line : Told). line.activation) (report_told report.now)) activation))
-        (λ found. (found.0 < length report.now) × IsFirstOf (report_told report.now) activation (report_told (take found.0 report.now)) (told_of found.1.now)) }
+    ensures { MatchOption result (CommitsNever report.now activation) (λ found. IsFirstAt report.now activation found.0 found.1.now) }
 {
     for (place, commit) in report.iter().enumerate() {
         if commit.activation == activation {
@@ -72,10 +71,7 @@ fn touches_of(
     commit: &CommitLine,
 ) -> Result<Option<Vec<Touch>>, AllocError>
     requires { length progress.store ≡ byte_count directory.now }
-    ensures { IfOk result (λ found. (job : Job) (opening : KeptStore) (before : List Told) → opening.directory ≡ directory.now
-        → Stands job opening before progress.entry
-        → MatchOption found (¬ (IsSound job opening before (told_of commit.now)))
-        (λ touches. IsSound job opening before (told_of commit.now) × AreTouches job opening before (told_of commit.now) touches.items)) }
+    ensures { IfOk result (Traces directory.now progress.entry (told_of commit.now)) }
 {
     let entry = match progress.entry_for(commit) {
         Some(entry) => entry,

@@ -41,5 +41,5 @@ loop-event-preserved c =
           })
     ]
 
-pub returns-clause-begun : goal.returns-clause-begun
-returns-clause-begun c = grind (arith, common_steps)
+pub returns : goal.returns
+returns c = record { begun = grind (arith, common_steps); fresh = c.loop-event.invariant.fresh }
