@@ -1,11 +1,16 @@
 -- What is left of a row once registers and status are as it makes them.
-use Rattle.std.specs.Prelude.{◌≡◌, ℕ, ◌<◌, List}
+use Rattle.std.specs.Prelude.{◌≡◌, ℕ, ◌<◌, List, length}
 use Rattle.std.specs.Option.{ForSome}
 use Rattle.flat_machine.specs.declared.machine.Act.{Act}
 use Rattle.flat_machine.specs.declared.machine.Cs.{Cs}
 use Rattle.flat_machine.specs.declared.machine.Pending.{Pending}
-use Rattle.flat_machine.specs.Plans.{Plan, Does, Fails}
+use Rattle.flat_machine.specs.Plans.{Plan, Does, Fails, Work}
 use Rattle.flat_machine.specs.Access.{IsAccess}
+use Rattle.flat_machine.specs.Below.{Inst}
+use Rattle.flat_machine.specs.declared.machine.Branch.{Branch}
+use Rattle.flat_machine.specs.Effect.{worked}
+use Rattle.flat_machine.specs.Work.{work_of}
+use Rattle.flat_machine.specs.Row.{goes_by}
 
 -- the plan of a row: registers and status as it makes them, and what is left of it
 abbrev pub planned : List ℕ → Cs → Pending → Plan
@@ -26,3 +31,28 @@ StaysIfPending (Pending.Fails code) old new before after = (new ≡ old) × (aft
 abbrev pub IsSoundPending : Pending → Type 0
 IsSoundPending (Pending.Does act next link) = IsAccess act × ForSome link (λ written. written.0 < 16)
 IsSoundPending (Pending.Fails code) = Unit {0}
+
+-- what a row's own work did to registers and status, and what it wants beside them, of which nothing was done
+pub record WorksBy (work : Work) (old new : List ℕ) (before after : Cs) (act : Act) : Type 0 where
+  pub value : worked old before work ≡ record { registers = new; status = after; act = act }
+  pub stays : StaysIfWanting act old new before after
+  pub access : IsAccess act
+
+-- the same of a row that neither branches nor jumps
+abbrev pub Works : Inst → (old new : List ℕ) → (before after : Cs) → Act → Type 0
+Works inst old new before after act = WorksBy (work_of inst old before) old new before after act
+
+-- a row was begun, by what it is to do with registers and status at an address: these are as it makes them, and this is left of it
+pub record Starts (plan : List ℕ → Cs → ℕ → Plan) (iar : ℕ) (old new : List ℕ) (before after : Cs) (left : Pending) : Type 0 where
+  pub value : plan old before iar ≡ planned new after left
+  pub stays : StaysIfPending left old new before after
+  pub sound : IsSoundPending left
+  pub long : length new ≡ 16
+
+-- what is left of a row whose own work wants this, once control goes where a branch says
+pub record IsLeftOf (way : Branch) (act : Act) (after : ℕ) (left : Pending) : Type 0 where
+  pub value :
+      (registers : List ℕ) (status : Cs)
+      → goes_by way (record { registers = registers; status = status; act = act }) after ≡ planned registers status left
+  pub stays : (old new : List ℕ) (before now : Cs) → StaysIfWanting act old new before now → StaysIfPending left old new before now
+  pub sound : IsSoundPending left

@@ -1,5 +1,5 @@
 -- Rows made ready: decoded once, each with its operand as it is used.
-use Rattle.std.specs.Prelude.{◌≡◌, ℕ, ◌+◌, ◌-◌, ◌*◌, ◌%◌, ◌==◌, nat_lt, nat_le, not, if◌then◌else◌, Bool, true, false, List, slice_index, Option, Some, None, bit_and, bit_or, bit_xor}
+use Rattle.std.specs.Prelude.{◌≡◌, ℕ, ◌+◌, ◌-◌, ◌*◌, ◌%◌, ◌==◌, nat_lt, nat_le, not, if◌then◌else◌, Bool, true, false, List, slice_index, Option, Some, None, bit_and, bit_or, bit_xor, Result}
 use Rattle.romp_table.specs.declared.inst.Inst.{Inst}
 use Rattle.flat_machine.specs.declared.machine.Cs.{Cs}
 use Rattle.flat_machine.specs.declared.machine.Act.{Act}
@@ -7,10 +7,13 @@ use Rattle.flat_machine.specs.declared.ready.Doing.{Doing}
 use Rattle.flat_machine.specs.declared.ready.Ready.{Ready}
 use Rattle.flat_machine.specs.Plans.{Plan, Does, Work, Put, Signed, Sum, Compare, Want}
 use Rattle.flat_machine.specs.Words.{is_negative, extended, complement, biased, shifted_left, shifted_right, shifted_signed, bit, sum_of, difference}
-use Rattle.flat_machine.specs.Work.{base, loads_byte, loads_half, loads_words, stores_byte, stores_half, stores_words, traps, is_masked}
-use Rattle.flat_machine.specs.Branches.{condition, even}
+use Rattle.flat_machine.specs.Work.{base, loads_byte, loads_half, loads_words, stores_byte, stores_half, stores_words, traps, is_masked, work_of_r}
+use Rattle.flat_machine.specs.Branches.{condition, even, branch_to}
 use Rattle.flat_machine.specs.Effect.{worked}
-use Rattle.flat_machine.specs.Row.{plan, plan_of, plan_alone}
+use Rattle.flat_machine.specs.Row.{plan, plan_of, plan_alone, plan_of_branch}
+use Rattle.flat_machine.specs.Below.{Op}
+use Rattle.flat_machine.specs.declared.machine.Pending.{Pending}
+use Rattle.flat_machine.specs.Pending.{planned, IsSoundPending}
 
 -- whether a row made ready has a second halfword
 abbrev pub has_second : Ready → Bool
@@ -142,3 +145,43 @@ pub record IsReadyAt (row : Ready) (halfword_at : ℕ → Option ℕ) (iar : ℕ
   pub at_first : halfword_at iar ≡ Some first
   pub at_second : has_second row ≡ true → halfword_at (iar + 2) ≡ Some second
   pub of_row : IsRowOf row first second iar
+
+-- a row made ready of an instruction of so many bytes at an address
+pub record IsMade (inst : Inst) (count iar : ℕ) (row : Ready) : Type 0 where
+  pub value : IsOf row inst iar
+  pub bytes : row.bytes ≡ count
+
+-- what does what a branch or jump by a condition does, whatever its operand
+abbrev pub IsJump : Op → (field : ℕ) → Doing → Type 0
+IsJump op field doing =
+    (row : Ready) (subject : Result (Inst × ℕ) ℕ) (registers : List ℕ) (status : Cs) (after : ℕ)
+    → plan_of_branch (branch_to op field status row.i) subject registers status after ≡ done_by row registers status after doing
+
+-- what does this work with an operand, and goes on to the row after it
+pub record DoesWork (work : List ℕ → Cs → (b x y z : ℕ) → Work) (doing : Doing) (i : ℕ) : Type 0 where
+  pub value :
+      (registers : List ℕ) (status : Cs) (b x y z : ℕ) → work_made doing registers status b x y z i ≡ work registers status b x y z
+  pub goes_on : GoesOn doing
+
+-- what does the work of a row of two registers, with whatever operand
+abbrev pub DoesTwo : Op → Doing → Type 0
+DoesTwo op doing = (c i : ℕ) → DoesWork (λ registers status b x y z. work_of_r op b c x y status) doing i
+
+-- what does the work of a row with a number in field C, where register B stands for register C too
+pub record DoesCount (op : Op) (k : ℕ) (doing : Doing) (i : ℕ) : Type 0 where
+  pub value :
+      (registers : List ℕ) (status : Cs) (b x y z : ℕ) → work_made doing registers status b x x z i ≡ work_of_r op b k x y status
+  pub goes_on : GoesOn doing
+
+-- a row made ready is done, which wants nothing beside registers and status: these are as it makes them, and the next row is there
+abbrev pub IsDone : Ready → (iar : ℕ) → (old : List ℕ) → (before : Cs) → (new : List ℕ) → (after : Cs) → (next : ℕ) → Type 0
+IsDone row iar old before new after next = done row old before iar ≡ Does new after Act.Nothing next None
+
+-- what is left of a row made ready that changes neither registers nor status
+abbrev pub IsRest : Ready → (iar : ℕ) → (registers : List ℕ) → Pending → Type 0
+IsRest row iar registers left = (status : Cs) → done row registers status iar ≡ planned registers status left
+
+-- what is left of a row that goes to an address and leaves the one after it in a register
+pub record IsLink (to register after : ℕ) (left : Pending) : Type 0 where
+  pub value : (registers : List ℕ) (status : Cs) → goes_with_link to register after registers status ≡ planned registers status left
+  pub sound : IsSoundPending left

@@ -5,7 +5,7 @@ ghost use Rattle.flat_machine.specs.Plans.{Does};
 ghost use Rattle.flat_machine.specs.declared.machine.Act.{Act};
 ghost use Rattle.flat_machine.specs.Branches.{even};
 ghost use Rattle.flat_machine.specs.Pending.{planned, IsSoundPending, StaysIfPending};
-ghost use Rattle.flat_machine.specs.Ready.{done, goes_with_link};
+ghost use Rattle.flat_machine.specs.Ready.{done, goes_with_link, IsLink, IsRest, IsDone};
 
 use super::branches::holds;
 use super::machine::{Act, Cs, Pending};
@@ -22,7 +22,7 @@ use super::words::{
 #[inline(always)]
 pub fn do_alone(row: &Ready, regs: &mut [u32; 16], cs: &mut Cs, iar: u32) -> Option<u32>
     requires { iar < 16384 }
-    ensures done { IfSome result (λ next. done row.now regs.old cs.old iar ≡ Does regs.new cs.new Act.Nothing next None) }
+    ensures done { IfSome result (IsDone row.now iar regs.old cs.old regs.new cs.new) }
     ensures stays { IfNone result ((regs.new ≡ regs.old) × (cs.new ≡ cs.old)) }
     ensures long { length regs.new ≡ 16 }
 {
@@ -114,7 +114,7 @@ pub fn do_alone(row: &Ready, regs: &mut [u32; 16], cs: &mut Cs, iar: u32) -> Opt
 #[inline(always)]
 pub fn start_wanting(row: &Ready, regs: &[u32; 16], iar: u32) -> Option<Pending>
     requires { iar < 16384 }
-    ensures value { IfSome result (λ pending. (status : Cs) → done row.now regs.now status iar ≡ planned regs.now status pending) }
+    ensures value { IfSome result (IsRest row.now iar regs.now) }
     ensures sound { IfSome result IsSoundPending }
     ensures long { length regs.now ≡ 16 }
 {
@@ -178,9 +178,7 @@ fn to_if(taken: bool, to: u32, after: u32) -> Option<u32>
 /// Control goes to an address, and a register gets the one after the row.
 fn link(to: u32, b: u8, after: u32) -> Pending
     requires { b < 16 }
-    ensures value { (registers : List ℕ) (status : Cs) → goes_with_link to b after registers status ≡ planned registers status result }
-    ensures stays { (registers : List ℕ) (status : Cs) → StaysIfPending result registers registers status status }
-    ensures sound { IsSoundPending result }
+    ensures { IsLink to b after result }
 {
     Pending::Does {
         act: Act::Nothing,

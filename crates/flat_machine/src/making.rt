@@ -6,7 +6,7 @@ ghost use Rattle.flat_machine.specs.declared.ready.Ready.{Ready};
 ghost use Rattle.flat_machine.specs.Branches.{branch_to, is_register_branch};
 ghost use Rattle.flat_machine.specs.Row.{plan_of_branch};
 ghost use Rattle.flat_machine.specs.Work.{work_of_r, work_of_d, work_of_s};
-ghost use Rattle.flat_machine.specs.Ready.{done_by, has_second, work_made, GoesOn, IsOf, IsRowOf};
+ghost use Rattle.flat_machine.specs.Ready.{done_by, has_second, work_made, GoesOn, IsOf, IsRowOf, IsJump, IsMade, DoesWork, DoesTwo, DoesCount};
 
 use super::branches::target_of;
 use super::ready::{Doing, Ready};
@@ -38,169 +38,90 @@ pub fn ready_of(first: u16, second: u16, iar: u32) -> Option<Ready>
 fn ready_instruction(inst: &Inst, bytes: u8, iar: u32) -> Option<Ready>
     requires widths { HasWidths inst.now }
     requires bytes { bytes ≤ 4 }
-    ensures value { IfSome result (λ row. IsOf row inst.now iar) }
-    ensures bytes { IfSome result (λ row. row.bytes ≡ bytes) }
+    ensures { IfSome result (IsMade inst.now bytes iar) }
 {
     match *inst {
         Inst::J { op, cond, disp } => {
             let doing = jump_made(op, cond)?;
             let i = target_of(iar, 2 * i32::from(disp));
-            Some(Ready {
-                doing,
-                bytes,
-                b: 0,
-                c: 0,
-                i,
-            })
+            Some(row_with(doing, bytes, 0, 0, i))
         }
         Inst::S { op, k, b, c } => {
             let (doing, i) = short_made(op, k)?;
-            Some(Ready {
-                doing,
-                bytes,
-                b,
-                c,
-                i,
-            })
+            Some(row_with(doing, bytes, b, c, i))
         }
-        Inst::X { op, a, b, c } => ready_sum(op, a, b, c, bytes, iar),
+        Inst::X { op, a, b, c } => match op {
+            Op::Cas => Some(row_with(Doing::AddressOfTwo, bytes, a, c, u32::from(b))),
+            _ => None,
+        },
         Inst::R { op, b, c } => ready_two(op, b, c, bytes, iar),
         Inst::D { op, b, c, i } => {
             let (doing, i) = long_made(op, i)?;
-            Some(Ready {
-                doing,
-                bytes,
-                b,
-                c,
-                i,
-            })
+            Some(row_with(doing, bytes, b, c, i))
         }
         Inst::BI { op, b, disp } => ready_far(op, b, disp, bytes, iar),
-        Inst::BA { op, to } => ready_absolute(op, to, bytes, iar),
+        Inst::BA { op, to } => match op {
+            Op::Bala => Some(row_with(Doing::Link, bytes, 15, 0, to - to % 2)),
+            _ => None,
+        },
     }
 }
 
-/// Format X.
-fn ready_sum(op: Op, a: u8, b: u8, c: u8, bytes: u8, iar: u32) -> Option<Ready>
-    requires a { a < 16 }
-    requires b { b < 16 }
-    requires c { c < 16 }
-    requires bytes { bytes ≤ 4 }
-    ensures value { IfSome result (λ row. IsOf row (Inst.X op a b c) iar) }
-    ensures bytes { IfSome result (λ row. row.bytes ≡ bytes) }
+/// These parts as a row.
+fn row_with(doing: Doing, bytes: u8, b: u8, c: u8, i: u32) -> Ready
+    requires { (bytes ≤ 4) × (b < 16) × (c < 16) }
+    ensures parts { (result.doing ≡ doing) × (result.bytes ≡ bytes) × (result.b ≡ b) × (result.c ≡ c) × (result.i ≡ i) }
 {
-    match op {
-        Op::Cas => Some(Ready {
-            doing: Doing::AddressOfTwo,
-            bytes,
-            b: a,
-            c,
-            i: u32::from(b),
-        }),
-        _ => None,
+    Ready {
+        doing,
+        bytes,
+        b,
+        c,
+        i,
     }
 }
 
 /// Format R.
 fn ready_two(op: Op, b: u8, c: u8, bytes: u8, iar: u32) -> Option<Ready>
-    requires b { b < 16 }
-    requires c { c < 16 }
-    requires bytes { bytes ≤ 4 }
-    ensures value { IfSome result (λ row. IsOf row (Inst.R op b c) iar) }
-    ensures bytes { IfSome result (λ row. row.bytes ≡ bytes) }
+    requires { (bytes ≤ 4) × (b < 16) × (c < 16) }
+    ensures { IfSome result (IsMade (Inst.R op b c) bytes iar) }
 {
-    let doing = match op {
-        Op::Bnbr => Doing::GoToUnless,
-        Op::Bbr => Doing::GoToIf,
-        Op::Balr => Doing::LinkTo,
-        _ => return ready_work(op, b, c, bytes, iar),
-    };
-    Some(Ready {
-        doing,
-        bytes,
-        b,
-        c,
-        i: 0,
-    })
+    match op {
+        Op::Bnbr => Some(row_with(Doing::GoToUnless, bytes, b, c, 0)),
+        Op::Bbr => Some(row_with(Doing::GoToIf, bytes, b, c, 0)),
+        Op::Balr => Some(row_with(Doing::LinkTo, bytes, b, c, 0)),
+        _ => ready_work(op, b, c, bytes, iar),
+    }
 }
 
 /// The same of those that don't branch.
 fn ready_work(op: Op, b: u8, c: u8, bytes: u8, iar: u32) -> Option<Ready>
-    requires b { b < 16 }
-    requires c { c < 16 }
-    requires bytes { bytes ≤ 4 }
-    ensures value { IfSome result (λ row. IsOf row (Inst.R op b c) iar) }
-    ensures bytes { IfSome result (λ row. row.bytes ≡ bytes) }
+    requires { (bytes ≤ 4) × (b < 16) × (c < 16) }
+    ensures { IfSome result (IsMade (Inst.R op b c) bytes iar) }
 {
     if let Some(doing) = two_made(op) {
-        return Some(Ready {
-            doing,
-            bytes,
-            b,
-            c,
-            i: 0,
-        });
+        return Some(row_with(doing, bytes, b, c, 0));
     }
     let (doing, i) = count_made(op, c)?;
-    Some(Ready {
-        doing,
-        bytes,
-        b,
-        c: b,
-        i,
-    })
+    Some(row_with(doing, bytes, b, b, i))
 }
 
 /// Format BI.
 fn ready_far(op: Op, b: u8, disp: i32, bytes: u8, iar: u32) -> Option<Ready>
     requires widths { HasWidths (Inst.BI op b disp) }
     requires bytes { bytes ≤ 4 }
-    ensures value { IfSome result (λ row. IsOf row (Inst.BI op b disp) iar) }
-    ensures bytes { IfSome result (λ row. row.bytes ≡ bytes) }
+    ensures { IfSome result (IsMade (Inst.BI op b disp) bytes iar) }
 {
     let i = target_of(iar, 2 * disp);
     match op {
-        Op::Bali => Some(Ready {
-            doing: Doing::Link,
-            bytes,
-            b,
-            c: 0,
-            i,
-        }),
-        _ => {
-            let doing = jump_made(op, b)?;
-            Some(Ready {
-                doing,
-                bytes,
-                b: 0,
-                c: 0,
-                i,
-            })
-        }
-    }
-}
-
-/// Format BA.
-fn ready_absolute(op: Op, to: u32, bytes: u8, iar: u32) -> Option<Ready>
-    requires bytes { bytes ≤ 4 }
-    ensures value { IfSome result (λ row. IsOf row (Inst.BA op to) iar) }
-    ensures bytes { IfSome result (λ row. row.bytes ≡ bytes) }
-{
-    match op {
-        Op::Bala => Some(Ready {
-            doing: Doing::Link,
-            bytes,
-            b: 15,
-            c: 0,
-            i: to - to % 2,
-        }),
-        _ => None,
+        Op::Bali => Some(row_with(Doing::Link, bytes, b, 0, i)),
+        _ => Some(row_with(jump_made(op, b)?, bytes, 0, 0, i)),
     }
 }
 
 /// What a branch or jump by a condition does, if it has neither a link nor a subject.
 fn jump_made(op: Op, field: u8) -> Option<Doing>
-    ensures { IfSome result (λ doing. (row : Ready) (subject : Result (Inst × ℕ) ℕ) (registers : List ℕ) (status : Cs) (after : ℕ) → plan_of_branch (branch_to op field status row.i) subject registers status after ≡ done_by row registers status after doing) }
+    ensures { IfSome result (IsJump op field) }
 {
     match op {
         Op::Jb | Op::Bb => match field {
@@ -228,8 +149,7 @@ fn jump_made(op: Op, field: u8) -> Option<Doing>
 /// What a row of format S does, and its operand.
 fn short_made(op: Op, k: u8) -> Option<(Doing, u32)>
     requires { k < 16 }
-    ensures value { IfSome result (λ made. (registers : List ℕ) (status : Cs) (b x y z : ℕ) → work_made made.0 registers status b x y z made.1 ≡ work_of_s op k b z) }
-    ensures goes_on { IfSome result (λ made. GoesOn made.0) }
+    ensures { IfSome result (λ made. DoesWork (λ registers status b x y z. work_of_s op k b z) made.0 made.1) }
 {
     let k = u32::from(k);
     match op {
@@ -245,8 +165,7 @@ fn short_made(op: Op, k: u8) -> Option<(Doing, u32)>
 
 /// What a row of format R with two registers does; it has no operand.
 fn two_made(op: Op) -> Option<Doing>
-    ensures value { IfSome result (λ doing. (registers : List ℕ) (status : Cs) (b c x y z i : ℕ) → work_made doing registers status b x y z i ≡ work_of_r op b c x y status) }
-    ensures goes_on { IfSome result GoesOn }
+    ensures does { IfSome result (DoesTwo op) }
     ensures works { IfSome result (λ doing. is_register_branch op ≡ false) }
 {
     match op {
@@ -277,8 +196,7 @@ fn two_made(op: Op) -> Option<Doing>
 /// What a row of format R with a number does, and its operand; register B stands for register C too.
 fn count_made(op: Op, k: u8) -> Option<(Doing, u32)>
     requires { k < 16 }
-    ensures value { IfSome result (λ made. (registers : List ℕ) (status : Cs) (b x y z : ℕ) → work_made made.0 registers status b x x z made.1 ≡ work_of_r op b k x y status) }
-    ensures goes_on { IfSome result (λ made. GoesOn made.0) }
+    ensures does { IfSome result (λ made. DoesCount op k made.0 made.1) }
     ensures works { IfSome result (λ made. is_register_branch op ≡ false) }
 {
     let count = u32::from(k);
@@ -305,8 +223,7 @@ fn count_made(op: Op, k: u8) -> Option<(Doing, u32)>
 
 /// What a row of format D does, and its operand.
 fn long_made(op: Op, i: u16) -> Option<(Doing, u32)>
-    ensures value { IfSome result (λ made. (registers : List ℕ) (status : Cs) (b x y z : ℕ) → work_made made.0 registers status b x y z made.1 ≡ work_of_d op registers status b y z i) }
-    ensures goes_on { IfSome result (λ made. GoesOn made.0) }
+    ensures { IfSome result (λ made. DoesWork (λ r cs b x y z. work_of_d op r cs b y z i) made.0 made.1) }
 {
     let low = u32::from(i);
     let high = low * 0x1_0000;
@@ -333,8 +250,7 @@ fn long_made(op: Op, i: u16) -> Option<(Doing, u32)>
 
 /// What a row of format D that loads or stores does, and its displacement.
 fn access_of(op: Op, i: u16) -> Option<(Doing, u32)>
-    ensures value { IfSome result (λ made. (registers : List ℕ) (status : Cs) (b x y z : ℕ) → work_made made.0 registers status b x y z made.1 ≡ work_of_d op registers status b y z i) }
-    ensures goes_on { IfSome result (λ made. GoesOn made.0) }
+    ensures { IfSome result (λ made. DoesWork (λ r cs b x y z. work_of_d op r cs b y z i) made.0 made.1) }
 {
     let doing = match op {
         Op::Lm => Doing::LoadWords,

@@ -1,7 +1,7 @@
 ghost use Rattle.std.specs.Prelude.{ℕ, List, Option, Some, ◌≡◌, ◌<◌, ◌≤◌, ◌+◌, IfOk, OnOk, OnSome, length};
 ghost use Rattle.flat_machine.specs.Below.{ForSome, HasWidths};
 ghost use Rattle.flat_machine.specs.Access.{IsAccess};
-ghost use Rattle.flat_machine.specs.Pending.{planned, IsSoundPending, StaysIfPending, StaysIfWanting};
+ghost use Rattle.flat_machine.specs.Pending.{planned, IsSoundPending, StaysIfPending, StaysIfWanting, IsLeftOf, Starts};
 ghost use Rattle.flat_machine.specs.declared.machine.Cs.{Cs};
 ghost use Rattle.flat_machine.specs.Row.{plan, plan_of, plan_of_pair, goes_by, fetched};
 
@@ -30,10 +30,7 @@ pub trait Fetch {
 #[inline(always)]
 pub fn start_row<F: Fetch>(code: &F, regs: &mut [u32; 16], cs: &mut Cs, iar: u32) -> Pending
     requires { F.is_whole code.now }
-    ensures value { plan (F.halfword_at code.now) regs.old cs.old iar ≡ planned regs.new cs.new result }
-    ensures stays { StaysIfPending result regs.old regs.new cs.old cs.new }
-    ensures sound { IsSoundPending result }
-    ensures long { length regs.new ≡ 16 }
+    ensures { Starts (plan (F.halfword_at code.now)) iar regs.old regs.new cs.old cs.new result }
 {
     match fetch_instruction(code, iar) {
         Err(code) => Pending::Fails(code),
@@ -55,9 +52,7 @@ fn start_instruction<F: Fetch>(
     requires widths { HasWidths inst.now }
     requires within { iar < 16384 }
     requires bytes { bytes ≤ 4 }
-    ensures value { plan_of (F.halfword_at code.now) inst.now bytes regs.old cs.old iar ≡ planned regs.new cs.new result }
-    ensures stays { StaysIfPending result regs.old regs.new cs.old cs.new }
-    ensures sound { IsSoundPending result }
+    ensures { Starts (plan_of (F.halfword_at code.now) inst.now bytes) iar regs.old regs.new cs.old cs.new result }
 {
     let after = iar + u32::from(bytes);
     if !branches(inst) {
@@ -89,9 +84,7 @@ fn start_pair<F: Fetch>(
     requires whole { F.is_whole code.now }
     requires link { ForSome way.link (λ register. register < 16) }
     requires within { address ≤ 16388 }
-    ensures value { plan_of_pair way (fetched (F.halfword_at code.now) address) regs.old cs.old address ≡ planned regs.new cs.new result }
-    ensures stays { StaysIfPending result regs.old regs.new cs.old cs.new }
-    ensures sound { IsSoundPending result }
+    ensures { Starts (plan_of_pair way (fetched (F.halfword_at code.now) address)) address regs.old regs.new cs.old cs.new result }
 {
     let (inst, bytes) = match fetch_instruction(code, address) {
         Err(code) => return Pending::Fails(code),
@@ -109,9 +102,7 @@ fn start_pair<F: Fetch>(
 fn go_by(way: Branch, act: Act, after: u32) -> Pending
     requires link { ForSome way.link (λ register. register < 16) }
     requires access { IsAccess act }
-    ensures value { (registers : List ℕ) (status : Cs) → goes_by way (record { registers = registers; status = status; act = act }) after ≡ planned registers status result }
-    ensures stays { (old new : List ℕ) (before now : Cs) → StaysIfWanting act old new before now → StaysIfPending result old new before now }
-    ensures sound { IsSoundPending result }
+    ensures { IsLeftOf way act after result }
 {
     Pending::Does {
         act,

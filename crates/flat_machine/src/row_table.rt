@@ -1,11 +1,12 @@
 //! What each row does to registers and status, and what it wants beside them, format by format.
+ghost use Rattle.flat_machine.specs.Below.{Inst};
 ghost use Rattle.std.specs.Prelude.{◌≡◌, ◌<◌, ◌≤◌, ◌+◌, ◌*◌, slice_index, slice_set};
 ghost use Rattle.flat_machine.specs.Plans.{Want};
 ghost use Rattle.flat_machine.specs.declared.machine.Act.TheVariants.{Load, Store};
 ghost use Rattle.flat_machine.specs.declared.machine.Cs.{Cs};
 ghost use Rattle.flat_machine.specs.Access.{FitsFrom, IsAccess};
 ghost use Rattle.flat_machine.specs.Effect.{worked};
-ghost use Rattle.flat_machine.specs.Pending.{StaysIfWanting};
+ghost use Rattle.flat_machine.specs.Pending.{StaysIfWanting, Works, WorksBy};
 ghost use Rattle.flat_machine.specs.Words.{bit, sum_of, signed_status, compared_status, sum_status};
 ghost use Rattle.flat_machine.specs.Work.{base, half_address, word_address, traps, is_masked, called, work_with_count, work_of_r, work_of_d, work_of_s, work_of_x};
 
@@ -65,12 +66,8 @@ pub fn store(address: u32, bytes: u8, from: u8) -> Act
 
 /// Format X.
 pub fn do_x(op: Op, a: u8, b: u8, c: u8, regs: &mut [u32; 16]) -> Act
-    requires a { a < 16 }
-    requires b { b < 16 }
-    requires c { c < 16 }
-    ensures value { (status : Cs) → worked regs.old status (work_of_x op a (slice_index regs.old b) (base regs.old c)) ≡ record { registers = regs.new; status = status; act = result } }
-    ensures stays { (status : Cs) → StaysIfWanting result regs.old regs.new status status }
-    ensures access { IsAccess result }
+    requires { (a < 16) × (b < 16) × (c < 16) }
+    ensures { (status : Cs) → Works (Inst.X op a b c) regs.old regs.new status status result }
 {
     let z = base_of(regs, c);
     match op {
@@ -83,11 +80,8 @@ pub fn do_x(op: Op, a: u8, b: u8, c: u8, regs: &mut [u32; 16]) -> Act
 /// Format R.
 #[inline(always)]
 pub fn do_r(op: Op, b: u8, c: u8, regs: &mut [u32; 16], cs: &mut Cs) -> Act
-    requires b { b < 16 }
-    requires c { c < 16 }
-    ensures value { worked regs.old cs.old (work_of_r op b c (slice_index regs.old b) (slice_index regs.old c) cs.old) ≡ record { registers = regs.new; status = cs.new; act = result } }
-    ensures stays { StaysIfWanting result regs.old regs.new cs.old cs.new }
-    ensures access { IsAccess result }
+    requires { (b < 16) × (c < 16) }
+    ensures { Works (Inst.R op b c) regs.old regs.new cs.old cs.new result }
 {
     let x = regs[usize::from(b)];
     let y = regs[usize::from(c)];
@@ -120,11 +114,8 @@ pub fn do_r(op: Op, b: u8, c: u8, regs: &mut [u32; 16], cs: &mut Cs) -> Act
 /// Format R with a number in field C.
 #[inline(always)]
 fn do_count(op: Op, b: u8, k: u8, regs: &mut [u32; 16], cs: &mut Cs) -> Act
-    requires b { b < 16 }
-    requires k { k < 16 }
-    ensures value { worked regs.old cs.old (work_with_count op b k (slice_index regs.old b)) ≡ record { registers = regs.new; status = cs.new; act = result } }
-    ensures stays { StaysIfWanting result regs.old regs.new cs.old cs.new }
-    ensures access { IsAccess result }
+    requires { (b < 16) × (k < 16) }
+    ensures { WorksBy (work_with_count op b k (slice_index regs.old b)) regs.old regs.new cs.old cs.new result }
 {
     let x = regs[usize::from(b)];
     let count = u32::from(k);
@@ -153,11 +144,8 @@ fn do_count(op: Op, b: u8, k: u8, regs: &mut [u32; 16], cs: &mut Cs) -> Act
 /// Format D.
 #[inline(always)]
 pub fn do_d(op: Op, b: u8, c: u8, i: u16, regs: &mut [u32; 16], cs: &mut Cs) -> Act
-    requires b { b < 16 }
-    requires c { c < 16 }
-    ensures value { worked regs.old cs.old (work_of_d op regs.old cs.old b (slice_index regs.old c) (base regs.old c) i) ≡ record { registers = regs.new; status = cs.new; act = result } }
-    ensures stays { StaysIfWanting result regs.old regs.new cs.old cs.new }
-    ensures access { IsAccess result }
+    requires { (b < 16) × (c < 16) }
+    ensures { Works (Inst.D op b c i) regs.old regs.new cs.old cs.new result }
 {
     let y = regs[usize::from(c)];
     let z = base_of(regs, c);

@@ -1,6 +1,6 @@
 ghost use Rattle.std.specs.Prelude.{◌≡◌, ◌≤◌, ◌-◌, ◌++◌, replicate, length, IfOk};
 ghost use Rattle.lines.specs.Directory.{Layout, byte_count};
-ghost use Rattle.flat_machine.specs.After.{start, first_registers};
+ghost use Rattle.flat_machine.specs.After.{start, first_registers, IsStarted};
 
 use super::machine::{Cs, Plain, Program};
 use super::printed::Printed;
@@ -18,9 +18,7 @@ impl Plain {
         store: &[u8],
     ) -> Result<Plain, AllocError>
         requires { length store.now ≡ byte_count directory.now }
-        ensures value { IfOk result (λ plain. plain ≡ start program.now args (record { directory = directory.now; bytes = store.now })) }
-        ensures private_length { IfOk result (λ plain. length plain.private ≡ 16384) }
-        ensures store_length { IfOk result (λ plain. length plain.store ≡ byte_count directory.now) }
+        ensures { IfOk result (IsStarted program.now args store.now) }
     {
         let copied = OwnedList::from_vec(Vec::from_slice(alloc, store)?);
         Plain::start_on(alloc, program, args, copied)
@@ -38,9 +36,7 @@ impl Plain {
         args: [u32; 4],
         store: OwnedList<u8>,
     ) -> Result<Plain, AllocError>
-        ensures value { IfOk result (λ plain. (directory : Layout) → plain ≡ start program.now args (record { directory = directory; bytes = store })) }
-        ensures private_length { IfOk result (λ plain. length plain.private ≡ 16384) }
-        ensures store_length { IfOk result (λ plain. length plain.store ≡ length store) }
+        ensures { IfOk result (IsStarted program.now args store) }
     {
         Ok(Plain {
             regs: first_registers(args),
