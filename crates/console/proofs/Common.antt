@@ -20,7 +20,7 @@ pub use Rattle.listing.specs.Listing.{lines_in, listing_of}
 pub use Rattle.listing.specs.Puts.{Puts, PutsTimes}
 pub use Rattle.store_calls.specs.declared.show.Range.{Range}
 pub use Rattle.store_format.specs.Header.{Header, most_lines}
-pub use Rattle.console.specs.Words.{AreNumbers, AreWithin, IsAlone, IsForm, IsLong, IsNoForm, IsNumbered, IsOnStore, NamesStore, Says, SaysNumber, ends_marked, marked_of, new_word, number_of, number_said, numbers_of, plain, spread, word_of}
+pub use Rattle.console.specs.Words.{FindsOne, IsCommandAlone, IsCommandOn, IsNumberedForm, AreNumbers, AreWithin, IsAlone, IsForm, IsLong, IsNoForm, IsNumbered, IsOnStore, NamesStore, Says, SaysNumber, ends_marked, marked_of, new_word, number_of, number_said, numbers_of, plain, spread, word_of}
 pub use Rattle.console.specs.declared.words.Command.{Command}
 pub use Rattle.job_calls.specs.declared.ended.Ended.{Ended}
 pub use Rattle.outside.specs.declared.world.Outside.{Ghosts}

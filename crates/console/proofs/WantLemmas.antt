@@ -1,5 +1,5 @@
 -- Words that are a command want what that wants.
-use Rattle.console.proofs.Common.{◌≡◌, refl, sym, ◌∙◌, ap, map, List, string_bytes, Global, Command, IsForm, nat_eq, String}
+use Rattle.console.proofs.Common.{◌≡◌, refl, sym, map, List, string_bytes, Global, Command, IsForm, nat_eq, String}
 use Rattle.console.specs.declared.words.Command.TheVariants as command
 use Rattle.console.specs.Wants.{disk_for, reads_for}
 use Rattle.console.proofs.PromiseLemmas.{Holds, mark_of, same_mark}

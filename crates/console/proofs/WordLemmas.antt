@@ -1,5 +1,5 @@
 -- The words of a command line.
-use Rattle.console.proofs.Common.{Global, ParsesUnsigned, IsNumeral, digits_value, without_leading_plus, nat_tests, take_all, length-map, map-append, pow_pos, PageSize, Two, Four, AreFlags, Header, Command, AreNumbers, AreWithin, IsAlone, IsForm, IsLong, IsNoForm, IsNumbered, IsOnStore, NamesStore, SaysNumber, ends_marked, marked_of, new_word, number_of, number_said, numbers_of, plain, spread, word_of, ◌≡◌, ◌≢◌, ℕ, zero, suc, ◌+◌, ◌-◌, ◌*◌, ◌/◌, ◌%◌, ◌^◌, ◌<◌, ◌≤◌, Bool, true, false, List, [], ◌∷◌, length, get_or, map, take, take-suc, drop, refl, sym, ◌∙◌, ap, subst, arith, Option, Some, None, Result, Ok, Err, MatchResult, MatchOption, String, string_bytes, slice_index, ◌==◌, ◌++◌, option_map, codes}
+use Rattle.console.proofs.Common.{FindsOne, IsCommandAlone, IsCommandOn, IsNumberedForm, Global, ParsesUnsigned, IsNumeral, digits_value, without_leading_plus, nat_tests, take_all, length-map, map-append, pow_pos, PageSize, Two, Four, AreFlags, Header, Command, AreNumbers, AreWithin, IsForm, IsLong, IsNoForm, IsOnStore, NamesStore, SaysNumber, ends_marked, marked_of, new_word, number_of, number_said, numbers_of, plain, spread, word_of, ◌≡◌, ◌≢◌, ℕ, zero, suc, ◌+◌, ◌-◌, ◌*◌, ◌/◌, ◌%◌, ◌^◌, ◌<◌, ◌≤◌, Bool, true, false, List, [], ◌∷◌, length, get_or, map, take, take-suc, drop, refl, sym, ◌∙◌, ap, subst, arith, Option, Some, None, Result, Ok, Err, MatchResult, MatchOption, String, string_bytes, slice_index, ◌==◌, ◌++◌, option_map, codes}
 use Rattle.std.specs.Result.{OkIff}
 use Rattle.std.proofs.lemmas.Bool.{le-leb}
 use Rattle.asm_parse.specs.Number.{number_in}
@@ -114,17 +114,17 @@ behind_first numbers segment more fine is = rw is (behind_two (segment.0, false)
 
 -- one word alone
 pub alone : (words : List (String Global)) (word : String Global) (bytes : List ℕ) (result : Option Command) → 1 ≤ length words → length words < 2 → word ≡ get_or words 0 word → bytes ≡ string_bytes word
-    → MatchOption result ((form : Command) → IsAlone form → bytes ≢ word_of form) (λ command. IsAlone command × (bytes ≡ word_of command))
+    → FindsOne (IsCommandAlone bytes) result
     → MatchOption result (IsNoForm words) (λ command. IsForm command words)
 alone [] word bytes result some one is same given = absurd (omega arith)
 alone (first ∷ second ∷ more) word bytes result some one is same given = absurd (omega arith)
 alone (first ∷ []) word bytes None some one is same given = no
   where
     no : (form : Command) → IsForm form (first ∷ []) → ⊥
-    no command.Try form = let says = form.says in given command.Try tt (cc)
-    no command.List form = let says = form.says in given command.List tt (cc)
-    no command.Drill form = let says = form.says in given command.Drill tt (cc)
-    no command.Audit form = let says = form.says in given command.Audit tt (cc)
+    no command.Try form = let says = form.says in given command.Try (tt, cc)
+    no command.List form = let says = form.says in given command.List (tt, cc)
+    no command.Drill form = let says = form.says in given command.Drill (tt, cc)
+    no command.Audit form = let says = form.says in given command.Audit (tt, cc)
     no command.Run form = let are = form.says.are in cc
     no (command.Show range) form = let are = form.says.are in cc
     no (command.New header) form = let are = form.says.are in cc
@@ -155,9 +155,8 @@ not_empty (byte ∷ bytes) empty is not none = cc
 pub with_store : (words : List (String Global)) (word store : String Global) (bytes : List ℕ) (numbers : List (ℕ × Bool)) (result : Option Command) → 2 ≤ length words
     → word ≡ get_or words 0 word → store ≡ get_or words 1 store → bytes ≡ string_bytes word → string_bytes store ≢ []
     → AreNumbers (map string_bytes (take (length words - 2) (drop 2 words))) numbers
-    → ((form : Command) → IsNumbered form → IsForm form words → ⊥) → ((from : ℕ) → IsForm (command.Ship from) words → ⊥)
-    → MatchOption result ((form : Command) → IsOnStore form → bytes ≡ word_of form → numbers ≡ numbers_of form → AreWithin form → ⊥)
-    (λ command. IsOnStore command × (bytes ≡ word_of command) × (numbers ≡ numbers_of command) × AreWithin command)
+    → ((form : Command) → IsNumberedForm words form → ⊥) → ((from : ℕ) → IsForm (command.Ship from) words → ⊥)
+    → FindsOne (IsCommandOn bytes numbers) result
     → MatchOption result (IsNoForm words) (λ command. IsForm command words)
 with_store [] word store bytes numbers result two is there same some are no_number_said no_ship given = absurd (omega arith)
 with_store (first ∷ []) word store bytes numbers result two is there same some are no_number_said no_ship given = absurd (omega arith)
@@ -175,13 +174,13 @@ with_store (first ∷ second ∷ rest) word store bytes numbers result two is th
       say = subst (λ (those : List (ℕ × Bool)). AreNumbers (map string_bytes rest) those) said_numbers these;
     }
 
-    unnamed : (form : Command) → ((form : Command) → IsOnStore form → bytes ≡ word_of form → numbers ≡ numbers_of form → AreWithin form → ⊥) → IsOnStore form → AreWithin form → NamesStore form (map string_bytes (first ∷ second ∷ rest)) → ⊥
+    unnamed : (form : Command) → ((form : Command) → IsCommandOn bytes numbers form → ⊥) → IsOnStore form → AreWithin form → NamesStore form (map string_bytes (first ∷ second ∷ rest)) → ⊥
     unnamed form none apart within names =
         let behind : names.numbers ≡ map string_bytes rest = let said = names.are in cc in
         let said : bytes ≡ word_of form = let said = names.are in cc in
-        none form apart said (one_list (map string_bytes rest) numbers (numbers_of form) these (subst (λ (those : List (List ℕ)). AreNumbers those (numbers_of form)) behind names.say)) within
+        none form (apart, said, one_list (map string_bytes rest) numbers (numbers_of form) these (subst (λ (those : List (List ℕ)). AreNumbers those (numbers_of form)) behind names.say), within)
 
-    no : ((form : Command) → IsOnStore form → bytes ≡ word_of form → numbers ≡ numbers_of form → AreWithin form → ⊥) → (form : Command) → IsForm form (first ∷ second ∷ rest) → ⊥
+    no : ((form : Command) → IsCommandOn bytes numbers form → ⊥) → (form : Command) → IsForm form (first ∷ second ∷ rest) → ⊥
     no none command.Try form = let says = form.says in cc
     no none command.List form = let says = form.says in cc
     no none command.Drill form = let says = form.says in cc
@@ -192,12 +191,11 @@ with_store (first ∷ second ∷ rest) word store bytes numbers result two is th
     no none (command.Renew bank) form = unnamed (command.Renew bank) none tt form.within form.says
     no none (command.Ship from) form = no_ship from form
     no none command.Follow form = unnamed command.Follow none tt form.within form.says
-    no none (command.Big transfers) form = no_number_said (command.Big transfers) tt form
-    no none (command.Trace activation) form = no_number_said (command.Trace activation) tt form
+    no none (command.Big transfers) form = no_number_said (command.Big transfers) (tt, form)
+    no none (command.Trace activation) form = no_number_said (command.Trace activation) (tt, form)
 
     answered : (result : Option Command)
-        → MatchOption result ((form : Command) → IsOnStore form → bytes ≡ word_of form → numbers ≡ numbers_of form → AreWithin form → ⊥)
-        (λ command. IsOnStore command × (bytes ≡ word_of command) × (numbers ≡ numbers_of command) × AreWithin command)
+        → FindsOne (IsCommandOn bytes numbers) result
         → MatchOption result (IsNoForm (first ∷ second ∷ rest)) (λ command. IsForm command (first ∷ second ∷ rest))
     answered None given = no given
     answered (Some command.Try) given = absurd given.0
@@ -214,7 +212,7 @@ with_store (first ∷ second ∷ rest) word store bytes numbers result two is th
     answered (Some command.Follow) given = record { says = named command.Follow given.1 given.2; within = given.3 }
 
 -- behind a store there are words that aren't numbers, or too many
-pub without_numbers : (words : List (String Global)) → 2 ≤ length words → ((numbers : List (ℕ × Bool)) → length numbers ≤ 31 → AreNumbers (map string_bytes (take (length words - 2) (drop 2 words))) numbers → ⊥) → ((form : Command) → IsNumbered form → IsForm form words → ⊥) → ((from : ℕ) → IsForm (command.Ship from) words → ⊥) → IsNoForm words
+pub without_numbers : (words : List (String Global)) → 2 ≤ length words → ((numbers : List (ℕ × Bool)) → length numbers ≤ 31 → AreNumbers (map string_bytes (take (length words - 2) (drop 2 words))) numbers → ⊥) → ((form : Command) → IsNumberedForm words form → ⊥) → ((from : ℕ) → IsForm (command.Ship from) words → ⊥) → IsNoForm words
 without_numbers [] two none no_number_said no_ship form is = omega arith
 without_numbers (first ∷ []) two none no_number_said no_ship form is = omega arith
 without_numbers (first ∷ second ∷ rest) two none no_number_said no_ship form is = no form is
@@ -235,8 +233,8 @@ without_numbers (first ∷ second ∷ rest) two none no_number_said no_ship form
     no (command.Ship from) form = no_ship from form
     no command.Follow form = unnamed command.Follow (omega arith) form.says
     no (command.New header) form = unnamed (command.New header) (let few = form.within.1.few in omega (arith, few, length-spread header.directory.segments header.directory.fine)) form.says
-    no (command.Big transfers) form = no_number_said (command.Big transfers) tt form
-    no (command.Trace activation) form = no_number_said (command.Trace activation) tt form
+    no (command.Big transfers) form = no_number_said (command.Big transfers) (tt, form)
+    no (command.Trace activation) form = no_number_said (command.Trace activation) (tt, form)
 
 -- words that name a store have one list of numbers
 same_words : (one two : Command) (words : List (List ℕ)) → NamesStore one words → NamesStore two words → numbers_of one ≡ numbers_of two

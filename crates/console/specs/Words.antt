@@ -1,12 +1,16 @@
 -- The words of the command line.
-use Rattle.std.specs.Prelude.{◌≡◌, ◌≢◌, ◌⊎◌, ℕ, ◌-◌, ◌/◌, ◌%◌, ◌^◌, ◌<◌, ◌≤◌, ◌==◌, nat_le, if◌then◌else◌, Bool, true, false, List, [], ◌∷◌, map, length, take, slice_index, codes, Option, Some, None, option_map, String, string_bytes}
+use Rattle.std.specs.Prelude.{◌≡◌, ◌≢◌, ◌⊎◌, ℕ, ◌-◌, ◌/◌, ◌%◌, ◌^◌, ◌<◌, ◌≤◌, ◌==◌, nat_le, if◌then◌else◌, Bool, true, false, List, [], ◌∷◌, map, length, take, slice_index, codes, Option, Some, None, option_map, String, string_bytes, MatchOption, ◌+◌, All, ◌++◌}
 use Rattle.std.specs.Str.Parse.{IsNumeral, digits_value}
-use Rattle.console.specs.Below.{AreFlags, Global, HasRanges, IsLegal}
+use Rattle.console.specs.Below.{AreFlags, Global, HasRanges, IsLegal, IsInRange}
 use Rattle.asm_parse.specs.Number.{number_in}
 use Rattle.lines.specs.declared.line_geometry.PageSize.{PageSize}
 use Rattle.lines.specs.declared.line_geometry.PageSize.TheVariants.{Two, Four}
 use Rattle.console.specs.declared.words.Command.{Command}
 use Rattle.console.specs.declared.words.Command.TheVariants as command
+use Rattle.store_calls.specs.declared.show.Range.{Range}
+use Rattle.store_format.specs.Header.{Header}
+use Rattle.lines.specs.Directory.{Layout}
+use Rattle.arrayvec.specs.ArrayVec.{ArrayVec}
 
 -- the word that makes a store, by the size of its pages
 abbrev pub new_word : PageSize → List ℕ
@@ -171,3 +175,61 @@ ReadsStore words = (bank : ℕ) × IsForm (command.Renew bank) words
 -- the words ask for a ship text to be read: `follow`
 abbrev pub ReadsText : List (String Global) → Type 0
 ReadsText words = IsForm command.Follow words
+
+-- one that has this, and none only where nothing has it
+abbrev pub FindsOne : {A : Type 0} → (A → Type 0) → Option A → Type 0
+FindsOne has found = MatchOption found ((one : _) → ¬ (has one)) has
+
+-- the words are a command with a number
+abbrev pub IsNumberedForm : List (String Global) → Command → Type 0
+IsNumberedForm words form = IsNumbered form × IsForm form words
+
+-- a word and a number are a command within its bounds
+abbrev pub IsCommandWith : (word number : List ℕ) → Command → Type 0
+IsCommandWith word number form = IsNumbered form × (word ≡ word_of form) × (number_of number ≡ Some (number_said form)) × AreWithin form
+
+-- one word alone is a command
+abbrev pub IsCommandAlone : (word : List ℕ) → Command → Type 0
+IsCommandAlone word form = IsAlone form × (word ≡ word_of form)
+
+-- a word with a store and these numbers is a command within its bounds
+abbrev pub IsCommandOn : (word : List ℕ) → (numbers : List (ℕ × Bool)) → Command → Type 0
+IsCommandOn word numbers form = IsOnStore form × (word ≡ word_of form) × (numbers ≡ numbers_of form) × AreWithin form
+
+-- these numbers are a range that may be shown
+abbrev pub IsRangeOf : (numbers : List (ℕ × Bool)) → Range → Type 0
+IsRangeOf numbers range = (numbers ≡ plain (range.segment ∷ range.from ∷ range.count ∷ [])) × (range.count ≤ 65536)
+
+-- these numbers are the bytes of a bank of a header
+abbrev pub IsBankOf : (numbers : List (ℕ × Bool)) → (bank : ℕ) → Type 0
+IsBankOf numbers bank = (numbers ≡ plain (bank ∷ [])) × (4096 ≤ bank) × (bank ≤ 131072)
+
+-- these numbers are a header with pages of this size
+abbrev pub IsHeaderOf : PageSize → (numbers : List (ℕ × Bool)) → Header → Type 0
+IsHeaderOf page numbers header =
+    (header.directory.page ≡ page) × (numbers ≡ numbers_of (command.New header)) × AreWithin (command.New header)
+
+-- these numbers are the segments of a directory with pages of this size
+abbrev pub IsDirectoryOf : PageSize → (numbers : List (ℕ × Bool)) → Layout → Type 0
+IsDirectoryOf page numbers directory =
+    (directory.page ≡ page) × (numbers ≡ spread directory.segments directory.fine) × IsLegal directory.segments
+    × AreFlags page directory.segments directory.fine
+
+-- segments were added that these numbers are, with their flags; none where numbers are no segments, or there is no room
+abbrev pub AddsSegments : (numbers : List (ℕ × Bool)) → (old new : List (ℕ × ℕ)) → Option ℕ → Type 0
+AddsSegments numbers old new found =
+    MatchOption found
+    ((more : List (ℕ × ℕ)) (fine : ℕ) → numbers ≡ spread more fine → length old + length more ≤ 15 → ¬ (All IsInRange more))
+    (λ fine. (more : List (ℕ × ℕ)) × (numbers ≡ spread more fine) × (new ≡ old ++ more) × (fine < 2 ^ length more))
+
+-- an identifier and pages as they are kept; none where they are in no range
+abbrev pub IsSegmentOf : (identifier pages : ℕ) → Option (ℕ × ℕ) → Type 0
+IsSegmentOf identifier pages found =
+    MatchOption found (¬ (IsInRange (identifier, pages))) (λ segment. (segment.0 ≡ identifier) × (segment.1 ≡ pages))
+
+-- the numbers that words are; none where they are none, or more than a form has
+abbrev pub AreNumbersOf : List (String Global) → Option (ArrayVec (ℕ × Bool)) → Type 0
+AreNumbersOf words found =
+    MatchOption found
+    ((numbers : List (ℕ × Bool)) → length numbers ≤ 31 → ¬ (AreNumbers (map string_bytes words) numbers))
+    (λ numbers. AreNumbers (map string_bytes words) numbers.items)

@@ -2,7 +2,7 @@
 ghost use Rattle.std.specs.Prelude.{◌≡◌, ◌≢◌, ◌≤◌, ◌<◌, ◌+◌, ◌^◌, [], ◌∷◌, ◌++◌, Bool, List, ℕ, All, map, length, false, MatchOption, Some, string_bytes};
 ghost use Rattle.console.specs.Below.{AreFlags, HasRanges, IsInRange, IsLegal};
 ghost use Rattle.store_format.specs.Header.{Header as Layout};
-ghost use Rattle.console.specs.Words.{IsForm, IsNoForm, AreWithin, AreNumbers, IsAlone, IsLong, IsNumbered, IsOnStore, number_said, word_of, numbers_of, number_of, marked_of, plain, spread};
+ghost use Rattle.console.specs.Words.{IsForm, IsNoForm, AreWithin, AreNumbers, IsAlone, IsLong, IsNumbered, IsOnStore, number_said, word_of, numbers_of, number_of, marked_of, plain, spread, FindsOne, AreNumbersOf, AddsSegments, IsSegmentOf, IsNumberedForm, IsCommandWith, IsCommandAlone, IsCommandOn, IsRangeOf, IsHeaderOf, IsDirectoryOf, IsBankOf};
 
 use arrayvec::ArrayVec;
 use lines::{Directory, PageSize};
@@ -71,7 +71,7 @@ pub fn command_of(words: &[String]) -> Option<Command>
 
 /// The command that a word and a number are, if the words are these.
 fn numbered(words: &[String]) -> Option<Command>
-    ensures { MatchOption result ((form : Command) → IsNumbered form → ¬ (IsForm form words.now)) (λ command. IsNumbered command × IsForm command words.now) }
+    ensures { FindsOne (IsNumberedForm words.now) result }
 {
     match words {
         [word, number] => command_with(word.as_str(), number.as_str()),
@@ -81,7 +81,7 @@ fn numbered(words: &[String]) -> Option<Command>
 
 /// The number from which the words ask a store to ship, if they do.
 fn shipping(words: &[String]) -> Option<u64>
-    ensures { MatchOption result ((from : ℕ) → ¬ (IsForm (Command.Ship from) words.now)) (λ from. IsForm (Command.Ship from) words.now) }
+    ensures { FindsOne (λ from. IsForm (Command.Ship from) words.now) result }
 {
     match words {
         [word, store, number] if word.as_str() == "ship" && !store.as_str().is_empty() => {
@@ -93,9 +93,7 @@ fn shipping(words: &[String]) -> Option<u64>
 
 /// The command that a word is with this number.
 fn command_with(word: &str, number: &str) -> Option<Command>
-    ensures { MatchOption result
-        ((form : Command) → IsNumbered form → word.now ≡ word_of form → number_of number.now ≡ Some (number_said form) → ¬ (AreWithin form))
-        (λ command. IsNumbered command × (word.now ≡ word_of command) × (number_of number.now ≡ Some (number_said command)) × AreWithin command) }
+    ensures { FindsOne (IsCommandWith word.now number.now) result }
 {
     let number = number_of(number)?;
     if word == "trace" {
@@ -109,7 +107,7 @@ fn command_with(word: &str, number: &str) -> Option<Command>
 
 /// The command that one word alone is.
 fn command_alone(word: &str) -> Option<Command>
-    ensures { MatchOption result ((form : Command) → IsAlone form → word.now ≢ word_of form) (λ command. IsAlone command × (word.now ≡ word_of command)) }
+    ensures { FindsOne (IsCommandAlone word.now) result }
 {
     if word == "try" {
         Some(Command::Try)
@@ -126,9 +124,7 @@ fn command_alone(word: &str) -> Option<Command>
 
 /// The command that a word is with a store and these numbers, each with its mark or without.
 fn command_on(word: &str, numbers: &[(u32, bool)]) -> Option<Command>
-    ensures { MatchOption result
-        ((form : Command) → IsOnStore form → word.now ≡ word_of form → numbers.now ≡ numbers_of form → ¬ (AreWithin form))
-        (λ command. IsOnStore command × (word.now ≡ word_of command) × (numbers.now ≡ numbers_of command) × AreWithin command) }
+    ensures { FindsOne (IsCommandOn word.now numbers.now) result }
 {
     if word == "run" {
         bare(numbers, Command::Run)
@@ -160,9 +156,7 @@ fn bare(numbers: &[(u32, bool)], command: Command) -> Option<Command>
 
 /// The range that these numbers are: its segment, its first offset and its number of bytes.
 fn range_of(numbers: &[(u32, bool)]) -> Option<Range>
-    ensures { MatchOption result
-        ((range : Range) → numbers.now ≡ plain (range.segment ∷ range.from ∷ range.count ∷ []) → ¬ (range.count ≤ 65536))
-        (λ range. (numbers.now ≡ plain (range.segment ∷ range.from ∷ range.count ∷ [])) × (range.count ≤ 65536)) }
+    ensures { FindsOne (IsRangeOf numbers.now) result }
 {
     match numbers {
         [(segment, false), (from, false), (count, false)] if *count <= 65_536 => Some(Range {
@@ -176,9 +170,7 @@ fn range_of(numbers: &[(u32, bool)]) -> Option<Range>
 
 /// The bytes of a bank that these numbers are.
 fn bank_of(numbers: &[(u32, bool)]) -> Option<u32>
-    ensures { MatchOption result
-        ((bank : ℕ) → numbers.now ≡ plain (bank ∷ []) → 4096 ≤ bank → ¬ (bank ≤ 131072))
-        (λ bank. (numbers.now ≡ plain (bank ∷ [])) × (4096 ≤ bank) × (bank ≤ 131072)) }
+    ensures { FindsOne (IsBankOf numbers.now) result }
 {
     match numbers {
         [(bank, false)] if (4_096..=131_072).contains(bank) => Some(*bank),
@@ -189,11 +181,7 @@ fn bank_of(numbers: &[(u32, bool)]) -> Option<u32>
 /// The header that these numbers are, with pages of this size: the bytes of a bank, and the segments with their pages, which
 /// are marked where the segment is fine.
 fn header_of(page: PageSize, numbers: &[(u32, bool)]) -> Option<Header>
-    ensures { MatchOption result
-        ((header : Layout) → header.directory.page ≡ page → numbers.now ≡ (header.bank_bytes, false) ∷ spread header.directory.segments header.directory.fine
-        → HasRanges header → IsLegal header.directory.segments → ¬ (AreFlags page header.directory.segments header.directory.fine))
-        (λ header. (header.directory.page ≡ page) × (numbers.now ≡ (header.bank_bytes, false) ∷ spread header.directory.segments header.directory.fine)
-        × HasRanges header × IsLegal header.directory.segments × AreFlags page header.directory.segments header.directory.fine) }
+    ensures { FindsOne (IsHeaderOf page numbers.now) result }
 {
     match numbers {
         [(bank_bytes, false), rest @ ..] if (4_096..=131_072).contains(bank_bytes) => {
@@ -208,9 +196,7 @@ fn header_of(page: PageSize, numbers: &[(u32, bool)]) -> Option<Header>
 
 /// The directory of the segments that these numbers are, each an identifier and its pages, with pages of this size.
 fn directory_of(page: PageSize, numbers: &[(u32, bool)]) -> Option<Directory>
-    ensures { MatchOption result
-        ((segments : List (ℕ × ℕ)) (fine : ℕ) → numbers.now ≡ spread segments fine → IsLegal segments → ¬ (AreFlags page segments fine))
-        (λ directory. (directory.page ≡ page) × (numbers.now ≡ spread directory.segments directory.fine) × IsLegal directory.segments × AreFlags page directory.segments directory.fine) }
+    ensures { FindsOne (IsDirectoryOf page numbers.now) result }
 {
     let mut segments = ArrayVec::<(u16, u16), 15>::new();
     let fine = add_segments(numbers, &mut segments)?;
@@ -225,9 +211,7 @@ fn directory_of(page: PageSize, numbers: &[(u32, bool)]) -> Option<Directory>
 fn add_segments(numbers: &[(u32, bool)], segments: &mut ArrayVec<(u16, u16), 15>) -> Option<u16>
     requires { length segments.old.items ≤ 15 }
     ensures few { length segments.new.items ≤ 15 }
-    ensures flags { MatchOption result
-        ((more : List (ℕ × ℕ)) (fine : ℕ) → numbers.now ≡ spread more fine → length segments.old.items + length more ≤ 15 → ¬ (All IsInRange more))
-        (λ fine. (more : List (ℕ × ℕ)) × (numbers.now ≡ spread more fine) × (segments.new.items ≡ segments.old.items ++ more) × (fine < 2 ^ length more)) }
+    ensures flags { AddsSegments numbers.now segments.old.items segments.new.items result }
 {
     match numbers {
         [] => Some(0),
@@ -245,7 +229,7 @@ fn add_segments(numbers: &[(u32, bool)], segments: &mut ArrayVec<(u16, u16), 15>
 
 /// An identifier and pages as they are kept; none where one is far out of its range.
 fn segment_of(identifier: u32, pages: u32) -> Option<(u16, u16)>
-    ensures { MatchOption result (¬ (IsInRange (identifier, pages))) (λ segment. (segment.0 ≡ identifier) × (segment.1 ≡ pages)) }
+    ensures { IsSegmentOf identifier pages result }
 {
     match (u16::try_from(identifier), u16::try_from(pages)) {
         (Ok(identifier), Ok(pages)) => Some((identifier, pages)),
@@ -255,9 +239,7 @@ fn segment_of(identifier: u32, pages: u32) -> Option<(u16, u16)>
 
 /// The numbers that these words are, where all are and a form has as many.
 fn numbers_of(words: &[String]) -> Option<ArrayVec<(u32, bool), MOST_NUMBERS>>
-    ensures { MatchOption result
-        ((numbers : List (ℕ × Bool)) → length numbers ≤ 31 → ¬ (AreNumbers (map string_bytes words.now) numbers))
-        (λ numbers. AreNumbers (map string_bytes words.now) numbers.items) }
+    ensures { AreNumbersOf words.now result }
 {
     let mut numbers = ArrayVec::new();
     for word in words {
@@ -299,7 +281,7 @@ fn number_of(word: &str) -> Option<u32>
 
 /// The long number that a word is, if it is one.
 fn long_number_of(word: &str) -> Option<u64>
-    ensures { MatchOption result ((number : ℕ) → ¬ (IsLong word.now number)) (λ number. IsLong word.now number) }
+    ensures { FindsOne (IsLong word.now) result }
 {
     let digits = word.as_bytes();
     if digits.is_empty() || digits.len() > 20 || digits[0] == b'+' {

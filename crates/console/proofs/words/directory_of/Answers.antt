@@ -2,7 +2,8 @@ use Rattle.console.proofs.Lemmas.{◌≡◌, ℕ, List, ◌++◌, ap, ◌∙◌,
 use Rattle.console.proofs.words.directory_of.Goals as goal
 
 pub returns-in-Err : goal.returns-in-Err
-returns-in-Err c = λ segments fine is legal flags.
+returns-in-Err c = λ directory has.
+    let segments = directory.segments in let fine = directory.fine in let (page, is, legal, flags) = has in
     let (more, same, added, low) = c.in_ok-fine.ensures.flags in
     let spreads = one_spread more segments c.in_ok-fine.fine fine low (flags_few c.args.page segments fine flags) (sym same ∙ is) in
     let items : c.as_slice.result.now ≡ segments = c.as_slice.ensures.value ∙ added ∙ ap (λ (these : List (ℕ × ℕ)). these ++ more) c.new-segments.ensures ∙ spreads.0 in
