@@ -1,6 +1,6 @@
 -- What a reader of jobs has read.
-use Rattle.std.specs.Prelude.{◌≡◌, ℕ, ◌+◌, if◌then◌else◌, List, length, sum_by, map, Result, Ok, Err}
-use Rattle.job_text.specs.Below.{ArrayVec, at_line, linked, parts_of, statement_by, Token}
+use Rattle.std.specs.Prelude.{◌≡◌, ℕ, ◌+◌, if◌then◌else◌, List, length, sum_by, map, Result, Ok, Err, ◌∷◌, ◌<◌}
+use Rattle.job_text.specs.Below.{ArrayVec, at_line, linked, parts_of, statement_by, Token, lines_of}
 use Rattle.asm_parse.specs.declared.fault.LineFault.{LineFault}
 use Rattle.asm_parse.specs.Answers.{IsFaultOf}
 use Rattle.job_text.specs.declared.job.JobFault.{JobFault}
@@ -59,3 +59,7 @@ IsStep (Err fault) new reading = IsFaultOf fault reading
 abbrev pub IsRead : {A : Type 0} → Result A JobFault → Reader → Result Reading (ℕ × ℕ) → Type 0
 IsRead (Ok value) new reading = reading ≡ Ok (reading_of new)
 IsRead (Err fault) new reading = IsJobFaultOf fault reading
+
+-- the lines of a text are a first one and those of the rest, which is shorter
+abbrev pub IsCut : (text line rest : List ℕ) → Type 0
+IsCut text line rest = (lines_of text ≡ line ∷ lines_of rest) × (length rest < length text)

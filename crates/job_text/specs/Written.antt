@@ -1,9 +1,11 @@
 -- The text that a job is written as.
-use Rattle.std.specs.Prelude.{ℕ, ◌+◌, ◌<◌, slice_index, EachIndex, List, [], ◌∷◌, ◌++◌, map, codes, decimal, slice_index_or, if◌then◌else◌, Bool, Option, Some, None}
+use Rattle.std.specs.Prelude.{ℕ, ◌+◌, ◌<◌, slice_index, EachIndex, List, [], ◌∷◌, ◌++◌, map, codes, decimal, slice_index_or, if◌then◌else◌, Bool, Option, Some, None, Vec, ◌≡◌, Ok, length, ◌^◌}
 use Rattle.std.specs.Int.{from_be_bytes, w32}
-use Rattle.job_text.specs.Below.{Begin, Checkpoint, Close, Colon, Comma, Crash, Event, flat_map, Minus, Number, Open, Parts, Plus, Token, Turn, Word, zip}
+use Rattle.job_text.specs.Below.{Begin, Checkpoint, Close, Colon, Comma, Crash, Event, flat_map, Minus, Number, Open, Parts, Plus, Token, Turn, Word, zip, ArrayVec, parts_of}
 use Rattle.flat_machine.specs.declared.machine.Window.{Window}
-use Rattle.job_text.specs.Grammar.{Content}
+use Rattle.job_text.specs.Grammar.{Content, job_of}
+use Rattle.flat_machine.specs.declared.machine.Program.{Program}
+use Rattle.std.specs.declared.alloc.Global.{Global}
 
 -- a token: a word's bytes, a number in decimal, or the one character
 abbrev pub token_text : Token → List ℕ
@@ -91,3 +93,27 @@ written content = flat_map line_text (job_lines content)
 -- numbers that bytes hold
 abbrev pub AreBytes : List ℕ → Type 0
 AreBytes bytes = EachIndex bytes (λ k. slice_index bytes k < 256)
+
+-- the bytes of names
+abbrev pub texts_of : List (ArrayVec ℕ) → List (List ℕ)
+texts_of names = map (λ name. name.items) names
+
+-- programs with their names
+abbrev pub named : List (ArrayVec ℕ) → List Program → List (List ℕ × Parts)
+named names programs = zip (texts_of names) (map parts_of programs)
+
+-- a line was added to a text, with its line feed
+abbrev pub AddsLine : (old new : Vec ℕ Global) → List Token → Type 0
+AddsLine old new line = new.items ≡ old.items ++ line_text line
+
+-- lines were added to a text, each with its line feed
+abbrev pub AddsLines : (old new : Vec ℕ Global) → List (List Token) → Type 0
+AddsLines old new lines = new.items ≡ old.items ++ flat_map line_text lines
+
+-- where some text is a job that says this, this one has fewer than 2^23 bytes
+abbrev pub IsShort : Content → (text : List ℕ) → Type 0
+IsShort content text = (other : List ℕ) → job_of other ≡ Ok content → length text < 2 ^ 23
+
+-- where some text is a job that says this, this one is too
+abbrev pub SaysAgain : Content → (text : List ℕ) → Type 0
+SaysAgain content text = (other : List ℕ) → job_of other ≡ Ok content → job_of text ≡ Ok content

@@ -3,7 +3,7 @@ ghost use Rattle.std.specs.Prelude.{◌≡◌, ◌<◌, ◌^◌, [], ◌∷◌, 
 ghost use Rattle.asm_parse.specs.Text.{lines_of};
 ghost use Rattle.job_text.specs.Grammar.{job_of, last_part};
 ghost use Rattle.job_text.specs.JobAnswers.{IsJobAnswer};
-ghost use Rattle.job_text.specs.Reader.{reading_of};
+ghost use Rattle.job_text.specs.Reader.{reading_of, IsCut};
 ghost use Rattle.job_text.specs.Ready.{IsReady};
 
 use super::job::{Job, JobFault};
@@ -40,8 +40,7 @@ pub fn read_job(alloc: Global, text: &[u8]) -> Result<Job, JobFault>
 
 /// The first line, and what comes after its line feed; none where there is no line feed.
 fn next_line(left: &[u8]) -> Option<(&[u8], &[u8])>
-    ensures { MatchOption result (lines_of left.now ≡ left.now ∷ [])
-        (λ found. (lines_of left.now ≡ found.0.now ∷ lines_of found.1.now) × (length found.1.now < length left.now)) }
+    ensures { MatchOption result (lines_of left.now ≡ left.now ∷ []) (λ found. IsCut left.now found.0.now found.1.now) }
 {
     let (line, rest) = first_line(left);
     match rest {

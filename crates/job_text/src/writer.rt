@@ -3,7 +3,7 @@ ghost use Rattle.std.specs.Prelude.{◌≡◌, ◌<◌, ◌^◌, ℕ, List, [], 
 ghost use Rattle.job_text.specs.Below.{All, flat_map, parts_of, zip};
 ghost use Rattle.asm_parse.specs.declared.token.Token.TheVariants.{Word as WordToken, Number as NumberToken};
 ghost use Rattle.job_text.specs.Grammar.{content_of, job_of};
-ghost use Rattle.job_text.specs.Written.{AreBytes, access_text, event_line, image_lines, line_text, number_line, program_lines, source_lines, window_line, window_lines, written};
+ghost use Rattle.job_text.specs.Written.{AreBytes, access_text, event_line, image_lines, line_text, number_line, program_lines, source_lines, window_line, window_lines, written, IsShort, SaysAgain, AddsLine, named, AddsLines, texts_of};
 
 use super::job::{Job, Name};
 use desk::Event;
@@ -22,8 +22,8 @@ use std::alloc::{AllocError, Global};
 /// [`AllocError`] where there is no memory.
 pub fn write_job(alloc: Global, job: &Job) -> Result<Vec<u8>, AllocError>
     ensures text { IfOk result (λ text. text.items ≡ written (content_of job.now)) }
-    ensures short { IfOk result (λ text. (other : List ℕ) → job_of other ≡ Ok (content_of job.now) → length text.items < 2 ^ 23) }
-    ensures back { IfOk result (λ text. (other : List ℕ) → job_of other ≡ Ok (content_of job.now) → job_of text.items ≡ Ok (content_of job.now)) }
+    ensures short { IfOk result (λ text. IsShort (content_of job.now) text.items) }
+    ensures back { IfOk result (λ text. SaysAgain (content_of job.now) text.items) }
 {
     let mut text = Vec::new(alloc);
     put_number_line(&mut text, "frames", u32::from(job.frames))?;
@@ -36,8 +36,8 @@ pub fn write_job(alloc: Global, job: &Job) -> Result<Vec<u8>, AllocError>
 
 /// Appends the programs that have a name, each from its name to its `end`.
 fn put_programs(text: &mut Vec<u8>, names: &[Name], programs: &[Program]) -> Result<(), AllocError>
-    ensures bytes { OnOk result (All (λ program. AreBytes program.1.image) (zip (map (λ name. name.items) names.now) (map parts_of programs.now))) }
-    ensures lines { OnOk result (text.new.items ≡ text.old.items ++ flat_map line_text (flat_map program_lines (zip (map (λ name. name.items) names.now) (map parts_of programs.now)))) }
+    ensures bytes { OnOk result (All (λ program. AreBytes program.1.image) (named names.now programs.now)) }
+    ensures lines { OnOk result (AddsLines text.old text.new (flat_map program_lines (named names.now programs.now))) }
 {
     for (name, program) in names.iter().zip(programs) {
         put_program(text, name.as_slice(), program)?;
@@ -47,7 +47,7 @@ fn put_programs(text: &mut Vec<u8>, names: &[Name], programs: &[Program]) -> Res
 
 /// Appends the lines of events, by the names of the programs.
 fn put_events(text: &mut Vec<u8>, names: &[Name], events: &[Event]) -> Result<(), AllocError>
-    ensures { OnOk result (text.new.items ≡ text.old.items ++ flat_map line_text (map (event_line (map (λ name. name.items) names.now)) events.now)) }
+    ensures { OnOk result (AddsLines text.old text.new (map (event_line (texts_of names.now)) events.now)) }
 {
     for event in events {
         put_event(text, names, event)?;
@@ -58,7 +58,7 @@ fn put_events(text: &mut Vec<u8>, names: &[Name], events: &[Event]) -> Result<()
 /// Appends a program from its name to its `end`.
 fn put_program(text: &mut Vec<u8>, name: &[u8], program: &Program) -> Result<(), AllocError>
     ensures bytes { OnOk result (AreBytes program.now.image) }
-    ensures lines { OnOk result (text.new.items ≡ text.old.items ++ flat_map line_text (program_lines (name.now, parts_of program.now))) }
+    ensures lines { OnOk result (AddsLines text.old text.new (program_lines (name.now, parts_of program.now))) }
 {
     put_name_line(text, "program", name)?;
     put_number_line(text, ".entry", u32::from(program.entry))?;
@@ -69,7 +69,7 @@ fn put_program(text: &mut Vec<u8>, name: &[u8], program: &Program) -> Result<(),
 
 /// Appends a line for each window that is there, the first place for register 1.
 fn put_windows(text: &mut Vec<u8>, windows: &[Option<Window>; 15]) -> Result<(), AllocError>
-    ensures { OnOk result (text.new.items ≡ text.old.items ++ flat_map line_text (window_lines 1 windows.now)) }
+    ensures { OnOk result (AddsLines text.old text.new (window_lines 1 windows.now)) }
 {
     let mut register = 1;
     for window in windows {
@@ -83,7 +83,7 @@ fn put_windows(text: &mut Vec<u8>, windows: &[Option<Window>; 15]) -> Result<(),
 
 /// Appends the line of a window.
 fn put_window(text: &mut Vec<u8>, register: u32, window: Window) -> Result<(), AllocError>
-    ensures { OnOk result (text.new.items ≡ text.old.items ++ line_text (window_line register window)) }
+    ensures { OnOk result (AddsLine text.old text.new (window_line register window)) }
 {
     text.extend_from_slice(b".window")?;
     put_number(text, register)?;
@@ -96,7 +96,7 @@ fn put_window(text: &mut Vec<u8>, register: u32, window: Window) -> Result<(), A
 /// Appends a `.word` for each four bytes, and a `.byte` for each that is left.
 fn put_image(text: &mut Vec<u8>, image: &[u8]) -> Result<(), AllocError>
     ensures bytes { AreBytes image.now }
-    ensures lines { OnOk result (text.new.items ≡ text.old.items ++ flat_map line_text (image_lines image.now)) }
+    ensures lines { OnOk result (AddsLines text.old text.new (image_lines image.now)) }
 {
     let mut left = image;
     while let [a, b, c, d, behind @ ..] = left {
@@ -108,7 +108,7 @@ fn put_image(text: &mut Vec<u8>, image: &[u8]) -> Result<(), AllocError>
 
 /// Appends a `.byte` for each byte.
 fn put_bytes(text: &mut Vec<u8>, bytes: &[u8]) -> Result<(), AllocError>
-    ensures { OnOk result (text.new.items ≡ text.old.items ++ flat_map line_text (map (number_line (codes ".byte")) bytes.now)) }
+    ensures { OnOk result (AddsLines text.old text.new (map (number_line (codes ".byte")) bytes.now)) }
 {
     for byte in bytes {
         put_number_line(text, ".byte", u32::from(*byte))?;
@@ -118,7 +118,7 @@ fn put_bytes(text: &mut Vec<u8>, bytes: &[u8]) -> Result<(), AllocError>
 
 /// Appends the line of an event, by the names of the programs.
 fn put_event(text: &mut Vec<u8>, names: &[Name], event: &Event) -> Result<(), AllocError>
-    ensures { OnOk result (text.new.items ≡ text.old.items ++ line_text (event_line (map (λ name. name.items) names.now) event.now)) }
+    ensures { OnOk result (AddsLine text.old text.new (event_line (texts_of names.now) event.now)) }
 {
     match event {
         Event::Begin { program, args } => {
@@ -132,7 +132,7 @@ fn put_event(text: &mut Vec<u8>, names: &[Name], event: &Event) -> Result<(), Al
 
 /// The name at a place, and no bytes where there is none.
 fn name_at(names: &[Name], place: usize) -> &[u8]
-    ensures { result.now ≡ slice_index_or (map (λ name. name.items) names.now) place [] }
+    ensures { result.now ≡ slice_index_or (texts_of names.now) place [] }
 {
     match names.get(place) {
         Some(name) => name.as_slice(),
@@ -142,7 +142,7 @@ fn name_at(names: &[Name], place: usize) -> &[u8]
 
 /// Appends the line of a begin.
 fn put_begin(text: &mut Vec<u8>, name: &[u8], args: &[u32; 4]) -> Result<(), AllocError>
-    ensures { OnOk result (text.new.items ≡ text.old.items ++ line_text (WordToken (codes "begin") ∷ WordToken name.now ∷ map NumberToken args.now)) }
+    ensures { OnOk result (AddsLine text.old text.new (WordToken (codes "begin") ∷ WordToken name.now ∷ map NumberToken args.now)) }
 {
     text.extend_from_slice(b"begin ")?;
     text.extend_from_slice(name)?;
@@ -155,7 +155,7 @@ fn put_begin(text: &mut Vec<u8>, name: &[u8], args: &[u32; 4]) -> Result<(), All
 
 /// Appends the line of a turn.
 fn put_turn(text: &mut Vec<u8>, activation: u32, limit: u32) -> Result<(), AllocError>
-    ensures { OnOk result (text.new.items ≡ text.old.items ++ line_text (WordToken (codes "turn") ∷ NumberToken activation ∷ NumberToken limit ∷ [])) }
+    ensures { OnOk result (AddsLine text.old text.new (WordToken (codes "turn") ∷ NumberToken activation ∷ NumberToken limit ∷ [])) }
 {
     text.extend_from_slice(b"turn")?;
     put_number(text, activation)?;
@@ -166,7 +166,7 @@ fn put_turn(text: &mut Vec<u8>, activation: u32, limit: u32) -> Result<(), Alloc
 
 /// Appends a line that is one word.
 fn put_word_line(text: &mut Vec<u8>, word: &str) -> Result<(), AllocError>
-    ensures { OnOk result (text.new.items ≡ text.old.items ++ line_text (WordToken word.now ∷ [])) }
+    ensures { OnOk result (AddsLine text.old text.new (WordToken word.now ∷ [])) }
 {
     text.extend_from_slice(word.as_bytes())?;
     text.push(b'\n')?;
@@ -175,7 +175,7 @@ fn put_word_line(text: &mut Vec<u8>, word: &str) -> Result<(), AllocError>
 
 /// Appends a line of a word and a name.
 fn put_name_line(text: &mut Vec<u8>, word: &str, name: &[u8]) -> Result<(), AllocError>
-    ensures { OnOk result (text.new.items ≡ text.old.items ++ line_text (WordToken word.now ∷ WordToken name.now ∷ [])) }
+    ensures { OnOk result (AddsLine text.old text.new (WordToken word.now ∷ WordToken name.now ∷ [])) }
 {
     text.extend_from_slice(word.as_bytes())?;
     text.push(b' ')?;
@@ -186,7 +186,7 @@ fn put_name_line(text: &mut Vec<u8>, word: &str, name: &[u8]) -> Result<(), Allo
 
 /// Appends a line of a word and a number.
 fn put_number_line(text: &mut Vec<u8>, word: &str, number: u32) -> Result<(), AllocError>
-    ensures { OnOk result (text.new.items ≡ text.old.items ++ line_text (number_line word.now number)) }
+    ensures { OnOk result (AddsLine text.old text.new (number_line word.now number)) }
 {
     text.extend_from_slice(word.as_bytes())?;
     put_number(text, number)?;

@@ -1,4 +1,4 @@
-use Rattle.job_text.proofs.Lemmas.{min, some_more, arith, common_steps}
+use Rattle.job_text.proofs.Lemmas.{some_more, arith, common_steps}
 use Rattle.job_text.proofs.big.put_batches.Goals as goal
 
 pub loop-place-preserved : goal.loop-place-preserved
