@@ -1,6 +1,7 @@
 -- A store that was made, and an activation that was traced, are those that the words say.
 use Rattle.console.proofs.Common.{ℕ, map, subst, List, string_bytes, Global, Header, Given, TracedFrom, Command, IsForm, nat_eq, String, Ghosts, Made, Ended}
-use Rattle.console.specs.Did.{Does, ended_call}
+use Rattle.console.specs.Did.{Does}
+use Rattle.job_calls.specs.Headline.{ended_call}
 use Rattle.console.specs.declared.words.Command.TheVariants as command
 use Rattle.console.proofs.PromiseLemmas.{Holds, mark_of, same_mark}
 use Rattle.console.proofs.WordLemmas.{one_header, one_trace}

@@ -1,16 +1,12 @@
 -- What each command does.
-use Rattle.console.specs.Below.{Audited, Call, call, FollowedFrom, Ghosts, Given, Made, order_told, RangeShown, Renewed, ShippedFrom, TracedFrom}
+use Rattle.console.specs.Below.{Audited, FollowedFrom, Ghosts, Given, Made, RangeShown, Renewed, ShippedFrom, TracedFrom}
 use Rattle.job_calls.specs.declared.ended.Ended.{Ended}
 use Rattle.job_calls.specs.Big.{Loaded}
-use Rattle.job_calls.specs.Headline.{Happened}
+use Rattle.job_calls.specs.Headline.{Happened, ended_call}
 use Rattle.drills.specs.Drilled.{Drilled}
 use Rattle.console.specs.Listed.{Listed}
 use Rattle.console.specs.declared.words.Command.{Command}
 use Rattle.console.specs.declared.words.Command.TheVariants as command
-
--- a call that ended so
-abbrev pub ended_call : {W : Type 0} → W → W → Ended → Call W
-ended_call before after ended = call before after (order_told ended.order.items) ended.status
 
 -- A command did what it does, with what it was given of its source, from one state of the outside to another, as it ended: a job was run, listed or
 -- drilled, bytes were shown, a store was made or renewed, records were shipped or followed, a load was run, or a bundle was checked or traced.

@@ -1,8 +1,9 @@
 // A load with waits and victims, run without a report.
 ghost use Rattle.std.specs.Prelude.{◌≡◌, ◌≤◌, [], ◌∷◌, ◌++◌, length, vec_capacity};
-ghost use Rattle.job_calls.specs.Below.{begins_in, call, FaultsBy, IsBigJob, IsReady, order_told, Puts, PutsTimes};
+ghost use Rattle.job_calls.specs.Below.{begins_in, FaultsBy, IsBigJob, IsReady, order_told, Puts, PutsTimes, call};
 ghost use Rattle.job_calls.specs.Big.{IsToldBy, Loaded, big_line};
 ghost use Rattle.job_calls.specs.Causes.{IsOfEvents};
+ghost use Rattle.job_calls.specs.Headline.{ended_call};
 ghost use Rattle.job_calls.specs.Handed.{HandedFits, HandsOn};
 
 use super::ended::Ended;
@@ -19,7 +20,7 @@ use text_line::TextLine;
 /// Runs a load of so many transfers on the disk's store, and prints its one line.
 pub fn run_load<W: Outside>(alloc: Global, transfers: u32, outside: &mut W) -> Ended
     requires { transfers ≤ 512 }
-    ensures loaded { Loaded W.Outside transfers (call outside.old outside.new (order_told result.order.items) result.status) result.session }
+    ensures loaded { Loaded W.Outside transfers (ended_call outside.old outside.new result) result.session }
     ensures handed { HandsOn (order_told result.order.items) result.session result.status }
     ensures fits { HandedFits W.Outside outside.new result.session }
     ensures faults { FaultsBy W.Outside outside.old outside.new result.status }
@@ -35,7 +36,7 @@ pub fn run_load<W: Outside>(alloc: Global, transfers: u32, outside: &mut W) -> E
 fn run_with_order<W: Outside>(alloc: Global, transfers: u32, job: Job, outside: &mut W) -> Ended
     requires load { IsBigJob transfers job }
     requires ready { IsReady job }
-    ensures loaded { Loaded W.Outside transfers (call outside.old outside.new (order_told result.order.items) result.status) result.session }
+    ensures loaded { Loaded W.Outside transfers (ended_call outside.old outside.new result) result.session }
     ensures handed { HandsOn (order_told result.order.items) result.session result.status }
     ensures fits { HandedFits W.Outside outside.new result.session }
     ensures faults { FaultsBy W.Outside outside.old outside.new result.status }
@@ -62,7 +63,7 @@ fn open_and_run<W: Outside>(
     requires begins { begins ≡ begins_in job.events.items }
     requires none { order.items ≡ [] }
     requires room { begins ≤ vec_capacity order }
-    ensures loaded { Loaded W.Outside transfers (call outside.old outside.new (order_told result.order.items) result.status) result.session }
+    ensures loaded { Loaded W.Outside transfers (ended_call outside.old outside.new result) result.session }
     ensures handed { HandsOn (order_told result.order.items) result.session result.status }
     ensures fits { HandedFits W.Outside outside.new result.session }
     ensures faults { FaultsBy W.Outside outside.old outside.new result.status }

@@ -1,10 +1,10 @@
 // A job that runs on the store of a disk.
 ghost use Rattle.std.specs.Prelude.{◌≡◌, ◌≤◌, [], length, vec_capacity};
-ghost use Rattle.job_calls.specs.Below.{begins_in, call, FaultsBy, given, IsReady, order_told, ReadFaultsBy};
+ghost use Rattle.job_calls.specs.Below.{begins_in, FaultsBy, given, IsReady, order_told, ReadFaultsBy};
 ghost use Rattle.call_status.specs.Reading.{ReadsBy};
 ghost use Rattle.job_calls.specs.Causes.{IsOfEvents, IsOfRun, OpensBy, status_of_replay};
 ghost use Rattle.job_calls.specs.Handed.{HandedFits, HandedRuns, HandsOn};
-ghost use Rattle.job_calls.specs.Headline.{Happened, HappenedTo};
+ghost use Rattle.job_calls.specs.Headline.{Happened, HappenedTo, ended_call};
 
 use super::ended::Ended;
 use call_status::{Status, job_from};
@@ -20,7 +20,7 @@ pub fn run_source<S: Source, W: Outside>(alloc: Global, source: &mut S, outside:
     ensures read { ReadsBy (given S.Source source.old source.new) result.status }
     ensures opened { OpensBy W.Outside outside.old outside.new result.status result.session }
     ensures faults { ReadFaultsBy W.Outside (given S.Source source.old source.new) outside.old outside.new result.status }
-    ensures happened { Happened W.Outside (given S.Source source.old source.new) (call outside.old outside.new (order_told result.order.items) result.status) result.session }
+    ensures happened { Happened W.Outside (given S.Source source.old source.new) (ended_call outside.old outside.new result) result.session }
     ensures handed { HandsOn (order_told result.order.items) result.session result.status }
     ensures fits { HandedFits W.Outside outside.new result.session }
     ensures only { IsOfRun result.status }
@@ -36,7 +36,7 @@ pub fn try_job<W: Outside>(alloc: Global, job: Job, outside: &mut W) -> Ended
     requires { IsReady job }
     ensures opened { OpensBy W.Outside outside.old outside.new result.status result.session }
     ensures faults { FaultsBy W.Outside outside.old outside.new result.status }
-    ensures happened { HappenedTo W.Outside job (call outside.old outside.new (order_told result.order.items) result.status) result.session }
+    ensures happened { HappenedTo W.Outside job (ended_call outside.old outside.new result) result.session }
     ensures handed { HandsOn (order_told result.order.items) result.session result.status }
     ensures runs { HandedRuns job.programs.items result.session }
     ensures fits { HandedFits W.Outside outside.new result.session }
@@ -63,7 +63,7 @@ fn run_job<W: Outside>(
     requires room { begins ≤ vec_capacity order }
     ensures opened { OpensBy W.Outside outside.old outside.new result.status result.session }
     ensures faults { FaultsBy W.Outside outside.old outside.new result.status }
-    ensures happened { HappenedTo W.Outside job (call outside.old outside.new (order_told result.order.items) result.status) result.session }
+    ensures happened { HappenedTo W.Outside job (ended_call outside.old outside.new result) result.session }
     ensures handed { HandsOn (order_told result.order.items) result.session result.status }
     ensures runs { HandedRuns job.programs.items result.session }
     ensures fits { HandedFits W.Outside outside.new result.session }
