@@ -1,14 +1,17 @@
 -- The labels as they are looked up.
-use Rattle.std.specs.Prelude.{◌≡◌, ℕ, ℤ, pos, ◌*◌, ◌%◌, ◌^◌, ◌<◌, IfSome, slice_get, slice_index_or, length, take, sum_by, option_and_then, ◌+◌, nat_lt, false, if◌then◌else◌, Bool, List, [], ◌∷◌, Option, Some, None}
+use Rattle.std.specs.Prelude.{◌≡◌, ℕ, ℤ, pos, ◌*◌, ◌%◌, ◌^◌, ◌<◌, IfSome, slice_get, slice_index_or, length, take, sum_by, option_and_then, ◌+◌, nat_lt, false, if◌then◌else◌, Bool, List, [], ◌∷◌, Option, Some, None, Result, MatchResult, Ok, Err}
 use Rattle.romp_asm.specs.Below.{BTreeMap, fold, get_by, option_map, option_map_or, option_or, Statement}
 use denote.Ref.{Bor}
 use Rattle.std.specs.Cmp.Lexicographic.{slice_cmp}
 use Rattle.std.specs.Ordering.{nat_cmp, ordering_then}
 use Rattle.romp_asm.specs.Size.{size_of, total}
-use Rattle.romp_asm.specs.Value.{is_labelled}
+use Rattle.romp_asm.specs.Value.{is_labelled, knowns_of}
 use Rattle.romp_asm.specs.declared.value.Place.{Place}
 use Rattle.romp_asm.specs.declared.value.Scope.{Scope}
 use Rattle.romp_asm.specs.declared.value.Table.{Table}
+use Rattle.asm_parse.specs.declared.statement.Operand.{Operand}
+use Rattle.arrayvec.specs.ArrayVec.{ArrayVec}
+use Rattle.romp_asm.specs.declared.value.Known.{Known}
 
 -- a number of a word's bytes, by which most words differ
 abbrev pub word_number : List ℕ → ℕ
@@ -76,3 +79,17 @@ pub record IsTable (table : Table) (start : ℕ) (statements : List Statement) :
 pub record AreTables (tables : List Table) (sources : List (List Statement)) : Type 0 where
   pub many : length tables ≡ length sources
   pub each : (source : ℕ) (table : Table) → source < length tables → table ≡ slice_index_or tables source table → IsTable table (sum_by total (take source sources)) (slice_index_or sources source [])
+
+-- a table has the labels of statements
+pub record HasLabelsOf (statements : List Statement) (table : Table) : Type 0 where
+  pub found : (word : List ℕ) → found_in table.labels word ≡ place_of statements word
+  pub alone : table.repeats ≡ false → AreAlone table.labels statements (length statements)
+
+-- the label of a statement was noted, where it has one that stood nowhere
+abbrev pub NotesLabel : Statement → Place → (old new : BTreeMap LabelKey Place) → Type 0
+NotesLabel statement place old new = (word : List ℕ) → found_in new word ≡ noted (found_in old word) (is_labelled word statement) place
+
+-- what operands are known to be, or the kind of their fault
+abbrev pub AreKnowns : Scope → List Operand → Result (ArrayVec Known) ℕ → Type 0
+AreKnowns scope operands result =
+    MatchResult result (λ knowns. knowns_of (addresses_in scope) operands ≡ Ok knowns.items) (λ kind. knowns_of (addresses_in scope) operands ≡ Err kind)

@@ -4,7 +4,7 @@ ghost use Rattle.romp_asm.specs.Size.{form_size, size_of};
 ghost use Rattle.romp_asm.specs.Value.{is_between};
 ghost use Rattle.romp_asm.specs.Labels.{addresses_in};
 ghost use Rattle.romp_asm.specs.Encoding.{code_bytes, data_bytes, encoding_of};
-ghost use Rattle.romp_asm.specs.Piece.{IsReading, piece_bytes};
+ghost use Rattle.romp_asm.specs.Piece.{IsReading, piece_bytes, IsPieceOf};
 ghost use Rattle.asm_parse.specs.declared.statement.Body.TheVariants as body_is;
 
 use super::field::{OUT_OF_REACH, even_at_most, is_between};
@@ -23,8 +23,7 @@ pub(crate) enum Piece {
 
 /// The bytes of a statement at an address.
 pub(crate) fn piece_of<'a>(scope: &Scope<'_, '_, 'a>, at: u32, body: &'a Body) -> Result<Piece, u8>
-    ensures value { IsReading result (encoding_of (addresses_in scope.now) at body.now) }
-    ensures size { IfOk result (λ piece. length (piece_bytes piece) ≡ size_of body.now) }
+    ensures { IsPieceOf scope.now at body.now (size_of body.now) result }
 {
     match body {
         Body::Nothing | Body::Window(..) | Body::Export(_) => Ok(Piece::Zeros(0)),
@@ -42,8 +41,7 @@ fn inst_piece<'a>(
     op: Op,
     operands: &'a ArrayVec<Operand, 4>,
 ) -> Result<Piece, u8>
-    ensures value { IsReading result (encoding_of (addresses_in scope.now) at (body_is.Inst op operands.now)) }
-    ensures size { IfOk result (λ piece. length (piece_bytes piece) ≡ form_size (form_of op)) }
+    ensures { IsPieceOf scope.now at (body_is.Inst op operands.now) (form_size (form_of op)) result }
 {
     match knowns_of(scope, operands.as_slice()) {
         Ok(knowns) => match inst_of(op, at, knowns.as_slice()) {
@@ -66,8 +64,7 @@ fn code_piece(inst: &Inst) -> Piece
 
 /// The bytes of a value.
 fn data_piece<'a>(scope: &Scope<'_, '_, 'a>, count: u8, value: &'a Expr) -> Result<Piece, u8>
-    ensures value { IsReading result (encoding_of (addresses_in scope.now) 0 (body_is.Data count value.now)) }
-    ensures size { IfOk result (λ piece. length (piece_bytes piece) ≡ count) }
+    ensures { IsPieceOf scope.now 0 (body_is.Data count value.now) count result }
 {
     match value_of(scope, value) {
         Ok(number) => match data_bytes(count, number) {
@@ -133,8 +130,7 @@ fn byte_of(value: i64) -> u8
 
 /// No bytes, if a value may be the entry address.
 fn entry_piece<'a>(scope: &Scope<'_, '_, 'a>, value: &'a Expr) -> Result<Piece, u8>
-    ensures value { IsReading result (encoding_of (addresses_in scope.now) 0 (body_is.Entry value.now)) }
-    ensures size { IfOk result (λ piece. length (piece_bytes piece) ≡ 0) }
+    ensures { IsPieceOf scope.now 0 (body_is.Entry value.now) 0 result }
 {
     match value_of(scope, value) {
         Ok(number) => match even_at_most(16_382, number) {

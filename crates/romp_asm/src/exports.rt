@@ -3,7 +3,7 @@ ghost use Rattle.romp_asm.specs.Below.{AllByRecursion, bytes_eq, option_map, opt
 ghost use Rattle.romp_asm.specs.Labels.{found_in};
 ghost use Rattle.asm_parse.specs.declared.statement.Statement.{Statement as Stated};
 ghost use Rattle.romp_asm.specs.Linked.{exported};
-ghost use Rattle.romp_asm.specs.Exported.{AreExports, HasLabels, told_of};
+ghost use Rattle.romp_asm.specs.Exported.{AreExports, HasLabels, told_of, Gives, Faults, export_fault, AddsExports};
 
 use super::value::{Givers, LabelKey, label_key};
 use asm_parse::{Body, Part, Statements};
@@ -95,7 +95,7 @@ fn add_exports<'a>(
     statements: &'a Statements,
 ) -> Result<(), AllocError>
     requires { HasLabels labels.now statements.now }
-    ensures { OnOk result ((before : List (List Stated)) → length before ≡ source → AreExports exports.old before → AreExports exports.new (before ++ statements.now ∷ [])) }
+    ensures { OnOk result (AddsExports source statements.now exports.old exports.new) }
 {
     for index in 0..statements.len() {
         let part = statements.at(index);
@@ -116,9 +116,8 @@ impl<'a> Exports<'a> {
         line: u32,
         label: &'a [u8],
     ) -> Result<(), AllocError>
-        ensures givers { OnOk result ((word : List ℕ) → found_in self.new.givers word ≡ option_or (found_in self.old.givers word) (if bytes_eq label.now word then Some source else None)) }
-        ensures fault { OnOk result (told_of self.new.fault ≡ option_or (told_of self.old.fault)
-            (if is_some (found_in labels.now label.now) then (if is_some (found_in self.old.givers label.now) then Some (line, 16) else None) else Some (line, 15))) }
+        ensures givers { OnOk result (Gives source label.now self.old.givers self.new.givers) }
+        ensures fault { OnOk result (Faults labels.now line label.now self.old self.new) }
     {
         let key = label_key(label);
         let again = self.givers.contains_key(&key);
@@ -133,7 +132,7 @@ impl<'a> Exports<'a> {
 
 /// Why a line can't export a label, by whether its source has the label, and whether an earlier line exports it.
 fn fault_of(line: u32, known: bool, again: bool) -> Option<ExportFault>
-    ensures { told_of result ≡ (if known then (if again then Some (line, 16) else None) else Some (line, 15)) }
+    ensures { told_of result ≡ export_fault line known again }
 {
     if !known {
         Some(ExportFault {

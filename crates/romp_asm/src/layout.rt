@@ -2,7 +2,7 @@ ghost use Rattle.std.specs.Prelude.{◌≡◌, false, ◌<◌, ◌≤◌, ◌^�
 ghost use Rattle.asm_parse.specs.Answers.{IsAnswer, IsTextFaultOf};
 ghost use Rattle.romp_asm.specs.Below.{at_line, stated};
 ghost use Rattle.romp_asm.specs.Labels.{addresses_in, found_in, repeated_in, stands_before, AreAlone};
-ghost use Rattle.romp_asm.specs.Laid.{AreReadAs, IsLaid, LaidTo};
+ghost use Rattle.romp_asm.specs.Laid.{AreReadAs, IsLaid, LaidTo, MayRepeat, LaysAll, MayRepeatAt, LaysOne};
 ghost use Rattle.asm_parse.specs.declared.statement.Statement.{Statement as Stated};
 ghost use Rattle.romp_asm.specs.Source.{source_of};
 ghost use Rattle.romp_asm.specs.Sources.{joined};
@@ -93,9 +93,8 @@ fn add_text<'a>(
     scope: &Scope<'_, '_, 'a>,
     statements: &'a [Statement],
 ) -> Result<(), AsmFault>
-    requires { scope.now.own.now.repeats ≡ false → AreAlone scope.now.own.now.labels statements.now (length statements.now) }
-    ensures { (all before rest named : List Stated) → AreReadAs scope.now statements.now all before named → LaidTo all before (named ++ rest) output.old →
-        MatchResult result (λ _. LaidTo all (before ++ named) rest output.new) (λ fault. IsTextFaultOf fault (assembled all)) }
+    requires { MayRepeat scope.now statements.now }
+    ensures { LaysAll scope.now statements.now output.old output.new result }
 {
     for (index, statement) in statements.iter().enumerate() {
         add(output, scope, index, &Part::of(statement))?;
@@ -109,9 +108,8 @@ fn add_source<'a>(
     scope: &Scope<'_, '_, 'a>,
     statements: &'a Statements,
 ) -> Result<(), AsmFault>
-    requires { scope.now.own.now.repeats ≡ false → AreAlone scope.now.own.now.labels statements.now (length statements.now) }
-    ensures { (all before rest named : List Stated) → AreReadAs scope.now statements.now all before named → LaidTo all before (named ++ rest) output.old →
-        MatchResult result (λ _. LaidTo all (before ++ named) rest output.new) (λ fault. IsTextFaultOf fault (assembled all)) }
+    requires { MayRepeat scope.now statements.now }
+    ensures { LaysAll scope.now statements.now output.old output.new result }
 {
     for index in 0..statements.len() {
         add(output, scope, index, &statements.at(index))?;
@@ -126,11 +124,8 @@ fn add<'a>(
     index: usize,
     part: &Part<'a>,
 ) -> Result<(), AsmFault>
-    requires alone { scope.now.own.now.repeats ≡ false → repeated_in scope.now.own.now.labels index (stated part.now) ≡ false }
-    ensures { let statement = stated part.now in
-        let reading = piece_of (addresses_in scope.now) (repeated_in scope.now.own.now.labels index statement) (length output.old.image.items) output.old.entry output.old.windows statement.body in
-        MatchResult result (λ _. IsLaid (addresses_in scope.now) output.old output.new statement.body reading)
-        (λ fault. IsTextFaultOf fault (at_line statement.line reading)) }
+    requires { MayRepeatAt scope.now index (stated part.now) }
+    ensures { LaysOne scope.now index (stated part.now) output.old output.new result }
 {
     let repeated = scope.own.repeats && is_repeated(&scope.own.labels, index, part);
     match output.add(scope, repeated, part.body) {

@@ -30,13 +30,11 @@ pub(crate) struct Output {
 }
 
 impl Output {
-    ghost use Rattle.romp_asm.specs.Laid.{IsLaid};
+    ghost use Rattle.romp_asm.specs.Laid.{AddsOne, IsBlank, IsNoted, IsProgramOf};
 
     /// Nothing yet.
     pub fn new(alloc: Global) -> Self
-        ensures image { result.image.items ≡ [] }
-        ensures entry { result.entry ≡ None }
-        ensures windows { result.windows ≡ replicate 15 None }
+        ensures { IsBlank result }
     {
         Output {
             image: Vec::new(alloc),
@@ -52,8 +50,7 @@ impl Output {
         repeated: bool,
         body: &'a Body,
     ) -> Result<(), LineFault>
-        ensures { let reading = piece_of (addresses_in scope.now) repeated (length self.old.image.items) self.old.entry self.old.windows body.now in
-            MatchResult result (λ _. IsLaid (addresses_in scope.now) self.old self.new body.now reading) (λ fault. IsFaultOf fault reading) }
+        ensures { AddsOne scope.now repeated body.now self.old self.new result }
     {
         if repeated || (is_entry(body) && self.entry.is_some()) {
             return Err(LineFault::Kind(DUPLICATE));
@@ -76,9 +73,7 @@ impl Output {
     /// Notes an entry address or a window.
     fn note<'a>(&mut self, scope: &Scope<'_, '_, 'a>, body: &'a Body)
         requires { takes_window self.old.windows body.now ≡ true }
-        ensures image { self.new.image ≡ self.old.image }
-        ensures entry { self.new.entry ≡ with_entry (addresses_in scope.now) self.old.entry body.now }
-        ensures windows { self.new.windows ≡ with_window self.old.windows body.now }
+        ensures { IsNoted scope.now body.now self.old self.new }
     {
         match body {
             Body::Entry(value) => self.entry = entry_in(scope, value),
@@ -94,9 +89,7 @@ impl Output {
 
     /// The program.
     pub fn finish(self) -> Program
-        ensures image { result.image ≡ self.image.items }
-        ensures entry { result.entry ≡ unwrap_or self.entry 0 }
-        ensures windows { result.windows ≡ self.windows }
+        ensures { IsProgramOf self result }
     {
         let Output {
             image,
@@ -143,8 +136,7 @@ fn is_entry(body: &Body) -> bool
 /// The entry address that a value is.
 fn entry_in<'a>(scope: &Scope<'_, '_, 'a>, value: &'a Expr) -> Option<u16>
     ensures value { result ≡ entry_by (value_of (addresses_in scope.now) value.now) }
-    ensures fits { unwrap_or result 0 < 16384 }
-    ensures even { unwrap_or result 0 % 2 ≡ 0 }
+    ensures legal { (unwrap_or result 0 < 16384) × (unwrap_or result 0 % 2 ≡ 0) }
 {
     match value_of(scope, value) {
         Ok(number) => match even_at_most(16_382, number) {

@@ -2,7 +2,7 @@ ghost use Rattle.std.specs.Prelude.{◌≡◌, false, ◌+◌, ◌*◌, ◌≤�
 ghost use Rattle.romp_asm.specs.Below.{option_map, stated};
 ghost use Rattle.romp_asm.specs.Value.{is_labelled, known_of, knowns_of, least_kind, value_of, within_reach};
 ghost use Rattle.romp_asm.specs.Size.{total};
-ghost use Rattle.romp_asm.specs.Labels.{addresses_in, found_in, given_in, noted, place_of, AreAlone, AreTables, IsNew, IsTable, word_number};
+ghost use Rattle.romp_asm.specs.Labels.{addresses_in, found_in, given_in, noted, place_of, AreAlone, AreTables, IsNew, IsTable, word_number, HasLabelsOf, NotesLabel, AreKnowns};
 
 use super::field::{OUT_OF_REACH, UNKNOWN_LABEL};
 use super::size::size_of;
@@ -84,8 +84,7 @@ impl Default for Known {
 /// The labels of statements.
 pub(crate) fn labels_of(alloc: Global, statements: &[Statement]) -> Result<Table<'_>, AllocError>
     requires { length statements.now ≤ 2 ^ 30 }
-    ensures found { IfOk result (λ table. (word : List ℕ) → found_in table.labels word ≡ place_of statements.now word) }
-    ensures alone { IfOk result (λ table. table.repeats ≡ false → AreAlone table.labels statements.now (length statements.now)) }
+    ensures { IfOk result (HasLabelsOf statements.now) }
 {
     let mut labels = BTreeMap::new(alloc);
     let mut repeats = false;
@@ -149,8 +148,7 @@ fn labels_kept(alloc: Global, statements: &Statements, start: u64) -> Result<Tab
 
 /// Notes the label of a statement, if it has one and no statement had it before. The answer is whether one had it.
 fn note<'a>(labels: &mut Labels<'a>, part: &Part<'a>, place: Place) -> Result<bool, AllocError>
-    ensures noted { OnOk result ((word : List ℕ) →
-        found_in labels.new word ≡ noted (found_in labels.old word) (is_labelled word (stated part.now)) place) }
+    ensures noted { OnOk result (NotesLabel (stated part.now) place labels.old labels.new) }
     ensures again { IfOk result (λ again. again ≡ false → IsNew labels.old (stated part.now)) }
 {
     let Some(label) = part.label else {
@@ -234,8 +232,7 @@ pub(crate) fn knowns_of<'a>(
     operands: &'a [Operand],
 ) -> Result<ArrayVec<Known, 4>, u8>
     requires { length operands.now ≤ 4 }
-    ensures { MatchResult result (λ knowns. knowns_of (addresses_in scope.now) operands.now ≡ Ok knowns.items)
-        (λ kind. knowns_of (addresses_in scope.now) operands.now ≡ Err kind) }
+    ensures { AreKnowns scope.now operands.now result }
 {
     let mut knowns = ArrayVec::new();
     let mut fault = None;
