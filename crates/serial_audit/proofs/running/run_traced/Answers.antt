@@ -27,8 +27,8 @@ loop-step-preserved c =
     let step : (c.loop-step.step - 1) + 1 ≡ c.loop-step.step = omega arith in
     record {
       state = rw (rows, add-one, c.loop-step.invariant.state, c.in-On.ensures.row) refl;
-      private = c.in-On.ensures.private_length;
-      store = c.in-On.ensures.store_length ∙ c.loop-step.invariant.store;
+      private = c.in-On.ensures.sizes.private;
+      store = c.in-On.ensures.sizes.store;
       touches = c.in_ok-tell_next.ensures
           ∙ touches_next activation store c.loop-step.step c.loop-step.plain c.loop-step.touches.items (omega arith) c.loop-step.invariant.state c.loop-step.invariant.touches
           ∙ ap (touches activation store) (sym (rows ∙ step));
