@@ -43,7 +43,7 @@ abbrev pub Works : Inst → (old new : List ℕ) → (before after : Cs) → Act
 Works inst old new before after act = WorksBy (work_of inst old before) old new before after act
 
 -- a row was begun, by what it is to do with registers and status at an address: these are as it makes them, and this is left of it
-pub record Starts (plan : List ℕ → Cs → ℕ → Plan) (iar : ℕ) (old new : List ℕ) (before after : Cs) (left : Pending) : Type 0 where
+pub record BeginsRow (plan : List ℕ → Cs → ℕ → Plan) (iar : ℕ) (old new : List ℕ) (before after : Cs) (left : Pending) : Type 0 where
   pub value : plan old before iar ≡ planned new after left
   pub stays : StaysIfPending left old new before after
   pub sound : IsSoundPending left

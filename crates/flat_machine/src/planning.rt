@@ -1,7 +1,7 @@
 ghost use Rattle.std.specs.Prelude.{ℕ, List, Option, Some, ◌≡◌, ◌<◌, ◌≤◌, ◌+◌, IfOk, OnOk, OnSome, length};
 ghost use Rattle.flat_machine.specs.Below.{ForSome, HasWidths};
 ghost use Rattle.flat_machine.specs.Access.{IsAccess};
-ghost use Rattle.flat_machine.specs.Pending.{planned, IsSoundPending, StaysIfPending, StaysIfWanting, IsLeftOf, Starts};
+ghost use Rattle.flat_machine.specs.Pending.{planned, IsSoundPending, StaysIfPending, StaysIfWanting, IsLeftOf, BeginsRow};
 ghost use Rattle.flat_machine.specs.declared.machine.Cs.{Cs};
 ghost use Rattle.flat_machine.specs.Row.{plan, plan_of, plan_of_pair, goes_by, fetched};
 
@@ -30,7 +30,7 @@ pub trait Fetch {
 #[inline(always)]
 pub fn start_row<F: Fetch>(code: &F, regs: &mut [u32; 16], cs: &mut Cs, iar: u32) -> Pending
     requires { F.is_whole code.now }
-    ensures { Starts (plan (F.halfword_at code.now)) iar regs.old regs.new cs.old cs.new result }
+    ensures { BeginsRow (plan (F.halfword_at code.now)) iar regs.old regs.new cs.old cs.new result }
 {
     match fetch_instruction(code, iar) {
         Err(code) => Pending::Fails(code),
@@ -52,7 +52,7 @@ fn start_instruction<F: Fetch>(
     requires widths { HasWidths inst.now }
     requires within { iar < 16384 }
     requires bytes { bytes ≤ 4 }
-    ensures { Starts (plan_of (F.halfword_at code.now) inst.now bytes) iar regs.old regs.new cs.old cs.new result }
+    ensures { BeginsRow (plan_of (F.halfword_at code.now) inst.now bytes) iar regs.old regs.new cs.old cs.new result }
 {
     let after = iar + u32::from(bytes);
     if !branches(inst) {
@@ -84,7 +84,7 @@ fn start_pair<F: Fetch>(
     requires whole { F.is_whole code.now }
     requires link { ForSome way.link (λ register. register < 16) }
     requires within { address ≤ 16388 }
-    ensures { Starts (plan_of_pair way (fetched (F.halfword_at code.now) address)) address regs.old regs.new cs.old cs.new result }
+    ensures { BeginsRow (plan_of_pair way (fetched (F.halfword_at code.now) address)) address regs.old regs.new cs.old cs.new result }
 {
     let (inst, bytes) = match fetch_instruction(code, address) {
         Err(code) => return Pending::Fails(code),

@@ -99,8 +99,8 @@ abbrev pub texts_of : List (ArrayVec ℕ) → List (List ℕ)
 texts_of names = map (λ name. name.items) names
 
 -- programs with their names
-abbrev pub named : List (ArrayVec ℕ) → List Program → List (List ℕ × Parts)
-named names programs = zip (texts_of names) (map parts_of programs)
+abbrev pub named_programs : List (ArrayVec ℕ) → List Program → List (List ℕ × Parts)
+named_programs names programs = zip (texts_of names) (map parts_of programs)
 
 -- a line was added to a text, with its line feed
 abbrev pub AddsLine : (old new : Vec ℕ Global) → List Token → Type 0
@@ -111,8 +111,8 @@ abbrev pub AddsLines : (old new : Vec ℕ Global) → List (List Token) → Type
 AddsLines old new lines = new.items ≡ old.items ++ flat_map line_text lines
 
 -- where some text is a job that says this, this one has fewer than 2^23 bytes
-abbrev pub IsShort : Content → (text : List ℕ) → Type 0
-IsShort content text = (other : List ℕ) → job_of other ≡ Ok content → length text < 2 ^ 23
+abbrev pub HasShortText : Content → (text : List ℕ) → Type 0
+HasShortText content text = (other : List ℕ) → job_of other ≡ Ok content → length text < 2 ^ 23
 
 -- where some text is a job that says this, this one is too
 abbrev pub SaysAgain : Content → (text : List ℕ) → Type 0

@@ -3,7 +3,7 @@ ghost use Rattle.std.specs.Prelude.{◌≡◌, ◌<◌, ◌^◌, ℕ, List, [], 
 ghost use Rattle.job_text.specs.Below.{All, flat_map, parts_of, zip};
 ghost use Rattle.asm_parse.specs.declared.token.Token.TheVariants.{Word as WordToken, Number as NumberToken};
 ghost use Rattle.job_text.specs.Grammar.{content_of, job_of};
-ghost use Rattle.job_text.specs.Written.{AreBytes, access_text, event_line, image_lines, line_text, number_line, program_lines, source_lines, window_line, window_lines, written, IsShort, SaysAgain, AddsLine, named, AddsLines, texts_of};
+ghost use Rattle.job_text.specs.Written.{AreBytes, access_text, event_line, image_lines, line_text, number_line, program_lines, source_lines, window_line, window_lines, written, HasShortText, SaysAgain, AddsLine, named_programs, AddsLines, texts_of};
 
 use super::job::{Job, Name};
 use desk::Event;
@@ -22,7 +22,7 @@ use std::alloc::{AllocError, Global};
 /// [`AllocError`] where there is no memory.
 pub fn write_job(alloc: Global, job: &Job) -> Result<Vec<u8>, AllocError>
     ensures text { IfOk result (λ text. text.items ≡ written (content_of job.now)) }
-    ensures short { IfOk result (λ text. IsShort (content_of job.now) text.items) }
+    ensures short { IfOk result (λ text. HasShortText (content_of job.now) text.items) }
     ensures back { IfOk result (λ text. SaysAgain (content_of job.now) text.items) }
 {
     let mut text = Vec::new(alloc);
@@ -36,8 +36,8 @@ pub fn write_job(alloc: Global, job: &Job) -> Result<Vec<u8>, AllocError>
 
 /// Appends the programs that have a name, each from its name to its `end`.
 fn put_programs(text: &mut Vec<u8>, names: &[Name], programs: &[Program]) -> Result<(), AllocError>
-    ensures bytes { OnOk result (All (λ program. AreBytes program.1.image) (named names.now programs.now)) }
-    ensures lines { OnOk result (AddsLines text.old text.new (flat_map program_lines (named names.now programs.now))) }
+    ensures bytes { OnOk result (All (λ program. AreBytes program.1.image) (named_programs names.now programs.now)) }
+    ensures lines { OnOk result (AddsLines text.old text.new (flat_map program_lines (named_programs names.now programs.now))) }
 {
     for (name, program) in names.iter().zip(programs) {
         put_program(text, name.as_slice(), program)?;

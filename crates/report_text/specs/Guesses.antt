@@ -6,28 +6,28 @@ use Rattle.report_text.specs.ReadLines.{HasWidths, IsLine}
 use Rattle.report_text.specs.Words.{AreWordsOf, bytes_in, kind_of, numbers_in, parts_of}
 
 -- a text without its line feed is that of a line
-abbrev pub IsTextOf : List ℕ → report.Line → Type 0
-IsTextOf text line = AreWordsOf text (kind_of line ∷ parts_of line)
+abbrev pub IsUnendedText : List ℕ → report.Line → Type 0
+IsUnendedText text line = AreWordsOf text (kind_of line ∷ parts_of line)
 
 -- these are the lists of each line that a text without its line feed is
 abbrev pub AreListsOf : (text numbers bytes : List ℕ) → Type 0
 AreListsOf text numbers bytes =
-    (line : report.Line) → IsLine line → IsTextOf text line → (numbers ≡ numbers_in line) × (bytes ≡ bytes_in line)
+    (line : report.Line) → IsLine line → IsUnendedText text line → (numbers ≡ numbers_in line) × (bytes ≡ bytes_in line)
 
 -- these are the numbers listed in each line of a first word and the words behind it
-abbrev pub AreNumbersOf : (kind rest numbers : List ℕ) → Type 0
-AreNumbersOf kind rest numbers =
+abbrev pub AreListedNumbers : (kind rest numbers : List ℕ) → Type 0
+AreListedNumbers kind rest numbers =
     (line : report.Line) → IsLine line → kind ≡ kind_of line → AreWordsOf rest (parts_of line) → numbers ≡ numbers_in line
 
 -- these are the bytes printed in each line of a first word and the words behind it
-abbrev pub AreBytesOf : (kind rest bytes : List ℕ) → Type 0
-AreBytesOf kind rest bytes =
+abbrev pub ArePrintedBytes : (kind rest bytes : List ℕ) → Type 0
+ArePrintedBytes kind rest bytes =
     (line : report.Line) → IsLine line → kind ≡ kind_of line → AreWordsOf rest (parts_of line) → bytes ≡ bytes_in line
 
 -- this is each line with these lists that a text without its line feed is
 abbrev pub IsGuess : (text numbers bytes : List ℕ) → report.Line → Type 0
 IsGuess text numbers bytes told =
-    (line : report.Line) → IsLine line → IsTextOf text line → numbers ≡ numbers_in line → bytes ≡ bytes_in line → told ≡ line
+    (line : report.Line) → IsLine line → IsUnendedText text line → numbers ≡ numbers_in line → bytes ≡ bytes_in line → told ≡ line
 
 -- this is each line with these lists of a first word and the words behind it
 abbrev pub IsGuessOf : (kind rest numbers bytes : List ℕ) → report.Line → Type 0

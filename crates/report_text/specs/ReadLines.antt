@@ -69,8 +69,8 @@ abbrev pub BeginsWithNone : List ℕ → Type 0
 BeginsWithNone text = (line : report.Line) (behind : List ℕ) → IsLine line → text ≢ line_text line ++ behind
 
 -- a text begins with a line of which this is told, and this stands behind it
-abbrev pub BeginsWith : (text : List ℕ) → Option CommitLine → (rest : List ℕ) → Type 0
-BeginsWith text told rest = (line : report.Line) × IsLine line × Tells told line × (text ≡ line_text line ++ rest)
+abbrev pub BeginsWithTold : (text : List ℕ) → Option CommitLine → (rest : List ℕ) → Type 0
+BeginsWithTold text told rest = (line : report.Line) × IsLine line × Tells told line × (text ≡ line_text line ++ rest)
 
 -- a text is a line of which this is told
 abbrev pub IsToldLine : (text : List ℕ) → Option CommitLine → Type 0

@@ -27,8 +27,8 @@ IsSplit text first rest =
     (word : List ℕ) (words : List (List ℕ)) → IsOneWord word → AreWordsOf text (word ∷ words) → (first ≡ word) × AreWordsOf rest words
 
 -- where a text is a word and others behind it, this is the text of the others
-abbrev pub IsBehind : (text rest : List ℕ) → Type 0
-IsBehind text rest = (word : List ℕ) (words : List (List ℕ)) → IsOneWord word → AreWordsOf text (word ∷ words) → AreWordsOf rest words
+abbrev pub IsTextBehind : (text rest : List ℕ) → Type 0
+IsTextBehind text rest = (word : List ℕ) (words : List (List ℕ)) → IsOneWord word → AreWordsOf text (word ∷ words) → AreWordsOf rest words
 
 -- where a text is a number of so many bits and words behind it, these are that number and the text of the words
 abbrev pub IsFirstNumber : (bits : ℕ) → (text : List ℕ) → (number : ℕ) → (rest : List ℕ) → Type 0

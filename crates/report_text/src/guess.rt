@@ -2,7 +2,7 @@
 ghost use Rattle.std.specs.Prelude.{ℕ, List, IfOk};
 ghost use Rattle.desk.specs.Lines as report;
 ghost use Rattle.job_text.specs.Ready.{IsName};
-ghost use Rattle.report_text.specs.Guesses.{AreBytesOf, AreCommitParts, AreListsOf, AreNamedParts, AreNumbersOf, AreWaitParts, IsGuess, IsGuessOf, IsIfParts};
+ghost use Rattle.report_text.specs.Guesses.{ArePrintedBytes, AreCommitParts, AreListsOf, AreNamedParts, AreListedNumbers, AreWaitParts, IsGuess, IsGuessOf, IsIfParts};
 ghost use Rattle.report_text.specs.Line.{line_told};
 ghost use Rattle.report_text.specs.ReadLines.{HasWidths};
 
@@ -33,7 +33,7 @@ impl Lists {
 
 /// The list of numbers that a line has which begins with this word.
 fn numbers_of(alloc: Global, kind: &[u8], rest: &[u8]) -> Result<Vec<u32>, AllocError>
-    ensures { IfOk result (λ numbers. AreNumbersOf kind.now rest.now numbers.items) }
+    ensures { IfOk result (λ numbers. AreListedNumbers kind.now rest.now numbers.items) }
 {
     if kind == b"cycle".as_slice() {
         all_small(alloc, rest)
@@ -46,7 +46,7 @@ fn numbers_of(alloc: Global, kind: &[u8], rest: &[u8]) -> Result<Vec<u32>, Alloc
 
 /// The printed bytes that a line has which begins with this word.
 fn bytes_of(alloc: Global, kind: &[u8], rest: &[u8]) -> Result<Vec<u8>, AllocError>
-    ensures { IfOk result (λ bytes. AreBytesOf kind.now rest.now bytes.items) }
+    ensures { IfOk result (λ bytes. ArePrintedBytes kind.now rest.now bytes.items) }
 {
     if kind == b"commit".as_slice() {
         bytes(alloc, commit(rest).3)

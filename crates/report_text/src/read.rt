@@ -9,7 +9,7 @@ ghost use Rattle.job_text.specs.Ready.{IsName};
 ghost use Rattle.report_text.specs.declared.read.LinesFault.TheVariants as lines;
 ghost use Rattle.report_text.specs.Line.{IsShort, commit_told, line_told};
 ghost use Rattle.report_text.specs.Words.{bytes_in, numbers_in};
-ghost use Rattle.report_text.specs.ReadLines.{AreCommitsOf, BeginsWith, BeginsWithNone, Finds, IsLinesFault, IsNoLine, IsNoLineWith, IsToldLine, IsWhole};
+ghost use Rattle.report_text.specs.ReadLines.{AreCommitsOf, BeginsWithTold, BeginsWithNone, Finds, IsLinesFault, IsNoLine, IsNoLineWith, IsToldLine, IsWhole};
 
 use super::guess::{Lists, guess};
 use super::line::{CommitLine, Line};
@@ -87,7 +87,7 @@ fn next_line<'a>(
     room: &mut TextLine,
     text: &'a [u8],
 ) -> Result<Option<(Option<CommitLine>, &'a [u8])>, AllocError>
-    ensures { Finds result (BeginsWithNone text.now) (λ told. BeginsWith text.now told.0 told.1.now) }
+    ensures { Finds result (BeginsWithNone text.now) (λ told. BeginsWithTold text.now told.0 told.1.now) }
 {
     match place_of(b'\n', text) {
         Some(at) => match whole_line(alloc, room, &text[..at + 1])? {

@@ -5,7 +5,7 @@ ghost use Rattle.byteorder.specs.Endian.{big_bytes};
 ghost use Rattle.hex.specs.Hex.{encode_lower};
 ghost use Rattle.hex.specs.declared.error.FromHexError.TheVariants.{OutOfMemory};
 ghost use Rattle.desk.specs.Lines.{printed};
-ghost use Rattle.report_text.specs.Words.{ArePrinted, AreSmallNumbers, IsBehind, IsFirstNumber, IsSplit, is_space};
+ghost use Rattle.report_text.specs.Words.{ArePrinted, AreSmallNumbers, IsTextBehind, IsFirstNumber, IsSplit, is_space};
 
 use byteorder::{BigEndian, ByteOrder};
 use hex::FromHexError;
@@ -28,7 +28,7 @@ pub(crate) fn split(text: &[u8]) -> (&[u8], &[u8])
 /// What comes after the first word of a text.
 pub fn behind(text: &[u8]) -> &[u8]
     ensures value { result.now ≡ after_first is_space text.now }
-    ensures parts { IsBehind text.now result.now }
+    ensures parts { IsTextBehind text.now result.now }
 {
     split(text).1
 }

@@ -51,7 +51,7 @@ pub record AreReadAs (scope : Scope) (statements all before named : List Stateme
   pub each : (index : ℕ) (one other : Statement) → index < length statements → one ≡ slice_index_or statements index one → other ≡ slice_index_or named index other → IsReadAs (addresses_in scope) (repeated_in scope.own.now.labels index one) one all (before ++ take index named) other
 
 -- nothing is laid yet, with fifteen windows that are none
-pub record IsBlank (output : Output) : Type 0 where
+pub record IsNothingLaid (output : Output) : Type 0 where
   pub image : output.image.items ≡ []
   pub entry : output.entry ≡ None
   pub windows : output.windows ≡ replicate 15 None

@@ -30,11 +30,11 @@ pub(crate) struct Output {
 }
 
 impl Output {
-    ghost use Rattle.romp_asm.specs.Laid.{AddsOne, IsBlank, IsNoted, IsProgramOf};
+    ghost use Rattle.romp_asm.specs.Laid.{AddsOne, IsNothingLaid, IsNoted, IsProgramOf};
 
     /// Nothing yet.
     pub fn new(alloc: Global) -> Self
-        ensures { IsBlank result }
+        ensures { IsNothingLaid result }
     {
         Output {
             image: Vec::new(alloc),

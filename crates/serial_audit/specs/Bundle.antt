@@ -71,6 +71,6 @@ abbrev pub TellsSizes : (line : List ℕ) → Sizes → Type 0
 TellsSizes line told = (sizes : Sizes) → AreAllowed sizes → AreWordsOf line (head_words sizes) → told ≡ sizes
 
 -- parts of these sizes, one behind the other from a place on, if they end at this end
-abbrev pub ArePlaced : (begin end : ℕ) → Sizes → Option Bundle → Type 0
-ArePlaced begin end sizes found =
+abbrev pub LieFrom : (begin end : ℕ) → Sizes → Option Bundle → Type 0
+LieFrom begin end sizes found =
     MatchOption found (begin + size_of sizes ≢ end) (λ bundle. (begin + size_of sizes ≡ end) × (bundle ≡ bundle_from begin sizes))

@@ -86,8 +86,8 @@ pub record IsWithin (directory : Layout) (most : ℕ) (progress : Progress) : Ty
   pub whole : length progress.store ≡ byte_count directory
 
 -- a check takes a commit line exactly where it is sound behind those at which the check stands
-abbrev pub Takes : Layout → Progress → Told → Option Progress → Type 0
-Takes directory progress told found =
+abbrev pub TakesLine : Layout → Progress → Told → Option Progress → Type 0
+TakesLine directory progress told found =
     (job : Job) (opening : KeptStore) (before : List Told)
     → opening.directory ≡ directory → Stands job opening before progress → IsTaken job opening before told found
 
@@ -105,8 +105,8 @@ IsAt directory progress closing =
     (closing.directory ≡ directory) × (closing.number ≡ progress.number) × (closing.store.items ≡ progress.store)
 
 -- two directories have the same pages and segments, with whatever flags
-abbrev pub AreAlike : Layout → Layout → Type 0
-AreAlike one other = (one.page ≡ other.page) × (one.segments ≡ other.segments)
+abbrev pub HaveSameSegments : Layout → Layout → Type 0
+HaveSameSegments one other = (one.page ≡ other.page) × (one.segments ≡ other.segments)
 
 -- these are the entries of the begins among events, of no turn and no commit
 pub record AreFresh (programs : List Program) (events : List Event) (entries : List Entry) : Type 0 where

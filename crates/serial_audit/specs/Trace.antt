@@ -94,16 +94,16 @@ TraceIsEnough =
     × AgreeBut store.directory (lines_touched (touches activation store steps)) other.bytes bytes
 
 -- the touches of a step were added, which reads and writes these lines
-abbrev pub Adds : (step : ℕ) → Lines → (old new : Vec Touch Global) → Type 0
-Adds step lines old new = new.items ≡ old.items ++ touches_of_step step lines
+abbrev pub AddsTouches : (step : ℕ) → Lines → (old new : Vec Touch Global) → Type 0
+AddsTouches step lines old new = new.items ≡ old.items ++ touches_of_step step lines
 
 -- the touches of a step were added, whose row is the next one at a state
-abbrev pub AddsNext : Program → Layout → Plain → (step : ℕ) → (old new : Vec Touch Global) → Type 0
-AddsNext program directory plain step old new = Adds step (touched program directory plain) old new
+abbrev pub AddsNextTouches : Program → Layout → Plain → (step : ℕ) → (old new : Vec Touch Global) → Type 0
+AddsNextTouches program directory plain step old new = AddsTouches step (touched program directory plain) old new
 
 -- the state in which a program comes to the commit call as its step with this number, and its touches; none where it doesn't
-abbrev pub IsTraced : Program → (args : List ℕ) → (steps : ℕ) → Layout → (store : List ℕ) → Option (Plain × Vec Touch Global) → Type 0
-IsTraced program args steps directory store found =
+abbrev pub IsTracedRun : Program → (args : List ℕ) → (steps : ℕ) → Layout → (store : List ℕ) → Option (Plain × Vec Touch Global) → Type 0
+IsTracedRun program args steps directory store found =
     let activation : Activation = record { program = program; args = args } in
     let flat : FlatStore = record { directory = directory; bytes = store } in
     MatchOption found (before_commit activation steps flat ≡ None)

@@ -2,7 +2,7 @@ ghost use Rattle.std.specs.Prelude.{◌≡◌, ◌+◌, ◌-◌, ◌<◌, ◌≤
 ghost use Rattle.serial_audit.specs.Below.{Activation, byte_count, Job};
 ghost use Rattle.serial_audit.specs.declared.auditing.KeptStore.{KeptStore};
 ghost use Rattle.serial_audit.specs.Audit.{AreSound, IsFirstUnsound, IsVerdict, Told, report_told, told_of};
-ghost use Rattle.serial_audit.specs.Progress.{IsEntryOf, activation_in, IsTaken, MayFollow, Stands, AreAlike, IsEntryFor, IsAt, Takes, IfFound, IsProgress, IsWithin};
+ghost use Rattle.serial_audit.specs.Progress.{IsEntryOf, activation_in, IsTaken, MayFollow, Stands, HaveSameSegments, IsEntryFor, IsAt, TakesLine, IfFound, IsProgress, IsWithin};
 
 use super::index::{Entry, index_of, mark, place_among};
 use super::replay::replayed;
@@ -123,7 +123,7 @@ impl<'j> Progress<'j> {
     ) -> Result<Option<Self>, AllocError>
         requires whole { length self.store ≡ byte_count directory.now }
         requires few { self.commits < 2 ^ 32 - 1 }
-        ensures taken { IfOk result (Takes directory.now self.entry (told_of commit.now)) }
+        ensures taken { IfOk result (TakesLine directory.now self.entry (told_of commit.now)) }
         ensures one { IfFound result (λ progress. progress.commits ≡ self.entry.commits + 1) }
         ensures whole { IfFound result (λ progress. length progress.store ≡ byte_count directory.now) }
     {
@@ -199,7 +199,7 @@ fn is_same(one: &Directory, other: &Directory) -> bool
 
 /// Whether two directories have the same pages and segments, with whatever flags.
 fn are_alike(one: &Directory, other: &Directory) -> bool
-    ensures { IsTrue result ↔ AreAlike one.now other.now }
+    ensures { IsTrue result ↔ HaveSameSegments one.now other.now }
 {
     one.page() == other.page() && one.segments() == other.segments()
 }

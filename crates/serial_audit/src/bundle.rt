@@ -1,6 +1,6 @@
 ghost use Rattle.std.specs.Prelude.{◌≡◌, ◌≢◌, ◌+◌, ◌≤◌, ◌<◌, ◌^◌, ◌↔◌, IsTrue, ℕ, List, [], ◌∷◌, length, codes, decimal, MatchOption, MatchResult};
 ghost use Rattle.std.specs.List.{join_with_byte};
-ghost use Rattle.serial_audit.specs.Bundle.{AreAllowed, IsBundle, IsWrongAt, Sizes, bundle_from, head_text, head_words, size_of, sizes_of, TellsSizes, ArePlaced};
+ghost use Rattle.serial_audit.specs.Bundle.{AreAllowed, IsBundle, IsWrongAt, Sizes, bundle_from, head_text, head_words, size_of, sizes_of, TellsSizes, LieFrom};
 
 use report_text::{behind, first_number, place_of};
 use text_line::TextLine;
@@ -102,7 +102,7 @@ impl Lengths {
     fn parts(&self, begin: u64, end: u64) -> Option<Bundle>
         requires allowed { AreAllowed (sizes_of self.now) }
         requires begin { begin ≤ 100 }
-        ensures { ArePlaced begin end (sizes_of self.now) result }
+        ensures { LieFrom begin end (sizes_of self.now) result }
     {
         let job = span_of(begin, self.job);
         let report = span_of(begin + self.job, self.report);

@@ -2,7 +2,7 @@
 ghost use Rattle.std.specs.Prelude.{◌≡◌, ◌++◌, length, IfOk, MatchOption, OnOk};
 ghost use Rattle.serial_audit.specs.Below.{before_commit, byte_count};
 ghost use Rattle.flat_machine.specs.Touched.{touched};
-ghost use Rattle.serial_audit.specs.Trace.{touches, touches_of_step, IsTraced, AddsNext};
+ghost use Rattle.serial_audit.specs.Trace.{touches, touches_of_step, IsTracedRun, AddsNextTouches};
 
 use super::touch::{Touch, next_lines};
 use flat_machine::{Plain, Program, Went};
@@ -20,7 +20,7 @@ pub(super) fn run_traced(
     steps: u64,
 ) -> Result<Option<(Plain, Vec<Touch>)>, AllocError>
     requires { length store ≡ byte_count directory.now }
-    ensures { IfOk result (IsTraced program.now args steps directory.now store) }
+    ensures { IfOk result (IsTracedRun program.now args steps directory.now store) }
 {
     if steps == 0 {
         return Ok(None);
@@ -50,7 +50,7 @@ fn tell_next(
     touches: &mut Vec<Touch>,
 ) -> Result<(), AllocError>
     requires { length plain.now.private ≡ 16384 }
-    ensures { OnOk result (AddsNext program.now directory.now plain.now step touches.old touches.new) }
+    ensures { OnOk result (AddsNextTouches program.now directory.now plain.now step touches.old touches.new) }
 {
     match next_lines(program, directory, plain) {
         Some(stretch) => stretch.tell(step, touches),

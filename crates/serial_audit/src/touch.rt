@@ -3,7 +3,7 @@ ghost use Rattle.std.specs.Prelude.{◌≡◌, ◌≢◌, ◌+◌, ◌≤◌, �
 ghost use Rattle.flat_machine.specs.Access.{IsAccess};
 ghost use Rattle.flat_machine.specs.Row.{located};
 ghost use Rattle.flat_machine.specs.Touched.{lines_at, lines_of_act, touched};
-ghost use Rattle.serial_audit.specs.Trace.{lines_by, lines_of, touches_of_step, AreLinesAt, Adds};
+ghost use Rattle.serial_audit.specs.Trace.{lines_by, lines_of, touches_of_step, AreLinesAt, AddsTouches};
 
 use flat_machine::{Act, Located, Pending, Plain, Program, locate, start_row};
 use lines::Directory;
@@ -29,7 +29,7 @@ impl Stretch {
     /// Tells each of the lines as one that a step touches.
     pub fn tell(self, step: u64, touches: &mut Vec<Touch>) -> Result<(), AllocError>
         requires { self.first + self.count < 2 ^ 32 }
-        ensures { OnOk result (Adds step (lines_of (Some self)) touches.old touches.new) }
+        ensures { OnOk result (AddsTouches step (lines_of (Some self)) touches.old touches.new) }
     {
         for line in self.first..self.first + self.count {
             touches.push(Touch {
