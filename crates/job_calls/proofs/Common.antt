@@ -1,5 +1,5 @@
 -- The names that most proofs cite, passed on from one place. Declares nothing.
-pub use Rattle.std.proofs.Common.{All, List, Option, Some, [], ap, append-nil, append_assoc, arith, false, get_or, inr, length, refl, subst, suc, sym, true, vec_len, ℕ, ⊎_elim, ◌++◌, ◌<◌, ◌∙◌, ◌∷◌, ◌≡◌, ◌≢◌, ◌≤◌, None, inl, take, ◌%◌, ◌+◌, ◌^◌, ◌⊎◌}
+pub use Rattle.std.proofs.Common.{rules, All, List, Option, Some, [], ap, append-nil, append_assoc, arith, false, get_or, inr, length, refl, subst, suc, sym, true, vec_len, ℕ, ⊎_elim, ◌++◌, ◌<◌, ◌∙◌, ◌∷◌, ◌≡◌, ◌≢◌, ◌≤◌, None, inl, take, ◌%◌, ◌+◌, ◌^◌, ◌⊎◌}
 pub use Rattle.std.proofs.lemmas.List.{length-map}
 pub use Rattle.std.proofs.lemmas.List.Sums.{count_by-le-length}
 pub use Rattle.std.specs.Prelude.{Err, IsErr, IsSome, IsTrue, Ok, Result, map, unwrap_or, Bool, codes, count_by, decimal, IfOk, OnErr}

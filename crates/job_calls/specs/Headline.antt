@@ -1,6 +1,6 @@
 -- What a call of the console did: the run of the desk that its report tells of and what a crash leaves of it, or nothing.
 use Rattle.std.specs.Prelude.{◌≡◌, ◌≢◌, ◌⊎◌, ℕ, ◌+◌, ◌%◌, ◌^◌, true, false, List, [], ◌++◌, length, map, take, slice_set, Option, None, Some, IsSome, Result, Ok, Err}
-use Rattle.job_calls.specs.Below.{begun, Call, call, Elapses, FlatStore, Ghosts, Given, held_of, IsFaultAt, IsOfStart, IsSerial, Job, Leaves, Line, line_text, OnlyAsks, Open, order_told, Replayed, Session, Status, StillTold, TellsStore}
+use Rattle.job_calls.specs.Below.{begun, Call, call, Elapses, FlatStore, Ghosts, Given, held_of, IsFaultAt, IsOfStart, IsSerial, Job, Leaves, Line, line_text, OnlyAsks, Open, order_told, Replayed, Session, Status, StillTold, TellsStore, FaultsBy}
 use Rattle.outside.specs.declared.failed.Failed.{Failed}
 use Rattle.outside.specs.Bytes.{Prints}
 use Rattle.outside.specs.Causes.{Rose}
@@ -21,13 +21,21 @@ use Rattle.supervisor.specs.contracts.supervisor.SessionSupervisor.TheImpl.{ghos
 use Rattle.job_text.specs.Grammar.{job_of, content_of}
 use Rattle.call_status.specs.declared.status.Status.TheVariants as status
 use Rattle.call_status.specs.SourceText.{IsWhole}
-use Rattle.job_calls.specs.Causes.{status_of_replay}
-use Rattle.job_calls.specs.Handed.{HandedRuns}
+use Rattle.job_calls.specs.Causes.{status_of_replay, IsOfEvents}
+use Rattle.job_calls.specs.Handed.{HandedRuns, HandsOn, HandedFits}
 use Rattle.job_calls.specs.declared.ended.Ended.{Ended}
 
 -- a call that ended so
 abbrev pub ended_call : {W : Type 0} → W → W → Ended → Call W
 ended_call before after ended = call before after (order_told ended.order.items) ended.status
+
+-- How a call that runs events ends: its session is handed on with its order, and fits the outside; its status is one of such a call, and counts
+-- of faults rose by it.
+pub record EndsEvents {W : Type 0} (G : Ghosts W) (before now : W) (ended : Ended) : Type 0 where
+  pub handed : HandsOn (order_told ended.order.items) ended.session ended.status
+  pub fits : HandedFits G now ended.session
+  pub faults : FaultsBy G before now ended.status
+  pub only : IsOfEvents ended.status
 
 -- the names of a job's programs
 abbrev pub names_of : Job → List (List ℕ)

@@ -3,7 +3,7 @@ ghost use Rattle.std.specs.Prelude.{◌≡◌, ◌≤◌, [], ◌∷◌, ◌++�
 ghost use Rattle.job_calls.specs.Below.{begins_in, FaultsBy, IsBigJob, IsReady, order_told, Puts, PutsTimes, call};
 ghost use Rattle.job_calls.specs.Big.{IsToldBy, Loaded, big_line};
 ghost use Rattle.job_calls.specs.Causes.{IsOfEvents};
-ghost use Rattle.job_calls.specs.Headline.{ended_call};
+ghost use Rattle.job_calls.specs.Headline.{ended_call, EndsEvents};
 ghost use Rattle.job_calls.specs.Handed.{HandedFits, HandsOn};
 
 use super::ended::Ended;
@@ -21,10 +21,7 @@ use text_line::TextLine;
 pub fn run_load<W: Outside>(alloc: Global, transfers: u32, outside: &mut W) -> Ended
     requires { transfers ≤ 512 }
     ensures loaded { Loaded W.Outside transfers (ended_call outside.old outside.new result) result.session }
-    ensures handed { HandsOn (order_told result.order.items) result.session result.status }
-    ensures fits { HandedFits W.Outside outside.new result.session }
-    ensures faults { FaultsBy W.Outside outside.old outside.new result.status }
-    ensures only { IsOfEvents result.status }
+    ensures ends { EndsEvents W.Outside outside.old outside.new result }
 {
     match big_job(alloc, transfers) {
         Ok(job) => run_with_order(alloc, transfers, job, outside),
@@ -37,10 +34,7 @@ fn run_with_order<W: Outside>(alloc: Global, transfers: u32, job: Job, outside: 
     requires load { IsBigJob transfers job }
     requires ready { IsReady job }
     ensures loaded { Loaded W.Outside transfers (ended_call outside.old outside.new result) result.session }
-    ensures handed { HandsOn (order_told result.order.items) result.session result.status }
-    ensures fits { HandedFits W.Outside outside.new result.session }
-    ensures faults { FaultsBy W.Outside outside.old outside.new result.status }
-    ensures only { IsOfEvents result.status }
+    ensures ends { EndsEvents W.Outside outside.old outside.new result }
 {
     let begins = begins_in(&job.events);
     match Vec::with_capacity(alloc, begins as usize) {
@@ -64,10 +58,7 @@ fn open_and_run<W: Outside>(
     requires none { order.items ≡ [] }
     requires room { begins ≤ vec_capacity order }
     ensures loaded { Loaded W.Outside transfers (ended_call outside.old outside.new result) result.session }
-    ensures handed { HandsOn (order_told result.order.items) result.session result.status }
-    ensures fits { HandedFits W.Outside outside.new result.session }
-    ensures faults { FaultsBy W.Outside outside.old outside.new result.status }
-    ensures only { IsOfEvents result.status }
+    ensures ends { EndsEvents W.Outside outside.old outside.new result }
 {
     let mut session = match Session::open(alloc, outside, job.programs, job.frames, begins) {
         Ok(session) => session,

@@ -4,7 +4,7 @@ ghost use Rattle.job_calls.specs.Below.{begins_in, FaultsBy, given, IsReady, ord
 ghost use Rattle.call_status.specs.Reading.{ReadsBy};
 ghost use Rattle.job_calls.specs.Causes.{IsOfEvents, IsOfRun, OpensBy, status_of_replay};
 ghost use Rattle.job_calls.specs.Handed.{HandedFits, HandedRuns, HandsOn};
-ghost use Rattle.job_calls.specs.Headline.{Happened, HappenedTo, ended_call};
+ghost use Rattle.job_calls.specs.Headline.{Happened, HappenedTo, ended_call, EndsEvents};
 
 use super::ended::Ended;
 use call_status::{Status, job_from};
@@ -35,12 +35,9 @@ pub fn run_source<S: Source, W: Outside>(alloc: Global, source: &mut S, outside:
 pub fn try_job<W: Outside>(alloc: Global, job: Job, outside: &mut W) -> Ended
     requires { IsReady job }
     ensures opened { OpensBy W.Outside outside.old outside.new result.status result.session }
-    ensures faults { FaultsBy W.Outside outside.old outside.new result.status }
     ensures happened { HappenedTo W.Outside job (ended_call outside.old outside.new result) result.session }
-    ensures handed { HandsOn (order_told result.order.items) result.session result.status }
     ensures runs { HandedRuns job.programs.items result.session }
-    ensures fits { HandedFits W.Outside outside.new result.session }
-    ensures only { IsOfEvents result.status }
+    ensures ends { EndsEvents W.Outside outside.old outside.new result }
 {
     let begins = begins_in(&job.events);
     match Vec::with_capacity(alloc, begins as usize) {
@@ -62,12 +59,9 @@ fn run_job<W: Outside>(
     requires none { order.items ≡ [] }
     requires room { begins ≤ vec_capacity order }
     ensures opened { OpensBy W.Outside outside.old outside.new result.status result.session }
-    ensures faults { FaultsBy W.Outside outside.old outside.new result.status }
     ensures happened { HappenedTo W.Outside job (ended_call outside.old outside.new result) result.session }
-    ensures handed { HandsOn (order_told result.order.items) result.session result.status }
     ensures runs { HandedRuns job.programs.items result.session }
-    ensures fits { HandedFits W.Outside outside.new result.session }
-    ensures only { IsOfEvents result.status }
+    ensures ends { EndsEvents W.Outside outside.old outside.new result }
 {
     let mut session = match Session::open(alloc, outside, job.programs, job.frames, begins) {
         Ok(session) => session,

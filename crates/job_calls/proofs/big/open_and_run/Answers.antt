@@ -1,4 +1,4 @@
-use Rattle.job_calls.proofs.Common.{◌≡◌, ◌≤◌, ◌∙◌, ap, sym, subst, arith, length, vec_len, All, List, ℕ, Some, length-map, count_by-le-length, [], Fixed, order_told, Desk, Event, IsSure, held_of, ghosts, is_turn, IsLasting, RunsQuietly, call, Loaded, fixed_of, opening_of, span}
+use Rattle.job_calls.proofs.Common.{rules, ◌≡◌, ◌≤◌, ◌∙◌, ap, sym, subst, arith, length, vec_len, All, List, ℕ, Some, length-map, count_by-le-length, [], Fixed, order_told, Desk, Event, IsSure, held_of, ghosts, is_turn, IsLasting, RunsQuietly, call, Loaded, fixed_of, opening_of, span}
 use Rattle.job_calls.proofs.NameLemmas.{ready-to-run}
 use Rattle.job_calls.proofs.BigLemmas.{faults_told, lasting, loaded, still-holds}
 use Rattle.job_calls.proofs.big.open_and_run.Goals as goal
@@ -37,14 +37,14 @@ returns-clause-loaded g c =
     (loaded G g.met.W.Outside.fewer_later g.met.W.Outside.printed_now c.args.transfers job c.requires.load before start between desk new c.in-Ok.ensures.opened c.in-Ok.ensures.asks c.in-Ok.ensures.new.programs_are (ap (λ (fixed : Fixed). fixed.programs) c.run_quiet-quiet.ensures.answered.tells.fixed) (ap (λ (fixed : Fixed). fixed.opened) c.run_quiet-quiet.ensures.answered.tells.fixed) c.in-Ok.ensures.unfailed
     (λ told. (c.in-Ok.ensures.told told).1) last c.run_quiet-quiet.ensures.calls c.run_quiet-quiet.ensures.answered.told quiet runs c.tell.new.outside c.tell.result c.tell.ensures)
 
-pub returns-clause-fits : goal.returns-clause-fits
-returns-clause-fits g c =
-    let ran = c.run_quiet-quiet.ensures.answered in
-    let few : length c.deref.result.now ≡ length c.args.job.events.items = ap (λ (these : List Event). length these) c.deref.ensures.value in
-    record { sound = ran.sound; bytes = still-holds g.W.Outside c.run_quiet-quiet.new.desk.store.header c.args.transfers c.run_quiet-quiet.result c.as_slice.result.now c.run_quiet-quiet.new.outside c.tell.new.outside c.tell.result c.tell.ensures ran.bytes; turns = omega (arith, ran.tells.turns, count_by-le-length is_turn c.deref.result.now, few, c.requires.ready.few, c.in-Ok.ensures.new.no_turns) }
-
-pub returns-clause-faults : goal.returns-clause-faults
-returns-clause-faults g c =
+pub returns-clause-ends : goal.returns-clause-ends
+returns-clause-ends g c =
     let ran = c.run_quiet-quiet in
-    faults_told g.W.Outside c.args.transfers c.as_slice.result.now c.args.outside.now c.open.new.outside ran.new.outside c.tell.new.outside c.in-Ok.session ran.new.desk c.in-Ok.ensures.asks ran.ensures.calls c.in-Ok.ensures.new.still_open
-    ran.result ran.ensures.goes c.tell.result c.tell.ensures
+    let few : length c.deref.result.now ≡ length c.args.job.events.items = ap (λ (these : List Event). length these) c.deref.ensures.value in
+    record {
+      handed = search rules;
+      fits = record { sound = ran.ensures.answered.sound; bytes = still-holds g.W.Outside c.run_quiet-quiet.new.desk.store.header c.args.transfers c.run_quiet-quiet.result c.as_slice.result.now c.run_quiet-quiet.new.outside c.tell.new.outside c.tell.result c.tell.ensures ran.ensures.answered.bytes; turns = omega (arith, ran.ensures.answered.tells.turns, count_by-le-length is_turn c.deref.result.now, few, c.requires.ready.few, c.in-Ok.ensures.new.no_turns) };
+      faults = faults_told g.W.Outside c.args.transfers c.as_slice.result.now c.args.outside.now c.open.new.outside ran.new.outside c.tell.new.outside c.in-Ok.session ran.new.desk c.in-Ok.ensures.asks ran.ensures.calls c.in-Ok.ensures.new.still_open
+          ran.result ran.ensures.goes c.tell.result c.tell.ensures;
+      only = search rules;
+    }

@@ -1,4 +1,4 @@
-use Rattle.job_calls.proofs.Common.{◌≡◌, ◌∙◌, ap, sym, ◌≤◌, subst, arith, length, vec_len, get_or, All, List, ℕ, refl, Some, map, length-map, count_by-le-length, Ghosts, Fixed, order_told, Desk, IsUnbroken, Event, Job, Session, ghosts, is_turn, HasOpened, Replays, Replayed, call, Status, status_of_replay, OpensBy, HappenedTo, names_of, fixed_of, opening_of, span, order_of, TellsBy}
+use Rattle.job_calls.proofs.Common.{rules, ◌≡◌, ◌∙◌, ap, sym, ◌≤◌, subst, arith, length, vec_len, get_or, All, List, ℕ, refl, Some, map, length-map, count_by-le-length, Ghosts, Fixed, order_told, Desk, IsUnbroken, Event, Job, Session, ghosts, is_turn, HasOpened, Replays, Replayed, call, Status, status_of_replay, OpensBy, HappenedTo, names_of, fixed_of, opening_of, span, order_of, TellsBy}
 use Rattle.arrayvec.specs.ArrayVec.{ArrayVec}
 use Rattle.job_calls.proofs.CauseLemmas.{opens-by, put-rose, put-same, disk-rose}
 use Rattle.job_calls.proofs.NameLemmas.{name-unbroken, ready-to-run}
@@ -45,20 +45,6 @@ returns-clause-opened g c =
     subst (λ (those : Replayed). Replays ghosts G (first_opening G c.args.job.frames before start c.in-Ok.session opens c.in-Ok.ensures.asks (map (λ name. name.items) c.deref.result.now)) c.deref-2.result.now c.replay-replayed.new.desk (span start after) those) is
     (c.replay-replayed.ensures.replays (first_desk G c.args.job.frames before start c.in-Ok.session opens c.in-Ok.ensures.asks) (has-opened G c.args.job.frames before start c.in-Ok.session opens c.in-Ok.ensures.asks))))
 
-pub returns-clause-faults : goal.returns-clause-faults
-returns-clause-faults g c =
-    let same = sym c.status_of_replay.ensures in
-    let asks = c.in-Ok.ensures.asks.calls in
-    let replayed = c.replay-replayed in
-    let cause = replayed.ensures.answered.cause in
-    let before = g.W.Outside.put_faults c.open.new.outside in
-    let after = g.W.Outside.put_faults replayed.new.outside in
-    record {
-      disk = λ is. let rose = disk-rose g.W.Outside c.open.new.outside replayed.new.outside c.in-Ok.session replayed.new.desk replayed.result c.in-Ok.ensures.new.still_open replayed.ensures.goes (same ∙ is) in omega (arith, rose, asks.disk);
-      put = λ is. let rose = put-rose before after replayed.result cause (same ∙ is) in omega (arith, rose, asks.put);
-      unfailed = λ is. put-same before after replayed.result cause (λ put. let both = sym is ∙ c.status_of_replay.ensures ∙ put in cc) ∙ asks.put;
-    }
-
 pub returns-clause-happened : goal.returns-clause-happened
 returns-clause-happened g c =
     let G = g.W.Outside in
@@ -77,8 +63,23 @@ returns-clause-happened g c =
     (subst (λ (names : List (List ℕ)). TellsBy G names job.events.items (order_of desk) (order_of new) start after result) (ap (map (λ name. name.items)) c.deref.ensures.value)
     (subst (λ (events : List Event). TellsBy G (map (λ name. name.items) c.deref.result.now) events (order_of desk) (order_of new) start after result) c.deref-2.ensures.value c.replay-replayed.ensures.tells))))
 
-pub returns-clause-fits : goal.returns-clause-fits
-returns-clause-fits g c =
+pub returns-clause-ends : goal.returns-clause-ends
+returns-clause-ends g c =
+    let same = sym c.status_of_replay.ensures in
+    let asks = c.in-Ok.ensures.asks.calls in
+    let replayed = c.replay-replayed in
+    let cause = replayed.ensures.answered.cause in
+    let before = g.W.Outside.put_faults c.open.new.outside in
+    let after = g.W.Outside.put_faults replayed.new.outside in
     let ran = c.replay-replayed.ensures.answered in
     let few : length c.deref-2.result.now ≡ length c.args.job.events.items = ap (λ (these : List Event). length these) c.deref-2.ensures.value in
-    record { sound = ran.sound; bytes = ran.bytes; turns = omega (arith, ran.tells.turns, count_by-le-length is_turn c.deref-2.result.now, few, c.requires.ready.few, c.in-Ok.ensures.new.no_turns) }
+    record {
+      handed = search rules;
+      fits = record { sound = ran.sound; bytes = ran.bytes; turns = omega (arith, ran.tells.turns, count_by-le-length is_turn c.deref-2.result.now, few, c.requires.ready.few, c.in-Ok.ensures.new.no_turns) };
+      faults = record {
+        disk = λ is. let rose = disk-rose g.W.Outside c.open.new.outside replayed.new.outside c.in-Ok.session replayed.new.desk replayed.result c.in-Ok.ensures.new.still_open replayed.ensures.goes (same ∙ is) in omega (arith, rose, asks.disk);
+        put = λ is. let rose = put-rose before after replayed.result cause (same ∙ is) in omega (arith, rose, asks.put);
+        unfailed = λ is. put-same before after replayed.result cause (λ put. let both = sym is ∙ c.status_of_replay.ensures ∙ put in cc) ∙ asks.put;
+      };
+      only = search rules;
+    }
