@@ -54,11 +54,10 @@ pub use Rattle.flat_machine.specs.Row.{Check, Commit, On, Outcome, in_register, 
 pub use Rattle.flat_machine.specs.Touched.{lines_at, touched, touched_by}
 pub use Rattle.flat_machine.specs.declared.machine.Plain.{Plain}
 pub use Rattle.flat_machine.specs.declared.machine.Program.{Program}
-pub use Rattle.frame_pool.proofs.SeenLemmas.{Stays, pool-seen, gone-stays}
+pub use Rattle.frame_pool.proofs.SeenLemmas.{Stays, gone-stays}
 pub use Rattle.frame_pool.specs.Pool.{emptied, frame_at, gone, line_in_frame, line_kept, line_shown, marks_at, settled, undone, with_bytes, Brought, line_laid}
 pub use Rattle.frame_pool.specs.Seen.{IsSeen}
 pub use Rattle.frame_pool.specs.Sizes.{frame_count, line_place, line_size, private_frames}
-pub use Rattle.frame_pool.specs.View.{pool_of}
 pub use Rattle.frame_pool.specs.declared.model.Pool.{Pool}
 pub use Rattle.page_table.specs.Placed.{cleared_entry, unowned}
 pub use Rattle.lines.proofs.LineSetLemmas.{is_in_where-below, of_page-below, of_page_where}
@@ -115,7 +114,7 @@ pub use Rattle.storage_unit.proofs.LeaveLemmas.{clean-shows}
 pub use Rattle.storage_unit.proofs.LeftLemmas.{range-long}
 pub use Rattle.storage_unit.proofs.SizeLemmas.{frame-high, page-of-line}
 pub use Rattle.storage_unit.proofs.StateLemmas.{emptied-stays, laid-bytes, room-stays}
-pub use Rattle.storage_unit.proofs.UnitLemmas.{program-reached, sound-fits, unit-sound}
+pub use Rattle.storage_unit.proofs.UnitLemmas.{program-reached, unit-sound}
 pub use Rattle.storage_unit.specs.Bytes.{IsClean, byte_in_frame, byte_over, bytes_over, is_line_marked, is_marked, private_bytes}
 pub use Rattle.storage_unit.specs.Laws.{Fits, Keeps, SettleKeeps, UndoForgets, filled, is_among, page_in}
 pub use Rattle.storage_unit.specs.Places.{is_private, offset_of, place_at, private_segment}

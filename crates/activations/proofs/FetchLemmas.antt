@@ -1,15 +1,12 @@
 -- Pages of a touch that come in from the store on the disk, one after the other, or that break off.
-use Rattle.activations.proofs.Common.{asks_none, length-replicate, replicate, ◌⊎◌, inr, inl, not-true, or_parts, option_map_or, arith, ap, sym, ◌∙◌, subst, ltb-false, PageSize, Layout, byte_count, page_count, page_bytes, byte_count-lines, brought, has, has_left, overlaid, Ghosts, OnlyAsks, FewerLater, held_of, Standing, Stands, NotAStore, Damaged, stands, KeptStore, Pool, pool_of, private_frames, line_place, reach_of, IsClean, private_bytes, Fits, Keeps, filled, page_in, frame-high, unit-sound, sound-fits, laid-bytes, room-stays, emptied-stays, IsStoreOf, IsIn, IsMoved, ◌≡◌, refl, ℕ, ◌+◌, ◌-◌, ◌*◌, ◌<◌, ◌≤◌, ◌==◌, ◌++◌, not, nat_lt, if◌then◌else◌, Bool, true, false, List, [], ◌∷◌, length, take, drop, fold, remove, position, unwrap_or, slice_index, Option, Some, None, option_to_list, Result, Ok, Err, OnOk, OnErr, take-append-le, take-take, length-append, length-take, Brought, frame_at, marks_at, with_bytes, emptied, line_laid, line_kept, has-remove_other, turned, KeepsStore, ◌||◌, IsErrAnd, eqb-true, eq-eqb, ne_eqb, or_cases, has_right, Word, Fine, ReadFailed, Fetching, Fetched, Broken, can't_be_read, fetches, Activity, IsUnread, IsBrokenOff, Touch, Want, pages_wanted, wants_of, nat_tests, Fetches, HasFetched}
+use Rattle.activations.proofs.Common.{IsSeen, asks_none, length-replicate, replicate, ◌⊎◌, inr, inl, not-true, or_parts, option_map_or, arith, ap, sym, ◌∙◌, subst, ltb-false, PageSize, Layout, byte_count, page_count, page_bytes, byte_count-lines, brought, has, has_left, overlaid, Ghosts, OnlyAsks, FewerLater, held_of, Standing, Stands, NotAStore, Damaged, stands, KeptStore, Pool, private_frames, line_place, reach_of, IsClean, private_bytes, Fits, Keeps, filled, page_in, frame-high, laid-bytes, room-stays, emptied-stays, IsStoreOf, IsIn, IsMoved, ◌≡◌, refl, ℕ, ◌+◌, ◌-◌, ◌*◌, ◌<◌, ◌≤◌, ◌==◌, ◌++◌, not, nat_lt, if◌then◌else◌, Bool, true, false, List, [], ◌∷◌, length, take, drop, fold, remove, position, unwrap_or, slice_index, Option, Some, None, option_to_list, Result, Ok, Err, OnOk, OnErr, take-append-le, take-take, length-append, length-take, Brought, frame_at, marks_at, with_bytes, emptied, line_laid, line_kept, has-remove_other, turned, KeepsStore, ◌||◌, IsErrAnd, eqb-true, eq-eqb, ne_eqb, or_cases, has_right, Word, Fine, ReadFailed, Fetching, Fetched, Broken, can't_be_read, fetches, Activity, IsUnread, IsBrokenOff, Touch, Want, pages_wanted, wants_of, nat_tests, Fetches, HasFetched}
 use Rattle.std.proofs.lemmas.List.Quantifiers.{position-Some}
 use Rattle.store_format.proofs.Fronts.{shorter_front, later_front}
 use Rattle.store_format.proofs.Stores.{stands_is}
 use Rattle.store.proofs.Newest.{store_agrees}
 use Rattle.store.specs.Shows.{Shows}
 use Rattle.store.proofs.ShowLemmas.{sure_on, shown_store}
-use Rattle.frame_pool.specs.declared.pages.StorePages.{StorePages}
-use Rattle.frame_pool.specs.Places.{index_out}
-use Rattle.frame_pool.specs.PlacesView.{places_of}
-use Rattle.frame_pool.proofs.SoundLemmas.{none-room}
+use Rattle.frame_pool.proofs.SoundLemmas.{not-all-stay}
 use Rattle.storage_unit.specs.declared.unit.Unit.{Unit}
 use Rattle.storage_unit.specs.Incoming.{IsFilled, IsKept, HasGoneOut}
 use Rattle.storage_unit.proofs.BringKeeps.{bring-keeps, page_in-long}
@@ -129,37 +126,34 @@ moved-then old mid new first second = record {
 }
 
 -- a page that is to stay, stays: of at least two frames another can be had
-pub keeps-other : (p : StorePages) (other page : ℕ) → has p.resident.items other ≡ true → has (brought p.frames (other ∷ []) p.resident.items page) other ≡ true
-keeps-other p other page inside = by_room (nat_lt (length p.resident.items) p.frames) refl
+pub keeps-other : (pool : Pool) (other page : ℕ) → IsSeen pool → has pool.resident other ≡ true → has (brought pool.frames (other ∷ []) pool.resident page) other ≡ true
+keeps-other pool other page seen inside = by_room (nat_lt (length pool.resident) pool.frames) refl
   where
-    by_room : (room : Bool) → nat_lt (length p.resident.items) p.frames ≡ room
-        → has ((if room then p.resident.items else remove p.resident.items (unwrap_or (position (λ x. not (has (other ∷ []) x)) p.resident.items) 0)) ++ page ∷ []) other ≡ true
-    by_room true e = has_left p.resident.items (page ∷ []) other inside
-    by_room false e = by_place (position (λ x. not (has (other ∷ []) x)) p.resident.items) refl
+    by_room : (room : Bool) → nat_lt (length pool.resident) pool.frames ≡ room
+        → has ((if room then pool.resident else remove pool.resident (unwrap_or (position (λ x. not (has (other ∷ []) x)) pool.resident) 0)) ++ page ∷ []) other ≡ true
+    by_room true e = has_left pool.resident (page ∷ []) other inside
+    by_room false e = by_place (position (λ x. not (has (other ∷ []) x)) pool.resident) refl
       where
-        out : index_out (places_of p) (Some other) ≡ position (λ x. not (has (other ∷ []) x)) p.resident.items
-        out = ap (λ (room : Bool). if room then None else position (λ x. not (has (other ∷ []) x)) p.resident.items) e
-
-        by_place : (place : Option ℕ) → position (λ x. not (has (other ∷ []) x)) p.resident.items ≡ place → has (remove p.resident.items (unwrap_or place 0) ++ page ∷ []) other ≡ true
-        by_place None is = absurd (omega (arith, none-room p (Some other) (out ∙ is), ltb-false (length p.resident.items) p.frames e, p.resident.ok.0))
-        by_place (Some at) is = has_left (remove p.resident.items at) (page ∷ []) other
-            (has-remove_other p.resident.items at other (apart (slice_index p.resident.items at) (position-Some (λ x. not (has (other ∷ []) x)) p.resident.items at 0 is).1) ∙ inside)
+        by_place : (place : Option ℕ) → position (λ x. not (has (other ∷ []) x)) pool.resident ≡ place → has (remove pool.resident (unwrap_or place 0) ++ page ∷ []) other ≡ true
+        by_place None is = absurd (not-all-stay (Some other) pool.resident seen.apart (omega (arith, ltb-false (length pool.resident) pool.frames e, seen.some)) is)
+        by_place (Some at) is = has_left (remove pool.resident at) (page ∷ []) other
+            (has-remove_other pool.resident at other (apart (slice_index pool.resident at) (position-Some (λ x. not (has (other ∷ []) x)) pool.resident at 0 is).1) ∙ inside)
           where
             apart : (x : ℕ) → not (has (other ∷ []) x) ≡ true → (x == other) ≡ false
             apart x is = turned other x (or_parts (other == x) false (not-true _ is)).0
 
 -- a page that wasn't resident has come in and is counted
-pub came-in : (unit now : Unit) (page : ℕ) (keep : Option ℕ) (counted : ℕ) → has unit.pool.places.resident.items page ≡ false
-    → now.pool.places.resident.items ≡ brought unit.pool.places.frames (option_to_list keep) unit.pool.places.resident.items page → IsIn (pool_of unit.pool) (pool_of now.pool) page keep counted (counted + 1)
+pub came-in : (unit now : Unit) (page : ℕ) (keep : Option ℕ) (counted : ℕ) → has unit.pool.resident page ≡ false
+    → now.pool.resident ≡ brought unit.pool.frames (option_to_list keep) unit.pool.resident page → IsIn unit.pool now.pool page keep counted (counted + 1)
 came-in unit now page keep counted absent came =
-    let places = unit.pool.places in
+    let pool = unit.pool in
     record {
-      resident = came ∙ sym (ap (λ (there : Bool). if there then places.resident.items else brought places.frames (option_to_list keep) places.resident.items page) absent);
+      resident = came ∙ sym (ap (λ (there : Bool). if there then pool.resident else brought pool.frames (option_to_list keep) pool.resident page) absent);
       counted = sym (ap (λ (there : Bool). if there then counted else counted + 1) absent);
       stays = λ other is inside.
           ap (λ (these : List ℕ). has these other) came
-          ∙ ap (λ (kept : Option ℕ). has (brought places.frames (option_to_list kept) places.resident.items page) other) is
-          ∙ keeps-other places other page inside;
+          ∙ ap (λ (kept : Option ℕ). has (brought pool.frames (option_to_list kept) pool.resident page) other) is
+          ∙ keeps-other pool other page unit.fits.seen inside;
     }
 
 pub on-ok : {T E : Type 0} (P Q : Type 0) (result : Result T E) → OnOk result P → (P → Q) → OnOk result Q
@@ -174,7 +168,7 @@ either-way P Q R (Err fault) is not leads others = others not
 -- A unit into which a page comes.
 module _ (unit : Unit) (page : ℕ) (keep : Option ℕ) where
   fits_first : Fits unit.directory (reach_of unit).pool
-  fits_first = sound-fits (reach_of unit) (unit-sound unit)
+  fits_first = unit.fits
 
   filled-moved : (bytes : List ℕ) (new : Pool) → IsFilled (reach_of unit) page keep bytes new → IsMoved (reach_of unit).pool new
   filled-moved bytes new filling = subst (IsMoved (reach_of unit).pool) (sym filling.is) (moved-filled unit.directory (reach_of unit).pool filling.room page keep filling.frame bytes fits_first filling.fits filling.came)
@@ -203,7 +197,7 @@ module _ (unit : Unit) (page : ℕ) (keep : Option ℕ) where
     pub came-resident : Came → new.resident ≡ brought (reach_of unit).pool.frames (option_to_list keep) (reach_of unit).pool.resident page
     came-resident came = (came-filled came).1.resident
 
-    pub came-keeps : store.header.directory ≡ unit.directory → page < page_count unit.directory → has unit.pool.places.resident.items page ≡ false → Came
+    pub came-keeps : store.header.directory ≡ unit.directory → page < page_count unit.directory → has unit.pool.resident page ≡ false → Came
         → KeepsStore G store old unit.directory (reach_of unit).pool new
     came-keeps same below absent came committed is clean = by_way came
       where
@@ -227,7 +221,7 @@ module _ (unit : Unit) (page : ℕ) (keep : Option ℕ) where
     pub out-moved : IsMoved (reach_of unit).pool new
     out-moved = subst (IsMoved (reach_of unit).pool) (sym gone.out) (moved-emptied (reach_of unit).pool gone.between (filled-moved gone.bytes gone.between gone.was))
 
-    pub out-keeps : page < page_count unit.directory → has unit.pool.places.resident.items page ≡ false → (committed : List ℕ) → IsClean unit.directory (reach_of unit).pool committed
+    pub out-keeps : page < page_count unit.directory → has unit.pool.resident page ≡ false → (committed : List ℕ) → IsClean unit.directory (reach_of unit).pool committed
         → Keeps unit.directory (reach_of unit).pool new committed
     out-keeps below absent committed clean =
         subst (λ (pool : Pool). Keeps unit.directory (reach_of unit).pool pool committed)

@@ -134,8 +134,8 @@ module _ (a : Activity) (seat : ℕ) (committed : List ℕ) (now : Plain) (sound
     are-lines : AreLines size (line_told a.reach.pool) lines (length committed)
     are-lines = record {
       long = λ line inside.
-          let less = below line inside in let all = reached.pages in
-          shown-long a.reach.pool reached.seen (page_of_line line) (line % 16) (omega (arith, less, all)) (omega arith) ∙ ap line_bytes reached.size;
+          let less = below line inside in let all = reached.fits.pages in
+          shown-long a.reach.pool reached.fits.seen (page_of_line line) (line % 16) (omega (arith, less, all)) (omega arith) ∙ ap line_bytes reached.fits.size;
       within = λ line inside. line-ends size line (page_count a.reach.directory) (length committed) (below line inside) (follows.kept.long ∙ byte_count_pages a.reach.directory);
     }
 
@@ -144,7 +144,7 @@ module _ (a : Activity) (seat : ℕ) (committed : List ℕ) (now : Plain) (sound
       where
         by_test : (written : Bool) → has lines (place / line_bytes size) ≡ written
             → (if written then slice_index (line_told a.reach.pool (place / line_bytes size)) (place % line_bytes size) else slice_index committed place) ≡ slice_index now.store place
-        by_test true is = told-byte size a.reach.directory a.reach.pool committed place reached.size refl
+        by_test true is = told-byte size a.reach.directory a.reach.pool committed place reached.fits.size refl
             (marked (place / line_bytes size) (sym (same (place / line_bytes size)) ∙ is))
             ∙ sym (byte-of-all a.reach.directory a.reach.pool committed place (omega (arith, inside, follows.kept.long)))
             ∙ sym (place-laid store (due_to store (entry_in a seat)).writes (shown a committed) committed now.store (line-bytes-pos a.reach.directory) done place

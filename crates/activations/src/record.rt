@@ -1,7 +1,6 @@
 // The record of a commit.
 ghost use Rattle.std.specs.Prelude.{[], ◌≡◌, ◌+◌, ◌*◌, ◌<◌, ◌≤◌, ℕ, List, All, length, true, Some, IsSome, IsOk, OnOk, OnErr, IfErr};
 ghost use Rattle.activations.specs.Below.{begun_of, flat_lines, has, most_lines, of_seat, page_count, size, write_count};
-ghost use Rattle.frame_pool.specs.View.{pool_of};
 ghost use Rattle.activations.specs.Recorded.{with_lines, IsRecordOf, LeavesCommitted, HasWritten};
 
 use super::activations::Activations;
@@ -70,13 +69,13 @@ impl Activations {
 
 /// These lines of a page come into the record that is begun.
 fn record_lines(pool: &FramePool, page: u16, lines: LineSet, store: &mut Durable)
-    requires page { page < length (pool_of pool.now).frame_of }
-    requires size { (pool_of pool.now).page ≡ store.old.header.directory.page }
+    requires page { page < length pool.now.frame_of }
+    requires size { pool.now.page ≡ store.old.header.directory.page }
     requires below { page < page_count store.old.header.directory }
     requires begun { IsSome store.old.bank.begun }
     requires before { All (λ one. one.line < page * 16) (begun_of store.old.bank) }
     requires room { length (begun_of store.old.bank) + length lines ≤ most_lines store.old.header }
-    ensures { store.new ≡ with_lines (pool_of pool.now) (flat_lines page lines) store.old }
+    ensures { store.new ≡ with_lines pool.now (flat_lines page lines) store.old }
 {
     for line in lines.lines() {
         store.record_line(

@@ -1,9 +1,8 @@
 -- Lines of a page laid one after another, and the page laid at once.
-use Rattle.frame_pool.proofs.Common.{fold, slice_range, range_with_len, length-append, length-take-le, length-drop, append-nil, take-append-drop, drop-drop, take_at, overlaid, length-overlaid, PageSize, page_bytes, passing, lines_of_bits, Pool, frame_count, line_size, line_place, frame_at, marks_at, line_laid, line_kept, with_bytes, laid, IsSeen, pool_of, FramePool, nat_tests, ◌≡◌, ℕ, zero, suc, ◌+◌, ◌-◌, ◌*◌, ◌<◌, ◌≤◌, Some, List, [], ◌++◌, length, take, drop, refl, sym, ◌∙◌, ap, arith, append_assoc}
+use Rattle.frame_pool.proofs.Common.{fold, slice_range, range_with_len, length-append, length-take-le, length-drop, append-nil, take-append-drop, drop-drop, take_at, overlaid, length-overlaid, PageSize, page_bytes, passing, lines_of_bits, Pool, frame_count, line_size, line_place, frame_at, marks_at, line_laid, page_laid, line_kept, with_bytes, laid, IsSeen, shown, Inside, nat_tests, ◌≡◌, ℕ, zero, suc, ◌+◌, ◌-◌, ◌*◌, ◌<◌, ◌≤◌, Some, List, [], ◌++◌, length, take, drop, refl, sym, ◌∙◌, ap, arith, append_assoc}
 use Rattle.std.proofs.Math.Seq.{take-add, drop-append-add, drop-append_seam}
 use Rattle.frame_pool.proofs.SoundLemmas.{page_part}
-use Rattle.frame_pool.proofs.PoolLemmas.{frame_within}
-use Rattle.frame_pool.proofs.SeenLemmas.{pool-seen}
+use Rattle.frame_pool.proofs.PoolLemmas.{frame-part, frame_within}
 
 -- nothing written over a list
 overlaid-none : {X : Type 0} (xs : List X) (at : ℕ) → overlaid xs at [] ≡ xs
@@ -146,11 +145,8 @@ laid-anyway page frame pool bytes there all long fits kept =
 
 -- a page whose lines are all marked is laid at once
 pub whole-laid :
-    (p : FramePool) (page frame : ℕ) → page < length p.places.frame_of.items → frame_at (pool_of p) page ≡ Some frame → range_with_len 0 16 ≡ marks_at (pool_of p) page
-    → (let size : ℕ = page_bytes p.places.page in with_bytes (pool_of p) (frame * size) (slice_range p.kept (page * size) (page * size + size))) ≡ laid (pool_of p) page
-whole-laid p page frame inside there all =
-    let seen : IsSeen (pool_of p) = pool-seen p in
-    let size : ℕ = page_bytes p.places.page in
-    let fits : frame * size + size ≤ length p.bytes.items.items = omega (arith, page_part frame (frame_count p.places.page p.places.frames) size (frame_within p page frame there), seen.bytes) in
-    let kept : page * size + size ≤ length p.kept = omega (arith, page_part page (length p.places.frame_of.items) size inside, seen.kept) in
-    sym (page-laid page frame (pool_of p) fits kept) ∙ laid-all page frame (pool_of p) there all
+    (pool : Pool) (page frame : ℕ) → IsSeen pool → page < length pool.frame_of → frame_at pool page ≡ Some frame → range_with_len 0 16 ≡ marks_at pool page
+    → page_laid page frame pool ≡ laid pool page
+whole-laid pool page frame seen inside there all =
+    let kept : page * page_bytes pool.page + page_bytes pool.page ≤ length pool.kept = omega (arith, page_part page (length pool.frame_of) (page_bytes pool.page) inside, seen.kept) in
+    sym (page-laid page frame pool (frame-part pool frame seen (frame_within pool page frame seen there)) kept) ∙ laid-all page frame pool there all

@@ -1,10 +1,27 @@
 -- What holds of every pool, and stays where a page leaves.
-use Rattle.frame_pool.proofs.Common.{◌+◌, ◌≤◌, ◌==◌, if◌then◌else◌, slice_index_or, slice_set, is_some, length-set, get_or-set_same, get_or-set_other, get_or_past, length-take, length-drop, length-overlaid, page_bytes, has, taken_out, has-filter, IsSeen, frame_count, pool_of, frame_at, page_at, frame_bytes, paging_after, gone, Pool, FramePool, nat_tests, ◌≡◌, ◌≢◌, ℕ, ◌*◌, ◌<◌, List, [], ◌∷◌, length, sym, ◌∙◌, ap, arith, Option, Some, None}
+use Rattle.frame_pool.proofs.Common.{◌+◌, ◌≤◌, ◌==◌, if◌then◌else◌, slice_index_or, slice_set, is_some, length-set, get_or-set_same, get_or-set_other, get_or_past, with_part, with_frame_part, marked_in, is_apart, overlaid, true, false, length-take, length-take-le, length-drop, length-overlaid, page_bytes, has, taken_out, has-filter, IsSeen, frame_count, frame_at, page_at, frame_bytes, paging_after, gone, Pool, nat_tests, ◌≡◌, ◌≢◌, ℕ, ◌*◌, ◌<◌, List, [], ◌∷◌, length, sym, ◌∙◌, ap, arith, Option, Some, None}
 use Rattle.frame_pool.proofs.SoundLemmas.{page_part}
 use Rattle.frame_pool.proofs.PoolLemmas.{gone-from}
+use Rattle.frame_pool.proofs.LendLemmas.{none-lost}
 
-pub pool-seen : (p : FramePool) → IsSeen (pool_of p)
-pool-seen p = grind (arith, nat_tests)
+-- a list in which no number stands twice, without some of them
+without-absent : (these xs : List ℕ) (x : ℕ) → has xs x ≡ false → has (taken_out these xs) x ≡ false
+without-absent these xs x absent = grind (arith, nat_tests, has-filter)
+
+apart-without : (these xs : List ℕ) → is_apart xs ≡ true → is_apart (taken_out these xs) ≡ true
+apart-without these [] apart = apart
+apart-without these (x ∷ xs) apart = grind (arith, nat_tests, apart-without these xs, without-absent these xs x)
+
+-- a pool whose frames have other bytes
+pub seen-bytes : (pool : Pool) (bytes : List ℕ) → length bytes ≡ length pool.bytes → IsSeen pool → IsSeen (record pool { bytes = bytes })
+seen-bytes pool bytes long seen = grind (arith, nat_tests, seen)
+
+pub seen-lent : (pool : Pool) (at : ℕ) (part : List ℕ) → IsSeen pool → IsSeen (with_frame_part pool at part)
+seen-lent pool at part seen = seen-bytes pool (with_part pool.bytes at part) (length-take-le (length pool.bytes) (overlaid pool.bytes at part) (none-lost pool.bytes at part)) seen
+
+-- and one in which lines of the page in a frame are marked
+pub seen-marked : (pool : Pool) (frame : ℕ) (lines : List ℕ) → IsSeen pool → IsSeen (marked_in pool frame lines)
+seen-marked pool frame lines seen = grind (arith, nat_tests, length-set, seen)
 
 -- what stands somewhere in a list of options stands within it
 pub some-within : (xs : List (Option ℕ)) (at value : ℕ) → slice_index_or xs at None ≡ Some value → at < length xs
@@ -54,16 +71,12 @@ module _ (pool : Pool) (seen : IsSeen pool) (page frame : ℕ) (there : frame_at
   resident-left : (p : ℕ) → has (taken_out (page ∷ []) pool.resident) p ≡ is_some (slice_index_or (slice_set pool.frame_of page None) p None)
   resident-left p = grind (arith, nat_tests, has-filter, get_or-set_other, get_or-set_same, get_or_past, length-set)
 
-  -- what stands somewhere after it stood there before
-  before : (xs : List (Option ℕ)) (at other value : ℕ) → slice_index_or (slice_set xs at None) other None ≡ Some value → (at ≢ other) × (slice_index_or xs other None ≡ Some value)
-  before xs at other value is = grind (arith, nat_tests, get_or-set_other, get_or-set_same, get_or_past, length-set)
+  -- the page of each frame after it left
+  page-left : (f : ℕ) → slice_index_or (slice_set pool.page_in frame None) f None ≡ (if frame == f then None else page_at pool f)
+  page-left f = grind (arith, nat_tests, get_or-set_other, get_or-set_same, get_or_past, length-set)
 
-  after : (xs : List (Option ℕ)) (at other value : ℕ) → at ≢ other → slice_index_or xs other None ≡ Some value → slice_index_or (slice_set xs at None) other None ≡ Some value
-  after xs at other value apart is =
-      grind (arith, nat_tests, get_or-set_other, get_or-set_same, get_or_past, length-set)
-
-  one : (a b : ℕ) → Some a ≡ Some b → a ≡ b
-  one a b same = cc
+  frame-left : (p : ℕ) → slice_index_or (slice_set pool.frame_of page None) p None ≡ (if page == p then None else frame_at pool p)
+  frame-left p = grind (arith, nat_tests, get_or-set_other, get_or-set_same, get_or_past, length-set)
 
   seen-left : IsSeen left
   seen-left = record {
@@ -71,15 +84,13 @@ module _ (pool : Pool) (seen : IsSeen pool) (page frame : ℕ) (there : frame_at
     page_in = length-set pool.page_in frame None ∙ seen.page_in;
     marked = seen.marked ∙ sym (length-set pool.frame_of page None);
     kept = kept-long ∙ seen.kept ∙ ap (λ n. n * page_bytes pool.page) (sym (length-set pool.frame_of page None));
+    some = seen.some;
+    apart = apart-without (page ∷ []) pool.resident seen.apart;
     resident = resident-left;
-    there = λ p f is.
-        let old = before pool.frame_of page p f is in
-        after pool.page_in frame f p (λ e. old.0 (one page p (sym (seen.there page frame there) ∙ ap (page_at pool) e ∙ seen.there p f old.1))) (seen.there p f old.1);
-    back = λ p f is.
-        let old = before pool.page_in frame f p is in
-        after pool.frame_of page p f (λ e. old.0 (one frame f (sym there ∙ ap (frame_at pool) e ∙ seen.back p f old.1))) (seen.back p f old.1);
-    above = λ p f is. seen.above p f (before pool.page_in frame f p is).1;
-    below = λ p f is. seen.below p f (before pool.page_in frame f p is).1;
+    there = λ p f is. grind (arith, nat_tests, frame-left p, page-left f, seen.there page frame there, seen.there p f);
+    back = λ p f is. grind (arith, nat_tests, frame-left p, page-left f, there, seen.back p f);
+    above = λ p f is. grind (arith, nat_tests, page-left f, seen.above p f);
+    below = λ p f is. grind (arith, nat_tests, page-left f, seen.below p f);
   }
 
 pub seen-gone : (pool : Pool) (page : ℕ) → IsSeen pool → IsSeen (gone pool page)

@@ -89,8 +89,8 @@ differ x y apart = grind (arith, nat_tests)
 pub resident-in_frame : (pages : Places) (index : ℕ) → IsSound pages → index < length pages.resident → place_of pages (resident_at pages index) ≡ Some (frame_of_index pages index)
 resident-in_frame pages index sound below = grind (arith, nat_tests, has-at)
 
-pub frame-of_store : (pages : Places) (page frame : ℕ) → IsSound pages → place_of pages page ≡ Some frame → IsOfStore pages frame
-frame-of_store pages page frame sound there = sound.placed.in_use page frame (sound.placed.there page frame there)
+pub frame_of_store : (pages : Places) (page frame : ℕ) → IsSound pages → place_of pages page ≡ Some frame → IsOfStore pages frame
+frame_of_store pages page frame sound there = sound.placed.in_use page frame (sound.placed.there page frame there)
 
 pub page_part : (page count size : ℕ) → page < count → page * size + size ≤ count * size
 page_part page count size below = grind arith
@@ -340,7 +340,7 @@ leaves p index page index_below read =
 
     frame : unwrap_or (place_of (places_of p) page) 0 < vec_len p.page_in
     frame =
-        let store = frame-of_store (places_of p) page (unwrap_or (place_of (places_of p) page) 0) sound in_frame in
+        let store = frame_of_store (places_of p) page (unwrap_or (place_of (places_of p) page) 0) sound in_frame in
         omega (arith, store.below, sound.sized.page_in, p.page_in.ok.0)
 
 -- the frame that was read of a page
@@ -371,14 +371,14 @@ some-goes :
     → length (x ∷ y ∷ rest) ≤ prefix_len (λ page. not (not (has (option_to_list keep) page))) (x ∷ y ∷ rest) → ⊥
 some-goes keep x y rest apart all = grind (arith, nat_tests)
 
-not-all-stay : (keep : Option ℕ) (xs : List ℕ) → is_apart xs ≡ true → 2 ≤ length xs → position (λ page. not (has (option_to_list keep) page)) xs ≡ None → ⊥
+pub not-all-stay : (keep : Option ℕ) (xs : List ℕ) → is_apart xs ≡ true → 2 ≤ length xs → position (λ page. not (has (option_to_list keep) page)) xs ≡ None → ⊥
 not-all-stay keep [] apart two none = omega arith
 not-all-stay keep (x ∷ []) apart two none = omega arith
 not-all-stay keep (x ∷ y ∷ rest) apart two none = let all = some-goes keep x y rest apart in grind (arith, nat_tests, all)
 
 -- where no page goes out a frame is free
-pub none-room : (p : StorePages) (keep : Option ℕ) → index_out (places_of p) keep ≡ None → vec_len p.resident < p.frames
-none-room p keep none = grind (arith, nat_tests, not-all-stay)
+pub none_room : (p : StorePages) (keep : Option ℕ) → index_out (places_of p) keep ≡ None → vec_len p.resident < p.frames
+none_room p keep none = grind (arith, nat_tests, not-all-stay)
 
 -- the place of the page that goes out is one of the resident ones
 pub index-out_below : (p : StorePages) (keep : Option ℕ) (index : ℕ) → index_out (places_of p) keep ≡ Some index → index < length p.resident.items

@@ -56,6 +56,9 @@ left places index page frame =
       free = places.free ++ frame ∷ [];
     }
 
+abbrev pub left_at : Places → ℕ → Places
+left_at places index = left places index (resident_at places index) (frame_of_index places index)
+
 -- a page came into a frame that was free
 pub record CameIn (old new : Places) (page frame : ℕ) : Type 0 where
   pub free : old.free ≡ new.free ++ frame ∷ []

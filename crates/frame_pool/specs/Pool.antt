@@ -35,9 +35,17 @@ marks_at pool page = slice_index_or pool.marked page []
 abbrev pub part_of : Pool → (frame at count : ℕ) → List ℕ
 part_of pool frame at count = slice_range pool.bytes (frame * page_bytes pool.page + at) (frame * page_bytes pool.page + at + count)
 
+-- where a frame begins among the bytes, and a page in paging space
+abbrev pub page_start : Pool → ℕ → ℕ
+page_start pool frame = frame * page_bytes pool.page
+
 -- the bytes of a frame
 abbrev pub frame_bytes : Pool → ℕ → List ℕ
-frame_bytes pool frame = slice_range pool.bytes (frame * page_bytes pool.page) (frame * page_bytes pool.page + page_bytes pool.page)
+frame_bytes pool frame = slice_range pool.bytes (page_start pool frame) (page_start pool frame + page_bytes pool.page)
+
+-- and those of a page in paging space
+abbrev pub page_kept : Pool → ℕ → List ℕ
+page_kept pool page = slice_range pool.kept (page_start pool page) (page_start pool page + page_bytes pool.page)
 
 -- the bytes of a line of a frame
 abbrev pub line_in_frame : Pool → (frame line : ℕ) → List ℕ
@@ -89,6 +97,10 @@ pub record Brought (old new : Pool) (page : ℕ) (keep : Option ℕ) (frame : �
     page_in = slice_set (with_room old keep).page_in frame (Some page);
   }
 
+-- marks with lines of a page beside them, if there is one
+abbrev pub marked_with : List (List ℕ) → Option ℕ → List ℕ → List (List ℕ)
+marked_with marked page lines = option_map_or (λ p. slice_set marked p (union (slice_index_or marked p []) lines)) page marked
+
 -- lines of a page are marked
 abbrev pub with_marks : Pool → (page : ℕ) → List ℕ → Pool
 with_marks pool page lines = record pool { marked = slice_set pool.marked page (union (marks_at pool page) lines) }
@@ -116,6 +128,10 @@ with_bytes pool at bytes = record pool { bytes = overlaid pool.bytes at bytes }
 -- a kept line of a page lies over that of a frame
 abbrev pub line_laid : (page frame : ℕ) → Pool → ℕ → Pool
 line_laid page frame pool line = with_bytes pool (line_place pool.page frame line) (line_kept pool page line)
+
+-- the kept page lies over a frame
+abbrev pub page_laid : (page frame : ℕ) → Pool → Pool
+page_laid page frame pool = with_bytes pool (page_start pool frame) (page_kept pool page)
 
 -- all marked lines of a page lie over those of its frame, if it is in one
 abbrev pub laid : Pool → ℕ → Pool

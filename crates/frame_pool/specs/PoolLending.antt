@@ -1,28 +1,20 @@
 -- What a pool ends as, where bytes of its frames are lent.
-use Rattle.std.specs.Prelude.{ℕ, List}
-use Rattle.frame_pool.specs.Below.{Array, Fml, Lends, MutBor, option_map_or, u8, union, with_item}
+use Rattle.std.specs.Prelude.{ℕ, ◌+◌, List}
+use Rattle.frame_pool.specs.Below.{Array, Fml, Lends, MutBor, u8}
 use Rattle.frame_pool.specs.Lending.{with_part}
-use Rattle.frame_pool.specs.Pool.{marks_at, page_at}
-use Rattle.frame_pool.specs.View.{pool_of}
-use Rattle.frame_pool.specs.declared.pool.FramePool.{FramePool}
+use Rattle.frame_pool.specs.Pool.{lines_of_part, marked_in, page_start}
+use Rattle.frame_pool.specs.declared.model.Pool.{Pool}
 use Rattle.frame_pool.specs.contracts.pool.FramePool.{the_row}
 
 -- a pool with bytes of frames written over from a place on
-abbrev pub with_frame_part : FramePool → ℕ → List ℕ → FramePool
+abbrev pub with_frame_part : Pool → ℕ → List ℕ → Pool
 with_frame_part pool at part = record pool { bytes = with_part pool.bytes at part }
 
--- a pool with lines of the page in a frame marked, if there is one
-abbrev pub with_marked : FramePool → ℕ → List ℕ → FramePool
-with_marked pool frame lines =
-    option_map_or
-    (λ page. record pool { marked = with_item pool.marked page (union (marks_at (pool_of pool) page) lines) })
-    (page_at (pool_of pool) frame)
-    pool
-
 -- once the borrow ends, the part is what the reference shows last
-abbrev pub LendsFrame : MutBor FramePool → ℕ → MutBor (List ℕ) → Fml
+abbrev pub LendsFrame : MutBor Pool → ℕ → MutBor (List ℕ) → Fml
 LendsFrame pool at part = Lends the_row (Array u8 0) pool part (with_frame_part pool.now at)
 
--- the same, with lines of the page in a frame marked
-abbrev pub LendsMarked : MutBor FramePool → (frame : ℕ) → List ℕ → ℕ → MutBor (List ℕ) → Fml
-LendsMarked pool frame lines at part = Lends the_row (Array u8 0) pool part (with_frame_part (with_marked pool.now frame lines) at)
+-- the same of a part of a frame, with its lines marked where a page is in it
+abbrev pub LendsMarked : MutBor Pool → (frame at count : ℕ) → MutBor (List ℕ) → Fml
+LendsMarked pool frame at count part =
+    Lends the_row (Array u8 0) pool part (with_frame_part (marked_in pool.now frame (lines_of_part pool.now.page at count)) (page_start pool.now frame + at))

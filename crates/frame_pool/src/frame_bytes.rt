@@ -1,20 +1,28 @@
-ghost use Rattle.std.specs.Prelude.{◌≡◌, ◌+◌, ◌≤◌, slice_range, vec_len, replicate, IfOk, List, ℕ, length};
+ghost use Rattle.std.specs.Prelude.{◌≡◌, ◌+◌, ◌≤◌, slice_range, replicate, IfOk, List, ℕ, length};
 ghost use Rattle.frame_pool.specs.Below.{overlaid, sem};
 ghost use Rattle.frame_pool.specs.Lending.{LendsPart};
 
 use std::alloc::{AllocError, Global};
+use std::marker::Model;
 
-/// The bytes of all frames, end to end.
+/// The bytes of all frames, end to end, seen as their list.
 #[derive(Drop)]
 pub struct FrameBytes {
-    pub items: Vec<u8>,
+    items: Vec<u8>,
+}
+
+impl Model for FrameBytes {
+    ghost use Rattle.std.specs.Prelude.{List, ℕ};
+
+    ghost Value = { List ℕ };
+
+    ghost view = { λ bytes. bytes.items.items };
 }
 
 impl FrameBytes {
     /// So many zeros.
     pub fn zeros(alloc: Global, count: usize) -> Result<Self, AllocError>
-        ensures items { IfOk result (λ bytes. bytes.items.items ≡ replicate count 0) }
-        ensures len { IfOk result (λ bytes. vec_len bytes.items ≡ count) }
+        ensures { IfOk result (λ bytes. bytes ≡ replicate count 0) }
     {
         Ok(FrameBytes {
             items: vec![in alloc; 0; count]?,
@@ -24,8 +32,8 @@ impl FrameBytes {
     /// A part.
     #[inline(always)]
     pub fn part(&self, at: usize, count: usize) -> &[u8]
-        requires { at + count ≤ vec_len self.now.items }
-        ensures { result.now ≡ slice_range self.now.items.items at (at + count) }
+        requires { at + count ≤ length self.now }
+        ensures { result.now ≡ slice_range self.now at (at + count) }
     {
         &self.items[at..at + count]
     }
@@ -33,9 +41,9 @@ impl FrameBytes {
     /// A part, to be written over.
     #[inline(always)]
     pub fn part_mut(&mut self, at: usize, count: usize) -> &mut [u8]
-        requires { at + count ≤ vec_len self.old.items }
+        requires { at + count ≤ length self.old }
         ensures* writes_back { sem 𝓛 (LendsPart self.entry at result) }
-        ensures value { result.now ≡ slice_range self.old.items.items at (at + count) }
+        ensures value { result.now ≡ slice_range self.old at (at + count) }
     {
         self.items.slice_mut(at..at + count)
     }
@@ -43,9 +51,9 @@ impl FrameBytes {
     /// Writes bytes over those from a place on.
     #[inline(always)]
     pub fn write(&mut self, at: usize, from: &[u8])
-        requires { at + length from.now ≤ vec_len self.old.items }
-        ensures items { self.new.items.items ≡ overlaid self.old.items.items at from.now }
-        ensures len { vec_len self.new.items ≡ vec_len self.old.items }
+        requires { at + length from.now ≤ length self.old }
+        ensures items { self.new ≡ overlaid self.old at from.now }
+        ensures len { length self.new ≡ length self.old }
     {
         write_over(self.items.as_mut_slice(), at, from);
     }

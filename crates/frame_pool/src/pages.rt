@@ -43,7 +43,7 @@ fn nothings(alloc: Global, count: u16) -> Result<Vec<Option<u16>>, AllocError>
 }
 
 impl StorePages {
-    ghost use Rattle.frame_pool.specs.Places.{CameIn, fresh_places, place_of, page_at, frame_of_index, left, index_out, resident_at};
+    ghost use Rattle.frame_pool.specs.Places.{CameIn, fresh_places, place_of, page_at, left_at, index_out};
     ghost use Rattle.frame_pool.specs.PlacesView.{places_of};
 
     /// No page is resident.
@@ -96,7 +96,7 @@ impl StorePages {
     #[inline]
     pub fn leave(&mut self, index: usize)
         requires { index < vec_len self.old.resident }
-        ensures { places_of self.new ≡ left (places_of self.old) index (resident_at (places_of self.old) index) (frame_of_index (places_of self.old) index) }
+        ensures { places_of self.new ≡ left_at (places_of self.old) index }
     {
         let page = take_out(&mut self.resident, index);
         let place = usize::from(page);

@@ -1,12 +1,14 @@
 ghost use Rattle.std.specs.Prelude.{◌≡◌, ◌+◌, ◌*◌, ◌<◌, ◌≤◌, ◌==◌, if◌then◌else◌, [], false, length, slice_index, vec_len, replicate, is_some, fold, slice_range, IfOk, IfSome};
 ghost use Rattle.frame_pool.specs.Below.{between, has, overlaid, page_bytes, sem};
 ghost use Rattle.frame_pool.specs.Sizes.{private_frames, frame_count, line_place, line_size};
+ghost use Rattle.frame_pool.specs.Pool.{marked_with};
 
 use super::frame_bytes::FrameBytes;
 use super::pages::StorePages;
 use super::sizes::{line_at, line_bytes, line_place, page_bytes, page_place, private_frames};
 use lines::{LineSet, OwnedList, PageSize};
 use std::alloc::{AllocError, Global};
+use std::marker::Model;
 
 /// What bringing a page in came to: the frame that it is in, and the page that went out for it.
 #[derive(Clone, Copy)]
@@ -30,9 +32,18 @@ pub struct FramePool {
     places: StorePages,
     marked: Vec<LineSet>,
     kept: OwnedList<u8>,
-    ghost bytes_sized: { vec_len bytes.items ≡ frame_count places.page places.frames * page_bytes places.page },
-    ghost marked_sized: { vec_len marked ≡ vec_len places.frame_of },
-    ghost kept_sized: { length kept ≡ vec_len places.frame_of * page_bytes places.page },
+}
+
+impl Model for FramePool {
+    ghost use Rattle.frame_pool.specs.declared.model.Pool.{Pool};
+
+    ghost Value = { Pool };
+
+    ghost use Rattle.frame_pool.specs.View.{shown, HasSizes};
+
+    ghost view = { shown };
+
+    ghost invariant = { HasSizes };
 }
 
 /// So many times no line.
@@ -50,9 +61,9 @@ fn zeros(alloc: Global, count: usize) -> Result<OwnedList<u8>, AllocError>
 }
 
 impl FramePool {
-    ghost use Rattle.frame_pool.specs.Pool.{Brought, fresh, frame_at, page_at, marks_at, part_of, frame_bytes, line_in_frame, line_kept, line_shown, gone, page_out, with_room, settled, undone, emptied, laid, line_laid, with_bytes, lines_of_part};
-    ghost use Rattle.frame_pool.specs.View.{pool_of};
-    ghost use Rattle.frame_pool.specs.PoolLending.{LendsFrame, LendsMarked, with_marked};
+    ghost use Rattle.frame_pool.specs.Pool.{Brought, fresh, frame_at, page_at, marks_at, part_of, frame_bytes, line_in_frame, line_kept, line_shown, gone, page_out, with_room, settled, undone, emptied, laid, line_laid, page_laid, page_start, lines_of_part};
+    ghost use Rattle.frame_pool.specs.Seen.{IsSeen};
+    ghost use Rattle.frame_pool.specs.PoolLending.{LendsFrame, LendsMarked};
 
     /// A pool with so many frames for pages of a store that has so many. No page is resident. It takes all memory that the
     /// pool will need, or fails for want of it.
@@ -64,7 +75,8 @@ impl FramePool {
     ) -> Result<FramePool, AllocError>
         requires some { 2 ≤ frames }
         requires few { frames ≤ 1024 }
-        ensures { IfOk result (λ pool. pool_of pool ≡ fresh page frames pages) }
+        ensures value { IfOk result (λ pool. pool ≡ fresh page frames pages) }
+        ensures seen { IfOk result IsSeen }
     {
         Ok(FramePool {
             bytes: FrameBytes::zeros(alloc, page_place(page, private_frames(page) + frames))?,
@@ -76,18 +88,19 @@ impl FramePool {
 
     /// The resident pages, in the order in which they came.
     pub fn resident(&self) -> &[u16]
-        ensures { result.now ≡ (pool_of self.now).resident }
+        ensures { result.now ≡ self.now.resident }
     {
         &self.places.resident
     }
 
     /// The frame that a page is in: some frame of the store, exactly where the page is resident.
     #[inline(always)]
+    #[tactic(auto, using(crate::proofs::PoolLemmas::frame_stored, std::proofs::lemmas::Bool::Decides::nat_tests))]
     pub fn frame_of(&self, page: u16) -> Option<u16>
-        ensures value { result ≡ frame_at (pool_of self.now) page }
-        ensures resident { is_some result ≡ has (pool_of self.now).resident page }
-        ensures above { IfSome result (λ frame. private_frames (pool_of self.now).page ≤ frame) }
-        ensures below { IfSome result (λ frame. frame < frame_count (pool_of self.now).page (pool_of self.now).frames) }
+        ensures value { result ≡ frame_at self.now page }
+        ensures resident { is_some result ≡ has self.now.resident page }
+        ensures above { IfSome result (λ frame. private_frames self.now.page ≤ frame) }
+        ensures below { IfSome result (λ frame. frame < frame_count self.now.page self.now.frames) }
     {
         self.places.frame_of(page)
     }
@@ -95,7 +108,7 @@ impl FramePool {
     /// The page of the store in a frame, if there is one.
     #[inline(always)]
     pub fn page_in(&self, frame: u16) -> Option<u16>
-        ensures { result ≡ page_at (pool_of self.now) frame }
+        ensures { result ≡ page_at self.now frame }
     {
         self.places.page_in(frame)
     }
@@ -103,7 +116,7 @@ impl FramePool {
     /// The page that goes out for another: none while a frame is free, else the first that isn't to stay.
     #[inline(always)]
     pub fn page_out(&self, keep: Option<u16>) -> Option<u16>
-        ensures { result ≡ page_out (pool_of self.now) keep }
+        ensures { result ≡ page_out self.now keep }
     {
         let index = self.places.index_out(keep)?;
         Some(self.places.resident[index])
@@ -113,11 +126,13 @@ impl FramePool {
     /// out, and its marked lines are kept. What its frame held is still there: it is to be filled.
     #[inline(always)]
     pub fn bring(&mut self, page: u16, keep: Option<u16>) -> Slot
-        requires page { page < length (pool_of self.old).frame_of }
-        requires absent { has (pool_of self.old).resident page ≡ false }
-        ensures out { result.out ≡ page_out (pool_of self.old) keep }
-        ensures brought { Brought (pool_of self.old) (pool_of self.new) page keep result.frame }
+        requires page { page < length self.old.frame_of }
+        requires absent { has self.old.resident page ≡ false }
+        ensures out { result.out ≡ page_out self.old keep }
+        ensures brought { Brought self.old self.new page keep result.frame }
+        ensures seen { IsSeen self.new }
     {
+        let _places = &self.places;
         let out = self.make_room(keep);
         Slot {
             frame: self.places.come(page),
@@ -127,10 +142,11 @@ impl FramePool {
 
     /// The page that isn't to stay goes out, if no frame is free.
     #[inline(always)]
+    #[tactic(auto, using(crate::proofs::PoolLemmas::out_some, crate::proofs::PoolLemmas::out_none, crate::proofs::SoundLemmas::none_room, std::proofs::lemmas::Bool::Decides::nat_tests))]
     fn make_room(&mut self, keep: Option<u16>) -> Option<u16>
-        ensures out { result ≡ page_out (pool_of self.old) keep }
-        ensures value { pool_of self.new ≡ with_room (pool_of self.old) keep }
-        ensures room { vec_len self.new.places.resident < self.new.places.frames }
+        ensures out { result ≡ page_out self.old keep }
+        ensures value { self.new ≡ with_room self.old keep }
+        ensures room { length self.new.resident < self.new.frames }
     {
         match self.places.index_out(keep) {
             Some(index) => Some(self.leave(index)),
@@ -141,10 +157,10 @@ impl FramePool {
     /// The page at an index of the resident ones leaves its frame.
     #[inline(always)]
     fn leave(&mut self, index: usize) -> u16
-        requires { index < length (pool_of self.old).resident }
-        ensures page { result ≡ slice_index (pool_of self.old).resident index }
-        ensures value { pool_of self.new ≡ gone (pool_of self.old) (slice_index (pool_of self.old).resident index) }
-        ensures fewer { vec_len self.new.places.resident + 1 ≡ vec_len self.old.places.resident }
+        requires { index < length self.old.resident }
+        ensures page { result ≡ slice_index self.old.resident index }
+        ensures value { self.new ≡ gone self.old (slice_index self.old.resident index) }
+        ensures fewer { length self.new.resident + 1 ≡ length self.old.resident }
     {
         let page = self.places.resident[index];
         let frame = self.places.frame_of(page).unwrap_or(0);
@@ -163,9 +179,9 @@ impl FramePool {
     /// Lends a frame, to be filled.
     #[inline(always)]
     pub fn page_mut(&mut self, frame: u16) -> &mut [u8]
-        requires { frame < frame_count (pool_of self.old).page (pool_of self.old).frames }
-        ensures* writes_back { sem 𝓛 (LendsFrame self.entry (frame * page_bytes (pool_of self.entry.now).page) result) }
-        ensures value { result.now ≡ frame_bytes (pool_of self.old) frame }
+        requires { frame < frame_count self.old.page self.old.frames }
+        ensures* writes_back { sem 𝓛 (LendsFrame self.entry (page_start self.entry.now frame) result) }
+        ensures value { result.now ≡ frame_bytes self.old frame }
     {
         let size = self.places.page;
         self.bytes
@@ -177,7 +193,7 @@ impl FramePool {
     pub fn private_part(&self, seat: u8, at: usize, count: usize) -> &[u8]
         requires seat { seat < 16 }
         requires within { at + count ≤ 16384 }
-        ensures { result.now ≡ slice_range (pool_of self.now).bytes (seat * 16384 + at) (seat * 16384 + at + count) }
+        ensures { result.now ≡ slice_range self.now.bytes (seat * 16384 + at) (seat * 16384 + at + count) }
     {
         self.bytes.part(usize::from(seat) * 16384 + at, count)
     }
@@ -186,16 +202,18 @@ impl FramePool {
     pub fn private_mut(&mut self, seat: u8) -> &mut [u8]
         requires { seat < 16 }
         ensures* writes_back { sem 𝓛 (LendsFrame self.entry (seat * 16384) result) }
-        ensures value { result.now ≡ slice_range (pool_of self.old).bytes (seat * 16384) (seat * 16384 + 16384) }
+        ensures value { result.now ≡ slice_range self.old.bytes (seat * 16384) (seat * 16384 + 16384) }
     {
         self.bytes.part_mut(usize::from(seat) * 16384, 16384)
     }
 
     /// The marked lines of a page, as they are kept, lie over those of its frame.
     #[inline(always)]
+    #[tactic(auto, using(crate::proofs::PoolLemmas::frame_within, crate::proofs::PoolLemmas::is_seen))]
     pub fn lay_kept(&mut self, page: u16)
-        requires { page < length (pool_of self.old).frame_of }
-        ensures { pool_of self.new ≡ laid (pool_of self.old) page }
+        requires { page < length self.old.frame_of }
+        ensures value { self.new ≡ laid self.old page }
+        ensures seen { IsSeen self.new }
     {
         if let Some(frame) = self.places.frame_of(page) {
             let marks = self.written(page);
@@ -210,9 +228,10 @@ impl FramePool {
     /// The kept bytes of a page lie over those of a frame.
     #[inline(always)]
     fn lay_page(&mut self, page: u16, frame: u16)
-        requires page { page < length (pool_of self.old).frame_of }
-        requires frame { frame < frame_count (pool_of self.old).page (pool_of self.old).frames }
-        ensures { let size = page_bytes (pool_of self.old).page in pool_of self.new ≡ with_bytes (pool_of self.old) (frame * size) (slice_range (pool_of self.old).kept (page * size) (page * size + size)) }
+        requires page { page < length self.old.frame_of }
+        requires frame { frame < frame_count self.old.page self.old.frames }
+        ensures value { self.new ≡ page_laid page frame self.old }
+        ensures seen { IsSeen self.new }
     {
         let size = self.places.page;
         let from = page_place(size, page);
@@ -224,9 +243,10 @@ impl FramePool {
 
     /// Kept lines of a page lie over those of a frame, one after another.
     fn lay_lines(&mut self, page: u16, frame: u16, lines: LineSet)
-        requires page { page < length (pool_of self.old).frame_of }
-        requires frame { frame < frame_count (pool_of self.old).page (pool_of self.old).frames }
-        ensures { pool_of self.new ≡ fold (line_laid page frame) (pool_of self.old) lines }
+        requires page { page < length self.old.frame_of }
+        requires frame { frame < frame_count self.old.page self.old.frames }
+        ensures value { self.new ≡ fold (line_laid page frame) self.old lines }
+        ensures seen { IsSeen self.old → IsSeen self.new }
     {
         for line in lines.lines() {
             self.lay_line(page, frame, line);
@@ -235,10 +255,11 @@ impl FramePool {
 
     /// A kept line of a page lies over that of a frame.
     fn lay_line(&mut self, page: u16, frame: u16, line: u8)
-        requires page { page < length (pool_of self.old).frame_of }
-        requires frame { frame < frame_count (pool_of self.old).page (pool_of self.old).frames }
+        requires page { page < length self.old.frame_of }
+        requires frame { frame < frame_count self.old.page self.old.frames }
         requires line { line < 16 }
-        ensures { pool_of self.new ≡ line_laid page frame (pool_of self.old) line }
+        ensures value { self.new ≡ line_laid page frame self.old line }
+        ensures seen { IsSeen self.new }
     {
         let at = self.place(Spot { frame, line });
         let size = self.places.page;
@@ -250,19 +271,19 @@ impl FramePool {
     /// Where a line of a frame begins.
     #[inline(always)]
     fn place(&self, at: Spot) -> usize
-        requires frame { at.frame < frame_count (pool_of self.now).page (pool_of self.now).frames }
+        requires frame { at.frame < frame_count self.now.page self.now.frames }
         requires line { at.line < 16 }
-        ensures value { result ≡ line_place (pool_of self.now).page at.frame at.line }
-        ensures within { result + line_size (pool_of self.now).page ≤ vec_len self.now.bytes.items }
+        ensures value { result ≡ line_place self.now.page at.frame at.line }
+        ensures within { result + line_size self.now.page ≤ length self.now.bytes }
     {
         line_place(self.places.page, at.frame, at.line)
     }
 
     /// One line of a frame.
     fn line(&self, at: Spot) -> &[u8]
-        requires frame { at.frame < frame_count (pool_of self.now).page (pool_of self.now).frames }
+        requires frame { at.frame < frame_count self.now.page self.now.frames }
         requires line { at.line < 16 }
-        ensures { result.now ≡ line_in_frame (pool_of self.now) at.frame at.line }
+        ensures { result.now ≡ line_in_frame self.now at.frame at.line }
     {
         self.bytes
             .part(self.place(at), line_bytes(self.places.page))
@@ -271,9 +292,9 @@ impl FramePool {
     /// A part of a frame, from an offset on.
     #[inline(always)]
     pub fn part(&self, frame: u16, at: usize, count: usize) -> &[u8]
-        requires frame { frame < frame_count (pool_of self.now).page (pool_of self.now).frames }
-        requires within { at + count ≤ page_bytes (pool_of self.now).page }
-        ensures { result.now ≡ part_of (pool_of self.now) frame at count }
+        requires frame { frame < frame_count self.now.page self.now.frames }
+        requires within { at + count ≤ page_bytes self.now.page }
+        ensures { result.now ≡ part_of self.now frame at count }
     {
         self.bytes
             .part(page_place(self.places.page, frame) + at, count)
@@ -282,8 +303,8 @@ impl FramePool {
     /// So many bytes of the frames, from a spot on.
     #[inline(always)]
     pub fn spot_part(&self, spot: usize, count: usize) -> &[u8]
-        requires { spot + count ≤ length (pool_of self.now).bytes }
-        ensures { result.now ≡ slice_range (pool_of self.now).bytes spot (spot + count) }
+        requires { spot + count ≤ length self.now.bytes }
+        ensures { result.now ≡ slice_range self.now.bytes spot (spot + count) }
     {
         self.bytes.part(spot, count)
     }
@@ -291,9 +312,9 @@ impl FramePool {
     /// Lends so many bytes of the frames, from a spot on, to be written. Marks stay.
     #[inline(always)]
     pub fn spot_mut(&mut self, spot: usize, count: usize) -> &mut [u8]
-        requires { spot + count ≤ length (pool_of self.old).bytes }
+        requires { spot + count ≤ length self.old.bytes }
         ensures* writes_back { sem 𝓛 (LendsFrame self.entry spot result) }
-        ensures value { result.now ≡ slice_range (pool_of self.old).bytes spot (spot + count) }
+        ensures value { result.now ≡ slice_range self.old.bytes spot (spot + count) }
     {
         self.bytes.part_mut(spot, count)
     }
@@ -301,36 +322,25 @@ impl FramePool {
     /// Lends a part of a frame, from an offset on, to be written. If the frame is a page's of the store, the lines of the
     /// part are marked.
     #[inline(always)]
+    #[tactic(auto, using(crate::proofs::PoolLemmas::page_in_frame, std::proofs::lemmas::Bool::Decides::nat_tests))]
     pub fn part_mut(&mut self, frame: u16, at: usize, count: usize) -> &mut [u8]
-        requires frame { frame < frame_count (pool_of self.old).page (pool_of self.old).frames }
-        requires within { at + count ≤ page_bytes (pool_of self.old).page }
-        ensures* writes_back { sem 𝓛 (LendsMarked self.entry frame (lines_of_part (pool_of self.entry.now).page at count) (frame * page_bytes (pool_of self.entry.now).page + at) result) }
-        ensures value { result.now ≡ part_of (pool_of self.old) frame at count }
+        requires frame { frame < frame_count self.old.page self.old.frames }
+        requires within { at + count ≤ page_bytes self.old.page }
+        ensures* writes_back { sem 𝓛 (LendsMarked self.entry frame at count result) }
+        ensures value { result.now ≡ part_of self.old frame at count }
     {
         let place = page_place(self.places.page, frame) + at;
-        self.mark(frame, self.lines_of_part(at, count));
+        let lines = self.lines_of_part(at, count);
+        let page = self.places.page_in(frame);
+        mark(&mut self.marked, page, lines);
         self.bytes.part_mut(place, count)
-    }
-
-    /// Marks lines of the page of the store in a frame, if there is one.
-    #[inline(always)]
-    #[tactic(auto, using(crate::proofs::PoolLemmas::page_in_frame, std::proofs::lemmas::Bool::Decides::nat_tests))]
-    fn mark(&mut self, frame: u16, lines: LineSet)
-        ensures value { self.new ≡ with_marked self.old frame lines }
-        ensures bytes { self.new.bytes ≡ self.old.bytes }
-        ensures places { self.new.places ≡ self.old.places }
-    {
-        if let Some(page) = self.places.page_in(frame) {
-            let place = usize::from(page);
-            self.marked[place] = self.marked[place].union(lines);
-        }
     }
 
     /// The lines in which a part of a page lies.
     #[inline(always)]
     fn lines_of_part(&self, at: usize, count: usize) -> LineSet
-        requires { at + count ≤ page_bytes (pool_of self.now).page }
-        ensures { result ≡ lines_of_part (pool_of self.now).page at count }
+        requires { at + count ≤ page_bytes self.now.page }
+        ensures { result ≡ lines_of_part self.now.page at count }
     {
         if count == 0 {
             return LineSet::none();
@@ -342,8 +352,8 @@ impl FramePool {
     /// The lines of a page that are marked as written.
     #[inline(always)]
     pub fn written(&self, page: u16) -> LineSet
-        requires { page < length (pool_of self.now).frame_of }
-        ensures { result ≡ marks_at (pool_of self.now) page }
+        requires { page < length self.now.frame_of }
+        ensures { result ≡ marks_at self.now page }
     {
         self.marked[usize::from(page)]
     }
@@ -351,9 +361,10 @@ impl FramePool {
     /// The bytes of a line of a page: in its frame, or where it is in none as they are kept.
     #[tactic(auto, using(crate::proofs::PoolLemmas::frame_within))]
     pub fn written_line(&self, page: u16, line: u8) -> &[u8]
-        requires page { page < length (pool_of self.now).frame_of }
+        requires page { page < length self.now.frame_of }
         requires line { line < 16 }
-        ensures { result.now ≡ line_shown (pool_of self.now) page line }
+        ensures value { result.now ≡ line_shown self.now page line }
+        ensures seen { IsSeen self.now }
     {
         match self.places.frame_of(page) {
             Some(frame) => self.line(Spot { frame, line }),
@@ -363,9 +374,9 @@ impl FramePool {
 
     /// The kept bytes of a line of a page.
     fn line_kept(&self, page: u16, line: u8) -> &[u8]
-        requires page { page < length (pool_of self.now).frame_of }
+        requires page { page < length self.now.frame_of }
         requires line { line < 16 }
-        ensures { result.now ≡ line_kept (pool_of self.now) page line }
+        ensures { result.now ≡ line_kept self.now page line }
     {
         let size = self.places.page;
         let at = line_place(size, page, line);
@@ -374,17 +385,18 @@ impl FramePool {
 
     /// Lines of a page are no longer marked.
     pub fn settle(&mut self, page: u16, lines: LineSet)
-        requires { page < length (pool_of self.old).frame_of }
-        ensures { pool_of self.new ≡ settled (pool_of self.old) page lines }
+        requires { page < length self.old.frame_of }
+        ensures { self.new ≡ settled self.old page lines }
     {
         let place = usize::from(page);
         self.marked[place] = self.marked[place].difference(lines);
     }
 
     /// A page leaves its frame, if it is in one, and these of its lines are forgotten.
+    #[tactic(auto, using(crate::proofs::PoolLemmas::gone_none, crate::proofs::PoolLemmas::not_resident, std::proofs::lemmas::Bool::Decides::nat_tests))]
     pub fn undo(&mut self, page: u16, lines: LineSet)
-        requires { page < length (pool_of self.old).frame_of }
-        ensures { pool_of self.new ≡ undone (pool_of self.old) page lines }
+        requires { page < length self.old.frame_of }
+        ensures { self.new ≡ undone self.old page lines }
     {
         self.settle(page, lines);
         if let Some(index) = self.places.index_of(page) {
@@ -394,7 +406,7 @@ impl FramePool {
 
     /// All pages leave their frames. Their marked lines are kept.
     pub fn empty(&mut self)
-        ensures { pool_of self.new ≡ emptied (pool_of self.old) }
+        ensures { self.new ≡ emptied self.old }
     {
         while !self.places.resident.is_empty() {
             let _ = self.leave(0);
@@ -402,14 +414,26 @@ impl FramePool {
     }
 }
 
+/// Marks lines of a page, if there is one.
+#[inline(always)]
+fn mark(marked: &mut Vec<LineSet>, page: Option<u16>, lines: LineSet)
+    requires { IfSome page (λ page. page < vec_len marked.old) }
+    ensures { marked.new.items ≡ marked_with marked.old.items page lines }
+{
+    if let Some(page) = page {
+        let place = usize::from(page);
+        marked[place] = marked[place].union(lines);
+    }
+}
+
 /// Bytes of a page are kept from a place on, if a line of it is marked.
 #[inline(always)]
-fn keep_over(kept: &mut OwnedList<u8>, at: usize, bytes: &[u8], marks: LineSet)
-    requires { at + length bytes.now ≤ length kept.old }
-    ensures value { kept.new ≡ (if length marks == 0 then kept.old else overlaid kept.old at bytes.now) }
+fn keep_over(kept: &mut OwnedList<u8>, at: usize, part: &[u8], marks: LineSet)
+    requires { at + length part.now ≤ length kept.old }
+    ensures value { kept.new ≡ (if length marks == 0 then kept.old else overlaid kept.old at part.now) }
     ensures len { length kept.new ≡ length kept.old }
 {
     if !marks.is_empty() {
-        kept.write(at, bytes);
+        kept.write(at, part);
     }
 }

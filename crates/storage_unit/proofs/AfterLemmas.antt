@@ -36,7 +36,7 @@ there-frame state sound place there = by_frame (frame_at state.pool (page_of sta
 pub shared-after : (state : Reach) (sound : IsSound state) (from : ℕ) (bytes : List ℕ) (place frame : ℕ) → frame_at state.pool (page_of state.directory place) ≡ Some frame
     → byte_of (put_at state (Shared from) bytes) (Shared place) ≡ put_byte bytes from place (byte_of state (Shared place))
 shared-after state sound from bytes place frame is =
-    let there = sound.seen.there (page_of state.directory place) frame is in
+    let there = sound.fits.seen.there (page_of state.directory place) frame is in
     ap (λ (o : Option ℕ). option_map_or (byte_in_frame state.directory (put_in_store state.directory state.pool from bytes) place) o 0) is
     ∙ place-put state.directory state.pool from bytes place frame there (frame-room state sound frame (frame-below state sound (page_of state.directory place) frame there).1)
     ∙ ap (put_byte bytes from place) (sym (ap (λ (o : Option ℕ). option_map_or (byte_in_frame state.directory state.pool place) o 0) is))
@@ -131,7 +131,7 @@ module _ (state : Reach) (sound : IsSound state) (address : ℕ) (bytes : List �
         by_frame None at_b = cc
         by_frame (Some frame) at_b =
             let (room, all) = private-room state sound at n a (lies state sound address n at u) is in
-            let high = (frame-below state sound (page_of state.directory b) frame (sound.seen.there (page_of state.directory b) frame at_b)).0 in
+            let high = (frame-below state sound (page_of state.directory b) frame (sound.fits.seen.there (page_of state.directory b) frame at_b)).0 in
             cc (over-part state.pool.bytes ((state.runner - 1) * 16384 + a) bytes (frame * page_bytes page + b % page_bytes page) (omega (arith, room, all)) (λ j less same. absurd (omega (arith, same, less, room, frame-high page frame high))))
     by_place (Shared a) (Private b) v is found v_is =
         let spot = (state.runner - 1) * 16384 + b in

@@ -16,15 +16,14 @@ pub use Rattle.flat_machine.specs.Touched.{lines_at, touched}
 pub use Rattle.flat_machine.specs.declared.machine.Located.{Located}
 pub use Rattle.flat_machine.specs.declared.machine.Located.TheVariants.{Private, Refused, Shared}
 pub use Rattle.flat_machine.specs.declared.machine.Program.{Program}
-pub use Rattle.frame_pool.proofs.LendLemmas.{lent-part, marked-seen}
+pub use Rattle.frame_pool.proofs.LendLemmas.{lent-part}
 pub use Rattle.frame_pool.proofs.PoolLemmas.{gone-from, lines-below}
-pub use Rattle.frame_pool.proofs.SeenLemmas.{Stays, frame-long, gone-absent, gone-frame, gone-stays, pool-seen, seen-gone, some-within}
+pub use Rattle.frame_pool.proofs.SeenLemmas.{Stays, frame-long, gone-absent, gone-frame, gone-stays, seen-gone, seen-lent, seen-marked, some-within}
 pub use Rattle.frame_pool.proofs.SoundLemmas.{page_part}
 pub use Rattle.frame_pool.specs.Pool.{Brought, emptied, frame_at, frame_bytes, gone, paging_after, laid, line_kept, line_laid, lines_of_part, marked_in, marks_at, page_at, page_out, part_of, settled, with_bytes, with_marks, with_room}
-pub use Rattle.frame_pool.specs.PoolLending.{with_frame_part, with_marked}
+pub use Rattle.frame_pool.specs.PoolLending.{with_frame_part}
 pub use Rattle.frame_pool.specs.Seen.{IsSeen}
 pub use Rattle.frame_pool.specs.Sizes.{frame_count, line_place, line_size, private_frames}
-pub use Rattle.frame_pool.specs.View.{pool_of}
 pub use Rattle.frame_pool.specs.declared.model.Pool.{Pool}
 pub use Rattle.page_table.proofs.FindLemmas.{is-held, look_up-held, look_up-is, look_up-none}
 pub use Rattle.page_table.specs.Keys.{key_of, key_to}

@@ -75,12 +75,12 @@ module _ (state : Reach) (sound : IsSound state) (at : Virtual) (n : ℕ) (some 
       omega (
         arith,
         page_part frame (frame_count state.pool.page state.pool.frames) (page_bytes state.directory.page) (found-below state at frame sound is),
-        sound.seen.bytes,
-        ap (λ s. frame_count state.pool.page state.pool.frames * page_bytes s) sound.size,
+        sound.fits.seen.bytes,
+        ap (λ s. frame_count state.pool.page state.pool.frames * page_bytes s) sound.fits.size,
       ) in
       let long : length (slice_range state.pool.bytes (frame * page_bytes state.directory.page + at.byte) (frame * page_bytes state.directory.page + at.byte + n)) ≡ n =
       simp (length-take, length-drop) (omega (arith, fits, within)) in
-      ap (λ s. slice_range state.pool.bytes (frame * page_bytes s + at.byte) (frame * page_bytes s + at.byte + n)) sound.size
+      ap (λ s. slice_range state.pool.bytes (frame * page_bytes s + at.byte) (frame * page_bytes s + at.byte + n)) sound.fits.size
       ∙ same_number_lists (slice_range state.pool.bytes (frame * page_bytes state.directory.page + at.byte) (frame * page_bytes state.directory.page + at.byte + n)) (bytes_shown state (place_of state.directory at) n)
       (long ∙ sym (shown-long state (place_of state.directory at) n))
       (λ k below.

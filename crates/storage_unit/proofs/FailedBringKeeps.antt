@@ -18,6 +18,8 @@ module _ (d : Layout) (old new : Pool) (committed bytes : List ℕ) (page : ℕ)
         page_in = whole.page_in;
         marked = whole.marked;
         kept = whole.kept;
+        some = whole.some;
+        apart = whole.apart;
         resident = whole.resident;
         there = whole.there;
         back = whole.back;

@@ -21,16 +21,7 @@ record Stands (size : PageSize) (segments : List (ℕ × ℕ)) (key : Key) (page
 module _ (size : PageSize) where
   -- the same with one more in front
   begin-cons : (identifier : ℕ) (x : ℕ × ℕ) (xs : List (ℕ × ℕ)) → begin_of size (x ∷ xs) identifier ≡ (if is_named identifier x then 0 else bytes_of (page_bytes size) x + begin_of size xs identifier)
-  begin-cons identifier x xs = by_test (is_named identifier x)
-    where
-      before : ℕ
-      before = prefix_len (λ y. not (is_named identifier y)) xs
-
-      by_test : (passes : Bool) → sum_by (bytes_of (page_bytes size)) (take (cond (not passes) (1 + before) 0) (x ∷ xs)) ≡ (if passes then 0 else bytes_of (page_bytes size) x + sum_by (bytes_of (page_bytes size)) (take before xs))
-      by_test true = refl
-      by_test false =
-          let one : 1 + before ≡ suc before = omega arith in
-          ap (λ m. sum_by (bytes_of (page_bytes size)) (take m (x ∷ xs))) one ∙ sum_by-cons (bytes_of (page_bytes size)) x (take before xs)
+  begin-cons identifier x xs = grind (arith, nat_tests, sum_by-cons (bytes_of (page_bytes size)) x)
 
   -- the key of the page of a place is the page of its segment
   key-of-offset :
@@ -71,16 +62,9 @@ module _ (size : PageSize) where
       (low : ℕ) (segments : List (ℕ × ℕ)) (identifier bytes : ℕ) → IsStrictlyIncreasing (low ∷ map (λ segment. segment.0) segments)
       → long_of size segments identifier ≡ Some bytes → low < identifier
   above low [] identifier bytes ascends found = absurd (cc)
-  above low (x ∷ xs) identifier bytes ascends found = by_name (is_named identifier x) refl found (λ later. above x.0 xs identifier bytes (tail low (x.0 ∷ map (λ segment. segment.0) xs) ascends) later)
-    where
-      first : low < x.0
-      first = head low x.0 (map (λ segment. segment.0) xs) ascends
-
-      by_name :
-          (named : Bool) → is_named identifier x ≡ named → option_map (bytes_of (page_bytes size)) (cond named (Some x) (find (is_named identifier) xs)) ≡ Some bytes
-          → (long_of size xs identifier ≡ Some bytes → x.0 < identifier) → low < identifier
-      by_name true is found rest = grind (arith, nat_tests, is, first)
-      by_name false is found rest = omega (arith, first, rest found)
+  above low (x ∷ xs) identifier bytes ascends found =
+      let rest = above x.0 xs identifier bytes (tail low (x.0 ∷ map (λ segment. segment.0) xs) ascends) in
+      grind (arith, nat_tests, rest, head low x.0 (map (λ segment. segment.0) xs) ascends)
 
   stands : (segments : List (ℕ × ℕ)) (page : ℕ) → IsStrictlyIncreasing (map (λ segment. segment.0) segments) → page < sum_by (λ segment. segment.1) segments → Stands size segments (key_among segments page) page
   stands [] page ascends below = absurd (omega (arith, below))
@@ -139,7 +123,4 @@ module _ (d : Layout) (legal : IsLegal d.segments) where
 
       whole : (segments : List (ℕ × ℕ)) → begin_of d.page segments segment % page_bytes d.page ≡ 0
       whole [] = none d.page
-      whole (x ∷ xs) = ap (λ n. n % page_bytes d.page) (begin-cons d.page segment x xs) ∙ by_name (is_named segment x) (whole xs)
-        where
-          by_name : (named : Bool) → begin_of d.page xs segment % page_bytes d.page ≡ 0 → (if named then 0 else bytes_of (page_bytes d.page) x + begin_of d.page xs segment) % page_bytes d.page ≡ 0
-          by_name named rest = grind (arith, nat_tests)
+      whole (x ∷ xs) = grind (arith, nat_tests, begin-cons d.page segment x xs, whole xs)

@@ -30,5 +30,5 @@ laid-low state sound page k low = by_frame (frame_at state.pool page) refl
         → slice_index (option_map_or (λ frame. fold (line_laid page frame) state.pool (slice_index_or state.pool.marked page [])) o state.pool).bytes k ≡ slice_index state.pool.bytes k
     by_frame None is = refl
     by_frame (Some frame) is =
-        let above = (frame-below state sound page frame (sound.seen.there page frame is)).0 in
-        fold-low page frame k (slice_index_or state.pool.marked page []) state.pool (subst (λ s. 262144 ≤ frame * page_bytes s) (sym sound.size) (frame-high state.directory.page frame above)) (all-private state sound) low
+        let above = (frame-below state sound page frame (sound.fits.seen.there page frame is)).0 in
+        fold-low page frame k (slice_index_or state.pool.marked page []) state.pool (subst (λ s. 262144 ≤ frame * page_bytes s) (sym sound.fits.size) (frame-high state.directory.page frame above)) (all-private state sound) low

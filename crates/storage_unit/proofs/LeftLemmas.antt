@@ -96,7 +96,7 @@ module _ (state : Reach) (sound : IsSound state) where
     pub frame-stays : (place frame : ℕ) → frame_at state.pool (page_of state.directory place) ≡ Some frame
         → byte_in_frame state.directory (let now : Pool = record state.pool { bytes = overlaid state.pool.bytes (seat * 16384 + a) bytes } in now) place frame ≡ byte_in_frame state.directory state.pool place frame
     frame-stays place frame is =
-        let high = (frame-below state sound (page_of state.directory place) frame (sound.seen.there (page_of state.directory place) frame is)).0 in
+        let high = (frame-below state sound (page_of state.directory place) frame (sound.fits.seen.there (page_of state.directory place) frame is)).0 in
         over-part state.pool.bytes (seat * 16384 + a) bytes (frame * page_bytes state.directory.page + place % page_bytes state.directory.page) room
         (λ j less same. absurd (omega (arith, same, less, fits, few, frame-high state.directory.page frame high)))
 
@@ -114,7 +114,7 @@ module _ (state : Reach) (sound : IsSound state) where
     put = put_in_store state.directory state.pool a bytes
 
     line-inside : (place : ℕ) → place < byte_count state.directory → page_of_line (line_of state.directory place) < length state.pool.marked
-    line-inside place below = omega (arith, page-of-line state.directory.page place, page-below state.directory place below, sound.seen.marked, sound.pages)
+    line-inside place below = omega (arith, page-of-line state.directory.page place, page-below state.directory place below, sound.fits.seen.marked, sound.fits.pages)
 
     -- a place of a frame
     pub frame-after : (place frame : ℕ) → frame_at state.pool (page_of state.directory place) ≡ Some frame

@@ -17,6 +17,7 @@ pub mod ProbeLemmas
 pub mod PutLemmas
 pub mod StoreLemmas
 pub mod PartLemmas
+pub mod FitsLemmas
 pub mod LineLemmas
 pub mod AfterLemmas
 pub mod AccessLemmas

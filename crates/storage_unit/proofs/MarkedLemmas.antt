@@ -1,5 +1,5 @@
 -- A store to lines that are marked leaves the marks.
-use Rattle.storage_unit.proofs.Common.{◌≡◌, ℕ, Bool, ◌+◌, ◌-◌, ◌*◌, ◌/◌, ◌%◌, ◌<◌, ◌≤◌, ◌==◌, ◌&&◌, ◌||◌, nat_le, if◌then◌else◌, true, false, List, [], length, sym, ◌∙◌, ap, subst, arith, nat_tests, Option, Some, inl, inr, cases_Bool, option_map_or, slice_set, page_bytes, line_bytes, start_of, line_of, page_of, page_of_line, between, where-alike, is_in_where-below, has, Virtual, key_of, look_up, Pool, marks_at, marked_in, with_marks, with_bytes, lines_of_part, with_frame_part, with_marked, pool_of, lent-part, refl, Access, Unit, Reach, is_private, offset_of, place_of, put_at, seat_pages, table_of, IsSound, Lies, reach_of, set-get_or, AreMarked, IsOpenFrom, OpenLine, ReadyRows, known, AreReady, after_store, AreClear, AreUsed}
+use Rattle.storage_unit.proofs.Common.{◌≡◌, ℕ, Bool, ◌+◌, ◌-◌, ◌*◌, ◌/◌, ◌%◌, ◌<◌, ◌≤◌, ◌==◌, ◌&&◌, ◌||◌, nat_le, if◌then◌else◌, true, false, List, [], length, sym, ◌∙◌, ap, subst, arith, nat_tests, Option, Some, inl, inr, cases_Bool, option_map_or, slice_set, page_bytes, line_bytes, start_of, line_of, page_of, page_of_line, between, where-alike, is_in_where-below, has, Virtual, key_of, look_up, Pool, marks_at, marked_in, with_marks, with_bytes, lines_of_part, with_frame_part, lent-part, refl, Access, Unit, Reach, is_private, offset_of, place_of, put_at, seat_pages, table_of, IsSound, Lies, reach_of, set-get_or, AreMarked, IsOpenFrom, OpenLine, ReadyRows, known, AreReady, after_store, AreClear, AreUsed}
 use Rattle.storage_unit.proofs.SizeLemmas.{seat-frame, seat-page, page-of-line, same-page-on, line-in, rest-on}
 use Rattle.storage_unit.proofs.PlaceLemmas.{finds-own, place-byte}
 use Rattle.storage_unit.proofs.LineLemmas.{lies-one, page-found}
@@ -51,12 +51,12 @@ module _ (state : Reach) (sound : IsSound state) (at : Virtual) (n : ℕ) (some 
     | inr other ↦
         let page = page_of state.directory place in
         ap (λ (o : Option ℕ). option_map_or (λ page. with_marks state.pool page (lines_of_part state.pool.page at.byte n)) o state.pool) (page-found state sound at frame (lies-one state at n some lies) other found)
-        ∙ ap (λ size. with_marks state.pool page (lines_of_part size at.byte n)) sound.size
+        ∙ ap (λ size. with_marks state.pool page (lines_of_part size at.byte n)) sound.fits.size
         ∙ ap (λ (list : List (List ℕ)). (let now : Pool = record state.pool { marked = list } in now))
         (ap (slice_set state.pool.marked page)
         (where-alike (λ x. has (marks_at state.pool page) x || has (lines_of_part state.directory.page at.byte n) x) (λ x. has (marks_at state.pool page) x)
         (λ x few. either (has (marks_at state.pool page) x) (has (lines_of_part state.directory.page at.byte n) x) (among other x few))
-        ∙ sound.marks page)
+        ∙ sound.fits.marks page)
         ∙ set-get_or state.pool.marked page [])
   ]
     where
@@ -69,29 +69,29 @@ module _ (unit : Unit) (wants : Access) (line : OpenLine) (some : 0 < wants.byte
   lies : Lies (reach_of unit) line.first wants.bytes
   lies = open-lies unit wants line.first line.frame opens.opens
 
-  over-same : pool_of (with_frame_part unit.pool line.spot part)
-      ≡ pool_of (with_frame_part (with_marked unit.pool line.frame (lines_of_part unit.pool.places.page line.first.byte wants.bytes)) (line.frame * page_bytes unit.pool.places.page + line.first.byte) part)
+  over-same : with_frame_part unit.pool line.spot part
+      ≡ with_frame_part (marked_in unit.pool line.frame (lines_of_part unit.pool.page line.first.byte wants.bytes)) (line.frame * page_bytes unit.pool.page + line.first.byte) part
   over-same =
       lent-part unit.pool line.spot part (omega (arith, long, open-room unit wants line some opens wants.bytes refl))
-      ∙ ap (λ at. with_bytes (pool_of unit.pool) at part) (spot-is unit wants line some opens wants.bytes refl)
-      ∙ ap (λ (p : Pool). with_bytes p (line.frame * page_bytes unit.pool.places.page + line.first.byte) part)
+      ∙ ap (λ at. with_bytes unit.pool at part) (spot-is unit wants line some opens wants.bytes refl)
+      ∙ ap (λ (p : Pool). with_bytes p (line.frame * page_bytes unit.pool.page + line.first.byte) part)
       (sym (marks-same (reach_of unit) (unit-sound unit) line.first wants.bytes some lies opens.opens.within line.frame opens.opens.frame (opens.written stores)))
-      ∙ sym (pool-after unit line.first line.frame line.first.byte wants.bytes opens.opens.frame refl opens.opens.within (lines_of_part unit.pool.places.page line.first.byte wants.bytes) part long)
+      ∙ sym (pool-after unit line.first line.frame line.first.byte wants.bytes opens.opens.frame refl opens.opens.within (lines_of_part unit.pool.page line.first.byte wants.bytes) part long)
 
-  pub stored-over : (let now : Reach = record (reach_of unit) { pool = pool_of (with_frame_part unit.pool line.spot part) } in now) ≡ put_at (reach_of unit) (place_of unit.directory line.first) part
+  pub stored-over : (let now : Reach = record (reach_of unit) { pool = with_frame_part unit.pool line.spot part } in now) ≡ put_at (reach_of unit) (place_of unit.directory line.first) part
   stored-over =
       ap (λ (p : Pool). (let now : Reach = record (reach_of unit) { pool = p } in now)) over-same
       ∙ stored-part unit line.first line.frame line.first.byte wants.bytes opens.opens.frame refl opens.opens.within some lies part long
 
   pub ready-over : (after : ReadyRows) → ((address : ℕ) → known after address ≡ after_store unit.directory.page line.first wants.bytes address (known unit.rows address))
-      → AreReady after (pool_of (with_frame_part unit.pool line.spot part)).bytes unit.runner
+      → AreReady after (with_frame_part unit.pool line.spot part).bytes unit.runner
   ready-over after left =
       subst (λ (list : List ℕ). AreReady after list unit.runner) (sym (ap (λ (p : Pool). p.bytes) over-same))
       (ready-part unit line.first line.frame line.first.byte wants.bytes opens.opens.frame refl opens.opens.within some lies part long after left)
 
   pub clear-over : (after : List ℕ) → (is_private line.first.segment ≡ false → after ≡ unit.used)
       → (is_private line.first.segment ≡ true → AreUsed unit.used after (line.first.segment - 3840) (offset_of unit.directory.page line.first + wants.bytes))
-      → AreClear after (pool_of (with_frame_part unit.pool line.spot part)).bytes
+      → AreClear after (with_frame_part unit.pool line.spot part).bytes
   clear-over after stays more =
       subst (λ (list : List ℕ). AreClear after list) (sym (ap (λ (p : Pool). p.bytes) over-same))
       (clear-part unit line.first line.frame line.first.byte wants.bytes opens.opens.frame refl opens.opens.within some lies part long after stays more)

@@ -50,7 +50,7 @@ module _ (f : Reach) (sound : IsSound f) (p : Program) (windows : HasWindows f p
   lies-at at is = ap (place_at f.directory) (sym is) ∙ lies-where f p sound.legal windows access.address access.bytes access.store
 
   open-line : (line : ℕ) (store : Bool) → is_resident f line ≡ true → is_refused f line store ≡ false → IsOpenLine f line store
-  open-line line store resident permits = record { resident = sound.seen.resident (page_of_line line) ∙ resident; permits = permits }
+  open-line line store resident permits = record { resident = sound.fits.seen.resident (page_of_line line) ∙ resident; permits = permits }
 
   -- a permitted access touches open lines
   pub permitted-open : answered f.registers (is_in_frame f) (refuses f) access ≡ Probe.Permitted → IsOpen f (lines_of_access p f.directory access)
@@ -90,4 +90,4 @@ module _ (f : Reach) (sound : IsSound f) (p : Program) (windows : HasWindows f p
           → answered_at f.directory.page (is_in_frame f) (refuses f) access (Ok at) ≡ Probe.Permitted
       by_place (Private a) lies all = answered-private f at access.bytes access a refl lies
       by_place (Refused code) lies all = absurd (never-refused f.directory at code lies)
-      by_place (Shared a) lies all = lines-permitted f at access.bytes access a refl lies (λ k below. let one = all (line_of f.directory (a + k)) (each-byte f.directory a access.bytes k below) in (sym (sound.seen.resident (page_of_line (line_of f.directory (a + k)))) ∙ one.resident, one.permits))
+      by_place (Shared a) lies all = lines-permitted f at access.bytes access a refl lies (λ k below. let one = all (line_of f.directory (a + k)) (each-byte f.directory a access.bytes k below) in (sym (sound.fits.seen.resident (page_of_line (line_of f.directory (a + k)))) ∙ one.resident, one.permits))

@@ -1,5 +1,5 @@
 -- The lines that a unit knows may be accessed.
-use Rattle.storage_unit.proofs.Common.{cases_lt, inl, inr, ◌≡◌, ℕ, ◌+◌, ◌-◌, ◌*◌, ◌/◌, ◌%◌, ◌<◌, ◌≤◌, ◌^◌, Bool, true, false, refl, sym, ◌∙◌, ap, subst, arith, List, Option, Some, None, Ok, cond, not, ◌&&◌, find, option_map, slice_index_or, nat_tests, PageSize, Two, Four, page_bytes, line_bytes, bytes_of, is_named, Layout, length_of, start_of, line_of, page_of_line, grant_of, lets, Key, Placed, entry_at, key_of, look_up, SegmentRegister, Virtual, Registers, located_under, located_by, Access, Probe, answered_at, if_permitted, Reach, is_private, offset_of, place_of, on, table_of, is_kept_from, is_refused, is_in_frame, refuses, IsSound, IsLegal, Lies, bytes_shown, bytes_from, byte_at, eqb-true, ◌==◌, Unit, reach_of, length, length-take, length-drop, slice_range, pool_of, has, is_marked, [], marked_in, union, slice_set, get_or-set_same, get_or-set_other, get_or_past, is_in_where-below, page_at, with_marks, option_map_or, put_at, Located, IsRefusal, OpenLine, lets_at, is_marked_at, IsOpened, AreOpened, AreMarked, IsOpenAt, IsOpenFrom}
+use Rattle.storage_unit.proofs.Common.{cases_lt, inl, inr, ◌≡◌, ℕ, ◌+◌, ◌-◌, ◌*◌, ◌/◌, ◌%◌, ◌<◌, ◌≤◌, ◌^◌, Bool, true, false, refl, sym, ◌∙◌, ap, subst, arith, List, Option, Some, None, Ok, cond, not, ◌&&◌, find, option_map, slice_index_or, nat_tests, PageSize, Two, Four, page_bytes, line_bytes, bytes_of, is_named, Layout, length_of, start_of, line_of, page_of_line, grant_of, lets, Key, Placed, entry_at, key_of, look_up, SegmentRegister, Virtual, Registers, located_under, located_by, Access, Probe, answered_at, if_permitted, Reach, is_private, offset_of, place_of, on, table_of, is_kept_from, is_refused, is_in_frame, refuses, IsSound, IsLegal, Lies, bytes_shown, bytes_from, byte_at, eqb-true, ◌==◌, Unit, reach_of, length, length-take, length-drop, slice_range, has, is_marked, [], marked_in, union, slice_set, get_or-set_same, get_or-set_other, get_or_past, is_in_where-below, page_at, with_marks, option_map_or, put_at, Located, IsRefusal, OpenLine, lets_at, is_marked_at, IsOpened, AreOpened, AreMarked, IsOpenAt, IsOpenFrom}
 use Rattle.page_table.specs.declared.open_lines.OpenLines.{OpenLines}
 use Rattle.page_table.specs.KnownLines.{known, KnowsNothing, with_line}
 use Rattle.page_table.specs.LinePlaces.{place_of as line_place}
@@ -146,7 +146,7 @@ module _ (state : Reach) (sound : IsSound state) (address n : ℕ) (store : Bool
 -- the block of a byte of an access that may be made, from its first byte on, is open
 module _ (unit : Unit) (wants : Access) (first : Virtual) (frame past : ℕ) (at : Virtual) (line : OpenLine) (below : past < wants.bytes) (opens : IsOpenAt (reach_of unit) wants first frame) (is-at : at ≡ moved first past)
     (from : line.first ≡ rounded at) (of : line.frame ≡ frame) (spot : line.spot ≡ frame * page_bytes unit.directory.page + at.byte / 128 * 128)
-    (stores : line.write ≡ true → wants.store ≡ true) (marked : line.write ≡ true → is_private at.segment ≡ false → is_marked_at unit.directory (pool_of unit.pool).marked at ≡ true) where
+    (stores : line.write ≡ true → wants.store ≡ true) (marked : line.write ≡ true → is_private at.segment ≡ false → is_marked_at unit.directory unit.pool.marked at ≡ true) where
   abbrev state : Reach
   state = reach_of unit
 
@@ -173,7 +173,7 @@ module _ (unit : Unit) (wants : Access) (first : Virtual) (frame past : ℕ) (at
       (weaker unit.registers (wants.address + past) 1 wants.store line.write at less
       (byte-located state (unit-sound unit) wants.address wants.bytes past wants.store first below opens.within opens.located ∙ ap (λ v. Ok v) (sym is-at)))
 
-  block-opened : IsOpened unit.directory unit.table unit.registers (pool_of unit.pool).marked unit.runner ((wants.address + past) / 128) line
+  block-opened : IsOpened unit.directory unit.table unit.registers unit.pool.marked unit.runner ((wants.address + past) / 128) line
   block-opened = record {
     located = block-from ∙ ap (λ v. Ok v) (sym from);
     frame =
@@ -186,21 +186,21 @@ module _ (unit : Unit) (wants : Access) (first : Virtual) (frame past : ℕ) (at
         (sym (lets-same unit.directory unit.legal unit.table unit.runner (rounded at) (at.byte % 128) wants.store (omega arith) (omega arith))
         ∙ ap (λ at. lets_at unit.directory unit.table unit.runner at wants.store) (sym back) ∙ allowed (ap (λ (v : Virtual). is_private v.segment) (sym from) ∙ own));
     written = λ own is.
-        ap (is_marked_at unit.directory (pool_of unit.pool).marked) from
-        ∙ sym (marked-same unit.directory unit.legal (pool_of unit.pool).marked (rounded at) (at.byte % 128) (omega arith) (omega arith))
-        ∙ ap (is_marked_at unit.directory (pool_of unit.pool).marked) (sym back) ∙ marked is (ap (λ (v : Virtual). is_private v.segment) (sym from) ∙ own);
+        ap (is_marked_at unit.directory unit.pool.marked) from
+        ∙ sym (marked-same unit.directory unit.legal unit.pool.marked (rounded at) (at.byte % 128) (omega arith) (omega arith))
+        ∙ ap (is_marked_at unit.directory unit.pool.marked) (sym back) ∙ marked is (ap (λ (v : Virtual). is_private v.segment) (sym from) ∙ own);
   }
 
   pub opened-with :
       (after : OpenLines) → ((block : ℕ) → known after block ≡ with_line ((wants.address + past) / 128) line block (known unit.lines block))
-      → AreOpened after unit.directory unit.table unit.registers (pool_of unit.pool).marked unit.runner
+      → AreOpened after unit.directory unit.table unit.registers unit.pool.marked unit.runner
   opened-with after left block other is = by_tests (block == (wants.address + past) / 128) (line_place block == line_place ((wants.address + past) / 128)) refl (sym (left block) ∙ is)
     where
       by_tests : (here near : Bool) → (block == (wants.address + past) / 128) ≡ here → cond here (Some line) (cond near None (known unit.lines block)) ≡ Some other
-          → IsOpened unit.directory unit.table unit.registers (pool_of unit.pool).marked unit.runner block other
+          → IsOpened unit.directory unit.table unit.registers unit.pool.marked unit.runner block other
       by_tests true near same told =
-          subst (λ b. IsOpened unit.directory unit.table unit.registers (pool_of unit.pool).marked unit.runner b other) (sym (eqb-true block ((wants.address + past) / 128) same))
-          (subst (IsOpened unit.directory unit.table unit.registers (pool_of unit.pool).marked unit.runner ((wants.address + past) / 128)) (let kept : line ≡ other = cc in kept) block-opened)
+          subst (λ b. IsOpened unit.directory unit.table unit.registers unit.pool.marked unit.runner b other) (sym (eqb-true block ((wants.address + past) / 128) same))
+          (subst (IsOpened unit.directory unit.table unit.registers unit.pool.marked unit.runner ((wants.address + past) / 128)) (let kept : line ≡ other = cc in kept) block-opened)
       by_tests false true same told = absurd (let clash : None ≡ Some other = told in cc)
       by_tests false false same told = unit.opened block other told
 
@@ -209,10 +209,10 @@ marks-stay : (marked : List (List ℕ)) (page : ℕ) (lines : List ℕ) (p x : �
     → has (slice_index_or (slice_set marked page (union (slice_index_or marked page []) lines)) p []) x ≡ true
 marks-stay marked page lines p x few is = grind (arith, nat_tests, get_or-set_same, get_or-set_other, get_or_past, is_in_where-below)
 
-pub opened-more : (unit : Unit) (frame : ℕ) (lines : List ℕ) → AreOpened unit.lines unit.directory unit.table unit.registers (marked_in (pool_of unit.pool) frame lines).marked unit.runner
-opened-more unit frame lines = by_page (page_at (pool_of unit.pool) frame)
+pub opened-more : (unit : Unit) (frame : ℕ) (lines : List ℕ) → AreOpened unit.lines unit.directory unit.table unit.registers (marked_in unit.pool frame lines).marked unit.runner
+opened-more unit frame lines = by_page (page_at unit.pool frame)
   where
-    by_page : (o : Option ℕ) → AreOpened unit.lines unit.directory unit.table unit.registers (option_map_or (λ page. with_marks (pool_of unit.pool) page lines) o (pool_of unit.pool)).marked unit.runner
+    by_page : (o : Option ℕ) → AreOpened unit.lines unit.directory unit.table unit.registers (option_map_or (λ page. with_marks unit.pool page lines) o unit.pool).marked unit.runner
     by_page None = unit.opened
     by_page (Some page) = λ block line is.
         let told = unit.opened block line is in
@@ -221,7 +221,7 @@ opened-more unit frame lines = by_page (page_at (pool_of unit.pool) frame)
           frame = told.frame;
           spot = told.spot;
           allowed = told.allowed;
-          written = λ own write. marks-stay (pool_of unit.pool).marked page lines _ _ (omega arith) (told.written own write);
+          written = λ own write. marks-stay unit.pool.marked page lines _ _ (omega arith) (told.written own write);
         }
 
 -- what may be accessed may be after a store
@@ -245,9 +245,9 @@ opened-low unit wants line is =
 -- an access among bytes of one page that are located together, each of which the entry lets, may be made
 module _ (unit : Unit) (wants : Access) (line : OpenLine) (all : ℕ) (some : 0 < wants.bytes) (few : wants.bytes ≤ 255) (fits : wants.address % 128 + wants.bytes ≤ all)
     (together : located_by unit.registers (wants.address / 128 * 128) all wants.store ≡ Ok line.first) (room : line.first.byte + all ≤ page_bytes unit.directory.page)
-    (told : IsOpened unit.directory unit.table unit.registers (pool_of unit.pool).marked unit.runner (wants.address / 128) line)
+    (told : IsOpened unit.directory unit.table unit.registers unit.pool.marked unit.runner (wants.address / 128) line)
     (lets : is_private line.first.segment ≡ false → (k : ℕ) → k < all → lets_at unit.directory unit.table unit.runner (moved line.first k) wants.store ≡ true)
-    (marks : wants.store ≡ true → is_private line.first.segment ≡ false → (k : ℕ) → k < all → is_marked_at unit.directory (pool_of unit.pool).marked (moved line.first k) ≡ true) where
+    (marks : wants.store ≡ true → is_private line.first.segment ≡ false → (k : ℕ) → k < all → is_marked_at unit.directory unit.pool.marked (moved line.first k) ≡ true) where
   abbrev at : Virtual
   at = moved line.first (wants.address % 128)
 
@@ -288,12 +288,12 @@ module _ (unit : Unit) (wants : Access) (line : OpenLine) (all : ℕ) (some : 0 
     opens = subst (λ v. IsOpenAt (reach_of unit) wants v found.frame) (sym from) (subst (IsOpenAt (reach_of unit) wants at) (sym of) opened-at);
     spot = omega (arith, spot, told.spot, ap (λ n. n * page_bytes unit.directory.page) of, ap (λ (v : Virtual). v.byte) from);
     written = λ stores. subst (λ v. AreMarked (reach_of unit) v wants.bytes) (sym from)
-        (λ own past below. ap (is_marked unit.directory (pool_of unit.pool)) (further past) ∙ marks stores own (wants.address % 128 + past) (omega (arith, fits, below)));
+        (λ own past below. ap (is_marked unit.directory unit.pool) (further past) ∙ marks stores own (wants.address % 128 + past) (omega (arith, fits, below)));
   }
 
 -- the bytes of a line that is known
 module _ (unit : Unit) (block : ℕ) (line : OpenLine) (store : Bool) (less : (store && not line.write) ≡ false) (is : known unit.lines block ≡ Some line) where
-  told : IsOpened unit.directory unit.table unit.registers (pool_of unit.pool).marked unit.runner block line
+  told : IsOpened unit.directory unit.table unit.registers unit.pool.marked unit.runner block line
   told = unit.opened block line is
 
   here : Under unit.registers (block * 128) 128 line.first
@@ -314,8 +314,8 @@ module _ (unit : Unit) (block : ℕ) (line : OpenLine) (store : Bool) (less : (s
   line-lets : is_private line.first.segment ≡ false → (k : ℕ) → k < 128 → lets_at unit.directory unit.table unit.runner (moved line.first k) store ≡ true
   line-lets own k below = lets-same unit.directory unit.legal unit.table unit.runner line.first k store line-whole below ∙ lets-load unit.table unit.directory unit.runner line.first line.write store less (told.allowed own)
 
-  line-marks : store ≡ true → is_private line.first.segment ≡ false → (k : ℕ) → k < 128 → is_marked_at unit.directory (pool_of unit.pool).marked (moved line.first k) ≡ true
-  line-marks stores own k below = marked-same unit.directory unit.legal (pool_of unit.pool).marked line.first k line-whole below ∙ told.written own (grind (arith, nat_tests))
+  line-marks : store ≡ true → is_private line.first.segment ≡ false → (k : ℕ) → k < 128 → is_marked_at unit.directory unit.pool.marked (moved line.first k) ≡ true
+  line-marks stores own k below = marked-same unit.directory unit.legal unit.pool.marked line.first k line-whole below ∙ told.written own (grind (arith, nat_tests))
 
 -- an access in a block that is known, to store where the line is, may be made
 pub opened-line :
@@ -377,16 +377,16 @@ module _ (unit : Unit) (wants : Access) (first : Virtual) (frame : ℕ) (opens :
 
 -- and at its spot those bytes are in the frames
 module _ (unit : Unit) (wants : Access) (line : OpenLine) (some : 0 < wants.bytes) (opens : IsOpenFrom (reach_of unit) wants line) (n : ℕ) (same : n ≡ wants.bytes) where
-  pub spot-is : line.spot ≡ line.frame * page_bytes unit.pool.places.page + line.first.byte
-  spot-is = opens.spot ∙ ap (λ size. line.frame * page_bytes size + line.first.byte) (sym unit.pool_size)
+  pub spot-is : line.spot ≡ line.frame * page_bytes unit.pool.page + line.first.byte
+  spot-is = opens.spot ∙ ap (λ size. line.frame * page_bytes size + line.first.byte) (sym unit.fits.size)
 
-  pub open-room : line.spot + n ≤ length (pool_of unit.pool).bytes
+  pub open-room : line.spot + n ≤ length unit.pool.bytes
   open-room = omega (arith, spot-is, same, room unit line.first line.frame line.first.byte wants.bytes opens.opens.frame refl opens.opens.within)
 
-  pub open-long : length (slice_range (pool_of unit.pool).bytes line.spot (line.spot + n)) ≡ n
+  pub open-long : length (slice_range unit.pool.bytes line.spot (line.spot + n)) ≡ n
   open-long = simp (length-take, length-drop) (omega (arith, open-room))
 
-  pub open-part : slice_range (pool_of unit.pool).bytes line.spot (line.spot + n) ≡ bytes_from (byte_at (reach_of unit)) wants.address wants.bytes
+  pub open-part : slice_range unit.pool.bytes line.spot (line.spot + n) ≡ bytes_from (byte_at (reach_of unit)) wants.address wants.bytes
   open-part =
       cc (
         part-shown (reach_of unit) (unit-sound unit) line.first wants.bytes some (open-lies unit wants line.first line.frame opens.opens) line.frame opens.opens.frame opens.opens.within,

@@ -1,28 +1,22 @@
 -- The pool after a part of a frame was written.
-use Rattle.storage_unit.proofs.Common.{◌≡◌, ℕ, Bool, ◌+◌, ◌*◌, ◌≤◌, List, length, ◌∙◌, ap, arith, Option, Some, length-take, length-drop, page_bytes, Layout, Virtual, key_of, look_up, Pool, marked_in, page_at, with_marks, with_bytes, part_of, with_frame_part, with_marked, pool_of, lent-part, marked-seen, option_map_or, Unit, table_of, keys_of, reach_of, nat_tests}
+use Rattle.storage_unit.proofs.Common.{◌≡◌, ℕ, Bool, ◌+◌, ◌*◌, ◌≤◌, List, length, ◌∙◌, ap, arith, Option, Some, length-take, length-drop, page_bytes, Layout, Virtual, key_of, look_up, Pool, marked_in, page_at, with_marks, with_bytes, part_of, with_frame_part, lent-part, option_map_or, Unit, table_of, keys_of, reach_of, nat_tests}
 use Rattle.storage_unit.proofs.CopyLemmas.{found-below}
 use Rattle.storage_unit.proofs.UnitLemmas.{unit-sound}
 
 module _ (unit : Unit) (at : Virtual) (frame byte n : ℕ) (is : look_up (table_of (reach_of unit)).keys (key_of at) ≡ Some frame) (same : byte ≡ at.byte) (within : at.byte + n ≤ page_bytes unit.directory.page) where
-  pub room : frame * page_bytes unit.pool.places.page + byte + n ≤ length unit.pool.bytes.items.items
+  pub room : frame * page_bytes unit.pool.page + byte + n ≤ length unit.pool.bytes
   room = grind (arith, nat_tests, found-below (reach_of unit), unit-sound unit)
 
-  pub part-long : length (part_of (pool_of unit.pool) frame byte n) ≡ n
+  pub part-long : length (part_of unit.pool frame byte n) ≡ n
   part-long = simp (length-take, length-drop) (omega (arith, room))
 
   -- the pool after the part was written
   pub pool-after : (lines part : List ℕ) → length part ≡ n
-      → pool_of (with_frame_part (with_marked unit.pool frame lines) (frame * page_bytes unit.pool.places.page + byte) part)
-      ≡ with_bytes (marked_in (pool_of unit.pool) frame lines) (frame * page_bytes unit.pool.places.page + byte) part
+      → with_frame_part (marked_in unit.pool frame lines) (frame * page_bytes unit.pool.page + byte) part
+      ≡ with_bytes (marked_in unit.pool frame lines) (frame * page_bytes unit.pool.page + byte) part
   pool-after lines part long =
-      lent-part (with_marked unit.pool frame lines) (frame * page_bytes unit.pool.places.page + byte) part (omega (arith, room, long, ap (λ (p : Pool). length p.bytes) (marked-seen unit.pool frame lines), bytes-same))
-      ∙ ap (λ (p : Pool). with_bytes p (frame * page_bytes unit.pool.places.page + byte) part) (marked-seen unit.pool frame lines)
-    where
-      bytes-same : length (marked_in (pool_of unit.pool) frame lines).bytes ≡ length unit.pool.bytes.items.items
-      bytes-same = by_page (page_at (pool_of unit.pool) frame)
-        where
-          by_page : (o : Option ℕ) → length (option_map_or (λ page. with_marks (pool_of unit.pool) page lines) o (pool_of unit.pool)).bytes ≡ length unit.pool.bytes.items.items
-          by_page o = grind (arith, nat_tests)
+      let bytes-same : length (marked_in unit.pool frame lines).bytes ≡ length unit.pool.bytes = grind (arith, nat_tests) in
+      lent-part (marked_in unit.pool frame lines) (frame * page_bytes unit.pool.page + byte) part (omega (arith, room, long, bytes-same))
 
 -- what stays of the pool
 pub record Same (old new : Pool) : Type 0 where

@@ -145,7 +145,7 @@ module _ (state : Reach) (sound : IsSound state) (at : Virtual) (n : ℕ) (some 
       let small : at.page < seat_pages state.directory.page = seat-page state.directory.page at.page at.byte n some fits in
       let inside : nat_lt at.page (seat_pages state.directory.page) ≡ true = grind (arith, nat_tests, small) in
       ap (λ s. look_up (table_of state).keys (key_to s at.page)) segment
-      ∙ finds-private state.directory sound.legal state.pool sound.seen sound.size sound.pages (pages_begun state.directory.page state.begun) other at.page few small
+      ∙ finds-private state.directory sound.legal state.pool sound.fits.seen sound.fits.size sound.fits.pages (pages_begun state.directory.page state.begun) other at.page few small
       ∙ ap (λ (on : Bool). if nat_lt at.page (if on then seat_pages state.directory.page else 0) then Some (other * seat_pages state.directory.page + at.page) else None) begun
       ∙ ap (λ (b : Bool). if b then Some (other * seat_pages state.directory.page + at.page) else None) inside
       ∙ ap (λ s. Some (s * seat_pages state.directory.page + at.page)) same
@@ -159,7 +159,7 @@ module _ (state : Reach) (sound : IsSound state) (at : Virtual) (n : ℕ) (some 
       let place = start_of state.directory at.segment + offset_of state.directory.page at in
       let here : offset_of state.directory.page at / page_bytes state.directory.page ≡ at.page = page-at state.directory.page at.page at.byte lies.within in
       let key = key-of-place state.directory sound.legal at.segment bytes (offset_of state.directory.page at) found (omega (arith, fits, some)) in
-      cc (finds-page state.directory sound.legal state.pool sound.seen sound.size sound.pages (pages_begun state.directory.page state.begun) (page_of state.directory place) (page-below state.directory place (place-below own)))
+      cc (finds-page state.directory sound.legal state.pool sound.fits.seen sound.fits.size sound.fits.pages (pages_begun state.directory.page state.begun) (page_of state.directory place) (page-below state.directory place (place-below own)))
 
   -- the place of a byte of the store in its page
   pub place-byte : (start_of state.directory at.segment + offset_of state.directory.page at) % page_bytes state.directory.page ≡ at.byte

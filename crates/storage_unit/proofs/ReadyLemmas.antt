@@ -118,10 +118,7 @@ ready-put state sound at bytes lies rows after ready left =
 pub ready-selected :
     (rows after : ReadyRows) (bytes : List ℕ) (runner next : ℕ) → AreReady rows bytes runner → ((address : ℕ) → known after address ≡ (if runner == next then known rows address else None))
     → AreReady after bytes next
-ready-selected rows after bytes runner next ready left = by_test (runner == next) refl left
-  where
-    by_test : (b : Bool) → (runner == next) ≡ b → ((address : ℕ) → known after address ≡ (if b then known rows address else None)) → AreReady after bytes next
-    by_test b same told = grind (arith, nat_tests)
+ready-selected rows after bytes runner next ready left = grind (arith, nat_tests, left, ready)
 
 -- a row more is known
 pub ready-with :
@@ -137,10 +134,7 @@ ready-with rows after bytes runner at row some fits of left ready = record {
 }
   where
     which : (address : ℕ) (found : Ready) → known after address ≡ Some found → ((address ≡ at) × (row ≡ found)) ⊎ (known rows address ≡ Some found)
-    which address found is = by_tests (address == at) (row_place address == row_place at) refl (sym (left address) ∙ is)
-      where
-        by_tests : (here near : Bool) → (address == at) ≡ here → cond here (Some row) (cond near None (known rows address)) ≡ Some found → ((address ≡ at) × (row ≡ found)) ⊎ (known rows address ≡ Some found)
-        by_tests here near same told = grind (arith, nat_tests)
+    which address found is = grind (arith, nat_tests, left address)
 
 -- the private bytes of who is selected are shown at the lowest addresses
 pub own-byte : (state : Reach) (sound : IsSound state) (offset : ℕ) → 1 ≤ state.runner → offset < 16384 → byte_at state offset ≡ private_byte state.pool.bytes state.runner offset
@@ -184,11 +178,7 @@ row-found state sound address first second (Some row) some here there is =
     (half address first here) (λ long. half (address + 2) second there) is
   where
     within : (at n : ℕ) → Some n ≡ halfword_of (byte_at state) at → at + 2 ≤ 16384
-    within at n shown = by_test (nat_le (at + 2) 16384) refl shown
-      where
-        by_test : (b : Bool) → nat_le (at + 2) 16384 ≡ b → Some n ≡ (if b then Some (big_number 2 (bytes_from (byte_at state) at 2)) else None) → at + 2 ≤ 16384
-        by_test true fits told = leb-true (at + 2) 16384 fits
-        by_test false past told = absurd (let clash : Some n ≡ None = told in cc)
+    within at n shown = grind (arith, nat_tests)
 
     half : (at n : ℕ) → Some n ≡ halfword_of (byte_at state) at → private_half state.pool.bytes state.runner at ≡ n
     half at n shown = let both : Some n ≡ Some (private_half state.pool.bytes state.runner at) = shown ∙ own-half state sound at some (within at n shown) in cc

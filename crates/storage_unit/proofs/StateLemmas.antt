@@ -1,5 +1,5 @@
 -- What the calls of a unit leave of its pool and its table.
-use Rattle.storage_unit.proofs.Common.{◌≡◌, ◌≢◌, ℕ, ◌+◌, ◌<◌, ◌≤◌, Bool, false, List, [], ◌∷◌, length, replicate, All, refl, sym, ◌∙◌, ap, subst, arith, get_or, Option, Some, None, ◌||◌, nat_lt, if◌then◌else◌, slice_set, fold, is_some, option_map, option_and_then, option_map_or, cases_eq, eq-eqb, length-set, set_past, get_or-set_same, get_or-set_other, get_or-replicate, length-replicate, get_or_past, same_lists, All-nil, Pair, get_or-map-range_with_len, Layout, page_count, IsLegal, IsOfPage, difference, passing, of_page_where, has, Key, Placed, without_frame, look_up, Pool, IsSeen, private_frames, frame_count, frame_at, page_at, gone, page_out, with_room, emptied, laid, line_laid, gone-from, gone-absent, gone-frame, gone-stays, seen-gone, Stays, key_of_page, AreOfPages, held_private, held_in, keys_with, keys_without, pages_begun, pool_of, Unit, nat_tests}
+use Rattle.storage_unit.proofs.Common.{◌≡◌, ◌≢◌, ℕ, ◌+◌, ◌<◌, ◌≤◌, Bool, false, List, [], ◌∷◌, length, replicate, All, refl, sym, ◌∙◌, ap, subst, arith, get_or, Option, Some, None, ◌||◌, nat_lt, if◌then◌else◌, slice_set, fold, is_some, option_map, option_and_then, option_map_or, cases_eq, eq-eqb, length-set, set_past, get_or-set_same, get_or-set_other, get_or-replicate, length-replicate, get_or_past, same_lists, All-nil, Pair, get_or-map-range_with_len, Layout, page_count, IsLegal, IsOfPage, difference, passing, of_page_where, has, Key, Placed, without_frame, look_up, Pool, IsSeen, private_frames, frame_count, frame_at, page_at, gone, page_out, with_room, emptied, laid, line_laid, gone-from, gone-absent, gone-frame, gone-stays, seen-gone, Stays, key_of_page, AreOfPages, held_private, held_in, keys_with, keys_without, pages_begun, Unit, nat_tests}
 use Rattle.page_table.specs.Buffer.{IsOfTable, page_of}
 use Rattle.storage_unit.proofs.LeaveLemmas.{emptied-frame}
 use Rattle.storage_unit.proofs.HeldLemmas.{above, below, keys-long, held-store, keys-store}
@@ -27,7 +27,7 @@ fold-stays (page ∷ pages) pool = grind (arith, nat_tests, fold-stays pages (go
 pub emptied-stays : (pool : Pool) → Stays pool (emptied pool)
 emptied-stays pool = fold-stays pool.resident pool
 
-fold-seen : (pages : List ℕ) (pool : Pool) → IsSeen pool → IsSeen (fold gone pool pages)
+pub fold-seen : (pages : List ℕ) (pool : Pool) → IsSeen pool → IsSeen (fold gone pool pages)
 fold-seen [] pool seen = seen
 fold-seen (page ∷ pages) pool seen = fold-seen pages (gone pool page) (seen-gone pool page seen)
 
@@ -42,11 +42,7 @@ emptied-page pool frame seen = by_page (page_at (emptied pool) frame) refl
 
 -- the pool when a page has gone out for another
 pub room-stays : (pool : Pool) (keep : Option ℕ) → IsSeen pool → IsSeen (with_room pool keep) × Stays pool (with_room pool keep)
-room-stays pool keep seen = by_out (page_out pool keep)
-  where
-    by_out : (o : Option ℕ) → IsSeen (option_map_or (gone pool) o pool) × Stays pool (option_map_or (gone pool) o pool)
-    by_out None = (seen, record { page = refl; frames = refl; bytes = refl; marked = refl; frame_of = refl })
-    by_out (Some page) = (seen-gone pool page seen, gone-stays pool page)
+room-stays pool keep seen = grind (arith, nat_tests, seen-gone pool, gone-stays pool, seen)
 
 pub room-none : (pool : Pool) (keep : Option ℕ) (page : ℕ) → frame_at pool page ≡ None → frame_at (with_room pool keep) page ≡ None
 room-none pool keep page none = grind (arith, nat_tests, gone-frame)
@@ -92,10 +88,7 @@ module _ (d : Layout) (legal : IsLegal d.segments) (pool : Pool) (seen : IsSeen 
   -- a frame holds nothing then if its page is among them, else what it held
   fold-key : (list : List ℕ) (from : List (Option Key)) (frame : ℕ) (e : Option Key) → frame < length from
       → get_or (fold (keys_without pool) from list) frame e ≡ (if option_map_or (has list) (page_at pool frame) false then None else get_or from frame e)
-  fold-key [] from frame e below = by_page (page_at pool frame)
-    where
-      by_page : (o : Option ℕ) → get_or from frame e ≡ (if option_map_or (has []) o false then None else get_or from frame e)
-      by_page o = grind (arith, nat_tests)
+  fold-key [] from frame e below = grind (arith, nat_tests)
   fold-key (page ∷ list) from frame e below =
       fold-key list (keys_without pool from page) frame e (omega (arith, below, fold-long pool (page ∷ []) from))
       ∙ by_frame (frame_at pool page) refl
@@ -139,9 +132,9 @@ module _ (d : Layout) (legal : IsLegal d.segments) (pool : Pool) (seen : IsSeen 
 
 -- a buffer without pairs is of every table
 -- the table has a place for each frame
-pub frames-held : (unit : Unit) → frame_count (pool_of unit.pool).page (pool_of unit.pool).frames ≤ length unit.table.keys
+pub frames-held : (unit : Unit) → frame_count unit.pool.page unit.pool.frames ≤ length unit.table.keys
 frames-held unit =
-    omega (arith, ap (λ s. frame_count s (pool_of unit.pool).frames) unit.pool_size, ap length unit.held, keys-long unit.directory (pages_begun unit.directory.page unit.begun) (pool_of unit.pool).frames (pool_of unit.pool).page_in)
+    omega (arith, ap (λ s. frame_count s unit.pool.frames) unit.fits.size, ap length unit.held, keys-long unit.directory (pages_begun unit.directory.page unit.begun) unit.pool.frames unit.pool.page_in)
 
 pub none-of_table : (keys : List (Option Key)) → IsOfTable (replicate 16 []) keys
 none-of_table keys = λ k d below.

@@ -11,12 +11,12 @@ one-of a b same = cc
 -- the frames have room for a page
 pub frame-room : (state : Reach) → IsSound state → (frame : ℕ) → frame < frame_count state.directory.page state.pool.frames → frame * page_bytes state.directory.page + page_bytes state.directory.page ≤ length state.pool.bytes
 frame-room state sound frame below =
-    omega (arith, page_part frame (frame_count state.directory.page state.pool.frames) (page_bytes state.directory.page) below, sound.seen.bytes ∙ ap (λ s. frame_count s state.pool.frames * page_bytes s) sound.size)
+    omega (arith, page_part frame (frame_count state.directory.page state.pool.frames) (page_bytes state.directory.page) below, sound.fits.seen.bytes ∙ ap (λ s. frame_count s state.pool.frames * page_bytes s) sound.fits.size)
 
 -- private storage is in the frames
 pub all-private : (state : Reach) → IsSound state → 262144 ≤ length state.pool.bytes
 all-private state sound =
-    omega (arith, private-whole state.directory.page, sound.seen.bytes ∙ ap (λ s. frame_count s state.pool.frames * page_bytes s) sound.size)
+    omega (arith, private-whole state.directory.page, sound.fits.seen.bytes ∙ ap (λ s. frame_count s state.pool.frames * page_bytes s) sound.fits.size)
 
 pub frame-below : (state : Reach) → IsSound state → (page frame : ℕ) → page_at state.pool frame ≡ Some page → (private_frames state.directory.page ≤ frame) × (frame < frame_count state.directory.page state.pool.frames)
 frame-below state sound page frame is = grind (arith, nat_tests)
@@ -50,29 +50,29 @@ module _ (state : Reach) (sound : IsSound state) (at : Virtual) (bytes : List �
         let none : page_at state.pool frame ≡ None =
         private-none state sound frame (subst (λ f. f < private_frames state.directory.page) same (seat-frame state.directory.page seat at.page few small)) in
         ap (λ (o : Option ℕ). (let now : Reach = record state { pool = with_bytes (option_map_or (λ page. with_marks state.pool page (lines_of_part state.pool.page at.byte (length bytes))) o state.pool) (frame * page_bytes state.pool.page + at.byte) bytes } in now)) none
-        ∙ ap (λ s. (let now : Reach = record state { pool = with_bytes state.pool (frame * page_bytes s + at.byte) bytes } in now)) sound.size
+        ∙ ap (λ s. (let now : Reach = record state { pool = with_bytes state.pool (frame * page_bytes s + at.byte) bytes } in now)) sound.fits.size
         ∙ ap (λ n. (let now : Reach = record state { pool = with_bytes state.pool n bytes } in now)) spot
         ∙ sym (ap (λ place. put_at state place bytes) (private-is state.directory at own))
     | inr other ↦
         let place = start_of state.directory at.segment + offset_of state.directory.page at in
         let byte : place % page_bytes state.directory.page ≡ at.byte = place-byte state sound at (length bytes) some lies in
         let there : page_at state.pool frame ≡ Some (page_of state.directory place) =
-        sound.seen.there (page_of state.directory place) frame (sym (finds-shared state sound at (length bytes) some lies other) ∙ found) in
+        sound.fits.seen.there (page_of state.directory place) frame (sym (finds-shared state sound at (length bytes) some lies other) ∙ found) in
         let room = frame-room state sound frame (frame-below state sound (page_of state.directory place) frame there).1 in
         let inside : place % page_bytes state.directory.page + length bytes ≤ page_bytes state.directory.page = omega (arith, byte, within) in
-        let low : page_of state.directory place < length state.pool.marked = omega (arith, sound.seen.marked, page-there (page_of state.directory place) frame there) in
+        let low : page_of state.directory place < length state.pool.marked = omega (arith, sound.fits.seen.marked, page-there (page_of state.directory place) frame there) in
         ap (λ (o : Option ℕ). (let now : Reach = record state { pool = with_bytes (option_map_or (λ p. with_marks state.pool p (lines_of_part state.pool.page at.byte (length bytes))) o state.pool) (frame * page_bytes state.pool.page + at.byte) bytes } in now)) there
-        ∙ ap (λ s. (let now : Reach = record state { pool = with_bytes (with_marks state.pool (page_of state.directory place) (lines_of_part s at.byte (length bytes))) (frame * page_bytes s + at.byte) bytes } in now)) sound.size
+        ∙ ap (λ s. (let now : Reach = record state { pool = with_bytes (with_marks state.pool (page_of state.directory place) (lines_of_part s at.byte (length bytes))) (frame * page_bytes s + at.byte) bytes } in now)) sound.fits.size
         ∙ ap (λ n. (let now : Reach = record state { pool = with_bytes (with_marks state.pool (page_of state.directory place) (lines_of_part state.directory.page n (length bytes))) (frame * page_bytes state.directory.page + n) bytes } in now)) (sym byte)
         ∙ ap (λ (list : List ℕ). (let now : Reach = record state { pool = record state.pool { bytes = list; marked = slice_set state.pool.marked (page_of state.directory place) (union (marks_at state.pool (page_of state.directory place)) (lines_of_part state.directory.page (place % page_bytes state.directory.page) (length bytes))) } } in now))
-        (page-bytes state.directory state.pool sound.seen sound.marks place bytes frame some inside there room)
+        (page-bytes state.directory state.pool sound.fits.seen sound.fits.marks place bytes frame some inside there room)
         ∙ ap (λ (list : List (List ℕ)). (let now : Reach = record state { pool = record state.pool { bytes = (put_in_store state.directory state.pool place bytes).bytes; marked = list } } in now))
-        (page-marks state.directory state.pool sound.seen sound.marks place bytes frame some inside there room low)
+        (page-marks state.directory state.pool sound.fits.seen sound.fits.marks place bytes frame some inside there room low)
         ∙ sym (ap (λ p. put_at state p bytes) (shared-is state.directory at other))
   ]
     where
       page-there : (page f : ℕ) → page_at state.pool f ≡ Some page → page < length state.pool.frame_of
-      page-there page f is = some-within state.pool.frame_of page f (sound.seen.back page f is)
+      page-there page f is = some-within state.pool.frame_of page f (sound.fits.seen.back page f is)
 
 -- bytes behind others, put after them
 module _ (state : Reach) (sound : IsSound state) (place : Located) (first second : List ℕ) (some : 0 < length first) (more : 0 < length second) where

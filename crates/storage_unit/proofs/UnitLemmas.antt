@@ -1,13 +1,9 @@
 -- What is known of every unit, for those that keep one.
-use Rattle.storage_unit.proofs.Common.{◌≡◌, ℕ, zero, suc, ◌<◌, true, false, refl, sym, ◌∙◌, subst, arith, Some, None, slice_index_or, nat_tests, Layout, IsLegal, SegmentRegister, private_register, Program, registers_of_program, register-window, named-low, pool-seen, Unit, Reach, private_segment, is_private, IsUnder, AreReached, IsSound, Fits, reach_of}
+use Rattle.storage_unit.proofs.Common.{◌≡◌, ℕ, zero, suc, ◌<◌, true, false, refl, sym, ◌∙◌, subst, arith, Some, None, slice_index_or, nat_tests, Layout, IsLegal, SegmentRegister, private_register, Program, registers_of_program, register-window, named-low, Unit, Reach, private_segment, is_private, IsUnder, AreReached, IsSound, Fits, reach_of}
 
 -- its state is sound
 pub unit-sound : (unit : Unit) → IsSound (reach_of unit)
-unit-sound unit = grind (arith, nat_tests, pool-seen)
-
--- so its pool is one of its store
-pub sound-fits : (state : Reach) → IsSound state → Fits state.directory state.pool
-sound-fits state sound = record { seen = sound.seen; size = sound.size; pages = sound.pages; marks = sound.marks }
+unit-sound unit = grind (arith, nat_tests)
 
 -- the registers of a program may be a seat's
 pub program-reached :

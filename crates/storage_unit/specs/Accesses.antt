@@ -1,26 +1,39 @@
 -- What an access does that is probed and made in one go.
-use Rattle.std.specs.Prelude.{◌≡◌, ℕ, Bool, true, if◌then◌else◌, List}
-use Rattle.storage_unit.specs.Below.{Access, answer_in, bytes_from, filled, if_permitted, Probe, stored_bytes}
+use Rattle.std.specs.Prelude.{◌≡◌, ℕ, Bool, true, if◌then◌else◌, List, Ok}
+use Rattle.storage_unit.specs.Below.{Access, answered_at, bytes_from, filled, if_permitted, Probe, stored_bytes, Virtual}
 use Rattle.storage_unit.specs.declared.model.Reach.{Reach}
-use Rattle.storage_unit.specs.Reach.{byte_at, is_in_frame, refuses, stored}
+use Rattle.storage_unit.specs.Reach.{answer_to, byte_at, is_in_frame, refuses, stored}
+
+-- an access of so many bytes that begins at a byte is answered so, whatever its address
+abbrev pub AnswersAt : Reach → Virtual → (bytes : ℕ) → (store : Bool) → Probe → Type 0
+AnswersAt state first bytes store told =
+    (access : Access) → access.bytes ≡ bytes → access.store ≡ store → told ≡ answered_at state.directory.page (is_in_frame state) (refuses state) access (Ok first)
+
+-- registers filled with the bytes of an access
+abbrev pub loaded : Reach → Access → (to : ℕ) → (sign : Bool) → List ℕ → List ℕ
+loaded state wants to sign registers = filled to sign (bytes_from (byte_at state) wants.address wants.bytes) registers
+
+-- and the bytes of registers stored
+abbrev pub saved : Reach → Access → (from : ℕ) → List ℕ → Reach
+saved state wants from registers = stored state wants.address (stored_bytes registers wants.bytes from)
 
 -- registers are filled with bytes, as they are probed and loaded
 pub record IsRead (old new : Reach) (wants : Access) (to : ℕ) (sign : Bool) (registers after : List ℕ) (told : Probe) : Type 0 where
-  pub answer : told ≡ answer_in (λ state. state.registers) is_in_frame refuses old wants
+  pub answer : told ≡ answer_to old wants
   pub state : new ≡ old
-  pub filled : after ≡ if_permitted told (filled to sign (bytes_from (byte_at old) wants.address wants.bytes) registers) registers
+  pub filled : after ≡ if_permitted told (loaded old wants to sign registers) registers
 
 -- the bytes of registers are stored, as they are probed
 pub record IsWritten (old new : Reach) (wants : Access) (from : ℕ) (registers : List ℕ) (told : Probe) : Type 0 where
-  pub answer : told ≡ answer_in (λ state. state.registers) is_in_frame refuses old wants
-  pub state : new ≡ if_permitted told (stored old wants.address (stored_bytes registers wants.bytes from)) old
+  pub answer : told ≡ answer_to old wants
+  pub state : new ≡ if_permitted told (saved old wants from registers) old
 
 -- registers are filled with bytes, which may be accessed, where that is answered; else they stay
 pub record IsReadIf (did : Bool) (state : Reach) (wants : Access) (to : ℕ) (sign : Bool) (registers after : List ℕ) : Type 0 where
-  pub permitted : did ≡ true → answer_in (λ s. s.registers) is_in_frame refuses state wants ≡ Probe.Permitted
-  pub filled : after ≡ (if did then filled to sign (bytes_from (byte_at state) wants.address wants.bytes) registers else registers)
+  pub permitted : did ≡ true → answer_to state wants ≡ Probe.Permitted
+  pub filled : after ≡ (if did then loaded state wants to sign registers else registers)
 
 -- the bytes of registers are stored, which may be accessed, where that is answered; else all stays
 pub record IsWrittenIf (did : Bool) (old new : Reach) (wants : Access) (from : ℕ) (registers : List ℕ) : Type 0 where
-  pub permitted : did ≡ true → answer_in (λ s. s.registers) is_in_frame refuses old wants ≡ Probe.Permitted
-  pub state : new ≡ (if did then stored old wants.address (stored_bytes registers wants.bytes from) else old)
+  pub permitted : did ≡ true → answer_to old wants ≡ Probe.Permitted
+  pub state : new ≡ (if did then saved old wants from registers else old)

@@ -10,7 +10,6 @@ pub use Rattle.flat_machine.specs.declared.machine.Located.TheVariants.{Private,
 pub use Rattle.frame_pool.specs.Pool.{Brought, emptied, frame_at, laid, marks_at, page_at, page_out, settled, undone, with_bytes}
 pub use Rattle.frame_pool.specs.Seen.{IsSeen}
 pub use Rattle.frame_pool.specs.Sizes.{frame_count, private_frames}
-pub use Rattle.frame_pool.specs.View.{pool_of}
 pub use Rattle.frame_pool.specs.declared.model.Pool.{Pool}
 pub use Rattle.lines.specs.Access.{lets}
 pub use Rattle.lines.specs.Conflicts.{Lines, page_of_line}

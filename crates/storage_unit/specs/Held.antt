@@ -1,6 +1,6 @@
 -- What the table of a unit holds, and what stands under the registers of the seat that is selected.
 use Rattle.std.specs.Prelude.{◌≡◌, ℕ, ◌+◌, ◌/◌, ◌%◌, ◌<◌, nat_lt, if◌then◌else◌, Bool, true, false, List, [], map, replicate, slice_index_or, slice_set, Option, Some, None, option_map}
-use Rattle.storage_unit.specs.Below.{frame_at, IsOfPage, Key, key_to, Layout, length_of, option_map_or, PageSize, Placed, Pool, private_frames, private_register, range_with_len, Registers}
+use Rattle.storage_unit.specs.Below.{frame_at, IsOfPage, Key, key_of, key_to, Layout, length_of, look_up, option_map_or, PageSize, Placed, Pool, private_frames, private_register, range_with_len, Registers, Virtual}
 use Rattle.lines.specs.declared.line_geometry.PageSize.TheVariants.{Two, Four}
 use Rattle.page_table.specs.declared.segment_regs.SegmentRegister.{SegmentRegister}
 use Rattle.storage_unit.specs.declared.model.Reach.{Reach}
@@ -43,6 +43,10 @@ first_keys segment count = map (λ index. Some (key_to segment index)) (range_wi
 -- the table of a unit
 abbrev pub table_of : Reach → Placed
 table_of state = record { keys = keys_of state.directory state.begun state.pool.frames state.pool.page_in; entries = state.entries }
+
+-- the frame that it has for the page of a byte
+abbrev pub frame_found : Reach → Virtual → Option ℕ
+frame_found state at = look_up (table_of state).keys (key_of at)
 
 -- the marks of each page are lines of it
 abbrev pub AreOfPages : List (List ℕ) → Type 0

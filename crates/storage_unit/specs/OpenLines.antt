@@ -1,25 +1,25 @@
 -- The lines that a unit knows: each may be accessed.
 use Rattle.std.specs.Prelude.{◌≡◌, ℕ, ◌+◌, ◌*◌, ◌%◌, ◌≤◌, ◌<◌, Bool, true, false, List, [], slice_index_or, Some, Ok}
-use Rattle.storage_unit.specs.Below.{Access, answer_in, entry_at, grant_of, has, key_of, Layout, lets, line_of, located_by, look_up, page_bytes, page_of_line, Placed, Probe, Registers, start_of, Virtual}
+use Rattle.storage_unit.specs.Below.{Access, entry_at, grant_of, has, key_of, Layout, lets, line_of, located_by, look_up, page_bytes, page_of_line, Placed, Probe, Registers, Virtual}
 use Rattle.page_table.specs.declared.open_lines.OpenLine.{OpenLine}
 use Rattle.page_table.specs.declared.open_lines.OpenLines.{OpenLines}
 use Rattle.page_table.specs.KnownLines.{known}
 use Rattle.storage_unit.specs.declared.model.Reach.{Reach}
 use Rattle.storage_unit.specs.Bytes.{is_marked}
-use Rattle.storage_unit.specs.Held.{table_of}
-use Rattle.storage_unit.specs.Places.{is_private, offset_of}
-use Rattle.storage_unit.specs.Reach.{is_in_frame, refuses}
+use Rattle.storage_unit.specs.Held.{frame_found}
+use Rattle.storage_unit.specs.Places.{flat_place, is_private}
+use Rattle.storage_unit.specs.Reach.{answer_to, begins_at}
 
 -- whether the entry of the page of a byte of the store lets an identifier load from its line, or store to it
 abbrev pub lets_at : Layout → Placed → (runner : ℕ) → Virtual → (store : Bool) → Bool
 lets_at directory table runner at store =
-    let line = line_of directory (start_of directory at.segment + offset_of directory.page at) in
+    let line = line_of directory (flat_place directory at) in
     lets (grant_of (entry_at table (page_of_line line))) runner (line % 16) store
 
 -- whether the line of a byte of the store is among the marks of its page
 abbrev pub is_marked_at : Layout → List (List ℕ) → Virtual → Bool
 is_marked_at directory marked at =
-    let line = line_of directory (start_of directory at.segment + offset_of directory.page at) in has (slice_index_or marked (page_of_line line) []) (line % 16)
+    let line = line_of directory (flat_place directory at) in has (slice_index_or marked (page_of_line line) []) (line % 16)
 
 -- the 128 addresses of a block are located from the line's first byte on, to be stored where the line is; its frame has their page, and that
 -- byte at its spot; and where they are of the store, the entry lets, and they are marked if they are to be stored
@@ -30,6 +30,10 @@ pub record IsOpened (directory : Layout) (table : Placed) (registers : Registers
   pub allowed : is_private line.first.segment ≡ false → lets_at directory table runner line.first line.write ≡ true
   pub written : is_private line.first.segment ≡ false → line.write ≡ true → is_marked_at directory marked line.first ≡ true
 
+-- the line of a byte is, where it is of the store
+abbrev pub IsMarkedAt : Reach → Virtual → Type 0
+IsMarkedAt state at = is_private at.segment ≡ false → is_marked_at state.directory state.pool.marked at ≡ true
+
 -- each line that is known is so
 abbrev pub AreOpened : OpenLines → Layout → Placed → Registers → List (List ℕ) → (runner : ℕ) → Type 0
 AreOpened lines directory table registers marked runner =
@@ -37,16 +41,16 @@ AreOpened lines directory table registers marked runner =
 
 -- an access may be made: it begins at this byte, and lies in one page, which this frame has
 pub record IsOpenAt (state : Reach) (wants : Access) (at : Virtual) (found : ℕ) : Type 0 where
-  pub located : located_by state.registers wants.address wants.bytes wants.store ≡ Ok at
+  pub located : begins_at state wants ≡ Ok at
   pub within : at.byte + wants.bytes ≤ page_bytes state.directory.page
-  pub frame : look_up (table_of state).keys (key_of at) ≡ Some found
-  pub permitted : answer_in (λ s. s.registers) is_in_frame refuses state wants ≡ Probe.Permitted
+  pub frame : frame_found state at ≡ Some found
+  pub permitted : answer_to state wants ≡ Probe.Permitted
 
 -- the lines of so many bytes from one on are marked, where they are of the store
 abbrev pub AreMarked : Reach → Virtual → (count : ℕ) → Type 0
 AreMarked state at count =
     is_private at.segment ≡ false → (past : ℕ) → past < count
-    → is_marked state.directory state.pool (start_of state.directory at.segment + offset_of state.directory.page at + past) ≡ true
+    → is_marked state.directory state.pool (flat_place state.directory at + past) ≡ true
 
 -- an access may be made from the first byte of a line on, which is at its spot; the lines of a store are marked
 pub record IsOpenFrom (state : Reach) (wants : Access) (line : OpenLine) : Type 0 where

@@ -14,10 +14,14 @@ is_private segment = nat_le 3840 segment
 abbrev pub offset_of : PageSize → Virtual → ℕ
 offset_of page at = at.page * page_bytes page + at.byte
 
+-- the place of a byte of the store
+abbrev pub flat_place : Layout → Virtual → ℕ
+flat_place directory at = start_of directory at.segment + offset_of directory.page at
+
 -- where a byte lies: at an offset of private storage, or at a place of the store
 abbrev pub place_of : Layout → Virtual → Located
 place_of directory at =
-    if is_private at.segment then Private (offset_of directory.page at) else Shared (start_of directory at.segment + offset_of directory.page at)
+    if is_private at.segment then Private (offset_of directory.page at) else Shared (flat_place directory at)
 
 -- where an access lies, or that it is refused
 abbrev pub place_at : Layout → Result Virtual Check → Located

@@ -1,9 +1,14 @@
 -- The unit as a storage: what it shows, answers and stores.
-use Rattle.std.specs.Prelude.{ℕ, ◌+◌, ◌-◌, ◌*◌, ◌/◌, ◌%◌, ◌==◌, ◌&&◌, nat_le, nat_lt, not, if◌then◌else◌, Bool, true, false, List, map, length, slice_index, slice_index_or, is_some}
-use Rattle.storage_unit.specs.Below.{frame_at, grant_of, has, Layout, lets, line_of, lines_at, lines_where, Located, located_by, marks_at, option_map_or, overlaid, page_at, page_bytes, page_of_line, Pool, Private, range_with_len, Refused, Shared, union, unowned, Virtual}
+use Rattle.std.specs.Prelude.{ℕ, ◌+◌, ◌-◌, ◌*◌, ◌/◌, ◌%◌, ◌==◌, ◌&&◌, nat_le, nat_lt, not, if◌then◌else◌, Bool, true, false, List, map, length, slice_index, slice_index_or, is_some, Result}
+use Rattle.storage_unit.specs.Below.{Access, answer_in, frame_at, grant_of, has, Layout, lets, line_of, lines_at, lines_where, Located, located_by, marks_at, option_map_or, overlaid, page_at, page_bytes, page_of_line, Pool, Private, Probe, range_with_len, Refused, Shared, union, unowned, Virtual}
+use Rattle.page_table.specs.declared.segment_regs.Check.{Check}
 use Rattle.storage_unit.specs.declared.model.Reach.{Reach}
-use Rattle.storage_unit.specs.Places.{place_of, place_at}
+use Rattle.storage_unit.specs.Places.{on, place_of, place_at}
 use Rattle.storage_unit.specs.Bytes.{byte_shown}
+
+-- a state with another pool
+abbrev pub with_pool : Reach → Pool → Reach
+with_pool state pool = record state { pool = pool }
 
 -- the seat that is selected
 abbrev pub seat_of : Reach → ℕ
@@ -16,6 +21,10 @@ is_resident state line = is_some (frame_at state.pool (page_of_line line))
 -- whether the entry of a line's page refuses the selected seat to load it, or to store it
 abbrev pub is_refused : Reach → ℕ → Bool → Bool
 is_refused state line store = not (lets (grant_of (slice_index_or state.entries (page_of_line line) unowned)) state.runner (line % 16) store)
+
+-- the same of a place of the store
+abbrev pub refuses_place : Reach → (place : ℕ) → Bool → Bool
+refuses_place state place store = is_refused state (line_of state.directory place) store
 
 -- the byte at a place: of private storage that of the selected seat, of the store that of its frame
 abbrev pub byte_of : Reach → Located → ℕ
@@ -34,7 +43,7 @@ is_there state _ = true
 
 -- whether the entry of a place's page refuses; of private storage none does
 abbrev pub is_kept_from : Reach → Located → Bool → Bool
-is_kept_from state (Shared at) store = is_refused state (line_of state.directory at) store
+is_kept_from state (Shared at) store = refuses_place state at store
 is_kept_from state _ store = false
 
 -- the same of a byte
@@ -43,6 +52,18 @@ is_in_frame state at = is_there state (place_of state.directory at)
 
 abbrev pub refuses : Reach → Virtual → Bool → Bool
 refuses state at store = is_kept_from state (place_of state.directory at) store
+
+-- and of the byte so many past one
+abbrev pub refuses_past : Reach → Virtual → (past : ℕ) → Bool → Bool
+refuses_past state first past store = is_kept_from state (on (place_of state.directory first) past) store
+
+-- the byte at which an access begins, or that it is refused
+abbrev pub begins_at : Reach → Access → Result Virtual Check
+begins_at state wants = located_by state.registers wants.address wants.bytes wants.store
+
+-- what an access is answered
+abbrev pub answer_to : Reach → Access → Probe
+answer_to = answer_in (λ state. state.registers) is_in_frame refuses
 
 -- the byte of a place, with these bytes over those from a place on
 abbrev pub put_byte : (bytes : List ℕ) → (from place old : ℕ) → ℕ
@@ -74,6 +95,10 @@ abbrev pub put_at : Reach → Located → List ℕ → Reach
 put_at state (Private at) bytes = record state { pool = record state.pool { bytes = overlaid state.pool.bytes (seat_of state * 16384 + at) bytes } }
 put_at state (Shared at) bytes = record state { pool = put_in_store state.directory state.pool at bytes }
 put_at state (Refused code) bytes = state
+
+-- bytes over those from a byte on
+abbrev pub put_from : Reach → Virtual → List ℕ → Reach
+put_from state first bytes = put_at state (place_of state.directory first) bytes
 
 -- bytes over those from an effective address on
 abbrev pub stored : Reach → ℕ → List ℕ → Reach

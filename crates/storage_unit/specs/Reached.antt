@@ -1,21 +1,19 @@
 -- What holds of the state of every unit, and the bytes that the seat that is selected may reach.
-use Rattle.std.specs.Prelude.{◌≡◌, ℕ, ◌+◌, ◌≤◌, ◌<◌, ◌^◌, not, Bool, true, false, List, map, length, is_some, slice_index_or, Some}
-use Rattle.storage_unit.specs.Below.{byte_count, IsLegal, IsSeen, key_of, length_of, Located, look_up, page_bytes, page_count, range_with_len, start_of, Virtual}
-use Rattle.storage_unit.specs.Held.{AreOfPages, IsSelected, table_of}
+use Rattle.std.specs.Prelude.{◌≡◌, ℕ, ◌+◌, ◌≤◌, ◌<◌, ◌^◌, not, Bool, true, false, List, map, length, is_some, slice_index_or, Some, Option, find}
+use Rattle.storage_unit.specs.Below.{byte_count, IsLegal, length_of, Located, page_bytes, page_count, range_with_len, start_of, Virtual}
+use Rattle.storage_unit.specs.Held.{IsSelected, frame_found}
+use Rattle.storage_unit.specs.Laws.{Fits}
 use Rattle.storage_unit.specs.declared.model.Reach.{Reach}
 use Rattle.storage_unit.specs.Places.{private_segment, is_private, offset_of, place_of, on}
-use Rattle.storage_unit.specs.Reach.{byte_of, is_there}
+use Rattle.storage_unit.specs.Reach.{byte_of, is_there, refuses_past, refuses_place}
 
 -- what holds of every unit: its parts have the sizes of its store, and the seat that is selected may reach what its
 -- registers name
 pub record IsSound (state : Reach) : Type 0 where
   pub sixteen : length state.begun ≡ 16
   pub legal : IsLegal state.directory.segments
-  pub seen : IsSeen state.pool
-  pub size : state.pool.page ≡ state.directory.page
-  pub pages : length state.pool.frame_of ≡ page_count state.directory
+  pub fits : Fits state.directory state.pool
   pub entries : length state.entries ≡ page_count state.directory
-  pub marks : AreOfPages state.pool.marked
   pub selected : IsSelected state.directory state.begun state.runner state.registers
 
 -- so many bytes from a byte on lie in the private storage of the seat that is selected, which is begun, or in a segment of
@@ -34,6 +32,21 @@ AreThere state first count = (past : ℕ) → past < count → is_there state (o
 abbrev pub bytes_shown : Reach → Located → (count : ℕ) → List ℕ
 bytes_shown state first count = map (λ past. byte_of state (on first past)) (range_with_len 0 count)
 
+-- and from a byte on
+abbrev pub shown_from : Reach → Virtual → (count : ℕ) → List ℕ
+shown_from state first count = bytes_shown state (place_of state.directory first) count
+
+-- how many bytes past a byte the first of so many lies whose page is in no frame
+abbrev pub past_absent : Reach → Virtual → (count : ℕ) → Option ℕ
+past_absent state first count = find (λ past. not (is_there state (on (place_of state.directory first) past))) (range_with_len 0 count)
+
+-- or the first that the entry of its page refuses, and the same of bytes of the store from a place on
+abbrev pub past_kept : Reach → Virtual → (count : ℕ) → (store : Bool) → Option ℕ
+past_kept state first count store = find (λ past. refuses_past state first past store) (range_with_len 0 count)
+
+abbrev pub past_refused : Reach → (place count : ℕ) → (store : Bool) → Option ℕ
+past_refused state place count store = find (λ past. refuses_place state (place + past) store) (range_with_len 0 count)
+
 -- whether the table has no frame with the page of a byte
 abbrev pub is_absent : Reach → Virtual → Bool
-is_absent state at = not (is_some (look_up (table_of state).keys (key_of at)))
+is_absent state at = not (is_some (frame_found state at))

@@ -1,6 +1,6 @@
 -- An attempt over the unit, beside the row of the plain machine on one list of bytes of the store.
 use Rattle.std.specs.Prelude.{◌≢◌, ◌≡◌, ℕ, ◌+◌, ◌<◌, ◌≤◌, ◌||◌, Bool, true, false, List, [], ◌∷◌, ◌++◌, length}
-use Rattle.storage_unit.specs.Below.{Access, answer_in, byte_count, Commit, halfword_of, has, Lines, lines_of_access, On, page_of_line, plan, Pool, row, seen_in, touched, Tried, tried}
+use Rattle.storage_unit.specs.Below.{Access, byte_count, Commit, halfword_of, has, Lines, lines_of_access, On, page_of_line, plan, Pool, row, seen_in, touched, Tried, tried}
 use Rattle.flat_machine.specs.declared.machine.Plain.{Plain}
 use Rattle.flat_machine.specs.declared.machine.Program.{Program}
 use Rattle.flat_machine.specs.Row.{Check}
@@ -9,7 +9,7 @@ use Rattle.romp_cpu.specs.declared.cpu.Cpu.{Cpu}
 use Rattle.romp_cpu.specs.Segments.{registers_of_program}
 use Rattle.storage_unit.specs.declared.model.Reach.{Reach}
 use Rattle.storage_unit.specs.Places.{private_segment}
-use Rattle.storage_unit.specs.Reach.{seat_of, is_refused, byte_at, is_in_frame, refuses, stored}
+use Rattle.storage_unit.specs.Reach.{seat_of, is_refused, answer_to, byte_at, stored}
 use Rattle.storage_unit.specs.Bytes.{bytes_over, private_bytes, is_line_marked, IsClean}
 
 -- the plain state of a processor over a unit and these committed bytes, that printed these bytes
@@ -86,7 +86,7 @@ GivesRows attempt before after old new =
 -- an attempt's answer, and the processor and the unit after it: what the plan of the instruction does, by what the unit shows and answers
 abbrev pub tried_over : Reach → Cpu → Tried Reach
 tried_over state cpu =
-    tried (seen_in byte_at (answer_in (λ state. state.registers) is_in_frame refuses) stored state) cpu
+    tried (seen_in byte_at answer_to stored state) cpu
     (plan (halfword_of (byte_at state)) cpu.regs cpu.cs cpu.iar)
 
 -- an attempt changes bytes of frames and marks alone

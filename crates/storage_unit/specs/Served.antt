@@ -1,7 +1,8 @@
 -- What the calls of a unit leave.
 use Rattle.std.specs.Prelude.{ℕ, ◌+◌, ◌*◌, ◌-◌, ◌==◌, if◌then◌else◌, List, ◌++◌, length, map, replicate, slice_set, true, false, None}
-use Rattle.storage_unit.specs.Below.{cleared_entry, Layout, page_count, unowned}
+use Rattle.storage_unit.specs.Below.{cleared_entry, Layout, page_count, Registers, unowned}
 use Rattle.frame_pool.specs.Pool as pool
+use Rattle.page_table.specs.declared.lockbit_rules.Authority.{Authority}
 use Rattle.storage_unit.specs.declared.model.Reach.{Reach}
 
 -- a unit that has just been made
@@ -32,6 +33,14 @@ ended state seat =
       registers = if state.runner == seat + 1 then record { page = state.directory.page; list = replicate 16 None } else state.registers;
       runner = if state.runner == seat + 1 then 0 else state.runner;
     }
+
+-- a seat is selected, with these registers
+abbrev pub selected : Reach → (seat : ℕ) → Registers → Reach
+selected state seat registers = record state { registers = registers; runner = seat + 1 }
+
+-- the entry of a page is set
+abbrev pub granted : Reach → (page : ℕ) → Authority → Reach
+granted state page value = record state { entries = slice_set state.entries page value }
 
 -- all entries of an identifier are nobody's
 abbrev pub released : Reach → (tid : ℕ) → Reach

@@ -13,7 +13,7 @@ use page_table::{SegmentRegs, Table, Tlb};
 pub const PRIVATE: u16 = 3840;
 
 impl Unit {
-    ghost use Rattle.storage_unit.specs.Served.{begun, ended};
+    ghost use Rattle.storage_unit.specs.Served.{begun, ended, selected};
     ghost use Rattle.storage_unit.specs.View.{reach_of};
 
     /// A seat that isn't begun is begun: its private storage is an image and zeros after it.
@@ -66,7 +66,7 @@ impl Unit {
         requires seat { seat < 16 }
         requires begun { slice_index_or (reach_of self.old).begun seat false ≡ true }
         requires registers { AreReached (reach_of self.old).directory seat regs.now }
-        ensures { reach_of self.new ≡ record (reach_of self.old) { registers = regs.now; runner = seat + 1 } }
+        ensures { reach_of self.new ≡ selected (reach_of self.old) seat regs.now }
     {
         forget_unless(&mut self.rows, &mut self.lines, self.runner == seat + 1);
         self.registers = *regs;
@@ -80,7 +80,7 @@ fn enter_pages(table: &mut Table, first: u16, count: u16, segment: u16)
     requires pages { count ≤ 8 }
     requires room { first + count ≤ length table.old.keys }
     requires free { (index : ℕ) → index < count → key_in table.old.keys (first + index) ≡ None }
-    requires absent { (index : ℕ) → index < count → look_up table.old.keys (key_to segment index) ≡ None }
+    requires absent { (page : ℕ) → page < count → look_up table.old.keys (key_to segment page) ≡ None }
     ensures table { table.new ≡ record table.old { keys = overlaid table.old.keys first (first_keys segment count) } }
     ensures of_table { (classes : List (List Pair)) → IsOfTable classes table.old.keys → IsOfTable classes table.new.keys }
 {

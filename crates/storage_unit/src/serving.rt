@@ -1,9 +1,10 @@
 // Pages that come in and go out, and entries that are set.
 ghost use Rattle.std.specs.Prelude.{◌≡◌, ℕ, ◌<◌, ◌≤◌, false, length, fold, slice_set, option_and_then};
-ghost use Rattle.storage_unit.specs.Below.{Brought, emptied, frame_at, frame_count, has, IsOfTable, KnowsNothing, laid, look_up, option_map_or, page_count, page_out, pool_of, settled, undone, without_frame};
+ghost use Rattle.storage_unit.specs.Below.{Brought, emptied, frame_at, frame_count, has, IsOfTable, KnowsNothing, laid, look_up, option_map_or, page_count, page_out, settled, undone, without_frame};
 ghost use Rattle.storage_unit.specs.Held.{keys_without};
 ghost use Rattle.storage_unit.specs.Places.{key_among};
-ghost use Rattle.storage_unit.specs.Served.{released};
+ghost use Rattle.storage_unit.specs.Reach.{with_pool};
+ghost use Rattle.storage_unit.specs.Served.{granted, released};
 
 use super::unit::Unit;
 use frame_pool::{FramePool, Slot};
@@ -42,7 +43,7 @@ impl Unit {
     #[inline(always)]
     pub(crate) fn lay_kept(&mut self, page: u16)
         requires { page < page_count (reach_of self.old).directory }
-        ensures { reach_of self.new ≡ record (reach_of self.old) { pool = laid (reach_of self.old).pool page } }
+        ensures { reach_of self.new ≡ with_pool (reach_of self.old) (laid (reach_of self.old).pool page) }
     {
         self.pool.lay_kept(page);
     }
@@ -50,7 +51,7 @@ impl Unit {
     /// Lines of a page are no longer marked. No line is known any more.
     pub fn settle(&mut self, page: u16, lines: LineSet)
         requires { page < page_count (reach_of self.old).directory }
-        ensures { reach_of self.new ≡ record (reach_of self.old) { pool = settled (reach_of self.old).pool page lines } }
+        ensures { let old = reach_of self.old in reach_of self.new ≡ with_pool old (settled old.pool page lines) }
     {
         let known = &mut self.lines;
         known.forget();
@@ -60,7 +61,7 @@ impl Unit {
     /// A page leaves its frame, if it is in one, and these of its lines are forgotten.
     pub fn undo(&mut self, page: u16, lines: LineSet)
         requires { page < page_count (reach_of self.old).directory }
-        ensures { reach_of self.new ≡ record (reach_of self.old) { pool = undone (reach_of self.old).pool page lines } }
+        ensures { let old = reach_of self.old in reach_of self.new ≡ with_pool old (undone old.pool page lines) }
     {
         leave_frame(
             &self.pool,
@@ -74,7 +75,7 @@ impl Unit {
 
     /// All pages leave their frames. Their marked lines are kept.
     pub fn empty(&mut self)
-        ensures { reach_of self.new ≡ record (reach_of self.old) { pool = emptied (reach_of self.old).pool } }
+        ensures { reach_of self.new ≡ with_pool (reach_of self.old) (emptied (reach_of self.old).pool) }
     {
         leave_all(&self.pool, &mut self.table);
         self.buffer = Tlb::new();
@@ -86,7 +87,7 @@ impl Unit {
     #[inline(always)]
     pub fn set_authority(&mut self, page: u16, value: Authority)
         requires { page < page_count (reach_of self.old).directory }
-        ensures { reach_of self.new ≡ record (reach_of self.old) { entries = slice_set (reach_of self.old).entries page value } }
+        ensures { reach_of self.new ≡ granted (reach_of self.old) page value }
     {
         self.lines.forget();
         self.table.set_authority(page, value);
@@ -110,9 +111,9 @@ fn leave_frame(
     lines: &mut OpenLines,
     page: Option<u16>,
 )
-    requires room { frame_count (pool_of pool.now).page (pool_of pool.now).frames ≤ length table.old.keys }
+    requires room { frame_count pool.now.page pool.now.frames ≤ length table.old.keys }
     requires of_table { IsOfTable buffer.old table.old.keys }
-    ensures table { table.new ≡ option_map_or (without_frame table.old) (option_and_then (frame_at (pool_of pool.now)) page) table.old }
+    ensures table { table.new ≡ option_map_or (without_frame table.old) (option_and_then (frame_at pool.now) page) table.old }
     ensures of_table { IsOfTable buffer.new table.new.keys }
     ensures lines { KnowsNothing lines.new }
 {
@@ -141,8 +142,8 @@ pub(super) fn clear_frame(table: &mut Table, buffer: &mut Tlb, frame: u16)
 
 /// The frames of all resident pages hold nothing.
 fn leave_all(pool: &FramePool, table: &mut Table)
-    requires { frame_count (pool_of pool.now).page (pool_of pool.now).frames ≤ length table.old.keys }
-    ensures { table.new ≡ record table.old { keys = fold (keys_without (pool_of pool.now)) table.old.keys (pool_of pool.now).resident } }
+    requires { frame_count pool.now.page pool.now.frames ≤ length table.old.keys }
+    ensures { table.new ≡ record table.old { keys = fold (keys_without pool.now) table.old.keys pool.now.resident } }
 {
     for page in pool.resident() {
         if let Some(frame) = pool.frame_of(*page) {

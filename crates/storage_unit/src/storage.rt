@@ -1,15 +1,15 @@
 // The unit as a storage.
 ghost use Rattle.std.specs.Prelude.{◌≡◌, ◌+◌, ◌*◌, ◌-◌, ◌%◌, ◌<◌, ◌≤◌, ◌^◌, ℕ, length, find, not, Ok, Some, true, false, IfOk, IfErr, IfSome};
-ghost use Rattle.storage_unit.specs.Below.{Access, access_to, answer_in, answer_of, answered_at, at, byte_count, bytes_from, bytes_on, filled, how_went, if_permitted, IsOfFewBytes, IsRefusal, IsRowOf, key_of, line_bytes, line_of, located_by, look_up, page_bytes, Probe, range_with_len, start_of, stored_bytes};
-ghost use Rattle.storage_unit.specs.ReadyRows.{private_half};
+ghost use Rattle.storage_unit.specs.Below.{access_to, answer_of, at, byte_count, bytes_on, how_went, IsOfFewBytes, IsRefusal, page_bytes, stored_bytes};
+ghost use Rattle.storage_unit.specs.ReadyRows.{IsMadeOf};
 ghost use Rattle.flat_machine.specs.Access.{FitsFrom};
-ghost use Rattle.storage_unit.specs.Places.{is_private, offset_of, place_of, on};
-ghost use Rattle.storage_unit.specs.Reach.{is_there, is_kept_from, is_in_frame, refuses, is_refused, put_at};
+ghost use Rattle.storage_unit.specs.Places.{flat_place, is_private, offset_of};
+ghost use Rattle.storage_unit.specs.Reach.{answer_to, begins_at, is_in_frame, put_from, refuses, refuses_past, refuses_place};
 ghost use Rattle.storage_unit.specs.Rows.{tried_over, GivesRows, ChangesBytes, StaysClean, LeavesSeats};
-ghost use Rattle.storage_unit.specs.Reached.{Lies, AreThere, bytes_shown, is_absent};
-ghost use Rattle.storage_unit.specs.Held.{table_of};
-ghost use Rattle.storage_unit.specs.Accesses.{IsRead, IsReadIf, IsWritten, IsWrittenIf};
-ghost use Rattle.storage_unit.specs.OpenLines.{is_marked_at, IsOpenAt, IsOpenFrom};
+ghost use Rattle.storage_unit.specs.Reached.{AreThere, is_absent, Lies, past_absent, past_kept, past_refused, shown_from};
+ghost use Rattle.storage_unit.specs.Held.{frame_found};
+ghost use Rattle.storage_unit.specs.Accesses.{AnswersAt, IsRead, IsReadIf, IsWritten, IsWrittenIf, loaded, saved};
+ghost use Rattle.storage_unit.specs.OpenLines.{IsMarkedAt, IsOpenAt, IsOpenFrom};
 
 use super::model::Reach;
 use super::private::PRIVATE;
@@ -47,7 +47,7 @@ impl Unit {
     /// The place of a byte of the store.
     fn place_of(&self, first: Virtual) -> u32
         requires { offset_of (reach_of self.now).directory.page first ≤ 2 ^ 22 }
-        ensures { result ≡ start_of (reach_of self.now).directory first.segment + offset_of (reach_of self.now).directory.page first }
+        ensures { result ≡ flat_place (reach_of self.now).directory first }
     {
         self.directory.start_of(first.segment) + offset_of(self.directory.page(), first)
     }
@@ -56,7 +56,7 @@ impl Unit {
     #[inline(always)]
     fn answer(&mut self, first: Virtual, bytes: u8, store: bool) -> Probe
         requires { Lies (reach_of self.old) first bytes }
-        ensures answer { (access : Access) → access.bytes ≡ bytes → access.store ≡ store → result ≡ answered_at (reach_of self.old).directory.page (is_in_frame (reach_of self.old)) (refuses (reach_of self.old)) access (Ok first) }
+        ensures answer { AnswersAt (reach_of self.old) first bytes store result }
         ensures state { reach_of self.new ≡ reach_of self.old }
     {
         if let Some(past) = self.first_absent(first, bytes) {
@@ -71,7 +71,7 @@ impl Unit {
     /// How many bytes past a byte the first of so many lies whose page is in no frame. Each page is asked for once.
     fn first_absent(&mut self, first: Virtual, bytes: u8) -> Option<u16>
         requires { Lies (reach_of self.old) first bytes }
-        ensures value { result ≡ find (λ past. not (is_there (reach_of self.old) (on (place_of (reach_of self.old).directory first) past))) (range_with_len 0 bytes) }
+        ensures value { result ≡ past_absent (reach_of self.old) first bytes }
         ensures state { reach_of self.new ≡ reach_of self.old }
     {
         if bytes == 0 {
@@ -104,7 +104,7 @@ impl Unit {
     #[inline(always)]
     fn first_refused(&self, first: Virtual, bytes: u8, store: bool) -> Option<u16>
         requires { Lies (reach_of self.now) first bytes }
-        ensures { result ≡ find (λ past. is_kept_from (reach_of self.now) (on (place_of (reach_of self.now).directory first) past) store) (range_with_len 0 bytes) }
+        ensures { result ≡ past_kept (reach_of self.now) first bytes store }
     {
         if first.segment >= PRIVATE {
             return None;
@@ -116,7 +116,7 @@ impl Unit {
     #[inline(always)]
     fn first_refused_from(&self, place: u32, bytes: u8, store: bool) -> Option<u16>
         requires { place + bytes ≤ byte_count (reach_of self.now).directory }
-        ensures { result ≡ find (λ past. is_refused (reach_of self.now) (line_of (reach_of self.now).directory (place + past)) store) (range_with_len 0 bytes) }
+        ensures { result ≡ past_refused (reach_of self.now) place bytes store }
     {
         let mut past = 0u16;
         while past < u16::from(bytes) {
@@ -132,7 +132,7 @@ impl Unit {
     /// Whether the entry of a place's page refuses the seat that is selected.
     fn is_refused(&self, place: u32, store: bool) -> bool
         requires { place < byte_count (reach_of self.now).directory }
-        ensures { result ≡ is_refused (reach_of self.now) (line_of (reach_of self.now).directory place) store }
+        ensures { result ≡ refuses_place (reach_of self.now) place store }
     {
         let page = self.directory.page_of(place);
         let line = (self.directory.line_of(place) % 16) as u8;
@@ -143,7 +143,7 @@ impl Unit {
     #[inline(always)]
     fn frame_at(&self, first: Virtual) -> Option<u16>
         requires { Lies (reach_of self.now) first 1 }
-        ensures { result ≡ look_up (table_of (reach_of self.now)).keys (key_of first) }
+        ensures { result ≡ frame_found (reach_of self.now) first }
     {
         if first.segment >= PRIVATE {
             return Some(self.private_frame(first));
@@ -156,12 +156,13 @@ impl Unit {
     fn private_frame(&self, first: Virtual) -> u16
         requires own { is_private first.segment ≡ true }
         requires lies { Lies (reach_of self.now) first 1 }
-        ensures { look_up (table_of (reach_of self.now)).keys (key_of first) ≡ Some result }
+        ensures { frame_found (reach_of self.now) first ≡ Some result }
     {
         first_frame(self.directory.page(), self.runner - 1) + first.page as u16
     }
 
     /// Whether some bytes lie in one page, as those of one line do.
+    #[tactic(auto, using(std::proofs::lemmas::Bool::Decides::nat_tests))]
     fn is_in_page(&self, first: Virtual, bytes: u8) -> bool
         requires { first.byte < page_bytes (reach_of self.now).directory.page }
         ensures { result ≡ true → first.byte + bytes ≤ page_bytes (reach_of self.now).directory.page }
@@ -199,9 +200,9 @@ impl Unit {
     /// Whether an access is to store to a byte that a frame has, and the line of that is marked where it is one of the store.
     fn is_written(&self, frame: u16, first: Virtual, store: bool) -> bool
         requires lies { Lies (reach_of self.now) first 1 }
-        requires frame { look_up (table_of (reach_of self.now)).keys (key_of first) ≡ Some frame }
+        requires frame { frame_found (reach_of self.now) first ≡ Some frame }
         ensures store { result ≡ true → store ≡ true }
-        ensures marked { result ≡ true → is_private first.segment ≡ false → is_marked_at (reach_of self.now).directory (reach_of self.now).pool.marked first ≡ true }
+        ensures marked { result ≡ true → IsMarkedAt (reach_of self.now) first }
     {
         if !store {
             return false;
@@ -298,8 +299,8 @@ impl Unit {
         requires few { bytes ≤ 64 }
         requires lies { Lies (reach_of self.old) first bytes }
         requires within { first.byte + bytes ≤ page_bytes (reach_of self.old).directory.page }
-        ensures answer { (access : Access) → access.bytes ≡ bytes → access.store ≡ store → answer_of result ≡ answered_at (reach_of self.old).directory.page (is_in_frame (reach_of self.old)) (refuses (reach_of self.old)) access (Ok first) }
-        ensures frame { IfOk result (λ frame. look_up (table_of (reach_of self.old)).keys (key_of first) ≡ Some frame) }
+        ensures answer { AnswersAt (reach_of self.old) first bytes store (answer_of result) }
+        ensures frame { IfOk result (λ frame. frame_found (reach_of self.old) first ≡ Some frame) }
         ensures refused { IfErr result IsRefusal }
         ensures state { reach_of self.new ≡ reach_of self.old }
     {
@@ -329,8 +330,8 @@ impl Unit {
         requires shared { is_private first.segment ≡ false }
         requires lies { Lies (reach_of self.now) first 1 }
         requires within { first.byte + past < page_bytes (reach_of self.now).directory.page }
-        requires frame { look_up (table_of (reach_of self.now)).keys (key_of first) ≡ Some frame }
-        ensures { result ≡ is_kept_from (reach_of self.now) (on (place_of (reach_of self.now).directory first) past) store }
+        requires frame { frame_found (reach_of self.now) first ≡ Some frame }
+        ensures { result ≡ refuses_past (reach_of self.now) first past store }
     {
         let line = line_in_page(self.directory.page(), first.byte + past);
         match self.pool.page_in(frame) {
@@ -344,8 +345,8 @@ impl Unit {
         requires some { 0 < count }
         requires within { first.byte + count ≤ page_bytes (reach_of self.now).directory.page }
         requires lies { Lies (reach_of self.now) first count }
-        requires frame { look_up (table_of (reach_of self.now)).keys (key_of first) ≡ Some frame }
-        ensures { result.now ≡ bytes_shown (reach_of self.now) (place_of (reach_of self.now).directory first) count }
+        requires frame { frame_found (reach_of self.now) first ≡ Some frame }
+        ensures { result.now ≡ shown_from (reach_of self.now) first count }
     {
         self.pool.part(frame, usize::from(first.byte), count)
     }
@@ -356,7 +357,7 @@ impl Unit {
         requires some { 0 < length into.old }
         requires lies { Lies (reach_of self.now) first (length into.old) }
         requires there { AreThere (reach_of self.now) first (length into.old) }
-        ensures { into.new ≡ bytes_shown (reach_of self.now) (place_of (reach_of self.now).directory first) (length into.old) }
+        ensures { into.new ≡ shown_from (reach_of self.now) first (length into.old) }
     {
         if into.len() <= usize::from(self.rest(first)) {
             self.copy_part(first, into);
@@ -370,7 +371,7 @@ impl Unit {
         requires some { 0 < length into.old }
         requires lies { Lies (reach_of self.now) first (length into.old) }
         requires there { AreThere (reach_of self.now) first (length into.old) }
-        ensures { into.new ≡ bytes_shown (reach_of self.now) (place_of (reach_of self.now).directory first) (length into.old) }
+        ensures { into.new ≡ shown_from (reach_of self.now) first (length into.old) }
     {
         let rest = usize::from(self.rest(first));
         if into.len() <= rest {
@@ -389,7 +390,7 @@ impl Unit {
         requires within { first.byte + length into.old ≤ page_bytes (reach_of self.now).directory.page }
         requires lies { Lies (reach_of self.now) first (length into.old) }
         requires there { AreThere (reach_of self.now) first (length into.old) }
-        ensures { into.new ≡ bytes_shown (reach_of self.now) (place_of (reach_of self.now).directory first) (length into.old) }
+        ensures { into.new ≡ shown_from (reach_of self.now) first (length into.old) }
     {
         if let Some(frame) = self.frame_at(first) {
             into.copy_from_slice(self.part_in(frame, first, into.len()));
@@ -402,7 +403,7 @@ impl Unit {
         requires some { 0 < length from.now }
         requires lies { Lies (reach_of self.old) first (length from.now) }
         requires there { AreThere (reach_of self.old) first (length from.now) }
-        ensures { reach_of self.new ≡ put_at (reach_of self.old) (place_of (reach_of self.old).directory first) from.now }
+        ensures { reach_of self.new ≡ put_from (reach_of self.old) first from.now }
     {
         if from.len() <= usize::from(self.rest(first)) {
             self.put_part(first, from);
@@ -416,7 +417,7 @@ impl Unit {
         requires some { 0 < length from.now }
         requires lies { Lies (reach_of self.old) first (length from.now) }
         requires there { AreThere (reach_of self.old) first (length from.now) }
-        ensures { reach_of self.new ≡ put_at (reach_of self.old) (place_of (reach_of self.old).directory first) from.now }
+        ensures { reach_of self.new ≡ put_from (reach_of self.old) first from.now }
     {
         let rest = usize::from(self.rest(first));
         if from.len() <= rest {
@@ -435,7 +436,7 @@ impl Unit {
         requires within { first.byte + length from.now ≤ page_bytes (reach_of self.old).directory.page }
         requires lies { Lies (reach_of self.old) first (length from.now) }
         requires there { AreThere (reach_of self.old) first (length from.now) }
-        ensures { reach_of self.new ≡ put_at (reach_of self.old) (place_of (reach_of self.old).directory first) from.now }
+        ensures { reach_of self.new ≡ put_from (reach_of self.old) first from.now }
     {
         if let Some(frame) = self.frame_at(first) {
             let page = self.directory.page();
@@ -453,8 +454,8 @@ impl Unit {
         requires fits { FitsFrom bytes from }
         requires within { first.byte + bytes ≤ page_bytes (reach_of self.old).directory.page }
         requires lies { Lies (reach_of self.old) first bytes }
-        requires frame { look_up (table_of (reach_of self.old)).keys (key_of first) ≡ Some frame }
-        ensures { reach_of self.new ≡ put_at (reach_of self.old) (place_of (reach_of self.old).directory first) (stored_bytes regs.now bytes from) }
+        requires frame { frame_found (reach_of self.old) first ≡ Some frame }
+        ensures { reach_of self.new ≡ put_from (reach_of self.old) first (stored_bytes regs.now bytes from) }
     {
         let page = self.directory.page();
         let count = u32::from(bytes);
@@ -473,7 +474,7 @@ impl Unit {
     fn fill_from(&self, line: OpenLine, wants: &Access, to: u8, sign: bool, regs: &mut [u32; 16])
         requires fits { FitsFrom wants.now.bytes to }
         requires open { IsOpenFrom (reach_of self.now) wants.now line }
-        ensures { regs.new ≡ filled to sign (bytes_from (byte_at (reach_of self.now)) wants.now.address wants.now.bytes) regs.old }
+        ensures { regs.new ≡ loaded (reach_of self.now) wants.now to sign regs.old }
     {
         let part = self
             .pool
@@ -488,7 +489,7 @@ impl Unit {
         requires fits { FitsFrom wants.now.bytes from }
         requires lies { Lies (reach_of self.old) line.first wants.now.bytes }
         requires open { IsOpenFrom (reach_of self.old) wants.now line }
-        ensures { reach_of self.new ≡ stored (reach_of self.old) wants.now.address (stored_bytes regs.now wants.now.bytes from) }
+        ensures { reach_of self.new ≡ saved (reach_of self.old) wants.now from regs.now }
     {
         let page = self.directory.page();
         let count = u32::from(wants.bytes);
@@ -508,9 +509,9 @@ impl Unit {
     fn open(&mut self, wants: &Access, first: Virtual) -> Result<u16, Probe>
         requires some { 0 < wants.now.bytes }
         requires few { wants.now.bytes ≤ 64 }
-        requires located { located_by (reach_of self.old).registers wants.now.address wants.now.bytes wants.now.store ≡ Ok first }
+        requires located { begins_at (reach_of self.old) wants.now ≡ Ok first }
         requires within { first.byte + wants.now.bytes ≤ page_bytes (reach_of self.old).directory.page }
-        ensures answer { answer_of result ≡ answer_in (λ state. state.registers) is_in_frame refuses (reach_of self.old) wants.now }
+        ensures answer { answer_of result ≡ answer_to (reach_of self.old) wants.now }
         ensures open { IfOk result (λ frame. IsOpenAt (reach_of self.new) wants.now first frame) }
         ensures refused { IfErr result IsRefusal }
         ensures state { reach_of self.new ≡ reach_of self.old }
@@ -551,7 +552,7 @@ impl Unit {
         regs: &mut [u32; 16],
     ) -> Probe
         requires fits { FitsFrom wants.now.bytes to }
-        requires located { located_by (reach_of self.old).registers wants.now.address wants.now.bytes wants.now.store ≡ Ok first }
+        requires located { begins_at (reach_of self.old) wants.now ≡ Ok first }
         requires within { first.byte + wants.now.bytes ≤ page_bytes (reach_of self.old).directory.page }
         ensures { IsRead (reach_of self.old) (reach_of self.new) wants.now to sign regs.old regs.new result }
     {
@@ -569,7 +570,7 @@ impl Unit {
     #[inline(always)]
     fn gather_at(&mut self, wants: &Access, first: Virtual, from: u8, regs: &[u32; 16]) -> Probe
         requires fits { FitsFrom wants.now.bytes from }
-        requires located { located_by (reach_of self.old).registers wants.now.address wants.now.bytes wants.now.store ≡ Ok first }
+        requires located { begins_at (reach_of self.old) wants.now ≡ Ok first }
         requires within { first.byte + wants.now.bytes ≤ page_bytes (reach_of self.old).directory.page }
         ensures { IsWritten (reach_of self.old) (reach_of self.new) wants.now from regs.now result }
     {
@@ -807,7 +808,7 @@ impl Unit {
     fn row_at(&self, address: u32) -> Option<Ready>
         requires { 1 ≤ (reach_of self.now).runner }
         ensures within { IfSome result (λ row. address + 4 ≤ 16384) }
-        ensures row { IfSome result (λ row. IsRowOf row (private_half (reach_of self.now).pool.bytes (reach_of self.now).runner address) (private_half (reach_of self.now).pool.bytes (reach_of self.now).runner (address + 2)) address) }
+        ensures row { IfSome result (IsMadeOf (reach_of self.now).pool.bytes (reach_of self.now).runner address) }
     {
         let first = self.fetch(address)?;
         let second = self.fetch(address + 2)?;
@@ -854,6 +855,7 @@ impl Unit {
 
     /// Fills registers with bytes of two pages, as they are probed and loaded.
     #[inline(never)]
+    #[tactic(auto, using(std::proofs::lemmas::Bool::Decides::nat_tests))]
     fn read_apart(&mut self, wants: &Access, to: u8, sign: bool, regs: &mut [u32; 16]) -> Probe
         requires loads { wants.now.store ≡ false }
         requires fits { FitsFrom wants.now.bytes to }

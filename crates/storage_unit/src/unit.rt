@@ -1,7 +1,8 @@
 // The unit's parts, and that they agree.
 ghost use Rattle.std.specs.Prelude.{◌≡◌, ◌≤◌, length, IfOk};
-ghost use Rattle.storage_unit.specs.Below.{after_found, found, IsLegal, IsOfTable, key_of, look_up, page_count, pool_of};
-ghost use Rattle.storage_unit.specs.Held.{keys_of, AreOfPages, IsSelected, table_of};
+ghost use Rattle.storage_unit.specs.Below.{after_found, found, IsLegal, IsOfTable, key_of, page_count};
+ghost use Rattle.storage_unit.specs.Held.{frame_found, keys_of, IsSelected, table_of};
+ghost use Rattle.storage_unit.specs.Laws.{Fits};
 ghost use Rattle.storage_unit.specs.PlanCodes.{plan_set};
 ghost use Rattle.storage_unit.specs.ReadyRows.{AreReady};
 ghost use Rattle.storage_unit.specs.OpenLines.{AreOpened};
@@ -35,16 +36,14 @@ pub struct Unit {
     pub(crate) used: [u32; 16],
     ghost sixteen: { length begun ≡ 16 },
     ghost legal: { IsLegal directory.segments },
-    ghost pool_size: { (pool_of pool).page ≡ directory.page },
-    ghost pages: { length (pool_of pool).frame_of ≡ page_count directory },
+    ghost fits: { Fits directory pool },
     ghost entries: { length table.entries ≡ page_count directory },
-    ghost marks: { AreOfPages (pool_of pool).marked },
-    ghost held: { table.keys ≡ keys_of directory begun (pool_of pool).frames (pool_of pool).page_in },
+    ghost held: { table.keys ≡ keys_of directory begun pool.frames pool.page_in },
     ghost remembered: { IsOfTable buffer table.keys },
     ghost selected: { IsSelected directory begun runner registers },
-    ghost ready: { AreReady rows (pool_of pool).bytes runner } by { Prim.hlevel (props, plan_set) },
-    ghost opened: { AreOpened lines directory table registers (pool_of pool).marked runner },
-    ghost clear: { AreClear used (pool_of pool).bytes },
+    ghost ready: { AreReady rows pool.bytes runner } by { Prim.hlevel (props, plan_set) },
+    ghost opened: { AreOpened lines directory table registers pool.marked runner },
+    ghost clear: { AreClear used pool.bytes },
 }
 
 impl Unit {
@@ -88,7 +87,7 @@ impl Unit {
 
     /// The frames.
     pub fn pool(&self) -> &FramePool
-        ensures { pool_of result.now ≡ (reach_of self.now).pool }
+        ensures { result.now ≡ (reach_of self.now).pool }
     {
         &self.pool
     }
@@ -112,9 +111,9 @@ impl Unit {
     /// else of the table, whose answer comes into the buffer. All else stays.
     #[inline(always)]
     pub fn translate(&mut self, at: Virtual) -> Option<u16>
-        ensures value { result ≡ look_up (table_of (reach_of self.old)).keys (key_of at) }
-        ensures found { result ≡ found (buffer_of self.old) (look_up (table_of (reach_of self.old)).keys (key_of at)) (key_of at) }
-        ensures buffer { buffer_of self.new ≡ after_found (buffer_of self.old) (look_up (table_of (reach_of self.old)).keys (key_of at)) (key_of at) }
+        ensures value { result ≡ frame_found (reach_of self.old) at }
+        ensures found { result ≡ found (buffer_of self.old) (frame_found (reach_of self.old) at) (key_of at) }
+        ensures buffer { buffer_of self.new ≡ after_found (buffer_of self.old) (frame_found (reach_of self.old) at) (key_of at) }
         ensures state { reach_of self.new ≡ reach_of self.old }
     {
         self.buffer.find(&self.table, at)

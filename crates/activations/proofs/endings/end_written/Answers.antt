@@ -1,4 +1,4 @@
-use Rattle.activations.proofs.Lemmas.{refl, take_all, holds_some, Holding, held_at, reach_of, unit-sound, sound-fits, ◌<◌, ℕ, List, sym, ap, ◌∙◌, subst, slice_index_or, WrittenSo, written-none, written-same, undone-step, settled-step, page-held, page-there, writes-are, has-undone, has-settled, lines_of, written_in}
+use Rattle.activations.proofs.Lemmas.{refl, take_all, holds_some, Holding, held_at, reach_of, ◌<◌, ℕ, List, sym, ap, ◌∙◌, subst, slice_index_or, WrittenSo, written-none, written-same, undone-step, settled-step, page-held, page-there, writes-are, has-undone, has-settled, lines_of, written_in}
 use Rattle.activations.proofs.endings.end_written.Goals as goal
 use Rattle.activations.proofs.endings.end_written.Goals.{then-committed, else-committed}
 
@@ -27,12 +27,12 @@ loop-page-preserved c = elim c.if-committed.branch [
   | then-committed w ↦
       settled-step (lines_of c.args.seats.now.holding c.args.seat) c.held_pages-page-items.result.now c.loop-page.page-index c.loop-page-test.true c.held-writes.result.1
       (writes-are c.args.seats.now.holding c.locks-locks.result.now c.args.seat _ c.held-writes.result c.held-writes.ensures c.locks-locks.ensures) c.args.committed (reach_of c.args.unit.now) (reach_of c.loop-page.unit) (reach_of c.if-committed.unit) c.loop-page.invariant
-      (sym c.is_empty.ensures.value ∙ c.if-is_empty.false) (sound-fits (reach_of c.loop-page.unit) (unit-sound c.loop-page.unit))
+      (sym c.is_empty.ensures.value ∙ c.if-is_empty.false) c.loop-page.unit.fits
       (subst (λ (n : ℕ). slice_index_or c.held_pages-page-items.result.now c.loop-page.page-index 0 < n) c.requires.pages (page-held c.args.seats.now.holding c.locks-locks.result.now c.args.seat c.held_pages-page-items.result.now c.loop-page.page-index c.locks-locks.ensures c.requires.whole c.requires.seat c.loop-page-test.true c.held_pages-page-items.ensures.each)) w.if-committed.true (ap reach_of w.unit-is ∙ w.settle.ensures)
   | else-committed w ↦
       undone-step (lines_of c.args.seats.now.holding c.args.seat) c.held_pages-page-items.result.now c.loop-page.page-index c.loop-page-test.true c.held-writes.result.1
       (writes-are c.args.seats.now.holding c.locks-locks.result.now c.args.seat _ c.held-writes.result c.held-writes.ensures c.locks-locks.ensures) c.args.committed (reach_of c.args.unit.now) (reach_of c.loop-page.unit) (reach_of c.if-committed.unit) c.loop-page.invariant
-      (sym c.is_empty.ensures.value ∙ c.if-is_empty.false) (sound-fits (reach_of c.loop-page.unit) (unit-sound c.loop-page.unit))
+      (sym c.is_empty.ensures.value ∙ c.if-is_empty.false) c.loop-page.unit.fits
       (subst (λ (n : ℕ). slice_index_or c.held_pages-page-items.result.now c.loop-page.page-index 0 < n) c.requires.pages (page-held c.args.seats.now.holding c.locks-locks.result.now c.args.seat c.held_pages-page-items.result.now c.loop-page.page-index c.locks-locks.ensures c.requires.whole c.requires.seat c.loop-page-test.true c.held_pages-page-items.ensures.each)) w.if-committed.false (ap reach_of w.unit-is ∙ w.undo.ensures)
 ]
 

@@ -1,4 +1,4 @@
-use Rattle.activations.proofs.Common.{Begun, reach_of, absent_segment, unit-sound, sound-fits, Activity, program_at, Program, first_registers, clear, registers_of_program, IsSound, activity_of, ◌≡◌, ◌+◌, length, refl, sym, ap, ◌∙◌, arith, subst, slice_set, [], begins, begun_in, started}
+use Rattle.activations.proofs.Common.{Begun, reach_of, absent_segment, Activity, program_at, Program, first_registers, clear, registers_of_program, IsSound, activity_of, ◌≡◌, ◌+◌, length, refl, sym, ap, ◌∙◌, arith, subst, slice_set, [], begins, begun_in, started}
 use Rattle.storage_unit.specs.Served.{begun}
 use Rattle.desk.specs.declared.answers.Begun.TheVariants
 use Rattle.activations.proofs.BeginLemmas.{begin-goes, begun-so, begins-full, begins-refused, begins-started, sound-begins, is-code, is-fresh, has-room, some-next}
@@ -9,7 +9,7 @@ use Rattle.activations.proofs.activations.Activations.begin.Goals as goal
 pub returns-then-taken-eq16 : goal.returns-then-taken-eq16
 returns-then-taken-eq16 c =
     let a = activity_of c.args.self.now in
-    let so = begun-so a c.args.program c.args.args _ _ c.requires.sound c.requires.known (sound-fits (reach_of c.args.self.now.unit) (unit-sound c.args.self.now.unit))
+    let so = begun-so a c.args.program c.args.args _ _ c.requires.sound c.requires.known c.args.self.now.unit.fits
     (begins-full a c.args.program c.args.args c.requires.sound (let long = ap length c.taken.ensures.taken in omega (arith, long, c.if-taken-eq16.true))) in
     record { answer = so.0; left = so.1; sound = so.2; is_begin = so.3 }
 
@@ -17,7 +17,7 @@ returns-then-taken-eq16 c =
 pub returns-in-Some : goal.returns-in-Some
 returns-in-Some c =
     let a = activity_of c.args.self.now in
-    let so = begun-so a c.args.program c.args.args _ _ c.requires.sound c.requires.known (sound-fits (reach_of c.args.self.now.unit) (unit-sound c.args.self.now.unit))
+    let so = begun-so a c.args.program c.args.args _ _ c.requires.sound c.requires.known c.args.self.now.unit.fits
     (begins-refused a c.args.program c.args.args c.requires.sound c.in-Some.segment (has-room a c.requires.sound (λ same. c.if-taken-eq16.false (ap length c.taken.ensures.taken ∙ same)))
     ((λ i. absent_segment (c.args.self.now.same i) (sym (is-code c.args.self.now.programs.items c.args.program c.from.result c.index-code.result.now c.requires.known c.from.ensures c.index-code.ensures) i).windows)
     ∙ sym c.absent_segment.ensures ∙ c.in-Some.is)) in
@@ -70,5 +70,5 @@ returns-clause-sound c = subst IsSound (sym (returns-clause-left c)) (sound-begi
 pub returns-clause-is_begin : goal.returns-clause-is_begin
 returns-clause-is_begin c =
     begin-goes (activity_of c.args.self.now) c.args.program c.args.args c.requires.sound _ _ c.requires.known
-    (sound-fits (reach_of c.args.self.now.unit) (unit-sound c.args.self.now.unit))
+    c.args.self.now.unit.fits
     (returns-clause-answer c) (returns-clause-left c)

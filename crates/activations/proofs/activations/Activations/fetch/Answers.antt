@@ -1,4 +1,4 @@
-use Rattle.activations.proofs.Lemmas.{Layout, page_count, AreWithin, asks_on, pool_of, Touch, Activity, IsSound, pages_wanted, wants_of, activity_of, ◌<◌, [], ◌∷◌, sym, ap, subst, arith, sound-pool, none-fetched, one-fetches, first-broken, two-fetch, fetch-fails}
+use Rattle.activations.proofs.Lemmas.{Layout, page_count, AreWithin, asks_on, Touch, Activity, IsSound, pages_wanted, wants_of, activity_of, ◌<◌, [], ◌∷◌, sym, ap, subst, arith, sound-pool, none-fetched, one-fetches, first-broken, two-fetch, fetch-fails}
 use Rattle.activations.proofs.activations.Activations.fetch.Goals as goal
 
 pub returns-in-Nothing-clause-fetched : goal.returns-in-Nothing-clause-fetched
@@ -6,11 +6,11 @@ returns-in-Nothing-clause-fetched g c = none-fetched g.W.Outside c.args.store.no
 
 pub returns-in-One-clause-sound : goal.returns-in-One-clause-sound
 returns-in-One-clause-sound g c =
-    subst IsSound (sym c.fetch_page.ensures.shape) (sound-pool (activity_of c.args.self.now) (pool_of c.fetch_page.new.self.unit.pool) c.requires.can.sound)
+    subst IsSound (sym c.fetch_page.ensures.shape) (sound-pool (activity_of c.args.self.now) c.fetch_page.new.self.unit.pool c.requires.can.sound)
 
 pub returns-in-One-clause-fetched : goal.returns-in-One-clause-fetched
 returns-in-One-clause-fetched g c =
-    one-fetches g.W.Outside c.args.store.now c.args.outside.now (activity_of c.args.self.now) (pool_of c.fetch_page.new.self.unit.pool) c.args.touch.now c.in-One.only c.in-One.is
+    one-fetches g.W.Outside c.args.store.now c.args.outside.now (activity_of c.args.self.now) c.fetch_page.new.self.unit.pool c.args.touch.now c.in-One.only c.in-One.is
     c.args.tally.now.pages c.fetch_page.new.tally.pages c.fetch_page.ensures.moved c.fetch_page.ensures.keeps
     c.fetch_page.result c.fetch_page.ensures.page_in c.fetch_page.ensures.unread
 
@@ -30,21 +30,21 @@ fetch_page-requires-in-Two-2-clause-page g c =
 
 pub returns-in_err-fetch_page-in-Two-clause-sound : goal.returns-in_err-fetch_page-in-Two-clause-sound
 returns-in_err-fetch_page-in-Two-clause-sound g c =
-    subst IsSound (sym c.fetch_page-in-Two.ensures.shape) (sound-pool (activity_of c.args.self.now) (pool_of c.fetch_page-in-Two.new.self.unit.pool) c.requires.can.sound)
+    subst IsSound (sym c.fetch_page-in-Two.ensures.shape) (sound-pool (activity_of c.args.self.now) c.fetch_page-in-Two.new.self.unit.pool c.requires.can.sound)
 
 pub returns-in_err-fetch_page-in-Two-clause-fetched : goal.returns-in_err-fetch_page-in-Two-clause-fetched
 returns-in_err-fetch_page-in-Two-clause-fetched g c =
     fetch-fails c.from_residual.result c.in_err-fetch_page-in-Two.field-0.0 c.from_residual.ensures.1 g.W.Outside c.args.store.now c.args.outside.now (activity_of c.args.self.now) (pages_wanted (wants_of c.args.touch.now))
-    c.args.tally.now.pages (pool_of c.fetch_page-in-Two.new.self.unit.pool) c.fetch_page-in-Two.new.tally.pages
-    (first-broken g.W.Outside c.args.store.now c.args.outside.now (activity_of c.args.self.now) (pool_of c.fetch_page-in-Two.new.self.unit.pool) c.args.touch.now c.in-Two.first c.in-Two.second c.in-Two.is
+    c.args.tally.now.pages c.fetch_page-in-Two.new.self.unit.pool c.fetch_page-in-Two.new.tally.pages
+    (first-broken g.W.Outside c.args.store.now c.args.outside.now (activity_of c.args.self.now) c.fetch_page-in-Two.new.self.unit.pool c.args.touch.now c.in-Two.first c.in-Two.second c.in-Two.is
     c.args.tally.now.pages c.fetch_page-in-Two.new.tally.pages c.fetch_page-in-Two.ensures.moved c.fetch_page-in-Two.ensures.keeps c.in_err-fetch_page-in-Two.ensures.unread)
 
 -- It came in.
 
 pub returns-in_ok-fetch_page-in-Two-clause-sound : goal.returns-in_ok-fetch_page-in-Two-clause-sound
 returns-in_ok-fetch_page-in-Two-clause-sound g c = subst IsSound (sym c.fetch_page-in-Two-2.ensures.shape)
-    (sound-pool (activity_of c.fetch_page-in-Two.new.self) (pool_of c.fetch_page-in-Two-2.new.self.unit.pool)
-    (subst IsSound (sym c.fetch_page-in-Two.ensures.shape) (sound-pool (activity_of c.args.self.now) (pool_of c.fetch_page-in-Two.new.self.unit.pool) c.requires.can.sound)))
+    (sound-pool (activity_of c.fetch_page-in-Two.new.self) c.fetch_page-in-Two-2.new.self.unit.pool
+    (subst IsSound (sym c.fetch_page-in-Two.ensures.shape) (sound-pool (activity_of c.args.self.now) c.fetch_page-in-Two.new.self.unit.pool c.requires.can.sound)))
 
 pub returns-in_ok-fetch_page-in-Two-clause-asks : goal.returns-in_ok-fetch_page-in-Two-clause-asks
 returns-in_ok-fetch_page-in-Two-clause-asks g c =
@@ -52,8 +52,8 @@ returns-in_ok-fetch_page-in-Two-clause-asks g c =
 
 pub returns-in_ok-fetch_page-in-Two-clause-fetched : goal.returns-in_ok-fetch_page-in-Two-clause-fetched
 returns-in_ok-fetch_page-in-Two-clause-fetched g c =
-    two-fetch g.W.Outside c.args.store.now c.args.outside.now (activity_of c.args.self.now) (pool_of c.fetch_page-in-Two.new.self.unit.pool) c.args.touch.now c.in-Two.first c.in-Two.second c.in-Two.is
+    two-fetch g.W.Outside c.args.store.now c.args.outside.now (activity_of c.args.self.now) c.fetch_page-in-Two.new.self.unit.pool c.args.touch.now c.in-Two.first c.in-Two.second c.in-Two.is
     c.args.tally.now.pages c.fetch_page-in-Two.new.tally.pages c.fetch_page-in-Two.ensures.moved c.fetch_page-in-Two.ensures.keeps
     g.met.W.Outside.fewer_later c.fetch_page-in-Two.new.outside c.fetch_page-in-Two.ensures.asks c.in_ok-fetch_page-in-Two.ensures.page_in
-    _ (ap (λ (a : Activity). a.reach.directory) c.fetch_page-in-Two.ensures.shape) (pool_of c.fetch_page-in-Two-2.new.self.unit.pool) c.fetch_page-in-Two-2.new.tally.pages c.fetch_page-in-Two-2.ensures.moved c.fetch_page-in-Two-2.ensures.keeps
+    _ (ap (λ (a : Activity). a.reach.directory) c.fetch_page-in-Two.ensures.shape) c.fetch_page-in-Two-2.new.self.unit.pool c.fetch_page-in-Two-2.new.tally.pages c.fetch_page-in-Two-2.ensures.moved c.fetch_page-in-Two-2.ensures.keeps
     c.fetch_page-in-Two-2.result c.fetch_page-in-Two-2.ensures.page_in c.fetch_page-in-Two-2.ensures.unread

@@ -1,4 +1,4 @@
-use Rattle.activations.proofs.Lemmas.{has, pool-seen, reach_of, unit-sound, sound-fits, Activity, IsSound, rolled, RollsBack, activity_of, ◌≡◌, ◌+◌, ℕ, List, sym, ap, ◌∙◌, arith, subst, RolledSo, rolled-none, rolled-past, rolled-step, sound-emptied, deserted, restarted-left}
+use Rattle.activations.proofs.Lemmas.{has, reach_of, Activity, IsSound, rolled, RollsBack, activity_of, ◌≡◌, ◌+◌, ℕ, List, sym, ap, ◌∙◌, arith, subst, RolledSo, rolled-none, rolled-past, rolled-step, sound-emptied, deserted, restarted-left}
 use Rattle.activations.proofs.activations.Activations.forget.Goals as goal
 use Rattle.activations.proofs.activations.Activations.forget.Goals.{then-contains, else-contains}
 
@@ -28,9 +28,9 @@ returns c =
     let a = activity_of c.args.self.now in let last = activity_of c.loop-seat.self in
     let all : c.loop-seat.seat-counter ≡ 16 = omega (arith, c.loop-seat-test.false, c.loop-seat.auto.seat-counter-end) in
     let left = subst (λ (n : ℕ). RolledSo n a last) all c.loop-seat.invariant in
-    let fits = sound-fits (reach_of c.loop-seat.self.unit) (unit-sound c.loop-seat.self.unit) in
+    let fits = c.loop-seat.self.unit.fits in
     record {
       sound = sound-emptied a last _ left fits (λ i. record last { reach = c.empty.ensures i });
       deserted = deserted a last _ left fits (λ i. record last { reach = c.empty.ensures i });
-      restarts = restarted-left a last _ left fits (λ i. record last { reach = c.empty.ensures i }) (pool-seen c.empty.new.self.pool);
+      restarts = restarted-left a last _ left fits (λ i. record last { reach = c.empty.ensures i }) c.empty.new.self.fits.seen;
     }

@@ -1,4 +1,4 @@
-use Rattle.activations.proofs.Lemmas.{unwrap_or, Option, Some, ◌++◌, take_all, Layout, page_count, holds_some, Holding, held_at, flat_lines, Pool, begun_of, KeptStore, RecordLine, most_lines, unit-sound, with_lines, written_of, wrote, activity_of, ◌≡◌, ◌<◌, ◌≤◌, ◌+◌, [], ℕ, List, length, sym, ◌∙◌, ap, subst, arith, slice_index_or, page-held, pages-below, before-page, room-left, written-more}
+use Rattle.activations.proofs.Lemmas.{unwrap_or, Option, Some, ◌++◌, take_all, Layout, page_count, holds_some, Holding, held_at, flat_lines, Pool, begun_of, KeptStore, RecordLine, most_lines, with_lines, written_of, wrote, activity_of, ◌≡◌, ◌<◌, ◌≤◌, ◌+◌, [], ℕ, List, length, sym, ◌∙◌, ap, subst, arith, slice_index_or, page-held, pages-below, before-page, room-left, written-more}
 use Rattle.activations.proofs.activations.Activations.record_written.Goals as goal
 
 room_with : (begun writes these most all : ℕ) → these ≡ writes → all ≡ most → begun + writes ≤ most → begun + these ≤ all
@@ -16,11 +16,11 @@ pub record_lines-requires-clause-page : goal.record_lines-requires-clause-page
 record_lines-requires-clause-page c =
     let below = page-held c.args.self.now.seats.holding c.locks-locks.result.now c.args.seat c.held_pages-page-items.result.now c.loop-page.page-index c.locks-locks.ensures c.requires.sound.seating.whole c.requires.seat c.loop-page-test.true c.held_pages-page-items.ensures.each in
     let all = ap (λ (pool : Pool). length pool.frame_of) c.pool.ensures in
-    let pages = (unit-sound c.args.self.now.unit).pages in omega (arith, below, all, pages, c.requires.sound.pages)
+    let pages = c.args.self.now.unit.fits.pages in omega (arith, below, all, pages, c.requires.sound.pages)
 
 pub record_lines-requires-clause-size : goal.record_lines-requires-clause-size
 record_lines-requires-clause-size c = ap (λ (pool : Pool). pool.page) c.pool.ensures
-    ∙ (unit-sound c.args.self.now.unit).size
+    ∙ c.args.self.now.unit.fits.size
     ∙ ap (λ (d : Layout). d.page) (sym (ap (λ (store : KeptStore). store.header.directory) c.loop-page.invariant ∙ c.requires.directory))
 
 pub record_lines-requires-clause-below : goal.record_lines-requires-clause-below

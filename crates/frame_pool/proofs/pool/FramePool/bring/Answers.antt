@@ -1,6 +1,9 @@
-use Rattle.frame_pool.proofs.Lemmas.{places_of, came-brought}
+use Rattle.frame_pool.proofs.Lemmas.{ap, ◌∙◌, sym, places_of, came-brought}
+use Rattle.frame_pool.specs.Pool.{with_room}
 use Rattle.frame_pool.proofs.pool.FramePool.bring.Goals as goal
 
 pub returns-clause-brought : goal.returns-clause-brought
 returns-clause-brought c =
-    came-brought c.args.self.now c.make_room-out.new.self c.args.keep c.args.page c.come.result (places_of c.come.new.self) c.make_room-out.ensures.value c.come.ensures
+    rw (← c.self.view_is)
+    (came-brought c.self.inside c.self-2.inside c.args.keep c.args.page c.come.result (places_of c.come.new.self)
+    (c.self-2.view_is ∙ c.make_room-out.ensures.value ∙ ap (λ pool. with_room pool c.args.keep) (sym c.self.view_is)) c.come.ensures)

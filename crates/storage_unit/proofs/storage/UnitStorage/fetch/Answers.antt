@@ -1,4 +1,4 @@
-use Rattle.storage_unit.proofs.Lemmas.{◌≡◌, ℕ, ◌+◌, ◌*◌, ◌<◌, ◌≤◌, List, length, true, sym, ◌∙◌, arith, refl, Some, nat_le, slice_index, slice_range, nat_tests, length-take, length-drop, get_or-map-range_with_len, length-map-range_with_len, same_number_lists, bytes_from, halfword_of, Reach, seat_of, byte_at, IsSound, reach_of, pool_of, Unit, common_steps, big_number, Selected, selected, all-private, own-located, unit-sound}
+use Rattle.storage_unit.proofs.Lemmas.{◌≡◌, ℕ, ◌+◌, ◌*◌, ◌<◌, ◌≤◌, List, length, true, sym, ◌∙◌, arith, refl, Some, nat_le, slice_index, slice_range, nat_tests, length-take, length-drop, get_or-map-range_with_len, length-map-range_with_len, same_number_lists, bytes_from, halfword_of, Reach, seat_of, byte_at, IsSound, reach_of, Unit, common_steps, big_number, Selected, selected, all-private, own-located, unit-sound}
 use Rattle.storage_unit.proofs.ByteLemmas.{in-range}
 use Rattle.storage_unit.proofs.LocatedLemmas.{private-at}
 use Rattle.storage_unit.proofs.storage.UnitStorage.fetch.Goals as goal
@@ -22,7 +22,7 @@ own state sound address some fits =
     (long ∙ sym (length-map-range_with_len (byte_at state) address 2)) (λ k below. element k (omega (arith, below, long)))
 
 fetched : (unit : Unit) (address result : ℕ) (part : List ℕ) → 1 ≤ unit.runner → address + 2 ≤ 16384
-    → part ≡ slice_range (pool_of unit.pool).bytes (seat_of (reach_of unit) * 16384 + address) (seat_of (reach_of unit) * 16384 + address + 2)
+    → part ≡ slice_range unit.pool.bytes (seat_of (reach_of unit) * 16384 + address) (seat_of (reach_of unit) * 16384 + address + 2)
     → result ≡ big_number 2 part → Some result ≡ halfword_of (byte_at (reach_of unit)) address
 fetched unit address result part some fits copied read =
     let state = reach_of unit in

@@ -1,4 +1,4 @@
-use Rattle.storage_unit.proofs.Lemmas.{◌≡◌, ℕ, ◌+◌, ◌-◌, ◌*◌, ◌<◌, ◌≤◌, Bool, true, false, List, ◌++◌, length, replicate, sym, ◌∙◌, ap, subst, arith, Option, None, inl, inr, cases_eq, nat_tests, get_or_default, get_or-set_same, get_or-set_other, length-set, length-take, length-drop, length-append, length-replicate, overlaid, Key, key_to, Placed, key_in, look_up, Pool, pool_of, pool-seen, private_frames, with_bytes, with_frame_part, lent-part, reach_of, Unit, private_segment, seat_pages, keys_of, pages_begun, first_keys, AreOfPages, slice_index, nat_lt, if◌then◌else◌, slice_set, slice_range, slice_index_or, Some, AreClear, seat-frame, seat-room, key-at, keys-long, held-private, finds-private, keys-seat, first-long, begun-other, holds-first, free-at, all-private, unit-sound, clear-begun, seat-clear, ready-none, opened-none}
+use Rattle.storage_unit.proofs.Lemmas.{fits-lent, ◌≡◌, ℕ, ◌+◌, ◌-◌, ◌*◌, ◌<◌, ◌≤◌, Bool, true, false, List, ◌++◌, length, replicate, sym, ◌∙◌, ap, subst, arith, Option, None, inl, inr, cases_eq, nat_tests, get_or_default, get_or-set_same, get_or-set_other, length-set, length-take, length-drop, length-append, length-replicate, overlaid, Key, key_to, Placed, key_in, look_up, Pool, private_frames, with_bytes, with_frame_part, lent-part, reach_of, Unit, private_segment, seat_pages, keys_of, pages_begun, first_keys, AreOfPages, slice_index, nat_lt, if◌then◌else◌, slice_set, slice_range, slice_index_or, Some, AreClear, seat-frame, seat-room, key-at, keys-long, held-private, finds-private, keys-seat, first-long, begun-other, holds-first, free-at, all-private, unit-sound, clear-begun, seat-clear, ready-none, opened-none}
 use Rattle.storage_unit.proofs.unit.Unit.begin.Goals as goal
 
 -- the seat isn't begun
@@ -7,7 +7,7 @@ not-begun unit seat few fresh = get_or_default unit.begun seat false true (omega
 
 free : (unit : Unit) (seat index : ℕ) → seat < 16 → index < seat_pages unit.directory.page → slice_index_or unit.begun seat true ≡ false → key_in unit.table.keys (seat * seat_pages unit.directory.page + index) ≡ None
 free unit seat index few small fresh =
-    let pool = pool_of unit.pool in
+    let pool = unit.pool in
     let t = pages_begun unit.directory.page unit.begun in
     cc (
       unit.held,
@@ -18,31 +18,31 @@ free unit seat index few small fresh =
 
 absent : (unit : Unit) (seat index : ℕ) → seat < 16 → index < seat_pages unit.directory.page → slice_index_or unit.begun seat true ≡ false → look_up unit.table.keys (key_to (private_segment seat) index) ≡ None
 absent unit seat index few small fresh =
-    let pool = pool_of unit.pool in
+    let pool = unit.pool in
     let outside : nat_lt index 0 ≡ false = grind (arith, nat_tests) in
     ap (λ (keys : List (Option Key)). look_up keys (key_to (private_segment seat) index)) unit.held
-    ∙ finds-private unit.directory unit.legal pool (pool-seen unit.pool) unit.pool_size unit.pages (pages_begun unit.directory.page unit.begun) seat index few small
+    ∙ finds-private unit.directory unit.legal pool unit.fits.seen unit.fits.size unit.fits.pages (pages_begun unit.directory.page unit.begun) seat index few small
     ∙ ap (λ (on : Bool). if nat_lt index (if on then seat_pages unit.directory.page else 0) then Some (seat * seat_pages unit.directory.page + index) else None) (not-begun unit seat few fresh)
     ∙ ap (λ (b : Bool). if b then Some (seat * seat_pages unit.directory.page + index) else None) outside
 
-room : (unit : Unit) → length unit.table.keys ≡ private_frames unit.directory.page + (pool_of unit.pool).frames
-room unit = ap length unit.held ∙ keys-long unit.directory (pages_begun unit.directory.page unit.begun) (pool_of unit.pool).frames (pool_of unit.pool).page_in
+room : (unit : Unit) → length unit.table.keys ≡ private_frames unit.directory.page + unit.pool.frames
+room unit = ap length unit.held ∙ keys-long unit.directory (pages_begun unit.directory.page unit.begun) unit.pool.frames unit.pool.page_in
 
 pub enter_pages-requires : goal.enter_pages-requires
 enter_pages-requires c = grind (arith, nat_tests, room, seat-room, free, absent)
 
 -- the private bytes of the seat, filled
-lent-long : (unit : Unit) (seat : ℕ) → seat < 16 → length (slice_range (pool_of unit.pool).bytes (seat * 16384) (seat * 16384 + 16384)) ≡ 16384
+lent-long : (unit : Unit) (seat : ℕ) → seat < 16 → length (slice_range unit.pool.bytes (seat * 16384) (seat * 16384 + 16384)) ≡ 16384
 lent-long unit seat few = simp (length-take, length-drop) (omega (arith, few, all-private (reach_of unit) (unit-sound unit)))
 
-filled : (unit : Unit) (seat : ℕ) (image lent bytes : List ℕ) → seat < 16 → length image ≤ 16384 → lent ≡ slice_range (pool_of unit.pool).bytes (seat * 16384) (seat * 16384 + 16384)
+filled : (unit : Unit) (seat : ℕ) (image lent bytes : List ℕ) → seat < 16 → length image ≤ 16384 → lent ≡ slice_range unit.pool.bytes (seat * 16384) (seat * 16384 + 16384)
     → bytes ≡ image ++ replicate (length lent - length image) 0
-    → pool_of (with_frame_part unit.pool (seat * 16384) bytes) ≡ with_bytes (pool_of unit.pool) (seat * 16384) (image ++ replicate (16384 - length image) 0)
+    → with_frame_part unit.pool (seat * 16384) bytes ≡ with_bytes unit.pool (seat * 16384) (image ++ replicate (16384 - length image) 0)
 filled unit seat image lent bytes few short borrowed is =
     let whole : bytes ≡ image ++ replicate (16384 - length image) 0 = is ∙ ap (λ n. image ++ replicate (n - length image) 0) (ap length borrowed ∙ lent-long unit seat few) in
     let long : length bytes ≡ 16384 = ap length whole ∙ length-append image (replicate (16384 - length image) 0) ∙ omega (arith, short, length-replicate {A = ℕ} (16384 - length image) 0) in
     lent-part unit.pool (seat * 16384) bytes (omega (arith, few, long, all-private (reach_of unit) (unit-sound unit)))
-    ∙ ap (with_bytes (pool_of unit.pool) (seat * 16384)) whole
+    ∙ ap (with_bytes unit.pool (seat * 16384)) whole
 
 pub lay_image-requires-clause-image : goal.lay_image-requires-clause-image
 lay_image-requires-clause-image c =
@@ -58,12 +58,12 @@ pub lay_image-requires-clause-clear : goal.lay_image-requires-clause-clear
 lay_image-requires-clause-clear c offset past =
     let unit = c.args.self.now in
     ap (λ (list : List ℕ). slice_index list offset) c.private_mut.ensures.value
-    ∙ seat-clear unit.used (pool_of unit.pool).bytes c.args.seat c.requires.seat unit.clear offset (omega (arith, past, ap (slice_index unit.used) c.from-place.ensures))
+    ∙ seat-clear unit.used unit.pool.bytes c.args.seat c.requires.seat unit.clear offset (omega (arith, past, ap (slice_index unit.used) c.from-place.ensures))
 
 pub invariant_of-self : goal.invariant_of-self
 invariant_of-self c =
     let unit = c.args.self.now in
-    let pool = pool_of unit.pool in
+    let pool = unit.pool in
     let seat = c.args.seat in
     let inside : seat < length unit.begun = omega (arith, c.requires.seat, unit.sixteen) in
     let page = unit.directory.page in
@@ -74,10 +74,8 @@ invariant_of-self c =
     record {
       sixteen = length-set unit.begun c.from-place.result true ∙ unit.sixteen;
       legal = unit.legal;
-      pool_size = ap (λ (p : Pool). p.page) new ∙ unit.pool_size;
-      pages = ap (λ (p : Pool). length p.frame_of) new ∙ unit.pages;
+      fits = fits-lent unit.directory unit.pool unit.fits _ c.lay_image.new.bytes;
       entries = ap (λ (t : Placed). length t.entries) c.enter_pages.ensures.table ∙ unit.entries;
-      marks = subst (λ (list : List (List ℕ)). AreOfPages list) (sym (ap (λ (p : Pool). p.marked) new)) unit.marks;
       held =
           ap (λ (t : Placed). t.keys) c.enter_pages.ensures.table
           ∙ ap (λ n. overlaid unit.table.keys n (first_keys (3840 + c.from.result) c.seat_pages.result)) first

@@ -1,42 +1,42 @@
-use Rattle.storage_unit.proofs.Lemmas.{◌≡◌, ℕ, ◌<◌, ◌≤◌, false, List, length, sym, ◌∙◌, ap, subst, arith, Option, Some, None, slice_set, option_and_then, option_map_or, Key, Placed, key_in, look_up, without_frame, IsOfTable, of_table-entered, Pool, private_frames, frame_count, frame_at, page_out, with_room, Brought, IsSeen, has, page_count, length-set, pool_of, pool-seen, Stays, Unit, key_among, key_of_page, keys_of, pages_begun, AreOfPages, nat_tests, AreReady, AreClear, key-at, keys-long, held-store, finds-page, keys-store, frames-held, room-stays, room-none, keys-room, without-keys, without-entries, opened-none, Pair, get_or-set_same}
+use Rattle.storage_unit.proofs.Lemmas.{fits-brought, ◌≡◌, ℕ, ◌<◌, ◌≤◌, false, List, length, sym, ◌∙◌, ap, subst, arith, Option, Some, None, slice_set, option_and_then, option_map_or, Key, Placed, key_in, look_up, without_frame, IsOfTable, of_table-entered, Pool, private_frames, frame_count, frame_at, page_out, with_room, Brought, IsSeen, has, page_count, length-set, Stays, Unit, key_among, key_of_page, keys_of, pages_begun, AreOfPages, nat_tests, AreReady, AreClear, key-at, keys-long, held-store, finds-page, keys-store, frames-held, room-stays, room-none, keys-room, without-keys, without-entries, opened-none, Pair, get_or-set_same}
 use Rattle.page_table.proofs.BufferLemmas.{after-of, unremembered}
 use Rattle.storage_unit.proofs.Common.{after_found}
 use Rattle.storage_unit.proofs.unit.Unit.bring.Goals as goal
 
 module _ (unit : Unit) (page : ℕ) (keep : Option ℕ) where
   abbrev room : Pool
-  room = with_room (pool_of unit.pool) keep
+  room = with_room unit.pool keep
 
   -- the table when it has left
-  keys-between : (table : Placed) → table ≡ option_map_or (without_frame unit.table) (option_and_then (frame_at (pool_of unit.pool)) (page_out (pool_of unit.pool) keep)) unit.table
+  keys-between : (table : Placed) → table ≡ option_map_or (without_frame unit.table) (option_and_then (frame_at unit.pool) (page_out unit.pool keep)) unit.table
       → table.keys ≡ keys_of unit.directory unit.begun room.frames room.page_in
   keys-between table now =
       grind (
         arith,
         nat_tests,
-        without-keys unit.table (option_and_then (frame_at (pool_of unit.pool)) (page_out (pool_of unit.pool) keep)),
+        without-keys unit.table (option_and_then (frame_at unit.pool) (page_out unit.pool keep)),
         unit.held,
-        keys-room unit.directory unit.legal (pool_of unit.pool) (pool-seen unit.pool) unit.pool_size unit.pages (pages_begun unit.directory.page unit.begun) keep,
+        keys-room unit.directory unit.legal unit.pool unit.fits.seen unit.fits.size unit.fits.pages (pages_begun unit.directory.page unit.begun) keep,
       )
 
-  module _ (new : Pool) (frame : ℕ) (came : Brought (pool_of unit.pool) new page keep frame) (within : page < page_count unit.directory) (absent : has (pool_of unit.pool).resident page ≡ false) where
-    stays : Stays (pool_of unit.pool) room
-    stays = (room-stays (pool_of unit.pool) keep (pool-seen unit.pool)).1
+  module _ (new : Pool) (frame : ℕ) (came : Brought unit.pool new page keep frame) (within : page < page_count unit.directory) (absent : has unit.pool.resident page ≡ false) where
+    stays : Stays unit.pool room
+    stays = (room-stays unit.pool keep unit.fits.seen).1
 
     seen : IsSeen room
-    seen = (room-stays (pool_of unit.pool) keep (pool-seen unit.pool)).0
+    seen = (room-stays unit.pool keep unit.fits.seen).0
 
     size : room.page ≡ unit.directory.page
-    size = stays.page ∙ unit.pool_size
+    size = stays.page ∙ unit.fits.size
 
     pages : length room.frame_of ≡ page_count unit.directory
-    pages = stays.frame_of ∙ unit.pages
+    pages = stays.frame_of ∙ unit.fits.pages
 
     above : private_frames unit.directory.page ≤ frame
-    above = subst (λ s. private_frames s ≤ frame) unit.pool_size came.above
+    above = subst (λ s. private_frames s ≤ frame) unit.fits.size came.above
 
     below : frame < frame_count unit.directory.page room.frames
-    below = omega (arith, subst (λ s. frame < frame_count s (pool_of unit.pool).frames) unit.pool_size came.below, stays.frames)
+    below = omega (arith, subst (λ s. frame < frame_count s unit.pool.frames) unit.fits.size came.below, stays.frames)
 
     free : key_in (keys_of unit.directory unit.begun room.frames room.page_in) frame ≡ None
     free = grind (arith, nat_tests, key-at unit.directory (pages_begun unit.directory.page unit.begun) room.frames room.page_in frame below, held-store unit.directory (pages_begun unit.directory.page unit.begun) room.page_in frame above)
@@ -44,7 +44,7 @@ module _ (unit : Unit) (page : ℕ) (keep : Option ℕ) where
     unfound : look_up (keys_of unit.directory unit.begun room.frames room.page_in) (key_of_page unit.directory page) ≡ None
     unfound =
         finds-page unit.directory unit.legal room seen size pages (pages_begun unit.directory.page unit.begun) page within
-        ∙ room-none (pool_of unit.pool) keep page (grind (arith, nat_tests))
+        ∙ room-none unit.pool keep page (grind (arith, nat_tests))
 
     entered-keys : slice_set (keys_of unit.directory unit.begun room.frames room.page_in) frame (Some (key_of_page unit.directory page)) ≡ keys_of unit.directory unit.begun new.frames new.page_in
     entered-keys =
@@ -65,21 +65,21 @@ leave_frame-requires-clause-room c = frames-held c.args.self.now
 pub enter-requires-clause-frame : goal.enter-requires-clause-frame
 enter-requires-clause-frame c =
     let unit = c.args.self.now in
-    let room = with_room (pool_of unit.pool) c.args.keep in
-    let keys = keys-between unit c.args.page c.args.keep c.leave_frame.new.table (c.leave_frame.ensures.table ∙ ap (λ (o : Option ℕ). option_map_or (without_frame unit.table) (option_and_then (frame_at (pool_of unit.pool)) o) unit.table) c.page_out-out.ensures) in
+    let room = with_room unit.pool c.args.keep in
+    let keys = keys-between unit c.args.page c.args.keep c.leave_frame.new.table (c.leave_frame.ensures.table ∙ ap (λ (o : Option ℕ). option_map_or (without_frame unit.table) (option_and_then (frame_at unit.pool) o) unit.table) c.page_out-out.ensures) in
     omega (
       arith,
       ap length keys,
       keys-long unit.directory (pages_begun unit.directory.page unit.begun) room.frames room.page_in,
-      below unit c.args.page c.args.keep (pool_of c.bring-slot.new.self) c.bring-slot.result.frame c.bring-slot.ensures.brought c.requires.page c.requires.absent,
+      below unit c.args.page c.args.keep c.bring-slot.new.self c.bring-slot.result.frame c.bring-slot.ensures.brought c.requires.page c.requires.absent,
     )
 
 pub enter-requires-clause-free : goal.enter-requires-clause-free
 enter-requires-clause-free c =
     let unit = c.args.self.now in
-    let keys = keys-between unit c.args.page c.args.keep c.leave_frame.new.table (c.leave_frame.ensures.table ∙ ap (λ (o : Option ℕ). option_map_or (without_frame unit.table) (option_and_then (frame_at (pool_of unit.pool)) o) unit.table) c.page_out-out.ensures) in
+    let keys = keys-between unit c.args.page c.args.keep c.leave_frame.new.table (c.leave_frame.ensures.table ∙ ap (λ (o : Option ℕ). option_map_or (without_frame unit.table) (option_and_then (frame_at unit.pool) o) unit.table) c.page_out-out.ensures) in
     ap (λ (list : List (Option Key)). key_in list c.bring-slot.result.frame) keys
-    ∙ free unit c.args.page c.args.keep (pool_of c.bring-slot.new.self) c.bring-slot.result.frame c.bring-slot.ensures.brought c.requires.page c.requires.absent
+    ∙ free unit c.args.page c.args.keep c.bring-slot.new.self c.bring-slot.result.frame c.bring-slot.ensures.brought c.requires.page c.requires.absent
 
 key-is : (unit : Unit) (page : ℕ) (key : Key) (segments : List (ℕ × ℕ)) → key ≡ key_among segments page → segments ≡ unit.directory.segments → key ≡ key_of_page unit.directory page
 key-is unit page key segments is of = is ∙ ap (λ (list : List (ℕ × ℕ)). key_among list page) of
@@ -87,31 +87,31 @@ key-is unit page key segments is of = is ∙ ap (λ (list : List (ℕ × ℕ)). 
 pub enter-requires-clause-absent : goal.enter-requires-clause-absent
 enter-requires-clause-absent c =
     let unit = c.args.self.now in
-    let keys = keys-between unit c.args.page c.args.keep c.leave_frame.new.table (c.leave_frame.ensures.table ∙ ap (λ (o : Option ℕ). option_map_or (without_frame unit.table) (option_and_then (frame_at (pool_of unit.pool)) o) unit.table) c.page_out-out.ensures) in
+    let keys = keys-between unit c.args.page c.args.keep c.leave_frame.new.table (c.leave_frame.ensures.table ∙ ap (λ (o : Option ℕ). option_map_or (without_frame unit.table) (option_and_then (frame_at unit.pool) o) unit.table) c.page_out-out.ensures) in
     ap (λ (list : List (Option Key)). look_up list c.key_among-key.result) keys
-    ∙ ap (λ (key : Key). look_up (keys_of unit.directory unit.begun (with_room (pool_of unit.pool) c.args.keep).frames (with_room (pool_of unit.pool) c.args.keep).page_in) key)
+    ∙ ap (λ (key : Key). look_up (keys_of unit.directory unit.begun (with_room unit.pool c.args.keep).frames (with_room unit.pool c.args.keep).page_in) key)
     (key-is unit c.args.page c.key_among-key.result c.segments.result.now c.key_among-key.ensures c.segments.ensures.value)
-    ∙ unfound unit c.args.page c.args.keep (pool_of c.bring-slot.new.self) c.bring-slot.result.frame c.bring-slot.ensures.brought c.requires.page c.requires.absent
+    ∙ unfound unit c.args.page c.args.keep c.bring-slot.new.self c.bring-slot.result.frame c.bring-slot.ensures.brought c.requires.page c.requires.absent
 
 pub remember-requires : goal.remember-requires
 remember-requires c =
     let unit = c.args.self.now in
-    let keys = keys-between unit c.args.page c.args.keep c.leave_frame.new.table (c.leave_frame.ensures.table ∙ ap (λ (o : Option ℕ). option_map_or (without_frame unit.table) (option_and_then (frame_at (pool_of unit.pool)) o) unit.table) c.page_out-out.ensures) in
+    let keys = keys-between unit c.args.page c.args.keep c.leave_frame.new.table (c.leave_frame.ensures.table ∙ ap (λ (o : Option ℕ). option_map_or (without_frame unit.table) (option_and_then (frame_at unit.pool) o) unit.table) c.page_out-out.ensures) in
     unremembered c.leave_frame.new.buffer c.leave_frame.new.table.keys c.key_among-key.result c.leave_frame.ensures.of_table
     (ap (λ (list : List (Option Key)). look_up list c.key_among-key.result) keys
-    ∙ ap (λ (key : Key). look_up (keys_of unit.directory unit.begun (with_room (pool_of unit.pool) c.args.keep).frames (with_room (pool_of unit.pool) c.args.keep).page_in) key)
+    ∙ ap (λ (key : Key). look_up (keys_of unit.directory unit.begun (with_room unit.pool c.args.keep).frames (with_room unit.pool c.args.keep).page_in) key)
     (key-is unit c.args.page c.key_among-key.result c.segments.result.now c.key_among-key.ensures c.segments.ensures.value)
-    ∙ unfound unit c.args.page c.args.keep (pool_of c.bring-slot.new.self) c.bring-slot.result.frame c.bring-slot.ensures.brought c.requires.page c.requires.absent)
+    ∙ unfound unit c.args.page c.args.keep c.bring-slot.new.self c.bring-slot.result.frame c.bring-slot.ensures.brought c.requires.page c.requires.absent)
 
 pub invariant_of-self : goal.invariant_of-self
 invariant_of-self c =
     let unit = c.args.self.now in
-    let new = pool_of c.bring-slot.new.self in
+    let new = c.bring-slot.new.self in
     let frame = c.bring-slot.result.frame in
     let came = c.bring-slot.ensures.brought in
-    let keys = keys-between unit c.args.page c.args.keep c.leave_frame.new.table (c.leave_frame.ensures.table ∙ ap (λ (o : Option ℕ). option_map_or (without_frame unit.table) (option_and_then (frame_at (pool_of unit.pool)) o) unit.table) c.page_out-out.ensures) in
+    let keys = keys-between unit c.args.page c.args.keep c.leave_frame.new.table (c.leave_frame.ensures.table ∙ ap (λ (o : Option ℕ). option_map_or (without_frame unit.table) (option_and_then (frame_at unit.pool) o) unit.table) c.page_out-out.ensures) in
     let key = key-is unit c.args.page c.key_among-key.result c.segments.result.now c.key_among-key.ensures c.segments.ensures.value in
-    let room = with_room (pool_of unit.pool) c.args.keep in
+    let room = with_room unit.pool c.args.keep in
     let left_keys : List (Option Key) = keys_of unit.directory unit.begun room.frames room.page_in in
     let now : c.enter.new.self.keys ≡ slice_set left_keys frame (Some (key_of_page unit.directory c.args.page)) =
     ap (λ (t : Placed). t.keys) c.enter.ensures
@@ -121,7 +121,7 @@ invariant_of-self c =
     let held = now ∙ entered-keys unit c.args.page c.args.keep new frame came c.requires.page c.requires.absent in
     let there : look_up c.enter.new.self.keys c.key_among-key.result ≡ Some frame =
     ap (λ (list : List (Option Key)). look_up list c.key_among-key.result) held ∙ ap (look_up (keys_of unit.directory unit.begun new.frames new.page_in)) key
-    ∙ found unit c.args.page c.args.keep new frame came c.requires.page c.requires.absent (pool-seen c.bring-slot.new.self) in
+    ∙ found unit c.args.page c.args.keep new frame came c.requires.page c.requires.absent c.bring-slot.ensures.seen in
     let before : IsOfTable c.leave_frame.new.buffer c.enter.new.self.keys =
     subst (λ (list : List (Option Key)). IsOfTable c.leave_frame.new.buffer list) (sym now)
     (of_table-entered c.leave_frame.new.buffer left_keys frame (key_of_page unit.directory c.args.page)
@@ -136,13 +136,11 @@ invariant_of-self c =
     record {
       sixteen = unit.sixteen;
       legal = unit.legal;
-      pool_size = ap (λ (p : Pool). p.page) came.rest ∙ old.page ∙ unit.pool_size;
-      pages = ap (λ (p : Pool). length p.frame_of) came.rest ∙ length-set (with_room (pool_of unit.pool) c.args.keep).frame_of c.args.page (Some frame) ∙ old.frame_of ∙ unit.pages;
+      fits = fits-brought unit.directory unit.pool unit.fits c.bring-slot.new.self c.args.page c.args.keep frame c.bring-slot.ensures.seen came;
       entries =
           ap (λ (t : Placed). length t.entries) c.enter.ensures
           ∙ ap (λ (t : Placed). length t.entries) c.leave_frame.ensures.table
-          ∙ ap length (without-entries unit.table (option_and_then (frame_at (pool_of unit.pool)) c.page_out-out.result)) ∙ unit.entries;
-      marks = subst (λ (list : List (List ℕ)). AreOfPages list) (sym (ap (λ (p : Pool). p.marked) came.rest ∙ old.marked)) unit.marks;
+          ∙ ap length (without-entries unit.table (option_and_then (frame_at unit.pool) c.page_out-out.result)) ∙ unit.entries;
       held = held;
       remembered =
           subst (λ (list : List (List Pair)). IsOfTable list c.enter.new.self.keys) (sym (c.remember.ensures ∙ ap (λ (o : Option ℕ). after_found c.leave_frame.new.buffer o c.key_among-key.result) (sym there)))

@@ -1,3 +1,4 @@
+use Rattle.storage_unit.proofs.Lemmas.{fits-lent}
 use Rattle.storage_unit.proofs.Common.{subst, refl, sym, ◌∙◌, ap, inl, inr, arith, nat_tests, lines_of_bits, all-lines}
 use Rattle.storage_unit.proofs.IncomingLemmas.{is-filled, is-kept, all-marked, has-gone-out, still-ready, still-clear, lent-long}
 use Rattle.storage_unit.proofs.unit.Unit.bring_in.Goals as goal
@@ -40,10 +41,8 @@ invariant_of-self g c =
     record {
       sixteen = unit.sixteen;
       legal = unit.legal;
-      pool_size = unit.pool_size;
-      pages = unit.pages;
+      fits = fits-lent unit.directory unit.pool unit.fits _ c.read_page-read.new.into;
       entries = unit.entries;
-      marks = unit.marks;
       held = unit.held;
       remembered = unit.remembered;
       selected = unit.selected;

@@ -1,4 +1,5 @@
-use Rattle.storage_unit.proofs.Lemmas.{arith, nat_tests, sym, ◌∙◌, ap, subst, List, ℕ, length, Placed, Pair, IsOfTable, Pool, pool_of, pool-seen, AreOfPages, pages_begun, AreReady, AreClear, frames-held, emptied-stays, keys-emptied, none-of_table, opened-none}
+use Rattle.storage_unit.proofs.Lemmas.{Fits, fits-stays, emptied, IsSeen, arith, nat_tests, sym, ◌∙◌, ap, subst, List, ℕ, length, Placed, Pair, IsOfTable, Pool, AreOfPages, pages_begun, AreReady, AreClear, frames-held, emptied-stays, keys-emptied, none-of_table, opened-none}
+use Rattle.storage_unit.proofs.StateLemmas.{fold-seen}
 use Rattle.storage_unit.proofs.unit.Unit.empty.Goals as goal
 
 pub leave_all-requires : goal.leave_all-requires
@@ -7,19 +8,17 @@ leave_all-requires c = frames-held c.args.self.now
 pub invariant_of-self : goal.invariant_of-self
 invariant_of-self c =
     let unit = c.args.self.now in
-    let pool = pool_of unit.pool in
+    let pool = unit.pool in
     let stays = emptied-stays pool in
     let new = c.empty.ensures in
     let table = c.leave_all.ensures in
     record {
       sixteen = unit.sixteen;
       legal = unit.legal;
-      pool_size = ap (λ (p : Pool). p.page) new ∙ stays.page ∙ unit.pool_size;
-      pages = ap (λ (p : Pool). length p.frame_of) new ∙ stays.frame_of ∙ unit.pages;
+      fits = subst (Fits unit.directory) (sym new) (fits-stays unit.directory pool unit.fits (emptied pool) (fold-seen pool.resident pool unit.fits.seen) stays);
       entries = ap (λ (t : Placed). length t.entries) table ∙ unit.entries;
-      marks = subst (λ (list : List (List ℕ)). AreOfPages list) (sym (ap (λ (p : Pool). p.marked) new ∙ stays.marked)) unit.marks;
       held =
-          grind (arith, nat_tests, unit.held, keys-emptied unit.directory unit.legal pool (pool-seen unit.pool) unit.pool_size unit.pages (pages_begun unit.directory.page unit.begun));
+          grind (arith, nat_tests, unit.held, keys-emptied unit.directory unit.legal pool unit.fits.seen unit.fits.size unit.fits.pages (pages_begun unit.directory.page unit.begun));
       remembered = subst (λ (classes : List (List Pair)). IsOfTable classes c.leave_all.new.table.keys) (sym c.new-self.ensures) (none-of_table c.leave_all.new.table.keys);
       selected = unit.selected;
       ready = subst (λ (list : List ℕ). AreReady unit.rows list unit.runner) (sym (ap (λ (p : Pool). p.bytes) new ∙ stays.bytes)) unit.ready;

@@ -1,4 +1,4 @@
-use Rattle.storage_unit.proofs.Lemmas.{◌≡◌, ◌≢◌, ℕ, ◌*◌, ◌<◌, false, List, length, sym, ◌∙◌, ap, arith, Option, None, replicate, slice_set, length-replicate, get_or-set_other, length-set, overlaid, Key, Placed, Registers, pool_of, Unit, seat_pages, keys_of, pages_begun, nat_tests, seat-room, keys-long, keys-seat, begun-other, holds-none, ready-none, opened-none}
+use Rattle.storage_unit.proofs.Lemmas.{◌≡◌, ◌≢◌, ℕ, ◌*◌, ◌<◌, false, List, length, sym, ◌∙◌, ap, arith, Option, None, replicate, slice_set, length-replicate, get_or-set_other, length-set, overlaid, Key, Placed, Registers, Unit, seat_pages, keys_of, pages_begun, nat_tests, seat-room, keys-long, keys-seat, begun-other, holds-none, ready-none, opened-none}
 use Rattle.storage_unit.proofs.unit.Unit.end.Goals as goal
 
 pub leave_pages-requires-clause-room : goal.leave_pages-requires-clause-room
@@ -6,9 +6,9 @@ leave_pages-requires-clause-room c = grind (arith, nat_tests, seat-room, keys-lo
 
 held : (unit : Unit) (seat at count set : ℕ) (keys : List (Option Key)) → seat < 16 → at ≡ seat * seat_pages unit.directory.page → count ≡ seat_pages unit.directory.page → set ≡ seat
     → keys ≡ overlaid unit.table.keys at (replicate count None)
-    → keys ≡ keys_of unit.directory (slice_set unit.begun set false) (pool_of unit.pool).frames (pool_of unit.pool).page_in
+    → keys ≡ keys_of unit.directory (slice_set unit.begun set false) unit.pool.frames unit.pool.page_in
 held unit seat at count set keys few is all also left =
-    let pool = pool_of unit.pool in
+    let pool = unit.pool in
     let inside : seat < length unit.begun = omega (arith, few, unit.sixteen) in
     left
     ∙ ap (λ n. overlaid unit.table.keys n (replicate count None)) is
@@ -24,15 +24,13 @@ invariant_of-self c =
     record {
       sixteen = length-set unit.begun c.from.result false ∙ unit.sixteen;
       legal = unit.legal;
-      pool_size = unit.pool_size;
-      pages = unit.pages;
+      fits = unit.fits;
       entries = ap (λ (t : Placed). length t.entries) c.leave_pages.ensures.table ∙ unit.entries;
-      marks = unit.marks;
       held = held unit c.args.seat c.first_frame.result c.seat_pages.result c.from.result c.leave_pages.new.table.keys c.requires
           (c.first_frame.ensures.value ∙ ap (λ s. c.args.seat * seat_pages s) c.page-page.ensures) (c.seat_pages.ensures.value ∙ ap seat_pages c.page-page.ensures) c.from.ensures (ap (λ (t : Placed). t.keys) c.leave_pages.ensures.table);
       remembered = c.leave_pages.ensures.of_table;
       selected = record { none = λ is. c.none-self.ensures ∙ ap (λ page. (let none : Registers = record { page = page; list = replicate 16 None } in none)) c.page-page.ensures; few = omega arith; seat = λ other is. absurd (omega (arith, is)) };
-      ready = ready-none c.forget-then-self-seat.new.self (pool_of unit.pool).bytes 0 c.forget-then-self-seat.ensures;
+      ready = ready-none c.forget-then-self-seat.new.self unit.pool.bytes 0 c.forget-then-self-seat.ensures;
       opened = opened-none c.forget.new.self unit.directory c.leave_pages.new.table c.none-self.result 0 c.forget.ensures;
       clear = unit.clear;
     }
@@ -43,10 +41,8 @@ invariant_of-self-else-self-seat c =
     record {
       sixteen = length-set unit.begun c.from.result false ∙ unit.sixteen;
       legal = unit.legal;
-      pool_size = unit.pool_size;
-      pages = unit.pages;
+      fits = unit.fits;
       entries = ap (λ (t : Placed). length t.entries) c.leave_pages.ensures.table ∙ unit.entries;
-      marks = unit.marks;
       held = held unit c.args.seat c.first_frame.result c.seat_pages.result c.from.result c.leave_pages.new.table.keys c.requires
           (c.first_frame.ensures.value ∙ ap (λ s. c.args.seat * seat_pages s) c.page-page.ensures) (c.seat_pages.ensures.value ∙ ap seat_pages c.page-page.ensures) c.from.ensures (ap (λ (t : Placed). t.keys) c.leave_pages.ensures.table);
       remembered = c.leave_pages.ensures.of_table;

@@ -1,4 +1,4 @@
-use Rattle.storage_unit.proofs.Lemmas.{◌≡◌, ℕ, ◌+◌, ◌≤◌, List, length, sym, ◌∙◌, ap, subst, arith, page_bytes, stored_bytes, stored_bytes-long, Pool, lines_of_part, pool_of, put_at, place_of, keys_of, AreOfPages, Lies, reach_of, nat_tests, offset_of, ◌-◌, known, after_store, AreUsed, AreOpened, found-below, part-long, pool-after, marked-same, marked-keys, marked-of_pages, opened-more, unit-sound, stored-part, ready-part, clear-part}
+use Rattle.storage_unit.proofs.Lemmas.{fits-part, ◌≡◌, ℕ, ◌+◌, ◌≤◌, List, length, sym, ◌∙◌, ap, subst, arith, page_bytes, stored_bytes, stored_bytes-long, Pool, lines_of_part, put_at, place_of, keys_of, AreOfPages, Lies, reach_of, nat_tests, offset_of, ◌-◌, known, after_store, AreUsed, AreOpened, found-below, part-long, pool-after, marked-same, marked-keys, marked-of_pages, opened-more, unit-sound, stored-part, ready-part, clear-part}
 use Rattle.storage_unit.proofs.unit.Unit.gather_in.Goals as goal
 
 pub part_mut-requires-clause-frame : goal.part_mut-requires-clause-frame
@@ -15,21 +15,17 @@ invariant_of-self c =
     let frame = c.args.frame in
     let n = c.from-2.result in
     let fits : c.args.first.byte + n ≤ page_bytes unit.directory.page = omega (arith, c.requires.within, c.from-2.ensures) in
-    let lines : List ℕ = lines_of_part unit.pool.places.page c.from.result n in
+    let lines : List ℕ = lines_of_part unit.pool.page c.from.result n in
     let part : length c.part_mut.result.now ≡ n = ap length c.part_mut.ensures.value ∙ part-long unit c.args.first frame c.from.result n c.requires.frame c.from.ensures fits in
     let long : length c.gather.new.into ≡ n =
     ap length (c.gather.ensures ∙ ap (λ m. stored_bytes c.args.regs.now m c.args.from) (part ∙ c.from-2.ensures)) ∙ stored_bytes-long c.args.regs.now c.args.bytes c.args.from c.told-regs c.requires.fits ∙ sym c.from-2.ensures in
     let new = pool-after unit c.args.first frame c.from.result n c.requires.frame c.from.ensures fits lines c.gather.new.into long in
-    let same = marked-same (pool_of unit.pool) frame lines in
     record {
       sixteen = unit.sixteen;
       legal = unit.legal;
-      pool_size = ap (λ (p : Pool). p.page) new ∙ same.page ∙ unit.pool_size;
-      pages = ap (λ (p : Pool). length p.frame_of) new ∙ same.frame_of ∙ unit.pages;
+      fits = fits-part unit.directory unit.pool unit.fits frame lines _ c.gather.new.into;
       entries = unit.entries;
-      marks =
-          subst (λ (list : List (List ℕ)). AreOfPages list) (sym (ap (λ (p : Pool). p.marked) new)) (marked-of_pages (pool_of unit.pool) frame lines unit.marks);
-      held = unit.held ∙ sym (ap (λ (p : Pool). keys_of unit.directory unit.begun p.frames p.page_in) new ∙ marked-keys unit.directory unit.begun (pool_of unit.pool) frame lines);
+      held = unit.held ∙ sym (ap (λ (p : Pool). keys_of unit.directory unit.begun p.frames p.page_in) new ∙ marked-keys unit.directory unit.begun unit.pool frame lines);
       remembered = unit.remembered;
       selected = unit.selected;
       ready = ready-part unit c.args.first frame c.from.result n c.requires.frame c.from.ensures fits (omega (arith, c.from-2.ensures, c.requires.fits.some)) (subst (Lies (reach_of unit) c.args.first) (sym c.from-2.ensures) c.requires.lies) c.gather.new.into long c.drop_rows.new.rows

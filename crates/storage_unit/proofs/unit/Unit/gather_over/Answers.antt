@@ -1,4 +1,4 @@
-use Rattle.storage_unit.proofs.Lemmas.{◌≡◌, ◌+◌, ◌-◌, length, sym, ◌∙◌, ap, subst, FitsFrom, stored_bytes, stored_bytes-long, put_at, place_of, offset_of, reach_of, known, after_store, AreUsed, gathered-at, unit-sound, open-room, open-long}
+use Rattle.storage_unit.proofs.Lemmas.{fits-lent, ◌≡◌, ◌+◌, ◌-◌, length, sym, ◌∙◌, ap, subst, FitsFrom, stored_bytes, stored_bytes-long, put_at, place_of, offset_of, reach_of, known, after_store, AreUsed, gathered-at, unit-sound, open-room, open-long}
 use Rattle.storage_unit.proofs.MarkedLemmas.{stored-over, ready-over, clear-over}
 use Rattle.storage_unit.proofs.unit.Unit.gather_over.Goals.{After-gather, After-spot_mut}
 use Rattle.storage_unit.proofs.unit.Unit.gather_over.Goals as goal
@@ -29,10 +29,8 @@ invariant_of-self c =
     record {
       sixteen = unit.sixteen;
       legal = unit.legal;
-      pool_size = unit.pool_size;
-      pages = unit.pages;
+      fits = fits-lent unit.directory unit.pool unit.fits c.args.line.spot c.gather.new.into;
       entries = unit.entries;
-      marks = unit.marks;
       held = unit.held;
       remembered = unit.remembered;
       selected = unit.selected;

@@ -1,4 +1,4 @@
-use Rattle.storage_unit.proofs.Lemmas.{◌≡◌, ℕ, ◌+◌, ◌/◌, ◌%◌, List, sym, ◌∙◌, ap, arith, None, Some, line_bytes, start_of, page_of, line_of, page_of_line, has, some-within, pool-seen, pool_of, marks_at, offset_of, reach_of, page-of-line, line-in, place-byte, page-found, unit-sound}
+use Rattle.storage_unit.proofs.Lemmas.{◌≡◌, ℕ, ◌+◌, ◌/◌, ◌%◌, List, sym, ◌∙◌, ap, arith, None, Some, line_bytes, start_of, page_of, line_of, page_of_line, has, some-within, marks_at, offset_of, reach_of, page-of-line, line-in, place-byte, page-found, unit-sound}
 use Rattle.storage_unit.proofs.unit.Unit.is_written.Goals as goal
 
 same : (a b : ℕ) → Some a ≡ Some b → a ≡ b
@@ -6,8 +6,8 @@ same a b is = cc
 
 pub written-requires : goal.written-requires
 written-requires c =
-    let pool = pool_of c.args.self.now.pool in
-    some-within pool.frame_of c.in-Some.page c.args.frame ((pool-seen c.args.self.now.pool).back c.in-Some.page c.args.frame (sym c.page_in.ensures ∙ c.in-Some.is))
+    let pool = c.args.self.now.pool in
+    some-within pool.frame_of c.in-Some.page c.args.frame (c.args.self.now.fits.seen.back c.in-Some.page c.args.frame (sym c.page_in.ensures ∙ c.in-Some.is))
 
 pub returns-in-Some-clause-marked : goal.returns-in-Some-clause-marked
 returns-in-Some-clause-marked c = λ is own.
@@ -19,8 +19,8 @@ returns-in-Some-clause-marked c = λ is own.
     let line : c.line_in_page-line.result ≡ line_of unit.directory at % 16 =
     c.line_in_page-line.ensures.value ∙ ap (λ s. c.args.first.byte / line_bytes s) c.page.ensures
     ∙ sym (line-in size at c.args.first.byte (place-byte (reach_of unit) (unit-sound unit) c.args.first 1 (omega arith) c.requires.lies)) in
-    ap (λ l. has (marks_at (pool_of unit.pool) (page_of_line (line_of unit.directory at))) l) (sym line)
-    ∙ ap (λ p. has (marks_at (pool_of unit.pool) p) c.line_in_page-line.result) (page-of-line size at ∙ sym page)
+    ap (λ l. has (marks_at unit.pool (page_of_line (line_of unit.directory at))) l) (sym line)
+    ∙ ap (λ p. has (marks_at unit.pool p) c.line_in_page-line.result) (page-of-line size at ∙ sym page)
     ∙ ap (λ (set : List ℕ). has set c.line_in_page-line.result) (sym c.written.ensures)
     ∙ sym c.contains.ensures.value ∙ is
 

@@ -1,4 +1,4 @@
-use Rattle.storage_unit.proofs.Lemmas.{ℕ, List, length, sym, ◌∙◌, ap, subst, Pool, lines_of_part, pool_of, put_at, place_of, keys_of, AreOfPages, reach_of, nat_tests, arith, offset_of, ◌-◌, ◌+◌, common_steps, known, after_store, AreUsed, AreOpened, found-below, found-some, none-of, marked-of_pages, opened-more, unit-sound, part-long, pool-after, marked-same, marked-keys, stored-part, ready-part, clear-part}
+use Rattle.storage_unit.proofs.Lemmas.{fits-part, ℕ, List, length, sym, ◌∙◌, ap, subst, Pool, lines_of_part, put_at, place_of, keys_of, AreOfPages, reach_of, nat_tests, arith, offset_of, ◌-◌, ◌+◌, common_steps, known, after_store, AreUsed, AreOpened, found-below, found-some, none-of, marked-of_pages, opened-more, unit-sound, part-long, pool-after, marked-same, marked-keys, stored-part, ready-part, clear-part}
 use Rattle.storage_unit.proofs.unit.Unit.put_part.Goals as goal
 
 pub part_mut-requires-clause-frame : goal.part_mut-requires-clause-frame
@@ -15,18 +15,14 @@ invariant_of-self c =
     let frame = c.in-Some.frame in
     let n = length c.args.from.now in
     let is = sym c.frame_at.ensures ∙ c.in-Some.is in
-    let lines : List ℕ = lines_of_part unit.pool.places.page c.from.result n in
+    let lines : List ℕ = lines_of_part unit.pool.page c.from.result n in
     let new = pool-after unit c.args.first frame c.from.result n is c.from.ensures c.requires.within lines c.copy_from_slice.new.self (ap length c.copy_from_slice.ensures.after) in
-    let same = marked-same (pool_of unit.pool) frame lines in
     record {
       sixteen = unit.sixteen;
       legal = unit.legal;
-      pool_size = ap (λ (p : Pool). p.page) new ∙ same.page ∙ unit.pool_size;
-      pages = ap (λ (p : Pool). length p.frame_of) new ∙ same.frame_of ∙ unit.pages;
+      fits = fits-part unit.directory unit.pool unit.fits frame lines _ c.copy_from_slice.new.self;
       entries = unit.entries;
-      marks =
-          subst (λ (list : List (List ℕ)). AreOfPages list) (sym (ap (λ (p : Pool). p.marked) new)) (marked-of_pages (pool_of unit.pool) frame lines unit.marks);
-      held = unit.held ∙ sym (ap (λ (p : Pool). keys_of unit.directory unit.begun p.frames p.page_in) new ∙ marked-keys unit.directory unit.begun (pool_of unit.pool) frame lines);
+      held = unit.held ∙ sym (ap (λ (p : Pool). keys_of unit.directory unit.begun p.frames p.page_in) new ∙ marked-keys unit.directory unit.begun unit.pool frame lines);
       remembered = unit.remembered;
       selected = unit.selected;
       ready = ready-part unit c.args.first frame c.from.result n is c.from.ensures c.requires.within c.requires.some c.requires.lies c.copy_from_slice.new.self (ap length c.copy_from_slice.ensures.after) c.drop_rows.new.rows

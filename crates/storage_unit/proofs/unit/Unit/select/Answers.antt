@@ -13,7 +13,7 @@ invariant_of-self-clause-selected c = record {
 pub invariant_of-self-clause-ready : goal.invariant_of-self-clause-ready
 invariant_of-self-clause-ready c =
     let unit = c.args.self.now in
-    ready-selected unit.rows c.forget_unless.new.rows unit.pool.bytes.items.items unit.runner (c.args.seat + 1) unit.ready c.forget_unless.ensures.rows
+    ready-selected unit.rows c.forget_unless.new.rows unit.pool.bytes unit.runner (c.args.seat + 1) unit.ready c.forget_unless.ensures.rows
 
 pub invariant_of-self-clause-opened : goal.invariant_of-self-clause-opened
 invariant_of-self-clause-opened c = let unit = c.args.self.now in opened-none c.forget_unless.new.lines unit.directory unit.table c.args.regs.now (c.args.seat + 1) c.forget_unless.ensures.lines

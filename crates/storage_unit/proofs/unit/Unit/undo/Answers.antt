@@ -1,4 +1,4 @@
-use Rattle.storage_unit.proofs.Lemmas.{sym, ◌∙◌, ap, subst, List, ℕ, length, Option, None, arith, slice_set, option_map_or, Key, Placed, Pool, IsSeen, frame_at, marks_at, settled, pool_of, pool-seen, gone-stays, AreOfPages, keys_of, pages_begun, AreReady, AreClear, frames-held, marks-settled, keys-gone, without-keys, without-entries, opened-none}
+use Rattle.storage_unit.proofs.Lemmas.{Fits, fits-stays, fits-settled, gone, seen-gone, sym, ◌∙◌, ap, subst, List, ℕ, length, Option, None, arith, slice_set, option_map_or, Key, Placed, Pool, IsSeen, frame_at, marks_at, settled, gone-stays, AreOfPages, keys_of, pages_begun, AreReady, AreClear, frames-held, marks-settled, keys-gone, without-keys, without-entries, opened-none}
 use Rattle.storage_unit.proofs.LeaveLemmas.{seen-settled}
 use Rattle.storage_unit.proofs.unit.Unit.undo.Goals as goal
 
@@ -6,31 +6,27 @@ pub leave_frame-requires-clause-room : goal.leave_frame-requires-clause-room
 leave_frame-requires-clause-room c = frames-held c.args.self.now
 
 pub undo-requires : goal.undo-requires
-undo-requires c = omega (arith, c.requires, c.args.self.now.pages)
+undo-requires c = omega (arith, c.requires, c.args.self.now.fits.pages)
 
 pub invariant_of-self : goal.invariant_of-self
 invariant_of-self c =
     let unit = c.args.self.now in
-    let pool = pool_of unit.pool in
+    let pool = unit.pool in
     let between = settled pool c.args.page c.args.lines in
     let new = c.undo.ensures in
     let stays = gone-stays between c.args.page in
-    let seen : IsSeen between = seen-settled unit.directory pool pool.kept c.args.page c.args.lines (pool-seen unit.pool) (omega (arith, c.requires, unit.pages)) in
+    let seen : IsSeen between = seen-settled unit.directory pool pool.kept c.args.page c.args.lines unit.fits.seen (omega (arith, c.requires, unit.fits.pages)) in
     let table = c.leave_frame.ensures.table in
     record {
       sixteen = unit.sixteen;
       legal = unit.legal;
-      pool_size = ap (λ (p : Pool). p.page) new ∙ stays.page ∙ unit.pool_size;
-      pages = ap (λ (p : Pool). length p.frame_of) new ∙ stays.frame_of ∙ unit.pages;
+      fits = subst (Fits unit.directory) (sym new) (fits-stays unit.directory between (fits-settled unit.directory pool unit.fits c.args.page c.args.lines c.requires) (gone between c.args.page) (seen-gone between c.args.page seen) stays);
       entries = ap (λ (t : Placed). length t.entries) table ∙ ap length (without-entries unit.table (frame_at pool c.args.page)) ∙ unit.entries;
-      marks =
-          subst (λ (list : List (List ℕ)). AreOfPages list) (sym (ap (λ (p : Pool). p.marked) new ∙ stays.marked))
-          (marks-settled pool.marked c.args.page (marks_at pool c.args.page) c.args.lines unit.marks);
       held =
           ap (λ (t : Placed). t.keys) table
           ∙ without-keys unit.table (frame_at pool c.args.page)
           ∙ ap (λ (keys : List (Option Key)). option_map_or (λ frame. slice_set keys frame None) (frame_at pool c.args.page) keys) unit.held
-          ∙ keys-gone unit.directory unit.legal between seen unit.pool_size unit.pages (pages_begun unit.directory.page unit.begun) c.args.page
+          ∙ keys-gone unit.directory unit.legal between seen unit.fits.size unit.fits.pages (pages_begun unit.directory.page unit.begun) c.args.page
           ∙ ap (λ (p : Pool). keys_of unit.directory unit.begun p.frames p.page_in) (sym new);
       remembered = c.leave_frame.ensures.of_table;
       selected = unit.selected;
