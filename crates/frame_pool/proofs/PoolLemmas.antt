@@ -1,7 +1,7 @@
 -- What a step of the pool needs and leaves.
 use Rattle.frame_pool.proofs.Common.{◌≡◌, ℕ, zero, suc, ◌+◌, ◌*◌, ◌<◌, ◌≤◌, Bool, true, false, List, [], ◌∷◌, length, refl, arith, Some, None, All, vec_len, ◌==◌, not, nat_lt, position, find, remove, IfSome, slice_index, slice_set, if◌then◌else◌, Option, unwrap_or, option_to_list, prefix_len, list_any, overlaid, nat_tests, All-from_get_or, position-Some, page_bytes, IsOfPage, has, first_out, taken_out, Inside, Pool, private_frames, frame_count, Places, left, index_out, CameIn, places_of, HasSizes, IsSeen, IsOfStore, subst, is_apart, frame_at, page_at, marks_at, frame_bytes, paging_after, gone, page_out, with_room, Brought, emptied, shown}
 use Rattle.lines.proofs.LineSetLemmas.{of_page-below}
-use Rattle.frame_pool.proofs.SoundLemmas.{first-apart, has-at, has-push_last, resident-in_frame, page-within, frame_of_store, page_part, none_room, index-out_below}
+use Rattle.frame_pool.proofs.SoundLemmas.{first-apart, has-at, has-push_last, resident-in_frame, page-within, frame_of_store, page_part, none_room, index_out_below}
 
 -- the pool of places and the other parts
 abbrev pub shown_with : Places → (bytes : List ℕ) → List (List ℕ) → (kept : List ℕ) → Pool
@@ -136,7 +136,7 @@ room-resident p keep =
     let taken = λ (index : ℕ). removed-taken p.places.resident.items index p.places.sound.placed.pages_apart in
     let none = out_none p keep in
     let some = out_some p keep in
-    grind (arith, nat_tests, none_room p.places keep, index-out_below p.places keep, gone-from (shown p), there, taken, none, some, p.places.resident.ok)
+    grind (arith, nat_tests, none_room p.places keep, index_out_below p.places keep, gone-from (shown p), there, taken, none, some, p.places.resident.ok)
 
 -- a page came in
 pub came-brought :

@@ -111,7 +111,32 @@ pair-came to from x y inside also free each p f is = grind (arith, nat_tests, ca
 pub sound-left :
     (pages : Places) (index page frame : ℕ) → IsSound pages → index < length pages.resident → slice_index pages.resident index ≡ page
     → place_of pages page ≡ Some frame → IsSound (left pages index page frame)
-sound-left pages index page frame sound below is_page in_frame = record { sized = sized; placed = placed }
+sound-left pages index page frame sound below is_page in_frame =
+    record {
+      sized = record {
+        some = sound.sized.some;
+        few = sound.sized.few;
+        page_in = length-set pages.page_in frame None ∙ sound.sized.page_in;
+      };
+      placed = record {
+        used = omega (arith, length-remove pages.resident index below, length-append pages.free (frame ∷ []), old.used);
+        pages_apart = apart-remove pages.resident index old.pages_apart;
+        free_apart = apart-push pages.free frame old.free_apart not_free;
+        resident = λ p.
+            let gone = has-removed pages.resident index old.pages_apart below in
+            let other = has-remove_other pages.resident index p in
+            let was = old.resident p in
+            grind (arith, nat_tests, gone, other, was, is_page, get_or-set_same pages.frame_of page None None page_inside, get_or-set_other pages.frame_of page p);
+        there = λ p f is. pair-left pages.frame_of pages.page_in page frame page_inside back old.there p f is;
+        back = λ p f is. pair-left pages.page_in pages.frame_of frame page frame_inside in_frame (λ f p. old.back p f) f p is;
+        in_use = λ p f is.
+            let was = old.in_use p f in
+            grind (arith, nat_tests, get_or-set_other pages.page_in frame f, was, store, is);
+        is_free = λ f free.
+            let was = old.is_free f in
+            grind (arith, nat_tests, get_or-set_same pages.page_in frame None None frame_inside, get_or-set_other pages.page_in frame f, has-push_other pages.free frame f, was, store, free);
+      };
+    }
   where
     old : IsPlaced pages
     old = sound.placed
@@ -128,50 +153,8 @@ sound-left pages index page frame sound below is_page in_frame = record { sized 
     store : IsOfStore pages frame
     store = old.in_use page frame back
 
-    sized : IsSized (left pages index page frame)
-    sized = record {
-      some = sound.sized.some;
-      few = sound.sized.few;
-      page_in = length-set pages.page_in frame None ∙ sound.sized.page_in;
-    }
-
     not_free : has pages.free frame ≡ false
     not_free = let free = old.is_free frame in grind (arith, nat_tests, free, back)
-
-    resident : (p : ℕ) → has (remove pages.resident index) p ≡ is_some (slice_index_or (slice_set pages.frame_of page None) p None)
-    resident p =
-        let gone = has-removed pages.resident index old.pages_apart below in
-        let other = has-remove_other pages.resident index p in
-        let was = old.resident p in
-        grind (arith, nat_tests, gone, other, was, is_page, get_or-set_same pages.frame_of page None None page_inside, get_or-set_other pages.frame_of page p)
-
-    there : (p f : ℕ) → slice_index_or (slice_set pages.frame_of page None) p None ≡ Some f → slice_index_or (slice_set pages.page_in frame None) f None ≡ Some p
-    there p f is = pair-left pages.frame_of pages.page_in page frame page_inside back old.there p f is
-
-    back_again : (p f : ℕ) → slice_index_or (slice_set pages.page_in frame None) f None ≡ Some p → slice_index_or (slice_set pages.frame_of page None) p None ≡ Some f
-    back_again p f is = pair-left pages.page_in pages.frame_of frame page frame_inside in_frame (λ f p. old.back p f) f p is
-
-    in_use : (p f : ℕ) → slice_index_or (slice_set pages.page_in frame None) f None ≡ Some p → IsOfStore (left pages index page frame) f
-    in_use p f is =
-        let was = old.in_use p f in
-        grind (arith, nat_tests, get_or-set_other pages.page_in frame f, was, store, is)
-
-    is_free : (f : ℕ) → has (pages.free ++ frame ∷ []) f ≡ true → (slice_index_or (slice_set pages.page_in frame None) f None ≡ None) × IsOfStore (left pages index page frame) f
-    is_free f free =
-        let was = old.is_free f in
-        grind (arith, nat_tests, get_or-set_same pages.page_in frame None None frame_inside, get_or-set_other pages.page_in frame f, has-push_other pages.free frame f, was, store, free)
-
-    placed : IsPlaced (left pages index page frame)
-    placed = record {
-      used = omega (arith, length-remove pages.resident index below, length-append pages.free (frame ∷ []), old.used);
-      pages_apart = apart-remove pages.resident index old.pages_apart;
-      free_apart = apart-push pages.free frame old.free_apart not_free;
-      resident = resident;
-      there = there;
-      back = back_again;
-      in_use = in_use;
-      is_free = is_free;
-    }
 
 -- the same where the parts are told apart
 pub sound-left_by :
@@ -193,7 +176,30 @@ pub sound-came :
       page_in = slice_set pages.page_in frame (Some page);
       free = free;
     })
-sound-came pages page frame free sound absent page_inside split = record { sized = sized; placed = placed }
+sound-came pages page frame free sound absent page_inside split =
+    record {
+      sized = record {
+        some = sound.sized.some;
+        few = sound.sized.few;
+        page_in = length-set pages.page_in frame (Some page) ∙ sound.sized.page_in;
+      };
+      placed = record {
+        used = omega (arith, length-append pages.resident (page ∷ []), ap length split, length-append free (frame ∷ []), old.used);
+        pages_apart = apart-push pages.resident page old.pages_apart absent;
+        free_apart = apart_before.0;
+        resident = λ p.
+            let was = old.resident p in
+            grind (arith, nat_tests, has-push_last pages.resident page, has-push_other pages.resident page p, was, get_or-set_same pages.frame_of page (Some frame) None page_inside, get_or-set_other pages.frame_of page p);
+        there = λ p f is. pair-came pages.frame_of pages.page_in page frame page_inside frame_inside was_free.0 old.there p f is;
+        back = λ p f is. pair-came pages.page_in pages.frame_of frame page frame_inside page_inside not_there (λ f p. old.back p f) f p is;
+        in_use = λ p f is.
+            let was = old.in_use p f in
+            grind (arith, nat_tests, get_or-set_other pages.page_in frame f, was, was_free, is);
+        is_free = λ f inside.
+            let was = old.is_free f in
+            grind (arith, nat_tests, get_or-set_other pages.page_in frame f, has-push_other free frame f, was, split, apart_before, inside);
+      };
+    }
   where
     old : IsPlaced pages
     old = sound.placed
@@ -217,46 +223,6 @@ sound-came pages page frame free sound absent page_inside split = record { sized
 
     not_there : place_of pages page ≡ None
     not_there = let was = old.resident page in grind (arith, nat_tests, was, absent)
-
-    sized : IsSized new
-    sized = record {
-      some = sound.sized.some;
-      few = sound.sized.few;
-      page_in = length-set pages.page_in frame (Some page) ∙ sound.sized.page_in;
-    }
-
-    resident : (p : ℕ) → has (pages.resident ++ page ∷ []) p ≡ is_some (slice_index_or (slice_set pages.frame_of page (Some frame)) p None)
-    resident p =
-        let was = old.resident p in
-        grind (arith, nat_tests, has-push_last pages.resident page, has-push_other pages.resident page p, was, get_or-set_same pages.frame_of page (Some frame) None page_inside, get_or-set_other pages.frame_of page p)
-
-    there : (p f : ℕ) → slice_index_or (slice_set pages.frame_of page (Some frame)) p None ≡ Some f → slice_index_or (slice_set pages.page_in frame (Some page)) f None ≡ Some p
-    there p f is = pair-came pages.frame_of pages.page_in page frame page_inside frame_inside was_free.0 old.there p f is
-
-    back_again : (p f : ℕ) → slice_index_or (slice_set pages.page_in frame (Some page)) f None ≡ Some p → slice_index_or (slice_set pages.frame_of page (Some frame)) p None ≡ Some f
-    back_again p f is = pair-came pages.page_in pages.frame_of frame page frame_inside page_inside not_there (λ f p. old.back p f) f p is
-
-    in_use : (p f : ℕ) → slice_index_or (slice_set pages.page_in frame (Some page)) f None ≡ Some p → IsOfStore new f
-    in_use p f is =
-        let was = old.in_use p f in
-        grind (arith, nat_tests, get_or-set_other pages.page_in frame f, was, was_free, is)
-
-    is_free : (f : ℕ) → has free f ≡ true → (slice_index_or (slice_set pages.page_in frame (Some page)) f None ≡ None) × IsOfStore new f
-    is_free f inside =
-        let was = old.is_free f in
-        grind (arith, nat_tests, get_or-set_other pages.page_in frame f, has-push_other free frame f, was, split, apart_before, inside)
-
-    placed : IsPlaced new
-    placed = record {
-      used = omega (arith, length-append pages.resident (page ∷ []), ap length split, length-append free (frame ∷ []), old.used);
-      pages_apart = apart-push pages.resident page old.pages_apart absent;
-      free_apart = apart_before.0;
-      resident = resident;
-      there = there;
-      back = back_again;
-      in_use = in_use;
-      is_free = is_free;
-    }
 
 pub sound-came_by :
     (pages : Places) (page frame : ℕ) (resident free : List ℕ) (frame_of page_in : List (Option ℕ))
@@ -381,8 +347,8 @@ pub none_room : (p : StorePages) (keep : Option ℕ) → index_out (places_of p)
 none_room p keep none = grind (arith, nat_tests, not-all-stay)
 
 -- the place of the page that goes out is one of the resident ones
-pub index-out_below : (p : StorePages) (keep : Option ℕ) (index : ℕ) → index_out (places_of p) keep ≡ Some index → index < length p.resident.items
-index-out_below p keep index is = grind (arith, nat_tests)
+pub index_out_below : (p : StorePages) (keep : Option ℕ) (index : ℕ) → index_out (places_of p) keep ≡ Some index → index < length p.resident.items
+index_out_below p keep index is = grind (arith, nat_tests)
 
 -- one more number of a range
 pub range_push : (first count : ℕ)

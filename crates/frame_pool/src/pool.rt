@@ -115,6 +115,7 @@ impl FramePool {
 
     /// The page that goes out for another: none while a frame is free, else the first that isn't to stay.
     #[inline(always)]
+    #[tactic(auto, using(crate::proofs::PoolLemmas::out_none, std::proofs::lemmas::Bool::Decides::nat_tests))]
     pub fn page_out(&self, keep: Option<u16>) -> Option<u16>
         ensures { result ≡ page_out self.now keep }
     {
@@ -405,6 +406,7 @@ impl FramePool {
     }
 
     /// All pages leave their frames. Their marked lines are kept.
+    #[tactic(auto, using(crate::proofs::PoolLemmas::emptied_step, std::proofs::lemmas::Bool::Decides::nat_tests))]
     pub fn empty(&mut self)
         ensures { self.new ≡ emptied self.old }
     {

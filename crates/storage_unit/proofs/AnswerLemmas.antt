@@ -28,15 +28,11 @@ module _ (f : Reach) (first : Virtual) (n : ℕ) where
   permitted-there access bytes permitted k below =
       by_found (find (λ k. not (is_there f (on (place_of f.directory first) k))) (range_with_len 0 n)) refl (sym (answered-by access bytes) ∙ permitted)
     where
-      un-not : (b : Bool) → not b ≡ false → b ≡ true
-      un-not true is = refl
-      un-not false is = absurd (cc)
-
       by_found : (absent : Option ℕ) → find (λ k. not (is_there f (on (place_of f.directory first) k))) (range_with_len 0 n) ≡ absent
           → unless_absent_at (option_map (bytes_on f.directory.page first) absent) (option_map (bytes_on f.directory.page first) (find (λ k. is_kept_from f (on (place_of f.directory first) k) access.store) (range_with_len 0 n))) ≡ Probe.Permitted
           → is_there f (on (place_of f.directory first) k) ≡ true
       by_found (Some j) is permitted = absurd (cc)
-      by_found None is permitted = un-not _ (none-passes (λ k. not (is_there f (on (place_of f.directory first) k))) 0 n is k (omega arith) (omega arith))
+      by_found None is permitted = grind (arith, nat_tests, none-passes (λ k. not (is_there f (on (place_of f.directory first) k))) 0 n is k (omega arith) (omega arith))
 
   -- a permitted access of the store: each of its lines is there and permits
   pub permitted-lines : (access : Access) (at : ℕ) → access.bytes ≡ n → place_of f.directory first ≡ Shared at
@@ -49,10 +45,6 @@ module _ (f : Reach) (first : Virtual) (n : ℕ) where
       refl refl
       (sym (answered-by access bytes ∙ ap (λ p. answer_by p access.store) place) ∙ permitted)
     where
-      un-not : (b : Bool) → not b ≡ false → b ≡ true
-      un-not true is = refl
-      un-not false is = absurd (cc)
-
       by_found : (absent refused : Option ℕ)
           → find (λ k. not (is_resident f (line_of f.directory (at + k)))) (range_with_len 0 n) ≡ absent
           → find (λ k. is_refused f (line_of f.directory (at + k)) access.store) (range_with_len 0 n) ≡ refused
@@ -61,7 +53,7 @@ module _ (f : Reach) (first : Virtual) (n : ℕ) where
       by_found (Some j) refused a r permitted k below = absurd (cc)
       by_found None (Some j) a r permitted k below = absurd (cc)
       by_found None None a r permitted k below = (
-        un-not _ (none-passes (λ k. not (is_resident f (line_of f.directory (at + k)))) 0 n a k (omega arith) (omega arith)),
+        grind (arith, nat_tests, none-passes (λ k. not (is_resident f (line_of f.directory (at + k)))) 0 n a k (omega arith) (omega arith)),
         none-passes (λ k. is_refused f (line_of f.directory (at + k)) access.store) 0 n r k (omega arith) (omega arith),
       )
 

@@ -24,10 +24,7 @@ module _ (d : Layout) (old new : Pool) (committed bytes : List ℕ) (page : ℕ)
 
   -- the page was in no frame
   pub not-there : frame_at room page ≡ None
-  not-there = fewer.frames page (by_frame (frame_at old page) (sym (fits.seen.resident page) ∙ absent))
-    where
-      by_frame : (o : Option ℕ) → is_some o ≡ false → o ≡ None
-      by_frame o is = grind (arith, nat_tests)
+  not-there = fewer.frames page (let none : frame_at old page ≡ None = grind (arith, nat_tests, fits.seen.resident page) in none)
 
   -- the marks of the page, its kept lines and its frame
   marks-few : All (λ line. line < 16) (marks_at room page)

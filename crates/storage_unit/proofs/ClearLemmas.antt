@@ -17,10 +17,7 @@ pub clear-put :
     (state : Reach) (sound : IsSound state) (at : Virtual) (bytes : List ℕ) → Lies state at (length bytes) → (used after : List ℕ) → AreClear used state.pool.bytes
     → (is_private at.segment ≡ false → after ≡ used) → (is_private at.segment ≡ true → AreUsed used after (at.segment - 3840) (offset_of state.directory.page at + length bytes))
     → AreClear after (put_at state (place_of state.directory at) bytes).pool.bytes
-clear-put state sound at bytes lies used after clear stays more = by_test (is_private at.segment) refl
-  where
-    by_test : (own : Bool) → is_private at.segment ≡ own → AreClear after (put_at state (place_of state.directory at) bytes).pool.bytes
-    by_test own shared = grind (arith, nat_tests, clear-kept, put-low)
+clear-put state sound at bytes lies used after clear stays more = grind (arith, nat_tests, clear-kept, put-low)
 
 -- the bytes of one seat
 pub seat-clear :

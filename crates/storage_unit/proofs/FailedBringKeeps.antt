@@ -46,15 +46,14 @@ module _ (d : Layout) (old new : Pool) (committed bytes : List ℕ) (page : ℕ)
 
   each : (place : ℕ) → place < byte_count d → byte_over d (emptied brought_in) committed place ≡ byte_over d old committed place
   each place below =
-      cc (
+      grind (
+        arith,
+        nat_tests,
         emptied-over d brought_in committed place seen (size d old new committed bytes page keep frame fits clean within absent came long),
         full-marked d old new committed bytes page keep frame fits clean within absent came long place,
-        by_mark (is_marked d old place) refl,
+        shows place below,
+        clean-shows d old committed place clean below,
       )
-    where
-      by_mark : (marked : Bool) → is_marked d old place ≡ marked → (if marked then byte_over d brought_in committed place else slice_index committed place) ≡ byte_over d old committed place
-      by_mark true is = shows place below is
-      by_mark false is = sym (clean-shows d old committed place clean below is)
 
   keeps : Keeps d old (emptied (filled new page frame bytes)) committed
   keeps =

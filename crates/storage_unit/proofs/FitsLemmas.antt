@@ -36,4 +36,4 @@ pub fits-part : (d : Layout) (pool : Pool) → Fits d pool → (frame : ℕ) (li
 fits-part d pool fits frame lines =
     let same = marked-same pool frame lines in
     let marks = marked-of_pages pool frame lines fits.marks in
-    fits-lent d (marked_in pool frame lines) (fits-as d pool (marked_in pool frame lines) fits (seen-marked pool frame lines fits.seen) same.page same.frame_of marks)
+    fits-lent d (marked_in pool frame lines) (fits-as d pool (marked_in pool frame lines) fits (seen-marked pool frame lines fits.seen) same.0 same.1 marks)

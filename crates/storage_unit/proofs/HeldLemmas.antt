@@ -80,10 +80,7 @@ module _ (d : Layout) (legal : IsLegal d.segments) (pool : Pool) (seen : IsSeen 
       own = seat * seat_pages d.page + index
 
       there : (frame : ℕ) → (if nat_lt index (t seat) then Some (seat * seat_pages d.page + index) else None) ≡ Some frame → key_in (keys_with d t pool.frames pool.page_in) frame ≡ Some (key_to (private_segment seat) index)
-      there frame is = by_test (nat_lt index (t seat)) refl is
-        where
-          by_test : (b : Bool) → nat_lt index (t seat) ≡ b → (if b then Some (seat * seat_pages d.page + index) else None) ≡ Some frame → key_in (keys_with d t pool.frames pool.page_in) frame ≡ Some (key_to (private_segment seat) index)
-          by_test b test is = grind (arith, nat_tests, seat-frame, seat-first, seat-rest, key-at, held-private)
+      there frame is = grind (arith, nat_tests, seat-frame, seat-first, seat-rest, key-at, held-private)
 
       only : (frame : ℕ) → key_in (keys_with d t pool.frames pool.page_in) frame ≡ Some (key_to (private_segment seat) index) → (if nat_lt index (t seat) then Some (seat * seat_pages d.page + index) else None) ≡ Some frame
       only frame is =

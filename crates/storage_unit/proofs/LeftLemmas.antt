@@ -1,5 +1,6 @@
 -- What a permitted store leaves of the two lists of plain bytes, and of the marks.
 use Rattle.storage_unit.proofs.Common.{◌≡◌, ◌≢◌, ℕ, ◌+◌, ◌-◌, ◌*◌, ◌/◌, ◌%◌, ◌<◌, ◌≤◌, Bool, true, false, List, [], length, drop, refl, sym, ◌∙◌, ap, arith, Option, Some, None, inl, inr, ◌||◌, slice_index, slice_range, is_some, cases_lt, get_or_past, length-take, length-drop, same_number_lists, overlaid, length-overlaid, page_bytes, byte_count, line_of, page_of, has, page_of_line, Located, Private, Shared, Refused, lines_at, Virtual, Pool, frame_at, Reach, place_of, byte_in_frame, byte_over, bytes_over, private_bytes, is_line_marked, is_marked, IsClean, seat_of, is_there, put_byte, put_in_store, put_at, IsSound, Lies, StaysClean, LeavesSeats, nat_tests, overlaid_before, overlaid_behind, overlaid_within}
+use Rattle.frame_pool.proofs.SoundLemmas.{or_none}
 use Rattle.storage_unit.proofs.SizeLemmas.{rest-below, place-is, frame-high, page-of-line, page-below}
 use Rattle.storage_unit.proofs.ByteLemmas.{in-range, same-bytes, byte-of-all, all-long, over-none, over-some}
 use Rattle.storage_unit.proofs.FillLemmas.{over-part, in-part}
@@ -186,8 +187,7 @@ module _ (state : Reach) (sound : IsSound state) where
                 absurd (let clash : None ≡ Some frame = sym none ∙ has_it in cc)
 
             or-false : (b : Bool) → (b || false) ≡ b
-            or-false true = refl
-            or-false false = refl
+            or-false b = grind (arith, nat_tests)
 
             by_frame : (o : Option ℕ) → frame_at state.pool (page_of state.directory k) ≡ o → byte_over state.directory put committed k ≡ byte_over state.directory state.pool committed k
             by_frame None is =
@@ -218,18 +218,10 @@ module _ (state : Reach) (sound : IsSound state) where
     clean-after committed clean place frame below is unmarked =
         frame-after place frame is
         ∙ put-outside bytes a place (byte_in_frame state.directory state.pool place frame) outside
-        ∙ clean place frame below is (left (is_marked state.directory state.pool place) (has (lines_at state.directory (Shared a) (length bytes)) (line_of state.directory place)) both)
+        ∙ clean place frame below is (or_none (is_marked state.directory state.pool place) (has (lines_at state.directory (Shared a) (length bytes)) (line_of state.directory place)) both).0
       where
         both : (is_marked state.directory state.pool place || has (lines_at state.directory (Shared a) (length bytes)) (line_of state.directory place)) ≡ false
         both = sym (marked-after place below) ∙ unmarked
-
-        left : (b c : Bool) → (b || c) ≡ false → b ≡ false
-        left false c is = refl
-        left true c is = absurd (cc)
-
-        right : (b c : Bool) → (b || c) ≡ false → c ≡ false
-        right false c is = is
-        right true c is = absurd (cc)
 
         outside : a ≤ place → place < a + length bytes → ⊥
         outside high less =
@@ -237,7 +229,7 @@ module _ (state : Reach) (sound : IsSound state) where
             let among : has (lines_at state.directory (Shared a) (length bytes)) (line_of state.directory place) ≡ true =
             ap (λ n. has (lines_at state.directory (Shared a) (length bytes)) (line_of state.directory n)) (sym same) ∙ each-byte state.directory a (length bytes) (place - a) (omega (arith, high, less)) in
             let not : has (lines_at state.directory (Shared a) (length bytes)) (line_of state.directory place) ≡ false =
-            right (is_marked state.directory state.pool place) (has (lines_at state.directory (Shared a) (length bytes)) (line_of state.directory place)) both in
+            (or_none (is_marked state.directory state.pool place) (has (lines_at state.directory (Shared a) (length bytes)) (line_of state.directory place)) both).1 in
             let clash : true ≡ false = sym among ∙ not in
             cc
 

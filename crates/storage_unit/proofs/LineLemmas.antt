@@ -51,20 +51,11 @@ module _ (state : Reach) (sound : IsSound state) (first : Virtual) (n : ℕ) (so
 
     -- bytes of the first line are refused alike, and those of the second
     near : (k : ℕ) → first.byte % line_bytes state.directory.page + k < line_bytes state.directory.page → kept k ≡ kept 0
-    near k inside = by_test (is_private first.segment) refl
-      where
-        by_test : (own : Bool) → is_private first.segment ≡ own → kept k ≡ kept 0
-        by_test true own = own-kept own k ∙ sym (own-kept own 0)
-        by_test false own =
-            cc (shared-kept own k, same-line-on state.directory.page place k (omega (arith, in-line, inside)), same-line-on state.directory.page place 0 (omega (arith, in-line, inside)), shared-kept own 0)
+    near k inside =
+        grind (arith, nat_tests, own-kept, shared-kept, same-line-on state.directory.page place k (omega (arith, in-line, inside)), same-line-on state.directory.page place 0 (omega (arith, in-line, inside)))
 
     far : (rest k : ℕ) → rest + first.byte % line_bytes state.directory.page ≡ line_bytes state.directory.page → rest ≤ k → k < 64 → kept k ≡ kept rest
-    far rest k are past short = by_test (is_private first.segment) refl
-      where
-        by_test : (own : Bool) → is_private first.segment ≡ own → kept k ≡ kept rest
-        by_test true own = own-kept own k ∙ sym (own-kept own rest)
-        by_test false own =
-            cc (shared-kept own k, next-line state.directory.page place rest k (omega (arith, in-line, are)) past short, shared-kept own rest)
+    far rest k are past short = grind (arith, nat_tests, own-kept, shared-kept, next-line state.directory.page place rest k (omega (arith, in-line, are)) past short)
 
     module _ (frame : ℕ) (is : look_up (table_of state).keys (key_of first) ≡ Some frame) (within : first.byte + n ≤ page_bytes state.directory.page) where
       -- a byte is refused, and none before it

@@ -194,15 +194,7 @@ module _ (unit : Unit) (wants : Access) (first : Virtual) (frame past : ℕ) (at
   pub opened-with :
       (after : OpenLines) → ((block : ℕ) → known after block ≡ with_line ((wants.address + past) / 128) line block (known unit.lines block))
       → AreOpened after unit.directory unit.table unit.registers unit.pool.marked unit.runner
-  opened-with after left block other is = by_tests (block == (wants.address + past) / 128) (line_place block == line_place ((wants.address + past) / 128)) refl (sym (left block) ∙ is)
-    where
-      by_tests : (here near : Bool) → (block == (wants.address + past) / 128) ≡ here → cond here (Some line) (cond near None (known unit.lines block)) ≡ Some other
-          → IsOpened unit.directory unit.table unit.registers unit.pool.marked unit.runner block other
-      by_tests true near same told =
-          subst (λ b. IsOpened unit.directory unit.table unit.registers unit.pool.marked unit.runner b other) (sym (eqb-true block ((wants.address + past) / 128) same))
-          (subst (IsOpened unit.directory unit.table unit.registers unit.pool.marked unit.runner ((wants.address + past) / 128)) (let kept : line ≡ other = cc in kept) block-opened)
-      by_tests false true same told = absurd (let clash : None ≡ Some other = told in cc)
-      by_tests false false same told = unit.opened block other told
+  opened-with after left block other is = grind (arith, nat_tests, left block, block-opened, unit.opened block other)
 
 -- marks that come beside others leave those
 marks-stay : (marked : List (List ℕ)) (page : ℕ) (lines : List ℕ) (p x : ℕ) → x < 16 → has (slice_index_or marked p []) x ≡ true
@@ -237,10 +229,7 @@ pub opened-low : (unit : Unit) (wants : Access) (line : OpenLine) → known unit
 opened-low unit wants line is =
     let told = unit.opened (wants.address / 128) line is in
     let low = (lies (reach_of unit) (unit-sound unit) (wants.address / 128 * 128) 128 line.first (under unit.registers (wants.address / 128 * 128) 128 line.write line.first told.located)).within in
-    by_size unit.directory.page low told.spot
-  where
-    by_size : (size : PageSize) → line.first.byte < page_bytes size → line.spot ≡ line.frame * page_bytes size + line.first.byte → (line.first.byte < 4096) × (line.spot < line.frame * 4096 + 4096)
-    by_size size low at = grind (arith, nat_tests)
+    grind (arith, nat_tests, low, told.spot)
 
 -- an access among bytes of one page that are located together, each of which the entry lets, may be made
 module _ (unit : Unit) (wants : Access) (line : OpenLine) (all : ℕ) (some : 0 < wants.bytes) (few : wants.bytes ≤ 255) (fits : wants.address % 128 + wants.bytes ≤ all)
@@ -264,14 +253,9 @@ module _ (unit : Unit) (wants : Access) (line : OpenLine) (all : ℕ) (some : 0 
   further k = omega arith
 
   kept : (k : ℕ) → k < wants.bytes → is_kept_from (reach_of unit) (on (place_of unit.directory at) k) wants.store ≡ false
-  kept k below = by_test (is_private at.segment) refl
-    where
-      by_test : (own : Bool) → is_private at.segment ≡ own → is_kept_from (reach_of unit) (on (place_of unit.directory at) k) wants.store ≡ false
-      by_test true own = ap (λ p. is_kept_from (reach_of unit) (on p k) wants.store) (private-is unit.directory at own)
-      by_test false own =
-          ap (λ p. is_kept_from (reach_of unit) (on p k) wants.store) (shared-is unit.directory at own)
-          ∙ ap (λ p. is_refused (reach_of unit) (line_of unit.directory p) wants.store) (further k)
-          ∙ ap not (lets own (wants.address % 128 + k) (omega (arith, fits, below)))
+  kept k below =
+      let far : wants.address % 128 + k < all = omega (arith, fits, below) in
+      grind (arith, nat_tests, private-is unit.directory at, shared-is unit.directory at, further k, far, lets)
 
   opened-at : IsOpenAt (reach_of unit) wants at line.frame
   opened-at = record {

@@ -19,11 +19,7 @@ module _ (unit : Unit) (at : Virtual) (frame byte n : ℕ) (is : look_up (table_
       lent-part (marked_in unit.pool frame lines) (frame * page_bytes unit.pool.page + byte) part (omega (arith, room, long, bytes-same))
 
 -- what stays of the pool
-pub record Same (old new : Pool) : Type 0 where
-  pub page : new.page ≡ old.page
-  pub frame_of : length new.frame_of ≡ length old.frame_of
-
-pub marked-same : (pool : Pool) (frame : ℕ) (lines : List ℕ) → Same pool (marked_in pool frame lines)
+pub marked-same : (pool : Pool) (frame : ℕ) (lines : List ℕ) → ((marked_in pool frame lines).page ≡ pool.page) × (length (marked_in pool frame lines).frame_of ≡ length pool.frame_of)
 marked-same pool frame lines = grind (arith, nat_tests)
 
 pub marked-keys : (d : Layout) (begun : List Bool) (pool : Pool) (frame : ℕ) (lines : List ℕ) → keys_of d begun (marked_in pool frame lines).frames (marked_in pool frame lines).page_in ≡ keys_of d begun pool.frames pool.page_in

@@ -53,13 +53,7 @@ registers-page state sound = elim (cases_lt 0 state.runner) [
 
 -- where nothing stands under any register, none lies anywhere
 pub no-register : (state : Reach) (address : ℕ) {n : ℕ} (at : Virtual) → Under state.registers address n at → state.registers ≡ record { page = state.directory.page; list = replicate 16 None } → ⊥
-no-register state address at u is = by_place (cases_lt (address / 2 ^ 28) 16)
-  where
-    by_place : (address / 2 ^ 28 < 16) ⊎ (16 ≤ address / 2 ^ 28) → ⊥
-    by_place (inl below) =
-        let clash : None ≡ Some u.register = sym (get_or-replicate 16 (address / 2 ^ 28) None None below) ∙ ap (λ (registers : Registers). slice_index_or registers.list (address / 2 ^ 28) None) (sym is) ∙ u.stands in cc
-    by_place (inr past) =
-        let clash : None ≡ Some u.register = sym (get_or_past (replicate 16 None) (address / 2 ^ 28) None past) ∙ ap (λ (registers : Registers). slice_index_or registers.list (address / 2 ^ 28) None) (sym is) ∙ u.stands in cc
+no-register state address at u is = grind (arith, nat_tests, get_or-replicate, get_or_past, u.stands)
 
 module _ (state : Reach) (sound : IsSound state) (address n : ℕ) (at : Virtual) (u : Under state.registers address n at) where
   -- where something stands under a register a seat is selected

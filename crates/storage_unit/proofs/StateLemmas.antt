@@ -90,19 +90,8 @@ module _ (d : Layout) (legal : IsLegal d.segments) (pool : Pool) (seen : IsSeen 
       → get_or (fold (keys_without pool) from list) frame e ≡ (if option_map_or (has list) (page_at pool frame) false then None else get_or from frame e)
   fold-key [] from frame e below = grind (arith, nat_tests)
   fold-key (page ∷ list) from frame e below =
-      fold-key list (keys_without pool from page) frame e (omega (arith, below, fold-long pool (page ∷ []) from))
-      ∙ by_frame (frame_at pool page) refl
-    where
-      tests : (now later : Bool) → (if later then None else (if now then None else get_or from frame e)) ≡ (if now || later then None else get_or from frame e)
-      tests now later = grind (arith, nat_tests)
-
-      other : (o : Option ℕ) → ((p : ℕ) → o ≡ Some p → page ≢ p) → (if option_map_or (has list) o false then None else get_or from frame e) ≡ (if option_map_or (has (page ∷ list)) o false then None else get_or from frame e)
-      other o apart = grind (arith, nat_tests)
-
-      by_frame : (o : Option ℕ) → frame_at pool page ≡ o
-          → (if option_map_or (has list) (page_at pool frame) false then None else get_or (option_map_or (λ f. slice_set from f None) o from) frame e)
-          ≡ (if option_map_or (has (page ∷ list)) (page_at pool frame) false then None else get_or from frame e)
-      by_frame o is = grind (arith, nat_tests, cases_eq, get_or-set_same, eq-eqb, get_or-set_other)
+      let rest = fold-key list (keys_without pool from page) frame e (omega (arith, below, fold-long pool (page ∷ []) from)) in
+      grind (arith, nat_tests, rest, cases_eq, get_or-set_same, get_or-set_other, eq-eqb, seen.there page, seen.back page)
 
   pub keys-emptied : fold (keys_without pool) (keys_with d t pool.frames pool.page_in) pool.resident ≡ keys_with d t (emptied pool).frames (emptied pool).page_in
   keys-emptied =

@@ -1,6 +1,8 @@
 //! The storage unit: frames, page table and look-aside buffer, as the storage that a processor runs over (docs/MODEL.md).
 #![tactic(auto)]
 
+mod answering;
+mod copying;
 mod incoming;
 pub mod laws;
 mod model;

@@ -110,6 +110,7 @@ impl Unit {
     /// The frame that holds the page of an address, as the table has it: asked of the buffer first, which then stays, and
     /// else of the table, whose answer comes into the buffer. All else stays.
     #[inline(always)]
+    #[tactic(auto, using(std::proofs::lemmas::Bool::Decides::nat_tests))]
     pub fn translate(&mut self, at: Virtual) -> Option<u16>
         ensures value { result ≡ frame_found (reach_of self.old) at }
         ensures found { result ≡ found (buffer_of self.old) (frame_found (reach_of self.old) at) (key_of at) }

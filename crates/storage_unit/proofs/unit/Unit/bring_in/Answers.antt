@@ -35,21 +35,14 @@ page_mut-requires g c = grind (arith, nat_tests)
 pub lay_kept-requires-2 : goal.lay_kept-requires-2
 lay_kept-requires-2 g c = grind (arith, nat_tests)
 
-pub invariant_of-self : goal.invariant_of-self
-invariant_of-self g c =
-    let unit = c.bring-slot.new.self in
-    record {
-      sixteen = unit.sixteen;
-      legal = unit.legal;
-      fits = fits-lent unit.directory unit.pool unit.fits _ c.read_page-read.new.into;
-      entries = unit.entries;
-      held = unit.held;
-      remembered = unit.remembered;
-      selected = unit.selected;
-      ready = still-ready c.args.self.now unit c.args.page c.args.keep c.bring-slot.result.frame c.page_mut.result.now c.bring-slot.ensures.brought c.bring-slot.ensures.rest c.page_mut.ensures.value c.read_page-read.new.into c.read_page-read.auto.into;
-      opened = unit.opened;
-      clear = still-clear c.args.self.now unit c.args.page c.args.keep c.bring-slot.result.frame c.page_mut.result.now c.bring-slot.ensures.brought c.bring-slot.ensures.rest c.page_mut.ensures.value c.read_page-read.new.into c.read_page-read.auto.into;
-    }
+pub invariant_of-self-clause-fits : goal.invariant_of-self-clause-fits
+invariant_of-self-clause-fits g c = let unit = c.bring-slot.new.self in fits-lent unit.directory unit.pool unit.fits _ c.read_page-read.new.into
+
+pub invariant_of-self-clause-ready : goal.invariant_of-self-clause-ready
+invariant_of-self-clause-ready g c = still-ready c.args.self.now c.bring-slot.new.self c.args.page c.args.keep c.bring-slot.result.frame c.page_mut.result.now c.bring-slot.ensures.brought c.bring-slot.ensures.rest c.page_mut.ensures.value c.read_page-read.new.into c.read_page-read.auto.into
+
+pub invariant_of-self-clause-clear : goal.invariant_of-self-clause-clear
+invariant_of-self-clause-clear g c = still-clear c.args.self.now c.bring-slot.new.self c.args.page c.args.keep c.bring-slot.result.frame c.page_mut.result.now c.bring-slot.ensures.brought c.bring-slot.ensures.rest c.page_mut.ensures.value c.read_page-read.new.into c.read_page-read.auto.into
 
 pub read_page-read-requires : goal.read_page-read-requires
 read_page-read-requires g c =

@@ -1,8 +1,4 @@
-use Rattle.storage_unit.proofs.Common.{nat_tests, arith}
 use Rattle.storage_unit.proofs.unit.Unit.translate.Goals as goal
 
 pub invariant_of-self-clause-remembered : goal.invariant_of-self-clause-remembered
 invariant_of-self-clause-remembered c = c.find.ensures.kept c.args.self.now.remembered
-
-pub returns : goal.returns
-returns c = grind (arith, nat_tests)

@@ -1,0 +1,386 @@
+// What a unit answers to an access: where its bytes lie, in which frame, and the lines that are known.
+ghost use Rattle.std.specs.Prelude.{◌≡◌, ◌+◌, ◌<◌, ◌≤◌, ◌^◌, Ok, Some, true, false, IfOk, IfErr, IfSome};
+ghost use Rattle.storage_unit.specs.Below.{answer_of, byte_count, bytes_on, IsRefusal, page_bytes};
+ghost use Rattle.storage_unit.specs.Places.{flat_place, is_private, offset_of};
+ghost use Rattle.storage_unit.specs.Reach.{answer_to, begins_at, refuses_past, refuses_place};
+ghost use Rattle.storage_unit.specs.Reached.{is_absent, Lies, past_absent, past_kept, past_refused};
+ghost use Rattle.storage_unit.specs.Held.{frame_found};
+ghost use Rattle.storage_unit.specs.Accesses.{AnswersAt};
+ghost use Rattle.storage_unit.specs.OpenLines.{IsMarkedAt, IsOpenAt, IsOpenFrom};
+
+use super::private::PRIVATE;
+use super::sizes::{
+    byte_past, first_frame, is_behind, is_in_line, line_in_page, offset_of, rest_of_line, spot_of,
+};
+use super::unit::Unit;
+use page_table::{OpenLine, Virtual};
+use romp_cpu::{Access, Fault, Probe};
+
+impl Unit {
+    ghost use Rattle.storage_unit.specs.View.{reach_of};
+
+    /// The byte so many past another in its segment.
+    #[inline]
+    pub(super) fn past(&self, first: Virtual, past: u16) -> Virtual
+        requires { offset_of (reach_of self.now).directory.page first ≤ 2 ^ 22 }
+        ensures { result ≡ bytes_on (reach_of self.now).directory.page first past }
+    {
+        byte_past(self.directory.page(), first, past)
+    }
+
+    /// How many bytes of its page begin with this one.
+    pub(super) fn rest(&self, first: Virtual) -> u16
+        requires { first.byte < page_bytes (reach_of self.now).directory.page }
+        ensures { first.byte + result ≡ page_bytes (reach_of self.now).directory.page }
+    {
+        self.directory.page().bytes() - first.byte
+    }
+
+    /// The place of a byte of the store.
+    fn place_of(&self, first: Virtual) -> u32
+        requires { offset_of (reach_of self.now).directory.page first ≤ 2 ^ 22 }
+        ensures { result ≡ flat_place (reach_of self.now).directory first }
+    {
+        self.directory.start_of(first.segment) + offset_of(self.directory.page(), first)
+    }
+
+    /// The answer to an access of so many bytes that begins at a byte.
+    #[inline(always)]
+    pub(super) fn answer(&mut self, first: Virtual, bytes: u8, store: bool) -> Probe
+        requires { Lies (reach_of self.old) first bytes }
+        ensures answer { AnswersAt (reach_of self.old) first bytes store result }
+        ensures state { reach_of self.new ≡ reach_of self.old }
+    {
+        if let Some(past) = self.first_absent(first, bytes) {
+            return Probe::Fault(Fault::Page(self.past(first, past)));
+        }
+        match self.first_refused(first, bytes, store) {
+            Some(past) => Probe::Fault(Fault::Lock(self.past(first, past))),
+            None => Probe::Permitted,
+        }
+    }
+
+    /// How many bytes past a byte the first of so many lies whose page is in no frame. Each page is asked for once.
+    fn first_absent(&mut self, first: Virtual, bytes: u8) -> Option<u16>
+        requires { Lies (reach_of self.old) first bytes }
+        ensures value { result ≡ past_absent (reach_of self.old) first bytes }
+        ensures state { reach_of self.new ≡ reach_of self.old }
+    {
+        if bytes == 0 {
+            return None;
+        }
+        let rest = self.rest(first);
+        if self.is_absent(first) {
+            return Some(0);
+        }
+        if u16::from(bytes) <= rest {
+            return None;
+        }
+        if self.is_absent(self.past(first, rest)) {
+            Some(rest)
+        } else {
+            None
+        }
+    }
+
+    /// Whether no frame holds the page of a byte, as the buffer and the table have it.
+    #[inline(always)]
+    fn is_absent(&mut self, at: Virtual) -> bool
+        ensures value { result ≡ is_absent (reach_of self.old) at }
+        ensures state { reach_of self.new ≡ reach_of self.old }
+    {
+        self.translate(at).is_none()
+    }
+
+    /// How many bytes past a byte the first of so many lies that the entry of its page refuses. Each line is looked at once.
+    #[inline(always)]
+    fn first_refused(&self, first: Virtual, bytes: u8, store: bool) -> Option<u16>
+        requires { Lies (reach_of self.now) first bytes }
+        ensures { result ≡ past_kept (reach_of self.now) first bytes store }
+    {
+        if first.segment >= PRIVATE {
+            return None;
+        }
+        self.first_refused_from(self.place_of(first), bytes, store)
+    }
+
+    /// The same of bytes of the store from a place on.
+    #[inline(always)]
+    fn first_refused_from(&self, place: u32, bytes: u8, store: bool) -> Option<u16>
+        requires { place + bytes ≤ byte_count (reach_of self.now).directory }
+        ensures { result ≡ past_refused (reach_of self.now) place bytes store }
+    {
+        let mut past = 0u16;
+        while past < u16::from(bytes) {
+            let here = place + u32::from(past);
+            if self.is_refused(here, store) {
+                return Some(past);
+            }
+            past += rest_of_line(self.directory.page(), here);
+        }
+        None
+    }
+
+    /// Whether the entry of a place's page refuses the seat that is selected.
+    fn is_refused(&self, place: u32, store: bool) -> bool
+        requires { place < byte_count (reach_of self.now).directory }
+        ensures { result ≡ refuses_place (reach_of self.now) place store }
+    {
+        let page = self.directory.page_of(place);
+        let line = (self.directory.line_of(place) % 16) as u8;
+        !self.table.authority(page).permits(self.runner, line, store)
+    }
+
+    /// The frame that holds the page of a byte. The pool is asked, and not the table.
+    #[inline(always)]
+    pub(super) fn frame_at(&self, first: Virtual) -> Option<u16>
+        requires { Lies (reach_of self.now) first 1 }
+        ensures { result ≡ frame_found (reach_of self.now) first }
+    {
+        if first.segment >= PRIVATE {
+            return Some(self.private_frame(first));
+        }
+        let page = self.directory.page_of(self.place_of(first));
+        self.pool.frame_of(page)
+    }
+
+    /// The frame of a private page of the seat that is selected.
+    fn private_frame(&self, first: Virtual) -> u16
+        requires own { is_private first.segment ≡ true }
+        requires lies { Lies (reach_of self.now) first 1 }
+        ensures { frame_found (reach_of self.now) first ≡ Some result }
+    {
+        first_frame(self.directory.page(), self.runner - 1) + first.page as u16
+    }
+
+    /// Whether some bytes lie in one page, as those of one line do.
+    #[tactic(auto, using(std::proofs::lemmas::Bool::Decides::nat_tests))]
+    pub(super) fn is_in_page(&self, first: Virtual, bytes: u8) -> bool
+        requires { first.byte < page_bytes (reach_of self.now).directory.page }
+        ensures { result ≡ true → first.byte + bytes ≤ page_bytes (reach_of self.now).directory.page }
+    {
+        is_in_line(self.directory.page(), first.byte, bytes) || u16::from(bytes) <= self.rest(first)
+    }
+
+    /// The frame of an access whose bytes lie in one page and two lines at most, or why it can't be made now. The page of a
+    /// frame is the pool's, so no segment is looked for in the directory.
+    #[inline(always)]
+    pub(super) fn frame_for(&mut self, first: Virtual, bytes: u8, store: bool) -> Result<u16, Probe>
+        requires some { 0 < bytes }
+        requires few { bytes ≤ 64 }
+        requires lies { Lies (reach_of self.old) first bytes }
+        requires within { first.byte + bytes ≤ page_bytes (reach_of self.old).directory.page }
+        ensures answer { AnswersAt (reach_of self.old) first bytes store (answer_of result) }
+        ensures frame { IfOk result (λ frame. frame_found (reach_of self.old) first ≡ Some frame) }
+        ensures refused { IfErr result IsRefusal }
+        ensures state { reach_of self.new ≡ reach_of self.old }
+    {
+        if first.segment >= PRIVATE {
+            return Ok(self.private_frame(first));
+        }
+        let Some(frame) = self.translate(first) else {
+            return Err(Probe::Fault(Fault::Page(first)));
+        };
+        if self.is_kept_in(frame, first, 0, store) {
+            return Err(Probe::Fault(Fault::Lock(first)));
+        }
+        let page = self.directory.page();
+        if is_in_line(page, first.byte, bytes) {
+            return Ok(frame);
+        }
+        let rest = rest_of_line(page, u32::from(first.byte));
+        if self.is_kept_in(frame, first, rest, store) {
+            return Err(Probe::Fault(Fault::Lock(self.past(first, rest))));
+        }
+        Ok(frame)
+    }
+
+    /// Whether the entry of the page in a frame refuses the seat that is selected a byte so many past one of that page.
+    #[inline(always)]
+    fn is_kept_in(&self, frame: u16, first: Virtual, past: u16, store: bool) -> bool
+        requires shared { is_private first.segment ≡ false }
+        requires lies { Lies (reach_of self.now) first 1 }
+        requires within { first.byte + past < page_bytes (reach_of self.now).directory.page }
+        requires frame { frame_found (reach_of self.now) first ≡ Some frame }
+        ensures { result ≡ refuses_past (reach_of self.now) first past store }
+    {
+        let line = line_in_page(self.directory.page(), first.byte + past);
+        match self.pool.page_in(frame) {
+            Some(page) => !self.table.authority(page).permits(self.runner, line, store),
+            None => true,
+        }
+    }
+
+    /// The known line of an access from where that begins, to store only where it is known to be stored.
+    #[inline(always)]
+    pub(super) fn known_line(&self, wants: &Access) -> Option<OpenLine>
+        requires { 0 < wants.now.bytes }
+        ensures { IfSome result (IsOpenFrom (reach_of self.now) wants.now) }
+    {
+        let line = self.lines.at(wants.address)?;
+        let offset = wants.address % 128;
+        if offset + u32::from(wants.bytes) > 128 {
+            return None;
+        }
+        if wants.store && !line.write {
+            return None;
+        }
+        let first = Virtual {
+            segment: line.first.segment,
+            page: line.first.page,
+            byte: line.first.byte + offset as u16,
+        };
+        Some(OpenLine {
+            first,
+            frame: line.frame,
+            spot: line.spot + offset,
+            write: line.write,
+        })
+    }
+
+    /// Whether an access is to store to a byte that a frame has, and the line of that is marked where it is one of the store.
+    fn is_written(&self, frame: u16, first: Virtual, store: bool) -> bool
+        requires lies { Lies (reach_of self.now) first 1 }
+        requires frame { frame_found (reach_of self.now) first ≡ Some frame }
+        ensures store { result ≡ true → store ≡ true }
+        ensures marked { result ≡ true → IsMarkedAt (reach_of self.now) first }
+    {
+        if !store {
+            return false;
+        }
+        let line = line_in_page(self.directory.page(), first.byte);
+        match self.pool.page_in(frame) {
+            Some(page) => self.pool.written(page).contains(line),
+            None => true,
+        }
+    }
+
+    /// The known lines of an access that begins in one block and ends in the next, where they lie behind each other in one
+    /// page, from where the access begins; to store only where both are known to be stored.
+    #[inline(always)]
+    fn known_pair(&self, wants: &Access) -> Option<OpenLine>
+        requires some { 0 < wants.now.bytes }
+        requires few { wants.now.bytes ≤ 64 }
+        ensures { IfSome result (IsOpenFrom (reach_of self.now) wants.now) }
+    {
+        let offset = wants.address % 128;
+        if offset + u32::from(wants.bytes) <= 128 || wants.address >= 0xffff_ff80 {
+            return None;
+        }
+        let front = self.lines.at(wants.address)?;
+        let back = self.lines.at(wants.address + 128)?;
+        if wants.store && !(front.write && back.write) {
+            return None;
+        }
+        if !is_behind(front.first, back.first) {
+            return None;
+        }
+        let first = Virtual {
+            segment: front.first.segment,
+            page: front.first.page,
+            byte: front.first.byte + offset as u16,
+        };
+        Some(OpenLine {
+            first,
+            frame: front.frame,
+            spot: front.spot + offset,
+            write: front.write,
+        })
+    }
+
+    /// The known line of an access from where that begins, or its known lines.
+    #[inline(always)]
+    pub(super) fn known_lines(&self, wants: &Access) -> Option<OpenLine>
+        requires some { 0 < wants.now.bytes }
+        requires few { wants.now.bytes ≤ 64 }
+        ensures { IfSome result (IsOpenFrom (reach_of self.now) wants.now) }
+    {
+        let line = self.known_line(wants);
+        if line.is_some() {
+            return line;
+        }
+        self.known_pair(wants)
+    }
+
+    /// The lines of an access that may be made are known from now on, of the one or two blocks of 128 addresses in which it
+    /// lies.
+    #[inline(always)]
+    pub(super) fn keep_line(&mut self, wants: &Access, first: Virtual, frame: u16)
+        requires some { 0 < wants.now.bytes }
+        requires open { IsOpenAt (reach_of self.old) wants.now first frame }
+        ensures { reach_of self.new ≡ reach_of self.old }
+    {
+        self.keep_block(wants, first, frame, 0);
+        let rest = (128 - wants.address % 128) as u8;
+        if wants.bytes > rest {
+            self.keep_block(wants, first, frame, rest);
+        }
+    }
+
+    /// The line of the byte so many past the first of an access that may be made is known from now on: to be stored where it is
+    /// marked.
+    fn keep_block(&mut self, wants: &Access, first: Virtual, frame: u16, past: u8)
+        requires past { past < wants.now.bytes }
+        requires open { IsOpenAt (reach_of self.old) wants.now first frame }
+        ensures { reach_of self.new ≡ reach_of self.old }
+    {
+        let at = Virtual {
+            segment: first.segment,
+            page: first.page,
+            byte: first.byte + u16::from(past),
+        };
+        let whole = Virtual {
+            segment: first.segment,
+            page: first.page,
+            byte: at.byte / 128 * 128,
+        };
+        let write = self.is_written(frame, at, wants.store);
+        self.lines.keep(
+            wants.address + u32::from(past),
+            OpenLine {
+                first: whole,
+                frame,
+                spot: spot_of(self.directory.page(), frame, whole.byte),
+                write,
+            },
+        );
+    }
+
+    /// The frame of an access that begins at a byte and lies in one page, or why it can't be made now. Where it may be made, its
+    /// line is known from now on.
+    #[inline(always)]
+    pub(super) fn open(&mut self, wants: &Access, first: Virtual) -> Result<u16, Probe>
+        requires some { 0 < wants.now.bytes }
+        requires few { wants.now.bytes ≤ 64 }
+        requires located { begins_at (reach_of self.old) wants.now ≡ Ok first }
+        requires within { first.byte + wants.now.bytes ≤ page_bytes (reach_of self.old).directory.page }
+        ensures answer { answer_of result ≡ answer_to (reach_of self.old) wants.now }
+        ensures open { IfOk result (λ frame. IsOpenAt (reach_of self.new) wants.now first frame) }
+        ensures refused { IfErr result IsRefusal }
+        ensures state { reach_of self.new ≡ reach_of self.old }
+    {
+        match self.frame_for(first, wants.bytes, wants.store) {
+            Ok(frame) => {
+                self.keep_line(wants, first, frame);
+                Ok(frame)
+            }
+            Err(probe) => Err(probe),
+        }
+    }
+
+    /// The line of an access that lies in one block of 128 addresses is known from now on, if the access may be made. All else
+    /// stays.
+    #[inline(never)]
+    pub fn open_line(&mut self, wants: &Access)
+        ensures { reach_of self.new ≡ reach_of self.old }
+    {
+        let wants = *wants;
+        let bytes = u32::from(wants.bytes);
+        if bytes == 0 || bytes > 64 || wants.address % 128 + bytes > 128 {
+            return;
+        }
+        if let Ok(first) = self.registers.locate(wants.address, bytes, wants.store) {
+            let _ = self.open(&wants, first);
+        }
+    }
+}
