@@ -1,5 +1,5 @@
 -- Lines of a page laid one after another, and the page laid at once.
-use Rattle.frame_pool.proofs.Common.{fold, slice_range, range_with_len, length-append, length-take-le, length-drop, append-nil, take-append-drop, drop-drop, take_at, overlaid, length-overlaid, PageSize, page_bytes, passing, lines_of_bits, Pool, frame_count, line_size, line_place, frame_at, marks_at, line_laid, page_laid, line_kept, with_bytes, laid, IsSeen, shown, Inside, nat_tests, ◌≡◌, ℕ, zero, suc, ◌+◌, ◌-◌, ◌*◌, ◌<◌, ◌≤◌, Some, List, [], ◌++◌, length, take, drop, refl, sym, ◌∙◌, ap, arith, append_assoc}
+use Rattle.frame_pool.proofs.Common.{fold, slice_range, range_with_len, length-append, length-take-le, length-drop, append-nil, take-append-drop, drop-drop, take_at, overlaid, length-overlaid, PageSize, page_bytes, passing, lines_of_bits, Pool, line_size, line_place, frame_at, marks_at, line_laid, page_laid, line_kept, with_bytes, laid, IsSeen, nat_tests, ◌≡◌, ℕ, zero, suc, ◌+◌, ◌-◌, ◌*◌, ◌<◌, ◌≤◌, Some, List, [], ◌++◌, length, take, drop, refl, sym, ◌∙◌, ap, arith, append_assoc}
 use Rattle.std.proofs.Math.Seq.{take-add, drop-append-add, drop-append_seam}
 use Rattle.frame_pool.proofs.SoundLemmas.{page_part}
 use Rattle.frame_pool.proofs.PoolLemmas.{frame-part, frame_within}

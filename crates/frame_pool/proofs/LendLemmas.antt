@@ -1,5 +1,5 @@
 -- What the bytes of frames end as once the borrow of a part of them has ended.
-use Rattle.frame_pool.proofs.Common.{length-append, length-take, length-drop, drop-drop, overlaid, length-overlaid, with_part, with_frame_part, with_bytes, marked_in, IsSeen, Pool, nat_tests, ◌≡◌, ℕ, ◌+◌, ◌≤◌, List, ◌++◌, length, take, drop, length-set, refl, sym, ◌∙◌, ap, arith, append_assoc}
+use Rattle.frame_pool.proofs.Common.{length-append, length-take, length-drop, drop-drop, overlaid, length-overlaid, with_part, with_frame_part, with_bytes, Pool, ◌≡◌, ℕ, ◌+◌, ◌≤◌, List, ◌++◌, length, take, drop, sym, ◌∙◌, ap, arith, append_assoc}
 use Rattle.std.proofs.lemmas.List.{take-append-le, take_all}
 use Rattle.std.specs.Vec.{with_items_from}
 use Rattle.std.specs.declared.vec.Vec.{Vec}

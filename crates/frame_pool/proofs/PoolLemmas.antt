@@ -1,5 +1,5 @@
 -- What a step of the pool needs and leaves.
-use Rattle.frame_pool.proofs.Common.{◌≡◌, ℕ, zero, suc, ◌+◌, ◌*◌, ◌<◌, ◌≤◌, Bool, true, false, List, [], ◌∷◌, length, refl, arith, Some, None, All, vec_len, ◌==◌, not, nat_lt, position, find, remove, IfSome, slice_index, slice_set, if◌then◌else◌, Option, unwrap_or, option_to_list, prefix_len, list_any, overlaid, nat_tests, All-from_get_or, position-Some, page_bytes, IsOfPage, has, first_out, taken_out, Inside, Pool, private_frames, frame_count, Places, left, index_out, CameIn, places_of, HasSizes, IsSeen, IsOfStore, subst, is_apart, frame_at, page_at, marks_at, frame_bytes, paging_after, gone, page_out, with_room, Brought, emptied, shown}
+use Rattle.frame_pool.proofs.Common.{◌≡◌, ℕ, zero, suc, ◌+◌, ◌*◌, ◌<◌, ◌≤◌, Bool, true, false, List, [], ◌∷◌, length, refl, arith, Some, None, All, vec_len, ◌==◌, not, nat_lt, position, find, remove, slice_index, slice_set, if◌then◌else◌, Option, unwrap_or, option_to_list, prefix_len, list_any, overlaid, nat_tests, All-from_get_or, position-Some, page_bytes, IsOfPage, has, first_out, taken_out, Inside, Pool, frame_count, Places, left, index_out, CameIn, places_of, HasSizes, IsSeen, IsOfStore, subst, is_apart, frame_at, page_at, marks_at, frame_bytes, paging_after, gone, page_out, with_room, Brought, emptied, shown}
 use Rattle.lines.proofs.LineSetLemmas.{of_page-below}
 use Rattle.frame_pool.proofs.SoundLemmas.{first-apart, has-at, has-push_last, resident-in_frame, page-within, frame_of_store, page_part, none_room, index_out_below}
 

@@ -1,5 +1,5 @@
 -- What holds of every pool, and stays where a page leaves.
-use Rattle.frame_pool.proofs.Common.{◌+◌, ◌≤◌, ◌==◌, if◌then◌else◌, slice_index_or, slice_set, is_some, length-set, get_or-set_same, get_or-set_other, get_or_past, with_part, with_frame_part, marked_in, is_apart, overlaid, true, false, length-take, length-take-le, length-drop, length-overlaid, page_bytes, has, taken_out, has-filter, IsSeen, frame_count, frame_at, page_at, frame_bytes, paging_after, gone, Pool, nat_tests, ◌≡◌, ◌≢◌, ℕ, ◌*◌, ◌<◌, List, [], ◌∷◌, length, sym, ◌∙◌, ap, arith, Option, Some, None}
+use Rattle.frame_pool.proofs.Common.{◌+◌, ◌≤◌, ◌==◌, if◌then◌else◌, slice_index_or, slice_set, is_some, length-set, get_or-set_same, get_or-set_other, get_or_past, with_part, with_frame_part, marked_in, is_apart, overlaid, true, false, length-take, length-take-le, length-drop, length-overlaid, page_bytes, has, taken_out, has-filter, IsSeen, frame_count, frame_at, page_at, frame_bytes, paging_after, gone, Pool, nat_tests, ◌≡◌, ℕ, ◌*◌, ◌<◌, List, [], ◌∷◌, length, sym, ◌∙◌, ap, arith, Option, Some, None}
 use Rattle.frame_pool.proofs.SoundLemmas.{page_part}
 use Rattle.frame_pool.proofs.PoolLemmas.{gone-from}
 use Rattle.frame_pool.proofs.LendLemmas.{none-lost}

@@ -2,7 +2,6 @@
 pub use Rattle.std.specs.Borrow.{Array, Fml, Lends, MutBor, sem, u8}
 pub use Rattle.std.specs.List.{range_with_len}
 pub use Rattle.std.specs.Option.{option_map_or}
-pub use Rattle.std.specs.Vec.{with_item, with_items_from}
 pub use Rattle.lines.specs.LineSets.{between, difference, union}
 pub use Rattle.lines.specs.Overlay.{overlaid}
 pub use Rattle.lines.specs.Segments.{line_bytes, page_bytes}

@@ -1,5 +1,5 @@
 -- The bytes that a pool shows once a page came in and its frame was filled.
-use Rattle.storage_unit.proofs.Common.{◌≡◌, ◌≢◌, ℕ, ◌+◌, ◌*◌, ◌/◌, ◌%◌, ◌<◌, ◌≤◌, false, List, [], length, refl, sym, ◌∙◌, ap, subst, arith, Option, Some, None, All, if◌then◌else◌, slice_index, slice_index_or, slice_set, is_some, option_to_list, option_map_or, get_or-set_same, get_or-set_other, overlaid, length-overlaid, page_bytes, Layout, page_count, page_of, IsOfPage, has, Pool, frame_count, line_size, frame_at, page_at, marks_at, with_room, Brought, page_part, lines-below, is_marked, byte_in_frame, byte_over, IsClean, Fits, filled, nat_tests}
+use Rattle.storage_unit.proofs.Common.{◌≡◌, ◌≢◌, ℕ, ◌+◌, ◌*◌, ◌/◌, ◌%◌, ◌<◌, ◌≤◌, false, List, [], length, refl, sym, ◌∙◌, ap, subst, arith, Option, Some, None, All, if◌then◌else◌, slice_index, slice_index_or, slice_set, option_to_list, option_map_or, get_or-set_same, get_or-set_other, overlaid, length-overlaid, page_bytes, Layout, page_count, page_of, IsOfPage, has, Pool, frame_count, line_size, frame_at, page_at, marks_at, with_room, Brought, page_part, lines-below, is_marked, byte_in_frame, byte_over, IsClean, Fits, filled, nat_tests}
 use Rattle.lines.specs.Resident.{brought}
 use Rattle.storage_unit.proofs.SizeLemmas.{rest-below, place-is, spot-same}
 use Rattle.storage_unit.proofs.ByteLemmas.{over-some, marked-is}

@@ -1,5 +1,5 @@
 -- The private bytes behind those that were used stay zeros.
-use Rattle.storage_unit.proofs.Common.{◌≡◌, ℕ, ◌+◌, ◌-◌, ◌*◌, ◌<◌, ◌≤◌, Bool, true, false, List, ◌++◌, length, replicate, refl, ◌∙◌, ap, arith, inl, inr, cases_eq, cases_lt, slice_index, slice_range, slice_set, get_or-set_same, get_or-set_other, get_or-replicate, get_or_past, get_or-append_right, length-set, length-append, length-replicate, length-take, length-drop, overlaid, Virtual, Reach, is_private, offset_of, place_of, put_at, IsSound, Lies, AreClear, AreUsed, nat_tests}
+use Rattle.storage_unit.proofs.Common.{◌≡◌, ℕ, ◌+◌, ◌-◌, ◌*◌, ◌<◌, ◌≤◌, true, false, List, ◌++◌, length, replicate, ◌∙◌, ap, arith, inl, inr, cases_eq, cases_lt, slice_index, slice_range, slice_set, get_or-set_same, get_or-set_other, get_or-replicate, get_or_past, get_or-append_right, length-set, length-append, length-replicate, length-take, length-drop, overlaid, Virtual, Reach, is_private, offset_of, place_of, put_at, IsSound, Lies, AreClear, AreUsed, nat_tests}
 use Rattle.storage_unit.proofs.ByteLemmas.{in-range}
 use Rattle.storage_unit.proofs.FillLemmas.{over-part, in-part}
 use Rattle.storage_unit.proofs.ReadyLemmas.{put-low}

@@ -1,5 +1,5 @@
 -- A page whose read failed leaves the bytes as they were.
-use Rattle.storage_unit.proofs.Common.{◌≡◌, ℕ, ◌<◌, Bool, true, false, List, length, refl, sym, ◌∙◌, ap, subst, Option, inl, inr, if◌then◌else◌, slice_index, cases_eq, page_bytes, Layout, byte_count, page_count, page_of, has, Pool, IsSeen, frame_at, Brought, with_room, emptied, is_marked, byte_over, IsClean, Fits, Keeps, filled, FailedBringKeeps, arith, nat_tests}
+use Rattle.storage_unit.proofs.Common.{◌≡◌, ℕ, ◌<◌, true, false, List, length, sym, ◌∙◌, ap, subst, Option, inl, inr, cases_eq, page_bytes, Layout, byte_count, page_count, page_of, has, Pool, IsSeen, frame_at, Brought, with_room, emptied, is_marked, byte_over, IsClean, Fits, Keeps, filled, FailedBringKeeps, arith, nat_tests}
 use Rattle.storage_unit.proofs.ByteLemmas.{same-bytes, over-none}
 use Rattle.storage_unit.proofs.LeaveLemmas.{clean-shows, emptied-over, emptied-clean}
 use Rattle.storage_unit.proofs.BringLemmas.{full, fewer, size, not-there, bytes-long, filled-is, full-here, full-elsewhere, full-marked}

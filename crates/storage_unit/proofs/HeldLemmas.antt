@@ -1,5 +1,5 @@
 -- What the table of a unit holds, and where it finds a page.
-use Rattle.storage_unit.proofs.Common.{append_assoc, ◌≡◌, ◌≢◌, ℕ, ◌+◌, ◌-◌, ◌*◌, ◌/◌, ◌%◌, ◌<◌, ◌≤◌, Bool, true, List, [], ◌∷◌, ◌++◌, length, refl, sym, ◌∙◌, ap, subst, arith, get_or, Option, Some, None, inl, inr, nat_lt, if◌then◌else◌, slice_index_or, slice_set, option_map, cases_lt, nat_tests, same_lists, length-set, get_or-set_same, get_or-set_other, get_or_past, get_or-map-range_with_len, length-map-range_with_len, overlaid, overlaid_before, overlaid_within, overlaid_behind, length-overlaid, PageSize, Layout, page_count, IsLegal, Key, key_to, key_in, look_up, look_up-is, Pool, IsSeen, private_frames, frame_at, page_at, some-within, private_segment, key_of_page, seat_pages, held_private, held_in, keys_with, page_in, drop, drop-set, overlaid-joined, take, take-append-drop, take-set}
+use Rattle.storage_unit.proofs.Common.{append_assoc, ◌≡◌, ◌≢◌, ℕ, ◌+◌, ◌-◌, ◌*◌, ◌/◌, ◌%◌, ◌<◌, ◌≤◌, Bool, true, List, [], ◌∷◌, ◌++◌, length, sym, ◌∙◌, ap, subst, arith, get_or, Option, Some, None, inl, inr, nat_lt, if◌then◌else◌, slice_index_or, slice_set, option_map, cases_lt, nat_tests, same_lists, length-set, get_or-set_same, get_or-set_other, get_or_past, get_or-map-range_with_len, length-map-range_with_len, overlaid, overlaid_before, overlaid_within, overlaid_behind, length-overlaid, PageSize, Layout, page_count, IsLegal, Key, key_to, key_in, look_up, look_up-is, Pool, IsSeen, private_frames, frame_at, page_at, some-within, private_segment, key_of_page, seat_pages, held_private, held_in, keys_with, page_in, drop, drop-set, overlaid-joined, take, take-append-drop, take-set}
 use Rattle.storage_unit.proofs.SizeLemmas.{seat-frame, seat-first, seat-rest, seat-room, seat-before, seat-behind}
 use Rattle.storage_unit.proofs.KeyLemmas.{same-page, key-low}
 

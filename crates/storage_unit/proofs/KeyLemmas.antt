@@ -1,5 +1,5 @@
 -- The pages of segments and the flat pages of a store, by each other.
-use Rattle.storage_unit.proofs.Common.{not, cond, nat_lt, if◌then◌else◌, find, take_while, sum_by, option_map, slice_index, prefix_len, nat_tests, PageSize, page_bytes, bytes_of, is_named, Layout, length_of, start_of, page_count, IsLegal, Key, key_to, named-low, key_among, key_of_page, ◌≡◌, ℕ, suc, ◌+◌, ◌-◌, ◌*◌, ◌/◌, ◌%◌, ◌<◌, ◌≤◌, Bool, true, false, List, [], ◌∷◌, map, take, refl, ◌∙◌, ap, arith, add-one, Option, Some}
+use Rattle.storage_unit.proofs.Common.{not, cond, nat_lt, if◌then◌else◌, find, take_while, sum_by, option_map, slice_index, nat_tests, PageSize, page_bytes, bytes_of, is_named, Layout, length_of, start_of, page_count, IsLegal, Key, key_to, named-low, key_among, key_of_page, ◌≡◌, ℕ, ◌+◌, ◌-◌, ◌*◌, ◌/◌, ◌%◌, ◌<◌, ◌≤◌, Bool, true, false, List, [], ◌∷◌, map, refl, ◌∙◌, ap, arith, add-one, Option, Some}
 use Rattle.std.specs.List.Sorted.{IsStrictlyIncreasing}
 use Rattle.std.proofs.lemmas.List.Sums.{sum_by-cons}
 use Rattle.storage_unit.proofs.SizeLemmas.{pages-past, pages-left}

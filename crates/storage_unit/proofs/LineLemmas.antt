@@ -1,5 +1,5 @@
 -- The answer to an access whose bytes lie in one page and two lines at most, by the first byte of each.
-use Rattle.storage_unit.proofs.Common.{◌≡◌, ℕ, ◌+◌, ◌%◌, ◌<◌, ◌≤◌, Bool, true, false, refl, sym, ◌∙◌, ap, arith, Option, Some, None, Ok, inl, inr, not, find, option_map, is_some, cases_lt, range_with_len, page_bytes, line_bytes, start_of, page_of, line_of, Virtual, bytes_on, key_of, look_up, page_at, Access, Fault, Probe, unless_absent_at, answered_at, Reach, is_private, offset_of, place_of, on, table_of, is_there, is_kept_from, is_refused, is_in_frame, refuses, IsSound, Lies, nat_tests}
+use Rattle.storage_unit.proofs.Common.{◌≡◌, ℕ, ◌+◌, ◌%◌, ◌<◌, ◌≤◌, Bool, true, false, sym, ◌∙◌, ap, arith, Option, Some, None, Ok, inl, inr, not, find, option_map, is_some, cases_lt, range_with_len, page_bytes, line_bytes, start_of, page_of, line_of, Virtual, bytes_on, key_of, look_up, page_at, Access, Fault, Probe, unless_absent_at, answered_at, Reach, is_private, offset_of, place_of, on, table_of, is_there, is_kept_from, is_refused, is_in_frame, refuses, IsSound, Lies, nat_tests}
 use Rattle.storage_unit.proofs.SizeLemmas.{same-line-on, next-line, line-rest}
 use Rattle.storage_unit.proofs.FindLemmas.{none-found, first-found}
 use Rattle.storage_unit.proofs.PlaceLemmas.{shared-is, place-byte, finds-shared, private-is}

@@ -1,8 +1,7 @@
 -- The lines that a unit knows may be accessed.
-use Rattle.storage_unit.proofs.Common.{cases_lt, inl, inr, ◌≡◌, ℕ, ◌+◌, ◌-◌, ◌*◌, ◌/◌, ◌%◌, ◌<◌, ◌≤◌, ◌^◌, Bool, true, false, refl, sym, ◌∙◌, ap, subst, arith, List, Option, Some, None, Ok, cond, not, ◌&&◌, find, option_map, slice_index_or, nat_tests, PageSize, Two, Four, page_bytes, line_bytes, bytes_of, is_named, Layout, length_of, start_of, line_of, page_of_line, grant_of, lets, Key, Placed, entry_at, key_of, look_up, SegmentRegister, Virtual, Registers, located_under, located_by, Access, Probe, answered_at, if_permitted, Reach, is_private, offset_of, place_of, on, table_of, is_kept_from, is_refused, is_in_frame, refuses, IsSound, IsLegal, Lies, bytes_shown, bytes_from, byte_at, eqb-true, ◌==◌, Unit, reach_of, length, length-take, length-drop, slice_range, has, is_marked, [], marked_in, union, slice_set, get_or-set_same, get_or-set_other, get_or_past, is_in_where-below, page_at, with_marks, option_map_or, put_at, Located, IsRefusal, OpenLine, lets_at, is_marked_at, IsOpened, AreOpened, AreMarked, IsOpenAt, IsOpenFrom}
+use Rattle.storage_unit.proofs.Common.{cases_lt, inl, inr, ◌≡◌, ℕ, ◌+◌, ◌-◌, ◌*◌, ◌/◌, ◌%◌, ◌<◌, ◌≤◌, ◌^◌, Bool, true, false, refl, sym, ◌∙◌, ap, subst, arith, List, Option, Some, None, Ok, not, ◌&&◌, find, option_map, slice_index_or, nat_tests, PageSize, Two, Four, page_bytes, line_bytes, bytes_of, is_named, Layout, length_of, start_of, page_of_line, grant_of, lets, Key, Placed, entry_at, key_of, look_up, SegmentRegister, Virtual, Registers, located_under, located_by, Access, Probe, answered_at, if_permitted, Reach, is_private, offset_of, place_of, on, table_of, is_kept_from, is_in_frame, refuses, IsSound, IsLegal, Lies, bytes_shown, bytes_from, byte_at, Unit, reach_of, length, length-take, length-drop, slice_range, has, is_marked, [], marked_in, union, slice_set, get_or-set_same, get_or-set_other, get_or_past, is_in_where-below, page_at, with_marks, option_map_or, put_at, Located, IsRefusal, OpenLine, lets_at, is_marked_at, IsOpened, AreOpened, AreMarked, IsOpenAt, IsOpenFrom}
 use Rattle.page_table.specs.declared.open_lines.OpenLines.{OpenLines}
 use Rattle.page_table.specs.KnownLines.{known, KnowsNothing, with_line}
-use Rattle.page_table.specs.LinePlaces.{place_of as line_place}
 use Rattle.storage_unit.proofs.AnswerLemmas.{permitted-lines}
 use Rattle.storage_unit.proofs.KeyLemmas.{start-whole}
 use Rattle.storage_unit.proofs.LineLemmas.{permitted}

@@ -1,5 +1,5 @@
 -- The pool after a part of a frame was written.
-use Rattle.storage_unit.proofs.Common.{◌≡◌, ℕ, Bool, ◌+◌, ◌*◌, ◌≤◌, List, length, ◌∙◌, ap, arith, Option, Some, length-take, length-drop, page_bytes, Layout, Virtual, key_of, look_up, Pool, marked_in, page_at, with_marks, with_bytes, part_of, with_frame_part, lent-part, option_map_or, Unit, table_of, keys_of, reach_of, nat_tests}
+use Rattle.storage_unit.proofs.Common.{◌≡◌, ℕ, Bool, ◌+◌, ◌*◌, ◌≤◌, List, length, arith, Some, length-take, length-drop, page_bytes, Layout, Virtual, key_of, look_up, Pool, marked_in, with_bytes, part_of, with_frame_part, lent-part, Unit, table_of, keys_of, reach_of, nat_tests}
 use Rattle.storage_unit.proofs.CopyLemmas.{found-below}
 use Rattle.storage_unit.proofs.UnitLemmas.{unit-sound}
 

@@ -1,5 +1,5 @@
 -- Where the bytes of an access lie, one by one, and the frames that have them.
-use Rattle.storage_unit.proofs.Common.{◌≡◌, ℕ, ◌+◌, ◌-◌, ◌*◌, ◌/◌, ◌%◌, ◌<◌, ◌≤◌, ◌^◌, Bool, true, false, refl, sym, ◌∙◌, ap, subst, arith, replicate, Option, Some, None, Ok, ◌⊎◌, inl, inr, nat_le, nat_lt, slice_index_or, if◌then◌else◌, is_some, cases_lt, nat_tests, get_or-replicate, get_or_past, div-add-mod', PageSize, page_bytes, Layout, length_of, start_of, byte_count, page_of, segment-within, Located, Private, Shared, Refused, SegmentRegister, Virtual, Registers, virtual_at, bytes_on, located_by, key_to, key_of, look_up, frame_at, bytes-low, Reach, is_private, offset_of, place_of, on, IsUnder, AreReached, seat_pages, pages_begun, table_of, byte_of, byte_at, is_there, IsSound, Lies, AreThere}
+use Rattle.storage_unit.proofs.Common.{◌≡◌, ℕ, ◌+◌, ◌-◌, ◌*◌, ◌/◌, ◌%◌, ◌<◌, ◌≤◌, ◌^◌, Bool, true, false, refl, sym, ◌∙◌, ap, subst, arith, replicate, Option, Some, None, Ok, inl, inr, nat_le, nat_lt, slice_index_or, if◌then◌else◌, is_some, cases_lt, nat_tests, get_or-replicate, get_or_past, div-add-mod', PageSize, page_bytes, Layout, length_of, start_of, byte_count, page_of, segment-within, Located, Private, Shared, Refused, SegmentRegister, Virtual, Registers, virtual_at, bytes_on, located_by, key_to, key_of, look_up, frame_at, bytes-low, Reach, is_private, offset_of, place_of, on, IsUnder, AreReached, seat_pages, pages_begun, table_of, byte_of, byte_at, is_there, IsSound, Lies, AreThere}
 use Rattle.storage_unit.proofs.SizeLemmas.{rest-below, byte-on-page, page-at, seat-page, same-page-on, page-of-line, page-below}
 use Rattle.storage_unit.proofs.KeyLemmas.{key-of-place, start-whole}
 use Rattle.storage_unit.proofs.HeldLemmas.{finds-page, finds-private}

@@ -1,8 +1,8 @@
 -- The rows that a unit knows stay ready where none of their bytes changes.
-use Rattle.storage_unit.proofs.Common.{◌≡◌, ℕ, ◌+◌, ◌-◌, ◌*◌, ◌/◌, ◌%◌, ◌<◌, ◌≤◌, ◌⊎◌, ◌==◌, Bool, true, false, List, length, refl, sym, ◌∙◌, ap, subst, arith, inl, inr, Option, Some, None, IfSome, cond, option_map, nat_le, if◌then◌else◌, slice_index, nat_tests, page_bytes, bytes_from, halfword_of, Located, Private, Shared, Refused, Virtual, Reach, is_private, offset_of, place_of, seat_of, byte_at, put_at, put_in_store, IsSound, Lies, leb-true, big_number, ReadyRows, AreReady, after_store, private_byte, private_half}
+use Rattle.storage_unit.proofs.Common.{◌≡◌, ℕ, ◌+◌, ◌-◌, ◌*◌, ◌/◌, ◌%◌, ◌<◌, ◌≤◌, ◌⊎◌, ◌==◌, Bool, true, false, List, length, refl, sym, ◌∙◌, ap, subst, arith, inl, inr, Option, Some, None, IfSome, option_map, nat_le, if◌then◌else◌, slice_index, nat_tests, page_bytes, bytes_from, halfword_of, Located, Private, Shared, Refused, Virtual, Reach, is_private, offset_of, place_of, seat_of, byte_at, put_at, put_in_store, IsSound, Lies, big_number, ReadyRows, AreReady, after_store, private_byte, private_half}
 use Rattle.flat_machine.specs.declared.ready.Ready.{Ready}
 use Rattle.flat_machine.specs.Ready.{has_second, IsRowOf, IsReadyAt}
-use Rattle.ready_rows.specs.Known.{known, KnowsNothing, is_met, unless_met, with_row, place_of as row_place}
+use Rattle.ready_rows.specs.Known.{known, KnowsNothing, is_met, unless_met, with_row}
 use Rattle.ready_rows.specs.Tags.{bytes_of}
 use Rattle.storage_unit.proofs.SizeLemmas.{rest-below, place-is}
 use Rattle.storage_unit.proofs.FillLemmas.{over-part}

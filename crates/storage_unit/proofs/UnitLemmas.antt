@@ -1,5 +1,5 @@
 -- What is known of every unit, for those that keep one.
-use Rattle.storage_unit.proofs.Common.{◌≡◌, ℕ, zero, suc, ◌<◌, true, false, refl, sym, ◌∙◌, subst, arith, Some, None, slice_index_or, nat_tests, Layout, IsLegal, SegmentRegister, private_register, Program, registers_of_program, register-window, named-low, Unit, Reach, private_segment, is_private, IsUnder, AreReached, IsSound, Fits, reach_of}
+use Rattle.storage_unit.proofs.Common.{◌≡◌, ℕ, zero, suc, ◌<◌, true, false, refl, sym, ◌∙◌, subst, arith, Some, None, slice_index_or, nat_tests, Layout, IsLegal, SegmentRegister, private_register, Program, registers_of_program, register-window, named-low, Unit, private_segment, is_private, IsUnder, AreReached, IsSound, reach_of}
 
 -- its state is sound
 pub unit-sound : (unit : Unit) → IsSound (reach_of unit)

@@ -1,4 +1,4 @@
-use Rattle.frame_pool.proofs.Lemmas.{◌≡◌, sym, ◌∙◌, ap, arith, range_with_len, lines_of_bits, marks_at, frame_at, frame_within, is_seen}
+use Rattle.frame_pool.proofs.Lemmas.{◌≡◌, sym, ◌∙◌, ap, range_with_len, lines_of_bits, marks_at, frame_at, is_seen}
 use Rattle.frame_pool.proofs.LayLemmas.{all-lines, whole-laid}
 use Rattle.frame_pool.proofs.pool.FramePool.lay_kept.Goals as goal
 

@@ -1,4 +1,4 @@
-use Rattle.frame_pool.proofs.Lemmas.{ℕ, Some, Option, sym, ◌∙◌, ap, arith, get_or_read_under, vec_len, index_out_below, out_some}
+use Rattle.frame_pool.proofs.Lemmas.{ℕ, Some, sym, ◌∙◌, ap, arith, get_or_read_under, vec_len, index_out_below, out_some}
 use Rattle.frame_pool.proofs.pool.FramePool.page_out.Goals as goal
 
 pub returns : goal.returns

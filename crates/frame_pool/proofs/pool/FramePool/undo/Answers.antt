@@ -1,4 +1,4 @@
-use Rattle.frame_pool.proofs.Lemmas.{slice_index, eqb-true, position-Some, Pool, gone, nat_tests, ◌==◌, ℕ, sym, ◌∙◌, ap, arith, gone_none, not_resident}
+use Rattle.frame_pool.proofs.Lemmas.{slice_index, eqb-true, position-Some, Pool, gone, ◌==◌, ℕ, sym, ◌∙◌, ap}
 use Rattle.frame_pool.proofs.pool.FramePool.undo.Goals as goal
 
 pub returns-in-Some : goal.returns-in-Some

@@ -1,4 +1,4 @@
-use Rattle.storage_unit.proofs.Lemmas.{fits-lent, ◌≡◌, ℕ, ◌+◌, ◌-◌, ◌*◌, ◌<◌, ◌≤◌, Bool, true, false, List, ◌++◌, length, replicate, sym, ◌∙◌, ap, subst, arith, Option, None, inl, inr, cases_eq, nat_tests, get_or_default, get_or-set_same, get_or-set_other, length-set, length-take, length-drop, length-append, length-replicate, overlaid, Key, key_to, Placed, key_in, look_up, Pool, private_frames, with_bytes, with_frame_part, lent-part, reach_of, Unit, private_segment, seat_pages, keys_of, pages_begun, first_keys, AreOfPages, slice_index, nat_lt, if◌then◌else◌, slice_set, slice_range, slice_index_or, Some, AreClear, seat-frame, seat-room, key-at, keys-long, held-private, finds-private, keys-seat, first-long, begun-other, holds-first, free-at, all-private, unit-sound, clear-begun, seat-clear, ready-none, opened-none}
+use Rattle.storage_unit.proofs.Lemmas.{fits-lent, ◌≡◌, ℕ, ◌+◌, ◌-◌, ◌*◌, ◌<◌, ◌≤◌, Bool, true, false, List, ◌++◌, length, replicate, sym, ◌∙◌, ap, subst, arith, Option, None, inl, inr, cases_eq, nat_tests, get_or_default, get_or-set_same, get_or-set_other, length-set, length-take, length-drop, length-append, length-replicate, overlaid, Key, key_to, Placed, key_in, look_up, Pool, private_frames, with_bytes, with_frame_part, lent-part, reach_of, Unit, private_segment, seat_pages, keys_of, pages_begun, first_keys, slice_index, nat_lt, if◌then◌else◌, slice_set, slice_range, slice_index_or, Some, AreClear, seat-frame, seat-room, key-at, keys-long, held-private, finds-private, keys-seat, first-long, begun-other, holds-first, free-at, all-private, unit-sound, clear-begun, seat-clear, ready-none, opened-none}
 use Rattle.storage_unit.proofs.unit.Unit.begin.Goals as goal
 
 -- the seat isn't begun

@@ -1,4 +1,4 @@
-use Rattle.storage_unit.proofs.Lemmas.{fits-brought, ◌≡◌, ℕ, ◌<◌, ◌≤◌, false, List, length, sym, ◌∙◌, ap, subst, arith, Option, Some, None, slice_set, option_and_then, option_map_or, Key, Placed, key_in, look_up, without_frame, IsOfTable, of_table-entered, Pool, private_frames, frame_count, frame_at, page_out, with_room, Brought, IsSeen, has, page_count, length-set, Stays, Unit, key_among, key_of_page, keys_of, pages_begun, AreOfPages, nat_tests, AreReady, AreClear, key-at, keys-long, held-store, finds-page, keys-store, frames-held, room-stays, room-none, keys-room, without-keys, without-entries, opened-none, Pair, get_or-set_same}
+use Rattle.storage_unit.proofs.Lemmas.{fits-brought, ◌≡◌, ℕ, ◌<◌, ◌≤◌, false, List, length, sym, ◌∙◌, ap, subst, arith, Option, Some, None, slice_set, option_and_then, option_map_or, Key, Placed, key_in, look_up, without_frame, IsOfTable, of_table-entered, Pool, private_frames, frame_count, frame_at, page_out, with_room, Brought, IsSeen, has, page_count, length-set, Stays, Unit, key_among, key_of_page, keys_of, pages_begun, nat_tests, AreReady, AreClear, key-at, keys-long, held-store, finds-page, keys-store, frames-held, room-stays, room-none, keys-room, without-keys, without-entries, opened-none, Pair, get_or-set_same}
 use Rattle.page_table.proofs.BufferLemmas.{after-of, unremembered}
 use Rattle.storage_unit.proofs.Common.{after_found}
 use Rattle.storage_unit.proofs.unit.Unit.bring.Goals as goal

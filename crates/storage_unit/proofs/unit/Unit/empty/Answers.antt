@@ -1,4 +1,4 @@
-use Rattle.storage_unit.proofs.Lemmas.{Fits, fits-stays, emptied, IsSeen, arith, nat_tests, sym, ◌∙◌, ap, subst, List, ℕ, length, Placed, Pair, IsOfTable, Pool, AreOfPages, pages_begun, AreReady, AreClear, frames-held, emptied-stays, keys-emptied, none-of_table, opened-none}
+use Rattle.storage_unit.proofs.Lemmas.{Fits, fits-stays, emptied, arith, nat_tests, sym, ◌∙◌, ap, subst, List, ℕ, length, Placed, Pair, IsOfTable, Pool, pages_begun, AreReady, AreClear, frames-held, emptied-stays, keys-emptied, none-of_table, opened-none}
 use Rattle.storage_unit.proofs.StateLemmas.{fold-seen}
 use Rattle.storage_unit.proofs.unit.Unit.empty.Goals as goal
 

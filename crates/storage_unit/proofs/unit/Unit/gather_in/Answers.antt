@@ -1,4 +1,4 @@
-use Rattle.storage_unit.proofs.Lemmas.{fits-part, ◌≡◌, ℕ, ◌+◌, ◌≤◌, List, length, sym, ◌∙◌, ap, subst, arith, page_bytes, stored_bytes, stored_bytes-long, Pool, lines_of_part, put_at, place_of, keys_of, AreOfPages, Lies, reach_of, nat_tests, offset_of, ◌-◌, known, after_store, AreUsed, AreOpened, found-below, part-long, pool-after, marked-same, marked-keys, marked-of_pages, opened-more, unit-sound, stored-part, ready-part, clear-part}
+use Rattle.storage_unit.proofs.Lemmas.{fits-part, ◌≡◌, ℕ, ◌+◌, ◌≤◌, List, length, sym, ◌∙◌, ap, subst, arith, page_bytes, stored_bytes, stored_bytes-long, Pool, lines_of_part, put_at, place_of, keys_of, Lies, reach_of, nat_tests, offset_of, ◌-◌, known, after_store, AreUsed, AreOpened, found-below, part-long, pool-after, marked-keys, opened-more, unit-sound, stored-part, ready-part, clear-part}
 use Rattle.storage_unit.proofs.unit.Unit.gather_in.Goals as goal
 
 pub part_mut-requires-clause-frame : goal.part_mut-requires-clause-frame

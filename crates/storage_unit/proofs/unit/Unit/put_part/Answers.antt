@@ -1,4 +1,4 @@
-use Rattle.storage_unit.proofs.Lemmas.{fits-part, ℕ, List, length, sym, ◌∙◌, ap, subst, Pool, lines_of_part, put_at, place_of, keys_of, AreOfPages, reach_of, nat_tests, arith, offset_of, ◌-◌, ◌+◌, common_steps, known, after_store, AreUsed, AreOpened, found-below, found-some, none-of, marked-of_pages, opened-more, unit-sound, part-long, pool-after, marked-same, marked-keys, stored-part, ready-part, clear-part}
+use Rattle.storage_unit.proofs.Lemmas.{fits-part, ℕ, List, length, sym, ◌∙◌, ap, subst, Pool, lines_of_part, put_at, place_of, keys_of, reach_of, nat_tests, arith, offset_of, ◌-◌, ◌+◌, common_steps, known, after_store, AreUsed, AreOpened, found-below, found-some, none-of, opened-more, unit-sound, part-long, pool-after, marked-keys, stored-part, ready-part, clear-part}
 use Rattle.storage_unit.proofs.unit.Unit.put_part.Goals as goal
 
 pub part_mut-requires-clause-frame : goal.part_mut-requires-clause-frame

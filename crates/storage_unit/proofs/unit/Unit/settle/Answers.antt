@@ -1,4 +1,4 @@
-use Rattle.storage_unit.proofs.Lemmas.{Fits, fits-settled, IsSeen, ap, subst, sym, ◌∙◌, length, List, ℕ, arith, Pool, marks_at, keys_of, AreOfPages, AreReady, AreClear, opened-none, marks-settled}
+use Rattle.storage_unit.proofs.Lemmas.{Fits, fits-settled, ap, subst, sym, ◌∙◌, List, ℕ, arith, Pool, keys_of, AreReady, AreClear, opened-none}
 use Rattle.storage_unit.proofs.unit.Unit.settle.Goals as goal
 
 pub settle-requires : goal.settle-requires

@@ -1,4 +1,4 @@
-use Rattle.storage_unit.proofs.Lemmas.{Fits, fits-stays, fits-settled, gone, seen-gone, sym, ◌∙◌, ap, subst, List, ℕ, length, Option, None, arith, slice_set, option_map_or, Key, Placed, Pool, IsSeen, frame_at, marks_at, settled, gone-stays, AreOfPages, keys_of, pages_begun, AreReady, AreClear, frames-held, marks-settled, keys-gone, without-keys, without-entries, opened-none}
+use Rattle.storage_unit.proofs.Lemmas.{Fits, fits-stays, fits-settled, gone, seen-gone, sym, ◌∙◌, ap, subst, List, ℕ, length, Option, None, arith, slice_set, option_map_or, Key, Placed, Pool, IsSeen, frame_at, settled, gone-stays, keys_of, pages_begun, AreReady, AreClear, frames-held, keys-gone, without-keys, without-entries, opened-none}
 use Rattle.storage_unit.proofs.LeaveLemmas.{seen-settled}
 use Rattle.storage_unit.proofs.unit.Unit.undo.Goals as goal
 
