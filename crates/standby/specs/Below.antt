@@ -14,6 +14,7 @@ pub use Rattle.outside.specs.Moments.{Elapses, IsOnePut}
 pub use Rattle.outside.specs.Runs.{AsksAndPuts, held_of, Leaves, OnlyAsks, OnlyPuts}
 pub use Rattle.outside.specs.declared.failed.Failed.{Failed}
 pub use Rattle.outside.specs.declared.world.Outside.{Ghosts}
+pub use Rattle.store.specs.Appended.{IsUsable}
 pub use Rattle.store.specs.Held.{HoldsAtLeast, IsMoreBy}
 pub use Rattle.store.specs.KeptStore.{KeptStore, number_of, with_begun}
 pub use Rattle.store.specs.Records.{area_bytes, IsRecordAt}

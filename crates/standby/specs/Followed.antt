@@ -1,5 +1,5 @@
 -- What following a text does, and one record of it.
-use Rattle.std.specs.Prelude.{◌≡◌, ℕ, zero, suc, ◌+◌, ◌<◌, ◌≤◌, ◌↔◌, List, [], ◌++◌, length, take, Option, Result, Ok, Err, IsSome, IfSome, ◌⊎◌, map}
+use Rattle.std.specs.Prelude.{◌≡◌, ℕ, zero, suc, ◌+◌, ◌<◌, ◌≤◌, ◌↔◌, List, [], ◌++◌, length, take, Option, Result, Ok, Err, IfErr, IsSome, IfSome, ◌⊎◌, map}
 use Rattle.standby.specs.Below.{Elapses, Failed, FlatStore, Ghosts, Header, held_of, HoldsAtLeast, IsMoreBy, KeptStore, Leaves, line_bytes, line_count, number_of, Prints, Rose, Stands, stands, TracksStore, AreTold, most_lines, RecordLine, with_begun}
 use Rattle.standby.specs.Puts.{CountsPuts, SeesPart}
 use Rattle.standby.specs.State.{laid_by, bank_begun, laid, IsAmong, IsTooLong, AllFit}
@@ -69,6 +69,18 @@ abbrev pub IsStopped : Followed → Type 0
 IsStopped DiskFault = Unit {0}
 IsStopped PutFault = Unit {0}
 IsStopped _ = ⊥
+
+-- how it ended
+abbrev pub followed_of : Result (Unit {0}) Followed → Followed
+followed_of (Ok done) = Done
+followed_of (Err why) = why
+
+-- Following goes on so, or a fault stopped it: told bytes stay told and get no fewer, no count rises but that of the fault, and the header stays.
+pub record GoesOn {W : Type 0} (G : Ghosts W) (was durable : KeptStore) (old new : W) (result : Result (Unit {0}) Followed) : Type 0 where
+  pub only : OnlyGoesOn G old new
+  pub ends : EndsBy G old new (followed_of result)
+  pub stopped : IfErr result IsStopped
+  pub header : durable.header ≡ was.header
 
 -- what a text was found to be: of another store; not with the store's number; with a record that is too long, at this number; or one that fits
 abbrev pub FoundOf : Header → Content → (from : ℕ) → Followed → Type 0
@@ -175,11 +187,6 @@ StepsBy G bytes number store lines durable before after (Err _) = ⊥
 pub record Steps {W : Type 0} (G : Ghosts W) (bytes number : ℕ) (store : FlatStore) (lines : List ShipLine) (durable : KeptStore) (before after : W) (result : Result (Unit {0}) Followed) : Type 0 where
   pub crash : Leaves G (IsStep bytes number store lines (G.printed before)) before after
   pub ends : StepsBy G bytes number store lines durable before after result
-
--- how it ended
-abbrev pub followed_of : Result (Unit {0}) Followed → Followed
-followed_of (Ok done) = Done
-followed_of (Err why) = why
 
 -- how a line was put
 abbrev pub put_of : {T E : Type 0} → Result T E → Result (Unit {0}) Failed

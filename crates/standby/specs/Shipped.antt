@@ -1,6 +1,6 @@
 -- What shipping records does.
-use Rattle.std.specs.Prelude.{◌≡◌, ◌<◌, ℕ, List, All, length, map, drop, take, slice_get, Some, Result, Ok, Err}
-use Rattle.standby.specs.Below.{area_bytes, Ghosts, held_of, IsRecordAt, IsShown, KeptStore, line_bytes, line_count, Prints, RecordLine, Rose}
+use Rattle.std.specs.Prelude.{◌≡◌, ◌<◌, ℕ, List, All, length, map, drop, take, slice_get, Some, Result, Ok, Err, IfErr}
+use Rattle.standby.specs.Below.{area_bytes, AsksAndPuts, Ghosts, held_of, IsRecordAt, IsShown, KeptStore, line_bytes, line_count, Prints, RecordLine, Rose}
 use Rattle.standby.specs.Followed.{well, broken}
 use Rattle.standby.specs.Puts.{CountsPuts}
 use Rattle.standby.specs.Read.{feeds}
@@ -48,6 +48,12 @@ abbrev pub EndsBy : {W : Type 0} → Ghosts W → W → W → Shipped → Type 0
 EndsBy G old new DiskFault = Rose (G.disk_faults old) (G.disk_faults new) × (G.put_faults new ≡ G.put_faults old)
 EndsBy G old new PutFault = (G.disk_faults new ≡ G.disk_faults old) × Rose (G.put_faults old) (G.put_faults new)
 EndsBy G old new _ = (G.disk_faults new ≡ G.disk_faults old) × (G.put_faults new ≡ G.put_faults old)
+
+-- Shipping goes on so, or a fault stopped it: it only asks and puts, and no count rises but that of the fault.
+pub record ShipsOn {W : Type 0} (G : Ghosts W) (old new : W) (result : Result (Unit {0}) Shipped) : Type 0 where
+  pub only : AsksAndPuts G old new
+  pub stopped : IfErr result IsStopped
+  pub ends : EndsBy G old new (shipped_of result)
 
 -- how bytes were put, by a result: all of them, each line by one put, or a first part
 abbrev pub PrintsBy : {W T : Type 0} → Ghosts W → List ℕ → W → W → Result T Shipped → Type 0

@@ -1,13 +1,12 @@
 // The records of a ship text, committed to a store one after another.
 ghost use Rattle.std.specs.Prelude.{◌≡◌, ◌≢◌, ◌↔◌, ◌+◌, ◌≤◌, ◌<◌, ◌^◌, ◌⊎◌, ℕ, [], All, length, false, IsTrue, IfSome, IfNone, Err, IfErr, OnOk, OnErr};
-ghost use Rattle.standby.specs.Below.{HoldsAtLeast, line_bytes, number_of, total};
+ghost use Rattle.standby.specs.Below.{IsUsable, line_bytes, number_of, total};
 ghost use Rattle.standby.specs.State.{bank_with, bank_behind, IsLongAt, due};
-ghost use Rattle.standby.specs.Followed.{IsAlike, OfTracked, OnlyGoesOn, EndsBy, FoundOf, IsStopped, Keeps, Follows, IsFitting, IsBegun, Steps, followed_of, put_of, records_as};
+ghost use Rattle.standby.specs.Followed.{IsAlike, OfTracked, OnlyGoesOn, EndsBy, FoundOf, GoesOn, Keeps, Follows, IsFitting, IsBegun, Steps, followed_of, put_of, records_as};
 ghost use Rattle.standby.specs.Puts.{Puts};
 ghost use Rattle.standby.specs.Text.{IsShip, content_of, record_of, later, next};
 
 use super::line::{fill_end, fill_kept};
-use super::put::put;
 use super::text::{Ship, ShipRecord};
 use outside::{Failed, Outside};
 use store::{Durable, Kept};
@@ -35,8 +34,7 @@ pub enum Followed {
 /// the number at the end (docs/FORMATS.md, "Ship text"). It takes no memory.
 pub fn follow<W: Outside>(durable: &mut Durable, ship: &Ship, outside: &mut W) -> Followed
     requires ship { IsShip ship.now }
-    requires usable { durable.old.bank.spoiled ≡ false }
-    requires room { HoldsAtLeast W.Outside (total durable.old.header) outside.old }
+    requires store { IsUsable W.Outside (total durable.old.header) durable.old.bank outside.old }
     ensures found { FoundOf durable.old.header (content_of ship.now) (number_of durable.old) result }
     ensures refused { (result ≡ Followed.Geometry) ⊎ (result ≡ Followed.NotKept) ⊎ ((number : ℕ) × (result ≡ Followed.Long number)) → (durable.new ≡ durable.old) × (outside.new ≡ outside.old) }
     ensures only { OnlyGoesOn W.Outside outside.old outside.new }
@@ -97,12 +95,8 @@ fn keep_all<W: Outside>(
     outside: &mut W,
 ) -> Result<(), Followed>
     requires fitting { All (IsFitting durable.old.header) records.now }
-    requires usable { durable.old.bank.spoiled ≡ false }
-    requires room { HoldsAtLeast W.Outside (total durable.old.header) outside.old }
-    ensures only { OnlyGoesOn W.Outside outside.old outside.new }
-    ensures ends { EndsBy W.Outside outside.old outside.new (followed_of result) }
-    ensures stopped { IfErr result IsStopped }
-    ensures header { durable.new.header ≡ durable.old.header }
+    requires store { IsUsable W.Outside (total durable.old.header) durable.old.bank outside.old }
+    ensures goes { GoesOn W.Outside durable.old durable.new outside.old outside.new result }
     ensures kept { OnOk result (durable.new.bank ≡ bank_behind durable.old.bank (records_as durable.old.header records.now)) }
     ensures follows { OfTracked W.Outside durable.old outside.old (λ store. Follows W.Outside (line_bytes durable.old.header.directory.page) (number_of durable.old) store (records_as durable.old.header records.now) durable.new outside.old outside.new (followed_of result)) }
 {
@@ -123,12 +117,8 @@ fn keep_each<W: Outside>(
     outside: &mut W,
 ) -> Result<(), Followed>
     requires fitting { All (IsFitting durable.old.header) records.now }
-    requires usable { durable.old.bank.spoiled ≡ false }
-    requires room { HoldsAtLeast W.Outside (total durable.old.header) outside.old }
-    ensures only { OnlyGoesOn W.Outside outside.old outside.new }
-    ensures ends { EndsBy W.Outside outside.old outside.new (followed_of result) }
-    ensures stopped { IfErr result IsStopped }
-    ensures header { durable.new.header ≡ durable.old.header }
+    requires store { IsUsable W.Outside (total durable.old.header) durable.old.bank outside.old }
+    ensures goes { GoesOn W.Outside durable.old durable.new outside.old outside.new result }
     ensures number { OnOk result (number_of durable.new ≡ later (number_of durable.old) (length records.now)) }
     ensures kept { OnOk result (durable.new.bank ≡ bank_behind durable.old.bank (records_as durable.old.header records.now)) }
     ensures keeps { OfTracked W.Outside durable.old outside.old (λ store. Keeps W.Outside (line_bytes durable.old.header.directory.page) (number_of durable.old) store (records_as durable.old.header records.now) durable.new outside.old outside.new (followed_of result)) }
@@ -150,12 +140,8 @@ fn keep<W: Outside>(
     outside: &mut W,
 ) -> Result<(), Followed>
     requires fitting { IsFitting durable.old.header sent.now }
-    requires usable { durable.old.bank.spoiled ≡ false }
-    requires room { HoldsAtLeast W.Outside (total durable.old.header) outside.old }
-    ensures only { OnlyGoesOn W.Outside outside.old outside.new }
-    ensures ends { EndsBy W.Outside outside.old outside.new (followed_of result) }
-    ensures stopped { IfErr result IsStopped }
-    ensures header { durable.new.header ≡ durable.old.header }
+    requires store { IsUsable W.Outside (total durable.old.header) durable.old.bank outside.old }
+    ensures goes { GoesOn W.Outside durable.old durable.new outside.old outside.new result }
     ensures usable { OnOk result (durable.new.bank.spoiled ≡ false) }
     ensures number { OnOk result (number_of durable.new ≡ next (number_of durable.old)) }
     ensures kept { OnOk result (durable.new.bank ≡ bank_with durable.old.bank (record_of (line_bytes durable.old.header.directory.page) sent.now)) }
@@ -184,12 +170,11 @@ fn begin(durable: &mut Durable, sent: &ShipRecord)
     }
 }
 
-/// Puts a line.
 fn put_line<W: Outside>(line: &[u8], outside: &mut W) -> Result<(), Followed>
     ensures only { OnErr result (result ≡ Err Followed.PutFault) }
     ensures puts { Puts W.Outside line.now outside.old outside.new (put_of result) }
 {
-    match put(line, outside) {
+    match outside.put(line) {
         Ok(()) => Ok(()),
         Err(Failed) => Err(Followed::PutFault),
     }

@@ -6,7 +6,6 @@ mod follow_call;
 mod following;
 mod law;
 mod line;
-mod put;
 mod read;
 mod ship_call;
 mod shipping;

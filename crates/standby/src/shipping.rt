@@ -1,14 +1,13 @@
 // The records of a bank behind a number, put as a text.
 ghost use Rattle.std.specs.Prelude.{◌≡◌, ◌≢◌, ◌↔◌, ◌+◌, ◌≤◌, ◌<◌, ◌⊎◌, All, length, map, take, Err, IfOk, IfErr, OnOk, OnErr, false};
-ghost use Rattle.standby.specs.Below.{area_bytes, AsksAndPuts, FailsOnlyCounted, held_of, HoldsAtLeast, IsRecordAt, IsShown, line_bytes, line_count, OnlyAsks, record_bytes, total};
+ghost use Rattle.standby.specs.Below.{area_bytes, AsksAndPuts, FailsOnlyCounted, held_of, IsRecordAt, IsShown, IsUsable, line_bytes, line_count, OnlyAsks, record_bytes, total};
 ghost use Rattle.standby.specs.Puts.{Puts};
-ghost use Rattle.standby.specs.Shipped.{EndsBy, HasBytes, IsStopped, OfLineAt, OfRecordsAt, PrintsBy, ShipsBy, shipped, shipped_of};
+ghost use Rattle.standby.specs.Shipped.{EndsBy, HasBytes, ShipsOn, OfLineAt, OfRecordsAt, PrintsBy, ShipsBy, shipped, shipped_of};
 ghost use Rattle.standby.specs.State.{behind};
 ghost use Rattle.standby.specs.Followed.{put_of};
 ghost use Rattle.standby.specs.Text.{IsContent, later, line_line, record_text, records_text, told, text_of};
 
 use super::line::{fill_end, fill_head, fill_line, fill_record};
-use super::put::put;
 use outside::{Failed, Outside};
 use store::{Durable, Record};
 use text_line::TextLine;
@@ -29,8 +28,7 @@ pub enum Shipped {
 /// Puts the records that the chosen bank has after a number, as a ship text (docs/FORMATS.md, "Ship text"). It only asks
 /// the disk, and takes no memory.
 pub fn ship<W: Outside>(durable: &Durable, outside: &mut W, from: u64) -> Shipped
-    requires usable { durable.now.bank.spoiled ≡ false }
-    requires room { HoldsAtLeast W.Outside (total durable.now.header) outside.old }
+    requires store { IsUsable W.Outside (total durable.now.header) durable.now.bank outside.old }
     ensures not_kept { result ≡ Shipped.NotKept ↔ (durable.now.bank.count < behind durable.now.bank.base from) }
     ensures refused { result ≡ Shipped.NotKept → outside.new ≡ outside.old }
     ensures only { AsksAndPuts W.Outside outside.old outside.new }
@@ -59,16 +57,13 @@ fn put_text<W: Outside>(
     lines: u32,
     outside: &mut W,
 ) -> Result<(), Shipped>
-    requires usable { durable.now.bank.spoiled ≡ false }
-    requires room { HoldsAtLeast W.Outside (total durable.now.header) outside.old }
+    requires store { IsUsable W.Outside (total durable.now.header) durable.now.bank outside.old }
     requires some { 0 < durable.now.header.bank_bytes }
     requires lines { lines ≡ line_count durable.now.header.directory }
     requires passed { passed ≤ durable.now.bank.count }
     requires from { from ≡ later durable.now.bank.base passed }
     requires behind { passed ≡ behind durable.now.bank.base from }
-    ensures only { AsksAndPuts W.Outside outside.old outside.new }
-    ensures stopped { IfErr result IsStopped }
-    ensures ends { EndsBy W.Outside outside.old outside.new (shipped_of result) }
+    ensures goes { ShipsOn W.Outside outside.old outside.new result }
     ensures prints { (shown : IsShown W.Outside durable.now outside.old) → PrintsBy W.Outside (text_of (shipped durable.now shown.shows.read.records from)) outside.old outside.new result }
     ensures content { OnOk result ((shown : IsShown W.Outside durable.now outside.old) → IsContent (shipped durable.now shown.shows.read.records from)) }
 {
@@ -97,8 +92,7 @@ fn put_text<W: Outside>(
 
 /// The place of the gate after so many records.
 fn place_behind<W: Outside>(durable: &Durable, passed: u32, outside: &mut W) -> Result<u32, Shipped>
-    requires usable { durable.now.bank.spoiled ≡ false }
-    requires room { HoldsAtLeast W.Outside (total durable.now.header) outside.old }
+    requires store { IsUsable W.Outside (total durable.now.header) durable.now.bank outside.old }
     requires some { 0 < durable.now.header.bank_bytes }
     requires passed { passed ≤ durable.now.bank.count }
     ensures asks { OnlyAsks W.Outside outside.old outside.new }
@@ -125,14 +119,11 @@ fn put_records<W: Outside>(
     text: &mut TextLine,
     outside: &mut W,
 ) -> Result<(), Shipped>
-    requires usable { durable.now.bank.spoiled ≡ false }
-    requires room { HoldsAtLeast W.Outside (total durable.now.header) outside.old }
+    requires store { IsUsable W.Outside (total durable.now.header) durable.now.bank outside.old }
     requires passed { passed ≤ durable.now.bank.count }
     requires some { 0 < durable.now.header.bank_bytes }
     requires inside { place < durable.now.header.bank_bytes }
-    ensures only { AsksAndPuts W.Outside outside.old outside.new }
-    ensures stopped { IfErr result IsStopped }
-    ensures ends { EndsBy W.Outside outside.old outside.new (shipped_of result) }
+    ensures goes { ShipsOn W.Outside outside.old outside.new result }
     ensures prints { OfRecordsAt W.Outside durable.now passed place outside.old (λ records. PrintsBy W.Outside (records_text (later durable.now.bank.base passed) (map told records)) outside.old outside.new result) }
     ensures bytes { OnOk result (OfRecordsAt W.Outside durable.now passed place outside.old (λ records. All (λ lines. All (HasBytes (line_bytes durable.now.header.directory.page)) lines) records)) }
 {
@@ -159,12 +150,9 @@ fn put_record<W: Outside>(
     text: &mut TextLine,
     outside: &mut W,
 ) -> Result<(), Shipped>
-    requires usable { durable.now.bank.spoiled ≡ false }
-    requires room { HoldsAtLeast W.Outside (total durable.now.header) outside.old }
+    requires store { IsUsable W.Outside (total durable.now.header) durable.now.bank outside.old }
     requires fits { (entry.now.count ≡ 0) ⊎ (entry.now.place + record_bytes durable.now.header.directory.page entry.now.count < durable.now.header.bank_bytes) }
-    ensures only { AsksAndPuts W.Outside outside.old outside.new }
-    ensures stopped { IfErr result IsStopped }
-    ensures ends { EndsBy W.Outside outside.old outside.new (shipped_of result) }
+    ensures goes { ShipsOn W.Outside outside.old outside.new result }
     ensures prints { (shown : IsShown W.Outside durable.now outside.old) → (at : IsRecordAt (held_of W.Outside outside.old) durable.now.bank entry.now.place) → entry.now.count ≡ length at.lines → PrintsBy W.Outside (record_text number (told at.lines)) outside.old outside.new result }
     ensures bytes { OnOk result ((shown : IsShown W.Outside durable.now outside.old) → (at : IsRecordAt (held_of W.Outside outside.old) durable.now.bank entry.now.place) → entry.now.count ≡ length at.lines → All (HasBytes (line_bytes durable.now.header.directory.page)) at.lines) }
 {
@@ -190,13 +178,10 @@ fn put_one<W: Outside>(
     text: &mut TextLine,
     outside: &mut W,
 ) -> Result<(), Shipped>
-    requires usable { durable.now.bank.spoiled ≡ false }
-    requires room { HoldsAtLeast W.Outside (total durable.now.header) outside.old }
+    requires store { IsUsable W.Outside (total durable.now.header) durable.now.bank outside.old }
     requires fits { entry.now.place + record_bytes durable.now.header.directory.page entry.now.count < durable.now.header.bank_bytes }
     requires below { index < entry.now.count }
-    ensures only { AsksAndPuts W.Outside outside.old outside.new }
-    ensures stopped { IfErr result IsStopped }
-    ensures ends { EndsBy W.Outside outside.old outside.new (shipped_of result) }
+    ensures goes { ShipsOn W.Outside outside.old outside.new result }
     ensures prints { OfLineAt W.Outside durable.now entry.now.place entry.now.count index outside.old (λ one. PrintsBy W.Outside (line_line one.line one.bytes) outside.old outside.new result) }
     ensures bytes { OnOk result (OfLineAt W.Outside durable.now entry.now.place entry.now.count index outside.old (HasBytes (line_bytes durable.now.header.directory.page))) }
 {
@@ -210,12 +195,11 @@ fn put_one<W: Outside>(
     put_line(text.as_slice(), outside)
 }
 
-/// Puts a line.
 fn put_line<W: Outside>(line: &[u8], outside: &mut W) -> Result<(), Shipped>
     ensures only { OnErr result (result ≡ Err Shipped.PutFault) }
     ensures puts { Puts W.Outside line.now outside.old outside.new (put_of result) }
 {
-    match put(line, outside) {
+    match outside.put(line) {
         Ok(()) => Ok(()),
         Err(Failed) => Err(Shipped::PutFault),
     }

@@ -6,7 +6,7 @@ use Rattle.outside.specs.declared.world.Outside.{Ghosts}
 use Rattle.store.specs.Kept.{KeptBank, area_end, end_of, begun_of, number_of as number_in}
 use Rattle.store.proofs.AppendLemmas.{place_is}
 use Rattle.store.specs.declared.fault.OpenFault.{OpenFault}
-use Rattle.store.specs.Chosen as opened
+use Rattle.store.specs.Opened.{IsBankOpenFault, IsBankReopenFault}
 use Rattle.store.specs.declared.fault.ReopenFault.TheVariants as reopening
 use Rattle.store.specs.declared.fault.OpenFault.TheVariants as opening
 use Rattle.store.specs.Tracks as journal
@@ -87,7 +87,7 @@ pub sure_on : {W : Type 0} (G : Ghosts W) (fewer_later : FewerLater G) (old new 
 sure_on G fewer_later old new sure asks = grind (arith, nat_tests)
 
 -- what is wrong with the chosen bank is wrong with the store
-pub opening_fault : {W : Type 0} (G : Ghosts W) (old mid new : W) (header : Header) (fault : OpenFault) → OnlyAsks G old mid → (IsSome (G.held old) → HasHeader (held_of G old) header) → opened.IsChosenOpenFault G mid new header fault → IsStoreOpenFault G old new fault
+pub opening_fault : {W : Type 0} (G : Ghosts W) (old mid new : W) (header : Header) (fault : OpenFault) → OnlyAsks G old mid → (IsSome (G.held old) → HasHeader (held_of G old) header) → IsBankOpenFault G mid new header (chosen (held_of G mid)) fault → IsStoreOpenFault G old new fault
 opening_fault G old mid new header (opening.Damaged offset) asks has is =
     λ told.
     let still : IsSome (G.held mid) = subst (λ (those : Option (List ℕ)). IsSome those) (sym asks.held) told in
@@ -96,7 +96,7 @@ opening_fault G old mid new header (opening.Damaged offset) asks has is =
 opening_fault G old mid new header _ asks has is = grind (arith, nat_tests)
 
 -- the same of a store that is reopened
-pub reopening_fault : {W : Type 0} (G : Ghosts W) (old mid new : W) (header : Header) (bank : KeptBank) (fault : ReopenFault) → Fits header bank → OnlyAsks G old mid → opened.IsChosenReopenFault G mid new bank fault → IsStoreReopenFault G old new header fault
+pub reopening_fault : {W : Type 0} (G : Ghosts W) (old mid new : W) (header : Header) (bank : KeptBank) (fault : ReopenFault) → Fits header bank → OnlyAsks G old mid → IsBankReopenFault G mid new (chosen (held_of G mid)) bank fault → IsStoreReopenFault G old new header fault
 reopening_fault G old mid new header bank fault fits asks is = grind (arith, nat_tests, bank_is)
 
 -- a store that is intact under a header has no fault in its bank

@@ -1,6 +1,7 @@
 -- Calls that write, one after another, and what a crash leaves of them.
-use Rattle.store.proofs.Common.{◌≡◌, ℕ, ◌+◌, ◌≤◌, List, length, ◌∙◌, ap, arith, length-append, ForSome, length-take, length-drop, Ghosts, Failed, Torn, Writes, CountsWrite, written, OnlyAsks, FewerLater, held_of, told_some, calls_none, calls_on, still_told, Option, Some, IsSome, IsTrue, Result, Ok, nat_tests, ⊎_elim, [], Elapses, LeavesStep, IsDurable, Leaves, IsSure, OnlyWrites, unwrap_or, IsOneCall, PrintsNothing, IsMoreBy, WritesOnce}
-use Rattle.outside.specs.Causes.{FailsOnlyCounted}
+use Rattle.store.proofs.Common.{◌≡◌, ℕ, ◌+◌, ◌≤◌, List, length, ◌∙◌, ap, arith, length-append, ForSome, length-take, length-drop, Ghosts, Failed, Writes, CountsWrite, written, OnlyAsks, FewerLater, held_of, told_some, calls_none, calls_on, still_told, Option, Some, IsSome, IsTrue, Result, Ok, nat_tests, ⊎_elim, [], Elapses, LeavesStep, IsDurable, Leaves, IsSure, OnlyWrites, unwrap_or, IsMoreBy, WritesOnce}
+use Rattle.outside.specs.Causes.{CountsOwn}
+use Rattle.outside.specs.Moments.{CallsOnce, MayTear}
 
 pub more_on : (a b : ℕ) (old mid new : Option ℕ) → IsMoreBy a old mid → IsMoreBy b mid new → IsMoreBy (a + b) old new
 more_on a b old mid new first second before is = grind (arith, nat_tests, first)
@@ -30,12 +31,11 @@ pub asks_only : {W : Type 0} (G : Ghosts W) (old new : W) → OnlyAsks G old new
 asks_only G old new asks = grind (arith, nat_tests, same_fewer)
 
 -- a call that writes
-pub once : {W : Type 0} (G : Ghosts W) {T : Type 0} (at : ℕ) (bytes : List ℕ) (old new : W) (result : Result T Failed) → Writes (G.held old) (G.held new) at bytes result → CountsWrite (G.writes old) (G.writes new) result → G.is_honest new ≡ G.is_honest old
-    → Elapses G.moment G.left_since old new → IsOneCall (G.moment old) (G.moment new) → PrintsNothing G.moment G.left_since G.printed old new → (IsTrue (G.is_honest old) → IsSome (G.held old) → LeavesStep (Torn at (length bytes)) G.moment G.left_since old new)
-    → FailsOnlyCounted (G.disk_faults old) (G.disk_faults new) result → G.put_faults new ≡ G.put_faults old → WritesOnce G at bytes old new result
-once G at bytes old new result written counted honest time one quiet crash cause put = record {
+pub once : {W : Type 0} (G : Ghosts W) {T : Type 0} (at : ℕ) (bytes : List ℕ) (old new : W) (result : Result T Failed) → Writes (G.held old) (G.held new) at bytes result → CountsWrite (G.writes old) (G.writes new) result
+    → CallsOnce G.printed G.is_honest G.moment G.left_since old new → MayTear G.held G.is_honest G.moment G.left_since at (length bytes) old new → CountsOwn G.disk_faults G.put_faults old new result → WritesOnce G at bytes old new result
+once G at bytes old new result written counted call crash counts = record {
   only = record {
-    calls = record { quiet = quiet; honest = honest; time = time; disk = cause.later; put = put; puts = one.puts };
+    calls = record { quiet = call.quiet; honest = call.honest; time = call.time; disk = counts.cause.later; put = counts.other; puts = call.once.puts };
     told = λ told. still_told (G.held old) (G.held new) at bytes result told written;
     longer = λ count room. written_longer (G.held old) (G.held new) at bytes result count written room;
     writes = counted_fewer (G.writes old) (G.writes new) result counted;
@@ -43,7 +43,7 @@ once G at bytes old new result written counted honest time one quiet crash cause
   written = written;
   counted = counted;
   crash = crash;
-  cause = cause;
+  cause = counts.cause;
 }
 
 -- the bytes held are what a crash of now may leave

@@ -1,11 +1,11 @@
 -- A record that is to be added: what a line of it must be, what the answer says of the disk's count, what is kept then, and what a crash leaves.
-use Rattle.std.specs.Prelude.{◌≡◌, ◌↔◌, ℕ, ◌+◌, ◌≤◌, ◌<◌, List, All, length, take, drop, slice_set, Option, None, Some, IsSome, IfSome}
+use Rattle.std.specs.Prelude.{◌≡◌, ◌↔◌, ℕ, ◌+◌, ◌≤◌, ◌<◌, List, All, length, take, drop, slice_set, Option, None, Some, IsSome, IfSome, false}
 use Rattle.store.specs.Below.{Ghosts, held_of, Leaves, one_more, option_map, Rose, stands}
 use Rattle.store.specs.declared.keep.Kept.{Kept}
 use Rattle.store.specs.declared.keep.Kept.TheVariants.{Done, Unwritten, Doubt}
 use Rattle.store.specs.declared.keep.Appended.{Appended}
 use Rattle.store.specs.declared.keep.Appended.TheVariants as appending
-use Rattle.store.specs.Held.{OnlyWrites}
+use Rattle.store.specs.Held.{HasBody, HoldsAtLeast, is_open, IsKept, IsSafe, IsShut, OnlyWrites}
 use Rattle.store.specs.Kept.{KeptBank, SameShape, area_end, begun_of, line_bytes_of, needed_end, record_bytes_of, spoilt, with_record}
 use Rattle.store.specs.Tracks.{TracksBank, IsEither, HoldsOneOf, IsAppended}
 
@@ -16,6 +16,17 @@ pub record TakesLine (bank : KeptBank) (line : ℕ) (bytes : List ℕ) : Type 0 
   pub below : line < length bank.newest
   pub ascending : All (λ begun. begun.line < line) (begun_of bank)
   pub room : record_bytes_of bank (length (begun_of bank) + 1) + 1 ≤ bank.bank_bytes
+
+-- A bank needn't be reopened, and where its bytes are told the disk holds at least so many.
+pub record IsUsable {W : Type 0} (G : Ghosts W) (count : ℕ) (bank : KeptBank) (outside : W) : Type 0 where
+  pub usable : bank.spoiled ≡ false
+  pub room : HoldsAtLeast G count outside
+
+-- and it has a record begun
+pub record CanAppend {W : Type 0} (G : Ghosts W) (count : ℕ) (bank : KeptBank) (outside : W) : Type 0 where
+  pub begun : IsSome bank.begun
+  pub usable : bank.spoiled ≡ false
+  pub room : HoldsAtLeast G count outside
 
 -- how far an append kept the record; none where it found no room
 abbrev pub kept_in : Appended → Option Kept
@@ -36,6 +47,16 @@ abbrev pub CountsKept : {W : Type 0} → Ghosts W → (before after : W) → Kep
 CountsKept G before after Done = G.disk_faults after ≡ G.disk_faults before
 CountsKept G before after Unwritten = Rose (G.disk_faults before) (G.disk_faults after)
 CountsKept G before after Doubt = Rose (G.disk_faults before) (G.disk_faults after)
+
+-- What keeping a body behind a gate does, where it is answered so. Of a gate that is shut: whenever a crash comes, an open gate has the whole body behind it.
+pub record KeepsBody {W : Type 0} (G : Ghosts W) (gate : ℕ) (body : List ℕ) (before after : W) (answer : Kept) : Type 0 where
+  pub only : OnlyWrites G before after
+  pub crash : IsShut G gate before → Leaves G (λ image seen. IsSafe gate body (held_of G before) image) before after
+  pub unwritten : answer ≡ Unwritten → IsShut G gate before → Leaves G (λ image seen. is_open gate image ≡ false) before after
+  pub doubt : answer ≡ Doubt → IsShut G gate before → Leaves G (λ image seen. HasBody gate body image) after after
+  pub done : answer ≡ Done → IsShut G gate before → IsKept G gate body before after
+  pub writes : answer ≡ Done → G.writes after ≡ option_map (λ count. count + 2) (G.writes before)
+  pub counted : CountsKept G before after answer
 
 -- what a crash leaves of a bank's begun record that was added there and not kept: what stood, and after a doubt what stands with the record, once the gate's byte is on
 abbrev pub FailedLeaves : {W : Type 0} → Ghosts W → (bank there : KeptBank) → (before after : W) → Kept → Type 0

@@ -14,6 +14,7 @@ pub use Rattle.outside.specs.declared.failed.Failed.{Failed}
 pub use Rattle.outside.specs.declared.world.Outside.{Ghosts}
 pub use Rattle.store_format.specs.Bank.{area_at, Bank, bank_held, bank_of, Faulty, gate_if, Holds, lines_from, record_bytes, RecordLine, wrong_line}
 pub use Rattle.store_format.specs.Header.{bank_at, entry_bytes, HasRanges, Header, header_of, home_at, number_at, total}
+pub use Rattle.store_format.specs.Read.{AsksUnless}
 pub use Rattle.store_format.specs.Stands.{chosen, Damaged, HasHeader, IsStore, NotAStore, one_more, Standing, Stands, stands}
 pub use Rattle.store_format.specs.declared.header.Which.{Which}
 pub use Rattle.store_format.specs.declared.header.Which.TheVariants.{A, B}

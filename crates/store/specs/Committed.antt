@@ -1,6 +1,6 @@
 -- Which bytes a checkpoint and a commit write, home lines, and what a checkpoint leaves, and a commit, which makes its own room.
-use Rattle.std.specs.Prelude.{◌≡◌, ◌⊎◌, ℕ, ◌+◌, ◌%◌, ◌^◌, nat_lt, if◌then◌else◌, List, [], ◌<◌, ◌≤◌, length, slice_index, Some, ◌*◌, take, Option, None, Result, Ok, Err}
-use Rattle.store.specs.Below.{Ghosts, Header, held_of, Leaves, RecordLine, bank_at, home_at, line_bytes, line_count, Which, B, bytes_at, Torn, written, area_at, Failed, header_of, IsStore, IsSure, stands}
+use Rattle.std.specs.Prelude.{◌≡◌, ◌⊎◌, ℕ, ◌+◌, ◌%◌, ◌^◌, nat_lt, if◌then◌else◌, List, [], ◌<◌, ◌≤◌, length, slice_index, Some, ◌*◌, take, Option, None, Result, Ok, Err, OnOk, IsSome, IsTrue, slice_index_or}
+use Rattle.store.specs.Below.{FailsOnlyCounted, Ghosts, Header, held_of, Leaves, LeavesStep, RecordLine, bank_at, home_at, line_bytes, line_count, Which, B, bytes_at, Torn, written, area_at, Failed, header_of, IsStore, IsSure, stands}
 use Rattle.store.specs.declared.keep.Kept.{Kept}
 use Rattle.store.specs.declared.keep.Kept.TheVariants.{Done, Unwritten, Doubt}
 use Rattle.store.specs.Appended.{CountsKept, FailedLeaves}
@@ -56,6 +56,17 @@ abbrev pub TornLine : ℕ → Option ℕ → ℕ → List ℕ → List ℕ → T
 TornLine bytes None at old new = new ≡ old
 TornLine bytes (Some from) at old new = Torn at bytes old new
 
+-- The bytes of a line, so many, are copied from a place to another, where there is one; a crash may leave anything there.
+pub record CopiesLine {W : Type 0} (G : Ghosts W) {T : Type 0} (bytes : ℕ) (from : Option ℕ) (to : ℕ) (old new : W) (result : Result T Failed) : Type 0 where
+  pub only : OnlyWrites G old new
+  pub crash : IsTrue (G.is_honest old) → IsSome (G.held old) → LeavesStep (TornLine bytes from to) G.moment G.left_since old new
+  pub done : OnOk result (IsSome (G.held old) → held_of G new ≡ copied bytes (held_of G old) from to)
+  pub cause : FailsOnlyCounted (G.disk_faults old) (G.disk_faults new) result
+
+-- the newest bytes of a line are copied to its home, where the bank holds it
+abbrev pub CopiesNewest : {W : Type 0} → Ghosts W → {T : Type 0} → KeptBank → ℕ → W → W → Result T Failed → Type 0
+CopiesNewest G bank line old new result = CopiesLine G (line_bytes_of bank) (slice_index_or bank.newest line None) (home_place bank line) old new result
+
 -- The image is the one held but for the home lines of lines that records have.
 pub record IsCovered (header : Header) (records : List (List RecordLine)) (held image : List ℕ) : Type 0 where
   pub front : take (home_at header 0) image ≡ take (home_at header 0) held
@@ -66,6 +77,13 @@ pub record IsCovered (header : Header) (records : List (List RecordLine)) (held 
 pub record IsHomed (header : Header) (records : List (List RecordLine)) (held : List ℕ) (upto : ℕ) (image : List ℕ) : Type 0 where
   pub covered : IsCovered header records held image
   pub homed : (line place : ℕ) → line < upto → line < line_count header.directory → newest_place line records ≡ Some place → home_line header image line ≡ bytes_at held place (line_bytes header.directory.page)
+
+-- The newest bytes of all lines of a bank are written home. Of a bank that is tracked: a crash leaves all but these homes.
+pub record WritesHome {W : Type 0} (G : Ghosts W) {T : Type 0} (bank : KeptBank) (old new : W) (result : Result T Failed) : Type 0 where
+  pub only : OnlyWrites G old new
+  pub crash : (tracks : TracksBank G bank old) → Leaves G (λ image seen. IsCovered tracks.header tracks.records (held_of G old) image) old new
+  pub done : OnOk result ((tracks : TracksBank G bank old) → IsHomed tracks.header tracks.records (held_of G old) (length bank.newest) (held_of G new))
+  pub cause : FailsOnlyCounted (G.disk_faults old) (G.disk_faults new) result
 
 -- The image stands for what was held, by its old bank or by the other one without records, and is what was held at each offset that a checkpoint doesn't write.
 pub record IsSame (header : Header) (bank : KeptBank) (records : List (List RecordLine)) (held image : List ℕ) : Type 0 where
@@ -79,6 +97,13 @@ pub record IsMoved {W : Type 0} (G : Ghosts W) (header : Header) (bank : KeptBan
   pub stood : stands (held_of G new) ≡ stands (held_of G old)
   pub store : IsStore (held_of G new) header (other bank.which) (number_of bank) (area_at header (other bank.which)) []
 
+-- What a bank holds is moved home, and the other bank chosen. Of a bank that is tracked: whenever a crash comes, it leaves what stood.
+pub record Moves {W : Type 0} (G : Ghosts W) {T : Type 0} (bank : KeptBank) (old new : W) (result : Result T Failed) : Type 0 where
+  pub only : OnlyWrites G old new
+  pub crash : (tracks : TracksBank G bank old) → Leaves G (λ image seen. IsSame tracks.header bank tracks.records (held_of G old) image) old new
+  pub done : OnOk result ((tracks : TracksBank G bank old) → IsMoved G tracks.header bank old new)
+  pub cause : FailsOnlyCounted (G.disk_faults old) (G.disk_faults new) result
+
 -- what is kept after a checkpoint: the other bank, or where it failed this one, which is to be reopened
 abbrev pub bank_checkpointed : Result (Unit {0}) Failed → KeptBank → KeptBank
 bank_checkpointed (Ok done) bank = turned (other bank.which) bank
@@ -90,6 +115,17 @@ pub record IsCheckpointed {W : Type 0} (G : Ghosts W) (old_bank bank : KeptBank)
   pub stood : stands (held_of G new) ≡ stands (held_of G old)
   pub header : header_of (take 128 (held_of G new)) ≡ header_of (take 128 (held_of G old))
   pub emptied : Leaves G (λ image seen. HoldsRecords (header_of (take 128 (held_of G old))) (other old_bank.which) (number_of old_bank) [] image) new new
+
+-- What a checkpoint does: the sizes stay, and a begun record fits behind it. Of banks that are tracked: whenever a crash comes, it leaves what stood, by one bank or the other.
+pub record Checkpoints {W : Type 0} (G : Ghosts W) (old new : KeptBank) (before after : W) (result : Result (Unit {0}) Failed) : Type 0 where
+  pub only : OnlyWrites G before after
+  pub shape : SameShape old new
+  pub kept : new ≡ bank_checkpointed result old
+  pub fits : OnOk result (needed_end new ≤ area_end new)
+  pub cause : FailsOnlyCounted (G.disk_faults before) (G.disk_faults after) result
+  pub crash : (tracks : TracksBank G old before) → Leaves G (λ image seen. IsSame tracks.header old tracks.records (held_of G before) image) before after
+  pub held : (tracks : TracksBank G old before) → IsSame tracks.header old tracks.records (held_of G before) (held_of G after)
+  pub done : OnOk result (TracksBank G old before → IsCheckpointed G old new before after)
 
 -- the bank after a checkpoint
 abbrev pub emptied : KeptBank → KeptBank

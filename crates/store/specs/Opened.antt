@@ -1,11 +1,11 @@
 -- What a bank is that was read from the disk.
-use Rattle.std.specs.Prelude.{◌≡◌, ◌↔◌, ◌<◌, ℕ, List, length, slice_get, Some, None, IsSome}
-use Rattle.store.specs.Below.{Bank, bank_held, bank_of, Faulty, Ghosts, Header, held_of, Holds, line_count, number_at, PageSize, RecordLine, Rose, Which}
+use Rattle.std.specs.Prelude.{◌≡◌, ◌↔◌, ◌<◌, ℕ, List, length, slice_get, Some, None, IsSome, Result, is_err}
+use Rattle.store.specs.Below.{AsksUnless, Bank, bank_held, bank_of, Faulty, Ghosts, Header, held_of, Holds, line_count, number_at, PageSize, RecordLine, Rose, Which}
 use Rattle.store.specs.declared.fault.OpenFault.{OpenFault}
 use Rattle.store.specs.declared.fault.OpenFault.TheVariants as opening
 use Rattle.store.specs.declared.fault.ReopenFault.{ReopenFault}
 use Rattle.store.specs.declared.fault.ReopenFault.TheVariants as reopening
-use Rattle.store.specs.Kept.{KeptBank, place_of, AreNewest, IsNowhere}
+use Rattle.store.specs.Kept.{KeptBank, SameShape, place_of, AreNewest, IsNowhere}
 
 -- what these bytes hold where such a bank of a store with pages of a size and so many lines lies
 abbrev pub bank_in : List ℕ → PageSize → Which → (bank_bytes bound : ℕ) → Bank
@@ -42,3 +42,17 @@ IsBankOpenFault G old new header which (opening.NotAStore offset) = ⊥
 IsBankOpenFault G old new header which (opening.Damaged offset) = IsSome (G.held old) → bank_of (held_of G old) header which ≡ Faulty offset
 IsBankOpenFault G old new header which opening.DiskFault = Rose (G.disk_faults old) (G.disk_faults new)
 IsBankOpenFault G old new header which opening.Memory = Unit {0}
+
+-- an opening of a bank only asks the disk
+abbrev pub AsksOfBank : {W T : Type 0} → Ghosts W → Header → Which → W → W → Result T OpenFault → Type 0
+AsksOfBank G header which old new result = AsksUnless G opening.DiskFault (IsBankOpenFault G old new header which) old new result
+
+-- and so does one that is read again
+abbrev pub AsksBankAgain : {W T : Type 0} → Ghosts W → Which → KeptBank → W → W → Result T ReopenFault → Type 0
+AsksBankAgain G which bank old new result = AsksUnless G reopening.DiskFault (IsBankReopenFault G old new which bank) old new result
+
+-- The sizes of a bank that is read again stay, no record is begun, and where that failed it is to be reopened.
+pub record IsStartedAgain {T : Type 0} (old new : KeptBank) (result : Result T ReopenFault) : Type 0 where
+  pub shape : SameShape old new
+  pub begun : new.begun ≡ None
+  pub spoiled : new.spoiled ≡ is_err result

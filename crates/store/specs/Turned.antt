@@ -1,6 +1,7 @@
 -- A bank that is turned to: the other one, without records.
-use Rattle.std.specs.Prelude.{ℕ, ◌+◌, List, [], ◌∷◌, ◌++◌, length, replicate, None}
-use Rattle.store.specs.Below.{big_bytes, entry_bytes, option_map, PageSize, RecordLine, Which}
+use Rattle.std.specs.Prelude.{ℕ, ◌+◌, List, [], ◌∷◌, ◌++◌, length, replicate, None, Result}
+use Rattle.store.specs.Below.{big_bytes, entry_bytes, Failed, Ghosts, option_map, PageSize, RecordLine, Which}
+use Rattle.store.specs.Held.{WritesOnce}
 use Rattle.store.specs.Kept.{KeptBank, place_of, number_of}
 
 -- these lines one behind another, from an offset on
@@ -22,3 +23,7 @@ turned which bank = record bank {
 -- what a bank without records begins with: its base and a closed gate
 abbrev pub head_bytes : ℕ → List ℕ
 head_bytes base = big_bytes 8 base ++ 0 ∷ []
+
+-- the head of the bank at a place is written, with the number as its base
+abbrev pub WritesHead : {W : Type 0} → Ghosts W → {T : Type 0} → KeptBank → Which → W → W → Result T Failed → Type 0
+WritesHead G bank which old new result = WritesOnce G (place_of which bank.bank_bytes) (head_bytes (number_of bank)) old new result

@@ -1,11 +1,11 @@
 ghost use Rattle.std.specs.Prelude.{◌≡◌, ◌≢◌, ◌+◌, ◌≤◌, ◌<◌, [], length, slice_get, Some, None, IsSome, IfSome, IfOk, IfErr, OnOk, is_err, false};
-ghost use Rattle.store.specs.Below.{FailsOnlyCounted, held_of, Leaves, line_bytes, OnlyAsks, total};
-ghost use Rattle.store.specs.Kept.{KeptBank, area_end, needed_end, number_of, with_line, spoilt, line_bytes_of, SameShape};
-ghost use Rattle.store.specs.Held.{HoldsAtLeast, OnlyWrites};
-ghost use Rattle.store.specs.Tracks.{TracksBank};
-ghost use Rattle.store.specs.Appended.{Appends, TakesLine};
-ghost use Rattle.store.specs.Chosen.{other, IsChosen, IsOneOf, IsStoreLike, IsChosenReopenFault, IsChosenOpenFault};
-ghost use Rattle.store.specs.Committed.{emptied, roomy, Commits, store_bytes, IsSame, IsMoved, IsCheckpointed, bank_checkpointed};
+ghost use Rattle.store.specs.Below.{held_of, line_bytes, total};
+ghost use Rattle.store.specs.Kept.{KeptBank, area_end, number_of, with_line, spoilt, line_bytes_of, SameShape};
+ghost use Rattle.store.specs.Held.{HoldsAtLeast};
+ghost use Rattle.store.specs.Appended.{Appends, CanAppend, IsUsable, TakesLine};
+ghost use Rattle.store.specs.Chosen.{other, AsksBanksAgain, AsksOfBanks, IsChosen, IsStoreLike};
+ghost use Rattle.store.specs.Opened.{IsBankOf, IsStartedAgain};
+ghost use Rattle.store.specs.Committed.{emptied, roomy, Checkpoints, Commits, Moves, store_bytes};
 
 use super::fault::{OpenFault, ReopenFault};
 use super::keep::{Appended, Kept};
@@ -50,13 +50,10 @@ impl Banks {
         outside: &mut W,
     ) -> Result<Banks, OpenFault>
         requires room { HoldsAtLeast W.Outside (total header.now) outside.old }
-        ensures asks { OnlyAsks W.Outside outside.old outside.new }
-        ensures opened { IfOk result (IsOneOf header.now) }
+        ensures asks { AsksOfBanks W.Outside header.now outside.old outside.new result }
+        ensures opened { IfOk result (λ bank. IsBankOf header.now bank.which bank) }
         ensures read { IfOk result (λ bank. IsSome (W.held outside.old) → IsChosen (held_of W.Outside outside.old) bank) }
         ensures usable { IfOk result (λ bank. bank.spoiled ≡ false) }
-        ensures no_fault { IfOk result (λ bank. W.disk_faults outside.new ≡ W.disk_faults outside.old) }
-        ensures fault { IfErr result (IsChosenOpenFault W.Outside outside.old outside.new header.now) }
-        ensures calm { IfErr result (λ fault. fault ≢ OpenFault.DiskFault → W.disk_faults outside.new ≡ W.disk_faults outside.old) }
     {
         let which = match read_selector(outside) {
             Err(Failed) => return Err(OpenFault::DiskFault),
@@ -78,14 +75,9 @@ impl Banks {
     /// count rose.
     pub fn reopen<W: Outside>(&mut self, outside: &mut W) -> Result<(), ReopenFault>
         requires room { HoldsAtLeast W.Outside (store_bytes self.old) outside.old }
-        ensures asks { OnlyAsks W.Outside outside.old outside.new }
-        ensures shape { SameShape self.old self.new }
-        ensures begun { self.new.begun ≡ None }
-        ensures spoiled { self.new.spoiled ≡ is_err result }
+        ensures asks { AsksBanksAgain W.Outside self.old outside.old outside.new result }
+        ensures kept { IsStartedAgain self.old self.new result }
         ensures read { OnOk result (IsSome (W.held outside.old) → IsChosen (held_of W.Outside outside.old) self.new) }
-        ensures no_fault { OnOk result (W.disk_faults outside.new ≡ W.disk_faults outside.old) }
-        ensures fault { IfErr result (IsChosenReopenFault W.Outside outside.old outside.new self.old) }
-        ensures calm { IfErr result (λ fault. fault ≢ ReopenFault.DiskFault → W.disk_faults outside.new ≡ W.disk_faults outside.old) }
         ensures intact { IfErr result (λ fault. IsSome (W.held outside.old) → IsStoreLike (held_of W.Outside outside.old) self.old → fault ≡ ReopenFault.DiskFault) }
     {
         match read_selector(outside) {
@@ -153,9 +145,7 @@ impl Banks {
     /// Adds the record that is begun to the chosen bank, as [`Bank::append`] does. After [`Appended::Unwritten`] and
     /// [`Appended::Doubt`] the banks are spoiled (docs/FORMATS.md, "Protocols").
     pub fn append<W: Outside>(&mut self, outside: &mut W) -> Appended
-        requires begun { IsSome self.old.begun }
-        requires usable { self.old.spoiled ≡ false }
-        requires room { HoldsAtLeast W.Outside (area_end self.old) outside.old }
+        requires { CanAppend W.Outside (area_end self.old) self.old outside.old }
         ensures { Appends W.Outside self.old self.new outside.old outside.new result }
     {
         self.bank.append(outside)
@@ -165,9 +155,7 @@ impl Banks {
     /// takes no memory. No record is begun afterwards. After [`Kept::Unwritten`] and [`Kept::Doubt`] the banks are
     /// spoiled (docs/FORMATS.md, "Protocols").
     pub fn commit<W: Outside>(&mut self, outside: &mut W) -> Kept
-        requires begun { IsSome self.old.begun }
-        requires usable { self.old.spoiled ≡ false }
-        requires room { HoldsAtLeast W.Outside (store_bytes self.old) outside.old }
+        requires { CanAppend W.Outside (store_bytes self.old) self.old outside.old }
         ensures { Commits W.Outside (roomy self.old) self.old self.new outside.old outside.new result }
     {
         match self.append(outside).kept() {
@@ -179,9 +167,7 @@ impl Banks {
     /// Makes room by a checkpoint, and adds the record that is begun then. Where the checkpoint fails the record isn't
     /// written.
     fn commit_behind_checkpoint<W: Outside>(&mut self, outside: &mut W) -> Kept
-        requires begun { IsSome self.old.begun }
-        requires usable { self.old.spoiled ≡ false }
-        requires room { HoldsAtLeast W.Outside (store_bytes self.old) outside.old }
+        requires { CanAppend W.Outside (store_bytes self.old) self.old outside.old }
         ensures { Commits W.Outside (emptied self.old) self.old self.new outside.old outside.new result }
     {
         match self.checkpoint(outside) {
@@ -199,18 +185,8 @@ impl Banks {
     ///
     /// Only where the disk's count rose.
     pub fn checkpoint<W: Outside>(&mut self, outside: &mut W) -> Result<(), Failed>
-        requires usable { self.old.spoiled ≡ false }
-        requires room { HoldsAtLeast W.Outside (store_bytes self.old) outside.old }
-        ensures only { OnlyWrites W.Outside outside.old outside.new }
-        ensures shape { SameShape self.old self.new }
-        ensures kept { self.new ≡ bank_checkpointed result self.old }
-        ensures fits { OnOk result (needed_end self.new ≤ area_end self.new) }
-        ensures cause { FailsOnlyCounted (W.disk_faults outside.old) (W.disk_faults outside.new) result }
-
-        // Of banks that are tracked: whenever a crash comes, it leaves what stood, by the one bank or the other.
-        ensures crash { (tracks : TracksBank W.Outside self.old outside.old) → Leaves W.Outside (λ image seen. IsSame tracks.header self.old tracks.records (held_of W.Outside outside.old) image) outside.old outside.new }
-        ensures held { (tracks : TracksBank W.Outside self.old outside.old) → IsSame tracks.header self.old tracks.records (held_of W.Outside outside.old) (held_of W.Outside outside.new) }
-        ensures done { OnOk result (TracksBank W.Outside self.old outside.old → IsCheckpointed W.Outside self.old self.new outside.old outside.new) }
+        requires { IsUsable W.Outside (store_bytes self.old) self.old outside.old }
+        ensures { Checkpoints W.Outside self.old self.new outside.old outside.new result }
     {
         let which = other_of(self.bank.which());
         match move_to(&self.bank, self.line.as_mut_slice(), which, outside) {
@@ -243,14 +219,10 @@ fn move_to<W: Outside>(
     which: Which,
     outside: &mut W,
 ) -> Result<(), Failed>
-    requires usable { bank.now.spoiled ≡ false }
+    requires bank { IsUsable W.Outside (store_bytes bank.now) bank.now outside.old }
     requires whole { length buffer.old ≡ line_bytes_of bank.now }
     requires other { which ≡ other bank.now.which }
-    requires room { HoldsAtLeast W.Outside (store_bytes bank.now) outside.old }
-    ensures only { OnlyWrites W.Outside outside.old outside.new }
-    ensures crash { (tracks : TracksBank W.Outside bank.now outside.old) → Leaves W.Outside (λ image seen. IsSame tracks.header bank.now tracks.records (held_of W.Outside outside.old) image) outside.old outside.new }
-    ensures done { OnOk result ((tracks : TracksBank W.Outside bank.now outside.old) → IsMoved W.Outside tracks.header bank.now outside.old outside.new) }
-    ensures cause { FailsOnlyCounted (W.disk_faults outside.old) (W.disk_faults outside.new) result }
+    ensures { Moves W.Outside bank.now outside.old outside.new result }
 {
     write_home(bank, buffer, outside)?;
     bank.write_head(which, outside)?;

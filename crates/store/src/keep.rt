@@ -1,8 +1,7 @@
 // A body that is kept behind a gate.
-ghost use Rattle.std.specs.Prelude.{◌≡◌, ◌+◌, ◌≤◌, ◌<◌, ◌^◌, length, false, None, Some, OnOk};
-ghost use Rattle.store.specs.Below.{FailsOnlyCounted, held_of, IsSure, IsWritten, Leaves, option_map, Torn};
-ghost use Rattle.store.specs.Appended.{CountsKept, kept_in};
-ghost use Rattle.store.specs.Held.{HoldsAtLeast, OnlyWrites, WritesOnce, is_open, HasBody, IsShut, IsSafe, IsKept};
+ghost use Rattle.std.specs.Prelude.{◌≡◌, ◌+◌, ◌<◌, ◌^◌, length, None, Some};
+ghost use Rattle.store.specs.Appended.{kept_in, KeepsBody};
+ghost use Rattle.store.specs.Held.{HoldsAtLeast, WritesOnce, WritesSure};
 
 use outside::{Failed, Outside};
 
@@ -53,13 +52,7 @@ impl Appended {
 pub fn keep_body<W: Outside>(outside: &mut W, gate: u64, body: &[u8]) -> Kept
     requires room { HoldsAtLeast W.Outside (gate + 1 + length body.now) outside.old }
     requires few { gate < 2 ^ 63 }
-    ensures only { OnlyWrites W.Outside outside.old outside.new }
-    ensures crash { IsShut W.Outside gate outside.old → Leaves W.Outside (λ image seen. IsSafe gate body.now (held_of W.Outside outside.old) image) outside.old outside.new }
-    ensures unwritten { result ≡ Kept.Unwritten → IsShut W.Outside gate outside.old → Leaves W.Outside (λ image seen. is_open gate image ≡ false) outside.old outside.new }
-    ensures doubt { result ≡ Kept.Doubt → IsShut W.Outside gate outside.old → Leaves W.Outside (λ image seen. HasBody gate body.now image) outside.new outside.new }
-    ensures done { result ≡ Kept.Done → IsShut W.Outside gate outside.old → IsKept W.Outside gate body.now outside.old outside.new }
-    ensures writes { result ≡ Kept.Done → W.writes outside.new ≡ option_map (λ count. count + 2) (W.writes outside.old) }
-    ensures counted { CountsKept W.Outside outside.old outside.new result }
+    ensures { KeepsBody W.Outside gate body.now outside.old outside.new result }
 {
     match write_sure(outside, gate + 1, body) {
         Err(Failed) => return Kept::Unwritten,
@@ -77,12 +70,8 @@ pub fn keep_body<W: Outside>(outside: &mut W, gate: u64, body: &[u8]) -> Kept
 ///
 /// Only where the disk's count rose.
 pub fn write_sure<W: Outside>(outside: &mut W, at: u64, bytes: &[u8]) -> Result<(), Failed>
-    requires room { HoldsAtLeast W.Outside (at + length bytes.now) outside.old }
-    ensures only { OnlyWrites W.Outside outside.old outside.new }
-    ensures crash { IsSure W.Outside outside.old → Leaves W.Outside (λ image seen. Torn at (length bytes.now) (held_of W.Outside outside.old) image) outside.old outside.new }
-    ensures done { OnOk result (IsSure W.Outside outside.old → IsWritten W.Outside at bytes.now outside.old outside.new) }
-    ensures writes { OnOk result (W.writes outside.new ≡ option_map (λ count. count + 1) (W.writes outside.old)) }
-    ensures cause { FailsOnlyCounted (W.disk_faults outside.old) (W.disk_faults outside.new) result }
+    requires { HoldsAtLeast W.Outside (at + length bytes.now) outside.old }
+    ensures { WritesSure W.Outside at bytes.now outside.old outside.new result }
 {
     write_once(outside, at, bytes)?;
     outside.sync()

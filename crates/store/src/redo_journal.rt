@@ -1,11 +1,11 @@
 ghost use Rattle.std.specs.Prelude.{◌≡◌, ◌≢◌, ◌↔◌, ◌+◌, ◌*◌, ◌%◌, ◌≤◌, ◌<◌, ◌^◌, [], All, length, take, slice_set, slice_get, slice_range, is_some, Some, None, IsNone, IsSome, IfSome, IfOk, IfErr, OnOk, is_err, false};
 ghost use Rattle.std.specs.List.{list_any};
-ghost use Rattle.store.specs.Below.{HasRanges, held_of, OnlyAsks, record_bytes, total};
+ghost use Rattle.store.specs.Below.{HasRanges, held_of, record_bytes, total};
 ghost use Rattle.store.specs.Kept.{KeptBank, place_of, end_of, area_end, number_of, begun_of, needed_end, with_line, spoilt, line_bytes_of, record_bytes_of, SameShape};
-ghost use Rattle.store.specs.Appended.{Appends, TakesLine};
-ghost use Rattle.store.specs.Turned.{turned, head_bytes};
-ghost use Rattle.store.specs.Held.{HoldsAtLeast, WritesOnce};
-ghost use Rattle.store.specs.Opened.{IsRead, IsBankOf, IsBankReopenFault, IsBankOpenFault};
+ghost use Rattle.store.specs.Appended.{Appends, CanAppend, IsUsable, TakesLine};
+ghost use Rattle.store.specs.Turned.{turned, WritesHead};
+ghost use Rattle.store.specs.Held.{HoldsAtLeast};
+ghost use Rattle.store.specs.Opened.{IsRead, IsBankOf, AsksBankAgain, AsksOfBank, IsStartedAgain};
 ghost use Rattle.store.specs.Records.{ReadsRecord, ReadsLine};
 
 use crate::fault::{OpenFault, ReopenFault};
@@ -63,13 +63,10 @@ impl Bank {
         outside: &mut W,
     ) -> Result<Bank, OpenFault>
         requires room { HoldsAtLeast W.Outside (total header.now) outside.old }
-        ensures asks { OnlyAsks W.Outside outside.old outside.new }
+        ensures asks { AsksOfBank W.Outside header.now which outside.old outside.new result }
         ensures opened { IfOk result (IsBankOf header.now which) }
         ensures read { IfOk result (λ bank. IsSome (W.held outside.old) → IsRead (held_of W.Outside outside.old) bank) }
         ensures usable { IfOk result (λ bank. bank.spoiled ≡ false) }
-        ensures no_fault { IfOk result (λ bank. W.disk_faults outside.new ≡ W.disk_faults outside.old) }
-        ensures fault { IfErr result (IsBankOpenFault W.Outside outside.old outside.new header.now which) }
-        ensures calm { IfErr result (λ fault. fault ≢ OpenFault.DiskFault → W.disk_faults outside.new ≡ W.disk_faults outside.old) }
     {
         let mut bank = Bank::of_store(alloc, header)?;
         match bank.reopen(which, outside) {
@@ -109,15 +106,10 @@ impl Bank {
     /// where the disk's count rose.
     pub fn reopen<W: Outside>(&mut self, which: Which, outside: &mut W) -> Result<(), ReopenFault>
         requires room { HoldsAtLeast W.Outside (end_of which self.old.bank_bytes) outside.old }
-        ensures asks { OnlyAsks W.Outside outside.old outside.new }
-        ensures shape { SameShape self.old self.new }
+        ensures asks { AsksBankAgain W.Outside which self.old outside.old outside.new result }
+        ensures kept { IsStartedAgain self.old self.new result }
         ensures turned { OnOk result (self.new.which ≡ which) }
-        ensures begun { self.new.begun ≡ None }
-        ensures spoiled { self.new.spoiled ≡ is_err result }
         ensures read { OnOk result (IsSome (W.held outside.old) → IsRead (held_of W.Outside outside.old) self.new) }
-        ensures no_fault { OnOk result (W.disk_faults outside.new ≡ W.disk_faults outside.old) }
-        ensures fault { IfErr result (IsBankReopenFault W.Outside outside.old outside.new which self.old) }
-        ensures calm { IfErr result (λ fault. fault ≢ ReopenFault.DiskFault → W.disk_faults outside.new ≡ W.disk_faults outside.old) }
     {
         forget(&mut self.newest);
         let at = place_of(which, self.bank_bytes);
@@ -231,9 +223,8 @@ impl Bank {
     ///
     /// Only where the disk's count rose.
     pub fn record_at<W: Outside>(&self, outside: &mut W, place: u32) -> Result<Record, Failed>
-        requires usable { self.now.spoiled ≡ false }
+        requires bank { IsUsable W.Outside (area_end self.now) self.now outside.old }
         requires inside { place < self.now.bank_bytes }
-        requires room { HoldsAtLeast W.Outside (area_end self.now) outside.old }
         ensures { ReadsRecord W.Outside self.now.page self.now.bank_bytes self.now place outside.old outside.new result }
     {
         let area = place_of(self.which, self.bank_bytes) + 8;
@@ -252,11 +243,10 @@ impl Bank {
         index: u16,
         into: &mut [u8],
     ) -> Result<u32, Failed>
-        requires usable { self.now.spoiled ≡ false }
+        requires bank { IsUsable W.Outside (area_end self.now) self.now outside.old }
         requires fits { of.now.place + record_bytes_of self.now of.now.count < self.now.bank_bytes }
         requires below { index < of.now.count }
         requires whole { length into.old ≡ line_bytes_of self.now }
-        requires room { HoldsAtLeast W.Outside (area_end self.now) outside.old }
         ensures { ReadsLine W.Outside self.now of.now index into.new outside.old outside.new result }
     {
         let gate = place_of(self.which, self.bank_bytes) + 8 + u64::from(of.place);
@@ -270,10 +260,9 @@ impl Bank {
     ///
     /// Only where the disk's count rose.
     pub fn write_head<W: Outside>(&self, which: Which, outside: &mut W) -> Result<(), Failed>
-        requires usable { self.now.spoiled ≡ false }
+        requires bank { IsUsable W.Outside (end_of which self.now.bank_bytes) self.now outside.old }
         requires other { self.now.which ≢ which }
-        requires room { HoldsAtLeast W.Outside (end_of which self.now.bank_bytes) outside.old }
-        ensures { WritesOnce W.Outside (place_of which self.now.bank_bytes) (head_bytes (number_of self.now)) outside.old outside.new result }
+        ensures { WritesHead W.Outside self.now which outside.old outside.new result }
     {
         let head = head_of_bank(number_of(self.base, self.count));
         write_once(outside, place_of(which, self.bank_bytes), &head)
@@ -325,9 +314,7 @@ impl Bank {
     /// fit the rest of the bank: nothing is written, and the record stays begun. After any other answer no record is,
     /// and after [`Appended::Unwritten`] and [`Appended::Doubt`] the bank is spoiled (docs/FORMATS.md, "Protocols").
     pub fn append<W: Outside>(&mut self, outside: &mut W) -> Appended
-        requires begun { IsSome self.old.begun }
-        requires usable { self.old.spoiled ≡ false }
-        requires room { HoldsAtLeast W.Outside (area_end self.old) outside.old }
+        requires { CanAppend W.Outside (area_end self.old) self.old outside.old }
         ensures { Appends W.Outside self.old self.new outside.old outside.new result }
     {
         let begun = self.begun.unwrap();
@@ -370,7 +357,6 @@ fn number_of(base: u64, count: u32) -> u64
     base.wrapping_add(u64::from(count))
 }
 
-/// Where a bank lies.
 fn place_of(which: Which, bank_bytes: u32) -> u64
     requires { bank_bytes ≤ 131072 }
     ensures value { result ≡ place_of which bank_bytes }

@@ -1,15 +1,14 @@
 ghost use Rattle.std.specs.Prelude.{◌≡◌, ◌≢◌, ◌+◌, ◌*◌, ◌%◌, ◌^◌, ◌≤◌, ◌<◌, [], All, length, Some, None, IsTrue, IsSome, IfOk, IfErr, OnOk, is_err, false};
 ghost use Rattle.lines.specs.Directory.{page_count};
-ghost use Rattle.store.specs.Below.{FailsOnlyCounted, HasHeader, held_of, Leaves, line_bytes, line_count, OnlyAsks, page_bytes, record_bytes, stands, total};
-ghost use Rattle.store.specs.Appended.{CountsKept, FailedLeaves};
-ghost use Rattle.store.specs.Held.{HoldsAtLeast, IsMoreBy, OnlyWrites};
-ghost use Rattle.store.specs.Kept.{KeptBank, area_end, begun_of, needed_end, with_line};
+ghost use Rattle.store.specs.Below.{FailsOnlyCounted, held_of, line_bytes, line_count, OnlyAsks, page_bytes, record_bytes, stands, total};
+ghost use Rattle.store.specs.Appended.{CanAppend, IsUsable};
+ghost use Rattle.store.specs.Held.{HoldsAtLeast};
+ghost use Rattle.store.specs.Kept.{begun_of, with_line};
 ghost use Rattle.store.specs.Records.{ReadsRecord, ReadsLine};
-ghost use Rattle.store.specs.Tracks.{IsEither};
-ghost use Rattle.store.specs.KeptStore.{KeptStore, number_of};
-ghost use Rattle.store.specs.Committed.{IsSame, bank_checkpointed, roomy, number_after, IsKeptAfter, LeavesCommitted};
-ghost use Rattle.store.specs.Shows.{Shows, IsShown, IsStoreWith, IsReopened, TracksStore, IsCommitted, IsEmptied, page_in};
-ghost use Rattle.store.specs.Faults.{IsStoreOpenFault, IsStoreReopenFault};
+ghost use Rattle.store.specs.KeptStore.{number_of};
+ghost use Rattle.store.specs.Shows.{CheckpointsStore, CommitsStore, IsOpened, IsReadAgain, IsShown, IsStoreWith, page_in};
+ghost use Rattle.store.specs.Opened.{IsStartedAgain};
+ghost use Rattle.store.specs.Faults.{AsksOfStore, AsksStoreAgain};
 
 use super::checkpoint::Banks;
 use super::fault::{OpenFault, ReopenFault};
@@ -51,15 +50,8 @@ impl Durable {
     /// [`OpenFault::DiskFault`] only where the disk's count rose; [`OpenFault::Memory`] where there was none
     /// (docs/FORMATS.md, "What an image stands for").
     pub fn open<W: Outside>(alloc: Global, outside: &mut W) -> Result<Durable, OpenFault>
-        ensures asks { OnlyAsks W.Outside outside.old outside.new }
-        ensures room { IfOk result (λ store. HoldsAtLeast W.Outside (total store.header) outside.new) }
-        ensures shows { IfOk result (λ store. IsSome (W.held outside.old) → Shows (held_of W.Outside outside.old) store) }
-        ensures tracks { IfOk result (λ store. IsTrue (W.is_honest outside.old) → IsSome (W.held outside.old) → TracksStore W.Outside store outside.new) }
-        ensures begun { IfOk result (λ store. store.bank.begun ≡ None) }
-        ensures usable { IfOk result (λ store. store.bank.spoiled ≡ false) }
-        ensures no_fault { IfOk result (λ store. W.disk_faults outside.new ≡ W.disk_faults outside.old) }
-        ensures fault { IfErr result (IsStoreOpenFault W.Outside outside.old outside.new) }
-        ensures calm { IfErr result (λ fault. fault ≢ OpenFault.DiskFault → W.disk_faults outside.new ≡ W.disk_faults outside.old) }
+        ensures asks { AsksOfStore W.Outside outside.old outside.new result }
+        ensures opened { IfOk result (IsOpened W.Outside outside.old outside.new) }
     {
         let header = start(outside)?;
         match Banks::open(alloc, &header, outside) {
@@ -105,16 +97,10 @@ impl Durable {
     /// count rose. After an error it is spoiled.
     pub fn reopen<W: Outside>(&mut self, outside: &mut W) -> Result<(), ReopenFault>
         requires room { HoldsAtLeast W.Outside (total self.old.header) outside.old }
-        ensures asks { OnlyAsks W.Outside outside.old outside.new }
+        ensures asks { AsksStoreAgain W.Outside self.old.header outside.old outside.new result }
         ensures header { self.new.header ≡ self.old.header }
-        ensures begun { self.new.bank.begun ≡ None }
-        ensures spoiled { self.new.bank.spoiled ≡ is_err result }
-        ensures read { OnOk result (IsSome (W.held outside.old) → IsReopened (held_of W.Outside outside.old) self.new) }
-        ensures shows { OnOk result (HasHeader (held_of W.Outside outside.old) self.old.header → IsSome (W.held outside.old) → Shows (held_of W.Outside outside.old) self.new) }
-        ensures tracks { OnOk result (HasHeader (held_of W.Outside outside.old) self.old.header → IsTrue (W.is_honest outside.old) → IsSome (W.held outside.old) → TracksStore W.Outside self.new outside.new) }
-        ensures no_fault { OnOk result (W.disk_faults outside.new ≡ W.disk_faults outside.old) }
-        ensures fault { IfErr result (IsStoreReopenFault W.Outside outside.old outside.new self.old.header) }
-        ensures calm { IfErr result (λ fault. fault ≢ ReopenFault.DiskFault → W.disk_faults outside.new ≡ W.disk_faults outside.old) }
+        ensures kept { IsStartedAgain self.old.bank self.new.bank result }
+        ensures read { OnOk result (IsReadAgain W.Outside self.new outside.old outside.new) }
         ensures intact { IfErr result (λ fault. IsSome (W.held outside.old) → IsStoreWith self.old.header (held_of W.Outside outside.old) → fault ≡ ReopenFault.DiskFault) }
     {
         match synced(outside) {
@@ -149,24 +135,8 @@ impl Durable {
     /// It takes no memory. No record is begun afterwards. After [`Kept::Unwritten`] and [`Kept::Doubt`] the store is
     /// spoiled (docs/FORMATS.md, "Protocols").
     pub fn commit<W: Outside>(&mut self, outside: &mut W) -> Kept
-        requires begun { IsSome self.old.bank.begun }
-        requires usable { self.old.bank.spoiled ≡ false }
-        requires room { HoldsAtLeast W.Outside (total self.old.header) outside.old }
-        ensures only { OnlyWrites W.Outside outside.old outside.new }
-        ensures header { self.new.header ≡ self.old.header }
-        ensures usable { result ≡ Kept.Done → self.new.bank.spoiled ≡ false }
-        ensures kept { IsKeptAfter result (roomy self.old.bank) self.old.bank self.new.bank }
-        ensures number { number_of self.new ≡ number_after result (number_of self.old) }
-        ensures count { self.new.bank.count ≤ self.old.bank.count + 1 }
-        ensures counted { CountsKept W.Outside outside.old outside.new result }
-        ensures writes { result ≡ Kept.Done → IsMoreBy 2 (W.writes outside.old) (W.writes outside.new) }
-
-        // Of a store that is tracked: whenever a crash comes, it leaves what stood, or that with the record.
-        ensures crash { TracksStore W.Outside self.old outside.old → Leaves W.Outside (IsEither (begun_of self.old.bank) (held_of W.Outside outside.old)) outside.old outside.new }
-        ensures left { TracksStore W.Outside self.old outside.old → FailedLeaves W.Outside self.old.bank (roomy self.old.bank) outside.old outside.new result }
-        ensures records { (tracks : TracksStore W.Outside self.old outside.old) → LeavesCommitted W.Outside self.old.header (roomy self.old.bank) self.old.bank tracks.shows.read.records outside.old outside.new }
-        ensures intact { TracksStore W.Outside self.old outside.old → IsStoreWith self.old.header (held_of W.Outside outside.new) }
-        ensures done { result ≡ Kept.Done → TracksStore W.Outside self.old outside.old → IsCommitted W.Outside self.old self.new outside.old outside.new }
+        requires { CanAppend W.Outside (total self.old.header) self.old.bank outside.old }
+        ensures { CommitsStore W.Outside self.old self.new outside.old outside.new result }
     {
         self.banks.commit(outside)
     }
@@ -178,20 +148,8 @@ impl Durable {
     ///
     /// Only where the disk's count rose.
     pub fn checkpoint<W: Outside>(&mut self, outside: &mut W) -> Result<(), Failed>
-        requires usable { self.old.bank.spoiled ≡ false }
-        requires room { HoldsAtLeast W.Outside (total self.old.header) outside.old }
-        ensures only { OnlyWrites W.Outside outside.old outside.new }
-        ensures header { self.new.header ≡ self.old.header }
-        ensures kept { self.new.bank ≡ bank_checkpointed result self.old.bank }
-        ensures number { number_of self.new ≡ number_of self.old }
-        ensures count { OnOk result (self.new.bank.count ≡ 0) }
-        ensures cause { FailsOnlyCounted (W.disk_faults outside.old) (W.disk_faults outside.new) result }
-
-        // Of a store that is tracked: whenever a crash comes, it leaves what stood.
-        ensures crash { (tracks : TracksStore W.Outside self.old outside.old) → Leaves W.Outside (λ image seen. IsSame self.old.header self.old.bank tracks.shows.read.records (held_of W.Outside outside.old) image) outside.old outside.new }
-        ensures held { (tracks : TracksStore W.Outside self.old outside.old) → IsSame self.old.header self.old.bank tracks.shows.read.records (held_of W.Outside outside.old) (held_of W.Outside outside.new) }
-        ensures intact { TracksStore W.Outside self.old outside.old → IsStoreWith self.old.header (held_of W.Outside outside.new) }
-        ensures done { OnOk result (TracksStore W.Outside self.old outside.old → IsEmptied W.Outside self.old self.new outside.old outside.new) }
+        requires { IsUsable W.Outside (total self.old.header) self.old.bank outside.old }
+        ensures { CheckpointsStore W.Outside self.old self.new outside.old outside.new result }
     {
         self.banks.checkpoint(outside)
     }
@@ -204,9 +162,8 @@ impl Durable {
     ///
     /// Only where the disk's count rose.
     pub fn record_at<W: Outside>(&self, outside: &mut W, place: u32) -> Result<Record, Failed>
-        requires usable { self.now.bank.spoiled ≡ false }
+        requires store { IsUsable W.Outside (total self.now.header) self.now.bank outside.old }
         requires inside { place < self.now.header.bank_bytes }
-        requires room { HoldsAtLeast W.Outside (total self.now.header) outside.old }
         ensures { ReadsRecord W.Outside self.now.header.directory.page self.now.header.bank_bytes self.now.bank place outside.old outside.new result }
     {
         self.banks.chosen().record_at(outside, place)
@@ -224,11 +181,10 @@ impl Durable {
         index: u16,
         into: &mut [u8],
     ) -> Result<u32, Failed>
-        requires usable { self.now.bank.spoiled ≡ false }
+        requires store { IsUsable W.Outside (total self.now.header) self.now.bank outside.old }
         requires fits { of.now.place + record_bytes self.now.header.directory.page of.now.count < self.now.header.bank_bytes }
         requires below { index < of.now.count }
         requires whole { length into.old ≡ line_bytes self.now.header.directory.page }
-        requires room { HoldsAtLeast W.Outside (total self.now.header) outside.old }
         ensures { ReadsLine W.Outside self.now.bank of.now index into.new outside.old outside.new result }
     {
         self.banks.chosen().line_at(outside, of, index, into)
@@ -246,8 +202,7 @@ impl Durable {
         page: u16,
         into: &mut [u8],
     ) -> Result<(), Failed>
-        requires usable { self.now.bank.spoiled ≡ false }
-        requires room { HoldsAtLeast W.Outside (total self.now.header) outside.old }
+        requires store { IsUsable W.Outside (total self.now.header) self.now.bank outside.old }
         requires page { page < page_count self.now.header.directory }
         requires whole { length into.old ≡ page_bytes self.now.header.directory.page }
         ensures asks { OnlyAsks W.Outside outside.old outside.new }

@@ -1,7 +1,7 @@
 // The byte that chooses a bank.
-ghost use Rattle.std.specs.Prelude.{◌≡◌, ◌∷◌, [], IsSome, IfOk, OnOk};
-ghost use Rattle.store.specs.Below.{chosen, FailsOnlyCounted, held_of, IsSure, IsWritten, Leaves, OnlyAsks, Torn};
-ghost use Rattle.store.specs.Held.{HoldsAtLeast, OnlyWrites};
+ghost use Rattle.std.specs.Prelude.{◌≡◌, ◌∷◌, [], IsSome, IfOk};
+ghost use Rattle.store.specs.Below.{chosen, FailsOnlyCounted, held_of, OnlyAsks};
+ghost use Rattle.store.specs.Held.{HoldsAtLeast, WritesSure};
 ghost use Rattle.store.specs.Chosen.{other, selector_of};
 
 use super::keep::write_sure;
@@ -39,16 +39,12 @@ pub fn read_selector<W: Outside>(outside: &mut W) -> Result<Which, Failed>
 
 /// Chooses a bank, and makes it durable.
 pub fn write_selector<W: Outside>(outside: &mut W, which: Which) -> Result<(), Failed>
-    requires room { HoldsAtLeast W.Outside 129 outside.old }
-    ensures only { OnlyWrites W.Outside outside.old outside.new }
-    ensures crash { IsSure W.Outside outside.old → Leaves W.Outside (λ image seen. Torn 128 1 (held_of W.Outside outside.old) image) outside.old outside.new }
-    ensures done { OnOk result (IsSure W.Outside outside.old → IsWritten W.Outside 128 (selector_of which ∷ []) outside.old outside.new) }
-    ensures cause { FailsOnlyCounted (W.disk_faults outside.old) (W.disk_faults outside.new) result }
+    requires { HoldsAtLeast W.Outside 129 outside.old }
+    ensures { WritesSure W.Outside 128 (selector_of which ∷ []) outside.old outside.new result }
 {
     write_sure(outside, SELECTOR_AT, &[selector_of(which)])
 }
 
-/// The byte that chooses a bank.
 fn selector_of(which: Which) -> u8
     ensures { result ≡ selector_of which }
 {

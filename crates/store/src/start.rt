@@ -1,8 +1,8 @@
 // How an opening begins: the disk is synced, and the header is read.
-ghost use Rattle.std.specs.Prelude.{◌≡◌, ◌≢◌, IsTrue, IsSome, IfOk, IfErr, OnOk};
+ghost use Rattle.std.specs.Prelude.{IsTrue, IsSome, IfOk, OnOk};
 ghost use Rattle.store.specs.Below.{FailsOnlyCounted, HasHeader, held_of, IsSure, OnlyAsks, total};
 ghost use Rattle.store.specs.Held.{HoldsAtLeast};
-ghost use Rattle.store.specs.Faults.{IsStartFault};
+ghost use Rattle.store.specs.Faults.{AsksAtStart};
 
 use super::fault::OpenFault;
 use outside::{Failed, Outside};
@@ -10,13 +10,10 @@ use store_format::{Header, HeaderFault, read_header};
 
 /// Makes the disk's bytes sure, and reads the header.
 pub fn start<W: Outside>(outside: &mut W) -> Result<Header, OpenFault>
-    ensures asks { OnlyAsks W.Outside outside.old outside.new }
+    ensures asks { AsksAtStart W.Outside outside.old outside.new result }
     ensures sure { OnOk result (IsTrue (W.is_honest outside.old) → IsSome (W.held outside.old) → IsSure W.Outside outside.new) }
     ensures room { IfOk result (λ header. HoldsAtLeast W.Outside (total header) outside.new) }
     ensures header { IfOk result (λ header. IsSome (W.held outside.old) → HasHeader (held_of W.Outside outside.old) header) }
-    ensures no_fault { OnOk result (W.disk_faults outside.new ≡ W.disk_faults outside.old) }
-    ensures fault { IfErr result (IsStartFault W.Outside outside.old outside.new) }
-    ensures calm { IfErr result (λ fault. fault ≢ OpenFault.DiskFault → W.disk_faults outside.new ≡ W.disk_faults outside.old) }
 {
     match synced(outside) {
         Err(Failed) => return Err(OpenFault::DiskFault),

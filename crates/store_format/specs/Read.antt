@@ -1,13 +1,24 @@
 -- What reading a header answers.
-use Rattle.std.specs.Prelude.{◌≡◌, IsSome}
+use Rattle.std.specs.Prelude.{◌≡◌, ◌≢◌, IsSome, Result, OnOk, IfErr}
 use Rattle.outside.specs.declared.world.Outside.{Ghosts}
 use Rattle.outside.specs.Causes.{Rose}
-use Rattle.outside.specs.Runs.{held_of}
+use Rattle.outside.specs.Runs.{held_of, OnlyAsks}
 use Rattle.store_format.specs.declared.read.HeaderFault as code
 use Rattle.store_format.specs.declared.read.HeaderFault.TheVariants as fault
 use Rattle.store_format.specs.Stands.{stands, NotAStore}
+
+-- Calls that only ask, whose answer may name the disk's fault: none is counted where they succeed or answer another fault, and each fault has its cause.
+pub record AsksUnless {W T E : Type 0} (G : Ghosts W) (failed : E) (cause : E → Type 0) (old new : W) (result : Result T E) : Type 0 where
+  pub asks : OnlyAsks G old new
+  pub no_fault : OnOk result (G.disk_faults new ≡ G.disk_faults old)
+  pub fault : IfErr result cause
+  pub calm : IfErr result (λ fault. fault ≢ failed → G.disk_faults new ≡ G.disk_faults old)
 
 -- a disk's fault is counted; any other is where the bytes that are told are no store
 abbrev pub IsHeaderFault : {W : Type 0} → Ghosts W → W → W → code.HeaderFault → Type 0
 IsHeaderFault G old new (fault.NotAStore offset) = IsSome (G.held old) → stands (held_of G old) ≡ NotAStore offset
 IsHeaderFault G old new fault.DiskFault = Rose (G.disk_faults old) (G.disk_faults new)
+
+-- a reading of the header only asks the disk
+abbrev pub AsksHeader : {W T : Type 0} → Ghosts W → W → W → Result T code.HeaderFault → Type 0
+AsksHeader G old new result = AsksUnless G fault.DiskFault (IsHeaderFault G old new) old new result

@@ -1,8 +1,8 @@
 // Reading the header of a store.
-ghost use Rattle.std.specs.Prelude.{◌≡◌, ◌≢◌, ℕ, ◌+◌, ◌-◌, ◌*◌, ◌^◌, ◌≤◌, List, [], ◌∷◌, ◌++◌, length, take, replicate, None, IfOk, IfErr, IsSome};
+ghost use Rattle.std.specs.Prelude.{◌≡◌, ℕ, ◌+◌, ◌-◌, ◌*◌, ◌^◌, ◌≤◌, List, [], ◌∷◌, ◌++◌, length, take, replicate, None, IfOk, IsSome};
 ghost use Rattle.outside.specs.Causes.{FailsOnlyCounted};
 ghost use Rattle.outside.specs.Runs.{OnlyAsks, held_of};
-ghost use Rattle.store_format.specs.Read.{IsHeaderFault};
+ghost use Rattle.store_format.specs.Read.{AsksHeader};
 ghost use Rattle.store_format.specs.Stands.{HasHeader};
 ghost use Rattle.store_format.specs.Header.{number_at, within, name_field, segments_at, segment_fields, zeros, spare_fields, page_of, fields, first_fault, header_of};
 
@@ -35,11 +35,8 @@ pub enum HeaderFault {
 /// length where a field isn't whole or the store is cut, or with the store's length where more is held
 /// (docs/FORMATS.md, "Store"). [`HeaderFault::DiskFault`] only where the disk's count of faults rose.
 pub fn read_header<W: Outside>(outside: &mut W) -> Result<Header, HeaderFault>
-    ensures asks { OnlyAsks W.Outside outside.old outside.new }
+    ensures asks { AsksHeader W.Outside outside.old outside.new result }
     ensures header { IfOk result (λ header. IsSome (W.held outside.old) → HasHeader (held_of W.Outside outside.old) header) }
-    ensures no_fault { IfOk result (λ header. W.disk_faults outside.new ≡ W.disk_faults outside.old) }
-    ensures fault { IfErr result (IsHeaderFault W.Outside outside.old outside.new) }
-    ensures calm { IfErr result (λ fault. fault ≢ HeaderFault.DiskFault → W.disk_faults outside.new ≡ W.disk_faults outside.old) }
 {
     let (length, head) = match read_head(outside) {
         Err(Failed) => return Err(HeaderFault::DiskFault),

@@ -4,58 +4,58 @@ use Rattle.standby.proofs.follow_call.follow_text.Goals as goal
 
 pub returns-in-Err-clause-on : goal.returns-in-Err-clause-on
 returns-in-Err-clause-on g c =
-    not_opened g.W.Outside g.met.W.Outside.fewer_later g.met.W.Outside.printed_now (content_of c.args.ship.now) c.args.outside.now c.open.new.outside c.in-Err.ensures.asks c.in-Err.fault c.from.result c.from.ensures c.in-Err.ensures.fault
+    not_opened g.W.Outside g.met.W.Outside.fewer_later g.met.W.Outside.printed_now (content_of c.args.ship.now) c.args.outside.now c.open.new.outside c.in-Err.ensures.asks.asks c.in-Err.fault c.from.result c.from.ensures c.in-Err.ensures.asks.fault
 
 pub returns-in-Done-clause-on : goal.returns-in-Done-clause-on
 returns-in-Done-clause-on g c = (
-  λ told. record { store = c.in-Ok.store; shows = c.in-Ok.ensures.shows told; due_on = c.in-Done.ensures.found },
-  followed_done g.W.Outside g.met.W.Outside.fewer_later g.met.W.Outside.printed_now (content_of c.args.ship.now) c.args.outside.now c.open.new.outside c.in-Ok.ensures.asks
-      c.in-Ok.store c.follow.new.durable c.in-Ok.ensures.shows c.in-Ok.ensures.tracks c.follow.new.outside c.in-Done.ensures.only.time
+  λ told. record { store = c.in-Ok.store; shows = c.in-Ok.ensures.opened.shows told; due_on = c.in-Done.ensures.found },
+  followed_done g.W.Outside g.met.W.Outside.fewer_later g.met.W.Outside.printed_now (content_of c.args.ship.now) c.args.outside.now c.open.new.outside c.in-Ok.ensures.asks.asks
+      c.in-Ok.store c.follow.new.durable c.in-Ok.ensures.opened.shows c.in-Ok.ensures.opened.tracks c.follow.new.outside c.in-Done.ensures.only.time
       c.requires.content.number c.in-Done.ensures.found.1 c.in-Done.ensures.header (c.in-Done.ensures.kept refl) c.in-Done.ensures.follows,
 )
 
 pub returns-in-Done-clause-time : goal.returns-in-Done-clause-time
 returns-in-Done-clause-time g c =
-    elapses-trans g.W.Outside g.met.W.Outside.fewer_later c.args.outside.now c.open.new.outside c.follow.new.outside c.in-Ok.ensures.asks.calls.time c.in-Done.ensures.only.time
+    elapses-trans g.W.Outside g.met.W.Outside.fewer_later c.args.outside.now c.open.new.outside c.follow.new.outside c.in-Ok.ensures.asks.asks.calls.time c.in-Done.ensures.only.time
 
 pub returns-in-NotKept-clause-on : goal.returns-in-NotKept-clause-on
 returns-in-NotKept-clause-on g c =
     let many : c.len.result ≡ length (content_of c.args.ship.now).records = omega (arith, c.len.ensures, length-map c.args.ship.now.records.items (record_of c.args.ship.now.line_bytes)) in
     let found = c.in-NotKept.ensures.found in
-    λ told. record { store = c.in-Ok.store; shows = c.in-Ok.ensures.shows told; due_on = (refl, ap (later c.args.ship.now.start) many, found.0, found.1) }
+    λ told. record { store = c.in-Ok.store; shows = c.in-Ok.ensures.opened.shows told; due_on = (refl, ap (later c.args.ship.now.start) many, found.0, found.1) }
 
 pub returns-in-Long-clause-on : goal.returns-in-Long-clause-on
 returns-in-Long-clause-on g c =
     let found = c.in-Long.ensures.found in
-    (inr refl, λ told. record { store = c.in-Ok.store; shows = c.in-Ok.ensures.shows told; due_on = inr (refl, found.0, found.1, found.2) })
+    (inr refl, λ told. record { store = c.in-Ok.store; shows = c.in-Ok.ensures.opened.shows told; due_on = inr (refl, found.0, found.1, found.2) })
 
 pub returns-in-Long-clause-refused : goal.returns-in-Long-clause-refused
 returns-in-Long-clause-refused g c refusal =
     let refused = c.in-Long.ensures.refused (inr (inr (c.in-Long.number, refl))) in
-    subst (OnlyAsks g.W.Outside c.args.outside.now) (sym refused.1) c.in-Ok.ensures.asks
+    subst (OnlyAsks g.W.Outside c.args.outside.now) (sym refused.1) c.in-Ok.ensures.asks.asks
 
 pub returns-in-Long-clause-time : goal.returns-in-Long-clause-time
 returns-in-Long-clause-time g c =
-    elapses-trans g.W.Outside g.met.W.Outside.fewer_later c.args.outside.now c.open.new.outside c.follow.new.outside c.in-Ok.ensures.asks.calls.time c.in-Long.ensures.only.time
+    elapses-trans g.W.Outside g.met.W.Outside.fewer_later c.args.outside.now c.open.new.outside c.follow.new.outside c.in-Ok.ensures.asks.asks.calls.time c.in-Long.ensures.only.time
 
 pub returns-in-DiskFault-clause-on : goal.returns-in-DiskFault-clause-on
 returns-in-DiskFault-clause-on g c = (
-  inr (λ told. record { store = c.in-Ok.store; shows = c.in-Ok.ensures.shows told; due_on = c.in-DiskFault.ensures.found }),
-  followed_disk g.W.Outside g.met.W.Outside.fewer_later g.met.W.Outside.printed_now (content_of c.args.ship.now) c.args.outside.now c.open.new.outside c.in-Ok.ensures.asks
-      c.in-Ok.store c.follow.new.durable c.in-Ok.ensures.shows c.in-Ok.ensures.tracks c.follow.new.outside c.in-DiskFault.ensures.only.time c.in-DiskFault.ensures.follows,
+  inr (λ told. record { store = c.in-Ok.store; shows = c.in-Ok.ensures.opened.shows told; due_on = c.in-DiskFault.ensures.found }),
+  followed_disk g.W.Outside g.met.W.Outside.fewer_later g.met.W.Outside.printed_now (content_of c.args.ship.now) c.args.outside.now c.open.new.outside c.in-Ok.ensures.asks.asks
+      c.in-Ok.store c.follow.new.durable c.in-Ok.ensures.opened.shows c.in-Ok.ensures.opened.tracks c.follow.new.outside c.in-DiskFault.ensures.only.time c.in-DiskFault.ensures.follows,
 )
 
 pub returns-in-DiskFault-clause-time : goal.returns-in-DiskFault-clause-time
 returns-in-DiskFault-clause-time g c =
-    elapses-trans g.W.Outside g.met.W.Outside.fewer_later c.args.outside.now c.open.new.outside c.follow.new.outside c.in-Ok.ensures.asks.calls.time c.in-DiskFault.ensures.only.time
+    elapses-trans g.W.Outside g.met.W.Outside.fewer_later c.args.outside.now c.open.new.outside c.follow.new.outside c.in-Ok.ensures.asks.asks.calls.time c.in-DiskFault.ensures.only.time
 
 pub returns-clause-on : goal.returns-clause-on
 returns-clause-on g c = (
-  λ told. record { store = c.in-Ok.store; shows = c.in-Ok.ensures.shows told; due_on = c.in-PutFault.ensures.found },
-  followed_put g.W.Outside g.met.W.Outside.fewer_later g.met.W.Outside.printed_now (content_of c.args.ship.now) c.args.outside.now c.open.new.outside c.in-Ok.ensures.asks
-      c.in-Ok.store c.follow.new.durable c.in-Ok.ensures.shows c.in-Ok.ensures.tracks c.follow.new.outside c.in-PutFault.ensures.only.time c.in-PutFault.ensures.follows,
+  λ told. record { store = c.in-Ok.store; shows = c.in-Ok.ensures.opened.shows told; due_on = c.in-PutFault.ensures.found },
+  followed_put g.W.Outside g.met.W.Outside.fewer_later g.met.W.Outside.printed_now (content_of c.args.ship.now) c.args.outside.now c.open.new.outside c.in-Ok.ensures.asks.asks
+      c.in-Ok.store c.follow.new.durable c.in-Ok.ensures.opened.shows c.in-Ok.ensures.opened.tracks c.follow.new.outside c.in-PutFault.ensures.only.time c.in-PutFault.ensures.follows,
 )
 
 pub returns-clause-time : goal.returns-clause-time
 returns-clause-time g c =
-    elapses-trans g.W.Outside g.met.W.Outside.fewer_later c.args.outside.now c.open.new.outside c.follow.new.outside c.in-Ok.ensures.asks.calls.time c.in-PutFault.ensures.only.time
+    elapses-trans g.W.Outside g.met.W.Outside.fewer_later c.args.outside.now c.open.new.outside c.follow.new.outside c.in-Ok.ensures.asks.asks.calls.time c.in-PutFault.ensures.only.time

@@ -80,9 +80,9 @@ returns-in-Ok g c =
     record {
       found = (alike g at, among g at, all_few g at c.in-None.ensures.none);
       refused = grind arith;
-      only = c.in-Ok.ensures.only;
-      ends = c.in-Ok.ensures.ends;
-      header = c.in-Ok.ensures.header;
+      only = c.in-Ok.ensures.goes.only;
+      ends = c.in-Ok.ensures.goes.ends;
+      header = c.in-Ok.ensures.goes.header;
       kept = λ done. c.in-Ok.ensures.kept ∙ ap (bank_behind c.args.durable.now.bank) (due_is g at);
       follows = λ store tracks stood. of_due g at (λ bytes records. Goes bytes records store) (c.in-Ok.ensures.follows store tracks stood);
     }
@@ -94,13 +94,13 @@ returns-in-Err g c =
     Follows g.W.Outside bytes (number_of c.args.durable.now) store records c.keep_all.new.durable c.args.outside.now c.keep_all.new.outside c.in-Err.why in
     record {
       found =
-          found_stopped c.args.durable.now.header (content_of c.args.ship.now) (number_of c.args.durable.now) c.in-Err.why c.in-Err.ensures.stopped
+          found_stopped c.args.durable.now.header (content_of c.args.ship.now) (number_of c.args.durable.now) c.in-Err.why c.in-Err.ensures.goes.stopped
           (alike g at, among g at, all_few g at c.in-None.ensures.none);
       refused = grind arith;
-      only = c.in-Err.ensures.only;
-      ends = c.in-Err.ensures.ends;
-      header = c.in-Err.ensures.header;
-      kept = λ done. absurd (not_done c.in-Err.why c.in-Err.ensures.stopped done);
+      only = c.in-Err.ensures.goes.only;
+      ends = c.in-Err.ensures.goes.ends;
+      header = c.in-Err.ensures.goes.header;
+      kept = λ done. absurd (not_done c.in-Err.why c.in-Err.ensures.goes.stopped done);
       follows = λ store tracks stood. of_due g at (λ bytes records. Goes bytes records store) (c.in-Err.ensures.follows store tracks stood);
     }
 
@@ -113,8 +113,8 @@ returns-then-passed-len-clause-found g c = grind (arith, common_steps)
 pub returns-then-passed-len-clause-only : goal.returns-then-passed-len-clause-only
 returns-then-passed-len-clause-only g c = grind arith
 
-pub keep_all-requires-clause-room : goal.keep_all-requires-clause-room
-keep_all-requires-clause-room g c = grind arith
+pub keep_all-requires-clause-store : goal.keep_all-requires-clause-store
+keep_all-requires-clause-store g c = grind arith
 
 pub returns-then-not-is_alike-clause-only : goal.returns-then-not-is_alike-clause-only
 returns-then-not-is_alike-clause-only g c = grind (arith, common_steps)

@@ -1,5 +1,4 @@
-use Rattle.standby.proofs.Common.{arith}
-use Rattle.standby.proofs.Lemmas.{◌≡◌, ◌∙◌, ap, subst, Err, line_bytes, FlatStore, Stands, stands, Leaves, held_of, IsEither, KeptBank, KeptStore, number_of, TracksStore, Steps, put_of, kept_line, next, record_of, DiskFault, with_record, goes_on, goes_puts, goes_writes, either_begun, more_begun, on_ok, sized, step_kept, step_unkept, tracks_begun}
+use Rattle.standby.proofs.Lemmas.{arith, common_steps, ◌≡◌, ◌∙◌, ap, subst, Err, line_bytes, FlatStore, Stands, stands, Leaves, held_of, IsEither, KeptBank, KeptStore, number_of, TracksStore, Steps, put_of, kept_line, next, record_of, DiskFault, with_record, goes_on, goes_puts, goes_writes, either_begun, more_begun, on_ok, sized, step_kept, step_unkept, tracks_begun}
 use Rattle.store.specs.Appended.{CountsKept}
 use Rattle.store.specs.declared.keep.Kept.{Kept}
 use Rattle.store.specs.declared.keep.Kept.TheVariants.{Unwritten, Doubt}
@@ -32,16 +31,18 @@ returns-in-Unwritten g c =
     let at = (goal.at.returns-in-Unwritten g c).After-commit in
     grind (arith, goes_writes g.W.Outside c.args.outside.now c.commit.new.outside c.commit.ensures.only, counted g at Unwritten, counted g at Doubt, c.in-Unwritten.is, c.commit.ensures.only.calls.put, c.commit.ensures.header, c.begin.ensures.now_is, unkept g at)
 
-pub commit-requires-clause-usable : goal.commit-requires-clause-usable
-commit-requires-clause-usable g c = ap (λ (store : KeptStore). store.bank.spoiled) c.begin.ensures.now_is ∙ c.requires.usable
+pub commit-requires : goal.commit-requires
+commit-requires g c = grind (arith, common_steps, ap (λ (store : KeptStore). store.bank.spoiled) c.begin.ensures.now_is ∙ c.requires.store.usable)
 
 pub returns-clause-usable : goal.returns-clause-usable
 returns-clause-usable g c = on_ok c.put_line.result (c.commit.ensures.usable c.in-Done.is)
 
-pub returns-clause-only : goal.returns-clause-only
-returns-clause-only g c =
-    goes_on g.W.Outside g.met.W.Outside.fewer_later c.args.outside.now c.commit.new.outside c.put_line.new.outside (goes_writes g.W.Outside c.args.outside.now c.commit.new.outside c.commit.ensures.only)
-    (goes_puts g.W.Outside c.as_slice.result.now c.commit.new.outside c.put_line.new.outside (put_of c.put_line.result) c.put_line.ensures.puts)
+pub returns-clause-goes : goal.returns-clause-goes
+returns-clause-goes g c = grind (
+  arith,
+  goes_on g.W.Outside g.met.W.Outside.fewer_later c.args.outside.now c.commit.new.outside c.put_line.new.outside (goes_writes g.W.Outside c.args.outside.now c.commit.new.outside c.commit.ensures.only)
+      (goes_puts g.W.Outside c.as_slice.result.now c.commit.new.outside c.put_line.new.outside (put_of c.put_line.result) c.put_line.ensures.puts),
+)
 
 pub returns-clause-kept : goal.returns-clause-kept
 returns-clause-kept g c =

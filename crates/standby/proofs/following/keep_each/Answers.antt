@@ -23,7 +23,7 @@ loop-record-init g c =
       disk = refl;
       put = refl;
       header = refl;
-      usable = c.requires.usable;
+      usable = c.requires.store.usable;
       number = number;
       bank = refl;
       so_far = λ store tracks stood.
@@ -39,7 +39,7 @@ returns-in-Err-clause-keeps g c store tracks stood =
     let steps = subst (λ (header : Header). Steps g.W.Outside (line_bytes header.directory.page) (number_of c.loop-record.durable) (laid_by (line_bytes c.args.durable.now.header.directory.page) store (take i all)) (record_of (line_bytes header.directory.page) c.record-item.result) c.keep.new.durable c.loop-record.outside c.keep.new.outside c.keep.result) c.loop-record.invariant.header
     (c.keep.ensures.steps (laid_by (line_bytes c.args.durable.now.header.directory.page) store (take i all)) so_far.tracks (so_far.stood ∙ ap (λ (n : ℕ). Stands n (laid_by (line_bytes c.args.durable.now.header.directory.page) store (take i all))) (sym c.loop-record.invariant.number))) in
     so_far_stopped g.W.Outside g.met.W.Outside.fewer_later g.met.W.Outside.printed_now (line_bytes c.args.durable.now.header.directory.page) (number_of c.args.durable.now) store all i lt c.loop-record.durable c.args.outside.now c.loop-record.outside
-    c.loop-record.invariant.only.time so_far c.keep.new.durable c.keep.new.outside c.keep.ensures.only.time c.in-Err.why
+    c.loop-record.invariant.only.time so_far c.keep.new.durable c.keep.new.outside c.keep.ensures.goes.only.time c.in-Err.why
     (step_at g.W.Outside (line_bytes c.args.durable.now.header.directory.page) (number_of c.loop-record.durable) (later (number_of c.args.durable.now) i) (laid_by (line_bytes c.args.durable.now.header.directory.page) store (take i all)) (record_of (line_bytes c.args.durable.now.header.directory.page) c.record-item.result) (get_or all i []) c.keep.new.durable c.loop-record.outside c.keep.new.outside c.keep.result (Err c.in-Err.why)
     c.loop-record.invariant.number (lines_are (line_bytes c.args.durable.now.header.directory.page) c.args.records.now i c.record-item.result c.loop-record-test.true c.record-item.is) c.in-Err.is steps)
 
@@ -49,10 +49,10 @@ loop-record-preserved g c =
     let all = map (record_of (line_bytes c.args.durable.now.header.directory.page)) c.args.records.now in
     let lt : i < length all = omega (arith, c.loop-record-test.true, length-map c.args.records.now (record_of (line_bytes c.args.durable.now.header.directory.page))) in
     record {
-      only = goes_on g.W.Outside g.met.W.Outside.fewer_later c.args.outside.now c.loop-record.outside c.keep.new.outside c.loop-record.invariant.only c.keep.ensures.only;
-      disk = c.in-Ok.ensures.ends.0 ∙ c.loop-record.invariant.disk;
-      put = c.in-Ok.ensures.ends.1 ∙ c.loop-record.invariant.put;
-      header = c.keep.ensures.header ∙ c.loop-record.invariant.header;
+      only = goes_on g.W.Outside g.met.W.Outside.fewer_later c.args.outside.now c.loop-record.outside c.keep.new.outside c.loop-record.invariant.only c.keep.ensures.goes.only;
+      disk = c.in-Ok.ensures.goes.ends.0 ∙ c.loop-record.invariant.disk;
+      put = c.in-Ok.ensures.goes.ends.1 ∙ c.loop-record.invariant.put;
+      header = c.keep.ensures.goes.header ∙ c.loop-record.invariant.header;
       usable = c.in-Ok.ensures.usable;
       number = c.in-Ok.ensures.number ∙ ap next c.loop-record.invariant.number ∙ later_more (number_of c.args.durable.now) i;
       bank = c.in-Ok.ensures.kept ∙ bank_more c.args.durable.now.bank c.loop-record.durable.bank all i lt (record_of (line_bytes c.loop-record.durable.header.directory.page) c.record-item.result) c.loop-record.invariant.bank
@@ -62,7 +62,7 @@ loop-record-preserved g c =
           let steps = subst (λ (header : Header). Steps g.W.Outside (line_bytes header.directory.page) (number_of c.loop-record.durable) (laid_by (line_bytes c.args.durable.now.header.directory.page) store (take i all)) (record_of (line_bytes header.directory.page) c.record-item.result) c.keep.new.durable c.loop-record.outside c.keep.new.outside c.keep.result) c.loop-record.invariant.header
           (c.keep.ensures.steps (laid_by (line_bytes c.args.durable.now.header.directory.page) store (take i all)) so_far.tracks (so_far.stood ∙ ap (λ (n : ℕ). Stands n (laid_by (line_bytes c.args.durable.now.header.directory.page) store (take i all))) (sym c.loop-record.invariant.number))) in
           so_far_more g.W.Outside g.met.W.Outside.fewer_later g.met.W.Outside.printed_now (line_bytes c.args.durable.now.header.directory.page) (number_of c.args.durable.now) store all i lt c.loop-record.durable c.args.outside.now c.loop-record.outside
-          c.loop-record.invariant.only.time so_far c.keep.new.durable c.keep.new.outside c.keep.ensures.only.time
+          c.loop-record.invariant.only.time so_far c.keep.new.durable c.keep.new.outside c.keep.ensures.goes.only.time
           (step_at g.W.Outside (line_bytes c.args.durable.now.header.directory.page) (number_of c.loop-record.durable) (later (number_of c.args.durable.now) i) (laid_by (line_bytes c.args.durable.now.header.directory.page) store (take i all)) (record_of (line_bytes c.args.durable.now.header.directory.page) c.record-item.result) (get_or all i []) c.keep.new.durable c.loop-record.outside c.keep.new.outside c.keep.result (Ok tt)
           c.loop-record.invariant.number (lines_are (line_bytes c.args.durable.now.header.directory.page) c.args.records.now i c.record-item.result c.loop-record-test.true c.record-item.is) c.in-Ok.is steps);
     }
@@ -78,11 +78,8 @@ returns-clause-keeps g c store tracks stood =
     so_far_all g.W.Outside g.met.W.Outside.fewer_later g.met.W.Outside.printed_now (line_bytes c.args.durable.now.header.directory.page) (number_of c.args.durable.now) store all c.loop-record.record-index c.loop-record.durable c.args.outside.now c.loop-record.outside
     (omega (arith, c.loop-record-test.false, c.loop-record.auto.record-index-end, length-map c.args.records.now (record_of (line_bytes c.args.durable.now.header.directory.page)))) (c.loop-record.invariant.so_far store tracks stood)
 
-pub returns-in-Err-clause-ends : goal.returns-in-Err-clause-ends
-returns-in-Err-clause-ends g c = grind arith
-
 pub keep-requires-clause-fitting : goal.keep-requires-clause-fitting
 keep-requires-clause-fitting g c = grind arith
 
-pub returns-in-Err-clause-only : goal.returns-in-Err-clause-only
-returns-in-Err-clause-only g c = goes_on g.W.Outside g.met.W.Outside.fewer_later c.args.outside.now c.loop-record.outside c.keep.new.outside c.loop-record.invariant.only c.keep.ensures.only
+pub returns-in-Err-clause-goes : goal.returns-in-Err-clause-goes
+returns-in-Err-clause-goes g c = grind (arith, goes_on g.W.Outside g.met.W.Outside.fewer_later c.args.outside.now c.loop-record.outside c.keep.new.outside c.loop-record.invariant.only c.keep.ensures.goes.only)

@@ -1,4 +1,4 @@
-use Rattle.standby.proofs.Lemmas.{◌≡◌, ℕ, List, [], refl, subst, sym, ◌∙◌, ap, RecordLine, PrintsBy, broken, feeds, line_line, prints_unput, shows_asks, shows_on, shows_line, by_put, prints_by, quiet_by}
+use Rattle.standby.proofs.Lemmas.{arith, ◌≡◌, ℕ, List, [], refl, subst, sym, ◌∙◌, ap, RecordLine, PrintsBy, broken, feeds, line_line, prints_unput, shows_asks, shows_on, shows_line, by_put, prints_by, quiet_by}
 use Rattle.standby.proofs.shipping.put_one.Goals as goal
 
 pub returns-in-Err-clause-prints : goal.returns-in-Err-clause-prints
@@ -16,8 +16,8 @@ returns-clause-prints g c shown at many one there =
     (prints_by G c.args.outside.now c.line_at.new.outside c.put_line.new.outside [] c.as_slice.result.now c.put_line.result (quiet_by G c.args.outside.now c.line_at.new.outside c.line_at.ensures.asks.calls)
     (by_put G c.as_slice.result.now c.line_at.new.outside c.put_line.new.outside c.put_line.result (ap feeds c.as_slice.ensures ∙ c.fill_line.ensures.one) c.put_line.ensures.puts))
 
-pub returns-clause-only : goal.returns-clause-only
-returns-clause-only g c = shows_on g.W.Outside g.met.W.Outside.fewer_later c.args.outside.now c.line_at.new.outside c.put_line.new.outside (shows_asks g.W.Outside c.args.outside.now c.line_at.new.outside c.line_at.ensures.asks) (shows_line g.W.Outside c.as_slice.result.now c.line_at.new.outside c.put_line.new.outside _ c.put_line.ensures.puts)
+pub returns-clause-goes : goal.returns-clause-goes
+returns-clause-goes g c = grind (arith, shows_on g.W.Outside g.met.W.Outside.fewer_later c.args.outside.now c.line_at.new.outside c.put_line.new.outside (shows_asks g.W.Outside c.args.outside.now c.line_at.new.outside c.line_at.ensures.asks) (shows_line g.W.Outside c.as_slice.result.now c.line_at.new.outside c.put_line.new.outside _ c.put_line.ensures.puts))
 
-pub returns-in-Err-clause-only : goal.returns-in-Err-clause-only
-returns-in-Err-clause-only g c = shows_asks g.W.Outside c.args.outside.now c.line_at.new.outside c.line_at.ensures.asks
+pub returns-in-Err-clause-goes : goal.returns-in-Err-clause-goes
+returns-in-Err-clause-goes g c = grind (arith, shows_asks g.W.Outside c.args.outside.now c.line_at.new.outside c.line_at.ensures.asks)

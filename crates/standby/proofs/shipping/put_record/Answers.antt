@@ -26,8 +26,8 @@ said G store entry i old mid shown at P many same below each =
     each still.0 that.0 (many ∙ ap (λ (these : List RecordLine). length these) (sym that.1)) (get_or at.lines i no_record)
     (ap (λ (these : List RecordLine). slice_get these i) that.1 ∙ slice_get-get_or at.lines i no_record (omega (arith, many, below)))
 
-pub returns-in-Err-put_one-clause-only : goal.returns-in-Err-put_one-clause-only
-returns-in-Err-put_one-clause-only g c = shows_on g.W.Outside g.met.W.Outside.fewer_later c.args.outside.now c.loop-index.outside c.put_one.new.outside c.loop-index.invariant.only c.put_one.ensures.only
+pub returns-in-Err-put_one-clause-goes : goal.returns-in-Err-put_one-clause-goes
+returns-in-Err-put_one-clause-goes g c = grind (arith, shows_on g.W.Outside g.met.W.Outside.fewer_later c.args.outside.now c.loop-index.outside c.put_one.new.outside c.loop-index.invariant.only c.put_one.ensures.goes.only)
 
 pub returns-in-Err-put_one-clause-prints : goal.returns-in-Err-put_one-clause-prints
 returns-in-Err-put_one-clause-prints g c shown at many =
@@ -64,9 +64,9 @@ loop-index-preserved g c =
     let mid = c.loop-index.outside in
     let i = c.loop-index.index in
     record {
-      only = shows_on G g.met.W.Outside.fewer_later old mid c.put_one.new.outside c.loop-index.invariant.only c.put_one.ensures.only;
-      disk = c.in-Ok-put_one.ensures.ends.0 ∙ c.loop-index.invariant.disk;
-      put = c.in-Ok-put_one.ensures.ends.1 ∙ c.loop-index.invariant.put;
+      only = shows_on G g.met.W.Outside.fewer_later old mid c.put_one.new.outside c.loop-index.invariant.only c.put_one.ensures.goes.only;
+      disk = c.in-Ok-put_one.ensures.goes.ends.0 ∙ c.loop-index.invariant.disk;
+      put = c.in-Ok-put_one.ensures.goes.ends.1 ∙ c.loop-index.invariant.put;
       so_far = λ shown at many.
           let lt : i < length at.lines = omega (arith, many, c.loop-index-test.true) in
           let one = get_or at.lines i no_record in
@@ -90,6 +90,3 @@ returns-clause-prints g c shown at many =
     (ap (λ (these : List ShipLine). head ++ lines_text these) (take_all c.loop-index.index (told at.lines) (omega (arith, many, c.loop-index-test.false, length-map at.lines bare)))
     ∙ ap (λ (first : List ℕ). first ++ lines_text (told at.lines)) (counts c.args.number c.args.entry.now.count at.lines many))
     (c.loop-index.invariant.so_far shown at many)
-
-pub returns-in-Err-put_one-clause-ends : goal.returns-in-Err-put_one-clause-ends
-returns-in-Err-put_one-clause-ends g c = grind arith

@@ -40,10 +40,12 @@ returns-in-Err-clause-prints g c shown is =
     (prints_on (g.W.Outside.printed c.args.outside.now) (g.W.Outside.printed c.loop-index.outside) (g.W.Outside.printed c.record_at.new.outside) (records_text number (take i (map told behind))) rest.0 tt broken (c.loop-index.invariant.so_far shown is).0
     (prints_unput (g.W.Outside.printed c.loop-index.outside) (g.W.Outside.printed c.record_at.new.outside) rest.0 broken refl c.record_at.ensures.asks.calls.quiet.same))
 
-pub returns-in-Err-put_record-clause-only : goal.returns-in-Err-put_record-clause-only
-returns-in-Err-put_record-clause-only g c =
-    shows_on g.W.Outside g.met.W.Outside.fewer_later c.args.outside.now c.loop-index.outside c.put_record.new.outside c.loop-index.invariant.only
-    (shows_on g.W.Outside g.met.W.Outside.fewer_later c.loop-index.outside c.record_at.new.outside c.put_record.new.outside (shows_asks g.W.Outside c.loop-index.outside c.record_at.new.outside c.record_at.ensures.asks) c.put_record.ensures.only)
+pub returns-in-Err-put_record-clause-goes : goal.returns-in-Err-put_record-clause-goes
+returns-in-Err-put_record-clause-goes g c = grind (
+  arith,
+  shows_on g.W.Outside g.met.W.Outside.fewer_later c.args.outside.now c.loop-index.outside c.put_record.new.outside c.loop-index.invariant.only
+      (shows_on g.W.Outside g.met.W.Outside.fewer_later c.loop-index.outside c.record_at.new.outside c.put_record.new.outside (shows_asks g.W.Outside c.loop-index.outside c.record_at.new.outside c.record_at.ensures.asks) c.put_record.ensures.goes.only),
+)
 
 within : (g : Over) (c : goal.In-Ok g) (shown : IsShown g.W.Outside c.args.durable.now c.args.outside.now) → c.loop-index.index < length shown.shows.read.records
 within g c shown = omega (arith, shown.shows.read.count, c.loop-index-test.true, c.records-index-end.ensures)
@@ -105,9 +107,9 @@ loop-index-preserved g c =
     record {
       only =
           shows_on G g.met.W.Outside.fewer_later old loop c.put_record.new.outside c.loop-index.invariant.only
-          (shows_on G g.met.W.Outside.fewer_later loop mid c.put_record.new.outside (shows_asks G loop mid c.record_at.ensures.asks) c.put_record.ensures.only);
-      disk = c.in-Ok-put_record.ensures.ends.0 ∙ c.in-Ok.ensures.cause.done ∙ c.loop-index.invariant.disk;
-      put = c.in-Ok-put_record.ensures.ends.1 ∙ c.record_at.ensures.asks.calls.put ∙ c.loop-index.invariant.put;
+          (shows_on G g.met.W.Outside.fewer_later loop mid c.put_record.new.outside (shows_asks G loop mid c.record_at.ensures.asks) c.put_record.ensures.goes.only);
+      disk = c.in-Ok-put_record.ensures.goes.ends.0 ∙ c.in-Ok.ensures.cause.done ∙ c.loop-index.invariant.disk;
+      put = c.in-Ok-put_record.ensures.goes.ends.1 ∙ c.record_at.ensures.asks.calls.put ∙ c.loop-index.invariant.put;
       inside = ⊎_elim (λ none. omega (arith, none.1, c.requires.some)) (λ some. some.1) c.in-Ok.ensures.found.fits;
       place = λ shown is.
           let records = shown.shows.read.records in
@@ -142,11 +144,8 @@ returns-clause-prints g c shown is =
     (ap (records_text number) (take_all (c.loop-index.index - c.args.passed) (map told behind) (omega (arith, shown.shows.read.count, c.loop-index-test.false, c.records-index-end.ensures, length-map behind told, length-drop c.args.passed shown.shows.read.records))))
     (c.loop-index.invariant.so_far shown is)
 
-pub returns-in-Err-put_record-clause-ends : goal.returns-in-Err-put_record-clause-ends
-returns-in-Err-put_record-clause-ends g c = grind arith
+pub put_record-requires-clause-store : goal.put_record-requires-clause-store
+put_record-requires-clause-store g c = grind arith
 
-pub put_record-requires-clause-room : goal.put_record-requires-clause-room
-put_record-requires-clause-room g c = grind arith
-
-pub returns-in-Err-clause-only : goal.returns-in-Err-clause-only
-returns-in-Err-clause-only g c = shows_on g.W.Outside g.met.W.Outside.fewer_later c.args.outside.now c.loop-index.outside c.record_at.new.outside c.loop-index.invariant.only (shows_asks g.W.Outside c.loop-index.outside c.record_at.new.outside c.record_at.ensures.asks)
+pub returns-in-Err-clause-goes : goal.returns-in-Err-clause-goes
+returns-in-Err-clause-goes g c = grind (arith, shows_on g.W.Outside g.met.W.Outside.fewer_later c.args.outside.now c.loop-index.outside c.record_at.new.outside c.loop-index.invariant.only (shows_asks g.W.Outside c.loop-index.outside c.record_at.new.outside c.record_at.ensures.asks))

@@ -34,8 +34,8 @@ still_there g c shown =
     let still = still_shown g.W.Outside c.args.durable.now c.args.outside.now c.put_line.new.outside shown (c.put_line.ensures.puts.only.held ∙ c.place_behind.ensures.asks.held) in
     (still.0, (still.1, c.in-Ok.ensures.place shown ∙ ap (λ (records : List (List RecordLine)). area_bytes c.args.durable.now.bank.page (take c.args.passed records)) (sym still.1)))
 
-pub returns-in-Err-put_line-clause-only : goal.returns-in-Err-put_line-clause-only
-returns-in-Err-put_line-clause-only g c = line_only g (goal.at.returns-in-Err-put_line-clause-only g c).After-put_line
+pub returns-in-Err-put_line-clause-goes : goal.returns-in-Err-put_line-clause-goes
+returns-in-Err-put_line-clause-goes g c = grind (arith, line_only g (goal.at.returns-in-Err-put_line-clause-goes g c).After-put_line)
 
 pub returns-in-Err-put_line-clause-prints : goal.returns-in-Err-put_line-clause-prints
 returns-in-Err-put_line-clause-prints g c shown =
@@ -93,18 +93,21 @@ returns-clause-prints g c shown =
 
 -- and the records
 records_only : (g : Over) (c : goal.After-put_records g) → AsksAndPuts g.W.Outside c.args.outside.now c.put_line.new.outside → AsksAndPuts g.W.Outside c.args.outside.now c.put_records.new.outside
-records_only g c line = shows_on g.W.Outside g.met.W.Outside.fewer_later c.args.outside.now c.put_line.new.outside c.put_records.new.outside line c.put_records.ensures.only
+records_only g c line = shows_on g.W.Outside g.met.W.Outside.fewer_later c.args.outside.now c.put_line.new.outside c.put_records.new.outside line c.put_records.ensures.goes.only
 
-pub returns-in-Err-put_records-clause-only : goal.returns-in-Err-put_records-clause-only
-returns-in-Err-put_records-clause-only g c =
-    let at = goal.at.returns-in-Err-put_records-clause-only g c in
-    records_only g at.After-put_records (line_only g at.After-put_line)
+pub returns-in-Err-put_records-clause-goes : goal.returns-in-Err-put_records-clause-goes
+returns-in-Err-put_records-clause-goes g c =
+    let at = goal.at.returns-in-Err-put_records-clause-goes g c in
+    grind (arith, records_only g at.After-put_records (line_only g at.After-put_line))
 
-pub returns-clause-only : goal.returns-clause-only
-returns-clause-only g c =
-    let at = goal.at.returns-clause-only g c in
-    shows_on g.W.Outside g.met.W.Outside.fewer_later c.args.outside.now c.put_records.new.outside c.put_line-2.new.outside (records_only g at.After-put_records (line_only g at.After-put_line))
-    (shows_line g.W.Outside c.as_slice-2.result.now c.put_records.new.outside c.put_line-2.new.outside (put_of c.put_line-2.result) c.put_line-2.ensures.puts)
+pub returns-clause-goes : goal.returns-clause-goes
+returns-clause-goes g c =
+    let at = goal.at.returns-clause-goes g c in
+    grind (
+      arith,
+      shows_on g.W.Outside g.met.W.Outside.fewer_later c.args.outside.now c.put_records.new.outside c.put_line-2.new.outside (records_only g at.After-put_records (line_only g at.After-put_line))
+          (shows_line g.W.Outside c.as_slice-2.result.now c.put_records.new.outside c.put_line-2.new.outside (put_of c.put_line-2.result) c.put_line-2.ensures.puts),
+    )
 
 pub returns-clause-content : goal.returns-clause-content
 returns-clause-content g c =
@@ -114,8 +117,8 @@ returns-clause-content g c =
     (subst (λ (n : ℕ). All (λ lines. All (HasBytes (line_bytes c.args.durable.now.header.directory.page)) lines) (drop n shown.shows.read.records)) c.requires.behind
     (subst (λ (records : List (List RecordLine)). All (λ lines. All (HasBytes (line_bytes c.args.durable.now.header.directory.page)) lines) (drop c.args.passed records)) still.1.0 (c.in-Ok-put_records.ensures.bytes still.0 still.1.1))))
 
-pub put_records-requires-clause-room : goal.put_records-requires-clause-room
-put_records-requires-clause-room g c = grind arith
+pub put_records-requires-clause-store : goal.put_records-requires-clause-store
+put_records-requires-clause-store g c = grind arith
 
-pub returns-in-Err-clause-only : goal.returns-in-Err-clause-only
-returns-in-Err-clause-only g c = grind arith
+pub returns-in-Err-clause-goes : goal.returns-in-Err-clause-goes
+returns-in-Err-clause-goes g c = grind arith

@@ -1,4 +1,4 @@
-use Rattle.store.proofs.Lemmas.{◌≡◌, ℕ, ◌∷◌, [], List, length, sym, subst, ◌∙◌, ap, arith, IsTrue, Bool, line_count, Which, bank_at, Torn, written, IsSure, Leaves, OnlyAsks, held_of, leaves_on, leaves_same, asks_one, OnlyWrites, place_of, end_of, TracksBank, head_bytes, place_is, held_is, writes_on, asks_only, other, selector_of, IsCovered, IsHomed, IsSame, leaves_step, same_held, written_held, synced_sure, IsHeaded, covered_same, headed_same, headed, selected_same, IsThere, moved, end_within, on_ok_weaker}
+use Rattle.store.proofs.Lemmas.{common_steps, ◌≡◌, ℕ, ◌∷◌, [], List, length, sym, subst, ◌∙◌, ap, arith, IsTrue, Bool, line_count, Which, bank_at, Torn, written, IsSure, Leaves, OnlyAsks, held_of, leaves_on, leaves_same, asks_one, OnlyWrites, place_of, end_of, TracksBank, head_bytes, place_is, held_is, writes_on, asks_only, other, selector_of, IsCovered, IsHomed, IsSame, leaves_step, same_held, written_held, synced_sure, IsHeaded, covered_same, headed_same, headed, selected_same, IsThere, moved, end_within, on_ok_weaker}
 use Rattle.store.specs.Kept.{number_of}
 use Rattle.store.proofs.checkpoint.move_to.Given.{Over}
 use Rattle.store.proofs.checkpoint.move_to.Goals as goal
@@ -28,7 +28,7 @@ wrote : (g : Over) (c : goal.After-write_head g) → OnlyWrites g.W.Outside c.ar
 wrote g c = writes_on g.W.Outside g.met.W.Outside.fewer_later c.args.outside.now c.write_home.new.outside c.write_head.new.outside c.write_home.ensures.only c.write_head.ensures.only
 
 synced : (g : Over) (c : goal.After-sync g) → OnlyAsks g.W.Outside c.write_head.new.outside c.sync.new.self
-synced g c = asks_one g.W.Outside c.write_head.new.outside c.sync.new.self c.sync.ensures.held c.sync.ensures.writes c.sync.ensures.honest c.sync.ensures.time c.sync.ensures.once c.sync.ensures.quiet c.sync.ensures.crash c.sync.ensures.cause.later c.sync.ensures.puts
+synced g c = asks_one g.W.Outside c.write_head.new.outside c.sync.new.self c.sync.ensures.asks c.sync.result c.sync.ensures.counts
 
 three : (g : Over) (c : goal.After-sync g) → OnlyWrites g.W.Outside c.args.outside.now c.write_head.new.outside → OnlyWrites g.W.Outside c.args.outside.now c.sync.new.self
 three g c before = writes_on g.W.Outside g.met.W.Outside.fewer_later c.args.outside.now c.write_head.new.outside c.sync.new.self before (asks_only g.W.Outside c.write_head.new.outside c.sync.new.self (synced g c))
@@ -39,29 +39,34 @@ third : (g : Over) (c : goal.After-sync g) (tracks : TracksBank g.W.Outside c.ar
     → Leaves g.W.Outside (λ image seen. IsSame tracks.header c.args.bank.now tracks.records (held_of g.W.Outside c.args.outside.now) image) c.args.outside.now c.sync.new.self
 third g c tracks before so_far =
     let G = g.W.Outside in
-    leaves_same G g.met.W.Outside.fewer_later c.args.outside.now c.write_head.new.outside c.sync.new.self before.calls.time c.sync.ensures.time
-    (λ (image seen : List ℕ). IsSame tracks.header c.args.bank.now tracks.records (held_of G c.args.outside.now) image) so_far (c.sync.ensures.crash (before.told tracks.sure.told))
+    leaves_same G g.met.W.Outside.fewer_later c.args.outside.now c.write_head.new.outside c.sync.new.self before.calls.time c.sync.ensures.asks.call.time
+    (λ (image seen : List ℕ). IsSame tracks.header c.args.bank.now tracks.records (held_of G c.args.outside.now) image) so_far (c.sync.ensures.asks.crash (before.told tracks.sure.told))
 
-pub write_head-requires-clause-room : goal.write_head-requires-clause-room
-write_head-requires-clause-room g c = c.write_home.ensures.only.longer (end_of c.args.which c.args.bank.now.bank_bytes) (λ held is. omega (arith, c.requires.room held is, end_within c.args.which c.args.bank.now (length c.args.bank.now.newest)))
+pub write_head-requires-clause-bank : goal.write_head-requires-clause-bank
+write_head-requires-clause-bank g c = record {
+  usable = c.requires.bank.usable;
+  room = c.write_home.ensures.only.longer (end_of c.args.which c.args.bank.now.bank_bytes) (λ held is. omega (arith, c.requires.bank.room held is, end_within c.args.which c.args.bank.now (length c.args.bank.now.newest)));
+}
 
-pub returns-in_err-write_home-clause-crash : goal.returns-in_err-write_home-clause-crash
-returns-in_err-write_home-clause-crash g c tracks image seen left =
-    covered_same tracks.header c.args.bank.now tracks.records (held_of g.W.Outside c.args.outside.now) tracks.store tracks.count image (c.write_home.ensures.crash tracks image seen left)
+pub returns-in_err-write_home : goal.returns-in_err-write_home
+returns-in_err-write_home g c = record {
+  only = c.write_home.ensures.only;
+  crash = λ tracks image seen left.
+      covered_same tracks.header c.args.bank.now tracks.records (held_of g.W.Outside c.args.outside.now) tracks.store tracks.count image (c.write_home.ensures.crash tracks image seen left);
+  done = grind (arith, common_steps);
+  cause = grind (arith, common_steps);
+}
 
-pub returns-in_err-write_head-clause-only : goal.returns-in_err-write_head-clause-only
-returns-in_err-write_head-clause-only g c = wrote g (goal.at.returns-in_err-write_head-clause-only g c).After-write_head
+pub returns-in_err-write_head : goal.returns-in_err-write_head
+returns-in_err-write_head g c =
+    let at = (goal.at.returns-in_err-write_head g c).After-write_head in
+    grind (arith, common_steps, wrote g at, second g at)
 
-pub returns-in_err-write_head-clause-crash : goal.returns-in_err-write_head-clause-crash
-returns-in_err-write_head-clause-crash g c tracks = second g (goal.at.returns-in_err-write_head-clause-crash g c).After-write_head tracks
-
-pub returns-in_err-sync-clause-only : goal.returns-in_err-sync-clause-only
-returns-in_err-sync-clause-only g c = let at = goal.at.returns-in_err-sync-clause-only g c in three g at.After-sync (wrote g at.After-write_head)
-
-pub returns-in_err-sync-clause-crash : goal.returns-in_err-sync-clause-crash
-returns-in_err-sync-clause-crash g c tracks =
-    let at = goal.at.returns-in_err-sync-clause-crash g c in
-    third g at.After-sync tracks (wrote g at.After-write_head) (second g at.After-write_head tracks)
+pub returns-in_err-sync : goal.returns-in_err-sync
+returns-in_err-sync g c =
+    let at = goal.at.returns-in_err-sync g c in
+    let before = wrote g at.After-write_head in
+    grind (arith, common_steps, three g at.After-sync before, λ (tracks : TracksBank g.W.Outside c.args.bank.now c.args.outside.now). third g at.After-sync tracks before (second g at.After-write_head tracks))
 
 -- the bytes before the selector are sure, and the other bank begins with its head
 sure : (g : Over) (c : goal.After-write_selector g) (tracks : TracksBank g.W.Outside c.args.bank.now c.args.outside.now) → OnlyAsks g.W.Outside c.write_head.new.outside c.sync.new.self → OnlyWrites g.W.Outside c.args.outside.now c.write_head.new.outside → IsSure g.W.Outside c.sync.new.self

@@ -8,7 +8,7 @@ returns-clause-read g c some =
     let head : c.read_at.new.into ≡ bytes_at held c.args.at 4 = read_is (G.held c.args.outside.now) c.read_at.new.into c.args.at 4 some c.in_ok-read_at.ensures.read in
     let line = line_bytes c.args.page in
     let bytes : c.read_at-2.new.into ≡ bytes_at held (c.args.at + 4) line =
-    read_on (G.held c.args.outside.now) (G.held c.read_at.new.self) c.read_at-2.new.into (c.args.at + 4) line c.read_at.ensures.held some (subst (λ (n : ℕ). IfSome (G.held c.read_at.new.self) (λ bytes. c.read_at-2.new.into ≡ bytes_at bytes (c.args.at + 4) n)) c.requires.whole c.in_ok-read_at-2.ensures.read) in
+    read_on (G.held c.args.outside.now) (G.held c.read_at.new.self) c.read_at-2.new.into (c.args.at + 4) line c.read_at.ensures.asks.held some (subst (λ (n : ℕ). IfSome (G.held c.read_at.new.self) (λ bytes. c.read_at-2.new.into ≡ bytes_at bytes (c.args.at + 4) n)) c.requires.whole c.in_ok-read_at-2.ensures.read) in
     record {
       number = c.read_u32.ensures ∙ ap (λ (these : List ℕ). big_number 4 these) head ∙ big_from-take 0 4 4 (drop c.args.at held) (omega arith);
       bytes_are = bytes ∙ ap (λ (these : List ℕ). take line these) (sym (drop-drop 4 c.args.at held));
@@ -17,11 +17,11 @@ returns-clause-read g c some =
 pub returns-clause-asks : goal.returns-clause-asks
 returns-clause-asks g c =
     asks_on g.W.Outside g.met.W.Outside.fewer_later c.args.outside.now c.read_at.new.self c.read_at-2.new.self
-    (asks_one g.W.Outside c.args.outside.now c.read_at.new.self c.read_at.ensures.held c.read_at.ensures.writes c.read_at.ensures.honest c.read_at.ensures.time c.read_at.ensures.once c.read_at.ensures.quiet c.read_at.ensures.crash c.read_at.ensures.cause.later c.read_at.ensures.puts)
-    (asks_one g.W.Outside c.read_at.new.self c.read_at-2.new.self c.read_at-2.ensures.held c.read_at-2.ensures.writes c.read_at-2.ensures.honest c.read_at-2.ensures.time c.read_at-2.ensures.once c.read_at-2.ensures.quiet c.read_at-2.ensures.crash c.read_at-2.ensures.cause.later c.read_at-2.ensures.puts)
+    (asks_one g.W.Outside c.args.outside.now c.read_at.new.self c.read_at.ensures.asks c.read_at.result c.read_at.ensures.counts)
+    (asks_one g.W.Outside c.read_at.new.self c.read_at-2.new.self c.read_at-2.ensures.asks c.read_at-2.result c.read_at-2.ensures.counts)
 
 pub returns-in_err-read_at-2-clause-asks : goal.returns-in_err-read_at-2-clause-asks
 returns-in_err-read_at-2-clause-asks g c =
     asks_on g.W.Outside g.met.W.Outside.fewer_later c.args.outside.now c.read_at.new.self c.read_at-2.new.self
-    (asks_one g.W.Outside c.args.outside.now c.read_at.new.self c.read_at.ensures.held c.read_at.ensures.writes c.read_at.ensures.honest c.read_at.ensures.time c.read_at.ensures.once c.read_at.ensures.quiet c.read_at.ensures.crash c.read_at.ensures.cause.later c.read_at.ensures.puts)
-    (asks_one g.W.Outside c.read_at.new.self c.read_at-2.new.self c.read_at-2.ensures.held c.read_at-2.ensures.writes c.read_at-2.ensures.honest c.read_at-2.ensures.time c.read_at-2.ensures.once c.read_at-2.ensures.quiet c.read_at-2.ensures.crash c.read_at-2.ensures.cause.later c.read_at-2.ensures.puts)
+    (asks_one g.W.Outside c.args.outside.now c.read_at.new.self c.read_at.ensures.asks c.read_at.result c.read_at.ensures.counts)
+    (asks_one g.W.Outside c.read_at.new.self c.read_at-2.new.self c.read_at-2.ensures.asks c.read_at-2.result c.read_at-2.ensures.counts)

@@ -1,4 +1,6 @@
-use Rattle.store.proofs.Common.{◌≡◌, ℕ, get_or, sym, subst, ◌∙◌, Option, None, Some, OnOk, IsSome, line_bytes_of, Torn, written, bytes_at, LeavesStep, held_of, home_place, copied, TornLine, common_steps, arith, get_or_from_slice_get}
+use Rattle.store.proofs.Common.{home_place, get_or_from_slice_get}
+use Rattle.store.proofs.Lemmas.{◌≡◌, ℕ, get_or, refl, sym, subst, ◌∙◌, arith, Option, None, Some, Result, Ok, Failed, line_bytes_of, wrote_nothing}
+use Rattle.store.specs.Committed.{CopiesLine}
 use Rattle.store.proofs.home.copy_newest.Given.{Over}
 use Rattle.store.proofs.home.copy_newest.Goals as goal
 use Rattle.store.proofs.home.copy_newest.Goals.{In-Some}
@@ -6,20 +8,19 @@ use Rattle.store.proofs.home.copy_newest.Goals.{In-Some}
 place : (g : Over) (c : goal.In-Some g) → get_or c.args.bank.now.newest c.args.line None ≡ Some c.in-Some.place
 place g c = get_or_from_slice_get c.args.bank.now.newest c.args.line c.newest.result None c.newest.ensures.place ∙ c.in-Some.is
 
-pub returns-in-Some-clause-crash : goal.returns-in-Some-clause-crash
-returns-in-Some-clause-crash g c honest told =
-    let G = g.W.Outside in
-    subst (λ (place : Option ℕ). LeavesStep (TornLine (line_bytes_of c.args.bank.now) place (home_place c.args.bank.now c.args.line)) G.moment G.left_since c.args.outside.now c.copy_line.new.outside) (sym (place g (goal.at.returns-in-Some-clause-crash g c).In-Some))
-    (subst (λ (at : ℕ). LeavesStep (Torn at (line_bytes_of c.args.bank.now)) G.moment G.left_since c.args.outside.now c.copy_line.new.outside) c.home_place.ensures
-    (subst (λ (n : ℕ). LeavesStep (Torn c.home_place.result n) G.moment G.left_since c.args.outside.now c.copy_line.new.outside) c.requires.whole (c.copy_line.ensures.crash honest told)))
+abbrev done : Result (Unit {0}) Failed
+done = Ok tt
 
-pub returns-in-Some-clause-done : goal.returns-in-Some-clause-done
-returns-in-Some-clause-done g c =
-    let G = g.W.Outside in
-    let held = held_of G c.args.outside.now in
-    subst (λ (place : Option ℕ). OnOk c.copy_line.result (IsSome (G.held c.args.outside.now) → held_of G c.copy_line.new.outside ≡ copied (line_bytes_of c.args.bank.now) held place (home_place c.args.bank.now c.args.line))) (sym (place g (goal.at.returns-in-Some-clause-done g c).In-Some))
-    (subst (λ (at : ℕ). OnOk c.copy_line.result (IsSome (G.held c.args.outside.now) → held_of G c.copy_line.new.outside ≡ written held at (bytes_at held c.in-Some.place (line_bytes_of c.args.bank.now)))) c.home_place.ensures
-    (subst (λ (n : ℕ). OnOk c.copy_line.result (IsSome (G.held c.args.outside.now) → held_of G c.copy_line.new.outside ≡ written held c.home_place.result (bytes_at held c.in-Some.place n))) c.requires.whole c.copy_line.ensures.done))
+pub returns-in-Some : goal.returns-in-Some
+returns-in-Some g c =
+    let Copies = λ (bytes : ℕ) (from : Option ℕ) (to : ℕ). CopiesLine g.W.Outside bytes from to c.args.outside.now c.copy_line.new.outside c.copy_line.result in
+    let bytes = line_bytes_of c.args.bank.now in
+    subst (λ (from : Option ℕ). Copies bytes from (home_place c.args.bank.now c.args.line)) (sym (place g (goal.at.returns-in-Some g c).In-Some))
+    (subst (λ (to : ℕ). Copies bytes (Some c.in-Some.place) to) c.home_place.ensures
+    (subst (λ (n : ℕ). Copies n (Some c.in-Some.place) c.home_place.result) c.requires.whole c.copy_line.ensures))
 
-pub returns-in-None-clause-only : goal.returns-in-None-clause-only
-returns-in-None-clause-only g c = grind (arith, common_steps)
+pub returns-in-None : goal.returns-in-None
+returns-in-None g c =
+    let now = c.args.outside.now in
+    subst (λ (from : Option ℕ). CopiesLine g.W.Outside (line_bytes_of c.args.bank.now) from (home_place c.args.bank.now c.args.line) now now done) (sym (get_or_from_slice_get c.args.bank.now.newest c.args.line c.newest.result None c.newest.ensures.place ∙ c.in-None.is))
+    (record { only = wrote_nothing g.W.Outside now; crash = λ honest told image seen left. (image, left, refl); done = λ told. refl; cause = record { later = omega arith; failed = tt; done = refl } })

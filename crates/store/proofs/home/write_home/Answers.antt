@@ -1,4 +1,4 @@
-use Rattle.store.proofs.Lemmas.{◌≡◌, ℕ, ◌<◌, List, length, refl, sym, subst, ◌∙◌, arith, IsTrue, Bool, line_count, Leaves, held_of, leaves_held, TracksBank, writes_on, wrote_nothing, store_bytes, IsCovered, IsHomed, leaves_step, homed_start, step_covered, step_homed}
+use Rattle.store.proofs.Lemmas.{common_steps, ◌≡◌, ℕ, ◌<◌, List, length, refl, sym, subst, ◌∙◌, arith, IsTrue, Bool, line_count, Leaves, held_of, leaves_held, TracksBank, writes_on, wrote_nothing, store_bytes, IsCovered, IsHomed, leaves_step, homed_start, step_covered, step_homed}
 use Rattle.store.proofs.home.write_home.Given.{Over}
 use Rattle.store.proofs.home.write_home.Goals as goal
 use Rattle.store.proofs.home.write_home.Goals.{After-copy_newest}
@@ -34,11 +34,10 @@ covered g c tracks =
     (λ from image seen so torn.
     step_covered tracks.header bank.which bank.base bank.gate tracks.records (held_of G start) tracks.store bank c.loop-line.line tracks.page tracks.bank_bytes below _ (sym (tracks.newest c.loop-line.line (omega (arith, tracks.bound, below)))) from image so torn)
 
-pub returns-in_err-copy_newest-clause-only : goal.returns-in_err-copy_newest-clause-only
-returns-in_err-copy_newest-clause-only g c = writes_on g.W.Outside g.met.W.Outside.fewer_later c.args.outside.now c.loop-line.outside c.copy_newest.new.outside c.loop-line.invariant.only c.copy_newest.ensures.only
-
-pub returns-in_err-copy_newest-clause-crash : goal.returns-in_err-copy_newest-clause-crash
-returns-in_err-copy_newest-clause-crash g c tracks = covered g (goal.at.returns-in_err-copy_newest-clause-crash g c).After-copy_newest tracks
+pub returns-in_err-copy_newest : goal.returns-in_err-copy_newest
+returns-in_err-copy_newest g c =
+    let at = (goal.at.returns-in_err-copy_newest g c).After-copy_newest in
+    grind (arith, common_steps, covered g at, writes_on g.W.Outside g.met.W.Outside.fewer_later c.args.outside.now c.loop-line.outside c.copy_newest.new.outside c.loop-line.invariant.only c.copy_newest.ensures.only)
 
 pub loop-line-preserved : goal.loop-line-preserved
 loop-line-preserved g c =
@@ -56,8 +55,13 @@ loop-line-preserved g c =
           (held_of G c.loop-line.outside) (held_of G c.copy_newest.new.outside) (c.loop-line.invariant.homed tracks) (c.in_ok-copy_newest.ensures.done (before.told tracks.sure.told));
     }
 
-pub returns-clause-done : goal.returns-clause-done
-returns-clause-done g c tracks =
+pub returns : goal.returns
+returns g c =
     let G = g.W.Outside in
     let all : c.loop-line.line ≡ length c.args.bank.now.newest = omega (arith, c.loop-line-test.false, c.loop-line.auto.line-end, c.lines-line-end.ensures) in
-    subst (λ (n : ℕ). IsHomed tracks.header tracks.records (held_of G c.args.outside.now) n (held_of G c.loop-line.outside)) all (c.loop-line.invariant.homed tracks)
+    record {
+      only = c.loop-line.invariant.only;
+      crash = c.loop-line.invariant.crash;
+      done = λ tracks. subst (λ (n : ℕ). IsHomed tracks.header tracks.records (held_of G c.args.outside.now) n (held_of G c.loop-line.outside)) all (c.loop-line.invariant.homed tracks);
+      cause = grind (arith, common_steps);
+    }

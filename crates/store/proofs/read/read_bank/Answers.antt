@@ -42,8 +42,8 @@ read_at-requires g c = reads_within (g.W.Outside.held c.args.outside.now) (c.arg
 
 pub loop-count-init : goal.loop-count-init
 loop-count-init g c = record {
-  asks = asks_one g.W.Outside c.args.outside.now c.read_at.new.self c.read_at.ensures.held c.read_at.ensures.writes c.read_at.ensures.honest c.read_at.ensures.time c.read_at.ensures.once c.read_at.ensures.quiet c.read_at.ensures.crash c.read_at.ensures.cause.later c.read_at.ensures.puts;
-  no_fault = c.in_ok-read_at.ensures.cause.done;
+  asks = asks_one g.W.Outside c.args.outside.now c.read_at.new.self c.read_at.ensures.asks c.read_at.result c.read_at.ensures.counts;
+  no_fault = c.in_ok-read_at.ensures.counts.cause.done;
   len = refl;
   placed = λ are. are;
   far = omega arith;

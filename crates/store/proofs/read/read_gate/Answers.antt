@@ -12,7 +12,7 @@ gate_is : (g : Over) (c : goal.After-read_lines g) → IsSome (g.W.Outside.held 
     ≡ lined_gate (wrong_line (length c.args.newest.now) 0 (lines g c)) (lines g c) (c.args.gate + 11 + entry_bytes c.args.page * c.read_u16-count.result)
 unfolding lines
 gate_is g c some =
-    let head = read_on (g.W.Outside.held c.args.outside.now) (g.W.Outside.held c.read_at.new.self) c.read_at-2.new.into (c.args.gate + 1) 10 c.read_at.ensures.held some c.in_ok-read_at-2.ensures.read in
+    let head = read_on (g.W.Outside.held c.args.outside.now) (g.W.Outside.held c.read_at.new.self) c.read_at-2.new.into (c.args.gate + 1) 10 c.read_at.ensures.asks.held some c.in_ok-read_at-2.ensures.read in
     gate_read c.args.page (held_of g.W.Outside c.args.outside.now) c.read_at-2.new.into (length c.args.newest.now) c.args.end c.args.due c.args.gate c.read_u16-count.result c.read_u64.result head c.read_u16-count.ensures c.read_u64.ensures c.if-read_u64-due.false
     (first_read (held_of g.W.Outside c.args.outside.now) c.read_at.new.into c.args.gate (read_is (g.W.Outside.held c.args.outside.now) c.read_at.new.into c.args.gate 1 some c.in_ok-read_at.ensures.read) c.if-first.false)
     (omega (arith, c.if-end-next.false, c.from.ensures, c.entries_bytes.ensures.value))
@@ -20,17 +20,17 @@ gate_is g c some =
 -- the bytes held by then are those at the start
 same : (g : Over) (c : goal.After-read_lines g) → lines_from c.args.page c.read_u16-count.result (c.args.gate + 11) (drop (c.args.gate + 11) (held_of g.W.Outside c.read_at-2.new.self)) ≡ lines g c
 unfolding lines
-same g c = ap (λ (those : Option (List ℕ)). lines_from c.args.page c.read_u16-count.result (c.args.gate + 11) (drop (c.args.gate + 11) (unwrap_or those []))) (c.read_at-2.ensures.held ∙ c.read_at.ensures.held)
+same g c = ap (λ (those : Option (List ℕ)). lines_from c.args.page c.read_u16-count.result (c.args.gate + 11) (drop (c.args.gate + 11) (unwrap_or those []))) (c.read_at-2.ensures.asks.held ∙ c.read_at.ensures.asks.held)
 
 still : (g : Over) (c : goal.After-read_lines g) → IsSome (g.W.Outside.held c.args.outside.now) → IsSome (g.W.Outside.held c.read_at-2.new.self)
-still g c some = subst (λ (those : Option (List ℕ)). IsSome those) (sym (c.read_at-2.ensures.held ∙ c.read_at.ensures.held)) some
+still g c some = subst (λ (those : Option (List ℕ)). IsSome those) (sym (c.read_at-2.ensures.asks.held ∙ c.read_at.ensures.asks.held)) some
 
 -- the two reads in front
 asked : (g : Over) (c : goal.After-read_at-2 g) → OnlyAsks g.W.Outside c.args.outside.now c.read_at-2.new.self
 asked g c =
     asks_on g.W.Outside g.met.W.Outside.fewer_later c.args.outside.now c.read_at.new.self c.read_at-2.new.self
-    (asks_one g.W.Outside c.args.outside.now c.read_at.new.self c.read_at.ensures.held c.read_at.ensures.writes c.read_at.ensures.honest c.read_at.ensures.time c.read_at.ensures.once c.read_at.ensures.quiet c.read_at.ensures.crash c.read_at.ensures.cause.later c.read_at.ensures.puts)
-    (asks_one g.W.Outside c.read_at.new.self c.read_at-2.new.self c.read_at-2.ensures.held c.read_at-2.ensures.writes c.read_at-2.ensures.honest c.read_at-2.ensures.time c.read_at-2.ensures.once c.read_at-2.ensures.quiet c.read_at-2.ensures.crash c.read_at-2.ensures.cause.later c.read_at-2.ensures.puts)
+    (asks_one g.W.Outside c.args.outside.now c.read_at.new.self c.read_at.ensures.asks c.read_at.result c.read_at.ensures.counts)
+    (asks_one g.W.Outside c.read_at.new.self c.read_at-2.new.self c.read_at-2.ensures.asks c.read_at-2.result c.read_at-2.ensures.counts)
 
 pub returns-in_err-offset-clause-asks : goal.returns-in_err-offset-clause-asks
 returns-in_err-offset-clause-asks g c = asks_on g.W.Outside g.met.W.Outside.fewer_later c.args.outside.now c.read_at-2.new.self c.read_lines.new.outside (asked g (goal.at.returns-in_err-offset-clause-asks g c).After-read_at-2) c.in_err-offset.ensures.asks
@@ -63,7 +63,7 @@ returns-then-read_u64-due-clause-asks g c = asked g (goal.at.returns-then-read_u
 
 pub returns-then-read_u64-due-clause-found : goal.returns-then-read_u64-due-clause-found
 returns-then-read_u64-due-clause-found g c some =
-    let head = read_on (g.W.Outside.held c.args.outside.now) (g.W.Outside.held c.read_at.new.self) c.read_at-2.new.into (c.args.gate + 1) 10 c.read_at.ensures.held some c.in_ok-read_at-2.ensures.read in
+    let head = read_on (g.W.Outside.held c.args.outside.now) (g.W.Outside.held c.read_at.new.self) c.read_at-2.new.into (c.args.gate + 1) 10 c.read_at.ensures.asks.held some c.in_ok-read_at-2.ensures.read in
     gate_misnumbered c.args.page (held_of g.W.Outside c.args.outside.now) c.read_at-2.new.into (length c.args.newest.now) c.args.end c.args.due c.args.gate c.read_u16-count.result c.read_u64.result head c.read_u16-count.ensures c.read_u64.ensures c.if-read_u64-due.true
     (first_read (held_of g.W.Outside c.args.outside.now) c.read_at.new.into c.args.gate (read_is (g.W.Outside.held c.args.outside.now) c.read_at.new.into c.args.gate 1 some c.in_ok-read_at.ensures.read) c.if-first.false)
     (omega (arith, c.if-end-next.false, c.from.ensures, c.entries_bytes.ensures.value))

@@ -10,7 +10,7 @@ read g c some = grind (arith, nat_tests, read_is, c.loop-i.invariant.asks.held, 
 -- the reads so far and this one
 asked : (g : Over) (c : goal.After-read_u32-line g) → OnlyAsks g.W.Outside c.args.outside.now c.read_at.new.self
 asked g c =
-    asks_on g.W.Outside g.met.W.Outside.fewer_later c.args.outside.now c.loop-i.outside c.read_at.new.self c.loop-i.invariant.asks (asks_one g.W.Outside c.loop-i.outside c.read_at.new.self c.read_at.ensures.held c.read_at.ensures.writes c.read_at.ensures.honest c.read_at.ensures.time c.read_at.ensures.once c.read_at.ensures.quiet c.read_at.ensures.crash c.read_at.ensures.cause.later c.read_at.ensures.puts)
+    asks_on g.W.Outside g.met.W.Outside.fewer_later c.args.outside.now c.loop-i.outside c.read_at.new.self c.loop-i.invariant.asks (asks_one g.W.Outside c.loop-i.outside c.read_at.new.self c.read_at.ensures.asks c.read_at.result c.read_at.ensures.counts)
 
 pub returns-then-from-least-clause-asks : goal.returns-then-from-least-clause-asks
 returns-then-from-least-clause-asks g c = asked g (goal.at.returns-then-from-least-clause-asks g c).After-read_u32-line
@@ -28,7 +28,7 @@ loop-i-preserved g c =
     let place : c.args.at + c.from.result + 4 ≡ c.args.at + entry_bytes c.args.page * c.loop-i.i + 4 = omega (arith, c.from.ensures, c.entries_bytes.ensures.value) in
     record {
       asks = asked g at;
-      no_fault = c.in_ok-read_at.ensures.cause.done ∙ c.loop-i.invariant.no_fault;
+      no_fault = c.in_ok-read_at.ensures.counts.cause.done ∙ c.loop-i.invariant.no_fault;
       placed = λ end few are.
           subst (λ (these : List (Option ℕ)). AreWithin c.args.page end these) (sym c.write.ensures.value)
           (within-overlaid c.args.page end line (c.args.at + c.from.result + 4) c.loop-i.newest (omega (arith, few, c.from.ensures, c.entries_bytes.ensures.value, entries-below c.args.page c.loop-i.i c.args.count c.loop-i-test.true)) (c.loop-i.invariant.placed end few are));
@@ -49,4 +49,4 @@ read_at-requires g c = grind (arith, nat_tests, reads_within, entries-below, g.W
 
 pub returns-in_err-read_at-clause-asks : goal.returns-in_err-read_at-clause-asks
 returns-in_err-read_at-clause-asks g c =
-    asks_on g.W.Outside g.met.W.Outside.fewer_later c.args.outside.now c.loop-i.outside c.read_at.new.self c.loop-i.invariant.asks (asks_one g.W.Outside c.loop-i.outside c.read_at.new.self c.read_at.ensures.held c.read_at.ensures.writes c.read_at.ensures.honest c.read_at.ensures.time c.read_at.ensures.once c.read_at.ensures.quiet c.read_at.ensures.crash c.read_at.ensures.cause.later c.read_at.ensures.puts)
+    asks_on g.W.Outside g.met.W.Outside.fewer_later c.args.outside.now c.loop-i.outside c.read_at.new.self c.loop-i.invariant.asks (asks_one g.W.Outside c.loop-i.outside c.read_at.new.self c.read_at.ensures.asks c.read_at.result c.read_at.ensures.counts)

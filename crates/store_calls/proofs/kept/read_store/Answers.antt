@@ -28,9 +28,9 @@ returns g c = λ told.
     let G = g.W.Outside in
     let store = c.in_ok-durable.durable in
     let old : List ℕ = held_of G c.args.outside.now in
-    let held = c.in_ok-durable.ensures.asks.held in
+    let held = c.in_ok-durable.ensures.asks.asks.held in
     let same : held_of G c.open.new.outside ≡ old = ap (λ (held : Option (List ℕ)). unwrap_or held []) held in
-    let shows = c.in_ok-durable.ensures.shows told in
+    let shows = c.in_ok-durable.ensures.opened.shows told in
     let header : c.header.result.now ≡ store.header = c.header.ensures in
     let directory : c.directory.result.now ≡ store.header.directory = c.directory.ensures.value ∙ ap (λ (those : Header). those.directory) header in
     keeps_all old store shows

@@ -4,23 +4,23 @@ use Rattle.store_calls.proofs.show.show_range.Goals as goal
 
 pub returns-in-Err-clause-shown : goal.returns-in-Err-clause-shown
 returns-in-Err-clause-shown g c =
-    not_shown g.W.Outside g.met.W.Outside.fewer_later g.met.W.Outside.printed_now c.args.range c.args.outside.now c.open.new.outside c.in-Err.ensures.asks c.in-Err.fault c.from.result c.from.ensures c.in-Err.ensures.fault c.in-Err.ensures.calm
+    not_shown g.W.Outside g.met.W.Outside.fewer_later g.met.W.Outside.printed_now c.args.range c.args.outside.now c.open.new.outside c.in-Err.ensures.asks.asks c.in-Err.fault c.from.result c.from.ensures c.in-Err.ensures.asks.fault c.in-Err.ensures.asks.calm
 
 pub returns-in-Ok-put_range-clause-shown : goal.returns-in-Ok-put_range-clause-shown
 returns-in-Ok-put_range-clause-shown g c =
-    shown_whole g.W.Outside g.met.W.Outside.fewer_later g.met.W.Outside.printed_now c.args.range c.args.outside.now c.open.new.outside c.in-Ok.ensures.asks c.in-Ok.store c.in-Ok.ensures.shows c.in-Ok.ensures.tracks c.in-Ok.ensures.no_fault c.in-Some.at
+    shown_whole g.W.Outside g.met.W.Outside.fewer_later g.met.W.Outside.printed_now c.args.range c.args.outside.now c.open.new.outside c.in-Ok.ensures.asks.asks c.in-Ok.store c.in-Ok.ensures.opened.shows c.in-Ok.ensures.opened.tracks c.in-Ok.ensures.asks.no_fault c.in-Some.at
     (subst (λ (header : Header). IsInside header.directory c.args.range) c.header.ensures c.in-Some.ensures.0)
     (c.in-Some.ensures.1 ∙ ap (λ (header : Header). start_of header.directory c.args.range.segment + c.args.range.from) c.header.ensures)
     c.put_range.new.outside c.in-Ok-put_range.ensures.puts
 
 pub returns-in-Some-clause-shown : goal.returns-in-Some-clause-shown
 returns-in-Some-clause-shown g c =
-    shown_part g.W.Outside g.met.W.Outside.fewer_later g.met.W.Outside.printed_now c.args.range c.args.outside.now c.open.new.outside c.in-Ok.ensures.asks c.in-Ok.store c.in-Ok.ensures.shows c.in-Ok.ensures.tracks c.in-Ok.ensures.no_fault c.in-Some.at
+    shown_part g.W.Outside g.met.W.Outside.fewer_later g.met.W.Outside.printed_now c.args.range c.args.outside.now c.open.new.outside c.in-Ok.ensures.asks.asks c.in-Ok.store c.in-Ok.ensures.opened.shows c.in-Ok.ensures.opened.tracks c.in-Ok.ensures.asks.no_fault c.in-Some.at
     (subst (λ (header : Header). IsInside header.directory c.args.range) c.header.ensures c.in-Some.ensures.0)
     (c.in-Some.ensures.1 ∙ ap (λ (header : Header). start_of header.directory c.args.range.segment + c.args.range.from) c.header.ensures)
     c.put_range.new.outside c.in-Err-put_range.status c.in-Err-put_range.ensures.puts
 
 pub returns-clause-shown : goal.returns-clause-shown
 returns-clause-shown g c =
-    no_range g.W.Outside g.met.W.Outside.fewer_later g.met.W.Outside.printed_now c.args.range c.args.outside.now c.open.new.outside c.in-Ok.ensures.asks c.in-Ok.store c.in-Ok.ensures.shows c.in-Ok.ensures.tracks c.in-Ok.ensures.no_fault
+    no_range g.W.Outside g.met.W.Outside.fewer_later g.met.W.Outside.printed_now c.args.range c.args.outside.now c.open.new.outside c.in-Ok.ensures.asks.asks c.in-Ok.store c.in-Ok.ensures.opened.shows c.in-Ok.ensures.opened.tracks c.in-Ok.ensures.asks.no_fault
     (λ inside. c.in-None.ensures (subst (λ (header : Header). IsInside header.directory c.args.range) (sym c.header.ensures) inside))

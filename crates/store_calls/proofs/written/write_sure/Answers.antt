@@ -8,7 +8,7 @@ returns-clause-crash g c = λ honest told.
     let mid = c.write_at.new.self in
     let at = c.args.at in
     let count = length c.args.bytes.now in
-    leaves_same G g.met.W.Outside.fewer_later old mid c.sync.new.self c.write_at.ensures.time c.sync.ensures.time
+    leaves_same G g.met.W.Outside.fewer_later old mid c.sync.new.self c.write_at.ensures.call.time c.sync.ensures.asks.call.time
     (λ (image seen : List ℕ). (start : List ℕ) × (begun : List ℕ) × G.left_since old (G.moment old) start begun × Torn at count start image)
     (λ image seen left. let from = c.write_at.ensures.crash honest told image seen left in (from.0, seen, from.1, from.2))
-    (c.sync.ensures.crash (still_told (G.held old) (G.held mid) _ _ c.write_at.result told c.write_at.ensures.written))
+    (c.sync.ensures.asks.crash (still_told (G.held old) (G.held mid) _ _ c.write_at.result told c.write_at.ensures.written))

@@ -1,4 +1,4 @@
-use Rattle.store_format.proofs.Lemmas.{◌≡◌, ℕ, ◌∙◌, sym, ap, length, List, take, Option, None, Some, IsSome, held_of, fields, first_fault, header_of, padded_fault, padded_header, faulty_header, faulty_length, arith, nat_tests}
+use Rattle.store_format.proofs.Lemmas.{common_steps, ◌≡◌, ℕ, ◌∙◌, sym, ap, length, List, take, Option, None, Some, IsSome, held_of, fields, first_fault, header_of, padded_fault, padded_header, faulty_header, faulty_length, arith, nat_tests}
 use Rattle.store_format.proofs.read.read_header.Given.{Over}
 use Rattle.store_format.proofs.read.read_header.Goals as goal
 use Rattle.store_format.proofs.read.read_header.Goals.{After-header_fault, After-total-total}
@@ -20,19 +20,29 @@ said : (g : Over) (c : goal.After-total-total g) → IsSome (g.W.Outside.held c.
 said g c told =
     sym (padded_header (held_of g.W.Outside c.args.outside.now)) ∙ ap (λ (head : List ℕ). header_of head) (sym (c.in-Ok.ensures.head told)) ∙ c.header_in-header.ensures
 
-pub returns-in-Some-clause-fault : goal.returns-in-Some-clause-fault
-returns-in-Some-clause-fault g c told =
-    faulty_header (held_of g.W.Outside c.args.outside.now) c.in-Some.offset (found g (goal.at.returns-in-Some-clause-fault g c).After-header_fault told ∙ c.in-Some.is)
+pub returns-in-Some-clause-asks : goal.returns-in-Some-clause-asks
+returns-in-Some-clause-asks g c = record {
+  asks = c.read_head.ensures.asks;
+  no_fault = grind (arith, common_steps);
+  fault = λ told.
+      faulty_header (held_of g.W.Outside c.args.outside.now) c.in-Some.offset (found g (goal.at.returns-in-Some-clause-asks g c).After-header_fault told ∙ c.in-Some.is);
+  calm = grind (arith, common_steps);
+}
 
 pub header_in-header-requires : goal.header_in-header-requires
 header_in-header-requires g c = (c.in-Ok.read.0, sym c.header_fault.ensures ∙ none_is c.header_fault.result c.in_default.not-Some)
 
-pub returns-else-length-total-clause-fault : goal.returns-else-length-total-clause-fault
-returns-else-length-total-clause-fault g c told =
-    let at = goal.at.returns-else-length-total-clause-fault g c in
-    let held = held_of g.W.Outside c.args.outside.now in
-    let bytes = c.in-Ok.ensures.number told in
-    cc (faulty_length held c.header_in-header.result (found g at.After-header_fault told ∙ none_is c.header_fault.result c.in_default.not-Some) (said g at.After-total-total told) (λ same. c.if-length-total.false (bytes ∙ same ∙ sym c.total-total.ensures.value)), bytes, c.total-total.ensures.value, c.min.ensures)
+pub returns-else-length-total-clause-asks : goal.returns-else-length-total-clause-asks
+returns-else-length-total-clause-asks g c = record {
+  asks = c.read_head.ensures.asks;
+  no_fault = grind (arith, common_steps);
+  fault = λ told.
+      let at = goal.at.returns-else-length-total-clause-asks g c in
+      let held = held_of g.W.Outside c.args.outside.now in
+      let bytes = c.in-Ok.ensures.number told in
+      cc (faulty_length held c.header_in-header.result (found g at.After-header_fault told ∙ none_is c.header_fault.result c.in_default.not-Some) (said g at.After-total-total told) (λ same. c.if-length-total.false (bytes ∙ same ∙ sym c.total-total.ensures.value)), bytes, c.total-total.ensures.value, c.min.ensures);
+  calm = grind (arith, common_steps);
+}
 
 pub returns-then-length-total-clause-header : goal.returns-then-length-total-clause-header
 returns-then-length-total-clause-header g c told =

@@ -6,6 +6,3 @@ returns-then-fails-clause-durable c = grind arith
 
 pub returns-then-fails-clause-pending : goal.returns-then-fails-clause-pending
 returns-then-fails-clause-pending c = grind arith
-
-pub returns-then-fails-clause-starved : goal.returns-then-fails-clause-starved
-returns-then-fails-clause-starved c = grind arith

@@ -1,5 +1,6 @@
 use Rattle.real_files.proofs.Common.{inl, inr, refl, arith, Synced, Unsynced}
-use Rattle.real_files.proofs.DeedSteps.{still_replayed, counted, still_unfailed, still_stops, sync_adds, synced_leaves}
+use Rattle.std.proofs.lemmas.Grind.{common_steps}
+use Rattle.real_files.proofs.DeedSteps.{still_replayed, counted, still_unfailed, still_stops, passes, sync_adds, synced_leaves}
 use Rattle.real_files.proofs.kept_disk.KeptDiskDisk.sync.Goals as goal
 
 pub invariant_of-self-in-Ok : goal.invariant_of-self-in-Ok
@@ -30,14 +31,14 @@ returns-in-Ok-clause-durable g c honest =
     let file = g.F.RawFile in
     synced_leaves (file.first disk.file) disk.held.items (file.deeds disk.file) disk.replayed (file.first c.sync.new.self) (file.deeds c.sync.new.self) Synced c.in-Ok.ensures.first c.in-Ok.ensures.done refl
 
-pub returns-in-Ok-clause-crash : goal.returns-in-Ok-clause-crash
-returns-in-Ok-clause-crash g c told =
+pub returns-in-Ok-clause-asks : goal.returns-in-Ok-clause-asks
+returns-in-Ok-clause-asks g c =
     let disk = c.args.self.now in
     let file = g.F.RawFile in
-    sync_adds (file.first disk.file) disk.held.items (file.deeds disk.file) disk.replayed (file.first c.sync.new.self) (file.deeds c.sync.new.self) Synced c.in-Ok.ensures.first c.in-Ok.ensures.done (inl refl)
+    grind (arith, common_steps, passes (file.first disk.file) disk.held.items (file.deeds disk.file) disk.replayed (file.first c.sync.new.self) (file.deeds c.sync.new.self) Synced c.in-Ok.ensures.first c.in-Ok.ensures.done, counted (file.first disk.file) disk.held.items (file.deeds disk.file) disk.replayed (file.first c.sync.new.self) (file.deeds c.sync.new.self) Synced c.in-Ok.ensures.first c.in-Ok.ensures.done, sync_adds (file.first disk.file) disk.held.items (file.deeds disk.file) disk.replayed (file.first c.sync.new.self) (file.deeds c.sync.new.self) Synced c.in-Ok.ensures.first c.in-Ok.ensures.done (inl refl))
 
-pub returns-in-Err-clause-crash : goal.returns-in-Err-clause-crash
-returns-in-Err-clause-crash g c told =
+pub returns-in-Err-clause-asks : goal.returns-in-Err-clause-asks
+returns-in-Err-clause-asks g c =
     let disk = c.args.self.now in
     let file = g.F.RawFile in
-    sync_adds (file.first disk.file) disk.held.items (file.deeds disk.file) disk.replayed (file.first c.sync.new.self) (file.deeds c.sync.new.self) Unsynced c.in-Err.ensures.first c.in-Err.ensures.failed (inr refl)
+    grind (arith, common_steps, passes (file.first disk.file) disk.held.items (file.deeds disk.file) disk.replayed (file.first c.sync.new.self) (file.deeds c.sync.new.self) Unsynced c.in-Err.ensures.first c.in-Err.ensures.failed, counted (file.first disk.file) disk.held.items (file.deeds disk.file) disk.replayed (file.first c.sync.new.self) (file.deeds c.sync.new.self) Unsynced c.in-Err.ensures.first c.in-Err.ensures.failed, sync_adds (file.first disk.file) disk.held.items (file.deeds disk.file) disk.replayed (file.first c.sync.new.self) (file.deeds c.sync.new.self) Unsynced c.in-Err.ensures.first c.in-Err.ensures.failed (inr refl))

@@ -1,8 +1,8 @@
-use Rattle.store.proofs.Lemmas.{◌≡◌, ℕ, ◌+◌, List, [], length, refl, sym, subst, ◌∙◌, ap, arith, replicate, length-replicate, get_or-replicate, Which, Header, header_of, area_at, IsStore, Leaves, held_of, leaves_held, KeptBank, TracksBank, HoldsRecords, turned, place_is, other, IsSame, IsMoved, Option, None, take, held_since}
+use Rattle.store.proofs.Lemmas.{common_steps, IsCheckpointed, ◌≡◌, ℕ, ◌+◌, List, [], length, refl, sym, subst, ◌∙◌, ap, arith, replicate, length-replicate, get_or-replicate, Which, Header, header_of, area_at, IsStore, Leaves, held_of, leaves_held, KeptBank, TracksBank, HoldsRecords, turned, place_is, other, IsSame, IsMoved, Option, None, take, held_since}
 use Rattle.store.specs.Kept.{number_of}
 use Rattle.store.proofs.checkpoint.Banks.checkpoint.Given.{Over}
 use Rattle.store.proofs.checkpoint.Banks.checkpoint.Goals as goal
-use Rattle.store.proofs.checkpoint.Banks.checkpoint.Goals.{After-move_to}
+use Rattle.store.proofs.checkpoint.Banks.checkpoint.Goals.{After-move_to, After-turn_to}
 
 -- the images since the start
 crash : (g : Over) (c : goal.After-move_to g) (tracks : TracksBank g.W.Outside c.args.self.now c.args.outside.now)
@@ -17,20 +17,12 @@ held g c tracks =
     held_since G g.met.W.Outside.fewer_later g.met.W.Outside.held_now c.args.outside.now c.move_to.new.outside c.move_to.ensures.only tracks.sure.told
     (IsSame tracks.header c.args.self.now tracks.records (held_of G c.args.outside.now)) (crash g c tracks)
 
-pub returns-in-Err-clause-crash : goal.returns-in-Err-clause-crash
-returns-in-Err-clause-crash g c tracks = crash g (goal.at.returns-in-Err-clause-crash g c).After-move_to tracks
+pub returns-in-Err : goal.returns-in-Err
+returns-in-Err g c = let at = (goal.at.returns-in-Err g c).After-move_to in grind (arith, common_steps, crash g at, held g at)
 
-pub returns-in-Err-clause-held : goal.returns-in-Err-clause-held
-returns-in-Err-clause-held g c tracks = held g (goal.at.returns-in-Err-clause-held g c).After-move_to tracks
-
-pub returns-in-Ok-clause-crash : goal.returns-in-Ok-clause-crash
-returns-in-Ok-clause-crash g c tracks = crash g (goal.at.returns-in-Ok-clause-crash g c).After-move_to tracks
-
-pub returns-in-Ok-clause-held : goal.returns-in-Ok-clause-held
-returns-in-Ok-clause-held g c tracks = held g (goal.at.returns-in-Ok-clause-held g c).After-move_to tracks
-
-pub returns-in-Ok-clause-done : goal.returns-in-Ok-clause-done
-returns-in-Ok-clause-done g c tracks =
+-- the bank that was turned to is tracked
+made : (g : Over) (c : goal.After-turn_to g) (tracks : TracksBank g.W.Outside c.args.self.now c.args.outside.now) → IsCheckpointed g.W.Outside c.args.self.now c.turn_to.new.self c.args.outside.now c.move_to.new.outside
+made g c tracks =
     let G = g.W.Outside in
     let bank = c.args.self.now in
     let away = other bank.which in
@@ -61,3 +53,6 @@ returns-in-Ok-clause-done g c tracks =
           subst (λ (those : List ℕ). HoldsRecords (header_of (take 128 (held_of G c.args.outside.now))) away (number_of bank) [] those) (sym (leaves_held G c.move_to.new.outside moved.sure image seen left))
           (subst (λ (those : Header). HoldsRecords those away (number_of bank) [] new) (sym said) there);
     }
+
+pub returns-in-Ok : goal.returns-in-Ok
+returns-in-Ok g c = let at = goal.at.returns-in-Ok g c in grind (arith, common_steps, crash g at.After-move_to, held g at.After-move_to, made g at.After-turn_to)

@@ -84,6 +84,3 @@ returns-in-Ok g c =
             header = added.header ∙ made.header;
           };
     }
-
-pub append-requires-clause-room : goal.append-requires-clause-room
-append-requires-clause-room g c = grind arith

@@ -25,17 +25,17 @@ returns-in-Ok-Holds-clause-read g c told =
           c.read_bank.ensures.len;
     }
 
-pub returns-in-Err-clause-shape : goal.returns-in-Err-clause-shape
-returns-in-Err-clause-shape g c = grind (arith, common_steps)
+pub returns-in-Err-clause-kept : goal.returns-in-Err-clause-kept
+returns-in-Err-clause-kept g c = grind (arith, common_steps)
 
 pub invariant_of-self : goal.invariant_of-self
 invariant_of-self g c = grind (arith, common_steps)
 
-pub returns-in-Ok-Faulty-clause-shape : goal.returns-in-Ok-Faulty-clause-shape
-returns-in-Ok-Faulty-clause-shape g c = grind (arith, common_steps)
+pub returns-in-Ok-Faulty-clause-kept : goal.returns-in-Ok-Faulty-clause-kept
+returns-in-Ok-Faulty-clause-kept g c = grind (arith, common_steps)
 
-pub returns-in-Ok-Holds-clause-shape : goal.returns-in-Ok-Holds-clause-shape
-returns-in-Ok-Holds-clause-shape g c = grind (arith, common_steps)
+pub returns-in-Ok-Holds-clause-kept : goal.returns-in-Ok-Holds-clause-kept
+returns-in-Ok-Holds-clause-kept g c = grind (arith, common_steps)
 
 pub invariant_of-self-in-Ok-Holds : goal.invariant_of-self-in-Ok-Holds
 invariant_of-self-in-Ok-Holds g c = grind (arith, elements)
@@ -43,5 +43,5 @@ invariant_of-self-in-Ok-Holds g c = grind (arith, elements)
 pub invariant_of-self-in-Ok-Faulty : goal.invariant_of-self-in-Ok-Faulty
 invariant_of-self-in-Ok-Faulty g c = grind (arith, elements)
 
-pub returns-in-Ok-Faulty-clause-fault : goal.returns-in-Ok-Faulty-clause-fault
-returns-in-Ok-Faulty-clause-fault g c = grind (arith, elements)
+pub returns-in-Ok-Faulty-clause-asks : goal.returns-in-Ok-Faulty-clause-asks
+returns-in-Ok-Faulty-clause-asks g c = grind (arith, elements)

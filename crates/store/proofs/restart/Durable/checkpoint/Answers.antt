@@ -3,9 +3,12 @@ use Rattle.store.specs.Kept.{KeptBank, number_of}
 use Rattle.store.specs.Tracks as journal
 use Rattle.store.proofs.restart.Durable.checkpoint.Goals as goal
 
-pub checkpoint-requires-clause-room : goal.checkpoint-requires-clause-room
-checkpoint-requires-clause-room g c held is =
-    omega (arith, c.requires.room held is, total_is c.self.inside.header c.self.inside.banks c.self.invariant, ap (λ (store : KeptStore). total store.header) c.self.view_is)
+pub checkpoint-requires : goal.checkpoint-requires
+checkpoint-requires g c = record {
+  usable = grind (arith, common_steps);
+  room = λ held is.
+      omega (arith, c.requires.room held is, total_is c.self.inside.header c.self.inside.banks c.self.invariant, ap (λ (store : KeptStore). total store.header) c.self.view_is);
+}
 
 pub returns : goal.returns
 returns g c =

@@ -1,9 +1,13 @@
-use Rattle.store.proofs.Lemmas.{◌≡◌, ap, subst, sym, ◌∙◌, arith, total, held_of, KeptBank, KeptStore, roomy, Commits, IsKeptAfter, bank_tracked, store_tracked, total_is, committed_intact, usable_kept, number_kept, count_kept, Kept}
+use Rattle.store.proofs.Lemmas.{common_steps, ◌≡◌, ap, subst, sym, ◌∙◌, arith, total, held_of, KeptBank, KeptStore, roomy, Commits, IsKeptAfter, bank_tracked, store_tracked, total_is, committed_intact, usable_kept, number_kept, count_kept, Kept}
 use Rattle.store.proofs.restart.Durable.commit.Goals as goal
 
-pub commit-requires-clause-room : goal.commit-requires-clause-room
-commit-requires-clause-room g c held is =
-    omega (arith, c.requires.room held is, total_is c.self.inside.header c.self.inside.banks c.self.invariant, ap (λ (store : KeptStore). total store.header) c.self.view_is)
+pub commit-requires : goal.commit-requires
+commit-requires g c = record {
+  begun = grind (arith, common_steps);
+  usable = grind (arith, common_steps);
+  room = λ held is.
+      omega (arith, c.requires.room held is, total_is c.self.inside.header c.self.inside.banks c.self.invariant, ap (λ (store : KeptStore). total store.header) c.self.view_is);
+}
 
 pub returns : goal.returns
 returns g c =

@@ -7,8 +7,8 @@ loop-i-init g c =
     let held = held_of G c.args.outside.now in
     let header = c.self.inside.header in
     record {
-      asks = asks_one g.W.Outside c.args.outside.now c.read_at.new.self c.read_at.ensures.held c.read_at.ensures.writes c.read_at.ensures.honest c.read_at.ensures.time c.read_at.ensures.once c.read_at.ensures.quiet c.read_at.ensures.crash c.read_at.ensures.cause.later c.read_at.ensures.puts;
-      no_fault = c.in_ok-read_at.ensures.cause.done;
+      asks = asks_one g.W.Outside c.args.outside.now c.read_at.new.self c.read_at.ensures.asks c.read_at.result c.read_at.ensures.counts;
+      no_fault = c.in_ok-read_at.ensures.counts.cause.done;
       len = c.read_at.auto.into ∙ c.requires.whole ∙ ap (λ (store : KeptStore). page_bytes store.header.directory.page) (sym c.self.view_is) ∙ page-lines c.self.inside.header.directory.page;
       composed = λ told.
           composed_none held header c.self.inside.banks.newest (c.from-first.result * 16) c.read_at.new.into
@@ -35,7 +35,7 @@ loop-i-preserved g c =
       composed = λ told.
           let still : IsSome (G.held c.loop-i.outside) = subst (λ (those : Option (List ℕ)). IsSome those) (sym so_far.asks.held) told in
           let same : held_of G c.loop-i.outside ≡ held = ap (λ (those : Option (List ℕ)). unwrap_or those []) so_far.asks.held in
-          let room : total c.args.self.now.header ≤ length held = c.requires.room held (told_some (G.held c.args.outside.now) told) in
+          let room : total c.args.self.now.header ≤ length held = c.requires.store.room held (told_some (G.held c.args.outside.now) told) in
           let end : area_end bank ≤ total c.self.inside.header = end_inside c.self.inside.header bank.which bank.bank_bytes c.self.invariant.bank_bytes in
           let header : total c.self.inside.header ≡ total c.args.self.now.header = ap (λ (store : KeptStore). total store.header) c.self.view_is in
           composed_more c.self.inside.header.directory.page held (home_of held c.self.inside.header) bank.newest (c.from-first.result * 16) c.loop-i.i c.loop-i.into c.read_newest.new.page place c.loop-i-test.true so_far.len refl

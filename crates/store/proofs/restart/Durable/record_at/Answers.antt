@@ -1,4 +1,4 @@
-use Rattle.store.proofs.Lemmas.{ℕ, ap, arith, subst, sym, PageSize, total, KeptBank, KeptStore, ReadsRecord, bank_inside}
+use Rattle.store.proofs.Lemmas.{common_steps, ℕ, arith, subst, sym, PageSize, KeptBank, KeptStore, ReadsRecord, bank_inside}
 use Rattle.store.proofs.restart.Durable.record_at.Goals as goal
 
 -- the sizes are those of the header
@@ -12,6 +12,5 @@ returns g c =
     (subst (λ (bytes : ℕ). Reads bank.page bytes bank) (sym fits.bank_bytes)
     (subst (λ (those : KeptBank). Reads those.page those.bank_bytes those) c.chosen.ensures c.record_at.ensures)))
 
-pub record_at-requires-clause-room : goal.record_at-requires-clause-room
-record_at-requires-clause-room g c held is =
-    omega (arith, c.requires.room held is, bank_inside c.self.inside.header c.self.inside.banks c.chosen.result.now c.chosen.ensures c.self.invariant, ap (λ (store : KeptStore). total store.header) c.self.view_is)
+pub record_at-requires-clause-bank : goal.record_at-requires-clause-bank
+record_at-requires-clause-bank g c = grind (arith, common_steps, bank_inside c.self.inside.header c.self.inside.banks c.chosen.result.now c.chosen.ensures c.self.invariant, c.requires.store.room)

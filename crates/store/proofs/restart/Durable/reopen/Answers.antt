@@ -1,5 +1,6 @@
-use Rattle.store.proofs.Lemmas.{◌≡◌, ℕ, List, [], ap, subst, sym, IsSome, ◌∙◌, arith, Option, unwrap_or, total, HasHeader, held_of, IsChosen, ReopenFault, IsStoreReopenFault, KeptStore, Fits, Shows, IsStoreWith, asks_on, sure_on, shows_read, reopening_fault, intact_fault, total_is, OnOk, rules, common_steps, IfErr-weaker, on_ok_weaker}
-use Rattle.store.specs.Chosen as opened
+use Rattle.store.proofs.Lemmas.{◌≡◌, ℕ, List, [], ap, subst, sym, IsSome, ◌∙◌, arith, Option, unwrap_or, total, HasHeader, held_of, IsChosen, ReopenFault, IsStoreReopenFault, KeptStore, Fits, Shows, IsStoreWith, asks_on, sure_on, shows_read, reopening_fault, intact_fault, total_is, rules, common_steps, IfErr-weaker, on_ok_weaker}
+use Rattle.store.specs.Below.{chosen}
+use Rattle.store.specs.Opened.{IsBankReopenFault}
 use Rattle.store.specs.declared.fault.ReopenFault.TheVariants as reopening
 use Rattle.store.proofs.restart.Durable.reopen.Goals as goal
 
@@ -17,42 +18,43 @@ returns-in-Ok g c =
     let held = held_of G old in
     let header = c.self.inside.header in
     let bank = c.reopen.new.self in
-    let asks = asks_on G g.met.W.Outside.fewer_later old c.synced.new.outside c.reopen.new.outside c.synced.ensures.asks c.reopen.ensures.asks in
+    let asks = asks_on G g.met.W.Outside.fewer_later old c.synced.new.outside c.reopen.new.outside c.synced.ensures.asks c.reopen.ensures.asks.asks in
     let first : held_of G c.synced.new.outside ≡ held = ap (λ (those : Option (List ℕ)). unwrap_or those []) c.synced.ensures.asks.held in
     let still : IsSome (G.held old) → IsSome (G.held c.synced.new.outside) =
     subst (λ (those : Option (List ℕ)). IsSome those) (sym c.synced.ensures.asks.held) in
-    let shape = c.reopen.ensures.shape in
+    let shape = c.reopen.ensures.kept.shape in
     let fits : Fits header bank = record {
       page = c.self.invariant.page ∙ sym shape.page;
       bank_bytes = c.self.invariant.bank_bytes ∙ sym shape.bank_bytes;
       lines = c.self.invariant.lines ∙ sym shape.lines;
     } in
-    let chosen : OnOk c.reopen.result (IsSome (G.held old) → IsChosen held bank) =
-    on_ok_weaker c.reopen.result (λ read told. subst (λ (held : List ℕ). IsChosen held bank) first (read (still told))) c.reopen.ensures.read in
-    let shows : OnOk c.reopen.result (HasHeader held c.args.self.now.header → IsSome (G.held old) → Shows held (record { header = header; bank = bank })) =
-    on_ok_weaker c.reopen.result (λ read has told. shows_read held header bank (subst (λ (store : KeptStore). HasHeader held store.header) (sym c.self.view_is) has) fits (read told)) chosen in
-    let chosen_fault = opened.IsChosenReopenFault G c.synced.new.outside c.reopen.new.outside c.self.inside.banks in
+    let chosen_fault = IsBankReopenFault G c.synced.new.outside c.reopen.new.outside (chosen (held_of G c.synced.new.outside)) c.self.inside.banks in
     let fault_is : (fault : ReopenFault) → chosen_fault fault → IsStoreReopenFault G old c.reopen.new.outside c.args.self.now.header fault =
     λ fault is. subst (λ (store : KeptStore). IsStoreReopenFault G old c.reopen.new.outside store.header fault) c.self.view_is
     (reopening_fault G old c.synced.new.outside c.reopen.new.outside header c.self.inside.banks fault c.self.invariant c.synced.ensures.asks is) in
     record {
-      asks = asks;
+      asks = record {
+        asks = asks;
+        no_fault = grind (arith, common_steps);
+        fault = IfErr-weaker c.reopen.result chosen_fault (IsStoreReopenFault G old c.reopen.new.outside c.args.self.now.header) fault_is c.reopen.ensures.asks.fault;
+        calm = grind (arith, common_steps);
+      };
       header = search rules;
-      begun = search rules;
-      spoiled = search rules;
-      read = on_ok_weaker c.reopen.result (λ read told. record { chosen_is = (read told).chosen_is; read = (read told).read; fits = fits }) chosen;
-      shows = shows;
-      tracks = on_ok_weaker c.reopen.result (λ shows has honest told. record {
-        sure = sure_on G g.met.W.Outside.fewer_later c.synced.new.outside c.reopen.new.outside (c.in-Ok.ensures.sure honest told) c.reopen.ensures.asks;
-        shows = subst (λ (those : List ℕ). Shows those (record { header = header; bank = bank }))
-            (sym (ap (λ (those : Option (List ℕ)). unwrap_or those []) asks.held)) (shows has told);
-      }) shows;
-      no_fault = grind (arith, common_steps);
-      fault = IfErr-weaker c.reopen.result chosen_fault (IsStoreReopenFault G old c.reopen.new.outside c.args.self.now.header) fault_is c.reopen.ensures.fault;
-      calm = grind (arith, common_steps);
+      kept = grind (arith, common_steps);
+      read = on_ok_weaker c.reopen.result (λ read.
+          let chosen : IsSome (G.held old) → IsChosen held bank = λ told. subst (λ (held : List ℕ). IsChosen held bank) first (read (still told)) in
+          let shows : HasHeader held header → IsSome (G.held old) → Shows held (record { header = header; bank = bank }) = λ has told. shows_read held header bank has fits (chosen told) in
+          record {
+            read = λ told. record { chosen_is = (chosen told).chosen_is; read = (chosen told).read; fits = fits };
+            shows = shows;
+            tracks = λ has honest told. record {
+              sure = sure_on G g.met.W.Outside.fewer_later c.synced.new.outside c.reopen.new.outside (c.in-Ok.ensures.sure honest told) c.reopen.ensures.asks.asks;
+              shows = subst (λ (those : List ℕ). Shows those (record { header = header; bank = bank })) (sym (ap (λ (those : Option (List ℕ)). unwrap_or those []) asks.held)) (shows has told);
+            };
+          }) c.reopen.ensures.read;
       intact =
           IfErr-weaker c.reopen.result chosen_fault
           (λ fault. IsSome (G.held old) → IsStoreWith c.args.self.now.header held → fault ≡ reopening.DiskFault)
           (λ fault is told intact.
-          intact_fault G old c.reopen.new.outside c.args.self.now.header fault told intact (fault_is fault is)) c.reopen.ensures.fault;
+          intact_fault G old c.reopen.new.outside c.args.self.now.header fault told intact (fault_is fault is)) c.reopen.ensures.asks.fault;
     }

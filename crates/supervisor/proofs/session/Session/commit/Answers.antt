@@ -1,3 +1,4 @@
+use Rattle.std.proofs.lemmas.Grind.{common_steps}
 use Rattle.supervisor.proofs.Lemmas.{◌≡◌, ◌+◌, ◌-◌, Fixed, session_told, ◌%◌, ◌^◌, ◌∙◌, ◌∷◌, [], length, refl, sym, ap, subst, arith, Some, length-append, true, false, has, Commit, row, begun_of, Kept, KeptStore, number_of, TracksStore, held_of, over_all, committed_at, sitter, number_in, taken-below, Activity, live_in, program_in, entry_in, store_over, desk_over, shown, KeepsDesk, rolled, reprinted, activity_of, Session, activity, with_record, HoldsStore, Header, stored-sound, closes-now}
 use Rattle.flat_machine.specs.After.{after as after_rows}
 use Rattle.store.specs.declared.keep.Kept.TheVariants.{Unwritten, Doubt}
@@ -208,9 +209,6 @@ returns-in-Unwritten-clause-stored g c =
 pub swap_printed-requires-clause-seat : goal.swap_printed-requires-clause-seat
 swap_printed-requires-clause-seat g c = taken-below c.args.self.now.activations.seats c.requires.sound.running.seating c.args.seat c.requires.taken
 
-pub commit-requires-clause-room : goal.commit-requires-clause-room
-commit-requires-clause-room g c = subst (λ (header : Header). HoldsStore g.W.Outside header c.args.outside.now) (sym (ap (λ (store : KeptStore). store.header) c.in_default.ensures.begun)) c.requires.bytes
-
 pub returns-in-Done-clause-stored : goal.returns-in-Done-clause-stored
 returns-in-Done-clause-stored g c =
     let there = c.record.new.store in
@@ -233,8 +231,12 @@ pub committed_in-committed-requires-clause-sound : goal.committed_in-committed-r
 committed_in-committed-requires-clause-sound g c = let s = c.args.self.now in stored-sound s c.requires.sound c.record.new.store (ap (λ (store : KeptStore). store.header) c.in_default.ensures.begun) c.record.new.self c.in_default.ensures.kept c.requires.open s.closed
     (λ still. ap (λ (store : KeptStore). store.bank.spoiled) c.in_default.ensures.begun ∙ c.requires.sound.usable still)
 
-pub commit-requires-clause-usable : goal.commit-requires-clause-usable
-commit-requires-clause-usable g c = ap (λ (store : KeptStore). store.bank.spoiled) c.in_default.ensures.begun ∙ c.requires.sound.usable c.requires.open
+pub commit-requires : goal.commit-requires
+commit-requires g c = record {
+  begun = grind (arith, common_steps);
+  usable = ap (λ (store : KeptStore). store.bank.spoiled) c.in_default.ensures.begun ∙ c.requires.sound.usable c.requires.open;
+  room = subst (λ (header : Header). HoldsStore g.W.Outside header c.args.outside.now) (sym (ap (λ (store : KeptStore). store.header) c.in_default.ensures.begun)) c.requires.bytes;
+}
 
 pub returns-in-Done-clause-told : goal.returns-in-Done-clause-told
 returns-in-Done-clause-told g c =

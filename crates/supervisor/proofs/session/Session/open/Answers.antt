@@ -33,10 +33,10 @@ is-made g c =
     }
 
 pub returns-clause-opened : goal.returns-clause-opened
-returns-clause-opened g c = λ honest told. made-opened c.args.frames (made_session g c) (is-made g c) g.W.Outside c.args.outside.now c.open.new.outside c.open.ensures.asks (c.in_ok-store.ensures.tracks honest told)
+returns-clause-opened g c = λ honest told. made-opened c.args.frames (made_session g c) (is-made g c) g.W.Outside c.args.outside.now c.open.new.outside c.open.ensures.asks.asks (c.in_ok-store.ensures.opened.tracks honest told)
 
 pub returns-clause-told : goal.returns-clause-told
-returns-clause-told g c = λ told. has-stood (held_of g.W.Outside c.args.outside.now) c.in_ok-store.store (c.in_ok-store.ensures.shows told)
+returns-clause-told g c = λ told. has-stood (held_of g.W.Outside c.args.outside.now) c.in_ok-store.store (c.in_ok-store.ensures.opened.shows told)
 
 pub returns-clause-room : goal.returns-clause-room
-returns-clause-room g c = c.in_ok-store.ensures.room
+returns-clause-room g c = c.in_ok-store.ensures.opened.room
