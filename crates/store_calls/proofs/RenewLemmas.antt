@@ -3,7 +3,6 @@ use Rattle.store_calls.proofs.Common.{◌≡◌, inl, inr, ℕ, suc, ◌+◌, �
 use Rattle.std.proofs.lemmas.List.Elements.{All-nil, All-cons, All-head, All-tail}
 use Rattle.store_format.proofs.Fresh.{stored_stands}
 use Rattle.store_format.proofs.Sound.{begins_two, named_header, sound_header, stood_header}
-use Rattle.call_status.specs.declared.status.Status.TheVariants as status
 
 -- the segments of twice the size are those of a directory
 named_same : (segments : List (ℕ × ℕ)) → map (λ segment. segment.0) (widened_segments segments) ≡ map (λ segment. segment.0) segments

@@ -1,7 +1,6 @@
 use Rattle.store_calls.proofs.Common.{ℕ, List, sym, subst, Ok, Err, CommitLine, report_told, status_of_trace, IsFound, IsUntraced, arith, nat_tests}
 use Rattle.serial_audit.specs.declared.answer.TraceFault.{TraceFault}
 use Rattle.serial_audit.specs.Trace.{IsAnswer}
-use Rattle.serial_audit.specs.declared.answer.TraceFault.TheVariants as fault
 use Rattle.store_calls.proofs.trace.trace_in.Goals as goal
 
 pub returns-in-Ok : goal.returns-in-Ok
