@@ -1,5 +1,5 @@
 -- A program begins.
-use Rattle.activations.proofs.Common.{range-long, ◌≡◌, refl, ℕ, ◌+◌, ◌-◌, ◌*◌, ◌%◌, ◌<◌, ◌≤◌, ◌==◌, ◌⊎◌, false, List, ◌++◌, length, map, replicate, slice_index, if◌then◌else◌, Option, Some, None, range_with_len, option_map_or, arith, ap, sym, ◌∙◌, subst, inl, inr, cases_lt, same_number_lists, length-overlaid, overlaid_before, overlaid_within, overlaid_behind, PageSize, Layout, byte_count, page_of, page_bytes, Pool, frame_at, with_bytes, private_frames, byte_in_frame, byte_over, bytes_over, private_bytes, is_marked, Fits, frame-high, in-range, nat_tests, length-append, length-replicate, ne_eqb, or-false, ◌≢◌, zero, suc, nat_lt, Bool, true, [], ◌∷◌, All, slice_index_or, list_any, get_or-set_same, get_or-set_other, eqb-false, eq-eqb, both_ways, or_left, or_right, or_parts, length-map, length-set, map-append, get_or_read, All-from_get_or, list_any-append, FlatStore, has, no_lines, has-append, no_lines_of, Authority, unowned, Program, start, registers_of_program, Begun, Entry, nobody, Fine, AreAlike, AreMarked, IsState, requested, due_to, IsCurrent, IsOrderly, current-begun, first_entry, with_first, begins-consistent, refused-consistent, told-taken, Seat, IsSeating, sitter, number_in, newcomer, next_seat, all-has, none-free, some-free, has-at, few-taken, taken-below, kept-seated, apart-taken, is_line_marked, private_segment, Live, Activity, no_program, program_at, live_in, entry_for, entry_in, entries, number_under, authority_under, authority_told, store_over, desk_over, lines_held, locks_in, request_for, request_in, state_in, shown, given, started, begun_in, IsBegin, IsSound, IsSetUp, IsIdentified, IsKept, KeepsDesk, Grant, absent_segment, over_all, state_for}
+use Rattle.activations.proofs.Common.{range-long, ◌≡◌, refl, ℕ, ◌+◌, ◌-◌, ◌*◌, ◌%◌, ◌<◌, ◌≤◌, ◌==◌, ◌⊎◌, false, List, ◌++◌, length, map, replicate, slice_index, if◌then◌else◌, Option, Some, None, range_with_len, arith, ap, sym, ◌∙◌, subst, inl, inr, cases_lt, same_number_lists, length-overlaid, overlaid_before, overlaid_within, overlaid_behind, PageSize, Layout, byte_count, page_of, page_bytes, Pool, frame_at, with_bytes, private_frames, byte_in_frame, byte_over, bytes_over, private_bytes, Fits, frame-high, in-range, nat_tests, length-append, length-replicate, ne_eqb, or-false, ◌≢◌, zero, suc, nat_lt, Bool, true, [], ◌∷◌, All, slice_index_or, list_any, get_or-set_same, get_or-set_other, eqb-false, eq-eqb, both_ways, or_left, or_right, or_parts, length-map, length-set, map-append, get_or_read, All-from_get_or, list_any-append, FlatStore, has, no_lines, has-append, no_lines_of, Program, start, registers_of_program, Begun, Entry, nobody, Fine, AreAlike, AreMarked, IsState, requested, due_to, IsCurrent, IsOrderly, current-begun, first_entry, with_first, begins-consistent, refused-consistent, told-taken, Seat, IsSeating, sitter, number_in, newcomer, next_seat, all-has, none-free, some-free, has-at, few-taken, taken-below, kept-seated, apart-taken, is_line_marked, private_segment, Live, Activity, no_program, program_at, live_in, entry_for, entry_in, entries, number_under, authority_under, authority_told, store_over, desk_over, lines_held, locks_in, request_for, request_in, state_in, shown, given, started, begun_in, IsBegin, IsSound, IsSetUp, IsKept, KeepsDesk, absent_segment, over_all, state_for}
 use Rattle.std.proofs.lemmas.Option.{slice_get-get_or}
 use Rattle.flat_machine.specs.Serial.{Activation}
 use Rattle.desk.specs.declared.event.Event.TheVariants.{Begin}
@@ -69,11 +69,7 @@ module _ (directory : Layout) (pool : Pool) (fits : Fits directory pool) (seat :
   shown-same committed = λ i. map (λ place. one place i) (range_with_len 0 (byte_count directory))
     where
       one : (place : ℕ) → byte_over directory filled committed place ≡ byte_over directory pool committed place
-      one place = by_frame (if is_marked directory pool place then slice_index pool.kept place else slice_index committed place) (frame_at pool (page_of directory place)) refl
-        where
-          by_frame : (rest : ℕ) (frame : Option ℕ) → frame_at pool (page_of directory place) ≡ frame → option_map_or (byte_in_frame directory filled place) frame rest ≡ option_map_or (byte_in_frame directory pool place) frame rest
-          by_frame rest None e = refl
-          by_frame rest (Some frame) e = store-frame place frame e
+      one place = let same = store-frame place in grind (arith, same)
 
 pub all-of : (P : ℕ → Type 0) (xs : List ℕ) → ((x : ℕ) → has xs x ≡ true → P x) → All P xs
 all-of P xs each = All-from_get_or P xs 0 (λ k within. each (slice_index_or xs k 0) (has-at xs k 0 within))
@@ -91,8 +87,8 @@ held-none pages = flat-alike (no_lines_of pages) (lines_held (no_lines_of pages)
 
 -- a number that is given to nobody
 pub sound-given : (a : Activity) → IsSound a → IsSound (given a)
-sound-given a sound = sound-beside a (a.next + 1) a.reach.pool sound
-    (all-of (λ seat. number_in a.seating seat < a.next + 1) a.seating.taken (λ seat inside. let was = all-has (λ seat. number_in a.seating seat < a.next) a.seating.taken seat sound.numbers inside in omega (arith, was)))
+sound-given a sound = sound-beside a (a.next + 1) a.reach.pool a.reach.entries a.reach.registers a.reach.runner sound
+    (all-of (λ seat. number_in a.seating seat < a.next + 1) a.seating.taken (λ seat inside. let was = all-has (λ seat. number_in a.seating seat < a.next) a.seating.taken seat sound.numbers inside in omega (arith, was))) sound.entries sound.identified
 
 pub follows-given : (a : Activity) (committed : List ℕ) → KeepsDesk a committed → KeepsDesk (given a) committed
 follows-given a committed follows = record {
@@ -141,13 +137,7 @@ module _ (a : Activity) (program : ℕ) (args : List ℕ) (seat : ℕ) (sound : 
 
   -- no page is that seat's
   unused : (page : ℕ) → ((slice_index_or (authority_under a.reach.entries) page nobody).owner == seat + 1) ≡ false
-  unused page = ap (λ (one : Grant). one.owner == seat + 1) (under-page a.reach.entries page) ∙ by_owner (slice_index_or a.reach.entries page unowned) (sound.identified page)
-    where
-      by_owner : (one : Authority) → IsIdentified a.seating.taken one → (one.tid == seat + 1) ≡ false
-      by_owner one (inl none) = ap (λ (e : Authority). e.tid == seat + 1) none ∙ (let no : (0 == seat + 1) ≡ false = grind (arith, nat_tests) in no)
-      by_owner one (inr (other, inside, is)) =
-          let shift : (other + 1 == seat + 1) ≡ (other == seat) = grind (arith, nat_tests) in
-          ap (λ (n : ℕ). n == seat + 1) is ∙ shift ∙ elsewhere other inside
+  unused page = let at = under-page a.reach.entries page in let is = sound.identified page in grind (arith, nat_tests, at, is, elsewhere)
 
   under-other : (tid : ℕ) → (tid == seat + 1) ≡ false → number_under new tid ≡ number_under a tid
   under-other zero differs = refl
@@ -359,12 +349,7 @@ module _ (a : Activity) (program : ℕ) (args : List ℕ) (sound : IsSound a) wh
 
   pub begins-refused : (segment : ℕ) → length a.seating.taken < 16 → absent_segment a.reach.directory (program_at a.programs program).windows ≡ Some segment
       → begun.begins a program args ≡ (answer.NoSegment a.next segment, given a)
-  begins-refused segment room lacks =
-      ap (λ (absent : Option ℕ). begun.begins_by (next_seat a.seating) absent a program args) lacks ∙ by_seat (next_seat a.seating) refl
-    where
-      by_seat : (free : Option ℕ) → next_seat a.seating ≡ free → begun.begins_by free (Some segment) a program args ≡ (answer.NoSegment a.next segment, given a)
-      by_seat None e = absurd (let full = none-next a sound e in omega (arith, room, full))
-      by_seat (Some seat) e = refl
+  begins-refused segment room lacks = grind (arith, none-next, sound, room, lacks)
 
   pub begins-started : (seat : ℕ) → next_seat a.seating ≡ Some seat → absent_segment a.reach.directory (program_at a.programs program).windows ≡ None
       → begun.begins a program args ≡ (answer.Started a.next, begun_in a program args seat)
@@ -377,13 +362,18 @@ module _ (a : Activity) (program : ℕ) (args : List ℕ) (sound : IsSound a) wh
       subst (λ (n : Activity). IsBegin a n program args told committed) (sym is_new)
       (subst (λ (t : Begun). IsBegin a (begun.begins a program args).1 program args t committed) (sym is_told) (is-begin a program args sound known committed follows fits))
 
--- and all that a begin says of what it answers and leaves
+-- what a begin says of what it answers and leaves
+pub record BeginsSo (a : Activity) (program : ℕ) (args : List ℕ) (told : Begun) (now : Activity) : Type 0 where
+  pub answer : told ≡ (begun.begins a program args).0
+  pub left : now ≡ (begun.begins a program args).1
+  pub is_begin : (committed : List ℕ) → KeepsDesk a committed → IsBegin a now program args told committed
+
 pub begun-so : (a : Activity) (program : ℕ) (args : List ℕ) (told : Begun) (now : Activity) → IsSound a → program < length a.programs → Fits a.reach.directory a.reach.pool → begun.begins a program args ≡ (told, now)
-    → (told ≡ (begun.begins a program args).0) × (now ≡ (begun.begins a program args).1) × IsSound now × ((committed : List ℕ) → KeepsDesk a committed → IsBegin a now program args told committed)
+    → BeginsSo a program args told now
 begun-so a program args told now sound known fits is =
     let answer : told ≡ (begun.begins a program args).0 = sym (ap (λ (b : Begun × Activity). b.0) is) in
     let left : now ≡ (begun.begins a program args).1 = sym (ap (λ (b : Begun × Activity). b.1) is) in
-    (answer, left, subst IsSound (sym left) (sound-begins a program args sound known), begin-goes a program args sound now told known fits answer left)
+    record { answer = answer; left = left; is_begin = begin-goes a program args sound now told known fits answer left }
 
 -- the program that was read at a place
 pub is-code : (programs : List Program) (place at : ℕ) (code : Program) → place < length programs → at ≡ place → code ≡ slice_index_or programs at code → code ≡ program_at programs place

@@ -1,8 +1,8 @@
 -- A commit.
-use Rattle.activations.proofs.Common.{◌≡◌, ℕ, ◌%◌, ◌<◌, ◌==◌, ◌&&◌, not, Bool, true, List, [], ◌∷◌, ◌++◌, length, slice_index, Some, ap, sym, ◌∙◌, subst, length-map-range_with_len, Layout, byte_count, page_count, FlatStore, line_of, line-bytes-pos, has, Lines, page_of_line, no_lines, Plain, after, Pool, settled, Commit, row, Entry, Counts, no_counts, AreAlike, AreMarked, IsState, IsTold, requested, by_number, over_all, left_by, committed_at, IsAmong, due_to, IsCurrent, IsOrderly, place-laid, marked-commit, others, seat-told, told-seat, at-number, kept-seats, commit-ends, is_line_marked, bytes_over, byte_over, Fits, SettleKeeps, Keeps, Activity, program_in, entry_in, entries, store_over, desk_over, locks_in, request_in, state_for, state_in, live_in, shown, IsSound, IsKept, KeepsDesk, wrote, is_of, AreWritten, WereSettled, rolled, Commits, nat_tests, arith}
+use Rattle.activations.proofs.Common.{◌≡◌, ℕ, ◌%◌, ◌<◌, ◌&&◌, not, Bool, true, List, [], ◌∷◌, ◌++◌, length, slice_index, Some, ap, sym, ◌∙◌, subst, length-map-range_with_len, Layout, byte_count, page_count, FlatStore, line_of, line-bytes-pos, has, Lines, page_of_line, no_lines, Plain, after, Pool, settled, Commit, row, Entry, Counts, no_counts, AreAlike, AreMarked, IsState, IsTold, requested, by_number, over_all, left_by, committed_at, IsAmong, due_to, IsCurrent, IsOrderly, place-laid, marked-commit, others, seat-told, told-seat, at-number, kept-seats, commit-ends, is_line_marked, bytes_over, byte_over, Fits, SettleKeeps, Keeps, Activity, program_in, entry_in, entries, store_over, desk_over, locks_in, request_in, state_for, state_in, live_in, shown, IsSound, IsKept, KeepsDesk, wrote, AreWritten, WereSettled, rolled, Commits, nat_tests, arith}
 use Rattle.flat_machine.proofs.Agreement.{after-whole}
 use Rattle.desk_law.proofs.EntriesEnd as law
-use Rattle.activations.proofs.RollbackLemmas.{wrote-held, locks-left, of-held, neither-of, of-then, settled-marks}
+use Rattle.activations.proofs.RollbackLemmas.{wrote-held, locks-left, of-held, of-then, settled-marks}
 use Rattle.activations.proofs.RowLemmas.{orderly-order}
 use Rattle.activations.proofs.TableLemmas.{stands-for, left-taken, entries-left, authority-left}
 
@@ -25,10 +25,7 @@ pub were-settled : (directory : Layout) (lines : ℕ → List ℕ) (pages : List
     → WereSettled lines pages old pool → WereSettled lines (pages ++ page ∷ []) old (settled pool page (lines page))
 were-settled directory lines pages old pool fits page below were = record {
   marks = λ line.
-      settled-marks directory pool fits page below (lines page) line
-      ∙ ap (λ (b : Bool). b && not ((page == page_of_line line) && has (lines page) (line % 16))) (were.marks line)
-      ∙ neither-of (is_line_marked old line) (is_of pages lines line) ((page == page_of_line line) && has (lines page) (line % 16))
-      ∙ sym (ap (λ (b : Bool). is_line_marked old line && not b) (of-then lines pages page line));
+      let now = settled-marks directory pool fits page below (lines page) line in let more = of-then lines pages page line in grind (arith, now, were.marks line, more);
   rest = ap (λ (p : Pool). record p { marked = (settled pool page (lines page)).marked }) were.rest;
 }
 

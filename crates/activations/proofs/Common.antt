@@ -125,11 +125,11 @@ pub use Rattle.store_format.specs.Bank.{RecordLine, record_bytes}
 pub use Rattle.store_format.specs.Header.{Header, entry_bytes, most_lines, total}
 pub use Rattle.store_format.specs.Stands.{Damaged, NotAStore, Standing, Stands, laid}
 unfoldable pub use Rattle.store_format.specs.Stands.{stands}
-pub use Rattle.activations.specs.Activity.{Activity, authority_at, flat_authority, authority_told, authority_under, desk_over, entries, entry_for, entry_in, lines_held, live_in, locks_in, no_program, nothing_runs, number_under, program_at, program_in, request_for, request_in, shown, state_for, state_in, store_over, activity_of}
+pub use Rattle.activations.specs.Activity.{Activity, authority_at, flat_authority, authority_told, authority_under, desk_over, entries, entry_for, entry_in, lines_held, live_in, locks_in, no_program, nothing_runs, number_under, program_at, program_in, request_for, request_in, shown, state_for, state_in, store_over}
 pub use Rattle.activations.specs.Kept.{CameTo, IsSelected, IsShut, IsStopped, Strode, TookEffect, WasAttempted, WillTouch, attempted, plain_in, printed_after, KeepsParts, StandsStill, StaysSeated, RunsAt, StrodeTo, with_live, standing}
 pub use Rattle.activations.specs.Begins.{Begins, IsBegin, begun_in, given, idle, started, begins}
 pub use Rattle.activations.specs.Steps.{HasSettled, HasUndone, IsDeserted, IsRestarted, WereRolled, reprinted, AreAsCommitted, AreWritten, Commits, GoesOn, HasExecuted, IsMoved, RollsBack, Strides, WereSettled, WereUndone, counted, executed, is_of, rolled, vacated, with_pool, wrote, IsRolledBack, IsCommitted}
-pub use Rattle.activations.specs.Stages.{HasBrokenOff, IsBrokenOff, IsIn, IsStoreOf, IsUnread, KeepsStore, EndsByDisk, EndsContest, EndsRows, Fetches, HasFetched, KeepsAll, KeepsSound, EndsServing, IsCheckCode, IsNoLimit}
+pub use Rattle.activations.specs.Stages.{HasBrokenOff, IsBrokenOff, IsIn, IsStoreOf, IsUnread, KeepsStore, EndsByDisk, EndsContest, EndsRows, Fetches, HasFetched, KeepsAll, EndsServing, IsCheckCode, IsNoLimit}
 pub use Rattle.activations.specs.Follows.{AreOfPages, KeepsDesk, IsIdentified, IsKept, IsSetUp, IsSound}
 pub use Rattle.activations.specs.Turning.{GoesUncounted, IsAsked, IsEndOfRows, IsInstruction, IsPrepared, IsServed, Prepares, Serves, Contests, HasBroken, HasEnded, tally_counts, FromContest, AreTurns, ComesBack, IsAtCommit, IsStep, IsTurning, MayBeShut, commit_call, selected_in, turn_in}
 pub use Rattle.activations.specs.Recorded.{HasWritten, IsRecordOf, LeavesCommitted, line_told, recorded, with_lines, written_of}
@@ -145,3 +145,5 @@ pub use Rattle.flat_machine.specs.Agreement.{SameWay, all_of}
 pub use Rattle.flat_machine.specs.Plans.{Plan, Does, Fails}
 pub use Rattle.flat_machine.specs.declared.machine.Located.{Located}
 pub use Rattle.flat_machine.specs.declared.machine.Located.TheVariants.{Refused, Private, Shared}
+pub use Rattle.activations.specs.Fields.{activity_of}
+pub use Rattle.activations.specs.declared.activations.Activations.TheInside.{Inside}

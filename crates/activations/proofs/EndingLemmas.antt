@@ -1,5 +1,5 @@
 -- Nobody sits anywhere, as at first and as after a crash; and what a seat that is left leaves, once its written lines are forgotten or committed.
-use Rattle.activations.proofs.Common.{◌≡◌, refl, ℕ, zero, suc, ◌+◌, ◌%◌, ◌<◌, nat_lt, if◌then◌else◌, Bool, true, false, List, [], ◌∷◌, length, map, replicate, slice_index, slice_index_or, Option, Some, None, range_with_len, option_map_or, ForSome, arith, ap, sym, ◌∙◌, subst, inl, inr, both_ways, nat_tests, same_number_lists, get_or_past, get_or-replicate, length-replicate, All-nil, All-replicate, get_or-map-range_with_len, length-map-range_with_len, Layout, byte_count, page_count, line_of, page_of, has, page_of_line, AreWithin, of_seat, no_lines_of, nothing_held, Authority, unowned, Program, Pool, frame_at, nobody, opened, restarted, owner_told, owners_told, IsCurrent, current-quiet, quiet-consistent, Seat, IsSeating, newcomer, nobody_sits, byte_in_frame, byte_over, is_line_marked, is_marked, Keeps, Live, Activity, authority_at, flat_authority, authority_told, entry_in, number_under, store_over, desk_over, shown, idle, WereRolled, IsRestarted, IsSound, IsKept, KeepsDesk, IsIdentified, AreOfPages, IsMoved, with_pool, Grant, grant_of, Check, row, Desk, Counts, Over, Checked, IsState, over_all, IsOrderly, rolled-consistent, check-ends, plain_over, live_in, program_in, state_in, ComesToEnd, instruction_in, rolled, RollsBack, false_from_ne_true, ◌==◌, not, line-bytes-pos, has-filter, emptied, IsSeen, Stays, Entry, no_counts, due_to, place-kept, seat-told, among-any, taken-below, Reach, IsClean, bytes_over, private_bytes, Fits, emptied-stays, entries, HasUndone, HasSettled, IsDeserted, vacated, ◌≢◌, cases_eq, IsRolledBack, IsCommitted}
+use Rattle.activations.proofs.Common.{◌≡◌, refl, ℕ, zero, suc, ◌+◌, ◌%◌, ◌<◌, if◌then◌else◌, Bool, true, false, List, [], ◌∷◌, length, map, replicate, slice_index, slice_index_or, Option, Some, None, range_with_len, option_map_or, ForSome, arith, ap, sym, ◌∙◌, subst, inl, inr, both_ways, nat_tests, same_number_lists, get_or_past, get_or-replicate, length-replicate, All-nil, All-replicate, get_or-map-range_with_len, length-map-range_with_len, Layout, byte_count, page_count, line_of, page_of, has, page_of_line, AreWithin, of_seat, no_lines_of, nothing_held, Authority, unowned, Program, Pool, frame_at, nobody, opened, restarted, owner_told, owners_told, IsCurrent, current-quiet, quiet-consistent, Seat, IsSeating, newcomer, nobody_sits, byte_in_frame, byte_over, is_line_marked, is_marked, Keeps, Live, Activity, authority_at, flat_authority, authority_told, entry_in, number_under, store_over, desk_over, shown, idle, WereRolled, IsRestarted, IsSound, IsKept, KeepsDesk, IsIdentified, AreOfPages, IsMoved, with_pool, Grant, grant_of, Check, row, Desk, Counts, Over, Checked, IsState, over_all, IsOrderly, rolled-consistent, check-ends, plain_over, live_in, program_in, state_in, ComesToEnd, instruction_in, rolled, RollsBack, false_from_ne_true, ◌==◌, not, line-bytes-pos, has-filter, emptied, IsSeen, Stays, Entry, no_counts, due_to, place-kept, seat-told, among-any, taken-below, Reach, IsClean, bytes_over, private_bytes, Fits, emptied-stays, entries, HasUndone, HasSettled, IsDeserted, vacated, ◌≢◌, IsRolledBack, IsCommitted, cases_lt}
 use Rattle.storage_unit.proofs.CommitIsUnseen.{commit-is-unseen}
 use Rattle.storage_unit.proofs.EmptyKeeps.{empty-keeps}
 use Rattle.storage_unit.proofs.IncomingLemmas.{none-has, emptied-resident}
@@ -40,12 +40,10 @@ seating-none pages = record {
 }
 
 lines-none : (pages seat : ℕ) → AreOfPages (of_seat (nothing_held pages) seat)
-lines-none pages seat = by_test (nat_lt seat 16) refl
-  where
-    by_test : (within : Bool) → nat_lt seat 16 ≡ within → AreOfPages (of_seat (nothing_held pages) seat)
-    by_test true e = subst AreOfPages (sym (get_or-replicate 16 seat (no_lines_of pages) [] (grind (arith, nat_tests, e)))) (none-of-pages pages)
-    by_test false e =
-        subst AreOfPages (sym (get_or_past (replicate 16 (no_lines_of pages)) seat [] (let long = length-replicate 16 (no_lines_of pages) in grind (arith, nat_tests, e, long)))) (none-of-pages 0)
+lines-none pages seat = elim (cases_lt seat 16) [
+  | inl below ↦ subst AreOfPages (sym (get_or-replicate 16 seat (no_lines_of pages) [] below)) (none-of-pages pages)
+  | inr out ↦ subst AreOfPages (sym (get_or_past (replicate 16 (no_lines_of pages)) seat [] (let long = length-replicate 16 (no_lines_of pages) in omega (arith, out, long)))) (none-of-pages 0)
+]
 
 module _ (programs : List Program) (most_lines frames : ℕ) (directory : Layout) (live : List Live) where
   abbrev at_first : Activity
@@ -124,7 +122,7 @@ module _ (a : Activity) (pool : Pool) (committed : List ℕ) (sound : IsSound a)
 
 -- frames may have other pages
 pub sound-pool : (a : Activity) (pool : Pool) → IsSound a → IsSound (with_pool a pool)
-sound-pool a pool sound = sound-beside a a.next pool sound sound.numbers
+sound-pool a pool sound = sound-beside a a.next pool a.reach.entries a.reach.registers a.reach.runner sound sound.numbers sound.entries sound.identified
 
 module _ (a : Activity) (seat : ℕ) (pool : Pool) where
   pub sound-rolled : IsSound a → has a.seating.taken seat ≡ true → IsSound (rolled a seat pool)
@@ -203,14 +201,12 @@ none_left a = record a { seating = record a.seating { taken = [] } }
 
 -- One after another is rolled back, of the seats below a bound.
 pub record RolledSo (below : ℕ) (old now : Activity) : Type 0 where
-  pub sound : IsSound now
   pub rest : IsDeserted old (none_left now)
   pub gone : (seat : ℕ) → seat < below → has now.seating.taken seat ≡ false
   pub were : (committed : List ℕ) → KeepsDesk old committed → WereRolled old now committed
 
-pub rolled-none : (a : Activity) → IsSound a → RolledSo 0 a a
-rolled-none a sound = record {
-  sound = sound;
+pub rolled-none : (a : Activity) → RolledSo 0 a a
+rolled-none a = record {
   rest = record { taken = refl; sitters = refl; programs = refl; most_lines = refl; next = refl; directory = refl };
   gone = λ seat below. absurd (omega (arith, below));
   were = λ committed follows. record { restarts = λ order. refl; follows = follows };
@@ -220,20 +216,14 @@ module _ (old now : Activity) (seat : ℕ) (so : RolledSo seat old now) where
   -- nobody is in the seat
   pub rolled-past : has now.seating.taken seat ≡ false → RolledSo (seat + 1) old now
   rolled-past none = record {
-    sound = so.sound;
     rest = so.rest;
-    gone = λ at below. elim (cases_eq at seat) [
-      | inl same ↦ ap (has now.seating.taken) same ∙ none
-      | inr apart ↦ so.gone at (omega (arith, below, apart))
-    ];
+    gone = λ at below. let past = so.gone at in grind (arith, none, past, below);
     were = so.were;
   }
 
   -- who is in it is rolled back
-  pub rolled-step : (new : Activity) → has now.seating.taken seat ≡ true → new ≡ rolled now seat new.reach.pool → IsSound new
-      → IsRolledBack now seat new.reach.pool → RolledSo (seat + 1) old new
-  rolled-step new taken is sound rolls = record {
-    sound = sound;
+  pub rolled-step : (new : Activity) → has now.seating.taken seat ≡ true → new ≡ rolled now seat new.reach.pool → IsRolledBack now seat new.reach.pool → RolledSo (seat + 1) old new
+  rolled-step new taken is rolls = record {
     rest = subst (λ (n : Activity). IsDeserted old (none_left n)) (sym is)
         (record { taken = refl; sitters = so.rest.sitters; programs = so.rest.programs; most_lines = so.rest.most_lines; next = so.rest.next; directory = so.rest.directory });
     gone = λ at below.
@@ -246,15 +236,12 @@ module _ (old now : Activity) (seat : ℕ) (so : RolledSo seat old now) where
   }
 
 -- All sixteen are left, and the pages go out.
-module _ (old now new : Activity) (so : RolledSo 16 old now) (fits : Fits now.reach.directory now.reach.pool) (is : new ≡ with_pool now (emptied now.reach.pool)) where
+module _ (old now new : Activity) (sound : IsSound now) (so : RolledSo 16 old now) (fits : Fits now.reach.directory now.reach.pool) (is : new ≡ with_pool now (emptied now.reach.pool)) where
   none_sits : now.seating.taken ≡ []
-  none_sits = none-has now.seating.taken (λ seat inside. both_ways (has now.seating.taken seat) (so.gone seat (taken-below now.seating so.sound.seating seat inside)) inside)
+  none_sits = none-has now.seating.taken (λ seat inside. both_ways (has now.seating.taken seat) (so.gone seat (taken-below now.seating sound.seating seat inside)) inside)
 
   stays : Stays now.reach.pool (emptied now.reach.pool)
   stays = emptied-stays now.reach.pool
-
-  pub sound-emptied : IsSound new
-  sound-emptied = subst IsSound (sym is) (sound-pool now (emptied now.reach.pool) so.sound)
 
   pub deserted : IsDeserted old new
   deserted = subst (IsDeserted old) (sym is)
@@ -263,7 +250,7 @@ module _ (old now new : Activity) (so : RolledSo 16 old now) (fits : Fits now.re
   pub restarted-left : IsSeen new.reach.pool → (committed : List ℕ) → KeepsDesk old committed → IsRestarted old new committed
   restarted-left seen committed follows =
       let past = so.were committed follows in subst (λ (n : Activity). IsRestarted old n committed) (sym is)
-      (restarts now (emptied now.reach.pool) committed so.sound none_sits
+      (restarts now (emptied now.reach.pool) committed sound none_sits
       (record {
         marked = stays.marked;
         private = λ seat below. ap (λ (bytes : List ℕ). private_bytes (record now.reach.pool { bytes = bytes }) seat) stays.bytes;

@@ -1,5 +1,5 @@
 -- Pages of a touch that come in from the store on the disk, one after the other, or that break off.
-use Rattle.activations.proofs.Common.{IsSeen, asks_none, length-replicate, replicate, ◌⊎◌, inr, inl, not-true, or_parts, option_map_or, arith, ap, sym, ◌∙◌, subst, ltb-false, PageSize, Layout, byte_count, page_count, page_bytes, byte_count-lines, brought, has, has_left, overlaid, Ghosts, OnlyAsks, FewerLater, held_of, Standing, Stands, NotAStore, Damaged, stands, KeptStore, Pool, private_frames, line_place, reach_of, IsClean, private_bytes, Fits, Keeps, filled, page_in, frame-high, laid-bytes, room-stays, emptied-stays, IsStoreOf, IsIn, IsMoved, ◌≡◌, refl, ℕ, ◌+◌, ◌-◌, ◌*◌, ◌<◌, ◌≤◌, ◌==◌, ◌++◌, not, nat_lt, if◌then◌else◌, Bool, true, false, List, [], ◌∷◌, length, take, drop, fold, remove, position, unwrap_or, slice_index, Option, Some, None, option_to_list, Result, Ok, Err, OnOk, OnErr, take-append-le, take-take, length-append, length-take, Brought, frame_at, marks_at, with_bytes, emptied, line_laid, line_kept, has-remove_other, turned, KeepsStore, ◌||◌, IsErrAnd, eqb-true, eq-eqb, ne_eqb, or_cases, has_right, Word, Fine, ReadFailed, Fetching, Fetched, Broken, can't_be_read, fetches, Activity, IsUnread, IsBrokenOff, Touch, Want, pages_wanted, wants_of, nat_tests, Fetches, HasFetched}
+use Rattle.activations.proofs.Common.{IsSeen, asks_none, length-replicate, replicate, ◌⊎◌, inr, inl, not-true, or_parts, arith, ap, sym, ◌∙◌, subst, ltb-false, PageSize, Layout, byte_count, page_count, page_bytes, byte_count-lines, brought, has, has_left, overlaid, Ghosts, OnlyAsks, FewerLater, held_of, Standing, Stands, NotAStore, Damaged, stands, KeptStore, Pool, private_frames, line_place, reach_of, IsClean, private_bytes, Fits, Keeps, filled, page_in, frame-high, laid-bytes, room-stays, emptied-stays, IsStoreOf, IsIn, IsMoved, ◌≡◌, refl, ℕ, ◌+◌, ◌-◌, ◌*◌, ◌<◌, ◌≤◌, ◌==◌, ◌++◌, not, nat_lt, if◌then◌else◌, Bool, true, false, List, [], ◌∷◌, length, take, drop, fold, remove, position, unwrap_or, slice_index, Option, Some, None, option_to_list, Result, Ok, Err, OnOk, OnErr, take-append-le, take-take, length-append, length-take, Brought, frame_at, marks_at, with_bytes, emptied, line_laid, line_kept, has-remove_other, turned, KeepsStore, IsErrAnd, eq-eqb, ne_eqb, has_right, Word, Fine, ReadFailed, Fetching, Fetched, Broken, can't_be_read, fetches, Activity, IsUnread, IsBrokenOff, Touch, Want, pages_wanted, wants_of, nat_tests, Fetches, HasFetched}
 use Rattle.std.proofs.lemmas.List.Quantifiers.{position-Some}
 use Rattle.store_format.proofs.Fronts.{shorter_front, later_front}
 use Rattle.store_format.proofs.Stores.{stands_is}
@@ -84,12 +84,9 @@ module _ (directory : Layout) (old new : Pool) (page : ℕ) (keep : Option ℕ) 
   front-read = front-over new.bytes (frame * page_bytes new.page) bytes 262144 (behind frame (subst (λ (s : PageSize). private_frames s ≤ frame) (fits.size ∙ sym also.size) came.above)) all-private
 
   front-filled : take 262144 (filled new page frame bytes).bytes ≡ take 262144 read.bytes
-  front-filled = by_frame (frame_at new page) refl
-    where
-      by_frame : (o : Option ℕ) → frame_at new page ≡ o
-          → take 262144 (option_map_or (λ f. fold (line_laid page f) read (marks_at new page)) o read).bytes ≡ take 262144 read.bytes
-      by_frame None is = refl
-      by_frame (Some other) is = front-laid page other 262144 (marks_at new page) read (behind other (also.seen.above page other (also.seen.there page other is))) front-read.1
+  front-filled =
+      let laid = λ (other : ℕ) (is : frame_at new page ≡ Some other). front-laid page other 262144 (marks_at new page) read (behind other (also.seen.above page other (also.seen.there page other is))) front-read.1 in
+      grind (arith, laid)
 
   pub moved-filled : IsMoved old (filled new page frame bytes)
   moved-filled =
@@ -252,14 +249,7 @@ module _ (old new : Pool) (page : ℕ) (keep : Option ℕ) (before after : ℕ) 
   in-fetched : (word : Word) (kept pages : List ℕ) → (has old.resident page ≡ false → brought old.frames (option_to_list keep) old.resident page ≡ brought old.frames kept old.resident page)
       → (has old.resident page ≡ false → can't_be_read word (before + 1) ≡ false)
       → fetches word old.frames kept (page ∷ pages) old.resident before ≡ fetches word old.frames kept pages new.resident after
-  in-fetched word kept pages same reads = by_there (has old.resident page) refl came.resident came.counted
-    where
-      by_there : (there : Bool) → has old.resident page ≡ there → new.resident ≡ (if there then old.resident else brought old.frames (option_to_list keep) old.resident page) → after ≡ (if there then before else before + 1)
-          → fetched_by there (can't_be_read word (before + 1)) word old.frames kept pages old.resident page before ≡ fetches word old.frames kept pages new.resident after
-      by_there true e is counted = λ i. fetches word old.frames kept pages (sym is i) (sym counted i)
-      by_there false e is counted =
-          ap (λ (fails : Bool). fetched_by false fails word old.frames kept pages old.resident page before) (reads e)
-          ∙ (λ i. fetches word old.frames kept pages (sym (is ∙ same e) i) (sym counted i))
+  in-fetched word kept pages same reads = let is = came.resident in let counted = came.counted in grind (arith, is, counted, same, reads)
 
 -- A page couldn't be read.
 unread-broken : (old new : Pool) (page before after : ℕ) (kept pages : List ℕ) → IsUnread old new page before after
@@ -289,10 +279,9 @@ module _ (old mid : Pool) (first second before between : ℕ) (came : IsIn old m
   -- both are resident then
   both-there : (new : Pool) (after : ℕ) → IsIn mid new second (Some first) between after
       → (page : ℕ) → has (first ∷ second ∷ []) page ≡ true → has new.resident page ≡ true
-  both-there new after later page inside = elim (or_cases (first == page) (second == page || false) inside) [
-    | inl here ↦ ap (has new.resident) (sym (eqb-true first page here)) ∙ later.stays first refl (in-there old mid first (Some second) before between came)
-    | inr rest ↦ one-there mid new second (Some first) between after later page rest
-  ]
+  both-there new after later page inside =
+      let stays = later.stays first refl (in-there old mid first (Some second) before between came) in let rest = one-there mid new second (Some first) between after later page in
+      grind (arith, nat_tests, inside, stays, rest)
 
 -- Over what runs, whose frames came to another pool, pages came in, or broke off.
 module _ {W : Type 0} (G : Ghosts W) (store : KeptStore) (outside : W) (a : Activity) (pages : List ℕ) (before after : ℕ) (new : Pool) (moved : IsMoved a.reach.pool new)

@@ -1,5 +1,5 @@
 -- What is asked for, waited for and got: the pages come in once more, and the row is served; or one can't be read.
-use Rattle.activations.proofs.Common.{◌≡◌, refl, ℕ, ◌<◌, ◌==◌, true, false, List, [], ◌∷◌, length, map, Some, IsSome, arith, sym, subst, Layout, has, AreWithin, Request, Want, Seat, sitter, number_in, waiting_for, taken-below, AreOfPage, Activity, IsSound, KeepsParts, StandsStill, asking, ap, program_at, with_whole_page, AreWanted, nat_tests, false_from_ne_true, ◌+◌, ◌%◌, if◌then◌else◌, not, Bool, ◌++◌, filter, slice_index_or, Result, Ok, Err, OnOk, IfErr, list_any, ◌∙◌, inl, inr, set-set, both_ways, eqb-true, ne_eqb, or_cases, or_left, All-head, All-tail, is_fine_page, FlatStore, Lines, both, page_of_line, pages_of, with_whole_pages, taken_out, has-append, has_right, lines_wanted, with_wants, no_lines_of, of_seat, Authority, Plain, On, Pool, Ghosts, KeptStore, TurnEnd, Desk, Entry, rolled_back, wanted, Word, ReadFailed, Fine, Counts, Attempt, Turning, Over, Disk, Fetched, Broken, fetches, goes_on, locks_with, touched_pages, with_grants, AreAlike, owners_told, gone_on, IsAmong, due_to, IsOrderly, granted-rolled, new-among, one-entry, replaced-among, due-more, grants-held, row-goes-on, touched_of, seat-told, resident-consistent, any-among, Seating, left, IsClean, is_line_marked, Touch, entry_in, entries, store_over, desk_over, authority_told, number_under, authority_under, locks_in, HasUndone, IsBrokenOff, IsStoreOf, HasBrokenOff, IsKept, IsServed, Serves, IsFetched, AreGranted, IsFree, locked, with_entries, rolled, with_pool, wrote, page_if, pages_picked, pages_wanted, wants_of, HasBroken, HasEnded, HasFetched, Grant, nobody, all_of, zero, suc, ◌&&◌, granted, lowered, page_count, long-seat, AreLowered, is_lowered, pages_lowered}
+use Rattle.activations.proofs.Common.{◌≡◌, refl, ℕ, ◌<◌, ◌==◌, true, false, List, [], ◌∷◌, length, map, Some, IsSome, arith, sym, subst, Layout, has, AreWithin, Request, Want, Seat, sitter, number_in, waiting_for, taken-below, AreOfPage, Activity, IsSound, KeepsParts, StandsStill, asking, ap, program_at, with_whole_page, AreWanted, nat_tests, false_from_ne_true, ◌+◌, ◌%◌, if◌then◌else◌, not, Bool, ◌++◌, filter, slice_index_or, Result, Ok, Err, OnOk, IfErr, list_any, ◌∙◌, set-set, both_ways, eqb-true, ne_eqb, or_left, All-head, All-tail, is_fine_page, FlatStore, Lines, both, page_of_line, pages_of, with_whole_pages, taken_out, has-append, has_right, lines_wanted, with_wants, no_lines_of, of_seat, Authority, Plain, On, Pool, Ghosts, KeptStore, TurnEnd, Desk, Entry, rolled_back, wanted, Word, ReadFailed, Fine, Counts, Attempt, Turning, Over, Disk, Fetched, Broken, fetches, goes_on, locks_with, touched_pages, with_grants, AreAlike, owners_told, gone_on, IsAmong, due_to, IsOrderly, granted-rolled, new-among, one-entry, replaced-among, due-more, grants-held, row-goes-on, touched_of, seat-told, resident-consistent, any-among, Seating, left, IsClean, is_line_marked, Touch, entry_in, entries, store_over, desk_over, authority_told, number_under, authority_under, locks_in, HasUndone, IsBrokenOff, IsStoreOf, HasBrokenOff, IsKept, IsServed, Serves, IsFetched, AreGranted, IsFree, locked, with_entries, rolled, with_pool, wrote, page_if, pages_picked, pages_wanted, wants_of, HasBroken, HasEnded, HasFetched, Grant, nobody, all_of, zero, suc, ◌&&◌, granted, lowered, page_count, long-seat, AreLowered, is_lowered, pages_lowered}
 use Rattle.desk.specs.declared.answers.TurnEnd.TheVariants as end
 use Rattle.activations.proofs.GrantLemmas.{within-whole, taken-alike, granted-all, lowered-all}
 use Rattle.activations.proofs.HoldingLemmas.{whole-of-page}
@@ -61,22 +61,15 @@ asked-whole directory wants asked sets is = subst AreOfPage (sym is) (whole-of-p
 
 -- a page that is picked is one of those of its touch
 if-below : (picked : Bool) (at pages page : ℕ) → at < pages → has (page_if picked at) page ≡ true → page < pages
-if-below true at pages page below inside = elim (or_cases (at == page) false inside) [
-  | inl here ↦ subst (λ (p : ℕ). p < pages) (eqb-true at page here) below
-  | inr none ↦ absurd (cc)
-]
-if-below false at pages page below inside = absurd (cc)
+if-below picked at pages page below inside = grind (arith, nat_tests, below, inside)
 
 pub picked-below : (pages : ℕ) (touch : Touch) (picked : Bool × Bool) → AreWithin pages (wants_of touch) → (page : ℕ) → has (pages_picked touch picked) page ≡ true → page < pages
 picked-below pages Touch.Nothing picked within page inside = absurd (cc)
 picked-below pages (Touch.One want) picked within page inside = if-below picked.0 want.page pages page (All-head (λ (w : Want). w.page < pages) want [] within) inside
 picked-below pages (Touch.Two first second) picked within page inside =
-    elim (or_cases (has (page_if picked.0 first.page) page) (has (page_if picked.1 second.page) page) (sym (has-append (page_if picked.0 first.page) (page_if picked.1 second.page) page) ∙ inside)) [
-      | inl here ↦ if-below picked.0 first.page pages page (All-head (λ (w : Want). w.page < pages) first (second ∷ []) within) here
-      | inr later ↦
-          if-below picked.1 second.page pages page
-          (All-head (λ (w : Want). w.page < pages) second [] (All-tail (λ (w : Want). w.page < pages) first (second ∷ []) within)) later
-    ]
+    let here = if-below picked.0 first.page pages page (All-head (λ (w : Want). w.page < pages) first (second ∷ []) within) in
+    let later = if-below picked.1 second.page pages page (All-head (λ (w : Want). w.page < pages) second [] (All-tail (λ (w : Want). w.page < pages) first (second ∷ []) within)) in
+    let split = has-append (page_if picked.0 first.page) (page_if picked.1 second.page) page in grind (arith, split, inside, here, later)
 
 -- what is kept is so whatever the entries of pages are
 kept-entries : (a : Activity) (owned : List Authority) (committed : List ℕ) → IsKept a committed → IsKept (with_entries a owned) committed

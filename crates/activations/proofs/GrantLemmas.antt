@@ -1,11 +1,11 @@
 -- Pages that are refused and granted, and what a seat holds once it has taken what it asked for.
-use Rattle.activations.proofs.Common.{length-map, ◌≡◌, refl, ℕ, zero, suc, ◌+◌, ◌*◌, ◌<◌, ◌≤◌, ◌==◌, if◌then◌else◌, Bool, true, false, List, [], ◌∷◌, filter, length, map, slice_set, range_with_len, arith, ap, sym, ◌∙◌, get_or-set_same, get_or-set_other, eqb-false, nat_tests, length-set, is_fine_page, passing, IsOfPage, has, within_page, is_whole_page, flat_lines, IsFlat, of_seat, held_at, Authority, unowned, grant_by, fine_grant_by, authority_given, authority_to_read, Activity, authority_at, authority_under, locks_in, IsSound, flat_authority, Grant, grant_of, slice_index_or, subst, inr, eq-eqb, or_left, or_right, All-cons, All-head, All-tail, Layout, of_page_where, Want, AreWithin, of_page, together, with_want, with_wants, Seating, took, taken-below, kept-took, same-with, other-with, Touch, AreOfPages, IsIdentified, AreSet, AreGranted, AreLowered, locked, with_entries, each_refused, pages_picked, pages_refused, stores_into, wants_of, with_whole_page, lowered-alike, granted-alike, ◌/◌, ◌%◌, ◌&&◌, ◌||◌, not, list_any-append, Lines, both, pages_of, with_whole_pages, has-append, has-filter, list_any, reaches, has-whole_pages, lines_wanted, flat-taken, AreAlike, owners_told, granted-told, lowered-told, alike-then, sitter, AreOfPage, number_under, is_lowered, pages_lowered, pages_wanted, Attempt, granted, lowered, or-false, ◌≢◌, All, All-nil, page_of_line, permits, has-page, nobody, refuses, refused_pages, touched_pages, lines_within, Ascend, refused-told, entries, desk_over, refuses_want, IsApart, lets, flat_map}
+use Rattle.activations.proofs.Common.{length-map, ◌≡◌, refl, ℕ, zero, suc, ◌+◌, ◌*◌, ◌<◌, ◌≤◌, ◌==◌, if◌then◌else◌, Bool, true, false, List, [], ◌∷◌, filter, length, map, slice_set, range_with_len, arith, ap, sym, ◌∙◌, get_or-set_same, get_or-set_other, eqb-false, nat_tests, length-set, is_fine_page, passing, IsOfPage, has, within_page, is_whole_page, flat_lines, IsFlat, of_seat, held_at, Authority, unowned, grant_by, fine_grant_by, authority_given, authority_to_read, Activity, authority_at, authority_under, locks_in, IsSound, flat_authority, Grant, grant_of, slice_index_or, subst, inr, eq-eqb, or_left, or_right, All-cons, All-head, All-tail, Layout, of_page_where, Want, AreWithin, of_page, together, with_want, with_wants, taken-below, kept-took, same-with, other-with, Touch, AreOfPages, IsIdentified, AreSet, AreGranted, AreLowered, locked, with_entries, each_refused, pages_picked, pages_refused, stores_into, wants_of, with_whole_page, lowered-alike, granted-alike, ◌/◌, ◌%◌, ◌&&◌, ◌||◌, not, list_any-append, Lines, both, pages_of, with_whole_pages, has-append, has-filter, list_any, reaches, has-whole_pages, lines_wanted, flat-taken, AreAlike, owners_told, granted-told, lowered-told, alike-then, sitter, AreOfPage, number_under, is_lowered, pages_lowered, pages_wanted, Attempt, granted, lowered, or-false, ◌≢◌, All, All-nil, page_of_line, permits, has-page, nobody, refuses, refused_pages, touched_pages, lines_within, Ascend, refused-told, entries, desk_over, refuses_want, IsApart, lets, flat_map}
 use Rattle.seats.specs.Holding.{taken as holding_more}
 use Rattle.desk.specs.Instruction.{given, with_each, to_read, lowered_pages}
 use Rattle.desk_law.proofs.EachPage.{each-alike}
 use Rattle.activations.proofs.HoldingLemmas.{held-flat, asked-alike, has-pages_wanted, whole-of-page, has-wanted}
 use Rattle.activations.proofs.TableLemmas.{map-range, under-page, stands-for}
-use Rattle.activations.proofs.SittingLemmas.{each_seat}
+use Rattle.activations.proofs.SittingLemmas.{each_seat, sound-beside}
 
 -- the lines of a page that pass a test, as flat lines
 flat-filter : (base : ℕ) (p q : ℕ → Bool) (from n : ℕ) → ((x : ℕ) → from ≤ x → x < from + n → q (base + x) ≡ p x)
@@ -51,17 +51,7 @@ module _ (a : Activity) (seat page : ℕ) (sound : IsSound a) where
       ≡ (if is_fine_page a.reach.directory page
       then fine_grant_by (seat + 1) storing (within_page page (locks_in a seat).reads) (within_page page (locks_in a seat).writes)
       else grant_by (seat + 1) (within_page page (locks_in a seat).reads) (within_page page (locks_in a seat).writes))
-  granted-page storing = by_fine (is_fine_page a.reach.directory page)
-    where
-      by_fine : (fine : Bool) → flat_authority page
-          (if fine
-          then fine_grant_by (seat + 1) storing (held_at a.seating.holding seat page).0 (held_at a.seating.holding seat page).1
-          else grant_by (seat + 1) (held_at a.seating.holding seat page).0 (held_at a.seating.holding seat page).1)
-          ≡ (if fine
-          then fine_grant_by (seat + 1) storing (within_page page (locks_in a seat).reads) (within_page page (locks_in a seat).writes)
-          else grant_by (seat + 1) (within_page page (locks_in a seat).reads) (within_page page (locks_in a seat).writes))
-      by_fine true = flat-fine page (seat + 1) storing (held_at a.seating.holding seat page).0 (held_at a.seating.holding seat page).1 ∙ (λ i. fine_grant_by (seat + 1) storing (reads-are i) (writes-are i))
-      by_fine false = flat-granted page (seat + 1) (held_at a.seating.holding seat page).0 (held_at a.seating.holding seat page).1 ∙ (λ i. grant_by (seat + 1) (reads-are i) (writes-are i))
+  granted-page storing = grind (arith, flat-fine, flat-granted, reads-are, writes-are)
 
   -- and with the write bit off
   pub lowered-page : flat_authority page (authority_to_read a seat page) ≡ record { owner = seat + 1; write = false; lines = within_page page (locks_in a seat).reads }
@@ -150,9 +140,13 @@ set-length : (of : ℕ → Grant) (pages : List ℕ) (old new : List Authority) 
 set-length of [] old new is = ap length is
 set-length of (page ∷ pages) old new (one, entry, rest) = set-length of pages (slice_set old page one) new rest ∙ length-set old page one
 
-granted-owner : (tid : ℕ) (reads writes : List ℕ) → (grant_by tid reads writes).owner ≡ tid
+pub granted-owner : (tid : ℕ) (reads writes : List ℕ) → (grant_by tid reads writes).owner ≡ tid
 granted-owner tid reads [] = refl
 granted-owner tid reads (line ∷ lines) = refl
+
+pub fine-owner : (tid : ℕ) (storing : Bool) (reads writes : List ℕ) → (fine_grant_by tid storing reads writes).owner ≡ tid
+fine-owner tid true reads writes = refl
+fine-owner tid false reads writes = granted-owner tid reads _
 
 given-owner : (a : Activity) (seat : ℕ) (storing : Bool) (page : ℕ) → (authority_given a seat storing page).owner ≡ seat + 1
 given-owner a seat storing page = grind (arith, granted-owner)
@@ -168,20 +162,13 @@ set-identified taken seat of (page ∷ pages) old new inside owner (one, entry, 
 -- Pages that a taken seat gets leave all sound.
 pub set-sound : (a : Activity) (seat : ℕ) (of : ℕ → Grant) (pages : List ℕ) (owned : List Authority) → IsSound a → has a.seating.taken seat ≡ true → ((page : ℕ) → (of page).owner ≡ seat + 1)
     → AreSet of pages a.reach.entries owned → IsSound (with_entries a owned)
-set-sound a seat of pages owned sound taken owner is = record {
-  seating = sound.seating;
-  seats = sound.seats;
-  numbers = sound.numbers;
-  live = sound.live;
-  pages = sound.pages;
-  lines = sound.lines;
-  requests = sound.requests;
-  begun = sound.begun;
-  entries = set-length of pages a.reach.entries owned is ∙ sound.entries;
-  set_up = λ at inside. let was = sound.set_up at inside in record { program = was.program; begun = was.begun; registers = was.registers; printed = was.printed; few = was.few };
-  free = sound.free;
-  identified = set-identified a.seating.taken seat of pages a.reach.entries owned taken owner is sound.identified;
-}
+set-sound a seat of pages owned sound taken owner is =
+    sound-beside a a.next a.reach.pool owned a.reach.registers a.reach.runner sound sound.numbers (set-length of pages a.reach.entries owned is ∙ sound.entries)
+    (set-identified a.seating.taken seat of pages a.reach.entries owned taken owner is sound.identified)
+
+-- one page
+pub one-sound : (a : Activity) (seat page : ℕ) (one : Authority) → IsSound a → has a.seating.taken seat ≡ true → (grant_of one).owner ≡ seat + 1 → IsSound (with_entries a (slice_set a.reach.entries page one))
+one-sound a seat page one sound taken owner = set-sound a seat (λ _. grant_of one) (page ∷ []) (slice_set a.reach.entries page one) sound taken (λ _. owner) (one, refl, refl)
 
 -- Who holds what he asked for, with the pages that are granted, leaves all sound.
 pub taken-sound : (a : Activity) (seat : ℕ) (wants : List Want) (pages : List ℕ) (owned : List Authority) → IsSound a → has a.seating.taken seat ≡ true
@@ -207,13 +194,6 @@ taken-sound a seat wants pages owned sound taken is =
           set-identified a.seating.taken seat (λ page. authority_given (locked a seat wants owned) seat (stores_into wants page) page) pages a.reach.entries owned taken
           (λ page. given-owner (locked a seat wants owned) seat (stores_into wants page) page) is sound.identified;
     }
-
--- the same of what is left once the seating was taken and then the entries were set
-pub sound-then : (a new : Activity) (seat : ℕ) (wants : List Want) (pages : List ℕ) (seating : Seating) → IsSound a → has a.seating.taken seat ≡ true → seating ≡ took a.seating seat (map (with_whole_page a.reach.directory) wants)
-    → new ≡ with_entries (record a { seating = seating }) new.reach.entries → AreGranted (record a { seating = seating }) seat wants pages a.reach.entries new.reach.entries → IsSound new
-sound-then a new seat wants pages seating sound taken is shape grants =
-    subst IsSound (sym (shape ∙ (λ i. with_entries (record a { seating = is i }) new.reach.entries)))
-    (taken-sound a seat wants pages new.reach.entries sound taken (granted-same (record a { seating = seating }) (locked a seat wants new.reach.entries) seat wants pages a.reach.entries new.reach.entries is refl grants))
 
 -- The pages of a touch that are picked where its entry refuses them are those that are refused.
 pub picked-refused : (owned : List Authority) (tid : ℕ) (touch : Touch) → pages_picked touch (each_refused owned tid touch) ≡ pages_refused owned tid (wants_of touch)
@@ -367,10 +347,7 @@ refused-some owned tid wants (want ∷ some) apart reads writes =
         → filter (λ page. refuses (slice_index_or (authority_under owned) page nobody) tid (lines_within page (lines_wanted wants))) (pages_wanted some) ≡ pages_refused owned tid some
         → (if a then (want.page ∷ filter (λ page. refuses (slice_index_or (authority_under owned) page nobody) tid (lines_within page (lines_wanted wants))) (pages_wanted some)) else filter (λ page. refuses (slice_index_or (authority_under owned) page nobody) tid (lines_within page (lines_wanted wants))) (pages_wanted some))
         ≡ pages_wanted (if b then (want ∷ filter (refuses_want owned tid) some) else filter (refuses_want owned tid) some)
-    step true true e rest = ap (λ (pages : List ℕ). want.page ∷ pages) rest
-    step true false e rest = absurd (cc)
-    step false true e rest = absurd (cc)
-    step false false e rest = rest
+    step a b e rest = grind (arith, e, rest)
 
 -- The pages that the desk refuses are those that the entries refuse the seat.
 pub refused-are : (a : Activity) (seat : ℕ) (committed : List ℕ) (order : List (ℕ × ℕ)) (attempt : Attempt) (wants : List Want) → IsSound a → Ascend 0 (entries a) a.next

@@ -1,5 +1,5 @@
 -- What a seat holds and what an access asks for, page by page and as flat lines, and how many lines will have been written.
-use Rattle.activations.proofs.Common.{◌≡◌, ◌≢◌, refl, ℕ, zero, suc, ◌+◌, ◌*◌, ◌<◌, ◌≤◌, ◌||◌, true, false, List, [], length, flat_map, range_with_len, arith, ap, sym, ◌∙◌, nat_tests, get_or_past, of_page-below, has, has-append, of_page, nothing, flat_lines, IsFlat, has-page, has-other_page, lines_held, AreOfPages, inl, inr, cases_lt, and-false, ◌/◌, ◌%◌, ◌==◌, ◌&&◌, not, nat_le, if◌then◌else◌, Bool, ◌∷◌, All, map, list_any, All-cons, All-head, All-tail, list_any-append, Layout, is_fine_page, IsOfPage, between, union, of_page_where, is_in_where-below, page_of_line, pages_of, with_whole_pages, has-pages_of, any-or, has-whole_pages, Want, lines_wanted, AreAlike, AreOfPage, with_whole_page, cond_both, ◌++◌, filter, sum_by, eqb-true, and_parts, append-nil, length-map, sum_by-cons, All-nil, passing, difference, distinct, size, has-filter, size-alike, size-apart, size-append, size-counted, write_count, and_left}
+use Rattle.activations.proofs.Common.{◌≡◌, ◌≢◌, refl, ℕ, zero, suc, ◌+◌, ◌*◌, ◌<◌, ◌≤◌, ◌||◌, true, false, List, [], length, flat_map, range_with_len, arith, ap, sym, ◌∙◌, nat_tests, get_or_past, of_page-below, has, has-append, of_page, nothing, flat_lines, IsFlat, has-page, has-other_page, lines_held, AreOfPages, inl, inr, cases_lt, and-false, ◌/◌, ◌%◌, ◌==◌, ◌&&◌, not, nat_le, ◌∷◌, All, map, list_any, All-cons, All-head, All-tail, list_any-append, Layout, is_fine_page, IsOfPage, between, of_page_where, is_in_where-below, page_of_line, pages_of, with_whole_pages, has-pages_of, any-or, has-whole_pages, Want, lines_wanted, AreAlike, AreOfPage, with_whole_page, cond_both, ◌++◌, filter, sum_by, eqb-true, and_parts, append-nil, length-map, sum_by-cons, All-nil, passing, difference, distinct, size, has-filter, size-alike, size-apart, size-append, size-counted, write_count, and_left}
 
 -- lines of pages from a first on, none of which is this page
 pub flat-apart : (sets : ℕ → List ℕ) (from n page line : ℕ) → ((p x : ℕ) → has (sets p) x ≡ true → x < 16) → line < 16 → ((p : ℕ) → from ≤ p → p < from + n → page ≢ p)
@@ -90,10 +90,6 @@ whole-of-page directory wants sets = record { reads = reads wants sets.reads; wr
     writes [] of = of
     writes (want ∷ wants) of = All-cons (λ (w : Want). IsOfPage w.writes) (with_whole_page directory want) (map (with_whole_page directory) wants) (cond_both (length want.writes == 0) _ _ (λ (w : Want). IsOfPage w.writes) (λ _. All-head (λ (w : Want). IsOfPage w.writes) want wants of) (λ _. All-head (λ (w : Want). IsOfPage w.writes) want wants of)) (writes wants (All-tail (λ (w : Want). IsOfPage w.writes) want wants of))
 
--- how a want's lines to read, its lines to write and its page come together
-gathers : (a b c n d e f : Bool) → ((a || (b || (c && n))) || (d || (e || (f && n)))) ≡ ((a || d) || ((b || e) || ((c || f) && n)))
-gathers a b c n d e f = grind arith
-
 -- What is asked for is what is touched, with each line that is written read, and the whole pages that are not fine and are written into.
 pub asked-alike : (directory : Layout) (wants : List Want) → AreOfPage wants
     → AreAlike (lines_wanted (map (with_whole_page directory) wants)) (with_whole_pages (is_fine_page directory) (lines_wanted wants))
@@ -126,33 +122,18 @@ asked-alike directory wants sets = record {
         let none = no-writes want.writes (line % 16) in let all = all-has (line % 16) (omega arith) in
         grind (arith, nat_tests, joined, none, all)
 
-    -- all but the reads is kept
-    kept : {A : Type 0} (of : Want → A) (want : Want) (reads : List ℕ) (none : Bool) → of (record want { reads = reads }) ≡ of want → of (if none then want else record want { reads = reads }) ≡ of want
-    kept of want reads true same = refl
-    kept of want reads false same = same
-
     page-same : (want : Want) → (with_whole_page directory want).page ≡ want.page
-    page-same want = kept (λ (want : Want). want.page) want (if is_fine_page directory want.page then union want.reads want.writes else between 0 15) (length want.writes == 0) refl
+    page-same want = grind arith
 
     writes-same : (want : Want) → (with_whole_page directory want).writes ≡ want.writes
-    writes-same want = kept (λ (want : Want). want.writes) want (if is_fine_page directory want.page then union want.reads want.writes else between 0 15) (length want.writes == 0) refl
+    writes-same want = grind arith
 
     each : (line : ℕ) (wants : List Want) → list_any (λ want. (want.page == page_of_line line) && has want.reads (line % 16)) (map (with_whole_page directory) wants)
         ≡ (list_any (λ want. (want.page == page_of_line line) && has want.reads (line % 16)) wants
         || (list_any (λ want. (want.page == page_of_line line) && has want.writes (line % 16)) wants
         || (list_any (λ want. (want.page == page_of_line line) && not (length want.writes == 0)) wants && not (is_fine_page directory (page_of_line line)))))
     each line [] = refl
-    each line (want ∷ wants) =
-        (λ i. (((page-same want i == page_of_line line) && has (with_whole_page directory want).reads (line % 16)) || each line wants i))
-        ∙ ap
-        (λ (b : Bool).
-        b
-        || (list_any (λ want. (want.page == page_of_line line) && has want.reads (line % 16)) wants
-        || (list_any (λ want. (want.page == page_of_line line) && has want.writes (line % 16)) wants
-        || (list_any (λ want. (want.page == page_of_line line) && not (length want.writes == 0)) wants && not (is_fine_page directory (page_of_line line))))))
-        (one line want)
-        ∙ gathers ((want.page == page_of_line line) && has want.reads (line % 16)) ((want.page == page_of_line line) && has want.writes (line % 16)) ((want.page == page_of_line line) && not (length want.writes == 0)) (not (is_fine_page directory (page_of_line line)))
-        (list_any (λ want. (want.page == page_of_line line) && has want.reads (line % 16)) wants) (list_any (λ want. (want.page == page_of_line line) && has want.writes (line % 16)) wants) (list_any (λ want. (want.page == page_of_line line) && not (length want.writes == 0)) wants)
+    each line (want ∷ wants) = grind (arith, page-same want, one line want, each line wants)
 
     same : (line : ℕ) (wants : List Want) → list_any (λ want. (want.page == page_of_line line) && has want.writes (line % 16)) (map (with_whole_page directory) wants)
         ≡ list_any (λ want. (want.page == page_of_line line) && has want.writes (line % 16)) wants

@@ -1,5 +1,5 @@
 -- What stays while those that run are served: of a rollback of another, and one after another.
-use Rattle.activations.proofs.Common.{◌≡◌, refl, ℕ, ◌+◌, ◌≤◌, ◌==◌, not, if◌then◌else◌, Bool, true, false, List, [], ◌∷◌, filter, length, None, replicate, Result, Ok, Err, OnOk, arith, ap, sym, ◌∙◌, subst, has, has-filter, ArrayVec, Cycle, Pool, Tally, Activity, IsSelected, TookEffect, HasUndone, KeepsParts, StandsStill, StaysSeated, Want, Authority, cleared_entry, unowned, map, slice_index_or, slice_range, zero, suc, ◌*◌, locked, rolled, with_pool, Ghosts, FewerLater, asks_on, nat_tests, KeepsAll, KeepsSound, IfErr, IsErrAnd, Rose, TurnEnd, EndsRows, EndsByDisk}
+use Rattle.activations.proofs.Common.{◌≡◌, refl, ℕ, ◌+◌, ◌≤◌, ◌==◌, not, if◌then◌else◌, Bool, true, false, List, [], ◌∷◌, filter, length, None, replicate, Result, Ok, Err, OnOk, arith, ap, sym, ◌∙◌, subst, has, has-filter, ArrayVec, Cycle, Pool, Tally, Activity, IsSelected, TookEffect, HasUndone, KeepsParts, StandsStill, StaysSeated, Want, Authority, cleared_entry, unowned, map, slice_index_or, slice_range, zero, suc, ◌*◌, locked, rolled, with_pool, Ghosts, FewerLater, asks_on, nat_tests, KeepsAll, IfErr, IsErrAnd, Rose, TurnEnd, EndsRows, EndsByDisk}
 
 -- none more are left of those but one
 pub no-more : (taken : List ℕ) (seat : ℕ) → length (filter (λ other. not (other == seat)) taken) ≤ length taken
@@ -136,10 +136,10 @@ keeps-less a b few more less keeps = record {
 -- one stage after another, which may call the disk or not
 pub keeps-all-on : {W : Type 0} (G : Ghosts W) (fewer_later : FewerLater G) (a b c : Activity) (u v w : W) → KeepsAll G a b 0 u v → KeepsAll G b c 0 v w → KeepsAll G a c 0 u w
 keeps-all-on G fewer_later a b c u v w first second =
-    record { sound = second.sound; asks = asks_on G fewer_later u v w first.asks second.asks; parts = keeps-two a b c first.parts second.parts }
+    record { asks = asks_on G fewer_later u v w first.asks second.asks; parts = keeps-two a b c first.parts second.parts }
 
-pub keeps-all-then : {W : Type 0} (G : Ghosts W) (a b c : Activity) (u v : W) → KeepsAll G a b 0 u v → KeepsSound b c 0 → KeepsAll G a c 0 u v
-keeps-all-then G a b c u v first second = record { sound = second.sound; asks = first.asks; parts = keeps-two a b c first.parts second.parts }
+pub keeps-all-then : {W : Type 0} (G : Ghosts W) (a b c : Activity) (u v : W) → KeepsAll G a b 0 u v → KeepsParts b c 0 → KeepsAll G a c 0 u v
+keeps-all-then G a b c u v first second = record { asks = first.asks; parts = keeps-two a b c first.parts second }
 
 -- what is to be said of an end that is handed on
 pub handed : {T : Type 0} (P : Result T TurnEnd → Type 0) (result : Result T TurnEnd) (end : TurnEnd) → IsErrAnd result (λ told. told ≡ end) → P (Err end) → P result

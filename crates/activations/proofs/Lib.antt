@@ -25,3 +25,4 @@ pub mod TurnLemmas
 pub mod WrittenLemmas
 pub mod FetchLemmas
 pub mod Lemmas
+pub mod FieldLemmas

@@ -176,12 +176,7 @@ module _ (a : Activity) (seat : ℕ) (wants : List Want) (owned : List Authority
   let-each [] apart reads writes stores free = All-nil (λ (w : Want). refuses_want owned (seat + 1) w ≡ false)
   let-each (want ∷ some) apart reads writes stores free =
       All-cons (λ (w : Want). refuses_want owned (seat + 1) w ≡ false) want some
-      (elim (cases_Bool (has pages want.page)) [
-        | inl there ↦ granted_here there
-        | inr out ↦
-            ap (λ (one : Authority). entry_refuses one (seat + 1) want) (set.1 out)
-            ∙ All-head (λ (w : Want). has pages w.page ≡ false → refuses_want a.reach.entries (seat + 1) w ≡ false) want some free out
-      ])
+      (let first = All-head (λ (w : Want). has pages w.page ≡ false → refuses_want a.reach.entries (seat + 1) w ≡ false) want some free in grind (arith, granted_here, set.1, first))
       (let-each some (All-tail (IsApart wants) want some apart) (All-tail (λ (w : Want). IsOfPage w.reads) want some reads) (All-tail (λ (w : Want). IsOfPage w.writes) want some writes)
       (λ page is. stores page (or_right ((want.page == page) && not (length want.writes == 0)) (stores_into some page) is))
       (All-tail (λ (w : Want). has pages w.page ≡ false → refuses_want a.reach.entries (seat + 1) w ≡ false) want some free))

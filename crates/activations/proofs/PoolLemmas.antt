@@ -1,5 +1,10 @@
 -- Frames, pages and lines by the size of a page, and pages that come in and go out, of which those that run see nothing.
-use Rattle.activations.proofs.Common.{PageSize, page_bytes, line_bytes, frame_count, line_place, entry_bytes, record_bytes, ◌≡◌, ℕ, ◌+◌, ◌-◌, ◌*◌, ◌/◌, ◌%◌, ◌<◌, ◌≤◌, arith, refl, ◌==◌, nat_lt, not, cond, Bool, true, List, [], ◌∷◌, length, Some, None, position_or_len, ap, eq-eqb, or_left, or_right, has, ◌||◌, if◌then◌else◌, false, ◌++◌, slice_index_or, option_to_list, remove, unwrap_or, sym, ◌∙◌, subst, page_of_line, brought, Pool, IsState, IsCurrent, IsOrderly, taken-below, Keeps, Activity, entry_in, entries, store_over, desk_over, state_in, IsSound, IsKept, KeepsDesk, IsMoved, with_pool, differs}
+use Rattle.activations.proofs.Common.{PageSize, page_bytes, line_bytes, frame_count, line_place, entry_bytes, record_bytes, ◌≡◌, ℕ, ◌+◌, ◌-◌, ◌*◌, ◌/◌, ◌%◌, ◌<◌, ◌≤◌, arith, refl, ◌==◌, nat_lt, not, cond, Bool, true, List, [], ◌∷◌, length, Some, None, position_or_len, ap, eq-eqb, or_left, or_right, has, ◌||◌, if◌then◌else◌, false, ◌++◌, slice_index_or, option_to_list, remove, unwrap_or, sym, ◌∙◌, subst, page_of_line, brought, Pool, IsState, IsCurrent, IsOrderly, taken-below, Keeps, Activity, entry_in, entries, store_over, desk_over, state_in, IsSound, IsKept, KeepsDesk, IsMoved, with_pool, differs, Option, is_some, get_or_past, page_count, reach_of, AreDistinct}
+use Rattle.std.specs.Prelude.{IsTrue}
+use Rattle.activations.specs.Follows.{HasFrames}
+use Rattle.desk_law.specs.Consistent.{AreResident}
+use Rattle.frame_pool.specs.Sound.{is_apart}
+use Rattle.storage_unit.specs.declared.unit.Unit.{Unit}
 
 -- the private frames have the first bytes
 pub private-all : (size : PageSize) (frames bytes : ℕ) → bytes ≡ frame_count size frames * page_bytes size → 262144 ≤ bytes
@@ -86,3 +91,23 @@ brought-first most page other resident out = brought-same most (other ∷ []) (p
 pub brought-second : (most page other : ℕ) (resident : List ℕ) → has resident page ≡ false → brought most (option_to_list (Some other)) resident page ≡ brought most (other ∷ page ∷ []) resident page
 brought-second most page other resident out =
     brought-same most (other ∷ []) (other ∷ page ∷ []) resident page (λ x inside. sym (ap (λ (b : Bool). other == x || (b || false)) (differs resident page x out inside)))
+
+-- each stands once where none stands twice
+distinct : (xs : List ℕ) → is_apart xs ≡ true → AreDistinct xs
+distinct [] is = tt
+distinct (x ∷ xs) is = grind (arith, distinct xs)
+
+-- what has a place is within the places
+within-places : (places : List (Option ℕ)) (page : ℕ) → is_some (slice_index_or places page None) ≡ true → page < length places
+within-places places page is = let past = get_or_past places page None in grind (arith, past)
+
+-- the pages in the frames of a unit fit
+pub frames-fit : (unit : Unit) → HasFrames (reach_of unit)
+frames-fit unit =
+    let seen = unit.fits.seen in
+    let within : (page : ℕ) → IsTrue (has unit.pool.resident page) → page < page_count unit.directory = λ page is.
+    grind (arith, within-places unit.pool.frame_of page, seen.resident page, unit.fits.pages, is) in
+    record {
+      some = seen.some;
+      resident = record { few = seen.few; once = distinct unit.pool.resident seen.apart; within = within };
+    }

@@ -13,14 +13,11 @@ line_from size bytes whole line = slice_range bytes (line_place size whole line)
 
 -- a line has its bytes
 pub shown-long : (pool : Pool) (seen : IsSeen pool) (page line : ℕ) → page < length pool.frame_of → line < 16 → length (line_shown pool page line) ≡ line_bytes pool.page
-shown-long pool seen page line below few = by_frame (frame_at pool page) refl
-  where
-    by_frame : (where_it_is : Option ℕ) → frame_at pool page ≡ where_it_is
-        → length (option_map_or (λ frame. line_in_frame pool frame line) where_it_is (line_kept pool page line)) ≡ line_bytes pool.page
-    by_frame (Some frame) is = range-long pool.bytes (line_place pool.page frame line) (line_bytes pool.page)
-        (line-there pool.page frame line (frame_count pool.page pool.frames) (length pool.bytes) (seen.below page frame (seen.there page frame is)) few seen.bytes)
-    by_frame None is =
-        range-long pool.kept (line_place pool.page page line) (line_bytes pool.page) (line-there pool.page page line (length pool.frame_of) (length pool.kept) below few seen.kept)
+shown-long pool seen page line below few =
+    let in_frame = λ (frame : ℕ) (is : frame_at pool page ≡ Some frame). range-long pool.bytes (line_place pool.page frame line) (line_bytes pool.page)
+    (line-there pool.page frame line (frame_count pool.page pool.frames) (length pool.bytes) (seen.below page frame (seen.there page frame is)) few seen.bytes) in
+    let kept = range-long pool.kept (line_place pool.page page line) (line_bytes pool.page) (line-there pool.page page line (length pool.frame_of) (length pool.kept) below few seen.kept) in
+    grind (arith, in_frame, kept)
 
 -- a byte of a line that is marked, as all see it
 module _ (size : PageSize) (d : Layout) (pool : Pool) (committed : List ℕ) (place : ℕ) (same : pool.page ≡ size) (sized : d.page ≡ size) (marked : is_marked d pool place ≡ true) where
@@ -140,18 +137,14 @@ module _ (a : Activity) (seat : ℕ) (committed : List ℕ) (now : Plain) (sound
     }
 
     each : (of : PageSize) (at : ℕ) (place : ℕ) → place < length committed → slice_index (laid size committed (recorded of (line_told a.reach.pool) at lines)) place ≡ slice_index now.store place
-    each of at place inside = (laid-over size of (line_told a.reach.pool) at lines committed are-lines).each place inside ∙ by_test (has lines (place / line_bytes size)) refl
-      where
-        by_test : (written : Bool) → has lines (place / line_bytes size) ≡ written
-            → (if written then slice_index (line_told a.reach.pool (place / line_bytes size)) (place % line_bytes size) else slice_index committed place) ≡ slice_index now.store place
-        by_test true is = told-byte size a.reach.directory a.reach.pool committed place reached.fits.size refl
-            (marked (place / line_bytes size) (sym (same (place / line_bytes size)) ∙ is))
-            ∙ sym (byte-of-all a.reach.directory a.reach.pool committed place (omega (arith, inside, follows.kept.long)))
-            ∙ sym (place-laid store (due_to store (entry_in a seat)).writes (shown a committed) committed now.store (line-bytes-pos a.reach.directory) done place
-            (sym (lines-due (place / line_bytes size)) ∙ sym (same (place / line_bytes size)) ∙ is))
-        by_test false is =
-            sym (place-kept store (due_to store (entry_in a seat)).writes (shown a committed) committed now.store (line-bytes-pos a.reach.directory) done place
-            (sym (lines-due (place / line_bytes size)) ∙ sym (same (place / line_bytes size)) ∙ is))
+    each of at place inside =
+        let told = λ (is : has lines (place / line_bytes size) ≡ true). told-byte size a.reach.directory a.reach.pool committed place reached.fits.size refl
+        (marked (place / line_bytes size) (sym (same (place / line_bytes size)) ∙ is))
+        ∙ sym (byte-of-all a.reach.directory a.reach.pool committed place (omega (arith, inside, follows.kept.long)))
+        ∙ sym (place-laid store (due_to store (entry_in a seat)).writes (shown a committed) committed now.store (line-bytes-pos a.reach.directory) done place (sym (lines-due (place / line_bytes size)) ∙ sym (same (place / line_bytes size)) ∙ is)) in
+        let kept = λ (is : has lines (place / line_bytes size) ≡ false).
+        place-kept store (due_to store (entry_in a seat)).writes (shown a committed) committed now.store (line-bytes-pos a.reach.directory) done place (sym (lines-due (place / line_bytes size)) ∙ sym (same (place / line_bytes size)) ∙ is) in
+        (laid-over size of (line_told a.reach.pool) at lines committed are-lines).each place inside ∙ grind (arith, told, kept)
 
     pub leaves-committed : (of : PageSize) (at : ℕ) → laid size committed (recorded of (line_told a.reach.pool) at lines) ≡ now.store
     leaves-committed of at =

@@ -1,5 +1,5 @@
 -- A rollback: pages go out one after another, their lines forgotten.
-use Rattle.activations.proofs.Common.{◌≡◌, refl, ℕ, ◌%◌, ◌<◌, ◌==◌, ◌&&◌, ◌||◌, not, if◌then◌else◌, Bool, true, false, List, [], ◌∷◌, ◌++◌, filter, length, slice_index, slice_index_or, Option, Some, None, is_some, option_map_or, arith, ap, sym, ◌∙◌, get_or-set_same, get_or-set_other, Layout, byte_count, page_count, line_of, difference, is_in_where-below, has, page_of_line, taken_out, has-append, Pool, marks_at, frame_at, undone, settled, gone, is_line_marked, bytes_over, Fits, UndoForgets, is_among, is_of, WereUndone, AreAsCommitted, nat_tests, ◌+◌, ◌*◌, ◌/◌, subst, eqb-true, eq-eqb, length-map-range_with_len, FlatStore, line-bytes-pos, of_page-below, Lines, any-at, any-some, has-pages_of, of_seat, no_lines_of, Entry, rolled_back, written_pages, AreAlike, AreMarked, IsState, IsLaid, IsCurrent, IsAmong, AreConsistent, due_to, current-rolled, both-imply, laid-places, marked-end, seat-told, other-with, IsClean, byte_over, byte-of-all, clean-shows, Activity, entry_in, entries, store_over, desk_over, lines_held, locks_in, state_for, live_in, shown, IsSound, IsKept, wrote, AreWritten, rolled, RollsBack, gone-stays}
+use Rattle.activations.proofs.Common.{◌≡◌, refl, ℕ, ◌%◌, ◌<◌, ◌==◌, ◌&&◌, ◌||◌, not, if◌then◌else◌, Bool, true, false, List, [], ◌∷◌, ◌++◌, filter, length, slice_index, slice_index_or, Option, Some, None, is_some, option_map_or, arith, ap, sym, ◌∙◌, get_or-set_same, get_or-set_other, Layout, byte_count, page_count, line_of, difference, is_in_where-below, has, page_of_line, taken_out, has-append, Pool, marks_at, frame_at, undone, settled, gone, is_line_marked, bytes_over, Fits, UndoForgets, is_of, WereUndone, AreAsCommitted, nat_tests, ◌+◌, ◌*◌, ◌/◌, subst, eqb-true, eq-eqb, length-map-range_with_len, FlatStore, line-bytes-pos, of_page-below, Lines, any-at, any-some, has-pages_of, of_seat, no_lines_of, Entry, rolled_back, written_pages, AreAlike, AreMarked, IsState, IsLaid, IsCurrent, IsAmong, AreConsistent, due_to, current-rolled, both-imply, laid-places, marked-end, seat-told, other-with, IsClean, byte_over, byte-of-all, clean-shows, Activity, entry_in, entries, store_over, desk_over, lines_held, locks_in, state_for, live_in, shown, IsSound, IsKept, wrote, AreWritten, rolled, RollsBack, gone-stays}
 use Rattle.activations.proofs.HoldingLemmas.{held-flat}
 use Rattle.activations.proofs.TableLemmas.{stands-for, left-taken, entries-left, authority-left}
 
@@ -61,11 +61,9 @@ module _ (directory : Layout) (lines : ℕ → List ℕ) (pages : List ℕ) (old
   pub were-undone : WereUndone lines pages old pool → WereUndone lines (pages ++ page ∷ []) old (undone pool page (lines page))
   were-undone were = record {
     marks = λ line.
-        ap (λ (marked : List (List ℕ)). has (slice_index_or marked (page_of_line line) []) (line % 16)) (gone-stays (settled pool page (lines page)) page).marked
-        ∙ settled-marks directory pool fits page below (lines page) line
-        ∙ ap (λ (b : Bool). b && not ((page == page_of_line line) && has (lines page) (line % 16))) (were.marks line)
-        ∙ neither-of (is_line_marked old line) (is_of pages lines line) ((page == page_of_line line) && has (lines page) (line % 16))
-        ∙ sym (ap (λ (b : Bool). is_line_marked old line && not b) (of-then lines pages page line));
+        let stays = ap (λ (marked : List (List ℕ)). has (slice_index_or marked (page_of_line line) []) (line % 16)) (gone-stays (settled pool page (lines page)) page).marked in
+        let now = settled-marks directory pool fits page below (lines page) line in let more = of-then lines pages page line in
+        grind (arith, stays, now, were.marks line, more);
     resident = gone-resident (settled pool page (lines page)) page (fits.seen.resident page)
         ∙ ap (taken_out (page ∷ [])) were.resident ∙ taken-then pages page old.resident;
     bytes = (gone-stays (settled pool page (lines page)) page).bytes ∙ were.bytes;
@@ -78,16 +76,9 @@ module _ (directory : Layout) (lines : ℕ → List ℕ) (pages : List ℕ) (old
   are-as-committed forgets committed long are =
       let undo = forgets directory pool committed page (lines page) fits long are.clean below in
       record {
-        bytes = λ place within.
-            undo.0 place within
-            ∙ ap (λ (byte : ℕ). if is_among page (lines page) (line_of directory place) then slice_index committed place else byte) (are.bytes place within)
-            ∙ chosen (is_of pages lines (line_of directory place)) (is_among page (lines page) (line_of directory place)) (slice_index committed place) (slice_index (bytes_over directory old committed) place)
-            ∙ sym (ap (λ (b : Bool). if b then slice_index committed place else slice_index (bytes_over directory old committed) place) (of-then lines pages page (line_of directory place)));
+        bytes = λ place within. let more = of-then lines pages page (line_of directory place) in grind (arith, undo.0 place within, are.bytes place within, more);
         clean = undo.1;
       }
-    where
-      chosen : (a b : Bool) (x y : ℕ) → (if b then x else if a then x else y) ≡ (if a || b then x else y)
-      chosen a b x y = grind arith
 
 -- a line that a seat holds to write is one of the lines that it holds
 pub wrote-held : (a : Activity) (seat : ℕ) (lines : Lines) → IsSound a → AreAlike (locks_in a seat) lines → (line : ℕ) → has (wrote a seat (page_of_line line)) (line % 16) ≡ has lines.writes line

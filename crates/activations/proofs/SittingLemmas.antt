@@ -1,5 +1,6 @@
 -- Who sits in a seat, and what runs there, when one seat changes; and what leaves all sound.
-use Rattle.activations.proofs.Common.{◌≡◌, refl, ℕ, zero, suc, ◌+◌, ◌-◌, ◌<◌, ◌==◌, true, false, List, length, slice_index_or, slice_set, None, [], arith, ap, sym, ◌∙◌, subst, get_or-set_same, get_or-set_other, set-set, eqb-true, eqb-false, has, over_all, Seat, Seating, sitter, number_in, newcomer, with_sitter, went_on, private_bytes, plain_over, Live, Activity, nothing_runs, live_in, state_in, shown, entry_for, entry_in, number_under, counted, nat_tests, inl, inr, cases_Bool, All, AllPairs, ForSome, length-set, All-set, AreWithin, Request, Pool, registers_of_program, IsSeating, taken-below, AreOfPage, private_segment, program_at, IsSound, ◌≤◌, IsState, store_over, state_for, reprinted, KeepsDesk, Reach, bytes_over, executed, IsSetUp, both_ways}
+use Rattle.activations.proofs.Common.{◌≡◌, refl, ℕ, zero, suc, ◌+◌, ◌-◌, ◌<◌, ◌==◌, true, false, List, length, slice_index_or, slice_set, None, [], arith, ap, sym, ◌∙◌, subst, get_or-set_same, get_or-set_other, set-set, eqb-true, eqb-false, has, over_all, Seat, Seating, sitter, number_in, newcomer, with_sitter, went_on, private_bytes, plain_over, Live, Activity, nothing_runs, live_in, state_in, shown, entry_for, entry_in, number_under, counted, nat_tests, inl, inr, cases_Bool, All, AllPairs, ForSome, length-set, All-set, AreWithin, Request, Pool, registers_of_program, IsSeating, taken-below, AreOfPage, private_segment, program_at, IsSound, ◌≤◌, IsState, store_over, state_for, reprinted, KeepsDesk, Reach, bytes_over, executed, IsSetUp, both_ways, Authority, page_count, unowned, IsIdentified}
+use Rattle.page_table.specs.declared.segment_regs.SegmentRegs.{SegmentRegs}
 
 module _ (seating : Seating) (seat : ℕ) (who : Seat) (sixteen : length seating.sitters ≡ 16) (below : seat < 16) where
   pub sitter-there : sitter (with_sitter seating seat who) seat ≡ who
@@ -77,9 +78,11 @@ counted-more a seat rows sixteen below i = record a { seating = record a.seating
         set-set a.seating.sitters seat once (record (sitter (with_sitter a.seating seat once) seat) { rows = (sitter (with_sitter a.seating seat once) seat).rows + 1; waits = None })
         ∙ ap (slice_set a.seating.sitters seat) (ap (λ (who : Seat). record who { rows = who.rows + 1; waits = None }) is ∙ (λ i. record (sitter a.seating seat) { rows = rows_are i; waits = None }))
 
--- frames may have other pages, and numbers may have been given
-pub sound-beside : (a : Activity) (next : ℕ) (pool : Pool) → IsSound a → All (λ seat. number_in a.seating seat < next) a.seating.taken → IsSound (record a { next = next; reach = record a.reach { pool = pool } })
-sound-beside a next pool sound numbers = record {
+-- numbers may have been given, frames may have other pages, pages other entries, and another seat may be selected
+pub sound-beside : (a : Activity) (next : ℕ) (pool : Pool) (owned : List Authority) (registers : SegmentRegs) (runner : ℕ) → IsSound a → All (λ seat. number_in a.seating seat < next) a.seating.taken
+    → length owned ≡ page_count a.reach.directory → ((page : ℕ) → IsIdentified a.seating.taken (slice_index_or owned page unowned))
+    → IsSound (record a { next = next; reach = record a.reach { pool = pool; entries = owned; registers = registers; runner = runner } })
+sound-beside a next pool owned registers runner sound numbers entries identified = record {
   seating = sound.seating;
   seats = sound.seats;
   numbers = numbers;
@@ -88,10 +91,10 @@ sound-beside a next pool sound numbers = record {
   lines = sound.lines;
   requests = sound.requests;
   begun = sound.begun;
-  entries = sound.entries;
+  entries = entries;
   set_up = λ seat inside. let was = sound.set_up seat inside in record { program = was.program; begun = was.begun; registers = was.registers; printed = was.printed; few = was.few };
   free = sound.free;
-  identified = sound.identified;
+  identified = identified;
 }
 
 -- A seat's sitter may go on with the same number and program: with more rows, and with a request or without.

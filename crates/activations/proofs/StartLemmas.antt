@@ -1,5 +1,5 @@
 -- An access that isn't permitted: where its serving begins, and what becomes of it first.
-use Rattle.activations.proofs.Common.{pages_of, TurnEnd, ending_told, IsToServe, AreTouched, attempt_in, lines_with, HasEnded, AreWanted, instruction, resident-consistent, Reads, ◌≡◌, refl, ℕ, zero, suc, ◌+◌, ◌<◌, ◌==◌, nat_lt, if◌then◌else◌, Bool, true, false, List, [], ◌∷◌, ◌++◌, All, filter, length, map, Some, ap, sym, ◌∙◌, subst, eq-eqb, is_fine_page, has, size, Lines, no_lines, with_whole_pages, Request, Want, lines_wanted, Plain, On, row, touched, Pool, Desk, Entry, with_entry, rolled_back, conflicts_of, Word, Counts, Attempt, Over, Fetched, Broken, Fine, Journal, Disk, fetches, touched_pages, refused_pages, gets, contest_ends, lines_written, AreAlike, AreMarked, IsState, requested, owners_told, over_all, by_number, kept_conflict, IsAmong, due_to, IsCurrent, IsOrderly, rolled-consistent, IsReady, contest, IsUnderWay, served_attempt, alike-then, alike-back, replaced, marked-mark, seat-told, told-replaced, IsContesting, free-gets, free-none, contest-begins, Seat, sitter, holders, AreOfPage, taken-below, is_line_marked, Keeps, plain_over, Activity, live_in, program_in, entry_for, entry_in, entries, authority_under, number_under, request_for, store_over, desk_over, locks_in, request_in, state_in, shown, IsSound, IsKept, KeepsDesk, ComesToEnd, IsFree, IsContested, WereRefused, instruction_in, asking, with_pool, rolled, IsMoved, RollsBack, IsApart, pages_refused, pages_wanted, with_whole_page, Authority, lines_of_access, Access, Ghosts, KeptStore, IsClean, ReadFailed, Turning, Touch, IsSelected, IsShut, HasUndone, IsStoreOf, IsBrokenOff, HasBrokenOff, IsAsked, IsPrepared, IsFetched, counted_with, wants_of, each_refused, HasBroken, arith, found-among, size-alike, any-at, within-most, written-alike, false_from_ne_true, or-false, not-false, ◌-◌, ◌%◌, ◌≤◌, not, find, slice_index_or, Option, inl, inr, both_ways, eqb-true, and_parts, or_cases, or_parts, not-true, has-append, has_left, page_of_line, grant_of, lets, unowned, Going, turns, permitted-told, number_in, is_granted, IsTurning, IsRolledBack, EndsServing}
+use Rattle.activations.proofs.Common.{pages_of, TurnEnd, ending_told, IsToServe, AreTouched, attempt_in, lines_with, HasEnded, AreWanted, instruction, resident-consistent, Reads, ◌≡◌, refl, ℕ, zero, suc, ◌+◌, ◌<◌, ◌==◌, nat_lt, if◌then◌else◌, Bool, true, false, List, [], ◌∷◌, ◌++◌, All, filter, length, map, Some, ap, sym, ◌∙◌, subst, eq-eqb, is_fine_page, has, size, Lines, no_lines, with_whole_pages, Request, Want, lines_wanted, Plain, On, row, touched, Pool, Desk, Entry, with_entry, rolled_back, conflicts_of, Word, Counts, Attempt, Over, Fetched, Broken, Fine, Journal, Disk, fetches, touched_pages, refused_pages, gets, contest_ends, lines_written, AreAlike, AreMarked, IsState, requested, owners_told, over_all, by_number, kept_conflict, IsAmong, due_to, IsCurrent, IsOrderly, rolled-consistent, IsReady, contest, IsUnderWay, served_attempt, alike-then, alike-back, replaced, marked-mark, seat-told, told-replaced, IsContesting, free-gets, free-none, contest-begins, Seat, sitter, holders, AreOfPage, taken-below, is_line_marked, Keeps, plain_over, Activity, live_in, program_in, entry_for, entry_in, entries, authority_under, number_under, request_for, store_over, desk_over, locks_in, request_in, state_in, shown, IsSound, IsKept, KeepsDesk, ComesToEnd, IsFree, IsContested, WereRefused, instruction_in, asking, with_pool, rolled, IsMoved, RollsBack, IsApart, pages_refused, pages_wanted, with_whole_page, Authority, lines_of_access, Access, Ghosts, KeptStore, IsClean, ReadFailed, Turning, Touch, IsSelected, IsShut, HasUndone, IsStoreOf, IsBrokenOff, HasBrokenOff, IsAsked, IsPrepared, IsFetched, counted_with, wants_of, each_refused, HasBroken, arith, found-among, size-alike, any-at, within-most, written-alike, false_from_ne_true, or-false, not-false, ◌-◌, ◌%◌, ◌≤◌, not, find, slice_index_or, Option, both_ways, eqb-true, and_parts, or_parts, not-true, has-append, has_left, page_of_line, grant_of, lets, unowned, Going, turns, permitted-told, number_in, is_granted, IsTurning, IsRolledBack, EndsServing}
 use Rattle.desk_law.proofs.LinesThere.{fetches-none}
 use Rattle.desk_law.proofs.ServesToLocks.{asked_for, serve-asks, serve-outcome, serve-journal, serve-within, serve-broken, serve-ready}
 use mir.Val.{bool_byte}
@@ -400,10 +400,7 @@ module _ (a : Activity) (seat : ℕ) (committed : List ℕ) (order : List (ℕ �
       (written-alike (locks_in a seat) due (lines_wanted (wants_of touch)) (to.follows.kept.held seat to.taken)
       ∙ size-alike (due.writes ++ (lines_wanted (wants_of touch)).writes) due.writes
       (record {
-        among = λ line inside. elim (or_cases (has due.writes line) (has (lines_wanted (wants_of touch)).writes line) (sym (has-append due.writes (lines_wanted (wants_of touch)).writes line) ∙ inside)) [
-          | inl old ↦ old
-          | inr new ↦ writes-held line new
-        ];
+        among = λ line inside. let new = writes-held line in let split = has-append due.writes (lines_wanted (wants_of touch)).writes line in grind (arith, split, inside, new);
       })
       (record { among = λ line inside. has_left due.writes (lines_wanted (wants_of touch)).writes line inside }))
       ∙ within-most (desk_over a committed []) (entry_in a seat) to.follows.orderly (seat-told a.seating.taken (entry_in a) seat to.taken)

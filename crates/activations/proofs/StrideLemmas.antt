@@ -1,5 +1,5 @@
 -- A run of rows: how far it is, and what a step of it came to.
-use Rattle.activations.proofs.Lemmas.{◌≡◌, ◌≤◌, ◌<◌, ◌+◌, ◌∙◌, ℕ, Some, arith, refl, sym, subst, Activity, Reach, Live, Access, Commit, Check, WasAttempted, IsSound, IsShut, with_live, took-either, came-still, came-either, none-yet, attempted-again, strode-one, strode-halted, inl, inr}
+use Rattle.activations.proofs.Lemmas.{◌≡◌, ◌≤◌, ◌<◌, ◌+◌, ℕ, Some, arith, sym, subst, Activity, Reach, Live, Access, Commit, Check, WasAttempted, IsSound, IsShut, with_live, took-either, came-still, came-either, none-yet, attempted-again, strode-one, strode-halted, inl, inr}
 use Rattle.romp_cpu.specs.declared.cpu.Attempt.{Attempt}
 use Rattle.romp_cpu.specs.declared.storage.Fault.{Fault}
 use Rattle.std.specs.Prelude.{None}
@@ -11,13 +11,12 @@ pub record RunsOn (limit : ℕ) (first : Reach) (initial : Live) (ran : ℕ) (re
   pub few : ran ≤ limit
   pub strode : (a : Activity) (seat : ℕ) → RunsAt a seat first initial → StrodeTo a seat ran live reach
   pub runs : (a : Activity) × (seat : ℕ) × RunsAt a seat reach live
-  pub directory : reach.directory ≡ first.directory
 
 -- at first none
 pub runs-none : (limit : ℕ) (reach : Reach) (live : Live) → ((a : Activity) × (seat : ℕ) × RunsAt a seat reach live) → RunsOn limit reach live 0 reach live
-runs-none limit reach live runs = record { few = omega arith; strode = λ a seat at. none-yet a seat reach live at; runs = runs; directory = refl }
+runs-none limit reach live runs = record { few = omega arith; strode = λ a seat at. none-yet a seat reach live at; runs = runs }
 
-module _ {limit ran : ℕ} {first reach new : Reach} {initial live next : Live} (so : RunsOn limit first initial ran reach live) (directory : new.directory ≡ reach.directory) where
+module _ {limit ran : ℕ} {first reach new : Reach} {initial live next : Live} (so : RunsOn limit first initial ran reach live) where
   -- a row that took effect is one more
   pub runs-one :
       (attempt : Attempt) → (attempt ≡ Attempt.Went) ⊎ ((byte : ℕ) × (attempt ≡ Attempt.Print byte)) → ran < limit
@@ -30,7 +29,6 @@ module _ {limit ran : ℕ} {first reach new : Reach} {initial live next : Live} 
         few = omega (arith, below);
         strode = λ a seat here. one a seat ran (so.strode a seat here);
         runs = (with_live b place next new, place, (one b place 0 (none-yet b place reach live there)).runs);
-        directory = directory ∙ so.directory;
       }
     where
       one : (a : Activity) (seat rows : ℕ) → StrodeTo a seat rows live reach → StrodeTo a seat (rows + 1) next new
@@ -54,7 +52,6 @@ module _ {limit ran : ℕ} {first reach new : Reach} {initial live next : Live} 
         let (still, shut) = attempted-again a seat ran live next reach new at (Attempt.Fault fault access) (went _ seat at.runs) in
         let same : access ≡ other = cc in
         subst (λ (wants : Access). IsShut (with_live a seat next new) seat wants) same (subst (λ (x : Activity). IsShut x seat access) (sym still) shut);
-    directory = directory ∙ so.directory;
   }
 
   -- so does a commit call, and a check
@@ -77,5 +74,4 @@ module _ {limit ran : ℕ} {first reach new : Reach} {initial live next : Live} 
           | inr (code, is) ↦ inr (code, came-still (Check code) now after seat (subst (λ (one : Attempt). WasAttempted one now seat after) is came) committed long)
         ];
     shut = λ access is. absurd (cc (is));
-    directory = directory ∙ so.directory;
   }

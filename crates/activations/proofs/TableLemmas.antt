@@ -1,5 +1,5 @@
 -- The authority of pages under identifiers of seats, and a seat that is left: its entry goes, and its pages are nobody's.
-use Rattle.activations.proofs.Common.{not-false, ◌≡◌, refl, ℕ, suc, ◌+◌, ◌*◌, ◌/◌, ◌%◌, ◌<◌, ◌==◌, Bool, true, false, List, slice_index_or, arith, ap, sym, ◌∙◌, inl, inr, nat_tests, get_or_past, get_or-map-range_with_len, length-map-range_with_len, passing, has, page_of_line, permits, flat_lines, has-page, Authority, grant_of, lets, unowned, nobody, IsThere, StandsFor, Ascend, permitted-told, seat-told, sitter, IsOpenLine, Activity, flat_authority, authority_at, authority_under, number_under, entry_in, entries, desk_over, IsSound, KeepsDesk, IsIdentified, Grant, zero, ◌≤◌, not, nat_lt, if◌then◌else◌, [], ◌∷◌, length, map, slice_set, range_with_len, subst, get_or-set_same, get_or-set_other, eqb-false, and_parts, and_from, not-true, length-map, length-set, get_or-map, All-filter, IsOfPage, has-filter, cleared_entry, owners_told, freed-told, others, told-others, number_in, left, taken-below, kept-left, same-with, other-with, of_page, nothing, of_seat, no_lines_of, released, authority_told, AreOfPages, vacated, cond_both, map-map}
+use Rattle.activations.proofs.Common.{not-false, ◌≡◌, refl, ℕ, suc, ◌+◌, ◌*◌, ◌/◌, ◌%◌, ◌<◌, ◌==◌, Bool, true, false, List, slice_index_or, arith, ap, sym, ◌∙◌, inl, inr, nat_tests, get_or_past, get_or-map-range_with_len, length-map-range_with_len, passing, has, page_of_line, permits, flat_lines, has-page, Authority, grant_of, lets, unowned, nobody, IsThere, StandsFor, Ascend, permitted-told, seat-told, sitter, IsOpenLine, Activity, flat_authority, authority_at, authority_under, number_under, entry_in, entries, desk_over, IsSound, KeepsDesk, IsIdentified, Grant, zero, ◌≤◌, not, if◌then◌else◌, [], ◌∷◌, length, map, slice_set, range_with_len, subst, get_or-set_same, get_or-set_other, eqb-false, and_parts, and_from, not-true, length-map, length-set, get_or-map, All-filter, IsOfPage, has-filter, cleared_entry, owners_told, freed-told, others, told-others, number_in, left, taken-below, kept-left, same-with, other-with, of_page, nothing, of_seat, no_lines_of, released, authority_told, AreOfPages, vacated, cond_both, map-map, cases_lt}
 use Rattle.desk_law.proofs.Entries.{between}
 use Rattle.activations.proofs.SittingLemmas.{each_seat}
 
@@ -37,16 +37,10 @@ module _ (a : Activity) (sound : IsSound a) (committed : List ℕ) (ascend : Asc
   }
     where
       by_owner : (one : Authority) → IsIdentified a.seating.taken one → (one.tid == seat + 1) ≡ (number_under a one.tid == (sitter a.seating seat).number)
-      by_owner one (inl none) = ap (λ (e : Authority). e.tid == seat + 1) none
-          ∙ (let some = number-some seat taken in
-          let left : (0 == seat + 1) ≡ false = grind (arith, nat_tests) in
-          let right : (0 == (sitter a.seating seat).number) ≡ false = grind (arith, nat_tests, some) in
-          left ∙ sym right) ∙ sym (ap (λ (e : Authority). number_under a e.tid == (sitter a.seating seat).number) none)
+      by_owner one (inl none) = let some = number-some seat taken in grind (arith, nat_tests, none, some)
       by_owner one (inr (other, inside, is)) =
-          let next : other + 1 ≡ suc other = omega arith in
-          let shift : (other + 1 == seat + 1) ≡ (other == seat) = grind (arith, nat_tests) in
-          ap (λ (n : ℕ). n == seat + 1) is ∙ shift ∙ sym (sound.seats.apart other seat inside taken)
-          ∙ sym (ap (λ (n : ℕ). number_under a n == (sitter a.seating seat).number) (is ∙ next))
+          let next : other + 1 ≡ suc other = omega arith in let at = ap (number_under a) (is ∙ next) in let apart = sound.seats.apart other seat inside taken in
+          grind (arith, nat_tests, is, at, apart)
 
 module _ (a : Activity) (sound : IsSound a) (committed : List ℕ) (follows : KeepsDesk a committed) where
   -- a line that is open to the selected seat is there for its activation
@@ -141,14 +135,9 @@ module _ (a : Activity) (seat : ℕ) (sound : IsSound a) (taken : has a.seating.
         let there = get_or-set_same a.reach.begun seat false false (omega (arith, sound.begun, below)) in
         let is = has-filter (λ other. not (other == seat)) a.seating.taken at in let was = sound.free at in
         let other = begun-other at in grind (arith, nat_tests, there, is, was, other);
-    identified = λ page. by_page page (nat_lt page (length a.reach.entries)) refl;
+    identified = λ page. elim (cases_lt page (length a.reach.entries)) [
+      | inl below ↦
+          subst (IsIdentified (left a.seating seat).taken) (sym (get_or-map (cleared_entry (seat + 1)) a.reach.entries page unowned unowned below)) (identified-left (slice_index_or a.reach.entries page unowned) (sound.identified page))
+      | inr out ↦ inl (get_or_past (map (cleared_entry (seat + 1)) a.reach.entries) page unowned (let long = length-map a.reach.entries (cleared_entry (seat + 1)) in omega (arith, out, long)))
+    ];
   }
-    where
-      out : (page : ℕ) → nat_lt page (length a.reach.entries) ≡ false → length (map (cleared_entry (seat + 1)) a.reach.entries) ≤ page
-      out page e = let n : length (map (cleared_entry (seat + 1)) a.reach.entries) ≡ length a.reach.entries = length-map a.reach.entries (cleared_entry (seat + 1)) in grind (arith, nat_tests, e, n)
-
-      by_page : (page : ℕ) → (within : Bool) → nat_lt page (length a.reach.entries) ≡ within → IsIdentified (left a.seating seat).taken (slice_index_or (map (cleared_entry (seat + 1)) a.reach.entries) page unowned)
-      by_page page true e =
-          subst (IsIdentified (left a.seating seat).taken) (sym (get_or-map (cleared_entry (seat + 1)) a.reach.entries page unowned unowned (grind (arith, nat_tests, e))))
-          (identified-left (slice_index_or a.reach.entries page unowned) (sound.identified page))
-      by_page page false e = inl (get_or_past (map (cleared_entry (seat + 1)) a.reach.entries) page unowned (out page e))

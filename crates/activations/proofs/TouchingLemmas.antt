@@ -1,5 +1,5 @@
 -- The lines that an access touches, page by page, and how many will have been written with them.
-use Rattle.activations.proofs.Common.{◌==◌, range_with_len, nat_tests, passing, between, append-nil, get_or-map-range_with_len, flat_lines, lines_wanted, lines_between, pages_of, ◌≡◌, ℕ, ◌+◌, ◌-◌, ◌*◌, ◌/◌, ◌%◌, ◌<◌, ◌≤◌, Bool, true, false, List, [], ◌∷◌, ◌++◌, refl, sym, ◌∙◌, ap, arith, map, get_or, inl, inr, cases_eq, or_parts, subst, eq-eqb, ne_eqb, both_ways, length-range_with_len, sum_by-le, All-nil, All-cons, All-head, All-tail, All-get_or, All-from_get_or, PageSize, Two, Four, Layout, start_of, length_of, byte_count, page_count, IsLegal, line_of, line_count, difference, IsOfPage, line_bytes, of_page_where, line-below, segment-within, has, Lines, no_lines, Want, nothing, write_count, AreWithin, of_seat, held_at, Program, in_segment, in_window, in_register, located, lines_at, Registers, located_by, virtual_at, Access, lines_of_access, registers_of_program, AreDistinct, filter-short, AreOfPage, private_segment, is_private, offset_of, place_at, Activity, live_in, program_in, AreOfPages, IsSound, lines_with, Touch, pages_wanted, wants_of, AreWanted, zero, suc, ◌^◌, ◌||◌, ◌&&◌, nat_le, if◌then◌else◌, length, slice_index_or, Option, Some, None, Result, Ok, Err, Located, Private, Shared, Refused}
+use Rattle.activations.proofs.Common.{◌==◌, range_with_len, nat_tests, passing, between, append-nil, get_or-map-range_with_len, flat_lines, lines_wanted, lines_between, pages_of, ◌≡◌, ℕ, ◌+◌, ◌-◌, ◌*◌, ◌/◌, ◌%◌, ◌<◌, ◌≤◌, Bool, true, false, List, [], ◌∷◌, ◌++◌, refl, sym, ◌∙◌, ap, arith, map, get_or, or_parts, subst, eq-eqb, ne_eqb, both_ways, length-range_with_len, sum_by-le, All-nil, All-cons, All-head, All-tail, All-get_or, All-from_get_or, PageSize, Two, Four, Layout, start_of, length_of, byte_count, page_count, IsLegal, line_of, line_count, difference, IsOfPage, line_bytes, of_page_where, line-below, segment-within, has, Lines, no_lines, Want, nothing, write_count, AreWithin, of_seat, held_at, Program, in_segment, in_register, located, lines_at, Registers, located_by, virtual_at, Access, lines_of_access, registers_of_program, AreDistinct, filter-short, AreOfPage, private_segment, is_private, offset_of, place_at, Activity, live_in, program_in, AreOfPages, IsSound, lines_with, Touch, pages_wanted, wants_of, AreWanted, zero, suc, ◌^◌, ◌||◌, ◌&&◌, nat_le, if◌then◌else◌, length, Option, Some, None, Result, Ok, Err, Located, Private, Shared, Refused}
 use Rattle.flat_machine.specs.declared.machine.Window.{Window}
 use Rattle.page_table.specs.declared.segment_regs.Check.{Check}
 use Rattle.page_table.specs.declared.segment_regs.Virtual.{Virtual}
@@ -63,18 +63,14 @@ one-page first last false sets order near one is =
 
 -- one line, or two neighbours in a page, have that page
 same_page : (first last : ℕ) → first ≤ last → last ≤ first + 1 → first / 16 ≡ last / 16 → pages_of (range_with_len first (last + 1 - first)) ≡ first / 16 ∷ []
-same_page first last order near one = elim (cases_eq last first) [
-  | inl same ↦ let count : last + 1 - first ≡ 1 = omega arith in ap (λ (n : ℕ). pages_of (range_with_len first n)) count
-  | inr apart ↦
-      let count : last + 1 - first ≡ 2 = omega arith in let next : (first + 1) / 16 ≡ first / 16 = omega arith in
-      ap (λ (n : ℕ). pages_of (range_with_len first n)) count ∙ grind (arith, nat_tests, next)
-]
+same_page first last order near one =
+    let alone = λ (same : last ≡ first). let count : last + 1 - first ≡ 1 = omega arith in ap (λ (n : ℕ). pages_of (range_with_len first n)) count in
+    let both = λ (apart : last ≡ first → ⊥). let count : last + 1 - first ≡ 2 = omega arith in ap (λ (n : ℕ). pages_of (range_with_len first n)) count in
+    let next = λ (apart : last ≡ first → ⊥). let is : (first + 1) / 16 ≡ first / 16 = omega arith in is in grind (arith, nat_tests, alone, both, next)
 
 pub page-between : (first last : ℕ) (store : Bool) → first ≤ last → last ≤ first + 1 → first / 16 ≡ last / 16
     → first / 16 ∷ [] ≡ pages_of ((lines_between first last store).reads ++ (lines_between first last store).writes)
-page-between first last true order near one = sym (same_page first last order near one)
-page-between first last false order near one =
-    sym (same_page first last order near one) ∙ ap pages_of (sym (append-nil (range_with_len first (last + 1 - first))))
+page-between first last store order near one = grind (arith, append-nil (range_with_len first (last + 1 - first)), same_page first last order near one)
 
 -- no line is a set of lines
 of-none : IsOfPage []
@@ -112,17 +108,11 @@ wanted-one d want first last store page sets lines order near one below = record
 -- two neighbours on different pages have these pages
 two-pages : (first last : ℕ) → first ≤ last → last ≤ first + 1 → (first / 16 ≡ last / 16 → ⊥) → first / 16 ∷ last / 16 ∷ [] ≡ pages_of (range_with_len first (last + 1 - first))
 two-pages first last order near differs =
-    let next : last ≡ first + 1 = omega arith in let count : last + 1 - first ≡ 2 = omega arith in
-    let away : ((first + 1) / 16 == first / 16) ≡ false = grind (arith, nat_tests, next) in
-    ap (λ (n : ℕ). first / 16 ∷ n / 16 ∷ []) next
-    ∙ sym (ap (λ (again : Bool). if again || false then (first + 1) / 16 ∷ [] else first / 16 ∷ (first + 1) / 16 ∷ []) away)
-    ∙ sym (ap (λ (n : ℕ). pages_of (range_with_len first n)) count)
+    let next : last ≡ first + 1 = omega arith in let count : last + 1 - first ≡ 2 = omega arith in grind (arith, nat_tests, next, count, differs)
 
 two-between : (first last : ℕ) (store : Bool) → first ≤ last → last ≤ first + 1 → (first / 16 ≡ last / 16 → ⊥)
     → first / 16 ∷ last / 16 ∷ [] ≡ pages_of ((lines_between first last store).reads ++ (lines_between first last store).writes)
-two-between first last true order near differs = two-pages first last order near differs
-two-between first last false order near differs =
-    two-pages first last order near differs ∙ ap pages_of (sym (append-nil (range_with_len first (last + 1 - first))))
+two-between first last store order near differs = grind (arith, append-nil (range_with_len first (last + 1 - first)), two-pages first last order near differs)
 
 -- lines of two pages of the store
 pub wanted-two : (d : Layout) (one two : Want) (first last : ℕ) (store : Bool) → one.page ≡ first / 16 → two.page ≡ last / 16 → AreOfPage (one ∷ []) → AreOfPage (two ∷ [])
@@ -169,11 +159,7 @@ in-store d w (Some long) offset bytes store at found is = let within = segment-w
 
 shared-ends : (p : Program) (d : Layout) (i offset bytes : ℕ) (store : Bool) (at : ℕ) → in_register p d i offset bytes store ≡ Shared at → at + bytes ≤ byte_count d
 shared-ends p d zero offset bytes store at is = grind arith
-shared-ends p d (suc i) offset bytes store at is = by_window (slice_index_or p.windows i None) is
-  where
-    by_window : (w : Option Window) → in_window d w offset bytes store ≡ Shared at → at + bytes ≤ byte_count d
-    by_window None is = absurd (cc)
-    by_window (Some w) is = in-store d w (length_of d w.segment) offset bytes store at refl is
+shared-ends p d (suc i) offset bytes store at is = let ends = in-store d in grind (arith, ends, is)
 
 lines-of : (d : Layout) (at bytes : ℕ) → 0 < bytes → range_with_len (line_of d at) (line_of d (at + bytes - 1) + 1 - line_of d at) ≡ lines_at d (Shared at) bytes
 lines-of d at zero some = absurd (omega (arith, some))

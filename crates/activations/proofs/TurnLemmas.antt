@@ -1,12 +1,12 @@
 -- The rows of a turn, instruction by instruction.
-use Rattle.activations.proofs.Common.{◌≡◌, refl, ℕ, suc, ◌+◌, ◌-◌, ◌<◌, ◌≤◌, true, List, length, arith, ap, sym, ◌∙◌, subst, nat_tests, has, Ghosts, ending_told, Desk, Word, ReadFailed, Counts, Turning, Going, Ending, Limit, Disk, turns, TurnEnd, Reads, IsAmong, IsOrderly, seat-told, Seating, number_in, taken-below, Tally, Activity, entry_in, entries, desk_over, Strode, IsSound, KeepsDesk, GoesUncounted, IsEndOfRows, KeepsParts, StaysSeated, ComesToEnd, instruction_in, counted, HasBroken, HasEnded, tally_counts, IsAtCommit, IsTurning, selected_in, turn_in, commit_call, FewerLater, OnlyAsks, asks_on, KeptStore, IsStoreOf, KeepsAll}
+use Rattle.activations.proofs.Common.{live_in, ◌≡◌, refl, ℕ, suc, ◌+◌, ◌-◌, ◌<◌, ◌≤◌, true, List, length, arith, ap, sym, ◌∙◌, subst, nat_tests, has, Ghosts, ending_told, Desk, Word, ReadFailed, Counts, Turning, Going, Ending, Limit, Disk, turns, TurnEnd, Reads, IsAmong, IsOrderly, seat-told, Seating, number_in, taken-below, Tally, Activity, entry_in, entries, desk_over, Strode, IsSound, KeepsDesk, GoesUncounted, IsEndOfRows, KeepsParts, StaysSeated, ComesToEnd, instruction_in, counted, HasBroken, HasEnded, tally_counts, IsAtCommit, IsTurning, selected_in, turn_in, commit_call, FewerLater, OnlyAsks, asks_on, KeptStore, IsStoreOf, KeepsAll}
 use Rattle.desk_law.proofs.TurnLoop.{turning-goes, turning-ends, turning-commits, turning-limit}
 use Rattle.desk.specs.declared.answers.TurnEnd.TheVariants as end
 use Rattle.desk_law.proofs.TurnLoop as law
 use Rattle.activations.proofs.FetchLemmas.{store-on}
 use Rattle.activations.proofs.KeptLemmas.{keeps-less, keeps-on, keeps-two}
 use Rattle.activations.proofs.RowLemmas.{orderly-order}
-use Rattle.activations.proofs.SittingLemmas.{number-counted}
+use Rattle.activations.proofs.SittingLemmas.{sound-beside, number-counted}
 
 -- a turn begins
 pub turn-begins : (a : Activity) (seat limit : ℕ) (committed : List ℕ) (order : List (ℕ × ℕ)) (counts : Counts) → KeepsDesk a committed
@@ -111,6 +111,9 @@ follows-selected a seat committed follows =
       kept = record { long = kept.long; held = kept.held; asked = kept.asked; stand = kept.stand; is_current = kept.is_current; marked = kept.marked; clean = kept.clean };
     }
 
+pub sound-selected : (a : Activity) (seat : ℕ) → IsSound a → IsSound (selected_in a seat)
+sound-selected a seat sound = sound-beside a a.next a.reach.pool a.reach.entries (live_in a seat).registers (seat + 1) sound sound.numbers sound.entries sound.identified
+
 pub keeps-selected : (a b : Activity) (seat more : ℕ) → KeepsParts (selected_in a seat) b more → KeepsParts a b more
 keeps-selected a b seat more keeps = record { programs = keeps.programs; most_lines = keeps.most_lines; next = keeps.next; directory = keeps.directory; fewer = keeps.fewer; rows = keeps.rows }
 
@@ -127,7 +130,6 @@ keeps-within a first old back new seat limit left shape so_far step more = keeps
 pub keeps-ran : {W : Type 0} (G : Ghosts W) (fewer_later : FewerLater G) (a first old back new : Activity) (seat limit left : ℕ) (u v w x : W) → first ≡ selected_in a seat → OnlyAsks G u v → KeepsParts first old (limit - left)
     → KeepsAll G old back 0 v w → KeepsAll G back new 0 w x → KeepsAll G a new limit u x
 keeps-ran G fewer_later a first old back new seat limit left u v w x shape asks so_far step more = record {
-  sound = more.sound;
   asks = asks_on G fewer_later u w x (asks_on G fewer_later u v w asks step.asks) more.asks;
   parts = keeps-within a first old back new seat limit left shape so_far step.parts more.parts;
 }

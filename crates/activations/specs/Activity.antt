@@ -1,13 +1,12 @@
--- What runs side by side, the desk that it is over committed bytes, and what `Activations` are seen as.
+-- What runs side by side, as `Activations` are seen, and the desk that it is over committed bytes.
 use Rattle.std.specs.Prelude.{[], refl, ℕ, zero, suc, false, List, length, map, replicate, slice_index_or, None, is_some}
 use Rattle.std.proofs.Common.{lit<, lit≤}
-use Rattle.activations.specs.Below.{Authority, bytes_over, clear, Desk, Entry, flat_lines, flat_map, Grant, grant_of, Lines, lines_wanted, no_lines, of_page, of_seat, owners_told, PageSize, Plain, Pool, private_bytes, Program, range_with_len, Reach, reach_of, Seating, sitter, unowned}
+use Rattle.activations.specs.Below.{Authority, bytes_over, clear, Desk, Entry, flat_lines, flat_map, Grant, grant_of, Lines, lines_wanted, no_lines, of_page, of_seat, owners_told, PageSize, Plain, Pool, private_bytes, Program, range_with_len, Reach, Seating, sitter, unowned}
 use Rattle.std.specs.Option.{option_map_or}
 use Rattle.lines.specs.FlatStore.{FlatStore}
 use Rattle.lines.specs.declared.line_geometry.PageSize.TheVariants.{Two}
 use Rattle.seats.specs.declared.seat.Seat.{Seat}
 use Rattle.activations.specs.declared.live.Live.{Live}
-use Rattle.activations.specs.declared.activations.Activations.{Activations}
 
 -- the programs that may begin, the lines that a record may have, the next number, who sits where and holds what, what runs in
 -- each seat, and the storage that all share
@@ -137,14 +136,3 @@ state_in a seat = state_for a.reach.pool seat (live_in a seat)
 -- the bytes of the store as all see them together, over committed ones
 abbrev pub shown : Activity → (committed : List ℕ) → List ℕ
 shown a committed = bytes_over a.reach.directory a.reach.pool committed
-
-abbrev pub activity_of : Activations → Activity
-activity_of a =
-    record {
-      programs = a.programs.items;
-      most_lines = a.most_lines;
-      next = a.next;
-      seating = a.seats;
-      live = a.live.items;
-      reach = reach_of a.unit;
-    }

@@ -1,6 +1,7 @@
 -- What holds of those that run side by side at every moment.
 use Rattle.std.specs.Prelude.{[], ◌≡◌, ℕ, ◌+◌, ◌<◌, ◌≤◌, ◌⊎◌, true, false, List, All, length, slice_index_or, Some}
-use Rattle.activations.specs.Below.{AreAlike, AreMarked, AreOfPage, AreSeats, Authority, byte_count, due_to, has, is_line_marked, IsClean, IsOfPage, IsSeating, IsState, number_in, of_page, of_seat, page_count, private_segment, registers_of_program, Request, requested, sitter, unowned}
+use Rattle.activations.specs.Below.{AreAlike, AreMarked, AreOfPage, AreSeats, Authority, byte_count, due_to, has, is_line_marked, IsClean, IsOfPage, IsSeating, IsState, number_in, of_page, of_seat, page_count, private_segment, Reach, registers_of_program, Request, requested, sitter, unowned}
+use Rattle.desk_law.specs.Consistent.{AreResident}
 use Rattle.desk_law.specs.Current.{IsCurrent}
 use Rattle.desk_law.specs.Orderly.{IsOrderly}
 use Rattle.activations.specs.Activity.{Activity, live_in, program_in, entry_in, entries, store_over, desk_over, locks_in, request_in, state_in, shown}
@@ -37,6 +38,16 @@ pub record IsSound (a : Activity) : Type 0 where
   pub set_up : (seat : ℕ) → has a.seating.taken seat ≡ true → IsSetUp a seat
   pub free : (seat : ℕ) → has a.seating.taken seat ≡ false → slice_index_or a.reach.begun seat false ≡ false
   pub identified : (page : ℕ) → IsIdentified a.seating.taken (slice_index_or a.reach.entries page unowned)
+
+-- there are two frames at least for pages of the store, and in them are pages of it, each once, and no more than there are frames
+pub record HasFrames (reach : Reach) : Type 0 where
+  pub some : 2 ≤ reach.pool.frames
+  pub resident : AreResident reach.pool.frames (page_count reach.directory) reach.pool.resident
+
+-- what holds of all that run, at every moment
+pub record AlwaysHolds (a : Activity) : Type 0 where
+  pub sound : IsSound a
+  pub frames : HasFrames a.reach
 
 -- What is kept beside the desk over committed bytes is what the desk says of it: the locks of each seat are those due to its
 -- entry, a waiting one has its request, its state is that after its rows, all see each line as it is now, and the lines that

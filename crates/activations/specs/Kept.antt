@@ -115,6 +115,15 @@ pub record RunsAt (a : Activity) (seat : ℕ) (reach : Reach) (live : Live) : Ty
 abbrev pub with_live : Activity → (seat : ℕ) → Live → Reach → Activity
 with_live a seat live reach = record a { live = slice_set a.live seat live; reach = reach }
 
+-- this runs somewhere, and reaches this
+abbrev pub RunsSomewhere : Reach → Live → Type 0
+RunsSomewhere reach live = (a : Activity) × (seat : ℕ) × RunsAt a seat reach live
+
+-- an attempt of what runs in a seat came to this, whoever else sits, and all is sound then
+pub record HasTried (attempt : Attempt) (reach : Reach) (live : Live) (new_reach : Reach) (new : Live) : Type 0 where
+  pub sound : (a : Activity) (seat : ℕ) → RunsAt a seat reach live → IsSound (with_live a seat new new_reach)
+  pub went : (a : Activity) (seat : ℕ) → RunsAt a seat reach live → WasAttempted attempt a seat (with_live a seat new new_reach)
+
 -- so many rows came to this
 pub record StrodeTo (a : Activity) (seat rows : ℕ) (live : Live) (reach : Reach) : Type 0 where
   pub runs : RunsAt (with_live a seat live reach) seat reach live
@@ -131,4 +140,3 @@ pub record HasStrode (result : ℕ × Option Access) (limit : ℕ) (reach : Reac
   pub strode : (a : Activity) (seat : ℕ) → RunsAt a seat reach live → StrodeTo a seat result.0 new new_reach
   pub stopped : result.1 ≡ None → result.0 < limit → (a : Activity) (seat : ℕ) → RunsAt a seat reach live → IsStopped (with_live a seat new new_reach) seat
   pub shut : (access : Access) → result.1 ≡ Some access → (a : Activity) (seat : ℕ) → RunsAt a seat reach live → IsShut (with_live a seat new new_reach) seat access
-  pub directory : new_reach.directory ≡ reach.directory

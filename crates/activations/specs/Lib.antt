@@ -9,3 +9,4 @@ pub mod Turning
 pub mod Begins
 pub mod Recorded
 pub mod Stages
+pub mod Fields

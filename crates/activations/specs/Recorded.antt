@@ -1,9 +1,10 @@
 -- The record of a commit: the lines that who sits in a seat holds to write, as all see them.
 use Rattle.std.specs.Prelude.{[], ◌≡◌, ℕ, ◌+◌, ◌<◌, ◌%◌, List, ◌∷◌, ◌++◌, All, length, map, Some}
-use Rattle.activations.specs.Below.{after, AllPairs, begun_of, Commit, entry_bytes, flat_lines, flat_map, has, held_at, holds_some, KeptStore, laid, over_all, page_of_line, PageSize, Plain, Pool, record_bytes_of, row, with_begun}
+use Rattle.activations.specs.Below.{after, AllPairs, begun_of, Commit, entry_bytes, flat_lines, flat_map, has, held_at, holds_some, KeptStore, laid, most_lines, over_all, page_of_line, PageSize, Plain, Pool, record_bytes_of, row, with_begun}
 use Rattle.frame_pool.specs.Pool.{line_shown}
 use Rattle.seats.specs.Counted.{Ascend}
 use Rattle.store_format.specs.Bank.{RecordLine}
+use Rattle.store_format.specs.Header.{Header}
 use Rattle.activations.specs.Activity.{Activity, program_in, entry_in, store_over, locks_in, shown}
 use Rattle.activations.specs.Follows.{KeepsDesk}
 use Rattle.activations.specs.Steps.{wrote}
@@ -11,6 +12,11 @@ use Rattle.activations.specs.Steps.{wrote}
 -- the bytes of a flat line in the pool
 abbrev pub line_told : Pool → (line : ℕ) → List ℕ
 line_told pool line = line_shown pool (page_of_line line) (line % 16)
+
+-- a store with this header is that of what runs: it has the same directory, and records of as many lines
+pub record IsItsStore (header : Header) (a : Activity) : Type 0 where
+  pub directory : header.directory ≡ a.reach.directory
+  pub most : most_lines header ≡ a.most_lines
 
 -- Lines of a record of what a seat holds to write: they ascend, those that are held to write are there, and no others, and
 -- each has the bytes that the pool has of it.

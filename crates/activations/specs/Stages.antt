@@ -6,7 +6,7 @@ use Rattle.activations.specs.Steps.{HasUndone, IsMoved, IsRolledBack, with_pool,
 use Rattle.desk.specs.declared.answers.Cycle.{Cycle}
 use Rattle.activations.specs.declared.tally.Tally.{Tally}
 use Rattle.activations.specs.Kept.{IsSelected, plain_in, KeepsParts, StaysSeated}
-use Rattle.activations.specs.Follows.{IsSound, KeepsDesk}
+use Rattle.activations.specs.Follows.{KeepsDesk}
 use Rattle.activations.specs.Turning.{TalliesMore, IsEndOfRows, IfWaits, IsAsked, Serves, IsContestEnd, IsSettled, HasEnded, tally_counts, AreTurns, ComesBack, IsTurning, turn_in, IsServed, GoesUncounted}
 use Rattle.activations.specs.Serving.{IsFetched, IsToServe, IsFree, instruction_in}
 use Rattle.desk.specs.declared.answers.TurnEnd.TheVariants as end
@@ -72,6 +72,11 @@ abbrev pub IfLimit : (limit ran : ℕ) → TurnEnd → Type 0
 IfLimit limit ran end.Limit = ran ≡ limit
 IfLimit limit ran _ = Unit {0}
 
+-- how many rows of a turn ran: fewer than it may where it came to a commit call, and else so many at the most, and as many where it ended since it may no more
+abbrev pub RanWithin : {U : Type 0} → (limit ran : ℕ) → Result U TurnEnd → Type 0
+RanWithin limit ran (Ok nothing) = ran < limit
+RanWithin limit ran (Err end) = (ran ≤ limit) × IfLimit limit ran end
+
 -- it didn't end since it ran as many rows as it may
 abbrev pub IsNoLimit : TurnEnd → Type 0
 IsNoLimit end.Limit = ⊥
@@ -84,7 +89,6 @@ IfVictim number cycles _ = Unit {0}
 
 -- pages may be fetched from this store
 pub record CanFetch {W : Type 0} (G : Ghosts W) (a : Activity) (store : KeptStore) (outside : W) : Type 0 where
-  pub sound : IsSound a
   pub directory : store.header.directory ≡ a.reach.directory
   pub usable : store.bank.spoiled ≡ false
   pub room : HoldsAtLeast G (total store.header) outside
@@ -101,14 +105,8 @@ pub record HasRoom (a : Activity) (tally : Tally) : Type 0 where
   pub pages : tally.pages < 6000000
   pub locks : tally.locks < 2000000
 
--- What a stage keeps, whatever comes of it: it is sound, it keeps what stays, and at most so many rows more were done in a seat.
-pub record KeepsSound (old new : Activity) (more : ℕ) : Type 0 where
-  pub sound : IsSound new
-  pub parts : KeepsParts old new more
-
--- and where it may call the disk, it only asks
+-- What a stage keeps, whatever comes of it: it only asks the disk, it keeps what stays, and at most so many rows more were done in a seat.
 pub record KeepsAll {W : Type 0} (G : Ghosts W) (old new : Activity) (more : ℕ) (before after : W) : Type 0 where
-  pub sound : IsSound new
   pub asks : OnlyAsks G before after
   pub parts : KeepsParts old new more
 

@@ -151,12 +151,9 @@ pub record HasSettled (holding : Holding) (seat : ℕ) (old new : Reach) : Type 
       → slice_index (bytes_over old.directory old.pool committed) place ≡ slice_index committed place)
       → Keeps old.directory old.pool new.pool committed
 
--- who sits in a seat is undone, or settled, and the pool is another then
+-- who sits in a seat is undone, and the pool is another then
 abbrev pub IsUndone : Activity → (seat : ℕ) → Pool → Type 0
 IsUndone a seat pool = HasUndone a.seating.holding seat a.reach (record a.reach { pool = pool })
-
-abbrev pub AreSettled : Activity → (seat : ℕ) → Pool → Type 0
-AreSettled a seat pool = HasSettled a.seating.holding seat a.reach (record a.reach { pool = pool })
 
 -- bytes stand where what was printed in a seat stood
 abbrev pub reprinted : Activity → (seat : ℕ) → (out : List ℕ) → Activity

@@ -1,6 +1,6 @@
 // Who runs, what each has, and the storage that they share.
-ghost use Rattle.std.specs.Prelude.{◌≡◌, ℕ, ◌-◌, ◌^◌, ◌≤◌, List, length, IfOk, ◌<◌};
-ghost use Rattle.activations.specs.Below.{absent_segment, byte_count, has, most_lines, opened, reach_of};
+ghost use Rattle.std.specs.Prelude.{◌≡◌, true, ℕ, ◌-◌, ◌^◌, ◌≤◌, List, length, IfOk, ◌<◌};
+ghost use Rattle.activations.specs.Below.{absent_segment, byte_count, has, most_lines, opened};
 
 use super::live::Live;
 use desk::Begun;
@@ -9,6 +9,7 @@ use lines::Directory;
 use romp_cpu::registers_of;
 use seats::Seats;
 use std::alloc::{AllocError, Global};
+use std::marker::Model;
 use storage_unit::{PRIVATE, Unit};
 use store_format::Header;
 
@@ -16,19 +17,29 @@ use store_format::Header;
 #[derive(Drop)]
 pub struct Activations {
     pub(super) programs: Vec<Program>,
-    pub(super) directory: Directory,
     pub(super) most_lines: u32,
     pub(super) next: u32,
     pub(super) seats: Seats,
     pub(super) live: Vec<Live>,
     pub(super) unit: Unit,
-    ghost same: { (reach_of unit).directory ≡ directory },
+}
+
+impl Model for Activations {
+    ghost use Rattle.activations.specs.Activity.{Activity};
+
+    ghost Value = { Activity };
+
+    ghost use Rattle.activations.specs.Fields.{activity_of};
+    ghost use Rattle.activations.specs.Follows.{IsSound};
+
+    ghost view = { activity_of };
+
+    ghost invariant = { λ a. IsSound (activity_of a) };
 }
 
 impl Activations {
     ghost use Rattle.activations.specs.Begins.{idle, begins, Begins, IsBegin};
-    ghost use Rattle.activations.specs.Follows.{IsSound, KeepsDesk};
-    ghost use Rattle.activations.specs.Activity.{activity_of};
+    ghost use Rattle.activations.specs.Follows.{AlwaysHolds, KeepsDesk};
 
     /// Nobody runs, over a store with this header and so many frames for its pages. Any of these programs may begin. It
     /// takes all the memory that it will need.
@@ -44,9 +55,8 @@ impl Activations {
     ) -> Result<Activations, AllocError>
         requires some { 2 ≤ frames }
         requires few { frames ≤ 1024 }
-        ensures idle { IfOk result (λ a. activity_of a ≡ idle programs.items (most_lines header.now) frames header.now.directory (activity_of a).live) }
-        ensures sound { IfOk result (λ a. IsSound (activity_of a)) }
-        ensures first { IfOk result (λ a. (committed : List ℕ) → length committed ≡ byte_count header.now.directory → Begins (activity_of a) (opened frames 16 (most_lines header.now) (record { directory = header.now.directory; bytes = committed })) committed) }
+        ensures idle { IfOk result (λ a. a ≡ idle programs.items (most_lines header.now) frames header.now.directory a.live) }
+        ensures first { IfOk result (λ a. (committed : List ℕ) → length committed ≡ byte_count header.now.directory → Begins a (opened frames 16 (most_lines header.now) (record { directory = header.now.directory; bytes = committed })) committed) }
     {
         let directory = *header.directory();
         let mut live = Vec::with_capacity(alloc, 16)?;
@@ -55,7 +65,6 @@ impl Activations {
         }
         Ok(Activations {
             programs,
-            directory,
             most_lines: header.most_lines(),
             next: 1,
             seats: Seats::new(alloc, directory.pages())?,
@@ -64,15 +73,30 @@ impl Activations {
         })
     }
 
+    /// What holds of those that run, and of their frames, at every moment. This call says so, and does nothing.
+    #[inline(always)]
+    pub fn sound(&self)
+        ensures { AlwaysHolds self.now }
+    {
+        let _ = &self.next;
+    }
+
+    /// A taken seat is one of the sixteen. This call says so, and does nothing.
+    #[inline(always)]
+    pub(super) fn is_seat(&self, seat: u8)
+        requires { has self.now.seating.taken seat ≡ true }
+        ensures { seat < 16 }
+    {
+        let _ = &self.next;
+    }
+
     /// A program begins with four values. It takes the next number also where it is refused (docs/MODEL.md, "The desk").
     pub fn begin(&mut self, program: u16, args: [u32; 4]) -> Begun
-        requires sound { IsSound (activity_of self.old) }
-        requires known { program < length (activity_of self.old).programs }
-        requires room { (activity_of self.old).next < 2 ^ 32 - 1 }
-        ensures answer { result ≡ (begins (activity_of self.old) program args).0 }
-        ensures left { activity_of self.new ≡ (begins (activity_of self.old) program args).1 }
-        ensures sound { IsSound (activity_of self.new) }
-        ensures is_begin { (committed : List ℕ) → KeepsDesk (activity_of self.old) committed → IsBegin (activity_of self.old) (activity_of self.new) program args result committed }
+        requires known { program < length self.old.programs }
+        requires room { self.old.next < 2 ^ 32 - 1 }
+        ensures answer { result ≡ (begins self.old program args).0 }
+        ensures left { self.new ≡ (begins self.old program args).1 }
+        ensures is_begin { (committed : List ℕ) → KeepsDesk self.old committed → IsBegin self.old self.new program args result committed }
     {
         let number = self.next;
         self.next += 1;
@@ -80,13 +104,14 @@ impl Activations {
             return Begun::Busy(number);
         }
         let code = &self.programs[usize::from(program)];
-        if let Some(segment) = absent_segment(&self.directory, &code.windows) {
+        let directory = self.unit.directory();
+        if let Some(segment) = absent_segment(directory, &code.windows) {
             return Begun::NoSegment(number, segment);
         }
         let Some(seat) = self.seats.sit(number, program, args) else {
             return Begun::Busy(number);
         };
-        let registers = registers_of(code, &self.directory, PRIVATE + u16::from(seat));
+        let registers = registers_of(code, directory, PRIVATE + u16::from(seat));
         self.unit.begin(seat, code.image.as_slice());
         self.live[usize::from(seat)].start(code, args, registers);
         Begun::Started(number)

@@ -1,5 +1,7 @@
 // Who waits for whom, and the cycles that are broken.
 ghost use Rattle.std.specs.Prelude.{◌≡◌, ◌≤◌, ◌+◌, ◌==◌, true, length, IsSome, Some, ◌<◌, OnOk, IfErr};
+ghost use Rattle.std.specs.Option.{option_map};
+ghost use Rattle.seats.specs.Waiting.{cycle_of};
 ghost use Rattle.activations.specs.Below.{array_vec_len, has, victim_of};
 
 use super::activations::Activations;
@@ -9,29 +11,28 @@ use desk::{Cycle, TurnEnd};
 
 impl Activations {
     ghost use Rattle.activations.specs.Follows.{IsSound};
-    ghost use Rattle.activations.specs.Kept.{StandsStill};
-    ghost use Rattle.activations.specs.Stages.{CountsCycles, EndsContest, KeepsSound};
-    ghost use Rattle.activations.specs.Activity.{activity_of};
+    ghost use Rattle.activations.specs.Kept.{KeepsParts, StandsStill};
+    ghost use Rattle.activations.specs.Stages.{CountsCycles, EndsContest};
     ghost use Rattle.activations.specs.Turning.{Settles};
     ghost use Rattle.activations.specs.Below.{holders, number_in, Request, sitter};
 
     /// Who sits in a seat waits, and each cycle of waits from it is broken by rolling its victim back. Nothing is returned
     /// where nobody holds any more what it asks for.
     pub fn contend(&mut self, seat: u8, tally: &mut Tally) -> Result<(), TurnEnd>
-        requires sound { IsSound (activity_of self.old) }
-        requires taken { has (activity_of self.old).seating.taken seat ≡ true }
-        requires waits { IsSome (sitter (activity_of self.old).seating seat).waits }
-        requires room { array_vec_len tally.old.cycles + length (activity_of self.old).seating.taken ≤ 16 }
-        ensures keeps { KeepsSound (activity_of self.old) (activity_of self.new) 0 }
-        ensures counts { CountsCycles (activity_of self.new) tally.old tally.new }
-        ensures stays { OnOk result (StandsStill (activity_of self.old) (activity_of self.new) seat) }
-        ensures ends { IfErr result (EndsContest (number_in (activity_of self.old).seating seat) tally.new) }
-        ensures settled { Settles seat (activity_of self.old) (activity_of self.new) tally.old tally.new result }
+        requires taken { has self.old.seating.taken seat ≡ true }
+        requires waits { IsSome (sitter self.old.seating seat).waits }
+        requires room { array_vec_len tally.old.cycles + length self.old.seating.taken ≤ 16 }
+        ensures keeps { KeepsParts self.old self.new 0 }
+        ensures counts { CountsCycles self.new tally.old tally.new }
+        ensures stays { OnOk result (StandsStill self.old self.new seat) }
+        ensures ends { IfErr result (EndsContest (number_in self.old.seating seat) tally.new) }
+        ensures settled { Settles seat self.old self.new tally.old tally.new result }
     {
-        let number = self.seats.sitter(seat).number;
-        while let Some(members) = self.seats.cycle_from(seat) {
+        self.sound();
+        let number = self.sitter(seat).number;
+        while let Some(members) = self.cycle_from(seat) {
             let victim = greatest(&members);
-            let Some(loser) = self.seats.seat_of(victim) else {
+            let Some(loser) = self.seat_of(victim) else {
                 break;
             };
             tally.cycles.push(Cycle { members });
@@ -48,11 +49,19 @@ impl Activations {
         }
     }
 
+    /// The numbers along the cycle of waits from a taken seat, if there is one.
+    fn cycle_from(&self, seat: u8) -> Option<ArrayVec<u32, 17>>
+        requires { has self.now.seating.taken seat ≡ true }
+        ensures cycle { option_map (λ cycle. cycle.items) result ≡ cycle_of self.now.seating seat }
+        ensures sound { IsSound self.now }
+    {
+        self.seats.cycle_from(seat)
+    }
+
     /// The numbers of those that who sits in a seat waits for, ascending.
     fn awaited(&self, seat: u8) -> ArrayVec<u32, 16>
-        requires sound { IsSound (activity_of self.now) }
         requires seat { seat < 16 }
-        ensures { (request : Request) → (sitter (activity_of self.now).seating seat).waits ≡ Some request → result.items ≡ holders (activity_of self.now).seating seat request.wants.items }
+        ensures { (request : Request) → (sitter self.now.seating seat).waits ≡ Some request → result.items ≡ holders self.now.seating seat request.wants.items }
     {
         match &self.seats.sitter(seat).waits {
             Some(request) => self.seats.holders(seat, request),

@@ -1,7 +1,7 @@
 // How an activation ends.
 ghost use Rattle.std.specs.Prelude.{◌≡◌, ◌<◌, true, false, ℕ, List};
 ghost use Rattle.activations.specs.Below.{has, IsWhole, page_count, reach_of};
-ghost use Rattle.activations.specs.Steps.{HasUndone, HasSettled, IsDeserted, IsRestarted, reprinted, rolled, vacated, IsRolledBack, IsCommitted, IsUndone, AreSettled};
+ghost use Rattle.activations.specs.Steps.{HasUndone, HasSettled, IsDeserted, IsRestarted, reprinted, rolled, IsRolledBack, IsCommitted, IsUndone};
 
 use super::activations::Activations;
 use arrayvec::ArrayVec;
@@ -11,39 +11,33 @@ use std::mem::swap;
 use storage_unit::Unit;
 
 impl Activations {
-    ghost use Rattle.activations.specs.Activity.{live_in, activity_of};
+    ghost use Rattle.activations.specs.Activity.{live_in};
     ghost use Rattle.seats.specs.Seating.{numbers, seat_of, sitter};
-    ghost use Rattle.activations.specs.Follows.{IsSound, KeepsDesk};
+    ghost use Rattle.activations.specs.Follows.{KeepsDesk};
 
     /// Who sits in a seat is rolled back: the pages that he wrote into go out, and the lines that he wrote are forgotten.
     pub fn roll_back(&mut self, seat: u8)
-        requires sound { IsSound (activity_of self.old) }
-        requires taken { has (activity_of self.old).seating.taken seat ≡ true }
-        ensures shape { activity_of self.new ≡ rolled (activity_of self.old) seat (activity_of self.new).reach.pool }
-        ensures sound { IsSound (activity_of self.new) }
-        ensures undone { IsUndone (activity_of self.old) seat (activity_of self.new).reach.pool }
-        ensures rolls { IsRolledBack (activity_of self.old) seat (activity_of self.new).reach.pool }
+        requires taken { has self.old.seating.taken seat ≡ true }
+        ensures shape { self.new ≡ rolled self.old seat self.new.reach.pool }
+        ensures undone { IsUndone self.old seat self.new.reach.pool }
+        ensures rolls { IsRolledBack self.old seat self.new.reach.pool }
     {
         self.end(seat, false);
     }
 
     /// What was written in a seat is committed now, and who sat in it has ended.
     pub fn commit(&mut self, seat: u8)
-        requires sound { IsSound (activity_of self.old) }
-        requires taken { has (activity_of self.old).seating.taken seat ≡ true }
-        ensures shape { activity_of self.new ≡ rolled (activity_of self.old) seat (activity_of self.new).reach.pool }
-        ensures sound { IsSound (activity_of self.new) }
-        ensures commits { IsCommitted (activity_of self.old) seat (activity_of self.new).reach.pool }
+        requires taken { has self.old.seating.taken seat ≡ true }
+        ensures shape { self.new ≡ rolled self.old seat self.new.reach.pool }
+        ensures commits { IsCommitted self.old seat self.new.reach.pool }
     {
         self.end(seat, true);
     }
 
     /// All are rolled back, and no page is resident.
     pub fn forget(&mut self)
-        requires sound { IsSound (activity_of self.old) }
-        ensures sound { IsSound (activity_of self.new) }
-        ensures deserted { IsDeserted (activity_of self.old) (activity_of self.new) }
-        ensures restarts { (committed : List ℕ) → KeepsDesk (activity_of self.old) committed → IsRestarted (activity_of self.old) (activity_of self.new) committed }
+        ensures deserted { IsDeserted self.old self.new }
+        ensures restarts { (committed : List ℕ) → KeepsDesk self.old committed → IsRestarted self.old self.new committed }
     {
         for seat in 0..16 {
             if self.seats.taken().contains(&seat) {
@@ -55,14 +49,14 @@ impl Activations {
 
     /// The numbers of those that are active, in the order in which they began.
     pub fn active(&self) -> ArrayVec<u32, 16>
-        ensures { result.items ≡ numbers (activity_of self.now).seating }
+        ensures { result.items ≡ numbers self.now.seating }
     {
         self.seats.numbers()
     }
 
     /// The seat in which an activation sits. None exactly where it isn't active.
     pub fn seat_of(&self, activation: u32) -> Option<u8>
-        ensures { result ≡ seat_of (activity_of self.now).seating activation }
+        ensures { result ≡ seat_of self.now.seating activation }
     {
         self.seats.seat_of(activation)
     }
@@ -70,43 +64,34 @@ impl Activations {
     /// Who sits in a seat.
     pub fn sitter(&self, seat: u8) -> &Seat
         requires { seat < 16 }
-        ensures { result.now ≡ sitter (activity_of self.now).seating seat }
+        ensures { result.now ≡ sitter self.now.seating seat }
     {
         self.seats.sitter(seat)
     }
 
     /// Hands out what was printed in a seat in which nobody sits any more, for other bytes that stand there then.
     pub fn swap_printed(&mut self, seat: u8, out: &mut Printed)
-        requires sound { IsSound (activity_of self.old) }
         requires seat { seat < 16 }
-        requires free { has (activity_of self.old).seating.taken seat ≡ false }
-        ensures out { out.new ≡ (live_in (activity_of self.old) seat).out }
-        ensures left { activity_of self.new ≡ reprinted (activity_of self.old) seat out.old }
-        ensures sound { IsSound (activity_of self.new) }
-        ensures follows { (committed : List ℕ) → KeepsDesk (activity_of self.old) committed → KeepsDesk (activity_of self.new) committed }
+        requires free { has self.old.seating.taken seat ≡ false }
+        ensures out { out.new ≡ (live_in self.old seat).out }
+        ensures left { self.new ≡ reprinted self.old seat out.old }
+        ensures follows { (committed : List ℕ) → KeepsDesk self.old committed → KeepsDesk self.new committed }
     {
         swap(&mut self.live[usize::from(seat)].out, out);
     }
 
-    /// Who sits in a seat has ended, with what he wrote committed or forgotten.
+    /// Who sits in a seat has ended, with what he wrote committed or forgotten: the seat is free, its pages are nobody's, and
+    /// its locks are released.
     #[inline(always)]
     fn end(&mut self, seat: u8, committed: bool)
-        requires sound { IsSound (activity_of self.old) }
-        requires taken { has (activity_of self.old).seating.taken seat ≡ true }
-        ensures shape { activity_of self.new ≡ rolled (activity_of self.old) seat (activity_of self.new).reach.pool }
-        ensures sound { IsSound (activity_of self.new) }
-        ensures undone { committed ≡ false → IsUndone (activity_of self.old) seat (activity_of self.new).reach.pool }
-        ensures settled { committed ≡ true → AreSettled (activity_of self.old) seat (activity_of self.new).reach.pool }
+        requires taken { has self.old.seating.taken seat ≡ true }
+        ensures shape { self.new ≡ rolled self.old seat self.new.reach.pool }
+        ensures undone { committed ≡ false → IsUndone self.old seat self.new.reach.pool }
+        ensures rolls { committed ≡ false → IsRolledBack self.old seat self.new.reach.pool }
+        ensures commits { committed ≡ true → IsCommitted self.old seat self.new.reach.pool }
     {
+        self.is_seat(seat);
         end_written(&self.seats, &mut self.unit, seat, committed);
-        self.leave(seat);
-    }
-
-    /// A seat is free: its pages are nobody's, and its locks are released.
-    fn leave(&mut self, seat: u8)
-        requires { seat < 16 }
-        ensures { activity_of self.new ≡ vacated (activity_of self.old) seat }
-    {
         self.unit.clear(seat + 1);
         self.unit.end(seat);
         self.seats.leave(seat);

@@ -14,9 +14,6 @@ use storage_unit::Unit;
 use store::Durable;
 
 impl Activations {
-    ghost use Rattle.activations.specs.Follows.{IsSound};
-    ghost use Rattle.activations.specs.Activity.{activity_of};
-
     /// Brings in the pages of a touch that aren't resident, the first before the second, and counts each. The other page of
     /// the touch stays.
     ///
@@ -31,17 +28,16 @@ impl Activations {
         touch: &Touch,
         tally: &mut Tally,
     ) -> Result<(), Failed>
-        requires can { CanFetch W.Outside (activity_of self.old) store.now outside.old }
-        requires wanted { AreWanted (activity_of self.old).reach.directory (wants_of touch.now) }
+        requires can { CanFetch W.Outside self.old store.now outside.old }
+        requires wanted { AreWanted self.old.reach.directory (wants_of touch.now) }
         requires few { tally.old.pages + 2 < 2 ^ 32 }
-        ensures sound { IsSound (activity_of self.new) }
         ensures asks { OnlyAsks W.Outside outside.old outside.new }
-        ensures shape { activity_of self.new ≡ with_pool (activity_of self.old) (activity_of self.new).reach.pool }
+        ensures shape { self.new ≡ with_pool self.old self.new.reach.pool }
         ensures counts { CountsPages tally.old tally.new }
         ensures cause { FailsOnlyCounted (W.disk_faults outside.old) (W.disk_faults outside.new) result }
         ensures counted { OnErr result (tally.old.pages < tally.new.pages) }
-        ensures none { OnErr result ((activity_of self.new).reach.pool.resident ≡ []) }
-        ensures fetched { Fetches result W.Outside store.now outside.old (activity_of self.old) (pages_wanted (wants_of touch.now)) tally.old.pages (activity_of self.new).reach.pool tally.new.pages }
+        ensures none { OnErr result (self.new.reach.pool.resident ≡ []) }
+        ensures fetched { Fetches result W.Outside store.now outside.old self.old (pages_wanted (wants_of touch.now)) tally.old.pages self.new.reach.pool tally.new.pages }
     {
         match touch {
             Touch::Nothing => Ok(()),
@@ -64,19 +60,19 @@ impl Activations {
         keep: Option<u16>,
         tally: &mut Tally,
     ) -> Result<(), Failed>
-        requires page { page < page_count (activity_of self.old).reach.directory }
-        requires store { store.now.header.directory ≡ (activity_of self.old).reach.directory }
+        requires page { page < page_count self.old.reach.directory }
+        requires store { store.now.header.directory ≡ self.old.reach.directory }
         requires usable { store.now.bank.spoiled ≡ false }
         requires room { HoldsAtLeast W.Outside (total store.now.header) outside.old }
         requires few { tally.old.pages + 1 < 2 ^ 32 }
         ensures asks { OnlyAsks W.Outside outside.old outside.new }
-        ensures shape { activity_of self.new ≡ with_pool (activity_of self.old) (activity_of self.new).reach.pool }
+        ensures shape { self.new ≡ with_pool self.old self.new.reach.pool }
         ensures tally { tally.new ≡ record tally.old { pages = tally.new.pages } }
         ensures cause { FailsOnlyCounted (W.disk_faults outside.old) (W.disk_faults outside.new) result }
-        ensures moved { IsMoved (activity_of self.old).reach.pool (activity_of self.new).reach.pool }
-        ensures page_in { OnOk result (IsIn (activity_of self.old).reach.pool (activity_of self.new).reach.pool page keep tally.old.pages tally.new.pages) }
-        ensures unread { OnErr result (IsUnread (activity_of self.old).reach.pool (activity_of self.new).reach.pool page tally.old.pages tally.new.pages) }
-        ensures keeps { KeepsStore W.Outside store.now outside.old (activity_of self.old).reach.directory (activity_of self.old).reach.pool (activity_of self.new).reach.pool }
+        ensures moved { IsMoved self.old.reach.pool self.new.reach.pool }
+        ensures page_in { OnOk result (IsIn self.old.reach.pool self.new.reach.pool page keep tally.old.pages tally.new.pages) }
+        ensures unread { OnErr result (IsUnread self.old.reach.pool self.new.reach.pool page tally.old.pages tally.new.pages) }
+        ensures keeps { KeepsStore W.Outside store.now outside.old self.old.reach.directory self.old.reach.pool self.new.reach.pool }
     {
         if self.unit.pool().frame_of(page).is_some() {
             return Ok(());

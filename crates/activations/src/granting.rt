@@ -10,27 +10,23 @@ use page_table::Authority;
 use seats::{Request, Want};
 
 impl Activations {
-    ghost use Rattle.activations.specs.Follows.{IsSound};
     ghost use Rattle.activations.specs.Serving.{AreGranted, locked, with_entries, Grants, Lowers};
-    ghost use Rattle.activations.specs.Activity.{activity_of};
 
     /// What a touch asks for.
     #[inline(always)]
     pub(super) fn request(&self, touch: &Touch) -> Request
-        ensures { result.wants.items ≡ map (with_whole_page (activity_of self.now).reach.directory) (wants_of touch.now) }
+        ensures { result.wants.items ≡ map (with_whole_page self.now.reach.directory) (wants_of touch.now) }
     {
-        touch.request(&self.directory)
+        touch.request(self.unit.directory())
     }
 
     /// Who sits in a seat holds what he asked for, and the pages whose entries refused him are granted.
     #[inline(always)]
     pub(super) fn take(&mut self, seat: u8, touch: &Touch, refused: (bool, bool))
-        requires sound { IsSound (activity_of self.old) }
-        requires taken { has (activity_of self.old).seating.taken seat ≡ true }
-        requires wanted { AreWanted (activity_of self.old).reach.directory (wants_of touch.now) }
-        ensures sound { IsSound (activity_of self.new) }
-        ensures shape { activity_of self.new ≡ locked (activity_of self.old) seat (wants_of touch.now) (activity_of self.new).reach.entries }
-        ensures granted { AreGranted (activity_of self.new) seat (wants_of touch.now) (pages_picked touch.now refused) (activity_of self.old).reach.entries (activity_of self.new).reach.entries }
+        requires taken { has self.old.seating.taken seat ≡ true }
+        requires wanted { AreWanted self.old.reach.directory (wants_of touch.now) }
+        ensures shape { self.new ≡ locked self.old seat (wants_of touch.now) self.new.reach.entries }
+        ensures granted { AreGranted self.new seat (wants_of touch.now) (pages_picked touch.now refused) self.old.reach.entries self.new.reach.entries }
     {
         let request = self.request(touch);
         self.seats.take(seat, &request);
@@ -41,12 +37,11 @@ impl Activations {
     #[inline(always)]
     #[tactic(auto, using(crate::proofs::GrantLemmas::one_within, crate::proofs::GrantLemmas::first_within, crate::proofs::GrantLemmas::second_within))]
     fn grant_picked(&mut self, seat: u8, touch: &Touch, picked: (bool, bool))
-        requires seat { seat < 16 }
-        requires same { (activity_of self.old).seating.holding.pages ≡ page_count (activity_of self.old).reach.directory }
-        requires pages { AreWithin (page_count (activity_of self.old).reach.directory) (wants_of touch.now) }
+        requires taken { has self.old.seating.taken seat ≡ true }
+        requires pages { AreWithin (page_count self.old.reach.directory) (wants_of touch.now) }
         requires once { AreDistinct (pages_wanted (wants_of touch.now)) }
-        ensures shape { activity_of self.new ≡ with_entries (activity_of self.old) (activity_of self.new).reach.entries }
-        ensures granted { Grants seat (wants_of touch.now) (pages_picked touch.now picked) (activity_of self.old) (activity_of self.new) }
+        ensures shape { self.new ≡ with_entries self.old self.new.reach.entries }
+        ensures granted { Grants seat (wants_of touch.now) (pages_picked touch.now picked) self.old self.new }
     {
         match touch {
             Touch::Nothing => {}
@@ -61,11 +56,10 @@ impl Activations {
     /// A page is granted to a seat where it is picked.
     #[inline(always)]
     fn grant_if(&mut self, picked: bool, seat: u8, want: &Want)
-        requires seat { seat < 16 }
-        requires same { (activity_of self.old).seating.holding.pages ≡ page_count (activity_of self.old).reach.directory }
-        requires page { want.now.page < page_count (activity_of self.old).reach.directory }
-        ensures shape { activity_of self.new ≡ with_entries (activity_of self.old) (activity_of self.new).reach.entries }
-        ensures granted { Grants seat (want.now ∷ []) (page_if picked want.now.page) (activity_of self.old) (activity_of self.new) }
+        requires taken { has self.old.seating.taken seat ≡ true }
+        requires page { want.now.page < page_count self.old.reach.directory }
+        ensures shape { self.new ≡ with_entries self.old self.new.reach.entries }
+        ensures granted { Grants seat (want.now ∷ []) (page_if picked want.now.page) self.old self.new }
     {
         if picked {
             self.grant(seat, want);
@@ -75,14 +69,14 @@ impl Activations {
     /// A page gets the entry that a seat's locks of it give.
     #[inline(always)]
     fn grant(&mut self, seat: u8, want: &Want)
-        requires seat { seat < 16 }
-        requires same { (activity_of self.old).seating.holding.pages ≡ page_count (activity_of self.old).reach.directory }
-        requires page { want.now.page < page_count (activity_of self.old).reach.directory }
-        ensures shape { activity_of self.new ≡ with_entries (activity_of self.old) (activity_of self.new).reach.entries }
-        ensures granted { Grants seat (want.now ∷ []) (want.now.page ∷ []) (activity_of self.old) (activity_of self.new) }
+        requires taken { has self.old.seating.taken seat ≡ true }
+        requires page { want.now.page < page_count self.old.reach.directory }
+        ensures shape { self.new ≡ with_entries self.old self.new.reach.entries }
+        ensures granted { Grants seat (want.now ∷ []) (want.now.page ∷ []) self.old self.new }
     {
+        self.is_seat(seat);
         let (reads, writes) = self.seats.locks().held(seat, want.page);
-        let entry = if self.directory.is_fine(want.page) {
+        let entry = if self.unit.directory().is_fine(want.page) {
             Authority::grant_fine(seat + 1, reads, writes, !want.writes.is_empty())
         } else {
             Authority::grant(seat + 1, reads, writes)
@@ -94,11 +88,10 @@ impl Activations {
     #[inline(always)]
     #[tactic(auto, using(crate::proofs::GrantLemmas::one_within, crate::proofs::GrantLemmas::first_within, crate::proofs::GrantLemmas::second_within))]
     pub(super) fn lower(&mut self, seat: u8, touch: &Touch)
-        requires seat { seat < 16 }
-        requires same { (activity_of self.old).seating.holding.pages ≡ page_count (activity_of self.old).reach.directory }
-        requires pages { AreWithin (page_count (activity_of self.old).reach.directory) (wants_of touch.now) }
-        ensures shape { activity_of self.new ≡ with_entries (activity_of self.old) (activity_of self.new).reach.entries }
-        ensures lowered { Lowers seat (wants_of touch.now) (activity_of self.old) (activity_of self.new) }
+        requires taken { has self.old.seating.taken seat ≡ true }
+        requires pages { AreWithin (page_count self.old.reach.directory) (wants_of touch.now) }
+        ensures shape { self.new ≡ with_entries self.old self.new.reach.entries }
+        ensures lowered { Lowers seat (wants_of touch.now) self.old self.new }
     {
         match touch {
             Touch::Nothing => {}
@@ -113,18 +106,18 @@ impl Activations {
     /// The write bit of a page goes off, if it is fine, was written into, and a seat holds not all its lines.
     #[inline(always)]
     fn lower_page(&mut self, seat: u8, want: &Want)
-        requires seat { seat < 16 }
-        requires same { (activity_of self.old).seating.holding.pages ≡ page_count (activity_of self.old).reach.directory }
-        requires page { want.now.page < page_count (activity_of self.old).reach.directory }
-        ensures shape { activity_of self.new ≡ with_entries (activity_of self.old) (activity_of self.new).reach.entries }
-        ensures lowered { Lowers seat (want.now ∷ []) (activity_of self.old) (activity_of self.new) }
+        requires taken { has self.old.seating.taken seat ≡ true }
+        requires page { want.now.page < page_count self.old.reach.directory }
+        ensures shape { self.new ≡ with_entries self.old self.new.reach.entries }
+        ensures lowered { Lowers seat (want.now ∷ []) self.old self.new }
     {
         if want.writes.is_empty() {
             return;
         }
-        if !self.directory.is_fine(want.page) {
+        if !self.unit.directory().is_fine(want.page) {
             return;
         }
+        self.is_seat(seat);
         let (reads, _) = self.seats.locks().held(seat, want.page);
         if reads.count() == 16 {
             return;

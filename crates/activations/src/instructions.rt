@@ -22,10 +22,9 @@ pub enum Went {
 }
 
 impl Activations {
-    ghost use Rattle.activations.specs.Activity.{live_in, activity_of};
-    ghost use Rattle.activations.specs.Stages.{IsNoLimit, CanFetch, CanServe, CountsCycles, CountsOne, CountsPages, EndsByDisk, EndsContest, EndsRows, HasFetched, HasRoom, KeepsAll, KeepsSound, StaysCalm, Instructs, SettlesAsked, ServesFree, EndsChecked, GoesServed, HasBrokenOff};
+    ghost use Rattle.activations.specs.Activity.{live_in};
+    ghost use Rattle.activations.specs.Stages.{IsNoLimit, CanFetch, CanServe, CountsCycles, CountsOne, CountsPages, EndsByDisk, EndsContest, EndsRows, HasFetched, HasRoom, KeepsAll, StaysCalm, Instructs, SettlesAsked, ServesFree, EndsChecked, GoesServed, HasBrokenOff};
     ghost use Rattle.activations.specs.Kept.{IsSelected, IsShut, WillTouch, KeepsParts, StandsStill, StaysSeated};
-    ghost use Rattle.activations.specs.Follows.{IsSound};
     ghost use Rattle.activations.specs.Turning.{IsInstruction, Prepares, IsStep, MayBeShut};
     ghost use Rattle.activations.specs.Steps.{rolled, with_pool};
     ghost use Rattle.seats.specs.Seating.{number_in};
@@ -44,22 +43,26 @@ impl Activations {
         shut: Option<Access>,
         tally: &mut Tally,
     ) -> Result<Went, TurnEnd>
-        requires can { CanServe W.Outside (activity_of self.old) seat store.now outside.old }
-        requires room { HasRoom (activity_of self.old) tally.old }
-        requires shut { MayBeShut (activity_of self.old) seat shut }
-        ensures keeps { KeepsAll W.Outside (activity_of self.old) (activity_of self.new) 0 outside.old outside.new }
-        ensures counts { CountsOne (activity_of self.new) tally.old tally.new }
-        ensures on { OnOk result (StaysCalm W.Outside (activity_of self.old) (activity_of self.new) seat outside.old outside.new) }
-        ensures over { IfErr result (EndsRows W.Outside (number_in (activity_of self.old).seating seat) (activity_of self.new) outside.old outside.new tally.old tally.new) }
+        requires can { CanServe W.Outside self.old seat store.now outside.old }
+        requires room { HasRoom self.old tally.old }
+        requires shut { MayBeShut self.old seat shut }
+        ensures keeps { KeepsAll W.Outside self.old self.new 0 outside.old outside.new }
+        ensures counts { CountsOne self.new tally.old tally.new }
+        ensures on { OnOk result (StaysCalm W.Outside self.old self.new seat outside.old outside.new) }
+        ensures over { IfErr result (EndsRows W.Outside (number_in self.old.seating seat) self.new outside.old outside.new tally.old tally.new) }
         ensures no_limit { IfErr result IsNoLimit }
-        ensures step { Instructs W.Outside store.now outside.old seat (activity_of self.old) (activity_of self.new) tally.old tally.new (IsStep result) }
+        ensures step { Instructs W.Outside store.now outside.old seat self.old self.new tally.old tally.new (IsStep result) }
     {
         if let Some(access) = shut {
             self.serve(store, outside, seat, access, tally)?;
             return Ok(Went::On);
         }
+        self.sound();
         match self.execute(seat) {
-            Attempt::Went | Attempt::Print(_) => Ok(Went::On),
+            Attempt::Went | Attempt::Print(_) => {
+                self.sound();
+                Ok(Went::On)
+            }
             Attempt::Fault(_, access) => {
                 self.serve(store, outside, seat, access, tally)?;
                 Ok(Went::On)
@@ -83,15 +86,15 @@ impl Activations {
         access: Access,
         tally: &mut Tally,
     ) -> Result<(), TurnEnd>
-        requires can { CanServe W.Outside (activity_of self.old) seat store.now outside.old }
-        requires room { HasRoom (activity_of self.old) tally.old }
-        requires shut { IsShut (activity_of self.old) seat access }
-        ensures keeps { KeepsAll W.Outside (activity_of self.old) (activity_of self.new) 0 outside.old outside.new }
-        ensures counts { CountsOne (activity_of self.new) tally.old tally.new }
-        ensures on { OnOk result (StaysCalm W.Outside (activity_of self.old) (activity_of self.new) seat outside.old outside.new) }
-        ensures over { IfErr result (EndsRows W.Outside (number_in (activity_of self.old).seating seat) (activity_of self.new) outside.old outside.new tally.old tally.new) }
+        requires can { CanServe W.Outside self.old seat store.now outside.old }
+        requires room { HasRoom self.old tally.old }
+        requires shut { IsShut self.old seat access }
+        ensures keeps { KeepsAll W.Outside self.old self.new 0 outside.old outside.new }
+        ensures counts { CountsOne self.new tally.old tally.new }
+        ensures on { OnOk result (StaysCalm W.Outside self.old self.new seat outside.old outside.new) }
+        ensures over { IfErr result (EndsRows W.Outside (number_in self.old.seating seat) self.new outside.old outside.new tally.old tally.new) }
         ensures no_limit { IfErr result IsNoLimit }
-        ensures served { Instructs W.Outside store.now outside.old seat (activity_of self.old) (activity_of self.new) tally.old tally.new (IsInstruction result) }
+        ensures served { Instructs W.Outside store.now outside.old seat self.old self.new tally.old tally.new (IsInstruction result) }
     {
         let (touch, refused) = self.prepare(store, outside, seat, access, tally)?;
         self.ask(seat, &touch, tally)?;
@@ -114,19 +117,19 @@ impl Activations {
         access: Access,
         tally: &mut Tally,
     ) -> Result<(Touch, (bool, bool)), TurnEnd>
-        requires can { CanServe W.Outside (activity_of self.old) seat store.now outside.old }
-        requires shut { IsShut (activity_of self.old) seat access }
+        requires can { CanServe W.Outside self.old seat store.now outside.old }
+        requires shut { IsShut self.old seat access }
         requires tally { (tally.old.pages < 6000000) × (tally.old.locks < 2000000) }
-        ensures wanted { IfOk result (λ got. AreWanted (activity_of self.new).reach.directory (wants_of got.0)) }
-        ensures touches { IfOk result (λ got. WillTouch (activity_of self.new) seat (wants_of got.0)) }
-        ensures refused { IfOk result (λ got. AreLetBut (activity_of self.new).reach.entries (seat + 1) (pages_picked got.0 got.1) (wants_of got.0)) }
-        ensures keeps { KeepsAll W.Outside (activity_of self.old) (activity_of self.new) 0 outside.old outside.new }
+        ensures wanted { IfOk result (λ got. AreWanted self.new.reach.directory (wants_of got.0)) }
+        ensures touches { IfOk result (λ got. WillTouch self.new seat (wants_of got.0)) }
+        ensures refused { IfOk result (λ got. AreLetBut self.new.reach.entries (seat + 1) (pages_picked got.0 got.1) (wants_of got.0)) }
+        ensures keeps { KeepsAll W.Outside self.old self.new 0 outside.old outside.new }
         ensures tally { tally.new ≡ record tally.old { pages = tally.new.pages; locks = tally.new.locks } }
         ensures few { (tally.old.pages ≤ tally.new.pages) × (tally.new.pages ≤ tally.old.pages + 2) × (tally.new.locks ≤ tally.old.locks + 2) }
-        ensures on { OnOk result (StaysCalm W.Outside (activity_of self.old) (activity_of self.new) seat outside.old outside.new) }
-        ensures over { IfErr result (EndsRows W.Outside (number_in (activity_of self.old).seating seat) (activity_of self.new) outside.old outside.new tally.old tally.new) }
+        ensures on { OnOk result (StaysCalm W.Outside self.old self.new seat outside.old outside.new) }
+        ensures over { IfErr result (EndsRows W.Outside (number_in self.old.seating seat) self.new outside.old outside.new tally.old tally.new) }
         ensures no_limit { IfErr result IsNoLimit }
-        ensures prepared { Instructs W.Outside store.now outside.old seat (activity_of self.old) (activity_of self.new) tally.old tally.new (Prepares result) }
+        ensures prepared { Instructs W.Outside store.now outside.old seat self.old self.new tally.old tally.new (Prepares result) }
     {
         let touch = self.touch_of(seat, access);
         self.keep_limit(seat, &touch)?;
@@ -150,18 +153,17 @@ impl Activations {
         touch: &Touch,
         tally: &mut Tally,
     ) -> Result<(), TurnEnd>
-        requires can { CanFetch W.Outside (activity_of self.old) store.now outside.old }
-        requires taken { has (activity_of self.old).seating.taken seat ≡ true }
-        requires wanted { AreWanted (activity_of self.old).reach.directory (wants_of touch.now) }
+        requires can { CanFetch W.Outside self.old store.now outside.old }
+        requires taken { has self.old.seating.taken seat ≡ true }
+        requires wanted { AreWanted self.old.reach.directory (wants_of touch.now) }
         requires few { tally.old.pages + 2 < 2 ^ 32 }
-        ensures sound { IsSound (activity_of self.new) }
         ensures asks { OnlyAsks W.Outside outside.old outside.new }
         ensures counts { CountsPages tally.old tally.new }
         ensures calm { OnOk result (W.disk_faults outside.new ≡ W.disk_faults outside.old) }
-        ensures shape { OnOk result (activity_of self.new ≡ with_pool (activity_of self.old) (activity_of self.new).reach.pool) }
-        ensures fetched { OnOk result (HasFetched W.Outside store.now outside.old (activity_of self.old) (pages_wanted (wants_of touch.now)) tally.old.pages (activity_of self.new).reach.pool tally.new.pages) }
+        ensures shape { OnOk result (self.new ≡ with_pool self.old self.new.reach.pool) }
+        ensures fetched { OnOk result (HasFetched W.Outside store.now outside.old self.old (pages_wanted (wants_of touch.now)) tally.old.pages self.new.reach.pool tally.new.pages) }
         ensures ends { IfErr result (EndsByDisk W.Outside outside.old outside.new tally.old tally.new) }
-        ensures broke { IfErr result (λ over. HasBrokenOff W.Outside store.now outside.old (activity_of self.old) seat (pages_wanted (wants_of touch.now)) tally.old.pages (activity_of self.new) tally.new.pages) }
+        ensures broke { IfErr result (λ over. HasBrokenOff W.Outside store.now outside.old self.old seat (pages_wanted (wants_of touch.now)) tally.old.pages self.new tally.new.pages) }
     {
         match self.fetch(store, outside, touch, tally) {
             Ok(()) => Ok(()),
@@ -179,15 +181,14 @@ impl Activations {
     /// The end of the turn: he is a victim, or still waits.
     #[inline(always)]
     fn ask(&mut self, seat: u8, touch: &Touch, tally: &mut Tally) -> Result<(), TurnEnd>
-        requires sound { IsSound (activity_of self.old) }
-        requires taken { has (activity_of self.old).seating.taken seat ≡ true }
-        requires wanted { AreWanted (activity_of self.old).reach.directory (wants_of touch.now) }
-        requires cycles { array_vec_len tally.old.cycles + length (activity_of self.old).seating.taken ≤ 16 }
-        ensures keeps { KeepsSound (activity_of self.old) (activity_of self.new) 0 }
-        ensures counts { CountsCycles (activity_of self.new) tally.old tally.new }
-        ensures stays { OnOk result (StandsStill (activity_of self.old) (activity_of self.new) seat) }
-        ensures ends { IfErr result (EndsContest (number_in (activity_of self.old).seating seat) tally.new) }
-        ensures settled { SettlesAsked seat (wants_of touch.now) (activity_of self.old) (activity_of self.new) tally.old tally.new result }
+        requires taken { has self.old.seating.taken seat ≡ true }
+        requires wanted { AreWanted self.old.reach.directory (wants_of touch.now) }
+        requires cycles { array_vec_len tally.old.cycles + length self.old.seating.taken ≤ 16 }
+        ensures keeps { KeepsParts self.old self.new 0 }
+        ensures counts { CountsCycles self.new tally.old tally.new }
+        ensures stays { OnOk result (StandsStill self.old self.new seat) }
+        ensures ends { IfErr result (EndsContest (number_in self.old.seating seat) tally.new) }
+        ensures settled { SettlesAsked seat (wants_of touch.now) self.old self.new tally.old tally.new result }
     {
         let request = self.request(touch);
         if self.seats.holders(seat, &request).is_empty() {
@@ -213,20 +214,22 @@ impl Activations {
         refused: (bool, bool),
         tally: &mut Tally,
     ) -> Result<(), TurnEnd>
-        requires can { CanServe W.Outside (activity_of self.old) seat store.now outside.old }
-        requires wanted { AreWanted (activity_of self.old).reach.directory (wants_of touch.now) }
-        requires touches { WillTouch (activity_of self.old) seat (wants_of touch.now) }
-        requires refused { AreLetBut (activity_of self.old).reach.entries (seat + 1) (pages_picked touch.now refused) (wants_of touch.now) }
+        requires can { CanServe W.Outside self.old seat store.now outside.old }
+        requires wanted { AreWanted self.old.reach.directory (wants_of touch.now) }
+        requires touches { WillTouch self.old seat (wants_of touch.now) }
+        requires refused { AreLetBut self.old.reach.entries (seat + 1) (pages_picked touch.now refused) (wants_of touch.now) }
         requires few { tally.old.pages + 2 < 2 ^ 32 }
-        ensures touches { OnOk result (WillTouch (activity_of self.new) seat (wants_of touch.now)) }
-        ensures opened { OnOk result (IsOpen (activity_of self.new).reach (lines_wanted (wants_of touch.now))) }
-        ensures keeps { KeepsAll W.Outside (activity_of self.old) (activity_of self.new) 0 outside.old outside.new }
+        ensures touches { OnOk result (WillTouch self.new seat (wants_of touch.now)) }
+        ensures opened { OnOk result (IsOpen self.new.reach (lines_wanted (wants_of touch.now))) }
+        ensures keeps { KeepsAll W.Outside self.old self.new 0 outside.old outside.new }
         ensures counts { CountsPages tally.old tally.new }
-        ensures on { OnOk result (StaysCalm W.Outside (activity_of self.old) (activity_of self.new) seat outside.old outside.new) }
+        ensures on { OnOk result (StaysCalm W.Outside self.old self.new seat outside.old outside.new) }
         ensures ends { IfErr result (EndsByDisk W.Outside outside.old outside.new tally.old tally.new) }
-        ensures served { ServesFree W.Outside store.now outside.old seat (wants_of touch.now) (pages_picked touch.now refused) (activity_of self.old) (activity_of self.new) tally.old tally.new result }
+        ensures served { ServesFree W.Outside store.now outside.old seat (wants_of touch.now) (pages_picked touch.now refused) self.old self.new tally.old tally.new result }
     {
+        self.sound();
         self.take(seat, touch, refused);
+        self.sound();
         self.bring(store, outside, seat, touch, tally)
     }
 
@@ -234,30 +237,29 @@ impl Activations {
     /// into go off. It isn't counted yet.
     #[inline(always)]
     fn go_on(&mut self, seat: u8, touch: &Touch)
-        requires sound { IsSound (activity_of self.old) }
-        requires taken { has (activity_of self.old).seating.taken seat ≡ true }
-        requires selected { IsSelected (activity_of self.old) seat }
-        requires wanted { AreWanted (activity_of self.old).reach.directory (wants_of touch.now) }
-        requires touches { WillTouch (activity_of self.old) seat (wants_of touch.now) }
-        requires opened { IsOpen (activity_of self.old).reach (lines_wanted (wants_of touch.now)) }
-        ensures sound { IsSound (activity_of self.new) }
-        ensures parts { KeepsParts (activity_of self.old) (activity_of self.new) 0 }
-        ensures stays { StaysSeated (activity_of self.old) (activity_of self.new) seat }
-        ensures went { GoesServed seat (wants_of touch.now) (activity_of self.old) (activity_of self.new) }
+        requires taken { has self.old.seating.taken seat ≡ true }
+        requires selected { IsSelected self.old seat }
+        requires wanted { AreWanted self.old.reach.directory (wants_of touch.now) }
+        requires touches { WillTouch self.old seat (wants_of touch.now) }
+        requires opened { IsOpen self.old.reach (lines_wanted (wants_of touch.now)) }
+        ensures parts { KeepsParts self.old self.new 0 }
+        ensures stays { StaysSeated self.old self.new seat }
+        ensures went { GoesServed seat (wants_of touch.now) self.old self.new }
     {
+        self.sound();
         self.execute(seat);
+        self.sound();
         self.lower(seat, touch);
     }
 
     /// A program check: who sits in a seat is rolled back.
     fn check(&mut self, seat: u8, code: u8) -> TurnEnd
-        requires sound { IsSound (activity_of self.old) }
-        requires taken { has (activity_of self.old).seating.taken seat ≡ true }
-        ensures sound { IsSound (activity_of self.new) }
-        ensures end { result ≡ end.Checked code (live_in (activity_of self.old) seat).cpu.iar }
-        ensures shape { activity_of self.new ≡ rolled (activity_of self.old) seat (activity_of self.new).reach.pool }
-        ensures checked { EndsChecked seat code (activity_of self.old) (activity_of self.new) result }
+        requires taken { has self.old.seating.taken seat ≡ true }
+        ensures end { result ≡ end.Checked code (live_in self.old seat).cpu.iar }
+        ensures shape { self.new ≡ rolled self.old seat self.new.reach.pool }
+        ensures checked { EndsChecked seat code self.old self.new result }
     {
+        self.is_seat(seat);
         let address = self.live[usize::from(seat)].cpu.iar;
         self.roll_back(seat);
         TurnEnd::Checked(code, address)

@@ -1,7 +1,7 @@
 // The record of a commit.
 ghost use Rattle.std.specs.Prelude.{[], ◌≡◌, ◌+◌, ◌*◌, ◌<◌, ◌≤◌, ℕ, List, All, length, true, Some, IsSome, IsOk, OnOk, OnErr, IfErr};
 ghost use Rattle.activations.specs.Below.{begun_of, flat_lines, has, most_lines, of_seat, page_count, size, write_count};
-ghost use Rattle.activations.specs.Recorded.{with_lines, IsRecordOf, LeavesCommitted, HasWritten};
+ghost use Rattle.activations.specs.Recorded.{with_lines, IsItsStore, IsRecordOf, LeavesCommitted, HasWritten};
 
 use super::activations::Activations;
 use super::touch::Touch;
@@ -11,8 +11,8 @@ use lines::LineSet;
 use store::Durable;
 
 impl Activations {
-    ghost use Rattle.activations.specs.Activity.{locks_in, activity_of};
-    ghost use Rattle.activations.specs.Follows.{IsSound, KeepsDesk};
+    ghost use Rattle.activations.specs.Activity.{locks_in};
+    ghost use Rattle.activations.specs.Follows.{KeepsDesk};
     ghost use Rattle.store.specs.KeptStore.{with_begun};
     ghost use Rattle.activations.specs.Steps.{rolled};
     ghost use Rattle.activations.specs.Stages.{IsOver};
@@ -24,22 +24,20 @@ impl Activations {
     /// [`TurnEnd::Journal`] exactly where they are more than a record may have: he is rolled back then, and the store is left
     /// alone.
     pub fn record(&mut self, seat: u8, store: &mut Durable) -> Result<(), TurnEnd>
-        requires sound { IsSound (activity_of self.old) }
-        requires taken { has (activity_of self.old).seating.taken seat ≡ true }
-        requires directory { store.old.header.directory ≡ (activity_of self.old).reach.directory }
-        requires most { most_lines store.old.header ≡ (activity_of self.old).most_lines }
-        ensures sound { IsSound (activity_of self.new) }
-        ensures kept { OnOk result (activity_of self.new ≡ activity_of self.old) }
+        requires taken { has self.old.seating.taken seat ≡ true }
+        requires store { IsItsStore store.old.header self.old }
+        ensures kept { OnOk result (self.new ≡ self.old) }
         ensures begun { OnOk result (store.new ≡ with_begun store.old (begun_of store.new.bank)) }
-        ensures record { OnOk result (IsRecordOf (activity_of self.old) seat (begun_of store.new.bank)) }
-        ensures count { OnOk result (length (begun_of store.new.bank) ≡ write_count (of_seat (activity_of self.old).seating.holding seat)) }
-        ensures few { OnOk result (length (begun_of store.new.bank) ≤ (activity_of self.old).most_lines) }
-        ensures laid { OnOk result (LeavesCommitted (activity_of self.old) seat (begun_of store.new.bank)) }
-        ensures journal { IfErr result (IsOver (write_count (of_seat (activity_of self.old).seating.holding seat)) (activity_of self.old).most_lines) }
-        ensures rolled { OnErr result (activity_of self.new ≡ rolled (activity_of self.old) seat (activity_of self.new).reach.pool) }
+        ensures record { OnOk result (IsRecordOf self.old seat (begun_of store.new.bank)) }
+        ensures count { OnOk result (length (begun_of store.new.bank) ≡ write_count (of_seat self.old.seating.holding seat)) }
+        ensures few { OnOk result (length (begun_of store.new.bank) ≤ self.old.most_lines) }
+        ensures laid { OnOk result (LeavesCommitted self.old seat (begun_of store.new.bank)) }
+        ensures journal { IfErr result (IsOver (write_count (of_seat self.old.seating.holding seat)) self.old.most_lines) }
+        ensures rolled { OnErr result (self.new ≡ rolled self.old seat self.new.reach.pool) }
         ensures unwritten { OnErr result (store.new ≡ store.old) }
-        ensures never { (committed : List ℕ) → KeepsDesk (activity_of self.old) committed → IsOk result }
+        ensures never { (committed : List ℕ) → KeepsDesk self.old committed → IsOk result }
     {
+        let _ = &self.unit;
         match self.keep_limit(seat, &Touch::Nothing) {
             Err(end) => Err(end),
             Ok(()) => {
@@ -52,12 +50,11 @@ impl Activations {
 
     /// The lines that a seat holds to write come into the record that is begun, page by page.
     fn record_written(&self, seat: u8, store: &mut Durable)
-        requires sound { IsSound (activity_of self.now) }
         requires seat { seat < 16 }
-        requires directory { store.old.header.directory ≡ (activity_of self.now).reach.directory }
+        requires directory { store.old.header.directory ≡ self.now.reach.directory }
         requires begun { store.old.bank.begun ≡ Some [] }
-        requires few { size (locks_in (activity_of self.now) seat).writes ≤ most_lines store.old.header }
-        ensures { HasWritten (activity_of self.now) seat store.old store.new }
+        requires few { size (locks_in self.now seat).writes ≤ most_lines store.old.header }
+        ensures { HasWritten self.now seat store.old store.new }
     {
         let locks = self.seats.locks();
         for page in locks.held_pages(seat) {

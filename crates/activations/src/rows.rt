@@ -1,8 +1,6 @@
 // Rows that need nobody else: an attempt, and a run of them.
-ghost use Rattle.std.specs.Prelude.{◌≡◌, ◌≤◌, ◌<◌, ℕ, true, Some, None};
-ghost use Rattle.activations.specs.Activity.{Activity, activity_of};
-ghost use Rattle.activations.specs.Kept.{WasAttempted, IsShut, IsStopped, HasStrode, RunsAt, standing, with_live, KeepsParts, IsSelected, Strode};
-ghost use Rattle.activations.specs.Follows.{IsSound};
+ghost use Rattle.std.specs.Prelude.{◌≡◌, ◌≤◌, ◌<◌, true, Some, None};
+ghost use Rattle.activations.specs.Kept.{WasAttempted, IsShut, IsStopped, HasStrode, HasTried, RunsSomewhere, standing, KeepsParts, IsSelected, Strode};
 ghost use Rattle.activations.specs.Below.{has, reach_of};
 ghost use Rattle.romp_cpu.specs.Tried.{how_went};
 
@@ -15,11 +13,9 @@ impl Activations {
     /// The processor in a seat, which is selected, attempts its next instruction; a byte that it prints is kept.
     #[inline(always)]
     pub fn execute(&mut self, seat: u8) -> Attempt
-        requires sound { IsSound (activity_of self.old) }
-        requires taken { has (activity_of self.old).seating.taken seat ≡ true }
-        requires selected { IsSelected (activity_of self.old) seat }
-        ensures sound { IsSound (activity_of self.new) }
-        ensures went { WasAttempted result (activity_of self.old) seat (activity_of self.new) }
+        requires taken { has self.old.seating.taken seat ≡ true }
+        requires selected { IsSelected self.old seat }
+        ensures went { WasAttempted result self.old seat self.new }
     {
         attempt_on(&mut self.unit, &mut self.live[usize::from(seat)])
     }
@@ -28,16 +24,14 @@ impl Activations {
     /// isn't permitted. They aren't counted yet.
     #[inline(never)]
     pub fn stride(&mut self, seat: u8, limit: u32) -> (u32, Option<Access>)
-        requires sound { IsSound (activity_of self.old) }
-        requires taken { has (activity_of self.old).seating.taken seat ≡ true }
-        requires selected { IsSelected (activity_of self.old) seat }
-        ensures sound { IsSound (activity_of self.new) }
-        ensures selected { IsSelected (activity_of self.new) seat }
+        requires taken { has self.old.seating.taken seat ≡ true }
+        requires selected { IsSelected self.old seat }
+        ensures selected { IsSelected self.new seat }
         ensures few { result.0 ≤ limit }
-        ensures parts { KeepsParts (activity_of self.old) (activity_of self.new) 0 }
-        ensures strode { Strode (activity_of self.old) seat result.0 (activity_of self.new) }
-        ensures stopped { result.1 ≡ None → result.0 < limit → IsStopped (activity_of self.new) seat }
-        ensures shut { (access : Access) → result.1 ≡ Some access → IsShut (activity_of self.new) seat access }
+        ensures parts { KeepsParts self.old self.new 0 }
+        ensures strode { Strode self.old seat result.0 self.new }
+        ensures stopped { result.1 ≡ None → result.0 < limit → IsStopped self.new seat }
+        ensures shut { (access : Access) → result.1 ≡ Some access → IsShut self.new seat access }
     {
         stride_on(&mut self.unit, &mut self.live[usize::from(seat)], limit)
     }
@@ -46,10 +40,8 @@ impl Activations {
 /// The processor of what runs in a seat, which is selected, attempts its next instruction; a byte that it prints is kept.
 #[inline(always)]
 fn attempt_on(unit: &mut Unit, live: &mut Live) -> Attempt
-    requires runs { (a : Activity) × (seat : ℕ) × RunsAt a seat (reach_of unit.old) live.old }
-    ensures sound { (a : Activity) (seat : ℕ) → RunsAt a seat (reach_of unit.old) live.old → IsSound (with_live a seat live.new (reach_of unit.new)) }
-    ensures went { (a : Activity) (seat : ℕ) → RunsAt a seat (reach_of unit.old) live.old → WasAttempted result a seat (with_live a seat live.new (reach_of unit.new)) }
-    ensures directory { (reach_of unit.new).directory ≡ (reach_of unit.old).directory }
+    requires runs { RunsSomewhere (reach_of unit.old) live.old }
+    ensures { HasTried result (reach_of unit.old) live.old (reach_of unit.new) live.new }
 {
     let mut iar = live.cpu.iar;
     let mut went = Attempt::Went;
@@ -61,10 +53,8 @@ fn attempt_on(unit: &mut Unit, live: &mut Live) -> Attempt
 /// The same of the instruction at an address that the caller keeps. True: it went at once. Else `went` says how.
 #[inline(always)]
 fn step_on(unit: &mut Unit, live: &mut Live, iar: &mut u32, went: &mut Attempt) -> bool
-    requires runs { (a : Activity) × (seat : ℕ) × RunsAt a seat (reach_of unit.old) (standing live.old iar.old) }
-    ensures sound { (a : Activity) (seat : ℕ) → RunsAt a seat (reach_of unit.old) (standing live.old iar.old) → IsSound (with_live a seat (standing live.new iar.new) (reach_of unit.new)) }
-    ensures went { (a : Activity) (seat : ℕ) → RunsAt a seat (reach_of unit.old) (standing live.old iar.old) → WasAttempted (how_went result went.new) a seat (with_live a seat (standing live.new iar.new) (reach_of unit.new)) }
-    ensures directory { (reach_of unit.new).directory ≡ (reach_of unit.old).directory }
+    requires runs { RunsSomewhere (reach_of unit.old) (standing live.old iar.old) }
+    ensures { HasTried (how_went result went.new) (reach_of unit.old) (standing live.old iar.old) (reach_of unit.new) (standing live.new iar.new) }
 {
     if unit.step(&mut live.cpu, iar, went) {
         return true;
@@ -78,7 +68,7 @@ fn step_on(unit: &mut Unit, live: &mut Live, iar: &mut u32, went: &mut Attempt) 
 /// The next rows of what runs in a seat, which is selected, at most so many.
 #[inline(always)]
 fn stride_on(unit: &mut Unit, live: &mut Live, limit: u32) -> (u32, Option<Access>)
-    requires runs { (a : Activity) × (seat : ℕ) × RunsAt a seat (reach_of unit.old) live.old }
+    requires runs { RunsSomewhere (reach_of unit.old) live.old }
     ensures { HasStrode result limit (reach_of unit.old) live.old (reach_of unit.new) live.new }
 {
     let mut iar = live.cpu.iar;
@@ -90,7 +80,7 @@ fn stride_on(unit: &mut Unit, live: &mut Live, limit: u32) -> (u32, Option<Acces
 /// The same from an address on. It stays in hand until a row doesn't go on by itself.
 #[inline(always)]
 fn stride_from(unit: &mut Unit, live: &mut Live, iar: &mut u32, limit: u32) -> (u32, Option<Access>)
-    requires runs { (a : Activity) × (seat : ℕ) × RunsAt a seat (reach_of unit.old) (standing live.old iar.old) }
+    requires runs { RunsSomewhere (reach_of unit.old) (standing live.old iar.old) }
     ensures { HasStrode result limit (reach_of unit.old) (standing live.old iar.old) (reach_of unit.new) (standing live.new iar.new) }
 {
     let mut went = Attempt::Went;

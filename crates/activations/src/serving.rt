@@ -10,15 +10,13 @@ use page_table::Authority;
 use seats::Want;
 
 impl Activations {
-    ghost use Rattle.activations.specs.Activity.{activity_of};
-
     /// Of the first and the second page of a touch, whether its entry refuses who sits in a seat a line of it.
     #[inline(always)]
     #[tactic(auto, using(crate::proofs::GrantLemmas::one_within, crate::proofs::GrantLemmas::first_within, crate::proofs::GrantLemmas::second_within))]
     pub fn refused(&self, seat: u8, touch: &Touch) -> (bool, bool)
         requires seat { seat < 16 }
-        requires pages { AreWithin (page_count (activity_of self.now).reach.directory) (wants_of touch.now) }
-        ensures { result ≡ each_refused (activity_of self.now).reach.entries (seat + 1) touch.now }
+        requires pages { AreWithin (page_count self.now.reach.directory) (wants_of touch.now) }
+        ensures { result ≡ each_refused self.now.reach.entries (seat + 1) touch.now }
     {
         match touch {
             Touch::Nothing => (false, false),
@@ -32,8 +30,8 @@ impl Activations {
     #[tactic(auto, using(crate::proofs::GrantLemmas::one_within))]
     pub(super) fn is_granted(&self, seat: u8, touch: &Touch) -> bool
         requires seat { seat < 16 }
-        requires pages { AreWithin (page_count (activity_of self.now).reach.directory) (wants_of touch.now) }
-        ensures { result ≡ is_granted (activity_of self.now).reach.entries (seat + 1) touch.now }
+        requires pages { AreWithin (page_count self.now.reach.directory) (wants_of touch.now) }
+        ensures { result ≡ is_granted self.now.reach.entries (seat + 1) touch.now }
     {
         match touch {
             Touch::One(only) => !self.refuses(seat, only),
@@ -45,8 +43,8 @@ impl Activations {
     #[inline(always)]
     fn refuses(&self, seat: u8, want: &Want) -> bool
         requires seat { seat < 16 }
-        requires page { want.now.page < page_count (activity_of self.now).reach.directory }
-        ensures { result ≡ refuses_want (activity_of self.now).reach.entries (seat + 1) want.now }
+        requires page { want.now.page < page_count self.now.reach.directory }
+        ensures { result ≡ refuses_want self.now.reach.entries (seat + 1) want.now }
     {
         let entry = self.unit.table().authority(want.page);
         keeps_from(&entry, seat + 1, want.reads, false)

@@ -15,7 +15,7 @@ use seats::Want;
 use storage_unit::PRIVATE;
 
 impl Activations {
-    ghost use Rattle.activations.specs.Activity.{live_in, program_in, activity_of};
+    ghost use Rattle.activations.specs.Activity.{live_in, program_in};
     ghost use Rattle.activations.specs.Follows.{IsSound};
     ghost use Rattle.activations.specs.Serving.{lines_with};
     ghost use Rattle.activations.specs.Steps.{rolled};
@@ -24,13 +24,14 @@ impl Activations {
     /// The lines of the store that an access of who sits in a seat touches.
     #[inline(always)]
     pub(super) fn touch_of(&self, seat: u8, access: Access) -> Touch
-        requires sound { IsSound (activity_of self.now) }
-        requires taken { has (activity_of self.now).seating.taken seat ≡ true }
+        requires taken { has self.now.seating.taken seat ≡ true }
         requires some { 0 < access.bytes }
         requires few { access.bytes ≤ 64 }
-        ensures lines { lines_wanted (wants_of result) ≡ lines_of_access (program_in (activity_of self.now) seat) (activity_of self.now).reach.directory access }
-        ensures wanted { AreWanted (activity_of self.now).reach.directory (wants_of result) }
+        ensures lines { lines_wanted (wants_of result) ≡ lines_of_access (program_in self.now seat) self.now.reach.directory access }
+        ensures wanted { AreWanted self.now.reach.directory (wants_of result) }
+        ensures sound { IsSound self.now }
     {
+        let directory = self.unit.directory();
         let Ok(first) = self.locate(seat, access) else {
             return Touch::Nothing;
         };
@@ -38,17 +39,17 @@ impl Activations {
             Touch::Nothing
         } else {
             let offset = access.address % 0x1000_0000;
-            touch_from(&self.directory, first.segment, offset, access)
+            touch_from(directory, first.segment, offset, access)
         }
     }
 
     /// Where an access of who sits in a seat lies.
     #[inline(always)]
     pub(super) fn locate(&self, seat: u8, access: Access) -> Result<Virtual, Check>
-        requires sound { IsSound (activity_of self.now) }
-        requires taken { has (activity_of self.now).seating.taken seat ≡ true }
-        ensures { result ≡ located_by (live_in (activity_of self.now) seat).registers access.address access.bytes access.store }
+        requires taken { has self.now.seating.taken seat ≡ true }
+        ensures { result ≡ located_by (live_in self.now seat).registers access.address access.bytes access.store }
     {
+        self.is_seat(seat);
         let registers = &self.live[usize::from(seat)].registers;
         registers.locate(access.address, u32::from(access.bytes), access.store)
     }
@@ -60,19 +61,18 @@ impl Activations {
     /// [`TurnEnd::Journal`] exactly where they are more than a record may have.
     #[inline(always)]
     pub(super) fn keep_limit(&mut self, seat: u8, touch: &Touch) -> Result<(), TurnEnd>
-        requires sound { IsSound (activity_of self.old) }
-        requires taken { has (activity_of self.old).seating.taken seat ≡ true }
-        requires wanted { AreWanted (activity_of self.old).reach.directory (wants_of touch.now) }
-        ensures sound { IsSound (activity_of self.new) }
-        ensures kept { OnOk result ((activity_of self.new ≡ activity_of self.old) × (nat_lt (activity_of self.old).most_lines (lines_with (activity_of self.old) seat (wants_of touch.now)) ≡ false)) }
-        ensures journal { IfErr result (IsOver (lines_with (activity_of self.old) seat (wants_of touch.now)) (activity_of self.old).most_lines) }
-        ensures rolled { IfErr result (λ end. activity_of self.new ≡ rolled (activity_of self.old) seat (activity_of self.new).reach.pool) }
-        ensures over { IfErr result (EndsServing seat (wants_of touch.now) (activity_of self.old) (activity_of self.new)) }
+        requires taken { has self.old.seating.taken seat ≡ true }
+        requires wanted { AreWanted self.old.reach.directory (wants_of touch.now) }
+        ensures kept { OnOk result ((self.new ≡ self.old) × (nat_lt self.old.most_lines (lines_with self.old seat (wants_of touch.now)) ≡ false)) }
+        ensures journal { IfErr result (IsOver (lines_with self.old seat (wants_of touch.now)) self.old.most_lines) }
+        ensures rolled { IfErr result (λ end. self.new ≡ rolled self.old seat self.new.reach.pool) }
+        ensures over { IfErr result (EndsServing seat (wants_of touch.now) self.old self.new) }
     {
+        let most = self.most_lines;
         let lines = self.lines_with(seat, touch);
-        if lines > self.most_lines {
+        if lines > most {
             self.roll_back(seat);
-            Err(TurnEnd::Journal(lines, self.most_lines))
+            Err(TurnEnd::Journal(lines, most))
         } else {
             Ok(())
         }
@@ -81,10 +81,9 @@ impl Activations {
     /// How many lines who sits in a seat will have written, with those of a touch.
     #[inline(always)]
     fn lines_with(&self, seat: u8, touch: &Touch) -> u32
-        requires sound { IsSound (activity_of self.now) }
         requires seat { seat < 16 }
-        requires wanted { AreWanted (activity_of self.now).reach.directory (wants_of touch.now) }
-        ensures { result ≡ lines_with (activity_of self.now) seat (wants_of touch.now) }
+        requires wanted { AreWanted self.now.reach.directory (wants_of touch.now) }
+        ensures { result ≡ lines_with self.now seat (wants_of touch.now) }
     {
         let held = self.held_lines(seat);
         match touch {
@@ -99,10 +98,10 @@ impl Activations {
     /// How many lines a seat holds to write.
     #[inline(always)]
     fn held_lines(&self, seat: u8) -> u32
-        requires sound { IsSound (activity_of self.now) }
         requires seat { seat < 16 }
-        ensures value { result ≡ write_count (of_seat (activity_of self.now).seating.holding seat) }
+        ensures value { result ≡ write_count (of_seat self.now.seating.holding seat) }
         ensures few { result ≤ 16384 }
+        ensures sound { IsSound self.now }
     {
         self.seats.locks().written_lines(seat)
     }
@@ -110,10 +109,9 @@ impl Activations {
     /// How many of the lines that are wanted of a page to write a seat doesn't hold to write yet.
     #[inline(always)]
     fn new_lines(&self, seat: u8, want: &Want) -> u32
-        requires sound { IsSound (activity_of self.now) }
         requires seat { seat < 16 }
-        requires page { want.now.page < page_count (activity_of self.now).reach.directory }
-        ensures value { result ≡ length (difference want.now.writes (held_at (activity_of self.now).seating.holding seat want.now.page).1) }
+        requires page { want.now.page < page_count self.now.reach.directory }
+        ensures value { result ≡ length (difference want.now.writes (held_at self.now.seating.holding seat want.now.page).1) }
         ensures few { result ≤ 16 }
     {
         let (_, writes) = self.seats.locks().held(seat, want.page);

@@ -8,6 +8,11 @@ use Rattle.frame_pool.proofs.LendLemmas.{none-lost}
 without-absent : (these xs : List ℕ) (x : ℕ) → has xs x ≡ false → has (taken_out these xs) x ≡ false
 without-absent these xs x absent = grind (arith, nat_tests, has-filter)
 
+-- it is no longer
+without-fewer : (these xs : List ℕ) → length (taken_out these xs) ≤ length xs
+without-fewer these [] = omega arith
+without-fewer these (x ∷ xs) = grind (arith, nat_tests, without-fewer these xs)
+
 apart-without : (these xs : List ℕ) → is_apart xs ≡ true → is_apart (taken_out these xs) ≡ true
 apart-without these [] apart = apart
 apart-without these (x ∷ xs) apart = grind (arith, nat_tests, apart-without these xs, without-absent these xs x)
@@ -85,6 +90,7 @@ module _ (pool : Pool) (seen : IsSeen pool) (page frame : ℕ) (there : frame_at
     marked = seen.marked ∙ sym (length-set pool.frame_of page None);
     kept = kept-long ∙ seen.kept ∙ ap (λ n. n * page_bytes pool.page) (sym (length-set pool.frame_of page None));
     some = seen.some;
+    few = omega (arith, without-fewer (page ∷ []) pool.resident, seen.few);
     apart = apart-without (page ∷ []) pool.resident seen.apart;
     resident = resident-left;
     there = λ p f is. grind (arith, nat_tests, frame-left p, page-left f, seen.there page frame there, seen.there p f);

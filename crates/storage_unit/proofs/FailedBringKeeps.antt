@@ -19,6 +19,7 @@ module _ (d : Layout) (old new : Pool) (committed bytes : List ℕ) (page : ℕ)
         marked = whole.marked;
         kept = whole.kept;
         some = whole.some;
+        few = whole.few;
         apart = whole.apart;
         resident = whole.resident;
         there = whole.there;

@@ -1,5 +1,5 @@
 -- What a begin leaves of a session.
-use Rattle.supervisor.proofs.Common.{◌≡◌, ℕ, ◌+◌, ◌-◌, ◌*◌, ◌<◌, ◌≤◌, List, [], ◌∷◌, length, refl, sym, ◌∙◌, ap, subst, arith, Option, Some, None, length-append, newcomer, next_seat, Begun, begun_told, Desk, Fine, Step, absent_segment, step, Activations, Activity, program_at, desk_over, IsBegin, begins, begins_by, KeepsDesk, AreRowsWithin, activity_of, Session, IsSound, activity, fixed_of, session_desk, session_told, order_of, ShowsDesk}
+use Rattle.supervisor.proofs.Common.{◌≡◌, ℕ, ◌+◌, ◌-◌, ◌*◌, ◌<◌, ◌≤◌, List, [], ◌∷◌, length, refl, sym, ◌∙◌, ap, subst, arith, Option, Some, None, length-append, newcomer, next_seat, Begun, begun_told, Desk, Fine, Step, absent_segment, step, Activity, program_at, desk_over, IsBegin, begins, begins_by, KeepsDesk, AreRowsWithin, Session, IsSound, activity, fixed_of, session_desk, session_told, order_of, ShowsDesk}
 use Rattle.activations.proofs.SittingLemmas.{sitter-there, sitter-other}
 use Rattle.desk.specs.declared.event.Event.TheVariants as event
 use Rattle.activations.specs.Follows as running
@@ -26,28 +26,28 @@ module _ (a : Activity) (program : ℕ) (args : List ℕ) (sixteen : length a.se
   begins-given = given-by (next_seat a.seating) (absent_segment a.reach.directory (program_at a.programs program).windows)
 
 -- a session whose activations are others
-abbrev pub with_activations : Session → Activations → Session
+abbrev pub with_activations : Session → Activity → Session
 with_activations s activations = record s { activations = activations }
 
 -- A program began in a session.
-module _ (s : Session) (new : Activations) (program : ℕ) (args : List ℕ) (sound : IsSound s) (left : activity_of new ≡ (begins (activity s) program args).1) where
-  given : HasGiven (activity s) (activity_of new)
-  given = subst (HasGiven (activity s)) (sym left) (begins-given (activity s) program args sound.running.seating.sixteen)
+module _ (s : Session) (new : Activity) (program : ℕ) (args : List ℕ) (sound : IsSound s) (left : new ≡ (begins (activity s) program args).1) where
+  given : HasGiven (activity s) new
+  given = subst (HasGiven (activity s)) (sym left) (begins-given (activity s) program args sound.running.sound.seating.sixteen)
 
   pub told-begun : session_told (with_activations s new) ≡ record (session_told s) { given = (session_told (with_activations s new)).given }
-  told-begun = λ i. record (session_told s) { fixed = record (fixed_of s) { programs = given.programs i }; given = (activity_of new).next - 1 }
+  told-begun = λ i. record (session_told s) { fixed = record (fixed_of s) { programs = given.programs i }; given = new.next - 1 }
 
-  pub session-begun : (activity s).next - 1 < s.begins → running.IsSound (activity_of new) → IsSound (with_activations s new)
+  pub session-begun : (activity s).next - 1 < s.begins → running.AlwaysHolds new → IsSound (with_activations s new)
   session-begun room now = grind (arith, sound, sound.room, given, given.rows (s.turns * 1000000) sound.room.rows, room, now)
 
-  pub shown-begun : (answer : Begun) → ((committed : List ℕ) → KeepsDesk (activity s) committed → IsBegin (activity s) (activity_of new) program args answer committed)
+  pub shown-begun : running.AlwaysHolds new → (answer : Begun) → ((committed : List ℕ) → KeepsDesk (activity s) committed → IsBegin (activity s) new program args answer committed)
       → (held : List ℕ) (desk : Desk) → ShowsDesk s held desk
       → (next : Desk) × (step (activity s).programs (event.Begin program args) Fine desk ≡ record { desk = next; happening = begun_told program answer }) × ShowsDesk (with_activations s new) held next
-  shown-begun answer begin held desk shown =
+  shown-begun now answer begin held desk shown =
       let over = shown.over in
       let goes = begin over.committed over.follows in
       let open_desk : session_desk s over.committed ≡ desk_over (activity s) over.committed (order_of s) = λ i. record (desk_over (activity s) over.committed (order_of s)) { closed = over.still_open i } in
-      let next_desk : desk_over (activity_of new) over.committed (order_of s) ≡ session_desk (with_activations s new) over.committed = λ i. record (desk_over (activity_of new) over.committed (order_of s)) { closed = sym over.still_open i } in (
+      let next_desk : desk_over new over.committed (order_of s) ≡ session_desk (with_activations s new) over.committed = λ i. record (desk_over new over.committed (order_of s)) { closed = sym over.still_open i } in (
         session_desk (with_activations s new) over.committed,
         ap (step (activity s).programs (event.Begin program args) Fine) (shown.is ∙ open_desk)
             ∙ goes.is_step (order_of s)
@@ -55,6 +55,7 @@ module _ (s : Session) (new : Activations) (program : ℕ) (args : List ℕ) (so
         record {
           over = grind (arith, over, goes.follows);
           directory = shown.directory ∙ sym given.directory;
+          frames = now.frames;
           is = refl;
         },
       )

@@ -32,7 +32,7 @@ gone taken seat = let is = has-filter (λ other. not (other == seat)) taken seat
 -- one commit more in it perhaps.
 pub record HasLeft (old new : Session) (seat : ℕ) (pool : Pool) (commits : ℕ) : Type 0 where
   pub header : new.store.header ≡ old.store.header
-  pub running : running.IsSound (activity new)
+  pub running : running.AlwaysHolds (activity new)
   pub live : List Live
   pub is : activity new ≡ record (rolled (activity old) seat pool) { live = live }
   pub begins : new.begins ≡ old.begins

@@ -3,14 +3,13 @@ pub use Rattle.std.proofs.Common.{List, None, Option, Some, [], ap, arith, inl, 
 pub use Rattle.std.proofs.lemmas.Bool.{and_parts, cases_lt, eq-eqb, eqb-true}
 pub use Rattle.std.proofs.lemmas.List.{get_or_past, map-append, nil_from_length}
 pub use Rattle.std.specs.Prelude.{Bool, IsFalse, false, is_some, not, true, unwrap_or, ◌==◌, IsSome, drop, filter, if◌then◌else◌, map, nat_lt, slice_index, slice_set, vec_capacity, vec_len, ◌↔◌}
-pub use Rattle.activations.specs.Activity.{Activity, desk_over, entries, entry_in, live_in, program_at, program_in, shown, state_in, store_over, activity_of}
+pub use Rattle.activations.specs.Activity.{Activity, desk_over, entries, entry_in, live_in, program_at, program_in, shown, state_in, store_over}
 pub use Rattle.activations.specs.Begins.{Begins, IsBegin, begins, begins_by, idle}
 pub use Rattle.activations.specs.Stages.{IfJournal, IfVictim, IsStoreOf}
 pub use Rattle.activations.specs.Steps.{IsRestarted, reprinted, IsDeserted, rolled}
 pub use Rattle.activations.specs.Follows.{KeepsDesk}
 pub use Rattle.activations.specs.Turning.{IfWaits, IsEndOfRows, HasEnded, tally_counts, IsAtCommit, commit_call, turn_in}
 pub use Rattle.activations.specs.Kept.{AreRowsWithin}
-pub use Rattle.activations.specs.declared.activations.Activations.{Activations}
 pub use Rattle.activations.specs.declared.live.Live.{Live}
 pub use Rattle.activations.specs.declared.tally.Tally.{Tally}
 pub use Rattle.desk.specs.Answers.{EntersOrder, HasNumbers, begun_told, counts_told, ending_told, order_told, turn_closes, turn_told}

@@ -1,10 +1,11 @@
 -- What a crash of a session did.
-use Rattle.supervisor.proofs.Common.{◌≡◌, inl, ℕ, List, [], refl, sym, ◌∙◌, ap, Option, true, unwrap_or, Ghosts, Rose, IsSure, OnlyAsks, held_of, Header, Faulty, bank_of, stands, chosen, KeptStore, number_of, TracksStore, shown_stands, shown_store, journal_in, TookEvent, told_event, fixed_of, view_of, Desk, numbers, Fine, Failed, number_after, Step, Crashed, CrashFailed, shut, restarted, stepped, Activations, IsRestarted, activity_of, Session, IsSound, activity, session_desk, order_of, IsOpenOver, arith}
+use Rattle.activations.specs.Follows.{AlwaysHolds}
+use Rattle.supervisor.proofs.Common.{Activity, ◌≡◌, inl, ℕ, List, [], refl, sym, ◌∙◌, ap, Option, true, unwrap_or, Ghosts, Rose, IsSure, OnlyAsks, held_of, Header, Faulty, bank_of, stands, chosen, KeptStore, number_of, TracksStore, shown_stands, shown_store, journal_in, TookEvent, told_event, fixed_of, view_of, Desk, numbers, Fine, Failed, number_after, Step, Crashed, CrashFailed, shut, restarted, stepped, IsRestarted, Session, IsSound, activity, session_desk, order_of, IsOpenOver, arith}
 use Rattle.desk.specs.declared.event.Event.TheVariants as event
 use Rattle.supervisor.proofs.DidLemmas.{asked-stands, did-fail, fine-sure, over-other}
 
 -- a crash
-module _ {W : Type 0} (G : Ghosts W) (s : Session) (store : KeptStore) (header : store.header ≡ s.store.header) (left : Activations) (sound : IsSound s) (before after : W) (sure : IsSure G before) (over : IsOpenOver s (held_of G before)) (gone : IsRestarted (activity s) (activity_of left) over.committed) (asks : OnlyAsks G before after) where
+module _ {W : Type 0} (G : Ghosts W) (s : Session) (store : KeptStore) (header : store.header ≡ s.store.header) (left : Activity) (holds : AlwaysHolds left) (sound : IsSound s) (before after : W) (sure : IsSure G before) (over : IsOpenOver s (held_of G before)) (gone : IsRestarted (activity s) left over.committed) (asks : OnlyAsks G before after) where
   abbrev forgotten : Session
   forgotten = record s { store = store; activations = left }
 
@@ -21,7 +22,7 @@ module _ {W : Type 0} (G : Ghosts W) (s : Session) (store : KeptStore) (header :
     abbrev pub over-forgotten : IsOpenOver forgotten (held_of G after)
     over-forgotten = over-other s store left (held_of G before) (held_of G after) header over number-same tracks.shows (ap stands same_bytes) gone.follows
 
-    pub directory-forgotten : store.header.directory ≡ (activity_of left).reach.directory
+    pub directory-forgotten : store.header.directory ≡ left.reach.directory
     directory-forgotten = ap (λ (said : Header). said.directory) header ∙ sound.directory ∙ sym (ap (λ (desk : Desk). desk.committed.directory) (gone.desk []))
 
     pub number-restarted : number_of store ≡ number_after s.opened (session_desk forgotten over.committed)
@@ -37,7 +38,7 @@ module _ {W : Type 0} (G : Ghosts W) (s : Session) (store : KeptStore) (header :
       why = inl refl;
       closes = refl;
       ordered = refl;
-      still = λ still. (tracks.sure, record { over = over-forgotten; directory = directory-forgotten; is = refl });
+      still = λ still. (tracks.sure, record { over = over-forgotten; directory = directory-forgotten; frames = holds.frames; is = refl });
       journal = λ still. ap journal_in same_bytes;
       crash = λ image seen there. inl (asked-stands G s sound before after over sure asks image seen there);
       doubt = λ doubted. absurd (fine-sure doubted);

@@ -1,5 +1,5 @@
 -- What the turns and the checkpoints of a session did.
-use Rattle.supervisor.proofs.Common.{◌≡◌, inl, inr, ℕ, List, refl, sym, ◌∙◌, ap, subst, arith, true, false, Ghosts, Rose, IsSure, Leaves, OnlyAsks, held_of, Header, Stands, stands, KeptStore, number_of, Shows, TurnEnd, counts_told, ending_told, turn_told, TookEvent, told_event, fixed_of, view_of, standing_of, Desk, Fine, Failed, Doubt, Counts, JournalAfter, journal_in, Happening, Step, Turned, CheckpointMade, CheckpointFailed, step, turned, shut, stepped, Tally, tally_counts, Activations, activity_of, KeepsDesk, Session, IsSound, activity, order_of, session_desk, number_after, IsOpenOver, ShowsDesk, Takes, TurnHasRun, IsTurned, Turn}
+use Rattle.supervisor.proofs.Common.{Activity, ◌≡◌, inl, inr, ℕ, List, refl, sym, ◌∙◌, ap, subst, arith, true, false, Ghosts, Rose, IsSure, Leaves, OnlyAsks, held_of, Header, Stands, stands, KeptStore, number_of, Shows, TurnEnd, counts_told, ending_told, turn_told, TookEvent, told_event, fixed_of, view_of, standing_of, Desk, Fine, Failed, Doubt, Counts, JournalAfter, journal_in, Happening, Step, Turned, CheckpointMade, CheckpointFailed, step, turned, shut, stepped, Tally, tally_counts, KeepsDesk, Session, IsSound, activity, order_of, session_desk, number_after, IsOpenOver, ShowsDesk, Takes, TurnHasRun, IsTurned, Turn}
 use Rattle.outside.proofs.Durable.{leaves_held}
 use Rattle.supervisor.proofs.JournalLemmas.{checkpoint-empties}
 use Rattle.desk.specs.declared.event.Event.{Event}
@@ -49,15 +49,15 @@ module _ {W : Type 0} (G : Ghosts W) (s new : Session) (activation limit : ℕ) 
         why = ran.why;
         closes = sym ran.closes;
         ordered = sym ran.ordered;
-        still = λ open_now. let now = ran.still (sym ran.closes ∙ open_now) in (now.0, record { over = now.1.0; directory = sound.directory; is = now.1.1 });
+        still = λ open_now. let now = ran.still (sym ran.closes ∙ open_now) in (now.0, record { over = now.1.0; directory = sound.directory; frames = sound.running.frames; is = now.1.1 });
         journal = λ open_now. subst (λ (happening : Happening). JournalAfter happening (journal_in (held_of G before)) (journal_in (held_of G after))) told (ran.journal (sym ran.closes ∙ open_now));
         crash = ran.crash;
         doubt = λ doubted shut_now. ran.doubt doubted (sym ran.closes ∙ shut_now);
       }
 
 -- a session over another store with the same header and number, whose bytes stand for the same, and with other activities over the same committed bytes
-abbrev pub over-other : (s : Session) (store : KeptStore) (left : Activations) (held after : List ℕ) → store.header ≡ s.store.header → (over : IsOpenOver s held) → number_of store ≡ number_of s.store → Shows after store → stands after ≡ stands held
-    → KeepsDesk (activity_of left) over.committed → IsOpenOver (record s { store = store; activations = left }) after
+abbrev pub over-other : (s : Session) (store : KeptStore) (left : Activity) (held after : List ℕ) → store.header ≡ s.store.header → (over : IsOpenOver s held) → number_of store ≡ number_of s.store → Shows after store → stands after ≡ stands held
+    → KeepsDesk left over.committed → IsOpenOver (record s { store = store; activations = left }) after
 over-other s store left held after header over number shows stood follows = record {
   still_open = over.still_open;
   committed = over.committed;
@@ -103,7 +103,7 @@ module _ {W : Type 0} (G : Ghosts W) (s : Session) (store : KeptStore) (sound : 
     why = inl refl;
     closes = refl;
     ordered = refl;
-    still = λ still. (sure, record { over = over-other s store s.activations (held_of G before) (held_of G after) header over number shows stood over.follows; directory = ap (λ (said : Header). said.directory) header ∙ sound.directory; is = refl });
+    still = λ still. (sure, record { over = over-other s store s.activations (held_of G before) (held_of G after) header over number shows stood over.follows; directory = ap (λ (said : Header). said.directory) header ∙ sound.directory; frames = sound.running.frames; is = refl });
     journal = λ still. checkpoint-empties s.store store (held_of G before) (held_of G after) over.shows shows header none;
     crash = λ image seen left. inl (either image seen left);
     doubt = λ doubted. absurd (fine-sure doubted);

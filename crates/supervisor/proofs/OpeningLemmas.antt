@@ -1,5 +1,6 @@
 -- A session that has just opened.
 use Rattle.supervisor.proofs.Common.{◌≡◌, ℕ, ◌+◌, ◌^◌, List, [], length, take, sym, ◌∙◌, ap, arith, Option, false, unwrap_or, byte_count, Ghosts, OnlyAsks, held_of, header_of, most_lines, Stands, stands, KeptStore, number_of, Shows, TracksStore, order_told, opened, desk_over, Begins, Session, activity, session_desk}
+use Rattle.activations.specs.Follows.{HasFrames}
 use Rattle.std.proofs.Math.Nat.{mod-mod}
 use Rattle.store.proofs.StoodLemmas.{committed_in, committed-long, stood-store}
 use Rattle.supervisor.specs.Opened.{HasStood, IsSessionOpened}
@@ -13,6 +14,7 @@ pub record IsMade (frames : ℕ) (s : Session) : Type 0 where
   pub number : s.opened ≡ number_of s.store
   pub no_order : s.order.items ≡ []
   pub directory : s.store.header.directory ≡ (activity s).reach.directory
+  pub fitting : HasFrames (activity s).reach
   pub first : (committed : List ℕ) → length committed ≡ byte_count s.store.header.directory → Begins (activity s) (opened frames 16 (most_lines s.store.header) (record { directory = s.store.header.directory; bytes = committed })) committed
 
 module _ (frames : ℕ) (s : Session) (made : IsMade frames s) where
@@ -44,6 +46,7 @@ module _ (frames : ℕ) (s : Session) (made : IsMade frames s) where
             number = grind (arith, made.no_order, made.number, mod-mod (s.store.bank.base + s.store.bank.count) (2 ^ 64));
           };
           directory = made.directory;
+          frames = made.fitting;
           is = made-desk committed long;
         };
       }

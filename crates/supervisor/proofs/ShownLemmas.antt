@@ -1,34 +1,19 @@
 -- What holds of the desk that a session shows.
-use Rattle.supervisor.proofs.Common.{is_some, get_or_past, page_count, FlatStore, Plain, after, Desk, Entry, opened, run, over_all, seat-told, Session, activity, session_desk, ShownIsConsistent, ShownIsIsolated, ◌≡◌, ℕ, ◌<◌, true, List, [], ◌∷◌, length, sym, ◌∙◌, ap, subst, arith, Option, Some, None, get_or}
-use Rattle.frame_pool.specs.Sound.{is_apart}
-use Rattle.desk_law.specs.Consistent.{IsAmong, AreDistinct, AreResident, IsConsistent}
+use Rattle.supervisor.proofs.Common.{FlatStore, Plain, after, Desk, Entry, opened, run, over_all, seat-told, activity, session_desk, ShownIsConsistent, ShownIsIsolated, ◌≡◌, ℕ, List, [], sym, ◌∙◌, ap, subst, Option, Some, None}
+use Rattle.desk_law.specs.Consistent.{IsAmong, IsConsistent}
 use Rattle.desk_law.specs.Current.{IsCurrent}
 use Rattle.desk_law.specs.Memory.{memory_after, memory_of}
 use Rattle.desk_law.proofs.CurrentLaw.{one-list-is-current}
 use Rattle.desk_law.proofs.MemoryLaw.{runs-are-isolated}
 use Rattle.activations.specs.Activity.{entry_in, entries, store_over, state_in, shown as bytes_shown}
 
--- each stands once where none stands twice
-
-distinct : (xs : List ℕ) → is_apart xs ≡ true → AreDistinct xs
-distinct [] is = tt
-distinct (x ∷ xs) is = grind (arith, distinct xs)
-
--- what has a place is within the places
-within-places : (places : List (Option ℕ)) (page : ℕ) → is_some (get_or places page None) ≡ true → page < length places
-within-places places page is = let past = get_or_past places page None in grind (arith, past)
-
--- the pages of a session's frames
-pages-fit : (s : Session) (committed : List ℕ) → AreResident (session_desk s committed).frames (page_count (session_desk s committed).committed.directory) (session_desk s committed).resident
-pages-fit s committed = grind (arith, within-places, s.activations.unit.pool.places.sound.placed.used, s.activations.unit.pages, distinct s.activations.unit.pool.places.resident.items s.activations.unit.pool.places.sound.placed.pages_apart, s.activations.unit.pool.places.sound.placed.resident)
-
 pub consistent : ShownIsConsistent
 consistent s held desk shown =
     let is = shown.over.follows.orderly in
     let over : IsConsistent (session_desk s shown.over.committed) = record {
       whole = is.whole;
-      frames = s.activations.unit.pool.places.sound.sized.some;
-      resident = pages-fit s shown.over.committed;
+      frames = shown.frames.some;
+      resident = shown.frames.resident;
       few = is.few;
       active = is.active;
       held = is.held;

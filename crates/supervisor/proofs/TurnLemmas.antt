@@ -1,5 +1,5 @@
 -- How a turn of a session ends: over what ran, and then its commit.
-use Rattle.supervisor.proofs.Common.{arith, ap, sym, ◌∙◌, subst, inl, inr, ⊎_elim, has, Ghosts, Rose, IsSure, FewerLater, Leaves, OnlyAsks, held_of, leaves_on, Stands, stands, sure_on, Shows, TurnEnd, ending_told, HasNumbers, OnlyWrites, IsEitherOf, fine_step, standing_of, JournalAfter, journal_in, Turned, Desk, Entry, Word, Fine, ReadFailed, Doubt, Going, Over, no_counts, commits, turn, turn_of, turns, number_after, Step, turned, Reads, seat-told, told-found, stepped, number_in, seat_of, seat-found, Activations, Tally, entries, entry_in, desk_over, KeepsDesk, IsEndOfRows, IfWaits, HasEnded, tally_counts, IsAtCommit, commit_call, turn_in, activity_of, Session, IsSound, activity, order_of, session_desk, IsOpenOver, HasCommitted, TurnHasRun, IsCommitEnd, fine_desk, ◌≡◌, refl, ℕ, ◌+◌, ◌-◌, ◌*◌, ◌<◌, ◌≤◌, ◌⊎◌, true, false, List, [], Option, Some, None, unwrap_or, IsStoreOf}
+use Rattle.supervisor.proofs.Common.{Activity, arith, ap, sym, ◌∙◌, subst, inl, inr, ⊎_elim, has, Ghosts, Rose, IsSure, FewerLater, Leaves, OnlyAsks, held_of, leaves_on, Stands, stands, sure_on, Shows, TurnEnd, ending_told, HasNumbers, OnlyWrites, IsEitherOf, fine_step, standing_of, JournalAfter, journal_in, Turned, Desk, Entry, Word, Fine, ReadFailed, Doubt, Going, Over, no_counts, commits, turn, turn_of, turns, number_after, Step, turned, Reads, seat-told, told-found, stepped, number_in, seat_of, seat-found, Tally, entries, entry_in, desk_over, KeepsDesk, IsEndOfRows, IfWaits, HasEnded, tally_counts, IsAtCommit, commit_call, turn_in, Session, IsSound, activity, order_of, session_desk, IsOpenOver, HasCommitted, TurnHasRun, IsCommitEnd, fine_desk, ◌≡◌, refl, ℕ, ◌+◌, ◌-◌, ◌*◌, ◌<◌, ◌≤◌, ◌⊎◌, true, false, List, [], Option, Some, None, unwrap_or, IsStoreOf}
 use Rattle.supervisor.proofs.DidLemmas.{asked-stands, over-other}
 use Rattle.desk_law.proofs.Entries.{found-among}
 use Rattle.desk_law.proofs.InstructionStages.{reads-all}
@@ -10,8 +10,8 @@ use Rattle.activations.specs.Follows as running
 use Rattle.activations.specs.Kept as kept
 
 -- what ran leaves a session sound
-pub sound-ran : (s : Session) (ran : Activations) (limit : ℕ) → IsSound s → limit ≤ 1000000 → 0 < s.turns → kept.AreRowsWithin (activity s) ((s.turns - 1) * 1000000)
-    → running.IsSound (activity_of ran) → kept.KeepsParts (activity s) (activity_of ran) limit → IsSound (record s { activations = ran })
+pub sound-ran : (s : Session) (ran : Activity) (limit : ℕ) → IsSound s → limit ≤ 1000000 → 0 < s.turns → kept.AreRowsWithin (activity s) ((s.turns - 1) * 1000000)
+    → running.AlwaysHolds ran → kept.KeepsParts (activity s) ran limit → IsSound (record s { activations = ran })
 sound-ran s ran limit sound few turned rows is parts = grind (arith, sound, sound.room, is, parts, parts.rows ((s.turns - 1) * 1000000) rows)
 
 -- the desk of an open session is that over what runs
@@ -30,7 +30,7 @@ module _ {W : Type 0} (G : Ghosts W) (fewer_later : FewerLater G) (s : Session) 
   asked = asked-stands G s sound before mid over sure asks
 
   -- other activities over the same bytes
-  abbrev pub over-ran : (ran : Activations) → KeepsDesk (activity_of ran) over.committed → IsOpenOver (record s { activations = ran }) (held_of G mid)
+  abbrev pub over-ran : (ran : Activity) → KeepsDesk ran over.committed → IsOpenOver (record s { activations = ran }) (held_of G mid)
   over-ran ran follows =
       let same = ap (λ (told : Option (List ℕ)). unwrap_or told []) asks.held in
       over-other s s.store ran (held_of G before) (held_of G mid) refl over refl (subst (λ (held : List ℕ). Shows held s.store) (sym same) over.shows) (ap stands same) follows
@@ -54,12 +54,12 @@ module _ {W : Type 0} (G : Ghosts W) (fewer_later : FewerLater G) (s : Session) 
     doubt = λ doubted. absurd (let no : ⊥ = cc in no);
   }
 
-  module _ (seat : ℕ) (sits : seat_of (activity s).seating activation ≡ Some seat) (ran : Activations) (tally told : Tally) (nothing : tally_counts tally ≡ no_counts) where
+  module _ (seat : ℕ) (sits : seat_of (activity s).seating activation ≡ Some seat) (ran : Activity) (tally told : Tally) (nothing : tally_counts tally ≡ no_counts) where
     abbrev now : Session
     now = record s { activations = ran }
 
     found : (has (activity s).seating.taken seat ≡ true) × (number_in (activity s).seating seat ≡ activation)
-    found = seat-found (activity s).seating sound.running.seating activation seat sits
+    found = seat-found (activity s).seating sound.running.sound.seating activation seat sits
 
     -- the turn is that of who sits there
     turn-is : (word : Word) → turn word activation limit (session_desk s over.committed) ≡ turn_in (activity s) seat limit over.committed (order_of s) (tally_counts tally) word
@@ -70,12 +70,12 @@ module _ {W : Type 0} (G : Ghosts W) (fewer_later : FewerLater G) (s : Session) 
         ∙ (λ i. turns word (number_in (activity s).seating seat) limit (Going (open-desk s over.committed over.still_open i) (sym nothing i)))
 
     run-by : (word : Word) (how : TurnEnd) → (word ≡ Doubt → ⊥) → (word ≡ Fine) ⊎ Rose (G.disk_faults before) (G.disk_faults mid)
-        → turn_in (activity s) seat limit over.committed (order_of s) (tally_counts tally) word ≡ Over (desk_over (activity_of ran) over.committed (order_of s)) (tally_counts told) (ending_told how s.printed)
-        → KeepsDesk (activity_of ran) over.committed → HasNumbers how activation (number_after s.opened (desk_over (activity_of ran) over.committed (order_of s)))
+        → turn_in (activity s) seat limit over.committed (order_of s) (tally_counts tally) word ≡ Over (desk_over ran over.committed (order_of s)) (tally_counts told) (ending_told how s.printed)
+        → KeepsDesk ran over.committed → HasNumbers how activation (number_after s.opened (desk_over ran over.committed (order_of s)))
         → JournalAfter (Turned activation (tally_counts told) (ending_told how s.printed)) (journal_in (held_of G before)) (journal_in (held_of G mid)) → TurnHasRun G activation limit how s now told before mid over.committed
     run-by word how sober why comes follows numbers quiet = record {
       word = word;
-      next = desk_over (activity_of ran) over.committed (order_of s);
+      next = desk_over ran over.committed (order_of s);
       step = turn-is word ∙ comes;
       closes = sym over.still_open;
       ordered = refl;
@@ -87,13 +87,13 @@ module _ {W : Type 0} (G : Ghosts W) (fewer_later : FewerLater G) (s : Session) 
       doubt = λ doubted. absurd (sober doubted);
     }
 
-    fine : (how : TurnEnd) → IsOverTurn (turn_in (activity s) seat limit over.committed (order_of s) (tally_counts tally)) (activity_of ran) over.committed (order_of s) (tally_counts told) (ending_told how s.printed)
-        → HasNumbers how activation (number_after s.opened (desk_over (activity_of ran) over.committed (order_of s))) → JournalAfter (Turned activation (tally_counts told) (ending_told how s.printed)) (journal_in (held_of G before)) (journal_in (held_of G mid)) → TurnHasRun G activation limit how s now told before mid over.committed
+    fine : (how : TurnEnd) → IsOverTurn (turn_in (activity s) seat limit over.committed (order_of s) (tally_counts tally)) ran over.committed (order_of s) (tally_counts told) (ending_told how s.printed)
+        → HasNumbers how activation (number_after s.opened (desk_over ran over.committed (order_of s))) → JournalAfter (Turned activation (tally_counts told) (ending_told how s.printed)) (journal_in (held_of G before)) (journal_in (held_of G mid)) → TurnHasRun G activation limit how s now told before mid over.committed
     fine how ended numbers quiet = run-by Fine how (λ doubted. let no : ⊥ = cc in no) (inl refl) (ended.comes Fine (reads-all told.pages)) ended.follows numbers quiet
 
     -- it ended before its commit call
     pub ended : (how : TurnEnd) → IsEndOfRows G before mid tally told how → IfWaits (number_in (activity s).seating seat) how
-        → HasEnded how (turn_in (activity s) seat limit over.committed (order_of s) (tally_counts tally)) (activity_of ran) over.committed (order_of s) (tally_counts told)
+        → HasEnded how (turn_in (activity s) seat limit over.committed (order_of s) (tally_counts tally)) ran over.committed (order_of s) (tally_counts told)
         → TurnHasRun G activation limit how s now told before mid over.committed
     ended end.Disk rows waits has = run-by (ReadFailed told.pages) end.Disk (λ doubted. let no : ⊥ = cc in no) (inr rows.0) has.comes has.follows tt kept-journal
     ended end.Limit rows waits has = fine end.Limit (has s.printed) tt kept-journal
@@ -104,12 +104,12 @@ module _ {W : Type 0} (G : Ghosts W) (fewer_later : FewerLater G) (s : Session) 
     ended _ rows waits has = absurd rows
 
     -- it came to its commit call
-    module _ (parts : kept.KeepsParts (activity s) (activity_of ran) limit) (after : W) (new : Session) (how : TurnEnd) (counted : Tally)
-        (at : IsAtCommit (turn_in (activity s) seat limit over.committed (order_of s) (tally_counts tally)) (activity_of ran) seat over.committed (order_of s) (tally_counts told))
-        (number : number_in (activity_of ran).seating seat ≡ number_in (activity s).seating seat) (calm : G.disk_faults mid ≡ G.disk_faults before) (writes : OnlyWrites G mid after) (is_end : IsCommitEnd how)
+    module _ (parts : kept.KeepsParts (activity s) ran limit) (after : W) (new : Session) (how : TurnEnd) (counted : Tally)
+        (at : IsAtCommit (turn_in (activity s) seat limit over.committed (order_of s) (tally_counts tally)) ran seat over.committed (order_of s) (tally_counts told))
+        (number : number_in ran.seating seat ≡ number_in (activity s).seating seat) (calm : G.disk_faults mid ≡ G.disk_faults before) (writes : OnlyWrites G mid after) (is_end : IsCommitEnd how)
         (went : HasCommitted G seat at.now how now new told counted mid after over.committed) where
       goes : (word : Word) → ((counted : ℕ) → Reads word counted)
-          → turn word activation limit (session_desk s over.committed) ≡ commits word (commit_call (activity_of ran) seat over.committed (order_of s) at.now) (session_desk now over.committed) (tally_counts told)
+          → turn word activation limit (session_desk s over.committed) ≡ commits word (commit_call ran seat over.committed (order_of s) at.now) (session_desk now over.committed) (tally_counts told)
       goes word reads = cc (turn-is word, at.comes word (reads told.pages), open-desk now over.committed over.still_open)
 
       fine-is : fine_step (activity s).programs (event.Turn activation limit) (session_desk s over.committed) ≡ fine_desk now over.committed seat at.now

@@ -1,5 +1,5 @@
 -- The words of other crates that this crate's definitions and contracts speak with, each from its own place. Declares nothing.
-pub use Rattle.activations.specs.Activity.{Activity, activity_of, desk_over, program_at, shown, state_in}
+pub use Rattle.activations.specs.Activity.{Activity, desk_over, program_at, shown, state_in}
 pub use Rattle.activations.specs.Kept.{AreRowsWithin}
 pub use Rattle.activations.specs.Stages.{IfChecked, IfJournal, IfLimit, IfVictim}
 pub use Rattle.activations.specs.Turning.{commit_call, IfWaits, IsAtCommit, tally_counts}

@@ -1,6 +1,6 @@
 -- Why the answers of a session come.
-use Rattle.std.specs.Prelude.{◌≡◌, ◌↔◌, ℕ, ◌+◌, ◌%◌, ◌<◌, ◌≤◌, ◌^◌, true, false, List, length, Option, Some, None}
-use Rattle.supervisor.specs.Below.{absent_segment, Activity, counts_told, Ghosts, has, held_of, IfChecked, IfJournal, IfLimit, IfVictim, IfWaits, KeptStore, Leaves, most_lines, no_counts, number_in, number_of, OnlyAsks, OnlyWrites, program_at, Rose, seat_of, Tally, TracksStore, TurnEnd, with_begun}
+use Rattle.std.specs.Prelude.{◌≡◌, ◌↔◌, ℕ, ◌+◌, ◌%◌, ◌<◌, ◌≤◌, ◌^◌, true, false, Bool, List, length, Option, Some, None}
+use Rattle.supervisor.specs.Below.{absent_segment, Activity, CallsStore, counts_told, FailsCounted, Ghosts, has, Header, held_of, IfChecked, IfJournal, IfLimit, IfVictim, IfWaits, KeptStore, Leaves, most_lines, no_counts, number_in, number_of, OnlyAsks, OnlyWrites, program_at, Rose, seat_of, Tally, TracksStore, TurnEnd, with_begun, WritesMore}
 use Rattle.store_format.specs.Bank.{RecordLine}
 use Rattle.store.specs.declared.keep.Kept.{Kept}
 use Rattle.store.specs.declared.keep.Kept.TheVariants as kept
@@ -105,3 +105,10 @@ LeavesStore G activation (end.Committed told steps) store new before after = Has
 LeavesStore G activation (end.Closed (Some doubted) told) store new before after = ClosesInCommit G activation kept.Doubt store new before after
 LeavesStore G activation (end.Closed None told) store new before after = ClosesInCommit G activation kept.Unwritten store new before after
 LeavesStore G activation _ store new before after = store_told new ≡ store
+
+-- A call uses the disk of a store with this header: so many writes at least are counted, the count of faults rises where it fails and nowhere else, and
+-- told bytes stay told and enough for the store.
+pub record UsesDisk {W : Type 0} (G : Ghosts W) (header : Header) (writes : ℕ) (fails : Bool) (before after : W) : Type 0 where
+  pub writes_more : WritesMore (G.writes before) (G.writes after) writes
+  pub failed : FailsCounted fails (G.disk_faults before) (G.disk_faults after)
+  pub calls : CallsStore G header before after

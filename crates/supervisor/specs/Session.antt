@@ -1,12 +1,12 @@
 -- A session, the desk that it is over committed bytes, and what holds of it at every moment.
 use Rattle.std.specs.Prelude.{◌≡◌, ℕ, ◌+◌, ◌-◌, ◌*◌, ◌<◌, ◌≤◌, ◌^◌, false, List, length, vec_len, vec_capacity}
-use Rattle.supervisor.specs.Below.{Activity, activity_of, AreRowsWithin, Desk, desk_over, Fixed, HasRanges, Header, KeptStore, most_lines, number_of, order_told, Told}
+use Rattle.supervisor.specs.Below.{Activity, AreRowsWithin, Desk, desk_over, Fixed, HasRanges, Header, KeptStore, most_lines, number_of, order_told, Told}
 use Rattle.activations.specs.Follows as running
 use Rattle.supervisor.specs.declared.session.Session.{Session}
 
 -- what runs in it
 abbrev pub activity : Session → Activity
-activity s = activity_of s.activations
+activity s = s.activations
 
 -- its commits
 abbrev pub order_of : Session → List (ℕ × ℕ)
@@ -49,7 +49,7 @@ pub record HaveRoom (s : Session) : Type 0 where
 -- what holds of a session at every moment
 pub record IsSound (s : Session) : Type 0 where
   pub ranges : HasRanges s.store.header
-  pub running : running.IsSound (activity s)
+  pub running : running.AlwaysHolds (activity s)
   pub directory : s.store.header.directory ≡ (activity s).reach.directory
   pub most : most_lines s.store.header ≡ (activity s).most_lines
   pub room : HaveRoom s

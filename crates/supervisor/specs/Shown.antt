@@ -1,7 +1,7 @@
 -- The desk that a session shows over the bytes of a disk.
 use Rattle.std.specs.Prelude.{◌≡◌, ℕ, List, false}
 use Rattle.supervisor.specs.Below.{Desk, number_after, number_of, seen, Shows, Stands, stands, View}
-use Rattle.activations.specs.Follows.{KeepsDesk}
+use Rattle.activations.specs.Follows.{HasFrames, KeepsDesk}
 use Rattle.supervisor.specs.declared.session.Session.{Session}
 use Rattle.supervisor.specs.Session.{activity, session_desk, session_told}
 
@@ -15,10 +15,11 @@ pub record IsOpenOver (s : Session) (held : List ℕ) : Type 0 where
   pub follows : KeepsDesk (activity s) committed
   pub number : number_of s.store ≡ number_after s.opened (session_desk s committed)
 
--- and this is the desk, under the directory of the store
+-- and this is the desk, under the directory of the store, and its pages fit the frames
 pub record ShowsDesk (s : Session) (held : List ℕ) (desk : Desk) : Type 0 where
   pub over : IsOpenOver s held
   pub directory : s.store.header.directory ≡ (activity s).reach.directory
+  pub frames : HasFrames (activity s).reach
   pub is : desk ≡ session_desk s over.committed
 
 -- what is seen of it, as of a supervisor

@@ -1,6 +1,6 @@
 // The calls of a session: what each does, and why each answer comes.
 ghost use Rattle.std.specs.Prelude.{◌≡◌, ◌≢◌, ◌+◌, ◌≤◌, ◌<◌, ◌^◌, false, List, ℕ, length, map, IsSome};
-ghost use Rattle.supervisor.specs.Below.{begun_told, CallsStore, Desk, FailsCounted, Fine, HasNumbers, held_of, HoldsStore, IsDamage, IsReopened, number_after, numbers, OnlyAsks, reopened_closes, reopened_fails, reopened_told, StaysShut, step, stored_closes, stored_fails, stored_told, StoredNumber, Takes, ToldAfterEnd, turn_fails, turn_told, writes_due, WritesMore};
+ghost use Rattle.supervisor.specs.Below.{begun_told, Desk, FailsCounted, Fine, HasNumbers, held_of, HoldsStore, IsDamage, IsReopened, number_after, numbers, OnlyAsks, reopened_closes, reopened_fails, reopened_told, StaysShut, step, stored_closes, stored_fails, stored_told, StoredNumber, Takes, ToldAfterEnd, turn_fails, turn_told, writes_due};
 ghost use Rattle.desk.specs.declared.event.Event.TheVariants as event;
 ghost use Rattle.supervisor.specs.Causes.{answer_of};
 
@@ -27,7 +27,7 @@ fn told(tally: Tally, end: TurnEnd) -> Turn
 impl Session {
     ghost use Rattle.supervisor.specs.Session.{IsSound, activity, order_of, records_told, fixed_of, session_told, number_told, store_told};
     ghost use Rattle.supervisor.specs.Shown.{ShowsDesk, view_of};
-    ghost use Rattle.supervisor.specs.Causes.{IsBeginAnswer, IsTurnAnswer, ReopenedNumber, LeavesStore};
+    ghost use Rattle.supervisor.specs.Causes.{IsBeginAnswer, IsTurnAnswer, ReopenedNumber, LeavesStore, UsesDisk};
     ghost use Rattle.seats.specs.Seating.{numbers as numbers_seated};
 
     /// The program with this place begins with four values.
@@ -45,7 +45,9 @@ impl Session {
         if self.closed {
             return Begun::Shut;
         }
-        self.activations.begin(program, args)
+        let begun = self.activations.begin(program, args);
+        self.activations.sound();
+        begun
     }
 
     /// A turn of an activation with at most so many rows, a million at most.
@@ -55,14 +57,12 @@ impl Session {
         requires turns { (session_told self.old).turns < 2 ^ 32 }
         requires bytes { HoldsStore W.Outside (fixed_of self.old).header outside.old }
         ensures did { Takes W.Outside (event.Turn activation limit) (λ desk. turn_told activation result (session_told self.new).printed) (HasNumbers result.end activation) (fixed_of self.old) (ShowsDesk self.old) (view_of self.new) outside.old outside.new }
-        ensures writes { WritesMore (W.writes outside.old) (W.writes outside.new) (writes_due result.end) }
         ensures shut { StaysShut (session_told self.old).closed (result.end ≡ TurnEnd.Shut) ((self.new ≡ self.old) × (outside.new ≡ outside.old)) }
         ensures told { ToldAfterEnd activation result.end (record (session_told self.old) { turns = (session_told self.new).turns }) (session_told self.new) }
         ensures turns { (session_told self.new).turns ≤ (session_told self.old).turns + 1 }
         ensures answer { IsTurnAnswer self.old activation limit result }
         ensures stored { LeavesStore W.Outside activation result.end (store_told self.old) self.new outside.old outside.new }
-        ensures failed { FailsCounted (turn_fails result.end) (W.disk_faults outside.old) (W.disk_faults outside.new) }
-        ensures calls { CallsStore W.Outside (fixed_of self.new).header outside.old outside.new }
+        ensures disk { UsesDisk W.Outside (fixed_of self.new).header (writes_due result.end) (turn_fails result.end) outside.old outside.new }
         ensures sound { IsSound self.new }
     {
         let mut tally = Tally::new();
@@ -79,13 +79,11 @@ impl Session {
         requires sound { IsSound self.old }
         requires bytes { HoldsStore W.Outside (fixed_of self.old).header outside.old }
         ensures did { Takes W.Outside event.Checkpoint (λ desk. stored_told result) (StoredNumber result) (fixed_of self.old) (ShowsDesk self.old) (view_of self.new) outside.old outside.new }
-        ensures writes { WritesMore (W.writes outside.old) (W.writes outside.new) 0 }
         ensures shut { StaysShut (session_told self.old).closed (result ≡ Stored.Shut) ((self.new ≡ self.old) × (outside.new ≡ outside.old)) }
         ensures told { session_told self.new ≡ record (session_told self.old) { closed = stored_closes result } }
         ensures number { StoredNumber result (number_told self.old) }
         ensures emptied { (number : ℕ) → result ≡ Stored.Number number → records_told self.new ≡ 0 }
-        ensures failed { FailsCounted (stored_fails result) (W.disk_faults outside.old) (W.disk_faults outside.new) }
-        ensures calls { CallsStore W.Outside (fixed_of self.new).header outside.old outside.new }
+        ensures disk { UsesDisk W.Outside (fixed_of self.new).header 0 (stored_fails result) outside.old outside.new }
         ensures sound { IsSound self.new }
     {
         if self.closed {
@@ -118,6 +116,7 @@ impl Session {
             return Reopened::Shut;
         }
         self.activations.forget();
+        self.activations.sound();
         match self.store.reopen(outside) {
             Ok(()) => Reopened::Number(self.store.number()),
             Err(ReopenFault::Damaged(offset)) => {

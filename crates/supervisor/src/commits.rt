@@ -39,6 +39,7 @@ impl Session {
         ensures went { CommitsAt W.Outside seat result self.old self.new tally.old tally.new outside.old outside.new }
     {
         if let Err(end) = self.activations.record(seat, &mut self.store) {
+            self.activations.sound();
             return end;
         }
         let number = self.store.number().wrapping_add(1);
@@ -48,6 +49,7 @@ impl Session {
                 self.enter_order(committed);
                 self.activations.commit(seat);
                 self.activations.swap_printed(seat, &mut self.printed);
+                self.activations.sound();
                 tally.ran += 1;
                 TurnEnd::Committed(number, committed.steps)
             }

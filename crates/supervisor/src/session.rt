@@ -1,5 +1,5 @@
 // A session over a store that is open.
-ghost use Rattle.std.specs.Prelude.{◌≡◌, ◌≢◌, ◌≤◌, ◌<◌, ◌^◌, ◌-◌, ◌+◌, IfOk, IfErr, OnOk, IsSome, IsTrue};
+ghost use Rattle.std.specs.Prelude.{◌≡◌, ◌≢◌, ◌≤◌, ◌<◌, ◌^◌, ◌-◌, IfOk, IfErr, OnOk, IsSome, IsTrue};
 ghost use Rattle.supervisor.specs.Below.{held_of, HoldsStore, OnlyAsks};
 ghost use Rattle.store.specs.Faults.{IsStoreOpenFault};
 
@@ -57,6 +57,7 @@ impl Session {
         let printed = Printed::new(alloc)?;
         let order = Vec::with_capacity(alloc, begins as usize)?;
         let activations = Activations::new(alloc, store.header(), frames, programs)?;
+        activations.sound();
         let opened = store.number();
         Ok(Session {
             store,

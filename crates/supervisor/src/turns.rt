@@ -49,8 +49,14 @@ impl Session {
             .activations
             .run(&self.store, outside, seat, limit, tally)
         {
-            Err(end) => end,
-            Ok(()) => self.commit(outside, seat, tally),
+            Err(end) => {
+                self.activations.sound();
+                end
+            }
+            Ok(()) => {
+                self.activations.sound();
+                self.commit(outside, seat, tally)
+            }
         }
     }
 }

@@ -1,10 +1,9 @@
-use Rattle.activations.proofs.Lemmas.{◌≡◌, ◌∙◌, sym, ap, subst, refl, ℕ, List, Bool, WasAttempted, printed_after, with_live, Activity, Live, Reach, IsSound, GivesRows, reach_of, not-printed, room, attempted-at}
+use Rattle.activations.proofs.Lemmas.{standing, RunsAt, ◌≡◌, ◌∙◌, sym, ap, subst, refl, ℕ, List, Bool, WasAttempted, printed_after, with_live, Activity, Live, Reach, IsSound, GivesRows, reach_of, not-printed, room, attempted-at}
 use Rattle.romp_cpu.specs.declared.cpu.Attempt.{Attempt}
 use Rattle.romp_cpu.specs.declared.cpu.Cpu.{Cpu}
 use Rattle.romp_cpu.specs.Attempts.{IsOfFewBytes}
 use Rattle.romp_cpu.specs.Tried.{at, how_went}
 use Rattle.storage_unit.specs.Rows.{ChangesBytes, StaysClean, LeavesSeats}
-use Rattle.activations.proofs.Common.{standing, RunsAt}
 use Rattle.activations.proofs.rows.step_on.Goals as goal
 
 -- what a step came to, by how it went
@@ -21,7 +20,7 @@ returns-then-step c =
     let went = c.step.ensures in
     let came = stepped (how_went c.step.result c.step.new.went) Attempt.Went (standing c.args.live.now c.args.iar.now) (at c.step.new.cpu c.step.new.iar) (reach_of c.args.unit.now) (reach_of c.step.new.self) c.args.live.now.out
     (ap (λ (at_once : Bool). how_went at_once c.step.new.went) c.if-step.true) refl went.row went.kept went.clean went.seats went.few in
-    record { sound = λ a seat runs. (came a seat runs).0; went = λ a seat runs. (came a seat runs).1; directory = ap (λ (r : Reach). r.directory) went.kept }
+    record { sound = λ a seat runs. (came a seat runs).0; went = λ a seat runs. (came a seat runs).1 }
 
 pub push-requires : goal.push-requires
 push-requires c =
@@ -35,11 +34,11 @@ returns-in-Print c =
     let went = c.step.ensures in
     let came = stepped (how_went c.step.result c.step.new.went) c.step.new.went (standing c.args.live.now c.args.iar.now) (at c.step.new.cpu c.step.new.iar) (reach_of c.args.unit.now) (reach_of c.step.new.self) c.push.new.self
     (ap (λ (at_once : Bool). how_went at_once c.step.new.went) c.if-step.false) (ap (λ (attempt : Attempt). printed_after attempt c.args.live.now.out) c.in-Print.is ∙ sym c.push.ensures) went.row went.kept went.clean went.seats went.few in
-    record { sound = λ a seat runs. (came a seat runs).0; went = λ a seat runs. (came a seat runs).1; directory = ap (λ (r : Reach). r.directory) went.kept }
+    record { sound = λ a seat runs. (came a seat runs).0; went = λ a seat runs. (came a seat runs).1 }
 
 pub returns-in_default : goal.returns-in_default
 returns-in_default c =
     let went = c.step.ensures in
     let came = stepped (how_went c.step.result c.step.new.went) c.step.new.went (standing c.args.live.now c.args.iar.now) (at c.step.new.cpu c.step.new.iar) (reach_of c.args.unit.now) (reach_of c.step.new.self) c.args.live.now.out
     (ap (λ (at_once : Bool). how_went at_once c.step.new.went) c.if-step.false) (not-printed c.step.new.went c.args.live.now.out c.in_default.not-Print) went.row went.kept went.clean went.seats went.few in
-    record { sound = λ a seat runs. (came a seat runs).0; went = λ a seat runs. (came a seat runs).1; directory = ap (λ (r : Reach). r.directory) went.kept }
+    record { sound = λ a seat runs. (came a seat runs).0; went = λ a seat runs. (came a seat runs).1 }

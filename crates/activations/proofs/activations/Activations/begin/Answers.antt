@@ -1,74 +1,91 @@
-use Rattle.activations.proofs.Common.{Begun, reach_of, absent_segment, Activity, program_at, Program, first_registers, clear, registers_of_program, IsSound, activity_of, ◌≡◌, ◌+◌, length, refl, sym, ap, ◌∙◌, arith, subst, slice_set, [], begins, begun_in, started}
+use Rattle.activations.proofs.Common.{activity_of, Inside, Begun, reach_of, absent_segment, Activity, program_at, Program, first_registers, clear, registers_of_program, IsSound, ◌≡◌, ◌<◌, ℕ, List, ◌+◌, length, refl, sym, ap, ◌∙◌, arith, subst, slice_set, [], begins, begun_in, started}
 use Rattle.storage_unit.specs.Served.{begun}
 use Rattle.desk.specs.declared.answers.Begun.TheVariants
-use Rattle.activations.proofs.BeginLemmas.{begin-goes, begun-so, begins-full, begins-refused, begins-started, sound-begins, is-code, is-fresh, has-room, some-next}
-use Rattle.activations.proofs.activations.Activations.begin.Goals.{In-Some-sit}
+use Rattle.activations.proofs.BeginLemmas.{BeginsSo, begun-so, begins-full, begins-refused, begins-started, sound-begins, sound-given, is-code, is-fresh, has-room, some-next}
+use Rattle.activations.proofs.activations.Activations.begin.Goals.{In-Some-sit, After-start}
 use Rattle.activations.proofs.activations.Activations.begin.Goals as goal
+
+-- what it says, where it comes to this over the fields
+said : (fields : Inside) {now : Activity} (is : activity_of fields ≡ now) → IsSound (activity_of fields) → (program : ℕ) (args : List ℕ) (told : Begun) (new : Activity) → program < length now.programs
+    → begins (activity_of fields) program args ≡ (told, new) → BeginsSo now program args told new
+said fields is whole program args told new known comes =
+    subst (λ (a : Activity). BeginsSo a program args told new) is
+    (begun-so (activity_of fields) program args told new whole (subst (λ (a : Activity). program < length a.programs) (sym is) known) fields.unit.fits comes)
 
 -- all sixteen are taken
 pub returns-then-taken-eq16 : goal.returns-then-taken-eq16
 returns-then-taken-eq16 c =
-    let a = activity_of c.args.self.now in
-    let so = begun-so a c.args.program c.args.args _ _ c.requires.sound c.requires.known c.args.self.now.unit.fits
-    (begins-full a c.args.program c.args.args c.requires.sound (let long = ap length c.taken.ensures.taken in omega (arith, long, c.if-taken-eq16.true))) in
-    record { answer = so.0; left = so.1; sound = so.2; is_begin = so.3 }
+    let so = said c.self.inside c.self.view_is c.self.invariant c.args.program c.args.args _ _ c.requires.known
+    (begins-full (activity_of c.self.inside) c.args.program c.args.args c.self.invariant (let long = ap length c.taken.ensures.taken in omega (arith, long, c.if-taken-eq16.true))) in
+    record { answer = so.answer; left = so.left; is_begin = so.is_begin }
 
 -- a segment is absent
 pub returns-in-Some : goal.returns-in-Some
 returns-in-Some c =
-    let a = activity_of c.args.self.now in
-    let so = begun-so a c.args.program c.args.args _ _ c.requires.sound c.requires.known c.args.self.now.unit.fits
-    (begins-refused a c.args.program c.args.args c.requires.sound c.in-Some.segment (has-room a c.requires.sound (λ same. c.if-taken-eq16.false (ap length c.taken.ensures.taken ∙ same)))
-    ((λ i. absent_segment (c.args.self.now.same i) (sym (is-code c.args.self.now.programs.items c.args.program c.from.result c.index-code.result.now c.requires.known c.from.ensures c.index-code.ensures) i).windows)
+    let a = activity_of c.self.inside in
+    let so = said c.self.inside c.self.view_is c.self.invariant c.args.program c.args.args _ _ c.requires.known
+    (begins-refused a c.args.program c.args.args c.self.invariant c.in-Some.segment (has-room a c.self.invariant (λ same. c.if-taken-eq16.false (ap length c.taken.ensures.taken ∙ same)))
+    ((λ i. absent_segment (sym c.directory-directory.ensures i) (sym (is-code a.programs c.args.program c.from.result c.index-code.result.now (subst (λ (x : Activity). c.args.program < length x.programs) (sym c.self.view_is) c.requires.known) c.from.ensures c.index-code.ensures) i).windows)
     ∙ sym c.absent_segment.ensures ∙ c.in-Some.is)) in
-    record { answer = so.0; left = so.1; sound = so.2; is_begin = so.3 }
+    record { answer = so.answer; left = so.left; is_begin = so.is_begin }
 
 -- it sat down, since not all are taken
-pub returns-in_default-sit-clause-sound : goal.returns-in_default-sit-clause-sound
-returns-in_default-sit-clause-sound c =
-    absurd (let room = has-room (activity_of c.args.self.now) c.requires.sound (λ same. c.if-taken-eq16.false (ap length c.taken.ensures.taken ∙ same)) in
+pub returns-in_default-sit : goal.returns-in_default-sit
+returns-in_default-sit c =
+    absurd (let room = has-room (activity_of c.self.inside) c.self.invariant (λ same. c.if-taken-eq16.false (ap length c.taken.ensures.taken ∙ same)) in
     let full = c.in_default-sit.ensures.full.0 refl in omega (arith, room, full))
 
 pub begin-requires-clause-seat : goal.begin-requires-clause-seat
-begin-requires-clause-seat c = (some-next (activity_of c.args.self.now) c.in-Some-sit.seat c.requires.sound (sym c.in-Some-sit.ensures.seat)).0
+begin-requires-clause-seat c = (some-next (activity_of c.self.inside) c.in-Some-sit.seat c.self.invariant (sym c.in-Some-sit.ensures.seat)).0
 
 pub begin-requires-clause-fresh : goal.begin-requires-clause-fresh
-begin-requires-clause-fresh c = is-fresh (activity_of c.args.self.now) c.in-Some-sit.seat c.requires.sound (sym c.in-Some-sit.ensures.seat)
+begin-requires-clause-fresh c = is-fresh (activity_of c.self.inside) c.in-Some-sit.seat c.self.invariant (sym c.in-Some-sit.ensures.seat)
 
 pub index_mut-requires : goal.index_mut-requires
 index_mut-requires c =
-    let below = (some-next (activity_of c.args.self.now) c.in-Some-sit.seat c.requires.sound (sym c.in-Some-sit.ensures.seat)).0 in
-    omega (arith, below, c.from-3.ensures, c.requires.sound.live, c.args.self.now.live.ok.0)
+    let below = (some-next (activity_of c.self.inside) c.in-Some-sit.seat c.self.invariant (sym c.in-Some-sit.ensures.seat)).0 in
+    omega (arith, below, c.from-3.ensures, c.self.invariant.live, c.self.inside.live.ok.0)
 
 -- it begins
-goes : (c : In-Some-sit) → begins (activity_of c.args.self.now) c.args.program c.args.args ≡ (TheVariants.Started c.args.self.now.next, begun_in (activity_of c.args.self.now) c.args.program c.args.args c.in-Some-sit.seat)
+goes : (c : In-Some-sit) → begins (activity_of c.self.inside) c.args.program c.args.args ≡ (TheVariants.Started c.self.inside.next, begun_in (activity_of c.self.inside) c.args.program c.args.args c.in-Some-sit.seat)
 goes c =
-    begins-started (activity_of c.args.self.now) c.args.program c.args.args c.requires.sound c.in-Some-sit.seat (sym c.in-Some-sit.ensures.seat)
-    ((λ i. absent_segment (c.args.self.now.same i) (sym (is-code c.args.self.now.programs.items c.args.program c.from.result c.index-code.result.now c.requires.known c.from.ensures c.index-code.ensures) i).windows)
+    begins-started (activity_of c.self.inside) c.args.program c.args.args c.self.invariant c.in-Some-sit.seat (sym c.in-Some-sit.ensures.seat)
+    ((λ i. absent_segment (sym c.directory-directory.ensures i) (sym (is-code c.self.inside.programs.items c.args.program c.from.result c.index-code.result.now (subst (λ (x : Activity). c.args.program < length x.programs) (sym c.self.view_is) c.requires.known) c.from.ensures c.index-code.ensures) i).windows)
     ∙ sym c.absent_segment.ensures ∙ c.in_default.is)
 
-pub returns-clause-left : goal.returns-clause-left
-returns-clause-left c =
-    let a = activity_of c.args.self.now in
+pub invariant_of-self : goal.invariant_of-self
+invariant_of-self c = sound-given (activity_of c.self.inside) c.self.invariant
+
+pub invariant_of-self-in-Some : goal.invariant_of-self-in-Some
+invariant_of-self-in-Some c = sound-given (activity_of c.self.inside) c.self.invariant
+
+pub invariant_of-self-in_default-sit : goal.invariant_of-self-in_default-sit
+invariant_of-self-in_default-sit c =
+    absurd (let room = has-room (activity_of c.self.inside) c.self.invariant (λ same. c.if-taken-eq16.false (ap length c.taken.ensures.taken ∙ same)) in
+    let full = c.in_default-sit.ensures.full.0 refl in omega (arith, room, full))
+
+-- what is left then
+left : (c : After-start) → record (activity_of c.self.inside) { next = c.self.inside.next + 1; seating = c.sit.new.self; live = slice_set c.self.inside.live.items c.from-3.result c.start.new.self; reach = reach_of c.begin.new.self }
+    ≡ begun_in (activity_of c.self.inside) c.args.program c.args.args c.in-Some-sit.seat
+left c =
+    let a = activity_of c.self.inside in
     let code_is : c.index-code.result.now ≡ program_at a.programs c.args.program =
-    is-code a.programs c.args.program c.from.result c.index-code.result.now c.requires.known c.from.ensures c.index-code.ensures in
+    is-code a.programs c.args.program c.from.result c.index-code.result.now (subst (λ (x : Activity). c.args.program < length x.programs) (sym c.self.view_is) c.requires.known) c.from.ensures c.index-code.ensures in
     let registers_are : c.registers_of-registers.result ≡ (started a c.args.program c.args.args c.in-Some-sit.seat).registers =
-    c.registers_of-registers.ensures ∙ (λ i. registers_of_program (code_is i) (sym c.args.self.now.same i) (3840 + c.from-2.ensures i)) in
+    c.registers_of-registers.ensures ∙ (λ i. registers_of_program (code_is i) (c.directory-directory.ensures i) (3840 + c.from-2.ensures i)) in
     let start_is : c.start.new.self ≡ started a c.args.program c.args.args c.in-Some-sit.seat = c.start.ensures
     ∙ (λ i. record { cpu = record { regs = first_registers c.args.args; cs = clear; iar = (code_is i).entry; printed = 0 }; registers = registers_are i; out = [] }) in
     let reach_is : reach_of c.begin.new.self ≡ begun a.reach c.in-Some-sit.seat (program_at a.programs c.args.program).image =
     c.begin.ensures ∙ ap (begun a.reach c.in-Some-sit.seat) (c.as_slice.ensures ∙ ap (λ (p : Program). p.image) code_is) in
-    (λ i. record a { next = a.next + 1; seating = c.in-Some-sit.ensures.seated i; live = slice_set a.live (c.from-3.ensures i) (start_is i); reach = reach_is i })
-    ∙ sym (ap (λ (b : Begun × Activity). b.1) (goes (goal.at.returns-clause-left c).In-Some-sit))
+    λ i. record a { next = a.next + 1; seating = c.in-Some-sit.ensures.seated i; live = slice_set a.live (c.from-3.ensures i) (start_is i); reach = reach_is i }
 
-pub returns-clause-answer : goal.returns-clause-answer
-returns-clause-answer c = sym (ap (λ (b : Begun × Activity). b.0) (goes (goal.at.returns-clause-answer c).In-Some-sit))
+pub invariant_of-self-2 : goal.invariant_of-self-2
+invariant_of-self-2 c =
+    let is = left (goal.at.invariant_of-self-2 c).After-start ∙ sym (ap (λ (b : Begun × Activity). b.1) (goes (goal.at.invariant_of-self-2 c).In-Some-sit)) in
+    subst IsSound (sym is) (sound-begins (activity_of c.self.inside) c.args.program c.args.args c.self.invariant (subst (λ (x : Activity). c.args.program < length x.programs) (sym c.self.view_is) c.requires.known))
 
-pub returns-clause-sound : goal.returns-clause-sound
-returns-clause-sound c = subst IsSound (sym (returns-clause-left c)) (sound-begins (activity_of c.args.self.now) c.args.program c.args.args c.requires.sound c.requires.known)
-
-pub returns-clause-is_begin : goal.returns-clause-is_begin
-returns-clause-is_begin c =
-    begin-goes (activity_of c.args.self.now) c.args.program c.args.args c.requires.sound _ _ c.requires.known
-    c.args.self.now.unit.fits
-    (returns-clause-answer c) (returns-clause-left c)
+pub returns : goal.returns
+returns c =
+    let so = said c.self.inside c.self.view_is c.self.invariant c.args.program c.args.args _ _ c.requires.known
+    (goes (goal.at.returns c).In-Some-sit ∙ (λ i. (TheVariants.Started c.self.inside.next, sym (left (goal.at.returns c).After-start) i))) in
+    record { answer = so.answer; left = so.left; is_begin = so.is_begin }

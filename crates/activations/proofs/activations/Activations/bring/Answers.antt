@@ -1,8 +1,8 @@
-use Rattle.activations.proofs.Lemmas.{pages_wanted, wants_of, activity_of, broken-off}
+use Rattle.activations.proofs.Lemmas.{pages_wanted, wants_of, broken-off}
 use Rattle.activations.proofs.activations.Activations.bring.Goals as goal
 
 pub returns-in-Err-clause-broke : goal.returns-in-Err-clause-broke
 returns-in-Err-clause-broke g c =
-    broken-off g.W.Outside c.args.store.now c.args.outside.now (activity_of c.args.self.now) c.args.seat (pages_wanted (wants_of c.args.touch.now)) c.args.tally.now.pages
-    (activity_of c.roll_back.new.self) c.fetch.new.tally.pages (activity_of c.fetch.new.self) c.fetch.ensures.shape c.roll_back.ensures.shape c.roll_back.ensures.undone c.roll_back.ensures.rolls
+    broken-off g.W.Outside c.args.store.now c.args.outside.now c.args.self.now c.args.seat (pages_wanted (wants_of c.args.touch.now)) c.args.tally.now.pages
+    c.roll_back.new.self c.fetch.new.tally.pages c.fetch.new.self c.fetch.ensures.shape c.roll_back.ensures.shape c.roll_back.ensures.undone c.roll_back.ensures.rolls
     c.in-Err.ensures.fetched

@@ -1,34 +1,34 @@
-use Rattle.activations.proofs.Lemmas.{eq-eqb, ne_eqb, option_map, victim_of, number_in, seat_of, sitter, Seat, cycle_of, seat-found, Victim, Activity, activity_of, Cycle, has, rolled, ComesToEnd, Contests, tally_counts, KeepsParts, StandsStill, ◌≡◌, ◌<◌, ◌==◌, true, false, ℕ, List, length, map, IsSome, refl, Some, sym, ◌∙◌, ap, arith, subst, keeps-itself, keeps-rolled, still-itself, still-rolled, tally-on}
+use Rattle.activations.proofs.Lemmas.{taken-below, eq-eqb, ne_eqb, option_map, victim_of, number_in, seat_of, sitter, Seat, cycle_of, seat-found, Victim, Activity, Cycle, has, rolled, ComesToEnd, Contests, tally_counts, KeepsParts, StandsStill, ◌≡◌, ◌<◌, ◌==◌, true, false, ℕ, List, length, map, IsSome, refl, Some, sym, ◌∙◌, ap, arith, subst, keeps-itself, keeps-rolled, still-itself, still-rolled, tally-on}
 use Rattle.activations.proofs.ContestLemmas.{fewer, contests-on, contests-lost, stays-taken, recorded, victim-sits, told-settles, told-stays}
 use Rattle.activations.proofs.activations.Activations.contend.Goals.{in-Some+in_default-seat_of, in_default}
 use Rattle.activations.proofs.activations.Activations.contend.Goals as goal
 
-pub roll_back-requires-clause-taken : goal.roll_back-requires-clause-taken
-roll_back-requires-clause-taken c =
-    let sits = ap (seat_of (activity_of c.loop-members.self).seating) (sym c.greatest-victim.ensures) ∙ sym c.seat_of.ensures ∙ c.in-Some-seat_of.is in
-    (seat-found (activity_of c.loop-members.self).seating c.loop-members.invariant.0.seating (victim_of c.in-Some.members.items) c.in-Some-seat_of.loser sits).0
+pub sitter-requires : goal.sitter-requires
+sitter-requires c = taken-below c.args.self.now.seating c.sound.ensures.sound.seating c.args.seat c.requires.taken
+
+pub roll_back-requires : goal.roll_back-requires
+roll_back-requires c =
+    let sits = ap (seat_of c.loop-members.self.seating) (sym c.greatest-victim.ensures) ∙ sym c.seat_of.ensures ∙ c.in-Some-seat_of.is in
+    record { taken = (seat-found c.loop-members.self.seating c.cycle_from.ensures.sound.seating (victim_of c.in-Some.members.items) c.in-Some-seat_of.loser sits).0 }
 
 pub returns-then-victim-number : goal.returns-then-victim-number
 returns-then-victim-number c =
-    let a = activity_of c.loop-members.self in let first = activity_of c.args.self.now in
-    let pool = (activity_of c.roll_back.new.self).reach.pool in let counts = tally_counts c.loop-members.tally in
-    let found : cycle_of a.seating c.args.seat ≡ Some c.in-Some.members.items = sym c.cycle_from.ensures ∙ ap (option_map (λ cycle. cycle.items)) c.in-Some.is in
+    let a = c.loop-members.self in let first = c.args.self.now in
+    let pool = c.roll_back.new.self.reach.pool in let counts = tally_counts c.loop-members.tally in
+    let found : cycle_of a.seating c.args.seat ≡ Some c.in-Some.members.items = sym c.cycle_from.ensures.cycle ∙ ap (option_map (λ cycle. cycle.items)) c.in-Some.is in
     let sits = ap (seat_of a.seating) (sym c.greatest-victim.ensures) ∙ sym c.seat_of.ensures ∙ c.in-Some-seat_of.is in
-    let few = fewer a.seating.taken c.in-Some-seat_of.loser (seat-found a.seating c.loop-members.invariant.0.seating (victim_of c.in-Some.members.items) c.in-Some-seat_of.loser sits).0 in
-    let less : length (activity_of c.roll_back.new.self).seating.taken < length a.seating.taken = subst (λ (x : Activity). length x.seating.taken < length a.seating.taken) (sym c.roll_back.ensures.shape) few in
+    let few = fewer a.seating.taken c.in-Some-seat_of.loser (seat-found a.seating c.cycle_from.ensures.sound.seating (victim_of c.in-Some.members.items) c.in-Some-seat_of.loser sits).0 in
+    let less : length c.roll_back.new.self.seating.taken < length a.seating.taken = subst (λ (x : Activity). length x.seating.taken < length a.seating.taken) (sym c.roll_back.ensures.shape) few in
     let its : (victim_of c.in-Some.members.items == number_in a.seating c.args.seat) ≡ true =
-    eq-eqb (victim_of c.in-Some.members.items) (number_in a.seating c.args.seat) (sym c.greatest-victim.ensures ∙ c.if-victim-number.true ∙ sym c.loop-members.invariant.2) in
+    eq-eqb (victim_of c.in-Some.members.items) (number_in a.seating c.args.seat) (sym c.greatest-victim.ensures ∙ c.if-victim-number.true ∙ sym c.loop-members.invariant.1) in
     record {
-      keeps = record {
-        sound = c.roll_back.ensures.sound;
-        parts = subst (λ (x : Activity). KeepsParts first x 0) (sym c.roll_back.ensures.shape) (keeps-rolled first a c.in-Some-seat_of.loser 0 pool c.loop-members.invariant.6);
-      };
-      counts = record { cycles = omega (arith, less, c.loop-members.invariant.4, c.push.ensures.len); rest = tally-on c.args.tally.now c.loop-members.tally _ c.loop-members.invariant.8 };
+      keeps = subst (λ (x : Activity). KeepsParts first x 0) (sym c.roll_back.ensures.shape) (keeps-rolled first a c.in-Some-seat_of.loser 0 pool c.loop-members.invariant.5);
+      counts = record { cycles = omega (arith, less, c.loop-members.invariant.3, c.push.ensures.len); rest = tally-on c.args.tally.now c.loop-members.tally _ c.loop-members.invariant.7 };
       stays = tt;
       ends = record { ends = tt; victim = (c.loop-members.tally.cycles.items, _, c.push.ensures.items, sym c.greatest-victim.ensures ∙ c.if-victim-number.true ∙ ap (λ (who : Seat). who.number) c.sitter.ensures) };
       settled = λ begins attempt refused desk committed order number contested printed.
           let lost = contests-lost c.args.seat first a (tally_counts c.args.tally.now) counts c.in-Some.members.items c.in-Some-seat_of.loser pool
-          c.loop-members.invariant.0 c.loop-members.invariant.1 (c.loop-members.invariant.2 ∙ ap (λ (who : _). who.number) c.sitter.ensures) c.loop-members.invariant.5 found sits c.roll_back.ensures.rolls its begins attempt refused desk committed order number contested in
+          c.cycle_from.ensures.sound c.loop-members.invariant.0 (c.loop-members.invariant.1 ∙ ap (λ (who : _). who.number) c.sitter.ensures) c.loop-members.invariant.4 found sits c.roll_back.ensures.rolls its begins attempt refused desk committed order number contested in
           let cycles = recorded c.loop-members.tally.cycles.items c.in-Some.members.items c.push.new.self.items _ refl c.push.ensures.items in
           subst (λ (x : Activity). ComesToEnd begins x committed order (record counts { cycles = map (λ (cycle : Cycle). cycle.members.items) c.push.new.self.items }) Victim) (sym c.roll_back.ensures.shape)
           (subst (λ (these : List (List ℕ)). ComesToEnd begins (rolled a c.in-Some-seat_of.loser pool) committed order (record counts { cycles = these }) Victim) (sym cycles) lost);
@@ -36,79 +36,77 @@ returns-then-victim-number c =
 
 pub loop-members-smaller : goal.loop-members-smaller
 loop-members-smaller c =
-    let sits = ap (seat_of (activity_of c.loop-members.self).seating) (sym c.greatest-victim.ensures) ∙ sym c.seat_of.ensures ∙ c.in-Some-seat_of.is in
-    subst (λ (a : Activity). length a.seating.taken < length (activity_of c.loop-members.self).seating.taken) (sym c.roll_back.ensures.shape)
-    (fewer (activity_of c.loop-members.self).seating.taken c.in-Some-seat_of.loser
-    (seat-found (activity_of c.loop-members.self).seating c.loop-members.invariant.0.seating (victim_of c.in-Some.members.items) c.in-Some-seat_of.loser sits).0)
+    let sits = ap (seat_of c.loop-members.self.seating) (sym c.greatest-victim.ensures) ∙ sym c.seat_of.ensures ∙ c.in-Some-seat_of.is in
+    subst (λ (a : Activity). length a.seating.taken < length c.loop-members.self.seating.taken) (sym c.roll_back.ensures.shape)
+    (fewer c.loop-members.self.seating.taken c.in-Some-seat_of.loser
+    (seat-found c.loop-members.self.seating c.cycle_from.ensures.sound.seating (victim_of c.in-Some.members.items) c.in-Some-seat_of.loser sits).0)
 
 pub loop-members-preserved : goal.loop-members-preserved
 loop-members-preserved c =
-    let found : cycle_of (activity_of c.loop-members.self).seating c.args.seat ≡ Some c.in-Some.members.items = sym c.cycle_from.ensures ∙ ap (option_map (λ cycle. cycle.items)) c.in-Some.is in
-    let sits = ap (seat_of (activity_of c.loop-members.self).seating) (sym c.greatest-victim.ensures) ∙ sym c.seat_of.ensures ∙ c.in-Some-seat_of.is in
-    let other : (victim_of c.in-Some.members.items == number_in (activity_of c.loop-members.self).seating c.args.seat) ≡ false =
-    ne_eqb (victim_of c.in-Some.members.items) (number_in (activity_of c.loop-members.self).seating c.args.seat) (λ same. c.if-victim-number.false (c.greatest-victim.ensures ∙ same ∙ c.loop-members.invariant.2)) in
-    let loser = (seat-found (activity_of c.loop-members.self).seating c.loop-members.invariant.0.seating (victim_of c.in-Some.members.items) c.in-Some-seat_of.loser sits).0 in
-    let few = fewer (activity_of c.loop-members.self).seating.taken c.in-Some-seat_of.loser loser in
-    let less : length (activity_of c.roll_back.new.self).seating.taken < length (activity_of c.loop-members.self).seating.taken = subst (λ (a : Activity). length a.seating.taken < length (activity_of c.loop-members.self).seating.taken) (sym c.roll_back.ensures.shape) few in
-    let numbered = c.loop-members.invariant.2 ∙ ap (λ (who : _). who.number) c.sitter.ensures in
-    let on = contests-on c.args.seat (activity_of c.args.self.now) (activity_of c.loop-members.self) (tally_counts c.args.tally.now) (tally_counts c.loop-members.tally) c.in-Some.members.items c.in-Some-seat_of.loser (activity_of c.roll_back.new.self).reach.pool
-    c.loop-members.invariant.0 c.loop-members.invariant.1 numbered c.loop-members.invariant.5 found sits c.roll_back.ensures.rolls other in
-    let stays = stays-taken c.args.seat (activity_of c.args.self.now) (activity_of c.loop-members.self) (tally_counts c.args.tally.now) (tally_counts c.loop-members.tally) c.in-Some.members.items c.in-Some-seat_of.loser (activity_of c.roll_back.new.self).reach.pool
-    c.loop-members.invariant.0 c.loop-members.invariant.1 numbered c.loop-members.invariant.5 found sits c.roll_back.ensures.rolls other in
+    let found : cycle_of c.loop-members.self.seating c.args.seat ≡ Some c.in-Some.members.items = sym c.cycle_from.ensures.cycle ∙ ap (option_map (λ cycle. cycle.items)) c.in-Some.is in
+    let sits = ap (seat_of c.loop-members.self.seating) (sym c.greatest-victim.ensures) ∙ sym c.seat_of.ensures ∙ c.in-Some-seat_of.is in
+    let other : (victim_of c.in-Some.members.items == number_in c.loop-members.self.seating c.args.seat) ≡ false =
+    ne_eqb (victim_of c.in-Some.members.items) (number_in c.loop-members.self.seating c.args.seat) (λ same. c.if-victim-number.false (c.greatest-victim.ensures ∙ same ∙ c.loop-members.invariant.1)) in
+    let loser = (seat-found c.loop-members.self.seating c.cycle_from.ensures.sound.seating (victim_of c.in-Some.members.items) c.in-Some-seat_of.loser sits).0 in
+    let few = fewer c.loop-members.self.seating.taken c.in-Some-seat_of.loser loser in
+    let less : length c.roll_back.new.self.seating.taken < length c.loop-members.self.seating.taken = subst (λ (a : Activity). length a.seating.taken < length c.loop-members.self.seating.taken) (sym c.roll_back.ensures.shape) few in
+    let numbered = c.loop-members.invariant.1 ∙ ap (λ (who : _). who.number) c.sitter.ensures in
+    let on = contests-on c.args.seat c.args.self.now c.loop-members.self (tally_counts c.args.tally.now) (tally_counts c.loop-members.tally) c.in-Some.members.items c.in-Some-seat_of.loser c.roll_back.new.self.reach.pool
+    c.cycle_from.ensures.sound c.loop-members.invariant.0 numbered c.loop-members.invariant.4 found sits c.roll_back.ensures.rolls other in
+    let stays = stays-taken c.args.seat c.args.self.now c.loop-members.self (tally_counts c.args.tally.now) (tally_counts c.loop-members.tally) c.in-Some.members.items c.in-Some-seat_of.loser c.roll_back.new.self.reach.pool
+    c.cycle_from.ensures.sound c.loop-members.invariant.0 numbered c.loop-members.invariant.4 found sits c.roll_back.ensures.rolls other in
     let cycles = recorded c.loop-members.tally.cycles.items c.in-Some.members.items c.push.new.self.items _ refl c.push.ensures.items in (
-      c.roll_back.ensures.sound,
       subst (λ (a : Activity). has a.seating.taken c.args.seat ≡ true) (sym c.roll_back.ensures.shape) stays,
-      subst (λ (a : Activity). number_in a.seating c.args.seat ≡ c.sitter.result.now.number) (sym c.roll_back.ensures.shape) c.loop-members.invariant.2,
-      subst (λ (a : Activity). IsSome (sitter a.seating c.args.seat).waits) (sym c.roll_back.ensures.shape) c.loop-members.invariant.3,
-      omega (arith, less, c.loop-members.invariant.4, c.push.ensures.len),
-      subst (λ (a : Activity). Contests c.args.seat (activity_of c.args.self.now) (tally_counts c.args.tally.now) a (record (tally_counts c.loop-members.tally) { cycles = map (λ (cycle : Cycle). cycle.members.items) c.push.new.self.items })) (sym c.roll_back.ensures.shape)
-          (subst (λ (these : List (List ℕ)). Contests c.args.seat (activity_of c.args.self.now) (tally_counts c.args.tally.now) (rolled (activity_of c.loop-members.self) c.in-Some-seat_of.loser (activity_of c.roll_back.new.self).reach.pool) (record (tally_counts c.loop-members.tally) { cycles = these })) (sym cycles) on),
-      subst (λ (a : Activity). KeepsParts (activity_of c.args.self.now) a 0) (sym c.roll_back.ensures.shape)
-          (keeps-rolled (activity_of c.args.self.now) (activity_of c.loop-members.self) c.in-Some-seat_of.loser 0 (activity_of c.roll_back.new.self).reach.pool c.loop-members.invariant.6),
-      subst (λ (a : Activity). StandsStill (activity_of c.args.self.now) a c.args.seat) (sym c.roll_back.ensures.shape)
-          (still-rolled (activity_of c.args.self.now) (activity_of c.loop-members.self) c.args.seat c.in-Some-seat_of.loser (activity_of c.roll_back.new.self).reach.pool c.roll_back.ensures.undone c.loop-members.invariant.7 stays),
-      tally-on c.args.tally.now c.loop-members.tally _ c.loop-members.invariant.8,
+      subst (λ (a : Activity). number_in a.seating c.args.seat ≡ c.sitter.result.now.number) (sym c.roll_back.ensures.shape) c.loop-members.invariant.1,
+      subst (λ (a : Activity). IsSome (sitter a.seating c.args.seat).waits) (sym c.roll_back.ensures.shape) c.loop-members.invariant.2,
+      omega (arith, less, c.loop-members.invariant.3, c.push.ensures.len),
+      subst (λ (a : Activity). Contests c.args.seat c.args.self.now (tally_counts c.args.tally.now) a (record (tally_counts c.loop-members.tally) { cycles = map (λ (cycle : Cycle). cycle.members.items) c.push.new.self.items })) (sym c.roll_back.ensures.shape)
+          (subst (λ (these : List (List ℕ)). Contests c.args.seat c.args.self.now (tally_counts c.args.tally.now) (rolled c.loop-members.self c.in-Some-seat_of.loser c.roll_back.new.self.reach.pool) (record (tally_counts c.loop-members.tally) { cycles = these })) (sym cycles) on),
+      subst (λ (a : Activity). KeepsParts c.args.self.now a 0) (sym c.roll_back.ensures.shape)
+          (keeps-rolled c.args.self.now c.loop-members.self c.in-Some-seat_of.loser 0 c.roll_back.new.self.reach.pool c.loop-members.invariant.5),
+      subst (λ (a : Activity). StandsStill c.args.self.now a c.args.seat) (sym c.roll_back.ensures.shape)
+          (still-rolled c.args.self.now c.loop-members.self c.args.seat c.in-Some-seat_of.loser c.roll_back.new.self.reach.pool c.roll_back.ensures.undone c.loop-members.invariant.6 stays),
+      tally-on c.args.tally.now c.loop-members.tally _ c.loop-members.invariant.7,
     )
 
 pub loop-members-init : goal.loop-members-init
 loop-members-init c = (
-  c.requires.sound,
   c.requires.taken,
   ap (λ (who : Seat). who.number) (sym c.sitter.ensures),
   c.requires.waits,
   c.requires.room,
   λ begins attempt refused first committed order number contested. contested,
-  keeps-itself (activity_of c.args.self.now),
-  still-itself (activity_of c.args.self.now) c.args.seat c.requires.taken,
+  keeps-itself c.args.self.now,
+  still-itself c.args.self.now c.args.seat c.requires.taken,
   refl,
 )
 
 pub returns-then-is_empty-clause-settled : goal.returns-then-is_empty-clause-settled
 returns-then-is_empty-clause-settled c begins attempt refused first committed order number contested = elim c.match-cycle_from.branch [
   | in-Some+in_default-seat_of w ↦
-      let found : cycle_of (activity_of c.loop-members.self).seating c.args.seat ≡ Some w.in-Some.members.items = sym c.cycle_from.ensures ∙ ap (option_map (λ cycle. cycle.items)) w.in-Some.is in
-      let none = ap (seat_of (activity_of c.loop-members.self).seating) (sym w.greatest-victim.ensures) ∙ sym w.seat_of.ensures ∙ w.in_default-seat_of.is in
-      absurd (victim-sits c.args.seat (activity_of c.args.self.now) (activity_of c.loop-members.self) (tally_counts c.args.tally.now) (tally_counts c.loop-members.tally)
-      c.loop-members.invariant.0 c.loop-members.invariant.1 (c.loop-members.invariant.2 ∙ ap (λ (who : _). who.number) c.sitter.ensures) c.loop-members.invariant.5
+      let found : cycle_of c.loop-members.self.seating c.args.seat ≡ Some w.in-Some.members.items = sym c.cycle_from.ensures.cycle ∙ ap (option_map (λ cycle. cycle.items)) w.in-Some.is in
+      let none = ap (seat_of c.loop-members.self.seating) (sym w.greatest-victim.ensures) ∙ sym w.seat_of.ensures ∙ w.in_default-seat_of.is in
+      absurd (victim-sits c.args.seat c.args.self.now c.loop-members.self (tally_counts c.args.tally.now) (tally_counts c.loop-members.tally)
+      c.cycle_from.ensures.sound c.loop-members.invariant.0 (c.loop-members.invariant.1 ∙ ap (λ (who : _). who.number) c.sitter.ensures) c.loop-members.invariant.4
       w.in-Some.members.items found none begins attempt refused first committed order number contested)
   | in_default w ↦
-      told-settles c.args.seat (activity_of c.args.self.now) (activity_of c.loop-members.self) (tally_counts c.args.tally.now) (tally_counts c.loop-members.tally)
-      c.loop-members.invariant.0 c.loop-members.invariant.1 (c.loop-members.invariant.2 ∙ ap (λ (who : _). who.number) c.sitter.ensures) c.loop-members.invariant.5
-      c.loop-members.invariant.3 (sym c.cycle_from.ensures ∙ ap (option_map (λ cycle. cycle.items)) w.in_default.is) c.awaited-holders.result.items c.awaited-holders.ensures
+      told-settles c.args.seat c.args.self.now c.loop-members.self (tally_counts c.args.tally.now) (tally_counts c.loop-members.tally)
+      c.cycle_from.ensures.sound c.loop-members.invariant.0 (c.loop-members.invariant.1 ∙ ap (λ (who : _). who.number) c.sitter.ensures) c.loop-members.invariant.4
+      c.loop-members.invariant.2 (sym c.cycle_from.ensures.cycle ∙ ap (option_map (λ cycle. cycle.items)) w.in_default.is) c.awaited-holders.result.items c.awaited-holders.ensures
       (sym c.is_empty.ensures ∙ c.if-is_empty.true) begins attempt refused first committed order number contested
 ]
 
 pub returns-else-is_empty-clause-settled : goal.returns-else-is_empty-clause-settled
 returns-else-is_empty-clause-settled c begins attempt refused first committed order number contested printed = elim c.match-cycle_from.branch [
   | in-Some+in_default-seat_of w ↦
-      let found : cycle_of (activity_of c.loop-members.self).seating c.args.seat ≡ Some w.in-Some.members.items = sym c.cycle_from.ensures ∙ ap (option_map (λ cycle. cycle.items)) w.in-Some.is in
-      let none = ap (seat_of (activity_of c.loop-members.self).seating) (sym w.greatest-victim.ensures) ∙ sym w.seat_of.ensures ∙ w.in_default-seat_of.is in
-      absurd (victim-sits c.args.seat (activity_of c.args.self.now) (activity_of c.loop-members.self) (tally_counts c.args.tally.now) (tally_counts c.loop-members.tally)
-      c.loop-members.invariant.0 c.loop-members.invariant.1 (c.loop-members.invariant.2 ∙ ap (λ (who : _). who.number) c.sitter.ensures) c.loop-members.invariant.5
+      let found : cycle_of c.loop-members.self.seating c.args.seat ≡ Some w.in-Some.members.items = sym c.cycle_from.ensures.cycle ∙ ap (option_map (λ cycle. cycle.items)) w.in-Some.is in
+      let none = ap (seat_of c.loop-members.self.seating) (sym w.greatest-victim.ensures) ∙ sym w.seat_of.ensures ∙ w.in_default-seat_of.is in
+      absurd (victim-sits c.args.seat c.args.self.now c.loop-members.self (tally_counts c.args.tally.now) (tally_counts c.loop-members.tally)
+      c.cycle_from.ensures.sound c.loop-members.invariant.0 (c.loop-members.invariant.1 ∙ ap (λ (who : _). who.number) c.sitter.ensures) c.loop-members.invariant.4
       w.in-Some.members.items found none begins attempt refused first committed order number contested)
   | in_default w ↦
-      told-stays c.args.seat (activity_of c.args.self.now) (activity_of c.loop-members.self) (tally_counts c.args.tally.now) (tally_counts c.loop-members.tally)
-      c.loop-members.invariant.0 c.loop-members.invariant.1 (c.loop-members.invariant.2 ∙ ap (λ (who : _). who.number) c.sitter.ensures) c.loop-members.invariant.5
-      c.loop-members.invariant.3 (sym c.cycle_from.ensures ∙ ap (option_map (λ cycle. cycle.items)) w.in_default.is) c.awaited-holders.result.items c.awaited-holders.ensures
+      told-stays c.args.seat c.args.self.now c.loop-members.self (tally_counts c.args.tally.now) (tally_counts c.loop-members.tally)
+      c.cycle_from.ensures.sound c.loop-members.invariant.0 (c.loop-members.invariant.1 ∙ ap (λ (who : _). who.number) c.sitter.ensures) c.loop-members.invariant.4
+      c.loop-members.invariant.2 (sym c.cycle_from.ensures.cycle ∙ ap (option_map (λ cycle. cycle.items)) w.in_default.is) c.awaited-holders.result.items c.awaited-holders.ensures
       (sym c.is_empty.ensures ∙ c.if-is_empty.false) begins attempt refused first committed order number contested
 ]

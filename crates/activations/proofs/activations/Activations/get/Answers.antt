@@ -1,15 +1,15 @@
-use Rattle.activations.proofs.Lemmas.{rules, ◌∙◌, IsMoved, IsOpen, WillTouch, lines_wanted, with_pool, got-open, got-touch, ok-both, has, page_count, Counts, Activity, IsSound, Serves, locked, pages_picked, pages_wanted, wants_of, tally_counts, activity_of, ◌≡◌, ◌<◌, ℕ, true, length, sym, ap, subst, EndsByDisk, granted-same, picked-below, served-so, broken-so, serves-by, parts-by}
+use Rattle.activations.proofs.Lemmas.{rules, ◌∙◌, IsMoved, IsOpen, WillTouch, lines_wanted, with_pool, got-open, got-touch, ok-both, has, page_count, Counts, Activity, IsSound, Serves, locked, pages_picked, pages_wanted, wants_of, tally_counts, ◌≡◌, ◌<◌, ℕ, true, length, sym, ap, subst, EndsByDisk, granted-same, picked-below, served-so, broken-so, serves-by, parts-by}
 use Rattle.activations.proofs.activations.Activations.get.Goals as goal
 
 pub returns : goal.returns
 returns g c =
-    let a = activity_of c.args.self.now in let mid = activity_of c.take.new.self in
-    let new = activity_of c.bring.new.self in let pool = new.reach.pool in let seat = c.args.seat in
+    let a = c.args.self.now in let mid = c.take.new.self in
+    let new = c.bring.new.self in let pool = new.reach.pool in let seat = c.args.seat in
     let wants = wants_of c.args.touch.now in let refused = pages_picked c.args.touch.now c.args.refused in
     let owned = mid.reach.entries in let before = tally_counts c.args.tally.now in
-    let counted = c.bring.new.tally.pages in let sound = c.requires.can.fetch.sound in
+    let counted = c.bring.new.tally.pages in let sound = c.sound.ensures.sound in
     let runner = c.requires.can.selected.runner in let took = c.take.ensures.shape in
-    let later = subst IsSound took c.take.ensures.sound in
+    let later = subst IsSound took c.sound-2.ensures.sound in
     let below : (page : ℕ) → has refused page ≡ true → page < length a.reach.entries =
     λ page inside. subst (λ (n : ℕ). page < n) (sym sound.entries) (picked-below (page_count a.reach.directory) c.args.touch.now c.args.refused c.requires.wanted.within page inside) in
     let grants = granted-same mid (locked a seat wants owned) seat wants refused a.reach.entries owned (ap (λ (x : Activity). x.seating) took) (ap (λ (x : Activity). x.reach.directory) took) c.take.ensures.granted in
@@ -23,7 +23,6 @@ returns g c =
           (got-open a seat wants owned refused pool sound c.requires.can.taken runner (subst (λ (x : Activity). IsMoved x.reach.pool pool) took fetched.moved) later c.requires.wanted below grants c.requires.refused fetched.resident))
           c.bring.ensures.shape c.bring.ensures.fetched;
       keeps = record {
-        sound = c.bring.ensures.sound;
         asks = c.bring.ensures.asks;
         parts = parts-by c.bring.result g.W.Outside c.args.store.now c.args.outside.now a mid new seat wants (pages_wanted wants) c.args.tally.now.pages counted took c.bring.ensures.shape c.bring.ensures.broke;
       };

@@ -1,22 +1,36 @@
-use Rattle.activations.proofs.Lemmas.{has, Seating, IsSound, KeepsParts, IsTurning, activity_of, ◌+◌, ◌∙◌, arith, ap, sym, subst, keeps-counted, keeps-on, sound-counted, turn-strides}
+use Rattle.activations.specs.Below.{IsShutOut}
+use Rattle.activations.proofs.SittingLemmas.{sitter-there}
+use Rattle.activations.proofs.Lemmas.{activity_of, counted, MayBeShut, Program, Seat, plain_in, program_at, program_in, taken-below, ◌≡◌, Activity, counted-of, has, Seating, IsSound, KeepsParts, IsTurning, ◌+◌, ◌∙◌, arith, ap, sym, subst, keeps-counted, keeps-on, sound-counted, turn-strides}
 use Rattle.activations.proofs.activations.Activations.go_far.Goals as goal
 
-pub returns-clause-sound : goal.returns-clause-sound
-returns-clause-sound c =
-    let a = activity_of c.stride-ran.new.self in
-    subst (λ (s : Seating). IsSound (record a { seating = s })) (sym c.go_on.ensures)
-    (sound-counted a c.args.seat _ c.stride-ran.ensures.sound (ap (λ (s : Seating). has s.taken c.args.seat) c.stride-ran.ensures.strode.seating ∙ c.requires.taken))
+pub invariant_of-self : goal.invariant_of-self
+invariant_of-self c =
+    let taken = ap (λ (x : Activity). has x.seating.taken c.args.seat) c.self.view_is ∙ ap (λ (s : Seating). has s.taken c.args.seat) c.stride-ran.ensures.strode.seating ∙ c.requires.taken in
+    subst (λ (s : Seating). IsSound (record (activity_of c.self.inside) { seating = s })) (sym c.go_on.ensures) (sound-counted (activity_of c.self.inside) c.args.seat _ c.self.invariant taken)
 
 pub returns-clause-parts : goal.returns-clause-parts
 returns-clause-parts c =
-    let a = activity_of c.stride-ran.new.self in
-    subst (λ (s : Seating). KeepsParts (activity_of c.args.self.now) (record a { seating = s }) (1 + c.stride-ran.result.0)) (sym c.go_on.ensures)
-    (subst (KeepsParts (activity_of c.args.self.now) _) (omega arith)
-    (keeps-on (activity_of c.args.self.now) a (record a { seating = _ }) 0 (1 + c.stride-ran.result.0) c.stride-ran.ensures.parts
-    (keeps-counted a c.args.seat (1 + c.stride-ran.result.0) c.stride-ran.ensures.sound (ap (λ (s : Seating). has s.taken c.args.seat) c.stride-ran.ensures.strode.seating ∙ c.requires.taken))))
+    let ran = 1 + c.stride-ran.result.0 in
+    let a = c.stride-ran.new.self in
+    let taken = ap (λ (s : Seating). has s.taken c.args.seat) c.stride-ran.ensures.strode.seating ∙ c.requires.taken in
+    subst (λ (x : Activity). KeepsParts c.args.self.now x ran) (sym (counted-of c.self.inside c.self.view_is c.args.seat ran _ c.go_on.ensures))
+    (subst (KeepsParts c.args.self.now _) (omega arith)
+    (keeps-on c.args.self.now a (counted a c.args.seat ran) 0 ran c.stride-ran.ensures.parts (keeps-counted a c.args.seat ran (subst IsSound c.self.view_is c.self.invariant) taken)))
 
 pub returns-clause-gone : goal.returns-clause-gone
 returns-clause-gone c begins committed order counts rows left same turning =
-    let a = activity_of c.stride-ran.new.self in
-    subst (λ (s : Seating). IsTurning begins (record a { seating = s }) c.args.seat left committed order (record counts { ran = counts.ran + (1 + c.stride-ran.result.0) })) (sym c.go_on.ensures)
-    (turn-strides begins (activity_of c.args.self.now) a c.args.seat rows c.stride-ran.result.0 left committed order counts c.requires.sound c.requires.taken c.stride-ran.ensures.strode same turning)
+    let ran = 1 + c.stride-ran.result.0 in
+    subst (λ (x : Activity). IsTurning begins x c.args.seat left committed order (record counts { ran = counts.ran + ran })) (sym (counted-of c.self.inside c.self.view_is c.args.seat ran _ c.go_on.ensures))
+    (turn-strides begins c.args.self.now c.stride-ran.new.self c.args.seat rows c.stride-ran.result.0 left committed order counts c.sound.ensures.sound c.requires.taken c.stride-ran.ensures.strode same turning)
+
+pub returns-clause-shut : goal.returns-clause-shut
+returns-clause-shut c =
+    let a = c.stride-ran.new.self in let seat = c.args.seat in
+    let ran = 1 + c.stride-ran.result.0 in
+    let sound = subst IsSound c.self.view_is c.self.invariant in
+    let taken = ap (λ (s : Seating). has s.taken seat) c.stride-ran.ensures.strode.seating ∙ c.requires.taken in
+    let program : program_in (counted a seat ran) seat ≡ program_in a seat =
+    ap (λ (who : Seat). program_at a.programs who.program) (sitter-there a.seating seat _ sound.seating.sixteen (taken-below a.seating sound.seating seat taken)) in
+    subst (λ (x : Activity). MayBeShut x seat c.stride-ran.result.1) (sym (counted-of c.self.inside c.self.view_is seat ran _ c.go_on.ensures)) (λ access is.
+    let shut = c.stride-ran.ensures.shut access is in
+    record { some = shut.some; few = shut.few; shut = λ committed long. subst (λ (p : Program). IsShutOut p a.reach (plain_in a seat committed) access) (sym program) (shut.shut committed long) })

@@ -12,9 +12,15 @@ returns-clause-idle c = λ i. record {
   reach = c.in_ok-new-3.ensures i;
 }
 
-pub returns-clause-sound : goal.returns-clause-sound
-returns-clause-sound c = subst IsSound (sym (returns-clause-idle c))
-    (sound-idle c.args.programs.items _ c.args.frames c.args.header.now.directory c.loop.live.items (omega (arith, c.loop.invariant, c.loop-test.false, c.loop.auto.counter-end)))
+pub invariant_of-result : goal.invariant_of-result
+invariant_of-result c = subst IsSound (sym (λ i. record {
+  programs = c.args.programs.items;
+  most_lines = c.most_lines.ensures.value i;
+  next = 1;
+  seating = (c.in_ok-new-2.ensures ∙ ap nobody_sits (c.pages.ensures.value ∙ ap page_count c.directory.ensures.value)) i;
+  live = c.loop.live.items;
+  reach = c.in_ok-new-3.ensures i;
+})) (sound-idle c.args.programs.items _ c.args.frames c.args.header.now.directory c.loop.live.items (omega (arith, c.loop.invariant, c.loop-test.false, c.loop.auto.counter-end)))
 
 pub returns-clause-first : goal.returns-clause-first
 returns-clause-first c =

@@ -1,71 +1,70 @@
-use Rattle.activations.proofs.Lemmas.{KeepsParts, keeps-pool, AreWithin, page_count, refl, Bool, List, ℕ, AreLetBut, WillTouch, IsMoved, pages_picked, picked-refused, taken-below, let-but, pages_refused, shut-touches, touch-on, TurnEnd, IsClean, Tally, Activity, HasBrokenOff, IsPrepared, Prepares, IsFetched, instruction_in, with_pool, wants_of, pages_wanted, HasEnded, HasBroken, tally_counts, activity_of, asks_none, ◌+◌, Result, sym, ◌∙◌, ap, subst, keeps-left, keeps-broke, is-to-serve, prepare-broke, prepared-so, handed}
+use Rattle.activations.proofs.Lemmas.{KeepsParts, keeps-pool, AreWithin, page_count, refl, Bool, List, ℕ, AreLetBut, WillTouch, IsMoved, pages_picked, picked-refused, taken-below, let-but, pages_refused, shut-touches, touch-on, TurnEnd, IsClean, Tally, Activity, HasBrokenOff, IsPrepared, Prepares, IsFetched, instruction_in, with_pool, wants_of, pages_wanted, HasEnded, HasBroken, tally_counts, asks_none, ◌+◌, Result, sym, ◌∙◌, ap, subst, keeps-left, keeps-broke, is-to-serve, prepare-broke, prepared-so, handed}
 use Rattle.activations.proofs.activations.Activations.prepare.Goals as goal
 
 pub returns-in_err-keep_limit-clause-keeps : goal.returns-in_err-keep_limit-clause-keeps
 returns-in_err-keep_limit-clause-keeps g c = record {
-  sound = c.keep_limit.ensures.sound;
   asks = asks_none g.W.Outside c.args.outside.now;
-  parts = keeps-left (activity_of c.args.self.now) (activity_of c.keep_limit.new.self) c.args.seat _ c.in_err-keep_limit.ensures.rolled;
+  parts = keeps-left c.args.self.now c.keep_limit.new.self c.args.seat _ c.in_err-keep_limit.ensures.rolled;
 }
 
 pub returns-in_err-keep_limit-clause-prepared : goal.returns-in_err-keep_limit-clause-prepared
 returns-in_err-keep_limit-clause-prepared g c committed order is follows =
     let counts = tally_counts c.args.tally.now in
-    let to = is-to-serve (activity_of c.args.self.now) c.args.seat c.args.access (wants_of c.touch_of-touch.result) c.requires.can.fetch.sound c.requires.can.taken c.requires.can.selected c.requires.shut
+    let to = is-to-serve c.args.self.now c.args.seat c.args.access (wants_of c.touch_of-touch.result) c.touch_of-touch.ensures.sound c.requires.can.taken c.requires.can.selected c.requires.shut
     c.touch_of-touch.ensures.lines committed follows in
-    handed (λ (r : Result _ TurnEnd). Prepares r (instruction_in (activity_of c.args.self.now) c.args.seat committed order counts) (activity_of c.keep_limit.new.self) c.args.seat committed order counts)
+    handed (λ (r : Result _ TurnEnd). Prepares r (instruction_in c.args.self.now c.args.seat committed order counts) c.keep_limit.new.self c.args.seat committed order counts)
     c.from_residual.result c.in_err-keep_limit.field-0.0 c.from_residual.ensures.1 (c.in_err-keep_limit.ensures.over committed order counts to.0 to.1)
 
 pub returns-in_err-bring-clause-keeps : goal.returns-in_err-bring-clause-keeps
 returns-in_err-bring-clause-keeps g c =
-    let broke : HasBrokenOff g.W.Outside c.args.store.now c.args.outside.now (activity_of c.args.self.now) c.args.seat (pages_wanted (wants_of c.touch_of-touch.result)) c.args.tally.now.pages
-    (activity_of c.bring.new.self) c.bring.new.tally.pages =
+    let broke : HasBrokenOff g.W.Outside c.args.store.now c.args.outside.now c.args.self.now c.args.seat (pages_wanted (wants_of c.touch_of-touch.result)) c.args.tally.now.pages
+    c.bring.new.self c.bring.new.tally.pages =
     subst
     (λ (a : Activity). HasBrokenOff g.W.Outside c.args.store.now c.args.outside.now a c.args.seat (pages_wanted (wants_of c.touch_of-touch.result)) c.args.tally.now.pages
-    (activity_of c.bring.new.self) c.bring.new.tally.pages)
+    c.bring.new.self c.bring.new.tally.pages)
     c.in_ok-keep_limit.ensures.kept.0 c.in_err-bring.ensures.broke in
-    record { sound = c.bring.ensures.sound; asks = c.bring.ensures.asks; parts = keeps-broke (activity_of c.args.self.now) (activity_of c.bring.new.self) c.args.seat broke.pool _ broke.shape }
+    record { asks = c.bring.ensures.asks; parts = keeps-broke c.args.self.now c.bring.new.self c.args.seat broke.pool _ broke.shape }
 
 pub returns-in_err-bring-clause-prepared : goal.returns-in_err-bring-clause-prepared
 returns-in_err-bring-clause-prepared g c committed order is follows =
-    let a = activity_of c.args.self.now in let counts = tally_counts c.args.tally.now in
+    let a = c.args.self.now in let counts = tally_counts c.args.tally.now in
     let begins = instruction_in a c.args.seat committed order counts in
-    let to = is-to-serve a c.args.seat c.args.access (wants_of c.touch_of-touch.result) c.requires.can.fetch.sound c.requires.can.taken c.requires.can.selected c.requires.shut
+    let to = is-to-serve a c.args.seat c.args.access (wants_of c.touch_of-touch.result) c.touch_of-touch.ensures.sound c.requires.can.taken c.requires.can.selected c.requires.shut
     c.touch_of-touch.ensures.lines committed follows in
     let broke =
     prepare-broke a c.args.seat committed order counts c.touch_of-touch.result to.0 to.1 c.touch_of-touch.ensures.wanted c.in_ok-keep_limit.ensures.kept.1
-    g.W.Outside c.args.store.now c.args.outside.now (activity_of c.bring.new.self) c.bring.new.tally.pages is
+    g.W.Outside c.args.store.now c.args.outside.now c.bring.new.self c.bring.new.tally.pages is
     (subst
     (λ (a : Activity). HasBrokenOff g.W.Outside c.args.store.now c.args.outside.now a c.args.seat (pages_wanted (wants_of c.touch_of-touch.result)) c.args.tally.now.pages
-    (activity_of c.bring.new.self) c.bring.new.tally.pages)
+    c.bring.new.self c.bring.new.tally.pages)
     c.in_ok-keep_limit.ensures.kept.0 c.in_err-bring.ensures.broke) in
-    handed (λ (r : Result _ TurnEnd). Prepares r begins (activity_of c.bring.new.self) c.args.seat committed order (tally_counts c.bring.new.tally))
+    handed (λ (r : Result _ TurnEnd). Prepares r begins c.bring.new.self c.args.seat committed order (tally_counts c.bring.new.tally))
     c.from_residual-in_err-bring.result c.in_err-bring.field-0.0 c.from_residual-in_err-bring.ensures.1
-    (subst (λ (how : TurnEnd). HasEnded how begins (activity_of c.bring.new.self) committed order (tally_counts c.bring.new.tally)) (sym c.in_err-bring.ensures.ends.is)
-    (subst (λ (t : Tally). HasBroken begins (activity_of c.bring.new.self) committed order (tally_counts t)) (sym c.bring.ensures.counts.rest) broke))
+    (subst (λ (how : TurnEnd). HasEnded how begins c.bring.new.self committed order (tally_counts c.bring.new.tally)) (sym c.in_err-bring.ensures.ends.is)
+    (subst (λ (t : Tally). HasBroken begins c.bring.new.self committed order (tally_counts t)) (sym c.bring.ensures.counts.rest) broke))
 
 pub returns-clause-touches : goal.returns-clause-touches
 returns-clause-touches g c =
-    let a = activity_of c.args.self.now in let new = activity_of c.bring.new.self in
+    let a = c.args.self.now in let new = c.bring.new.self in
     let wants = wants_of c.touch_of-touch.result in let same = c.in_ok-keep_limit.ensures.kept.0 in
     let runner = c.requires.can.selected.runner in
     let moved : IsMoved a.reach.pool new.reach.pool = subst (λ (x : Activity). IsMoved x.reach.pool new.reach.pool) same c.in_ok-bring.ensures.fetched.moved in
     subst (λ (x : Activity). WillTouch x c.args.seat wants) (sym (c.in_ok-bring.ensures.shape ∙ ap (λ (x : Activity). with_pool x new.reach.pool) same))
-    (touch-on a (with_pool a new.reach.pool) c.args.seat wants refl runner runner refl refl (moved.private c.args.seat (taken-below a.seating c.requires.can.fetch.sound.seating c.args.seat c.requires.can.taken))
+    (touch-on a (with_pool a new.reach.pool) c.args.seat wants refl runner runner refl refl (moved.private c.args.seat (taken-below a.seating c.touch_of-touch.ensures.sound.seating c.args.seat c.requires.can.taken))
     (shut-touches a c.args.seat c.args.access wants c.requires.shut c.touch_of-touch.ensures.lines))
 
 pub returns-clause-refused : goal.returns-clause-refused
 returns-clause-refused g c =
-    let new = activity_of c.bring.new.self in let touch = c.touch_of-touch.result in
+    let new = c.bring.new.self in let touch = c.touch_of-touch.result in
     subst (λ (picked : Bool × Bool). AreLetBut new.reach.entries (c.args.seat + 1) (pages_picked touch picked) (wants_of touch)) (sym c.refused-refused.ensures)
     (subst (λ (pages : List ℕ). AreLetBut new.reach.entries (c.args.seat + 1) pages (wants_of touch)) (sym (picked-refused new.reach.entries (c.args.seat + 1) touch))
     (let-but new.reach.entries (c.args.seat + 1) (pages_refused new.reach.entries (c.args.seat + 1) (wants_of touch)) (wants_of touch) (λ page inside. inside)))
 
 pub returns-clause-prepared : goal.returns-clause-prepared
 returns-clause-prepared g c committed order is follows =
-    let a = activity_of c.args.self.now in let new = activity_of c.bring.new.self in
+    let a = c.args.self.now in let new = c.bring.new.self in
     let counts = tally_counts c.args.tally.now in let begins = instruction_in a c.args.seat committed order counts in
-    let to = is-to-serve a c.args.seat c.args.access (wants_of c.touch_of-touch.result) c.requires.can.fetch.sound c.requires.can.taken c.requires.can.selected c.requires.shut
+    let to = is-to-serve a c.args.seat c.args.access (wants_of c.touch_of-touch.result) c.touch_of-touch.ensures.sound c.requires.can.taken c.requires.can.selected c.requires.shut
     c.touch_of-touch.ensures.lines committed follows in
     let same = c.in_ok-keep_limit.ensures.kept.0 in
     let fetched : IsFetched a committed order (pages_wanted (wants_of c.touch_of-touch.result)) c.args.tally.now.pages new.reach.pool c.bring.new.tally.pages =
@@ -80,11 +79,14 @@ returns-clause-prepared g c committed order is follows =
 
 pub returns-clause-keeps : goal.returns-clause-keeps
 returns-clause-keeps g c =
-    let came = c.in_ok-bring.ensures.shape ∙ ap (λ (x : Activity). with_pool x (activity_of c.bring.new.self).reach.pool) c.in_ok-keep_limit.ensures.kept.0 in
-    let a = activity_of c.args.self.now in
-    record { sound = c.bring.ensures.sound; asks = c.bring.ensures.asks; parts = subst (λ (x : Activity). KeepsParts a x 0) (sym came) (keeps-pool a (activity_of c.bring.new.self).reach.pool) }
+    let came = c.in_ok-bring.ensures.shape ∙ ap (λ (x : Activity). with_pool x c.bring.new.self.reach.pool) c.in_ok-keep_limit.ensures.kept.0 in
+    let a = c.args.self.now in
+    record { asks = c.bring.ensures.asks; parts = subst (λ (x : Activity). KeepsParts a x 0) (sym came) (keeps-pool a c.bring.new.self.reach.pool) }
 
 pub refused-refused-requires-clause-pages : goal.refused-refused-requires-clause-pages
 refused-refused-requires-clause-pages g c =
-    let came = c.in_ok-bring.ensures.shape ∙ ap (λ (x : Activity). with_pool x (activity_of c.bring.new.self).reach.pool) c.in_ok-keep_limit.ensures.kept.0 in
+    let came = c.in_ok-bring.ensures.shape ∙ ap (λ (x : Activity). with_pool x c.bring.new.self.reach.pool) c.in_ok-keep_limit.ensures.kept.0 in
     subst (λ (x : Activity). AreWithin (page_count x.reach.directory) (wants_of c.touch_of-touch.result)) (sym came) c.touch_of-touch.ensures.wanted.within
+
+pub refused-refused-requires-clause-seat : goal.refused-refused-requires-clause-seat
+refused-refused-requires-clause-seat g c = taken-below c.args.self.now.seating c.touch_of-touch.ensures.sound.seating c.args.seat c.requires.can.taken

@@ -1,47 +1,47 @@
-use Rattle.activations.proofs.Lemmas.{◌+◌, let-on, touch-on, number_in, TurnEnd, Tally, IsInstruction, instruction_in, tally_counts, activity_of, Result, ap, arith, sym, ◌∙◌, total, asks_only, store-on, keeps-all-on, keeps-all-then, handed, ended-by-disk}
+use Rattle.activations.proofs.Lemmas.{◌+◌, let-on, touch-on, number_in, TurnEnd, Tally, IsInstruction, instruction_in, tally_counts, Result, ap, arith, sym, ◌∙◌, total, asks_only, store-on, keeps-all-on, keeps-all-then, handed, ended-by-disk}
 use Rattle.activations.proofs.activations.Activations.serve.Goals as goal
 
 pub returns-in_err-touch-clause-served : goal.returns-in_err-touch-clause-served
 returns-in_err-touch-clause-served g c committed order store follows =
-    handed (λ (r : Result _ TurnEnd). IsInstruction r (instruction_in (activity_of c.args.self.now) c.args.seat committed order (tally_counts c.args.tally.now)) (activity_of c.prepare.new.self) c.args.seat committed order (tally_counts c.prepare.new.tally))
+    handed (λ (r : Result _ TurnEnd). IsInstruction r (instruction_in c.args.self.now c.args.seat committed order (tally_counts c.args.tally.now)) c.prepare.new.self c.args.seat committed order (tally_counts c.prepare.new.tally))
     c.from_residual.result c.in_err-touch.field-0.0 c.from_residual.ensures.1 (c.in_err-touch.ensures.prepared committed order store follows)
 
 pub returns-in_err-ask-clause-keeps : goal.returns-in_err-ask-clause-keeps
-returns-in_err-ask-clause-keeps g c = keeps-all-then g.W.Outside (activity_of c.args.self.now) (activity_of c.prepare.new.self) (activity_of c.ask.new.self) c.args.outside.now c.prepare.new.outside c.prepare.ensures.keeps c.ask.ensures.keeps
+returns-in_err-ask-clause-keeps g c = keeps-all-then g.W.Outside c.args.self.now c.prepare.new.self c.ask.new.self c.args.outside.now c.prepare.new.outside c.prepare.ensures.keeps c.ask.ensures.keeps
 
 pub returns-in_err-ask-clause-served : goal.returns-in_err-ask-clause-served
 returns-in_err-ask-clause-served g c committed order store follows =
-    let begins = instruction_in (activity_of c.args.self.now) c.args.seat committed order (tally_counts c.args.tally.now) in
+    let begins = instruction_in c.args.self.now c.args.seat committed order (tally_counts c.args.tally.now) in
     let prepared = c.in_ok-touch.ensures.prepared committed order store follows in
-    handed (λ (r : Result _ TurnEnd). IsInstruction r begins (activity_of c.ask.new.self) c.args.seat committed order (tally_counts c.ask.new.tally))
+    handed (λ (r : Result _ TurnEnd). IsInstruction r begins c.ask.new.self c.args.seat committed order (tally_counts c.ask.new.tally))
     c.from_residual-in_err-ask.result c.in_err-ask.field-0.0 c.from_residual-in_err-ask.ensures.1 (c.in_err-ask.ensures.settled begins prepared.attempt _ committed order prepared.asked)
 
 pub returns-in_err-get-clause-keeps : goal.returns-in_err-get-clause-keeps
 returns-in_err-get-clause-keeps g c =
-    keeps-all-on g.W.Outside g.met.W.Outside.fewer_later (activity_of c.args.self.now) (activity_of c.ask.new.self) (activity_of c.get.new.self) c.args.outside.now c.prepare.new.outside c.get.new.outside
-    (keeps-all-then g.W.Outside (activity_of c.args.self.now) (activity_of c.prepare.new.self) (activity_of c.ask.new.self) c.args.outside.now c.prepare.new.outside c.prepare.ensures.keeps c.ask.ensures.keeps) c.get.ensures.keeps
+    keeps-all-on g.W.Outside g.met.W.Outside.fewer_later c.args.self.now c.ask.new.self c.get.new.self c.args.outside.now c.prepare.new.outside c.get.new.outside
+    (keeps-all-then g.W.Outside c.args.self.now c.prepare.new.self c.ask.new.self c.args.outside.now c.prepare.new.outside c.prepare.ensures.keeps c.ask.ensures.keeps) c.get.ensures.keeps
 
 pub returns-in_err-get-clause-over : goal.returns-in_err-get-clause-over
 returns-in_err-get-clause-over g c =
     let asked = ap (λ (tally : Tally). tally.pages) c.ask.ensures.counts.rest in let few = c.prepare.ensures.few.0 in
-    ended-by-disk g.W.Outside (number_in c.args.self.now.seats c.args.seat) (activity_of c.get.new.self) c.args.outside.now c.prepare.new.outside c.get.new.outside c.args.tally.now c.ask.new.tally c.get.new.tally
+    ended-by-disk g.W.Outside (number_in c.args.self.now.seating c.args.seat) c.get.new.self c.args.outside.now c.prepare.new.outside c.get.new.outside c.args.tally.now c.ask.new.tally c.get.new.tally
     c.from_residual-in_err-get.result c.in_err-get.field-0.0 c.from_residual-in_err-get.ensures.1 c.in_ok-touch.ensures.on.calm (omega (arith, asked, few)) c.in_err-get.ensures.ends
 
 pub returns-in_err-get-clause-served : goal.returns-in_err-get-clause-served
 returns-in_err-get-clause-served g c committed order store follows =
-    let begins = instruction_in (activity_of c.args.self.now) c.args.seat committed order (tally_counts c.args.tally.now) in
+    let begins = instruction_in c.args.self.now c.args.seat committed order (tally_counts c.args.tally.now) in
     let prepared = c.in_ok-touch.ensures.prepared committed order store follows in
-    handed (λ (r : Result _ TurnEnd). IsInstruction r begins (activity_of c.get.new.self) c.args.seat committed order (tally_counts c.get.new.tally))
+    handed (λ (r : Result _ TurnEnd). IsInstruction r begins c.get.new.self c.args.seat committed order (tally_counts c.get.new.tally))
     c.from_residual-in_err-get.result c.in_err-get.field-0.0 c.from_residual-in_err-get.ensures.1
     (c.in_err-get.ensures.served begins prepared.attempt prepared.next committed order (store-on g.W.Outside g.met.W.Outside.fewer_later c.args.store.now c.args.outside.now c.prepare.new.outside committed c.prepare.ensures.keeps.asks store)
     (prepared.asked.number ∙ sym c.in_ok-ask.ensures.stays.seated.number) prepared.goes prepared.lines (c.in_ok-ask.ensures.settled begins prepared.attempt _ committed order prepared.asked))
 
 pub returns-clause-keeps : goal.returns-clause-keeps
 returns-clause-keeps g c =
-    keeps-all-then g.W.Outside (activity_of c.args.self.now) (activity_of c.get.new.self) (activity_of c.go_on.new.self) c.args.outside.now c.get.new.outside
-    (keeps-all-on g.W.Outside g.met.W.Outside.fewer_later (activity_of c.args.self.now) (activity_of c.ask.new.self) (activity_of c.get.new.self) c.args.outside.now c.prepare.new.outside c.get.new.outside
-    (keeps-all-then g.W.Outside (activity_of c.args.self.now) (activity_of c.prepare.new.self) (activity_of c.ask.new.self) c.args.outside.now c.prepare.new.outside c.prepare.ensures.keeps c.ask.ensures.keeps) c.get.ensures.keeps)
-    (record { sound = c.go_on.ensures.sound; parts = c.go_on.ensures.parts })
+    keeps-all-then g.W.Outside c.args.self.now c.get.new.self c.go_on.new.self c.args.outside.now c.get.new.outside
+    (keeps-all-on g.W.Outside g.met.W.Outside.fewer_later c.args.self.now c.ask.new.self c.get.new.self c.args.outside.now c.prepare.new.outside c.get.new.outside
+    (keeps-all-then g.W.Outside c.args.self.now c.prepare.new.self c.ask.new.self c.args.outside.now c.prepare.new.outside c.prepare.ensures.keeps c.ask.ensures.keeps) c.get.ensures.keeps)
+    c.go_on.ensures.parts
 
 pub returns-clause-served : goal.returns-clause-served
 returns-clause-served g c committed order store follows =
@@ -53,8 +53,7 @@ returns-clause-served g c committed order store follows =
 pub get-requires-clause-can : goal.get-requires-clause-can
 get-requires-clause-can g c = record {
   fetch = record {
-    sound = c.ask.ensures.keeps.sound;
-    directory = c.requires.can.fetch.directory ∙ sym (c.ask.ensures.keeps.parts.directory ∙ c.prepare.ensures.keeps.parts.directory);
+    directory = c.requires.can.fetch.directory ∙ sym (c.ask.ensures.keeps.directory ∙ c.prepare.ensures.keeps.parts.directory);
     usable = c.requires.can.fetch.usable;
     room = (asks_only g.W.Outside c.args.outside.now c.prepare.new.outside c.prepare.ensures.keeps.asks).longer (total c.args.store.now.header) c.requires.can.fetch.room;
   };
@@ -66,9 +65,9 @@ pub get-requires-clause-touches : goal.get-requires-clause-touches
 get-requires-clause-touches g c =
     let still = c.in_ok-ask.ensures.stays in
     let selected = c.in_ok-touch.ensures.on.stays.selected c.requires.can.selected in
-    touch-on (activity_of c.prepare.new.self) (activity_of c.ask.new.self) c.args.seat _ c.ask.ensures.keeps.parts.directory selected.runner (still.seated.selected selected).runner
+    touch-on c.prepare.new.self c.ask.new.self c.args.seat _ c.ask.ensures.keeps.directory selected.runner (still.seated.selected selected).runner
     still.program still.live still.private c.in_ok-touch.ensures.touches
 
 pub get-requires-clause-refused : goal.get-requires-clause-refused
 get-requires-clause-refused g c =
-    let-on (activity_of c.prepare.new.self).reach.entries (activity_of c.ask.new.self).reach.entries (c.args.seat + 1) _ _ c.in_ok-ask.ensures.stays.own c.in_ok-touch.ensures.refused
+    let-on c.prepare.new.self.reach.entries c.ask.new.self.reach.entries (c.args.seat + 1) _ _ c.in_ok-ask.ensures.stays.own c.in_ok-touch.ensures.refused

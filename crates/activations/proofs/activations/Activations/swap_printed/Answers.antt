@@ -1,18 +1,28 @@
-use Rattle.activations.proofs.Common.{get_or_read, Activity, live_in, nothing_runs, IsSound, KeepsDesk, activity_of, ◌≡◌, ℕ, sym, ap, ◌∙◌, arith, subst, slice_index_or, slice_set}
+use Rattle.activations.proofs.Common.{activity_of, Inside, List, Live, reprinted, Activity, live_in, IsSound, KeepsDesk, ◌≡◌, ℕ, sym, ap, ◌∙◌, subst, slice_set}
+use Rattle.activations.proofs.FieldLemmas.{lives-of}
 use Rattle.activations.proofs.SittingLemmas.{sound-reprinted, follows-reprinted}
 use Rattle.activations.proofs.activations.Activations.swap_printed.Goals as goal
 
+-- what was printed there is another
+is_reprinted : (fields : Inside) {now : Activity} → activity_of fields ≡ now → (seat at : ℕ) (live : Live) (out : List ℕ) → at ≡ seat → live ≡ live_in now seat
+    → record (activity_of fields) { live = slice_set fields.live.items at (record live { out = out }) } ≡ reprinted now seat out
+is_reprinted fields is seat at live out here runs i = record (is i) { live = slice_set (is i).live (here i) (record (runs i) { out = out }) }
+
+pub invariant_of-self : goal.invariant_of-self
+invariant_of-self c =
+    let runs = lives-of c.self.inside c.self.view_is c.self.invariant c.args.seat c.requires.seat c.index_mut.result.now c.from.result c.from.ensures c.index_mut.ensures.value in
+    subst IsSound (sym (is_reprinted c.self.inside c.self.view_is c.args.seat c.from.result c.index_mut.result.now c.swap.new.x c.from.ensures runs))
+    (sound-reprinted c.args.self.now c.args.seat c.swap.new.x c.requires.free (subst IsSound c.self.view_is c.self.invariant))
+
 pub returns-clause-left : goal.returns-clause-left
 returns-clause-left c =
-    let lives = c.args.self.now.live.items in
-    let read : c.index_mut.result.now ≡ live_in (activity_of c.args.self.now) c.args.seat =
-    get_or_read lives c.from.result c.index_mut.result.now (omega (arith, c.requires.seat, c.from.ensures, c.requires.sound.live)) c.index_mut.ensures.value nothing_runs
-    ∙ ap (λ (n : ℕ). slice_index_or lives n nothing_runs) c.from.ensures in
-    λ i. record (activity_of c.args.self.now) { live = slice_set lives (c.from.ensures i) (record (read i) { out = c.swap.ensures.x_after i }) }
+    let runs = lives-of c.self.inside c.self.view_is c.self.invariant c.args.seat c.requires.seat c.index_mut.result.now c.from.result c.from.ensures c.index_mut.ensures.value in
+    is_reprinted c.self.inside c.self.view_is c.args.seat c.from.result c.index_mut.result.now c.swap.new.x c.from.ensures runs ∙ ap (reprinted c.args.self.now c.args.seat) c.swap.ensures.x_after
 
-pub returns-clause-sound : goal.returns-clause-sound
-returns-clause-sound c = subst IsSound (sym (returns-clause-left c)) (sound-reprinted (activity_of c.args.self.now) c.args.seat c.args.out.now c.requires.free c.requires.sound)
+pub returns-clause-out : goal.returns-clause-out
+returns-clause-out c =
+    c.swap.ensures.y_after ∙ ap (λ (live : Live). live.out) (lives-of c.self.inside c.self.view_is c.self.invariant c.args.seat c.requires.seat c.index_mut.result.now c.from.result c.from.ensures c.index_mut.ensures.value)
 
 pub returns-clause-follows : goal.returns-clause-follows
 returns-clause-follows c = λ committed follows.
-    subst (λ (a : Activity). KeepsDesk a committed) (sym (returns-clause-left c)) (follows-reprinted (activity_of c.args.self.now) c.args.seat c.args.out.now c.requires.free committed follows)
+    subst (λ (a : Activity). KeepsDesk a committed) (sym (returns-clause-left c)) (follows-reprinted c.args.self.now c.args.seat c.args.out.now c.requires.free committed follows)

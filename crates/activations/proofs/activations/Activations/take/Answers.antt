@@ -1,12 +1,18 @@
-use Rattle.activations.proofs.Lemmas.{page_count, AreWithin, took, pages_picked, wants_of, with_whole_page, activity_of, ℕ, map, sym, ap, ◌∙◌, subst, within-whole, sound-then}
+use Rattle.activations.proofs.Lemmas.{activity_of, [], page_count, AreWithin, took, wants_of, with_whole_page, IsSound, Activity, ℕ, map, sym, ap, ◌∙◌, subst, within-whole, taken-sound, taken-of, refl}
 use Rattle.activations.proofs.activations.Activations.take.Goals as goal
 
 pub take-requires-clause-pages : goal.take-requires-clause-pages
-take-requires-clause-pages c = subst (AreWithin c.args.self.now.seats.holding.pages) (sym c.request-request.ensures)
-    (subst (λ (pages : ℕ). AreWithin pages (map (with_whole_page (activity_of c.args.self.now).reach.directory) (wants_of c.args.touch.now))) (sym c.requires.sound.pages)
-    (within-whole (activity_of c.args.self.now).reach.directory (page_count (activity_of c.args.self.now).reach.directory) (wants_of c.args.touch.now) c.requires.wanted.within))
+take-requires-clause-pages c =
+    let a = activity_of c.self.inside in
+    let request = c.request-request.ensures ∙ ap (λ (x : Activity). map (with_whole_page x.reach.directory) (wants_of c.args.touch.now)) (sym c.self.view_is) in
+    subst (AreWithin a.seating.holding.pages) (sym request)
+    (subst (λ (pages : ℕ). AreWithin pages (map (with_whole_page a.reach.directory) (wants_of c.args.touch.now))) (sym c.self.invariant.pages)
+    (within-whole a.reach.directory (page_count a.reach.directory) (wants_of c.args.touch.now)
+    (subst (λ (x : Activity). AreWithin (page_count x.reach.directory) (wants_of c.args.touch.now)) (sym c.self.view_is) c.requires.wanted.within)))
 
-pub returns-clause-sound : goal.returns-clause-sound
-returns-clause-sound c =
-    sound-then (activity_of c.args.self.now) (activity_of c.grant_picked.new.self) c.args.seat (wants_of c.args.touch.now) (pages_picked c.args.touch.now c.args.refused) c.take.new.self
-    c.requires.sound c.requires.taken (c.take.ensures ∙ ap (took c.args.self.now.seats c.args.seat) c.request-request.ensures) c.grant_picked.ensures.shape c.grant_picked.ensures.granted
+pub invariant_of-self : goal.invariant_of-self
+invariant_of-self c =
+    let a = activity_of c.self.inside in
+    let request = c.request-request.ensures ∙ ap (λ (x : Activity). map (with_whole_page x.reach.directory) (wants_of c.args.touch.now)) (sym c.self.view_is) in
+    subst (λ (s : _). IsSound (record a { seating = s })) (sym (c.take.ensures ∙ ap (took a.seating c.args.seat) request))
+    (taken-sound a c.args.seat (wants_of c.args.touch.now) [] a.reach.entries c.self.invariant (taken-of c.self.inside c.self.view_is c.args.seat c.requires.taken) refl)

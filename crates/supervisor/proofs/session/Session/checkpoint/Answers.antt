@@ -1,4 +1,5 @@
 use Rattle.supervisor.proofs.Lemmas.{◌≡◌, ap, ◌∙◌, true, Leaves, held_of, TracksStore, stands, CheckpointMade, CheckpointFailed, refl, KeptBank, stored-sound, calls-store, did-checkpoint, did-fail-checkpoint, takes}
+use Rattle.std.proofs.Common.{rules}
 use Rattle.desk.specs.declared.event.Event.TheVariants as event
 use Rattle.supervisor.proofs.session.Session.checkpoint.Goals as goal
 
@@ -15,8 +16,12 @@ returns-in-Ok-clause-did g c =
     let crash : Leaves G (λ image seen. stands image ≡ stands (held_of G before)) before after = λ image seen left. (c.in-Ok.ensures.crash tracks image seen left).stood in
     (did-checkpoint G s store c.requires.sound before after over crash c.in-Ok.ensures.header c.in-Ok.ensures.number done.tracks.sure done.tracks.shows done.stood c.in-Ok.ensures.count, c.number.ensures ∙ c.in-Ok.ensures.number ∙ over.number))
 
-pub returns-in-Ok-clause-calls : goal.returns-in-Ok-clause-calls
-returns-in-Ok-clause-calls g c = calls-store g.W.Outside c.args.self.now.store.header _ c.args.outside.now c.checkpoint.new.outside c.in-Ok.ensures.header c.in-Ok.ensures.only c.requires.bytes
+pub returns-in-Ok-clause-disk : goal.returns-in-Ok-clause-disk
+returns-in-Ok-clause-disk g c = record {
+  writes_more = search rules;
+  failed = search rules;
+  calls = calls-store g.W.Outside c.args.self.now.store.header _ c.args.outside.now c.checkpoint.new.outside c.in-Ok.ensures.header c.in-Ok.ensures.only c.requires.bytes;
+}
 
 pub returns-in-Err-clause-did : goal.returns-in-Err-clause-did
 returns-in-Err-clause-did g c =
@@ -30,8 +35,12 @@ returns-in-Err-clause-did g c =
     let crash : Leaves G (λ image seen. stands image ≡ stands (held_of G before)) before after = λ image seen left. (c.in-Err.ensures.crash tracks image seen left).stood in
     (did-fail-checkpoint G s store c.requires.sound before after over crash c.in-Err.ensures.cause.failed, tt))
 
-pub returns-in-Err-clause-calls : goal.returns-in-Err-clause-calls
-returns-in-Err-clause-calls g c = calls-store g.W.Outside c.args.self.now.store.header _ c.args.outside.now c.checkpoint.new.outside c.in-Err.ensures.header c.in-Err.ensures.only c.requires.bytes
+pub returns-in-Err-clause-disk : goal.returns-in-Err-clause-disk
+returns-in-Err-clause-disk g c = record {
+  writes_more = search rules;
+  failed = search rules;
+  calls = calls-store g.W.Outside c.args.self.now.store.header _ c.args.outside.now c.checkpoint.new.outside c.in-Err.ensures.header c.in-Err.ensures.only c.requires.bytes;
+}
 
 pub returns-in-Ok-clause-sound : goal.returns-in-Ok-clause-sound
 returns-in-Ok-clause-sound g c = let s = c.args.self.now in stored-sound s c.requires.sound c.checkpoint.new.self c.in-Ok.ensures.header s.activations refl c.if-self.false s.closed (λ still. ap (λ (bank : KeptBank). bank.spoiled) c.in-Ok.ensures.kept ∙ c.requires.sound.usable still)

@@ -1,20 +1,19 @@
 use Rattle.std.proofs.lemmas.Grind.{common_steps}
-use Rattle.supervisor.proofs.Lemmas.{◌≡◌, ◌+◌, ◌-◌, Fixed, session_told, ◌%◌, ◌^◌, ◌∙◌, ◌∷◌, [], length, refl, sym, ap, subst, arith, Some, length-append, true, false, has, Commit, row, begun_of, Kept, KeptStore, number_of, TracksStore, held_of, over_all, committed_at, sitter, number_in, taken-below, Activity, live_in, program_in, entry_in, store_over, desk_over, shown, KeepsDesk, rolled, reprinted, activity_of, Session, activity, with_record, HoldsStore, Header, stored-sound, closes-now}
+use Rattle.supervisor.proofs.Lemmas.{◌≡◌, ◌+◌, ◌-◌, Fixed, session_told, ◌%◌, ◌^◌, ◌∙◌, ◌∷◌, [], length, refl, sym, ap, subst, arith, Some, length-append, true, false, has, Commit, row, begun_of, Kept, KeptStore, number_of, TracksStore, held_of, over_all, committed_at, sitter, number_in, taken-below, Activity, live_in, program_in, entry_in, store_over, desk_over, shown, KeepsDesk, rolled, reprinted, Session, activity, with_record, HoldsStore, Header, stored-sound, closes-now}
 use Rattle.flat_machine.specs.After.{after as after_rows}
 use Rattle.store.specs.declared.keep.Kept.TheVariants.{Unwritten, Doubt}
 use Rattle.store.specs.Committed.{roomy, number_after, IsKeptAfter}
 use Rattle.supervisor.proofs.JournalLemmas.{commit-adds}
 use Rattle.supervisor.proofs.CommitLemmas.{order-more, writes-more, gone, has_place, sound-left, sound-closed, out-is, tracked, went-done, went-doubt, went-unwritten}
-use Rattle.activations.specs.Follows as running
 use Rattle.supervisor.proofs.session.Session.commit.Goals as goal
 
 pub returns-in-Err-clause-sound : goal.returns-in-Err-clause-sound
 returns-in-Err-clause-sound g c =
     let s = c.args.self.now in
-    sound-left s c.args.seat c.requires.sound c.requires.taken _ (activity_of c.record.new.self).reach.pool 0 c.requires.open
+    sound-left s c.args.seat c.requires.sound c.requires.taken _ c.record.new.self.reach.pool 0 c.requires.open
     (record {
       header = ap (λ (store : KeptStore). store.header) c.in-Err.ensures.unwritten;
-      running = c.record.ensures.sound;
+      running = c.sound.ensures;
       live = (activity s).live;
       is = c.in-Err.ensures.rolled;
       begins = refl;
@@ -30,7 +29,7 @@ pub returns-in-Err-clause-went : goal.returns-in-Err-clause-went
 returns-in-Err-clause-went g c = λ begins sure over at. absurd (let no : false ≡ true = c.in-Err.ensures.never over.committed over.follows in cc (no))
 
 pub committed_in-committed-requires-clause-seat : goal.committed_in-committed-requires-clause-seat
-committed_in-committed-requires-clause-seat g c = taken-below c.args.self.now.activations.seats c.requires.sound.running.seating c.args.seat c.requires.taken
+committed_in-committed-requires-clause-seat g c = taken-below c.args.self.now.activations.seating c.requires.sound.running.sound.seating c.args.seat c.requires.taken
 
 pub enter_order-requires : goal.enter_order-requires
 enter_order-requires g c = has_place c.args.self.now c.args.seat c.requires.sound c.requires.taken c.requires.open
@@ -50,15 +49,15 @@ returns-in-Done-clause-sound g c =
     let entered = c.enter_order.new.self in
     let others = c.enter_order.ensures.others in
     let there : activity entered ≡ activity s = ap activity others ∙ c.in_default.ensures.kept in
-    let pool = (activity_of c.commit-in-Done.new.self).reach.pool in
+    let pool = c.commit-in-Done.new.self.reach.pool in
     let order = c.enter_order.ensures.order in
     sound-left s seat c.requires.sound c.requires.taken _ pool 1 c.requires.open
     (record {
       header = ap (λ (n : Session). n.store.header) others ∙ c.commit.ensures.header ∙ ap (λ (store : KeptStore). store.header) c.in_default.ensures.begun;
-      running = c.swap_printed.ensures.sound;
-      live = (reprinted (activity_of c.commit-in-Done.new.self) seat entered.printed).live;
+      running = c.sound-in-Done.ensures;
+      live = (reprinted c.commit-in-Done.new.self seat entered.printed).live;
       is = c.swap_printed.ensures.left
-          ∙ ap (λ (a : Activity). record a { live = (reprinted (activity_of c.commit-in-Done.new.self) seat entered.printed).live }) (c.commit-in-Done.ensures.shape ∙ ap (λ (a : Activity). rolled a seat pool) there);
+          ∙ ap (λ (a : Activity). record a { live = (reprinted c.commit-in-Done.new.self seat entered.printed).live }) (c.commit-in-Done.ensures.shape ∙ ap (λ (a : Activity). rolled a seat pool) there);
       begins = ap (λ (n : Session). n.begins) others;
       turns = ap (λ (n : Session). n.turns) others;
       closed = ap (λ (n : Session). n.closed) others;
@@ -86,7 +85,7 @@ returns-in-Done-clause-went g c = λ begins sure over at.
     let tracks = tracked G s seat c.requires.sound before after over at.now lines gives sure c.record.new.store begun in
     let there : activity entered ≡ activity s = ap activity others ∙ c.in_default.ensures.kept in
     let done = c.commit.ensures.done c.in-Done.is tracks in
-    let pool = (activity_of c.commit-in-Done.new.self).reach.pool in
+    let pool = c.commit-in-Done.new.self.reach.pool in
     let shape = c.commit-in-Done.ensures.shape in
     let follows : KeepsDesk (activity entered) over.committed = subst (λ (a : Activity). KeepsDesk a over.committed) (sym there) at.follows in
     let commits = c.commit-in-Done.ensures.commits over.committed at.now follows
@@ -207,7 +206,7 @@ returns-in-Unwritten-clause-stored g c =
     })
 
 pub swap_printed-requires-clause-seat : goal.swap_printed-requires-clause-seat
-swap_printed-requires-clause-seat g c = taken-below c.args.self.now.activations.seats c.requires.sound.running.seating c.args.seat c.requires.taken
+swap_printed-requires-clause-seat g c = taken-below c.args.self.now.activations.seating c.requires.sound.running.sound.seating c.args.seat c.requires.taken
 
 pub returns-in-Done-clause-stored : goal.returns-in-Done-clause-stored
 returns-in-Done-clause-stored g c =
@@ -223,9 +222,6 @@ returns-in-Doubt-clause-writes g c = writes-more (g.W.Outside.writes c.args.outs
 
 pub returns-in-Unwritten-clause-writes : goal.returns-in-Unwritten-clause-writes
 returns-in-Unwritten-clause-writes g c = writes-more (g.W.Outside.writes c.args.outside.now) (g.W.Outside.writes c.commit.new.outside) 0 c.commit.ensures.only.writes
-
-pub commit-requires-in-Done-clause-sound : goal.commit-requires-in-Done-clause-sound
-commit-requires-in-Done-clause-sound g c = subst running.IsSound (sym (ap activity c.enter_order.ensures.others ∙ c.in_default.ensures.kept)) c.requires.sound.running
 
 pub committed_in-committed-requires-clause-sound : goal.committed_in-committed-requires-clause-sound
 committed_in-committed-requires-clause-sound g c = let s = c.args.self.now in stored-sound s c.requires.sound c.record.new.store (ap (λ (store : KeptStore). store.header) c.in_default.ensures.begun) c.record.new.self c.in_default.ensures.kept c.requires.open s.closed
@@ -245,8 +241,8 @@ returns-in-Done-clause-told g c =
     let entered = c.enter_order.new.self in
     let others = c.enter_order.ensures.others in
     let there : activity entered ≡ activity s = ap activity others ∙ c.in_default.ensures.kept in
-    let pool = (activity_of c.commit-in-Done.new.self).reach.pool in
-    let is : activity_of c.swap_printed.new.self ≡ reprinted (rolled (activity s) seat pool) seat entered.printed =
+    let pool = c.commit-in-Done.new.self.reach.pool in
+    let is : c.swap_printed.new.self ≡ reprinted (rolled (activity s) seat pool) seat entered.printed =
     c.swap_printed.ensures.left ∙ ap (λ (a : Activity). reprinted a seat entered.printed) (c.commit-in-Done.ensures.shape ∙ ap (λ (a : Activity). rolled a seat pool) there) in
     let header = ap (λ (n : Session). n.store.header) others ∙ c.commit.ensures.header ∙ ap (λ (store : KeptStore). store.header) c.in_default.ensures.begun in
     let closed : entered.closed ≡ false = ap (λ (n : Session). n.closed) others ∙ c.requires.open in

@@ -17,8 +17,8 @@ returns-in-Ok-clause-did g c =
     takes G event.Crash (λ desk. Crashed (numbers desk)) (λ number. c.number.result ≡ number) s (record s { store = store; activations = left }) before after (λ over sure.
     let gone = c.forget.ensures.restarts over.committed over.follows in
     let tracks = c.in-Ok.ensures.read.tracks (subst (λ (header : Header). HasHeader (held_of G before) header) (sym c.in-Ok.ensures.header) over.shows.header) sure.honest sure.told in (
-      did-crash G s store c.in-Ok.ensures.header left c.requires.sound before after sure over gone c.in-Ok.ensures.asks.asks tracks,
-      c.number.ensures ∙ number-restarted G s store c.in-Ok.ensures.header left c.requires.sound before after sure over gone c.in-Ok.ensures.asks.asks tracks,
+      did-crash G s store c.in-Ok.ensures.header left c.sound.ensures c.requires.sound before after sure over gone c.in-Ok.ensures.asks.asks tracks,
+      c.number.ensures ∙ number-restarted G s store c.in-Ok.ensures.header left c.sound.ensures c.requires.sound before after sure over gone c.in-Ok.ensures.asks.asks tracks,
     ))
 
 pub returns-in-Ok-clause-damage : goal.returns-in-Ok-clause-damage
@@ -43,7 +43,7 @@ returns-in-Err-DiskFault-clause-did g c =
     let after = c.reopen.new.outside in
     let fault = subst (λ (fault : ReopenFault). IsStoreReopenFault G before after s.store.header fault) c.in-Err-DiskFault.field-0-is c.in-Err-DiskFault.ensures.asks.fault in
     takes G event.Crash (λ desk. CrashFailed (numbers desk)) (λ number. Unit {0}) s (record s { store = store; activations = left; closed = true }) before after
-    (λ over sure. (did-fail-crash G s store c.in-Err-DiskFault.ensures.header left c.requires.sound before after sure over (c.forget.ensures.restarts over.committed over.follows) c.in-Err-DiskFault.ensures.asks.asks fault, tt))
+    (λ over sure. (did-fail-crash G s store c.in-Err-DiskFault.ensures.header left c.sound.ensures c.requires.sound before after sure over (c.forget.ensures.restarts over.committed over.follows) c.in-Err-DiskFault.ensures.asks.asks fault, tt))
 
 pub returns-in-Err-Damaged-clause-undamaged : goal.returns-in-Err-Damaged-clause-undamaged
 returns-in-Err-Damaged-clause-undamaged g c = λ desk offset told shown same.
@@ -53,10 +53,10 @@ returns-in-Err-Damaged-clause-undamaged g c = λ desk offset told shown same.
     undamaged s (held_of G c.args.outside.now) shown.over c.in-Err-Damaged.offset (fault told)
 
 pub returns-in-Ok-clause-sound : goal.returns-in-Ok-clause-sound
-returns-in-Ok-clause-sound g c = let s = c.args.self.now in deserted-sound s c.requires.sound c.reopen.new.self c.in-Ok.ensures.header c.forget.new.self c.forget.ensures.sound c.forget.ensures.deserted c.if-self.false s.closed (λ still. c.in-Ok.ensures.kept.spoiled)
+returns-in-Ok-clause-sound g c = let s = c.args.self.now in deserted-sound s c.requires.sound c.reopen.new.self c.in-Ok.ensures.header c.forget.new.self c.sound.ensures c.forget.ensures.deserted c.if-self.false s.closed (λ still. c.in-Ok.ensures.kept.spoiled)
 
 pub returns-in-Err-Damaged-clause-sound : goal.returns-in-Err-Damaged-clause-sound
-returns-in-Err-Damaged-clause-sound g c = let s = c.args.self.now in deserted-sound s c.requires.sound c.reopen.new.self c.in-Err-Damaged.ensures.header c.forget.new.self c.forget.ensures.sound c.forget.ensures.deserted c.if-self.false true (λ still. cc)
+returns-in-Err-Damaged-clause-sound g c = let s = c.args.self.now in deserted-sound s c.requires.sound c.reopen.new.self c.in-Err-Damaged.ensures.header c.forget.new.self c.sound.ensures c.forget.ensures.deserted c.if-self.false true (λ still. cc)
 
 pub returns-in-Err-DiskFault-clause-sound : goal.returns-in-Err-DiskFault-clause-sound
-returns-in-Err-DiskFault-clause-sound g c = let s = c.args.self.now in deserted-sound s c.requires.sound c.reopen.new.self c.in-Err-DiskFault.ensures.header c.forget.new.self c.forget.ensures.sound c.forget.ensures.deserted c.if-self.false true (λ still. cc)
+returns-in-Err-DiskFault-clause-sound g c = let s = c.args.self.now in deserted-sound s c.requires.sound c.reopen.new.self c.in-Err-DiskFault.ensures.header c.forget.new.self c.sound.ensures c.forget.ensures.deserted c.if-self.false true (λ still. cc)

@@ -27,6 +27,7 @@ is-made g c =
       number = c.number-opened.ensures;
       no_order = c.in_ok-order.ensures.items;
       directory = sym (directory ∙ ap (λ (those : Header). those.directory) header);
+      fitting = c.sound.ensures.frames;
       first = λ committed. subst
           (λ (those : Header). length committed ≡ byte_count those.directory → Begins (activity (made_session g c)) (opened c.args.frames 16 (most_lines those) (let flat : FlatStore = record { directory = those.directory; bytes = committed } in flat)) committed)
           header (c.in_ok-activations.ensures.first committed);

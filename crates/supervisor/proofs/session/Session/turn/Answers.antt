@@ -1,5 +1,7 @@
 use Rattle.supervisor.proofs.Common.{arith, ◌↔◌}
-use Rattle.supervisor.proofs.Lemmas.{◌≡◌, ◌+◌, ℕ, ◌∙◌, None, activity, seat_of, true, false, ap, sym, subst, held_of, most_lines, number_of, IsTurnEnd, LeavesStore, FailsCounted, turn_fails, counts_told, turn_told, HasNumbers, Told, ToldAfterEnd, session_told, number_after, IsOpenOver, Turn, calls-store, did-turn, takes}
+use Rattle.supervisor.proofs.Lemmas.{◌≡◌, ◌+◌, ℕ, ◌∙◌, None, activity, seat_of, true, false, ap, sym, subst, held_of, most_lines, number_of, IsTurnEnd, LeavesStore, turn_fails, counts_told, turn_told, HasNumbers, Told, ToldAfterEnd, session_told, number_after, IsOpenOver, Turn, calls-store, did-turn, takes}
+use Rattle.desk.specs.Kept.{writes_due}
+use Rattle.supervisor.specs.Causes.{UsesDisk}
 use Rattle.desk.specs.declared.answers.TurnEnd.TheVariants.{Idle}
 use Rattle.desk.specs.declared.event.Event.TheVariants as event
 use Rattle.supervisor.proofs.session.Session.turn.Goals as goal
@@ -43,11 +45,14 @@ returns-clause-answer g c = record {
   caused = subst (λ (answer : Turn). IsTurnEnd c.args.activation c.args.limit (most_lines c.args.self.now.store.header) (number_of c.args.self.now.store) answer) (sym c.told-2.ensures) c.end_of_turn-end.ensures.end;
 }
 
-pub returns-clause-failed : goal.returns-clause-failed
-returns-clause-failed g c = subst (λ (answer : Turn). FailsCounted (turn_fails answer.end) (g.W.Outside.disk_faults c.args.outside.now) (g.W.Outside.disk_faults c.end_of_turn-end.new.outside)) (sym c.told-2.ensures) c.end_of_turn-end.ensures.failed
-
-pub returns-clause-calls : goal.returns-clause-calls
-returns-clause-calls g c = calls-store g.W.Outside c.args.self.now.store.header _ c.args.outside.now c.end_of_turn-end.new.outside (ap (λ (told : Told). told.fixed.header) c.end_of_turn-end.ensures.told.others) c.end_of_turn-end.ensures.only c.requires.bytes
+pub returns-clause-disk : goal.returns-clause-disk
+returns-clause-disk g c =
+    let uses : UsesDisk g.W.Outside c.end_of_turn-end.new.self.store.header (writes_due c.end_of_turn-end.result) (turn_fails c.end_of_turn-end.result) c.args.outside.now c.end_of_turn-end.new.outside = record {
+      writes_more = c.end_of_turn-end.ensures.writes;
+      failed = c.end_of_turn-end.ensures.failed;
+      calls = calls-store g.W.Outside c.args.self.now.store.header _ c.args.outside.now c.end_of_turn-end.new.outside (ap (λ (told : Told). told.fixed.header) c.end_of_turn-end.ensures.told.others) c.end_of_turn-end.ensures.only c.requires.bytes;
+    } in
+    subst (λ (answer : Turn). UsesDisk g.W.Outside c.end_of_turn-end.new.self.store.header (writes_due answer.end) (turn_fails answer.end) c.args.outside.now c.end_of_turn-end.new.outside) (sym c.told-2.ensures) uses
 
 pub returns-clause-stored : goal.returns-clause-stored
 returns-clause-stored g c = subst (λ (answer : Turn). LeavesStore g.W.Outside c.args.activation answer.end c.args.self.now.store c.end_of_turn-end.new.self c.args.outside.now c.end_of_turn-end.new.outside) (sym c.told-2.ensures) c.end_of_turn-end.ensures.stored

@@ -1,0 +1,9 @@
+use Rattle.activations.proofs.Lemmas.{IsSound, Activity, subst, frames-fit}
+use Rattle.activations.specs.Follows.{HasFrames}
+use Rattle.activations.proofs.activations.Activations.sound.Goals as goal
+
+pub returns : goal.returns
+returns c = record {
+  sound = subst IsSound c.self.view_is c.self.invariant;
+  frames = subst (λ (a : Activity). HasFrames a.reach) c.self.view_is (frames-fit c.self.inside.unit);
+}
