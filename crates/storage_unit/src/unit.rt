@@ -79,6 +79,7 @@ impl Unit {
     }
 
     /// The directory of the store.
+    #[inline(always)]
     pub fn directory(&self) -> &Directory
         ensures { result.now ≡ (reach_of self.now).directory }
     {
