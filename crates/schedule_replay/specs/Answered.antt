@@ -1,5 +1,5 @@
 -- What a supervisor and an outside are before and after events.
-use Rattle.std.specs.Prelude.{◌≡◌, ◌+◌, ◌^◌, ◌<◌, ◌≤◌, Bool, true, false, List, [], length, All, Result, Ok, Err, IsSome}
+use Rattle.std.specs.Prelude.{◌≡◌, ◌+◌, ◌^◌, ◌<◌, ◌≤◌, Bool, true, false, List, [], length, All, Result, Ok, Err, IsSome, ℕ}
 use Rattle.schedule_replay.specs.Below.{chosen, Elapses, Event, Failed, FailsOnlyCounted, Ghosts, held_of, HoldsStore, Rose, StillTold, Told}
 use Rattle.store_format.specs.Bank.{Faulty, bank_of}
 use Rattle.desk.specs.declared.supervisor.Supervisor as desk
@@ -8,6 +8,8 @@ use Rattle.schedule_replay.specs.declared.events.Going.TheVariants as going
 use Rattle.schedule_replay.specs.declared.events.Replayed.{Replayed}
 use Rattle.schedule_replay.specs.declared.events.Replayed.TheVariants as replayed
 use Rattle.schedule_replay.specs.Asked.{IsAsked, begins_in, turns_in}
+use Rattle.arrayvec.specs.ArrayVec.{ArrayVec}
+use Rattle.desk.specs.Seen.{IsUnbroken}
 
 -- a supervisor that these events may be asked of, one after another
 pub record IsReady {D W : Type 0} (S : desk.Ghosts D) (G : Ghosts W) (events : List Event) (desk : D) (outside : W) : Type 0 where
@@ -16,6 +18,12 @@ pub record IsReady {D W : Type 0} (S : desk.Ghosts D) (G : Ghosts W) (events : L
   pub begins : (S.told desk).given + begins_in events ≤ (S.told desk).fixed.begins
   pub turns : (S.told desk).turns + turns_in events ≤ 2 ^ 32
   pub bytes : HoldsStore G (S.told desk).fixed.header outside
+
+-- these events may be asked of it, and each of its programs has a name, which has no line feed
+pub record CanReplay {D W : Type 0} (S : desk.Ghosts D) (G : Ghosts W) (named : List (ArrayVec ℕ)) (events : List Event) (desk : D) (outside : W) : Type 0 where
+  pub ready : IsReady S G events desk outside
+  pub names : length (S.told desk).fixed.programs ≤ length named
+  pub unbroken : All (λ name. IsUnbroken name.items) named
 
 -- what events make of what a supervisor tells: its opening stays, and its counts rose by the begins and the turns among them at most
 pub record ToldAfter (events : List Event) (old new : Told) : Type 0 where

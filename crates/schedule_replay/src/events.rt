@@ -3,7 +3,7 @@ ghost use Rattle.std.specs.Prelude.{◌≡◌, ◌≤◌, ℕ, List, [], ◌∷�
 ghost use Rattle.schedule_replay.specs.Below.{closing_lines, Desk, End, held_of, IsSure, Left, OnlyPuts, stored_closes, turn_closes};
 ghost use Rattle.desk.specs.Seen.{IsUnbroken};
 ghost use Rattle.desk.specs.declared.event.Event.TheVariants as event;
-ghost use Rattle.schedule_replay.specs.Answered.{IsReady, Answered, GoesBy, GoesShut, is_closed, way_of};
+ghost use Rattle.schedule_replay.specs.Answered.{IsReady, Answered, GoesBy, GoesShut, is_closed, way_of, CanReplay};
 ghost use Rattle.schedule_replay.specs.Puts.{Puts};
 ghost use Rattle.schedule_replay.specs.Ran.{HasOpened};
 ghost use Rattle.schedule_replay.specs.Told.{TellsBy, TellsReport, TellsSome};
@@ -74,9 +74,7 @@ fn put_report<S: Supervisor, W: Outside>(
     events: &[Event],
     outside: &mut W,
 ) -> Result<Going, Failed>
-    requires ready { IsReady S.Supervisor W.Outside events.now desk.old outside.old }
-    requires names { length (S.told desk.old).fixed.programs ≤ length names.now }
-    requires unbroken { All (λ name. IsUnbroken name.items) names.now }
+    requires { CanReplay S.Supervisor W.Outside names.now events.now desk.old outside.old }
     ensures tells { TellsReport W.Outside (map (λ name. name.items) names.now) events.now (S.told desk.old).order (S.told desk.new).order outside.old outside.new is_closed result }
     ensures reports { (start : Desk) → HasOpened S.Supervisor W.Outside desk.old outside.old start → Reports S.Supervisor W.Outside (opening_of (map (λ name. name.items) names.now) (S.told desk.old).fixed start) events.now desk.new (span outside.old outside.new) is_closed result }
     ensures undamaged { (start : Desk) → HasOpened S.Supervisor W.Outside desk.old outside.old start → IfOk result (λ going. is_damaged going ≡ false) }
@@ -119,9 +117,7 @@ fn put_events<S: Supervisor, W: Outside>(
     reporter: &mut Reporter,
     outside: &mut W,
 ) -> Result<Going, Failed>
-    requires ready { IsReady S.Supervisor W.Outside events.now desk.old outside.old }
-    requires names { length (S.told desk.old).fixed.programs ≤ length names.now }
-    requires unbroken { All (λ name. IsUnbroken name.items) names.now }
+    requires { CanReplay S.Supervisor W.Outside names.now events.now desk.old outside.old }
     ensures tells { TellsSome W.Outside (map (λ name. name.items) names.now) events.now (S.told desk.old).order (S.told desk.new).order outside.old outside.new is_closed result }
     ensures answered { Answered S.Supervisor W.Outside events.now desk.old desk.new outside.old outside.new result }
     ensures goes { IfOk result (λ going. GoesBy S.Supervisor W.Outside desk.old desk.new outside.old outside.new going) }
@@ -145,9 +141,7 @@ fn answer<S: Supervisor, W: Outside>(
     reporter: &mut Reporter,
     outside: &mut W,
 ) -> Result<Going, Failed>
-    requires ready { IsReady S.Supervisor W.Outside (event ∷ []) desk.old outside.old }
-    requires names { length (S.told desk.old).fixed.programs ≤ length names.now }
-    requires unbroken { All (λ name. IsUnbroken name.items) names.now }
+    requires { CanReplay S.Supervisor W.Outside names.now (event ∷ []) desk.old outside.old }
     ensures { WentBy S.Supervisor W.Outside (map (λ name. name.items) names.now) event desk.old desk.new (span outside.old outside.new) result }
 {
     match event {

@@ -17,12 +17,12 @@ loop-event-init g c =
       ran = λ start sure shows. ran_none S g.W.Outside g.met.W.Outside.printed_now L.shown_told (map (λ name. name.items) c.args.names.now) (S.told c.args.desk.now).fixed.programs start c.args.desk.now c.args.outside.now sure shows;
     }
 
-pub answer-requires-clause-ready : goal.answer-requires-clause-ready
-answer-requires-clause-ready g c =
-    ready_next g.S.Supervisor g.W.Outside g.met.W.Outside.fewer_later c.args.events.now c.loop-event.event-index (Begin 0 []) c.loop-event-test.true c.args.desk.now c.loop-event.desk c.args.outside.now c.loop-event.outside c.requires.ready c.loop-event.invariant.answered
-
-pub answer-requires-clause-names : goal.answer-requires-clause-names
-answer-requires-clause-names g c = omega (arith, ap (λ (fixed : Fixed). length fixed.programs) c.loop-event.invariant.answered.tells.fixed, c.requires.names)
+pub answer-requires : goal.answer-requires
+answer-requires g c = record {
+  ready = ready_next g.S.Supervisor g.W.Outside g.met.W.Outside.fewer_later c.args.events.now c.loop-event.event-index (Begin 0 []) c.loop-event-test.true c.args.desk.now c.loop-event.desk c.args.outside.now c.loop-event.outside c.requires.ready c.loop-event.invariant.answered;
+  names = omega (arith, ap (λ (fixed : Fixed). length fixed.programs) c.loop-event.invariant.answered.tells.fixed, c.requires.names);
+  unbroken = c.requires.unbroken;
+}
 
 pub returns-in_err-going-clause-answered : goal.returns-in_err-going-clause-answered
 returns-in_err-going-clause-answered g c =
