@@ -1,5 +1,5 @@
 -- The desk that asks where it is refused does what the desk does.
-use Rattle.desk_law.proofs.Common.{◌≡◌, refl, ℕ, zero, suc, ◌+◌, ◌==◌, not, if◌then◌else◌, List, [], ◌∷◌, ◌++◌, length, map, find, Some, arith, ap, sym, subst, and_parts, Plain, after, Program, Event, Turn, Desk, Entry, opened, Word, Counts, Turning, Going, Over, attempts, asks, refused_pages, conflicts_of, instruction, turns, step, IsAmong, IsConsistent, IsOrderly, Memory, after_event, after_turns, after_instruction, memory_of, IsMemory, FindTheirOwn, nat_tests, Turned, Committed, Machine, next_attempt, begun, IsSerial, counts_refused, happening_lines, number_after, Step, asks_for, asks_refused, attempts_by, step_by, before, run_by, InstructionsAskAlike, IsRunOfDesk, RunsAskAlike, RunsStayConsistentBy, RunsAreIsolatedBy, SideBySideIsSerialBy, CommitsTellTheMachineBy, Line}
+use Rattle.desk_law.proofs.Common.{◌≡◌, refl, ℕ, zero, suc, ◌+◌, ◌==◌, not, if◌then◌else◌, List, [], ◌∷◌, ◌++◌, length, find, Some, arith, ap, sym, subst, and_parts, Plain, after, Program, Event, Turn, Desk, Entry, opened, Word, Counts, Turning, Going, Over, attempts, refused_pages, conflicts_of, instruction, turns, step, IsAmong, IsConsistent, IsOrderly, Memory, after_event, after_turns, after_instruction, memory_of, IsMemory, FindTheirOwn, nat_tests, Turned, Committed, Machine, next_attempt, counts_refused, happening_lines, number_after, Step, asks_for, asks_refused, attempts_by, step_by, before, run_by, InstructionsAskAlike, IsRunOfDesk, RunsAskAlike, RunsStayConsistentBy, RunsAreIsolatedBy, SideBySideIsSerialBy, CommitsTellTheMachineBy, Line}
 unfoldable use Rattle.desk_law.specs.Asking.{instruction_by, turns_by}
 use Rattle.desk_law.proofs.Entries.{orderly, among-found}
 use Rattle.desk_law.proofs.TurnsStay.{Stays, resident-consistent, stays-instruction}
@@ -15,8 +15,7 @@ module _ (word : Word) (entry : Entry) (now : Plain) where
     where
       by_refused : (refused : List ℕ) → refused_pages (next_attempt desk entry now) desk ≡ refused
           → asks_for refused (conflicts_of desk entry) word (next_attempt desk entry now) desk counts ≡ counts_refused word (next_attempt desk entry now) desk counts
-      by_refused [] none = sym (unrefused-gets word desk counts entry now is here at none).1
-      by_refused (page ∷ pages) some = ap (λ (refused : List ℕ). asks word (next_attempt desk entry now) refused (conflicts_of desk entry) desk (record counts { locks = counts.locks + length refused })) (sym some)
+      by_refused refused none = grind (arith, nat_tests, unrefused-gets)
 
   row-alike : (desk : Desk) (counts : Counts) → IsOrderly desk → IsAmong desk.active entry → after entry.runs.program entry.runs.args desk.committed entry.rows ≡ Some now
       → attempts_by asks_refused word (next_attempt desk entry now) desk counts ≡ attempts word (next_attempt desk entry now) (next_attempt desk entry now).outcome desk counts
@@ -93,10 +92,7 @@ asking_isolated names programs number frames most_active most_lines store events
 
 pub asking_serial : SideBySideIsSerialBy asks_refused
 asking_serial names programs number frames most_active most_lines store events whole two rest each =
-    let same = runs_alike names programs number frames most_active most_lines store events whole two in
-    subst (λ (all : Desk × List Line × Memory). IsSerial (begun programs (map (λ event. event.0) events ++ rest)) number store all.0.order all.1 (record store { bytes = all.2.committed }) all.0.closed)
-    (λ i. (sym same.desk_is i, sym same.lines_are i, sym same.memory_is i))
-    (side_by_side_is_serial names programs number frames most_active most_lines store (map (λ event. event.0) events ++ rest) events rest whole two (record { prefix = refl; each_open = same.opens each }))
+    grind (arith, nat_tests, runs_alike, side_by_side_is_serial)
 
 pub asking_told : CommitsTellTheMachineBy asks_refused
 asking_told names programs number frames most_active most_lines store events whole two activation limit word counts steps printed =

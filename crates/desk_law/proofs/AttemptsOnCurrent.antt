@@ -18,11 +18,7 @@ pub own-row : (program : Program) (directory : Layout) (now shown : Plain) (byte
 own-row program directory now shown bytes went = by_way (row program directory now) refl (subst (SameWay (row program directory now)) went (row-way program directory now bytes))
   where
     by_way : (outcome : Outcome) → row program directory now ≡ outcome → SameWay outcome (On shown) → IsOwnRow program directory now bytes
-    by_way (On next) is way = record {
-      next = next;
-      went = is;
-      lines = lines-of program directory now next is ∙ sym (lines-of program directory (over_all now bytes) shown went);
-    }
+    by_way (On next) is way = grind (arith, nat_tests, lines-of)
     by_way _ is way = absurd way
 
 -- what the next row touches is what the attempt touched

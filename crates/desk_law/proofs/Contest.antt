@@ -1,5 +1,5 @@
 -- Cycles of waits and their victims.
-use Rattle.desk_law.proofs.Common.{◌≡◌, refl, ℕ, zero, suc, ◌+◌, ◌<◌, ◌≤◌, ◌==◌, ◌⊎◌, not, max, Bool, true, false, List, [], ◌∷◌, ◌++◌, length, filter, map, find, fold, Option, Some, None, arith, ap, sym, ◌∙◌, subst, inl, length-append, eqb-true, eq-eqb, and_parts, not_from_false, not_from_true, has, leads, shown_cycle, victim_of, after-among, Desk, Entry, Grant, rolled_back, numbers, waits_for, Counts, Contest, Contested, Settled, Lost, breaks_cycle, breaks_cycles, IsAmong, IsOrderly, except, IsContending, KeepsPages, nat_tests, both, contest}
+use Rattle.desk_law.proofs.Common.{◌≡◌, refl, ℕ, zero, suc, ◌+◌, ◌<◌, ◌≤◌, ◌==◌, ◌⊎◌, not, max, Bool, true, false, List, [], ◌∷◌, ◌++◌, length, filter, map, find, fold, Option, Some, None, arith, sym, subst, inl, length-append, and_parts, has, leads, shown_cycle, victim_of, after-among, Desk, Entry, Grant, rolled_back, numbers, waits_for, Counts, Contest, Contested, Settled, Lost, breaks_cycle, breaks_cycles, IsAmong, IsOrderly, except, IsContending, KeepsPages, nat_tests, both, contest}
 use Rattle.desk_law.proofs.Entries.{among-filter, filter-among, among-found, none-found, filter-short}
 use Rattle.desk_law.proofs.Walks.{no-cycle-fewer, no-cycle-from, no-cycle-leaves, walk-short}
 use Rattle.desk_law.proofs.Others.{rollback-leaves}
@@ -106,22 +106,12 @@ breaks-all (suc left) one most entry old desk counts named among is enough store
         → next.committed ≡ old.committed → next.most_lines ≡ old.most_lines → KeepsPages one old.authority next.authority → length more.cycles + length next.active ≤ most → Came one most entry old (breaks_cycles left one (Contested next more)))
         → Came one most entry old (breaks_cycles left one (breaks_cycle one cycle desk counts))
     by_cycle None shown later =
-        subst (Came one most entry old) (sym (stays-settled left one desk counts)) (
-          settled one desk is
-              (λ steps. grind (arith, shown-none (waits_for desk) (numbers desk) one shown, walk-short (waits_for desk) (numbers desk) one one steps here)),
-          among,
-          store,
-          limit,
-          keeps,
-          fits_all,
-        )
+        grind (arith, nat_tests, stays-settled left one desk counts, settled one desk is, shown-none, walk-short, here)
     by_cycle (Some cycle) shown later = by_victim (find (λ (entry : Entry). entry.number == victim_of cycle) desk.active) refl (victim_of cycle == one) refl
       where
         one_more : (victim : Entry) → find (λ (entry : Entry). entry.number == victim_of cycle) desk.active ≡ Some victim
             → length (counts.cycles ++ cycle ∷ []) + length (rolled_back desk victim).active ≤ most
-        one_more victim found =
-            let shorter = filter-shorter (λ (other : Entry). not (other.number == victim.number)) desk.active victim in
-            grind (arith, nat_tests, fits_all, length-append counts.cycles (cycle ∷ []), among-found (λ (entry : Entry). entry.number == victim_of cycle) desk.active victim found, shorter)
+        one_more victim found = grind (arith, nat_tests, filter-shorter, length-append, among-found)
 
         by_victim : (victim : Option Entry) → find (λ (entry : Entry). entry.number == victim_of cycle) desk.active ≡ victim
             → (lost : Bool) → (victim_of cycle == one) ≡ lost
@@ -135,16 +125,7 @@ breaks-all (suc left) one most entry old desk counts named among is enough store
               one_more victim found,
             )
         by_victim (Some victim) found false e =
-            let (at, passes) = among-found (λ (entry : Entry). entry.number == victim_of cycle) desk.active victim found in
-            let victim_is : victim.number ≡ victim_of cycle = eqb-true victim.number (victim_of cycle) passes in
-            let apart : (entry.number == victim.number) ≡ false = grind (arith, nat_tests, e, victim_is, named) in
-            later (rolled_back desk victim) (record counts { cycles = counts.cycles ++ cycle ∷ [] })
-            (filter-among (λ (other : Entry). not (other.number == victim.number)) desk.active entry among (not_from_false (entry.number == victim.number) apart))
-            (rolled-contending one desk victim is)
-            (omega (arith, enough, filter-shorter (λ (other : Entry). not (other.number == victim.number)) desk.active victim at (not_from_true (victim.number == victim.number) (eq-eqb victim.number victim.number refl))))
-            store limit
-            (freed-keeps one victim.number old.authority desk.authority (ap (λ (n : ℕ). n == one) victim_is ∙ e) keeps)
-            (one_more victim found)
+            grind (arith, nat_tests, among-found, filter-among, rolled-contending one desk victim is, filter-shorter, freed-keeps one victim.number old.authority desk.authority, one_more victim found)
 
 -- what each round of a contest keeps, the contest keeps
 pub breaks-keep : (P : Contest → Type 0) (number : ℕ) → ((desk : Desk) (counts : Counts) → P (Contested desk counts) → P (breaks_cycle number (shown_cycle (waits_for desk) (numbers desk) number) desk counts))

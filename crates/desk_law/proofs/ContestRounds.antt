@@ -1,5 +1,5 @@
 -- A contest round by round: a loop that looks for one cycle at a time goes through the same desks as the definition.
-use Rattle.desk_law.proofs.Common.{◌≡◌, refl, ℕ, zero, suc, ◌≤◌, ◌<◌, ◌==◌, not, Bool, true, false, List, [], ◌∷◌, ◌++◌, length, find, Option, Some, None, arith, ap, sym, shown_cycle, victim_of, Desk, Entry, with_entry, rolled_back, numbers, waits_for, Word, Counts, Attempt, Contested, Settled, Lost, breaks_cycle, breaks_cycles, contest_ends, asks, IsAmong, contest, IsUnderWay, IsOrderly, nat_tests}
+use Rattle.desk_law.proofs.Common.{◌≡◌, refl, ℕ, zero, suc, ◌≤◌, ◌<◌, ◌==◌, not, Bool, true, false, List, [], ◌∷◌, ◌++◌, length, find, Option, Some, None, arith, shown_cycle, victim_of, Desk, Entry, with_entry, rolled_back, numbers, waits_for, Word, Counts, Attempt, Contested, Settled, Lost, breaks_cycle, breaks_cycles, contest_ends, asks, IsAmong, contest, IsUnderWay, IsOrderly, nat_tests}
 use Rattle.desk_law.proofs.Contest.{contending, settled, rolled-contending, gone-consistent, freed-keeps, stays-settled, stays-lost, filter-shorter, some-active, shown-victim, shown-none, left_over}
 use Rattle.desk_law.proofs.Entries.{among-found, none-found, new-among}
 use Rattle.desk_law.proofs.GoesOn.{length-replaced, marked-contending}
@@ -89,8 +89,7 @@ pub asks-contest : (word : Word) (attempt : Attempt) (refused : List ℕ) (holde
     → asks word attempt refused (holder ∷ holders) desk counts
     ≡ contest_ends word attempt refused (contest attempt.entry.number (with_entry desk (record attempt.entry { waiting = true })) counts)
 asks-contest word attempt refused holder holders desk counts =
-    ap (λ (n : ℕ). contest_ends word attempt refused (breaks_cycles n attempt.entry.number (Contested (with_entry desk (record attempt.entry { waiting = true })) counts)))
-    (sym (length-replaced (record attempt.entry { waiting = true }) desk.active))
+    grind (arith, nat_tests, length-replaced (record attempt.entry { waiting = true }) desk.active)
 
 -- as it begins
 pub under-way : (desk : Desk) (entry : Entry) → IsOrderly desk → IsAmong desk.active entry
@@ -120,9 +119,7 @@ round-under_way old desk entry victim cycle is found other =
 -- where it is settled the desk is consistent, with the mark on
 pub settled-consistent : (old desk : Desk) (entry : Entry) → IsUnderWay old desk entry → shown_cycle (waits_for desk) (numbers desk) entry.number ≡ None → IsOrderly desk
 settled-consistent old desk entry is shown =
-    let none = shown-none (waits_for desk) (numbers desk) entry.number shown in
-    let short = λ (steps : ℕ). walk-short (waits_for desk) (numbers desk) entry.number entry.number steps (has-number desk.active entry is.here) in
-    settled entry.number desk is.contending (λ steps. grind (arith, none, short steps))
+    grind (arith, nat_tests, shown-none, walk-short, has-number desk.active entry is.here, settled entry.number desk is.contending)
 
 -- and where it is lost
 pub lost-consistent : (old desk : Desk) (entry victim : Entry) (cycle : List ℕ) → IsUnderWay old desk entry → entry_with (victim_of cycle) desk ≡ Some victim → (victim_of cycle == entry.number) ≡ true

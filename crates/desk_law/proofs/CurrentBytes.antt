@@ -1,5 +1,5 @@
 -- All lines as they are now, end to end.
-use Rattle.desk_law.proofs.Common.{if◌then◌else◌, ◌≡◌, refl, ℕ, zero, suc, ◌+◌, ◌*◌, ◌/◌, ◌<◌, ◌≤◌, List, [], length, take, drop, slice_range, flat_map, range_with_len, arith, sym, ◌∙◌, length-append, same_number_lists, length-take, length-drop, take_at, line_bytes, Layout, byte_count, FlatStore, IsWhole, line_count, line_in, after-whole, in_line, Desk, Entry, has, laid, IsCurrent, current_bytes, nat_tests, drop-append-add, take-nil}
+use Rattle.desk_law.proofs.Common.{if◌then◌else◌, ◌≡◌, ℕ, zero, suc, ◌+◌, ◌*◌, ◌<◌, ◌≤◌, List, [], length, take, drop, slice_range, flat_map, range_with_len, arith, sym, ◌∙◌, length-append, same_number_lists, length-take, length-drop, take_at, line_bytes, Layout, byte_count, FlatStore, IsWhole, line_count, line_in, after-whole, in_line, Desk, Entry, has, laid, IsCurrent, current_bytes, nat_tests, drop-append-add, take-nil}
 use Rattle.std.proofs.Math.ListN.{drop_of_length-le}
 use Rattle.std.proofs.Math.Nat.{mul-le-mul_right}
 use Rattle.lines.proofs.WithinLemmas.{byte_count-lines, line-bytes-pos}
@@ -11,21 +11,14 @@ line-part lb line xs = grind (arith, nat_tests)
 -- the length of pieces of one length
 pieces-long : (lb : ℕ) (f : ℕ → List ℕ) (low n : ℕ) → ((line : ℕ) → low ≤ line → line < low + n → length (f line) ≡ lb) → length (flat_map f (range_with_len low n)) ≡ n * lb
 pieces-long lb f low zero each = omega arith
-pieces-long lb f low (suc n) each =
-    length-append (f low) (flat_map f (range_with_len (low + 1) n))
-    ∙ (λ i. each low (omega arith) (omega arith) i + pieces-long lb f (low + 1) n (λ line above below. each line (omega (arith, above)) (omega (arith, below))) i)
-    ∙ omega arith
+pieces-long lb f low (suc n) each = grind (arith, nat_tests, length-append, pieces-long lb f (low + 1) n)
 
 -- one of the pieces
 piece-at : (lb : ℕ) (f : ℕ → List ℕ) (low n k : ℕ) → ((line : ℕ) → low ≤ line → line < low + n → length (f line) ≡ lb) → k < n
     → take lb (drop (k * lb) (flat_map f (range_with_len low n))) ≡ f (low + k)
 piece-at lb f low zero k each below = absurd (omega (arith, below))
 piece-at lb f low (suc n) zero each below = grind (arith, nat_tests, take_at)
-piece-at lb f low (suc n) (suc k) each below =
-    let long : length (f low) ≡ lb = each low (omega arith) (omega arith) in
-    let place : suc k * lb ≡ length (f low) + k * lb = omega (arith, long) in
-    let next : low + 1 + k ≡ low + suc k = omega arith in
-    cc (drop-append-add (f low) (flat_map f (range_with_len (low + 1) n)) (k * lb), piece-at lb f (low + 1) n k (λ line above under. each line (omega (arith, above)) (omega (arith, under))) (omega (arith, below)))
+piece-at lb f low (suc n) (suc k) each below = grind (arith, nat_tests, drop-append-add, piece-at lb f (low + 1) n k)
 
 -- a line within has all its bytes, and one beyond has none
 line-long : (d : Layout) (xs : List ℕ) (line : ℕ) → length xs ≡ byte_count d → line < line_count d → length (line_in d xs line) ≡ line_bytes d.page
@@ -42,12 +35,7 @@ lines-joined d f full none = grind (arith, nat_tests, line-part, piece-at, line-
 -- bytes of a store that have the same lines are the same
 pub same-lines : (d : Layout) (bytes other : List ℕ) → length bytes ≡ byte_count d → length other ≡ byte_count d → ((line : ℕ) → line_in d bytes line ≡ line_in d other line) → bytes ≡ other
 same-lines d bytes other long also same =
-    grind (
-      arith,
-      nat_tests,
-      same_number_lists bytes other (long ∙ sym also) (λ k below. in_line (line_bytes d.page) (k / line_bytes d.page) k bytes other refl (line-bytes-pos d) (same (k / line_bytes d.page))),
-      line-bytes-pos d,
-    )
+    grind (arith, nat_tests, same_number_lists bytes other, in_line (line_bytes d.page), line-bytes-pos d)
 
 pub bytes-current : (desk : Desk) → IsWhole desk.committed → IsCurrent desk.committed desk.active (current_bytes desk)
 bytes-current desk whole = grind (arith, nat_tests, lines-joined, line-long, line-beyond, after-whole)

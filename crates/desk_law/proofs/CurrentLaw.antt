@@ -39,10 +39,8 @@ module _ (desk : Desk) (most : ℕ) (entry : Entry) (mark : Bool) (now next : Pl
       cc (runs.went, one-current desk.committed (replaced (gone_on entry) desk.active) runs.other (current_bytes (with_entry desk (gone_on entry))) runs.is_current (bytes-current (with_entry desk (gone_on entry)) whole))
 
 pub one-list-is-current : OneListIsCurrent
-one-list-is-current desk is = (
-  bytes-current desk is.whole,
-  λ bytes current. one-current desk.committed desk.active bytes (current_bytes desk) current (bytes-current desk is.whole),
-)
+one-list-is-current desk is =
+    grind (arith, nat_tests, bytes-current desk is.whole, one-current desk.committed desk.active)
 
 pub holders_see_current : HoldersSeeCurrent
 holders_see_current desk entry state line is here at holds = grind (arith, nat_tests, current-held desk.committed desk.most_lines desk.next desk.active is.active entry state line is.whole here)

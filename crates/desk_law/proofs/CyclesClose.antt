@@ -12,8 +12,7 @@ use Rattle.desk_law.proofs.Waiting.{has-number}
 first-arrival : (waits : ℕ → ℕ → Bool) (all : List ℕ) (to steps from : ℕ) → (from == to) ≡ false → leads waits all steps from to ≡ true → leads (except to waits) all steps from to ≡ true
 first-arrival waits all to zero from apart walk = absurd (cc)
 first-arrival waits all to (suc steps) from apart walk =
-    let first = first-step waits all steps from to walk in
-    grind (arith, nat_tests, first.there, first.step, first.rest, first-arrival waits all to steps first.next, one-step (except to waits) all steps from to first.next)
+    grind (arith, nat_tests, first-step, one-step, first-arrival waits all to steps (first-step waits all steps from to walk).next)
 
 -- one that passes is found
 some-found : (test : ℕ → Bool) (all : List ℕ) (x : ℕ) → has all x ≡ true → test x ≡ true → (y : ℕ) × (find test all ≡ Some y)

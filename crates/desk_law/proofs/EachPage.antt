@@ -14,8 +14,7 @@ pub each-is : (of : ℕ → Grant) (pages : List ℕ) (authority : List Grant) (
     → slice_index_or (with_each of pages authority) page nobody ≡ of page
 each-is of [] authority page below inside = absurd (cc)
 each-is of (one ∷ pages) authority page below inside =
-    let set = slice_set authority one (of one) in
-    grind (arith, nat_tests, each-is of pages set page, each-not of pages set page, length-set authority one (of one), get_or-set_same authority one (of one) nobody)
+    grind (arith, nat_tests, each-not, length-set, get_or-set_same, each-is of pages (slice_set authority one (of one)) page)
 
 -- What holds of nobody, of what is told of a page that is among these, and of what any other page had, holds of what the page has.
 pub each-all : (P : Grant → Type 0) (of : ℕ → Grant) (pages : List ℕ) (authority : List Grant) (page : ℕ) → P nobody → (has pages page ≡ true → P (of page))

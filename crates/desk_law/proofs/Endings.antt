@@ -1,5 +1,5 @@
 -- A commit, a begin and a crash leave the desk consistent.
-use Rattle.desk_law.proofs.Common.{Some, ◌≡◌, refl, ℕ, zero, suc, ◌+◌, ◌<◌, ◌==◌, not, Bool, true, false, List, [], ◌∷◌, ◌++◌, length, map, replicate, slice_index_or, None, arith, ap, sym, ◌∙◌, subst, inl, inr, both_ways, or_from, and_right, false_from_ne_true, page_count, is_fine_page, FlatStore, IsWhole, has, meets, Lines, no_lines, conflicts, both, with_whole_pages, append-nil, leads, Plain, start, after, Commit, row, after-whole, Desk, Entry, Grant, nobody, opened, rolled_back, ended, wanted, requested, conflicts_with, numbers, waits_for, Attempt, lowered, locks_with, absent_segment, committed_at, gone_on, left_by, IsAmong, Ascend, due_to, IsLive, AreApart, AreConsistent, IsCovered, IsOwned, IsHeld, IsOrderly, except, touched_of, nat_tests, Activation}
+use Rattle.desk_law.proofs.Common.{Some, ◌≡◌, refl, ℕ, zero, suc, ◌+◌, ◌<◌, ◌==◌, not, Bool, true, false, List, [], ◌∷◌, ◌++◌, length, map, replicate, slice_index_or, None, arith, ap, sym, ◌∙◌, subst, inl, inr, both_ways, or_from, and_right, false_from_ne_true, page_count, FlatStore, IsWhole, has, meets, no_lines, conflicts, append-nil, leads, Plain, start, after, Commit, row, after-whole, Desk, Entry, Grant, nobody, opened, rolled_back, ended, wanted, requested, conflicts_with, numbers, waits_for, Attempt, absent_segment, committed_at, gone_on, left_by, IsAmong, Ascend, due_to, IsLive, AreApart, AreConsistent, IsCovered, IsOwned, IsHeld, IsOrderly, except, nat_tests, Activation}
 use Rattle.desk_law.proofs.Entries.{among-push, push-among, ascend-push, between, one-entry, among-replaced, replaced-among, new-among, replaced, filter-short}
 use Rattle.desk_law.proofs.Walks.{no-cycle-fewer, no-cycle-leaves, first-step, one-step}
 use Rattle.desk_law.proofs.Others.{among-others, others, another-stays, commit-leaves, rollback-leaves}
@@ -70,16 +70,10 @@ granted-closes desk attempt is went = record {
 
     -- the commit call writes nothing, so no write bit goes off
     held : IsHeld desk.committed (replaced (gone_on attempt.entry) desk.active) desk.authority
-    held =
-        subst (IsHeld desk.committed (replaced (gone_on attempt.entry) desk.active))
-        (ap (λ (lines : Lines). lowered (is_fine_page desk.committed.directory) (record attempt { lines = lines }) (locks_with (record attempt { lines = lines }) desk) desk.authority) (is.lines ∙ no_lines_wanted))
-        is.held
+    held = grind (arith, nat_tests, replaced, no_lines_wanted)
 
     due : due_to desk.committed (gone_on attempt.entry) ≡ due_to desk.committed attempt.entry
-    due =
-        due-more desk.committed attempt.entry
-        ∙ ap (λ (lines : Lines). with_whole_pages (is_fine_page desk.committed.directory) (both (touched_of desk.committed attempt.entry) lines)) no_lines_wanted
-        ∙ (λ i. with_whole_pages (is_fine_page desk.committed.directory) (record { reads = append-nil (touched_of desk.committed attempt.entry).reads i; writes = append-nil (touched_of desk.committed attempt.entry).writes i }))
+    due = grind (arith, nat_tests, due-more, no_lines_wanted, append-nil)
 
     owned : (page : ℕ) → IsOwned (replaced (gone_on attempt.entry) desk.active) (slice_index_or desk.authority page nobody) → IsOwned desk.active (slice_index_or desk.authority page nobody)
     owned page (inl none) = inl none
@@ -135,8 +129,7 @@ begin-waits desk runs from to waits =
 -- whoever is waited for is active
 pub waited-active : (desk : Desk) (from to : ℕ) → waits_for desk from to ≡ true → has (numbers desk) to ≡ true
 waited-active desk from to waits =
-    let by = waits-by desk from to waits in
-    grind (arith, nat_tests, has-number desk.active by.other by.other_among, by.is_to)
+    grind (arith, nat_tests, waits-by desk from to waits, has-number desk.active)
 
 -- waits that end in a set lead as far among its numbers alone
 leads-among : (waits narrow : ℕ → ℕ → Bool) (all set : List ℕ)
@@ -144,8 +137,7 @@ leads-among : (waits narrow : ℕ → ℕ → Bool) (all set : List ℕ)
     → (steps from to : ℕ) → leads waits all steps from to ≡ true → leads narrow set steps from to ≡ true
 leads-among waits narrow all set wide among zero from to walk = absurd (cc)
 leads-among waits narrow all set wide among (suc steps) from to walk =
-    let first = first-step waits all steps from to walk in
-    grind (arith, first.step, first.rest, among from first.next, wide from first.next, one-step narrow set steps from to first.next, leads-among waits narrow all set wide among steps first.next to)
+    grind (arith, nat_tests, first-step, one-step, leads-among waits narrow all set wide among steps (first-step waits all steps from to walk).next to)
 
 -- An activation begins.
 pub begins-consistent : (desk : Desk) (runs : Activation) → IsOrderly desk → length desk.active < desk.most_active

@@ -1,5 +1,5 @@
 -- Who ends in a turn: victims, and the turn's own activation.
-use Rattle.desk_law.proofs.Common.{◌≡◌, refl, ℕ, zero, suc, ◌==◌, ◌⊎◌, not, Bool, true, false, List, [], ◌∷◌, ◌++◌, length, map, filter, find, Option, Some, None, eqb-true, eq-eqb, not_from_false, cases_Bool, has, victim_of, Plain, Outcome, On, Check, after, Desk, Entry, with_entry, numbers, Word, Counts, Turning, Going, Over, Attempt, Fetching, Contest, Contested, Settled, Lost, attempts, attempts_at, instruction, turns, limited, is_over_limit, fetches_touched, asks, gets, goes_on, takes_effect, contest_ends, waits_or_gets, with_grants, breaks_cycles, gone_on, turn_desk, turn_counts, ends_own, IsAccounted, EndsHaveCauses, nat_tests, arith, before, contest}
+use Rattle.desk_law.proofs.Common.{◌≡◌, refl, ℕ, zero, suc, ◌==◌, ◌⊎◌, not, Bool, true, List, [], ◌∷◌, ◌++◌, length, map, filter, find, Option, Some, None, eqb-true, eq-eqb, not_from_false, cases_Bool, has, victim_of, Plain, Outcome, On, Check, after, Desk, Entry, with_entry, numbers, Word, Counts, Turning, Going, Over, Attempt, Fetching, Contest, Contested, Settled, Lost, attempts, attempts_at, instruction, turns, limited, is_over_limit, fetches_touched, asks, gets, goes_on, takes_effect, contest_ends, waits_or_gets, with_grants, breaks_cycles, gone_on, turn_desk, turn_counts, ends_own, IsAccounted, EndsHaveCauses, nat_tests, arith, before, contest}
 use Rattle.desk_law.proofs.Entries.{among-found, filter-among, numbers-replaced}
 use Rattle.desk_law.proofs.Waiting.{number-of, has-number}
 use Rattle.desk_law.proofs.Contest.{without, VictimsKeep, victims-keep}
@@ -50,8 +50,7 @@ breaks-kept before left number contest kept = victims-keep (ContestKept before) 
         grind (arith, nat_tests, kept other inside, left-active desk victim.number other, among-found (λ (entry : Entry). entry.number == victim_of cycle) desk.active victim found, has-last counts.cycles cycle other, has-more counts.cycles cycle other)
 
     by_victim : VictimsKeep (ContestKept before) number
-    by_victim desk counts cycle victim true kept found e = more desk counts cycle victim kept found
-    by_victim desk counts cycle victim false kept found e = more desk counts cycle victim kept found
+    by_victim desk counts cycle victim given4 kept found e = grind (arith, nat_tests, more)
 
 module _ (word : Word) (attempt : Attempt) (before : List ℕ) where
   accounts : (desk : Desk) (counts : Counts) (other : ℕ) → IsKept desk counts other → IsAccounted attempt.entry.number (Going desk counts) other
@@ -107,8 +106,7 @@ acc-turns : (word : Word) (before : List ℕ) (number left : ℕ) (turning : Tur
 unfolding turns
 acc-turns word before number zero (Going desk counts) accounted = grind (arith, nat_tests)
 acc-turns word before number (suc left) (Going desk counts) accounted =
-    acc-turns word before number left (instruction word (find (λ (entry : Entry). entry.number == number) desk.active) desk counts)
-    (acc-instruction word before number (find (λ (entry : Entry). entry.number == number) desk.active) desk counts refl (λ other inside. grind (arith, accounted other inside)))
+    grind (arith, nat_tests, acc-instruction, acc-turns word before number left (instruction word (find (λ (entry : Entry). entry.number == number) desk.active) desk counts))
 acc-turns word before number _ (Over desk counts ending) accounted = accounted
 
 pub ends_have_causes : EndsHaveCauses

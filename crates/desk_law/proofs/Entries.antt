@@ -89,10 +89,7 @@ pub one-entry : (above below : ℕ) (entries : List Entry) (entry other : Entry)
     → IsAmong entries entry → IsAmong entries other → entry.number ≡ other.number → entry ≡ other
 one-entry above below [] entry other up first second same = absurd first
 one-entry above below (one ∷ entries) entry other up first second same =
-    let low = between one.number below entries entry up.1 in
-    let high = between one.number below entries other up.1 in
-    let rest = λ (here : IsAmong entries entry) (there : IsAmong entries other). one-entry one.number below entries entry other up.1 here there same in
-    grind (arith, low, high, rest)
+    grind (arith, nat_tests, between, one-entry one.number below entries entry other up.1)
 
 -- an active entry is found by its number
 pub found-among : (below : ℕ) (entries : List Entry) (entry : Entry) → Ascend 0 entries below → IsAmong entries entry

@@ -12,7 +12,4 @@ pub fetched-for : (word : Word) (frames : ℕ) (kept pages resident new : List �
     → Reads word count → fetches word frames kept pages resident counted ≡ Fetched new count
 fetched-for word frames kept [] resident new counted count is reads = is
 fetched-for word frames kept (page ∷ pages) resident new counted count is reads =
-    let here = λ (there : fetches Fine frames kept pages resident counted ≡ Fetched new count). fetched-for word frames kept pages resident new counted count there reads in
-    let came = λ (there : fetches Fine frames kept pages (brought frames kept resident page) (counted + 1) ≡ Fetched new count). fetched-for word frames kept pages (brought frames kept resident page) new (counted + 1) count there reads in
-    let readable = λ (there : fetches Fine frames kept pages (brought frames kept resident page) (counted + 1) ≡ Fetched new count). reads (counted + 1) (fetched-few Fine frames kept pages (brought frames kept resident page) new (counted + 1) count there).0 in
-    grind (arith, here, came, readable)
+    grind (arith, nat_tests, fetched-few, fetched-for word frames kept pages resident new counted count, fetched-for word frames kept pages (brought frames kept resident page) new (counted + 1) count)

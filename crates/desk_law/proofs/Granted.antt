@@ -1,5 +1,5 @@
 -- Once the refused pages are granted, every line of the row is permitted.
-use Rattle.desk_law.proofs.Common.{◌≡◌, refl, ℕ, ◌<◌, ◌==◌, not, if◌then◌else◌, Bool, true, false, List, length, filter, slice_index_or, list_any, ap, ◌∙◌, inl, inr, eq-eqb, both_ways, and_from, or_parts, cases_Bool, not-false, false_from_ne_true, has, permits, Lines, within_page, page_of_line, pages_of, any-at, has-filter, has_left, has_right, has-within_page, pages_of-line, all_of, Grant, nobody, Attempt, grant_by, fine_grant_by, given, granted, refuses, lines_within, touched_pages, lets, ArePermitted, KeepsPages, nat_tests, arith, before}
+use Rattle.desk_law.proofs.Common.{◌≡◌, refl, ℕ, ◌<◌, ◌==◌, not, Bool, true, false, List, length, filter, slice_index_or, list_any, ap, ◌∙◌, inl, inr, eq-eqb, both_ways, and_from, or_parts, cases_Bool, not-false, false_from_ne_true, has, permits, Lines, within_page, page_of_line, any-at, has-filter, has_left, has_right, has-within_page, pages_of-line, all_of, Grant, nobody, Attempt, grant_by, given, granted, refuses, lines_within, touched_pages, lets, ArePermitted, KeepsPages, nat_tests, arith, before}
 use Rattle.desk_law.proofs.EachPage.{each-is, each-not}
 
 read-there : (same bit : Bool) → same ≡ true → permits same true bit false ≡ true
@@ -27,18 +27,8 @@ given-reads fine attempt locks line inside = grind (arith, nat_tests, read-there
 
 given-writes : (fine : ℕ → Bool) (attempt : Attempt) (locks : Lines) (line : ℕ) → has attempt.lines.writes line ≡ true → has locks.writes line ≡ true
     → lets (given fine attempt locks (page_of_line line)) attempt.entry.number line true ≡ true
-given-writes fine attempt locks line writes inside = by_fine (fine (page_of_line line)) (has (pages_of attempt.lines.writes) (page_of_line line)) (pages_of-line attempt.lines.writes line writes)
-  where
-    by_fine : (is_fine storing : Bool) → storing ≡ true
-        → lets
-        (if is_fine
-        then fine_grant_by attempt.entry.number storing (within_page (page_of_line line) locks.reads) (within_page (page_of_line line) locks.writes)
-        else grant_by attempt.entry.number (within_page (page_of_line line) locks.reads) (within_page (page_of_line line) locks.writes))
-        attempt.entry.number line true
-        ≡ true
-    by_fine true true e = write-here (attempt.entry.number == attempt.entry.number) (has (within_page (page_of_line line) locks.writes) line) (eq-eqb attempt.entry.number attempt.entry.number refl) (inside-page locks.writes line inside)
-    by_fine true false e = absurd (cc)
-    by_fine false storing e = lets-stores attempt.entry.number (within_page (page_of_line line) locks.reads) (within_page (page_of_line line) locks.writes) line (inside-page locks.writes line inside)
+given-writes fine attempt locks line writes inside =
+    grind (arith, nat_tests, pages_of-line, write-here, inside-page, lets-stores)
 
 owns : (same write bit store : Bool) → permits same write bit store ≡ true → same ≡ true
 owns same write bit store h1 = grind (arith, nat_tests)

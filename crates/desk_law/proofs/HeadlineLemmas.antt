@@ -1,5 +1,5 @@
 -- What a crash leaves of a run from an opening.
-use Rattle.desk_law.proofs.Common.{false, not, Bool, ◌%◌, ◌^◌, take_at, map-append, Program, serial, Stands, Event, begun, IsSerial, stands, standing_of, fine_step, Desk, opened, Word, Fine, Doubt, event_lines, run, step, IsRunOf, OpenBeforeEach, IsStage, nat_tests, ◌≡◌, ℕ, ◌+◌, ◌<◌, List, [], ◌∷◌, ◌++◌, length, map, take, refl, sym, ap, ◌∙◌, arith, length-append, append-nil, append_assoc, Some, IsTrue, Activation, FlatStore, run_serial}
+use Rattle.desk_law.proofs.Common.{false, not, Bool, ◌%◌, ◌^◌, take_at, map-append, Program, serial, Stands, Event, begun, stands, standing_of, fine_step, Desk, opened, Word, Fine, Doubt, run, step, IsRunOf, OpenBeforeEach, IsStage, nat_tests, ◌≡◌, ℕ, ◌+◌, ◌<◌, List, [], ◌∷◌, ◌++◌, length, map, take, refl, sym, ap, ◌∙◌, arith, length-append, append-nil, append_assoc, Some, IsTrue, Activation, FlatStore, run_serial}
 use Rattle.store_format.proofs.Sound.{stood_header}
 use Rattle.desk_law.specs.Headline.{IsFirst, IsPrefix, LeftIsPrefix, DoubtIsWhole}
 use Rattle.desk_law.proofs.RunLemmas.{run_on}
@@ -10,10 +10,7 @@ open_serial : (programs : List Program) (number frames most most_lines : ℕ) (s
     → IsRunOf programs events (opened frames most most_lines store) taken rest → (run programs taken (opened frames most most_lines store)).closed ≡ false
     → serial (begun programs events) (run programs taken (opened frames most most_lines store)).order store ≡ Some (run programs taken (opened frames most most_lines store)).committed
 open_serial programs number frames most most_lines store events taken rest is_run still =
-    let start = opened frames most most_lines store in
-    let desk = run programs taken start in
-    let it : IsSerial (begun programs events) number store desk.order (event_lines [] programs number taken start) desk.committed desk.closed = run_serial [] programs number frames most most_lines store events taken rest is_run in
-    ap (λ (order : List (ℕ × ℕ)). serial (begun programs events) order store) (it.order_is ∙ ap (λ (back : List (ℕ × ℕ)). it.done ++ back) (it.none_open still) ∙ append-nil it.done) ∙ it.leaves
+    grind (arith, nat_tests, run_serial [] programs number frames most most_lines store events taken rest is_run, append-nil (run_serial [] programs number frames most most_lines store events taken rest is_run).done)
 
 -- what stands for the store at the start has none of an order's commits
 pub start_is_prefix : (activations : List Activation) (number : ℕ) (store : FlatStore) (order : List (ℕ × ℕ)) (image seen : List ℕ) → stands image ≡ Stands number store → seen ≡ [] → IsPrefix activations number store order [] image seen

@@ -79,7 +79,5 @@ module _ (store : FlatStore) (entries : List Entry) (locks requests : ℕ → Li
   pub kept-commit : (most_lines next : ℕ) (entry : Entry) (now : Plain) → IsWhole store → AreConsistent store most_lines next entries → IsAmong entries entry
       → after entry.runs.program entry.runs.args store entry.rows ≡ Some now
       → AreKept (left_by store now) (others entry entries) locks requests
-  kept-commit most_lines next entry now whole consistent here is = record {
-    held = λ other among. grind (arith, among-others entry entries other among, another-stays store most_lines next entries entry other now whole consistent here, are.held other);
-    asked = λ other among waits. grind (arith, among-others entry entries other among, another-stays store most_lines next entries entry other now whole consistent here, are.asked other);
-  }
+  kept-commit most_lines next entry now whole consistent here is =
+      grind (arith, nat_tests, among-others entry entries, another-stays store most_lines next entries entry)

@@ -31,9 +31,7 @@ module _ (desk : Desk) (number : ℕ) (lines : Lines) (are : AreThere desk numbe
 -- what is permitted is held: the request of a row whose lines are there is among the locks due already
 pub there-held : (desk : Desk) (entry : Entry) → IsOrderly desk → IsAmong desk.active entry → AreThere desk entry.number (wanted desk entry)
     → ArePart (requested desk.committed entry) (due_to desk.committed entry)
-there-held desk entry is here are =
-    permitted-held desk entry is here
-    (record { reads = λ line inside. (are.reads line inside).permits; writes = λ line inside. (are.writes line inside).permits })
+there-held desk entry is here are = grind (arith, nat_tests, permitted-held desk entry is here)
 
 filter-none-here : (test : ℕ → Bool) (xs : List ℕ) → ((x : ℕ) → has xs x ≡ true → test x ≡ false) → filter test xs ≡ []
 filter-none-here test [] none = refl

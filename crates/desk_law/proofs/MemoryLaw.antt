@@ -1,5 +1,5 @@
 -- The law of isolation.
-use Rattle.desk_law.proofs.Common.{◌≤◌, ◌≡◌, refl, ℕ, zero, suc, ◌+◌, ◌<◌, ◌==◌, ◌||◌, if◌then◌else◌, Bool, true, false, List, [], ◌∷◌, ◌++◌, length, map, find, Option, Some, None, slice_get, arith, ap, sym, ◌∙◌, subst, inl, inr, eqb-true, ne_eqb, ltb-true, cond-false, FlatStore, IsWhole, has, Program, start, after, Event, Begin, Turn, Checkpoint, Crash, Desk, Entry, opened, numbers, Word, Failed, Counts, Turning, Going, Over, Idle, Committed, Attempt, instruction, turns, turn_of, no_counts, Turned, Nothing, turned, begin_if, absent_segment, restarted, event_of, step, run, gone_on, row_done, IsAmong, IsConsistent, current_bytes, turn_desk, Machine, Memory, first_machine, with_machine, given_back, row_of, after_instruction, after_turns, after_event, memory_after, memory_of, IsAlone, IsMemory, FindTheirOwn, RunsAreIsolated, CommitsTellTheMachine, SideBySideIsSerial, IsOrderly, nat_tests, next_attempt, begun, IsSerial, event_lines, cases_Bool, granted, printed, Activation, run_serial}
+use Rattle.desk_law.proofs.Common.{◌≤◌, ◌≡◌, refl, ℕ, zero, suc, ◌+◌, ◌<◌, ◌==◌, ◌||◌, if◌then◌else◌, Bool, true, false, List, [], ◌∷◌, ◌++◌, length, map, find, Option, Some, None, slice_get, arith, ap, sym, ◌∙◌, subst, inl, inr, eqb-true, ne_eqb, ltb-true, cond-false, FlatStore, IsWhole, has, Program, start, after, Event, Begin, Turn, Checkpoint, Crash, Desk, Entry, opened, numbers, Word, Failed, Counts, Turning, Going, Over, Idle, Committed, Attempt, instruction, turns, turn_of, no_counts, Turned, turned, begin_if, absent_segment, restarted, event_of, step, run, gone_on, row_done, IsAmong, IsConsistent, current_bytes, turn_desk, Machine, Memory, first_machine, with_machine, given_back, row_of, after_instruction, after_turns, after_event, memory_after, memory_of, IsAlone, IsMemory, FindTheirOwn, RunsAreIsolated, CommitsTellTheMachine, SideBySideIsSerial, IsOrderly, nat_tests, next_attempt, begun, IsSerial, event_lines, cases_Bool, granted, printed, Activation, run_serial}
 use Rattle.flat_machine.proofs.Agreement.{serial-whole}
 use Rattle.desk_law.proofs.Entries.{orderly, among-found, new-among, among-push, between, found-among, one-entry, numbers-replaced}
 use Rattle.desk_law.proofs.Others.{others, among-others, others-among}
@@ -188,11 +188,8 @@ own-turn word number limit desk memory entry is found of =
 memory-turn : (word : Word) (activation limit : ℕ) (desk : Desk) (memory : Memory) → IsConsistent desk → IsMemory desk memory
     → (one : Option Entry) → find (λ (entry : Entry). entry.number == activation) desk.active ≡ one
     → IsMemory (turned activation (turn_of one word activation limit desk)).desk (after_turns word activation limit (Going desk no_counts) memory)
-memory-turn word activation limit desk memory is of None found = idle-turns word activation limit desk memory (orderly desk is) found of
-memory-turn word activation limit desk memory is of (Some entry) found =
-    let turned_it = own-turn word activation limit desk memory entry is found of in
-    let left = memory-of-turn activation (turns word activation limit (Going desk no_counts)) (after_turns word activation limit (Going desk no_counts) memory) turned_it in
-    grind (arith, nat_tests, left)
+memory-turn word activation limit desk memory is of one found =
+    grind (arith, nat_tests, idle-turns word activation limit desk memory, orderly desk is, own-turn word activation limit desk memory, memory-of-turn activation)
 
 -- a crash
 crash-memory : (desk : Desk) (memory : Memory) → IsConsistent desk → IsMemory desk memory → IsMemory (restarted desk) (record memory { bytes = memory.committed })
@@ -256,19 +253,8 @@ memory-more programs (first ∷ events) event desk memory =
 pub commit-told : (programs : List Program) (desk : Desk) (memory : Memory) (number limit : ℕ) (word : Word) (counts : Counts) (steps : ℕ) (printed : List ℕ) → IsConsistent desk → IsMemory desk memory
     → (step programs (Turn number limit) word desk).happening ≡ Turned number counts (Committed steps printed)
     → (machine : Machine) × ((if desk.closed then memory else after_event programs (Turn number limit) word desk memory).machines number ≡ Some machine) × (machine.state.out ≡ printed)
-commit-told programs desk memory number limit word counts steps printed is of happened = by_closed desk.closed happened
-  where
-    by_entry : (one : Option Entry) → find (λ (entry : Entry). entry.number == number) desk.active ≡ one
-        → (turned number (turn_of one word number limit desk)).happening ≡ Turned number counts (Committed steps printed)
-        → (machine : Machine) × ((after_turns word number limit (Going desk no_counts) memory).machines number ≡ Some machine) × (machine.state.out ≡ printed)
-    by_entry None found happened = absurd (cc)
-    by_entry (Some entry) found happened = grind (arith, nat_tests, own-turn word number limit desk memory entry is found of)
-
-    by_closed : (closed : Bool)
-        → (if closed then record { desk = desk; happening = Nothing } else event_of programs (Turn number limit) word desk).happening ≡ Turned number counts (Committed steps printed)
-        → (machine : Machine) × ((if closed then memory else after_event programs (Turn number limit) word desk memory).machines number ≡ Some machine) × (machine.state.out ≡ printed)
-    by_closed true happened = absurd (cc)
-    by_closed false happened = by_entry (find (λ (entry : Entry). entry.number == number) desk.active) refl happened
+commit-told programs desk memory number limit word counts steps printed is of happened =
+    grind (arith, nat_tests, own-turn word number limit desk memory)
 
 pub commits-tell-the-machine : CommitsTellTheMachine
 commits-tell-the-machine programs frames most_active most_lines store events number limit word counts steps printed whole two happened =

@@ -1,5 +1,5 @@
 -- What machines side by side do to one memory, step by step.
-use Rattle.desk_law.proofs.Common.{◌≡◌, refl, ℕ, ◌==◌, ◌||◌, not, if◌then◌else◌, Bool, true, false, List, [], ◌∷◌, ◌++◌, length, filter, Option, Some, flat_map, range_with_len, list_any, ap, sym, ◌∙◌, subst, inl, inr, both_ways, and_parts, cases_Bool, not-true, cond-false, same_Some, Layout, byte_count, FlatStore, IsWhole, line_count, has, Lines, has-append, has-filter, any-at, any-some, Plain, Program, Outcome, On, plan_at, row, touched, after, due_locks, touched_next, line_in, after-whole, Desk, Entry, numbers, Attempt, IsLaid, gone_on, row_done, left_by, IsAmong, due_to, AreConsistent, current_of, current, IsCurrent, current_bytes, Machine, Memory, laid, wrote_by, given_back, went_on, does_row, commit_of, IsAlone, IsMemory, IsOrderly, nat_tests, arith}
+use Rattle.desk_law.proofs.Common.{◌≡◌, refl, ℕ, ◌==◌, ◌||◌, not, if◌then◌else◌, Bool, true, false, List, [], ◌∷◌, ◌++◌, length, filter, Option, Some, flat_map, list_any, ap, sym, ◌∙◌, subst, inl, inr, both_ways, and_parts, cases_Bool, not-true, cond-false, same_Some, Layout, byte_count, FlatStore, IsWhole, has, Lines, has-append, has-filter, any-at, any-some, Plain, Program, Outcome, On, plan_at, row, touched, after, due_locks, touched_next, line_in, after-whole, Desk, Entry, numbers, Attempt, IsLaid, gone_on, row_done, left_by, IsAmong, due_to, AreConsistent, current, IsCurrent, current_bytes, Machine, Memory, laid, wrote_by, given_back, went_on, does_row, commit_of, IsAlone, IsMemory, IsOrderly, nat_tests, arith}
 use Rattle.desk_law.proofs.Entries.{replaced, among-filter, among-replaced, one-entry}
 use Rattle.desk_law.proofs.Others.{others, another-same, after-row}
 use Rattle.desk_law.proofs.Waiting.{number-of, has-number}
@@ -77,10 +77,7 @@ module _ (old desk : Desk) (stay : List ℕ) (memory : Memory) (most : ℕ) (is_
   -- any other line is as it was
   wrote-gone : (some : Entry) (line : ℕ) → IsAmong old.active some → Wrote old some line → has (numbers desk) some.number ≡ false → has (flat_map (wrote_by memory) gone) line ≡ true
   wrote-gone some line there wrote went =
-      cc (
-        has-joined (wrote_by memory) gone line,
-        any-at (λ x. has (wrote_by memory x) line) gone some.number (grind (arith, nat_tests, has-filter (λ n. not (has stay n)) (numbers old) some.number, has-number old.active some there, stays some.number)) (ap (λ (l : List ℕ). has l line) (wrote-is old memory some is there) ∙ wrote),
-      )
+      grind (arith, nat_tests, has-joined (wrote_by memory) gone line, any-at (λ x. has (wrote_by memory x) line) gone some.number, has-filter (λ n. not (has stay n)) (numbers old) some.number, has-number old.active some there, wrote-is old memory some is there)
 
   kept-line : (line : ℕ) → has (flat_map (wrote_by memory) gone) line ≡ false → current desk line ≡ current old line
   kept-line line out =
@@ -125,16 +122,7 @@ module _ (old desk : Desk) (stay : List ℕ) (memory : Memory) (most : ℕ) (is_
           (λ line. each line (has (flat_map (wrote_by memory) gone) line) refl)
 
       alone : (entry : Entry) → IsAmong desk.active entry → IsAlone desk.committed entry (memory.machines entry.number)
-      alone entry among =
-          let (before, there, number, runs, rows) = fewer.was entry among in
-          let was = is.alone before there in
-          record {
-            it = was.it;
-            is = ap memory.machines (sym number) ∙ was.is;
-            bytes = was.bytes;
-            at = ap (λ (store : FlatStore). after entry.runs.program entry.runs.args store entry.rows) fewer.committed ∙ sym (after-alike old.committed before entry runs rows) ∙ was.at;
-            wrote = cc (was.wrote, due-alike old.committed before entry runs rows, fewer.committed);
-          }
+      alone entry among = grind (arith, nat_tests, bytes, after-alike, due-alike)
 
 -- a number has its machine
 pub at-own : {A : Type 0} (number : ℕ) (x y : A) → (if number == number then x else y) ≡ x
@@ -161,9 +149,7 @@ module _ (moment : Desk) (attempt : Attempt) (next : Plain) (memory : Memory) (g
 
   row-went : row attempt.entry.runs.program moment.committed.directory (record alone.it.state { store = memory.bytes }) ≡ On (record next { store = then_bytes })
   row-went =
-      ap (λ (bytes : List ℕ). row attempt.entry.runs.program moment.committed.directory (record alone.it.state { store = bytes })) is.bytes
-      ∙ ap (λ (s : Plain). row attempt.entry.runs.program moment.committed.directory (record s { store = current_bytes moment })) (sym now_is)
-      ∙ row-runs moment moment.most_lines attempt.entry granted.mark attempt.now next granted.whole granted.active granted.here granted.now (granted.went ∙ went) granted.none
+      grind (arith, nat_tests, now_is, row-runs moment moment.most_lines attempt.entry granted.mark attempt.now next granted.whole granted.active granted.here granted.now)
 
   touches : (touched attempt.entry.runs.program moment.committed.directory (record alone.it.state { store = memory.bytes })).writes
       ≡ (touched_next attempt.entry.runs.program attempt.entry.runs.args moment.committed attempt.entry.rows).writes
@@ -221,31 +207,21 @@ module _ (moment desk : Desk) (attempt : Attempt) (memory : Memory) (granted : I
 
   laid_by : IsLaid moment.committed (due_to moment.committed attempt.entry).writes memory.bytes moment.committed.bytes attempt.now.store
   laid_by =
-      commit-laid moment.committed moment.most_lines moment.next moment.active granted.active memory.bytes (record attempt.entry { waiting = granted.mark }) attempt.now granted.whole
-      (long ∙ sym granted.whole) granted.here granted.now before
+      grind (arith, nat_tests, commit-laid moment.committed moment.most_lines moment.next moment.active granted.active memory.bytes, long, before)
 
   each : (line : ℕ) → (wrote : Bool) → has (due_to moment.committed attempt.entry).writes line ≡ wrote
       → line_in moment.committed.directory attempt.now.store line ≡ (if wrote then line_in moment.committed.directory memory.bytes line else line_in moment.committed.directory moment.committed.bytes line)
-  each line true e = laid_by.laid line e
-  each line false e = laid_by.kept line e
+  each line wrote e = grind (arith, nat_tests, laid_by)
 
   wrote_is : wrote_by memory attempt.entry.number ≡ (due_to moment.committed attempt.entry).writes
   wrote_is = wrote-is moment memory (record attempt.entry { waiting = granted.mark }) is granted.here
 
   committed : laid desk.committed.directory (wrote_by memory attempt.entry.number) memory.bytes memory.committed ≡ desk.committed.bytes
-  committed =
-      (λ i. laid (store_is i).directory (wrote_is i) memory.bytes (is.committed i))
-      ∙ laid-is moment.committed.directory (due_to moment.committed attempt.entry).writes memory.bytes moment.committed.bytes attempt.now.store before.long granted.whole long
-      (λ line. each line (has (due_to moment.committed attempt.entry).writes line) refl)
-      ∙ sym (ap (λ (store : FlatStore). store.bytes) store_is)
+  committed = grind (arith, nat_tests, wrote_is, laid-is, before, long, whole, each)
 
   current_then : current_bytes moment ≡ current_bytes desk
   current_then =
-      (λ i.
-      flat_map
-      (λ (line : ℕ). sym (commit-current moment.committed moment.most_lines moment.next moment.active (record attempt.entry { waiting = granted.mark }) attempt.now line granted.whole granted.active granted.here granted.now) i)
-      (range_with_len 0 (line_count moment.committed.directory)))
-      ∙ sym (λ i. flat_map (current_of (store_is i) (active_is i)) (range_with_len 0 (line_count (store_is i).directory)))
+      grind (arith, nat_tests, commit-current moment.committed moment.most_lines moment.next moment.active (record attempt.entry { waiting = granted.mark }) attempt.now)
 
   still-alone : (entry : Entry) → IsAmong (others attempt.entry moment.active) entry → IsAlone (left_by moment.committed attempt.now) entry (memory.machines entry.number)
   still-alone entry among =

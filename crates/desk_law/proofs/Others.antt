@@ -1,5 +1,5 @@
 -- A commit of one activation leaves the others as they were.
-use Rattle.desk_law.proofs.Common.{◌+◌, ◌≡◌, ℕ, ◌==◌, not, Bool, true, false, List, filter, Some, arith, not-true, not_from_false, FlatStore, IsWhole, has, Lines, with_whole_pages, has-append, has_left, has_right, Plain, after, On, row, touched_next, all_of, DoesTheSame, agreement_enough, after-whole, after-kept, Entry, left_by, IsAmong, due_to, IsLive, AreApart, AreConsistent, nat_tests}
+use Rattle.desk_law.proofs.Common.{◌+◌, ◌≡◌, ℕ, ◌==◌, not, Bool, true, false, List, filter, Some, arith, not_from_false, FlatStore, IsWhole, has, Lines, with_whole_pages, has-append, has_left, has_right, Plain, after, On, row, touched_next, all_of, DoesTheSame, agreement_enough, after-whole, after-kept, Entry, left_by, IsAmong, due_to, AreApart, AreConsistent, nat_tests}
 use Rattle.desk_law.proofs.Entries.{among-filter, filter-among, ascend-filter}
 
 -- the state after a row more
@@ -32,10 +32,7 @@ pub another-stays :
     → after entry.runs.program entry.runs.args store entry.rows ≡ Some now
     → StaysSame store (left_by store now) other
 another-stays store most_lines next entries entry other now whole are here there differ is =
-    let live : IsLive store most_lines other = are.live other there in
-    let apart : AreApart (due_to store other) (due_to store entry) = are.apart other entry there here differ in
-    let (bytes, same) = another-same store entry other now live.state whole is live.is (record { first_writes = apart.second_writes; second_writes = apart.first_writes }) in
-    record { due = same.due; wants = same.touches other.rows (omega arith) }
+    grind (arith, nat_tests, another-same store entry other now)
 
 -- the entries that are left
 abbrev pub others : Entry → List Entry → List Entry
@@ -43,9 +40,7 @@ others entry entries = filter (λ (other : Entry). not (other.number == entry.nu
 
 -- each of them was among all, and has another number
 pub among-others : (gone : Entry) (entries : List Entry) (other : Entry) → IsAmong (others gone entries) other → IsAmong entries other × ((other.number == gone.number) ≡ false)
-among-others gone entries other among =
-    let (there, differ) = among-filter (λ (other : Entry). not (other.number == gone.number)) entries other among in
-    (there, not-true (other.number == gone.number) differ)
+among-others gone entries other among = grind (arith, nat_tests, among-filter)
 
 pub others-among : (gone : Entry) (entries : List Entry) (other : Entry) → IsAmong entries other → (other.number == gone.number) ≡ false → IsAmong (others gone entries) other
 others-among gone entries other among differ = filter-among (λ (other : Entry). not (other.number == gone.number)) entries other among (not_from_false (other.number == gone.number) differ)

@@ -1,16 +1,12 @@
 -- The resident pages fit the frames, each once, and are pages of the store.
-use Rattle.desk_law.proofs.Common.{◌≡◌, refl, ℕ, zero, suc, ◌+◌, ◌<◌, ◌≤◌, ◌==◌, ◌||◌, Bool, true, false, List, [], ◌∷◌, ◌++◌, length, filter, remove, arith, ap, sym, ◌∙◌, length-append, eq-eqb, both_ways, or_right, or_parts, or_from, ne_eqb, position-Some, has, brought, taken_out, has-append, has-filter, Word, Fetching, Fetched, Broken, fetches, AreDistinct, AreResident, nat_tests}
+use Rattle.desk_law.proofs.Common.{◌≡◌, refl, ℕ, zero, suc, ◌+◌, ◌<◌, ◌≤◌, ◌==◌, Bool, true, false, List, [], ◌∷◌, ◌++◌, length, filter, remove, arith, ap, length-append, or_right, or_parts, position-Some, has, brought, taken_out, has-append, has-filter, Word, Fetching, Fetched, Broken, fetches, AreDistinct, AreResident, nat_tests}
 use Rattle.desk_law.proofs.Entries.{filter-short}
 
 -- one page more, which isn't there
 push-distinct : (pages : List ℕ) (page : ℕ) → AreDistinct pages → has pages page ≡ false → AreDistinct (pages ++ page ∷ [])
 push-distinct [] page once new = (refl, tt)
 push-distinct (one ∷ pages) page once new =
-    let parts = or_parts (one == page) (has pages page) new in (
-      has-append pages (page ∷ []) one
-          ∙ or_from (has pages one) (page == one || false) once.0 (or_from (page == one) false (ne_eqb page one (λ same. both_ways (one == page) parts.0 (eq-eqb one page (sym same)))) refl),
-      push-distinct pages page once.1 parts.1,
-    )
+    grind (arith, nat_tests, has-append, push-distinct pages page once.1 (or_parts (one == page) (has pages page) new).1)
 
 -- fewer pages
 filter-distinct : (test : ℕ → Bool) (pages : List ℕ) → AreDistinct pages → AreDistinct (filter test pages)

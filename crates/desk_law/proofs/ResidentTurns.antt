@@ -1,5 +1,5 @@
 -- A turn leaves resident pages that fit.
-use Rattle.desk_law.proofs.Common.{◌≡◌, refl, ℕ, zero, suc, ◌<◌, ◌≤◌, ◌==◌, true, false, List, [], ◌∷◌, length, find, Option, Some, None, option_map_or, arith, ap, sym, ◌∙◌, eqb-true, Layout, page_count, line_count, has, no_lines, page_of_line, any-some, has-pages_of, Plain, Program, Outcome, row, after, touched, all_of, touched-below, Desk, Entry, with_entry, rolled_back, wanted, Word, Counts, Turning, Going, Over, Attempt, Contest, Contested, Settled, Lost, attempts, attempts_at, instruction, turns, touched_pages, fetches_touched, asks, gets, takes_effect, contest_ends, waits_or_gets, breaks_cycles, AreResident, nat_tests, contest}
+use Rattle.desk_law.proofs.Common.{◌≡◌, refl, ℕ, zero, suc, ◌<◌, ◌≤◌, ◌==◌, true, false, List, find, Option, Some, None, option_map_or, arith, ap, sym, ◌∙◌, eqb-true, Layout, page_count, line_count, has, no_lines, page_of_line, any-some, has-pages_of, Plain, Program, Outcome, row, after, touched, all_of, touched-below, Desk, Entry, rolled_back, wanted, Word, Counts, Turning, Going, Over, Attempt, Contest, Contested, Settled, Lost, attempts, attempts_at, instruction, turns, touched_pages, fetches_touched, asks, gets, takes_effect, contest_ends, waits_or_gets, breaks_cycles, AreResident, nat_tests, contest}
 use Rattle.desk_law.proofs.Contest.{VictimsKeep, victims-keep}
 use Rattle.desk_law.proofs.ResidentPages.{FetchFits, fetches-resident, taken-resident, none-resident}
 
@@ -51,8 +51,7 @@ breaks-fits directory left one contest is = victims-keep (ContestFits directory)
 module _ (word : Word) (attempt : Attempt) (directory : Layout) (below : (page : ℕ) → has (touched_pages attempt) page ≡ true → page < page_count directory) where
   fits-fetched : (desk : Desk) (counts : Counts) → desk.committed.directory ≡ directory → Fits desk → FetchFits desk.frames (page_count desk.committed.directory) (fetches_touched word attempt desk counts)
   fits-fetched desk counts same is =
-      fetches-resident word desk.frames (page_count desk.committed.directory) (touched_pages attempt) (touched_pages attempt) desk.resident counts.pages (omega (arith, is.frames)) is.resident
-      (λ page inside. omega (arith, below page inside, ap page_count same))
+      grind (arith, nat_tests, fetches-resident word desk.frames (page_count desk.committed.directory) (touched_pages attempt) (touched_pages attempt) desk.resident counts.pages)
 
   fits-effect : (desk : Desk) (counts : Counts) (outcome : Outcome) → Fits desk → TurnFits (takes_effect word attempt outcome desk counts)
   fits-effect desk counts outcome is = grind (arith, nat_tests, rolled-fits desk attempt.entry)
@@ -61,19 +60,14 @@ module _ (word : Word) (attempt : Attempt) (directory : Layout) (below : (page :
   fits-get refused desk counts same is = grind (arith, nat_tests, fits-effect, resident-fits, none-resident, fits-fetched)
 
   fits-wait : (refused holders : List ℕ) (desk : Desk) (counts : Counts) → desk.committed.directory ≡ directory → Fits desk → TurnFits (waits_or_gets word attempt refused holders desk counts)
-  fits-wait refused [] desk counts same is = fits-get refused desk counts same is
-  fits-wait refused (holder ∷ holders) desk counts same is = is
+  fits-wait refused holders desk counts same is = grind (arith, nat_tests, fits-get refused desk counts same is)
 
   fits-contest : (refused : List ℕ) (contest : Contest) → ContestFits directory contest → TurnFits (contest_ends word attempt refused contest)
   fits-contest refused contest is = grind (arith, nat_tests, fits-wait)
 
   fits-ask : (refused holders : List ℕ) (desk : Desk) (counts : Counts) → desk.committed.directory ≡ directory → Fits desk → TurnFits (asks word attempt refused holders desk counts)
-  fits-ask refused [] desk counts same is = fits-get refused desk counts same is
-  fits-ask refused (holder ∷ holders) desk counts same is =
-      fits-contest refused
-      (breaks_cycles (length desk.active) attempt.entry.number (Contested (with_entry desk (record attempt.entry { waiting = true })) counts))
-      (breaks-fits directory (length desk.active) attempt.entry.number (Contested (with_entry desk (record attempt.entry { waiting = true })) counts)
-      (record { frames = is.frames; resident = is.resident }, same))
+  fits-ask refused holders desk counts same is =
+      grind (arith, nat_tests, fits-get refused desk counts same is, fits-contest refused, breaks-fits directory)
 
   fits-attempt : (outcome : Outcome) (desk : Desk) (counts : Counts) → desk.committed.directory ≡ directory → Fits desk → TurnFits (attempts word attempt outcome desk counts)
   fits-attempt outcome desk counts same is = grind (arith, nat_tests, rolled-fits desk attempt.entry is, rolled-fits, fits-ask, resident-fits, none-resident, fits-fetched)

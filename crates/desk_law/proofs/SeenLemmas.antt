@@ -22,10 +22,7 @@ more_lines line (x ∷ xs) ys = by_feed (x == 10) (more_lines [] xs ys) (more_li
 -- no more commits are seen in fewer bytes
 pub seen_cut : (count : ℕ) (bytes : List ℕ) → commits_seen (take count bytes) ≤ commits_seen bytes
 seen_cut count bytes =
-    let more = more_lines [] (take count bytes) (drop count bytes) in
-    let whole : commits_seen (take count bytes ++ drop count bytes) ≡ commits_seen bytes = ap commits_seen (take-append-drop count bytes) in
-    let split : commits_seen (take count bytes ++ drop count bytes) ≡ commits_seen (take count bytes) + count_by tells more.0 = ap (count_by tells) more.1 ∙ counted_on (whole_lines [] (take count bytes)) more.0 in
-    omega (arith, whole, split)
+    grind (arith, nat_tests, more_lines [] (take count bytes) (drop count bytes), take-append-drop count bytes, counted_on)
 
 -- a line and its line feed are a whole line
 whole_first : (line body rest : List ℕ) → IsUnbroken body → whole_lines line (body ++ 10 ∷ rest) ≡ (line ++ body) ∷ whole_lines [] rest

@@ -1,5 +1,5 @@
 -- Where nobody waits for himself, somebody waits for nobody.
-use Rattle.desk_law.proofs.Common.{◌≡◌, refl, ℕ, zero, suc, ◌<◌, ◌&&◌, not, Bool, true, false, List, length, filter, list_any, arith, inl, inr, and_from, cases_Bool, not_from_false, has, leads, any-at, any-some, numbers, waits_for, HasNoCycle, SomebodyCanGoOn, nat_tests, nobody, step}
+use Rattle.desk_law.proofs.Common.{◌≡◌, refl, ℕ, zero, suc, ◌<◌, ◌&&◌, not, Bool, true, false, List, length, filter, list_any, arith, inl, inr, and_from, not_from_false, has, leads, any-at, any-some, numbers, waits_for, HasNoCycle, SomebodyCanGoOn, nat_tests, step}
 use Rattle.desk_law.proofs.Walks.{one-step, walk-short, count-lt}
 use Rattle.desk_law.proofs.Waiting.{number-of, has-number}
 use Rattle.desk_law.proofs.Endings.{waited-active}
@@ -28,12 +28,8 @@ WaitsForNone waits all = (free : ℕ) × (has all free ≡ true) × (list_any (w
 waits-for-none : (waits : ℕ → ℕ → Bool) (all : List ℕ) → HasNoCycle waits all → (most from : ℕ) → has all from ≡ true → length (filter (reached waits all from) all) < most
     → WaitsForNone waits all
 waits-for-none waits all none zero from inside few = absurd (omega (arith, few))
-waits-for-none waits all none (suc most) from inside few = elim (cases_Bool (list_any (waits from) all)) [
-  | inl some ↦
-      let (next, there, step) = any-some (waits from) all some in
-      waits-for-none waits all none most next there (omega (arith, few, leads-to-fewer waits all none from next inside there step))
-  | inr nobody ↦ (from, inside, nobody)
-]
+waits-for-none waits all none (suc most) from inside few =
+    grind (arith, nat_tests, any-some (waits from) all, leads-to-fewer waits all none from, waits-for-none waits all none most)
 
 pub somebody-can-go-on : SomebodyCanGoOn
 somebody-can-go-on desk entry is here =

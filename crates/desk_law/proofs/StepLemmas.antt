@@ -1,5 +1,5 @@
 -- What a step of an open desk does to its order, and the lines that it has.
-use Rattle.desk_law.proofs.Common.{◌≡◌, ℕ, ◌≤◌, List, [], ◌∷◌, ◌++◌, length, map, refl, sym, ap, ◌∙◌, subst, arith, append-nil, append_assoc, length-append, inl, inr, ⊎_elim, ◌⊎◌, flat_map, Program, Event, Desk, Word, Fine, Doubt, Counts, Ending, Idle, Committed, CommitUnwritten, CommitDoubted, Turning, turn, Turned, Step, event_of, step, turned, run, begin_if, OpenBeforeEach, Line, number_after, happening_lines, turn_lines, ending_lines, cycle_lines, event_lines, IsUnbroken, EndsInDoubt, nat_tests, true, false, not, Option, IsTrue, slice_get, slice_index_or}
+use Rattle.desk_law.proofs.Common.{◌≡◌, ℕ, ◌≤◌, List, [], ◌∷◌, ◌++◌, length, map, refl, sym, ap, ◌∙◌, arith, append-nil, append_assoc, length-append, inl, inr, ◌⊎◌, flat_map, Program, Event, Desk, Word, Fine, Doubt, Counts, Ending, Turning, turn, Turned, Step, event_of, step, turned, run, begin_if, OpenBeforeEach, Line, number_after, happening_lines, turn_lines, ending_lines, cycle_lines, event_lines, IsUnbroken, EndsInDoubt, nat_tests, true, false, not, Option, IsTrue, slice_get, slice_index_or}
 use Rattle.desk.specs.declared.event.Event.TheVariants as event
 use Rattle.desk.specs.Lines as line
 use Rattle.desk_law.proofs.SeenLemmas.{ArePlain, plain_on, commits_in, commits_on}
@@ -38,27 +38,8 @@ module _ (word : Word) (order : List (ℕ × ℕ)) (names : List (List ℕ)) whe
   shut_by after is broken none = grind (arith, nat_tests, append-nil order)
 
   ended_by : (activation : ℕ) (desk : Desk) (counts : Counts) (ending : Ending) → Ended word order desk ending → Stepped word order names (record { desk = desk; happening = Turned activation counts ending })
-  ended_by activation desk counts Idle ended = stayed (record { desk = desk; happening = Turned activation counts Idle }) ended (λ number. refl)
-  ended_by activation desk counts (Committed steps printed) ended = record {
-    more = ended.1.0 ∷ [];
-    order_is = ended.1.1;
-    one = omega arith;
-    few = λ number. let one = counted_quiet activation counts (line.Commit activation number steps printed ∷ []) in omega (arith, one);
-    quiet = λ shut. let no = sym ended.0 ∙ shut in cc;
-    settled = λ cause number. let one = counted_quiet activation counts (line.Commit activation number steps printed ∷ []) in omega (arith, one);
-    stays = λ fine. ended.0;
-  }
-  ended_by activation desk counts CommitUnwritten ended = shut_by (record { desk = desk; happening = Turned activation counts CommitUnwritten }) ended.1 ended.2 (λ number. counted_quiet activation counts (line.Closed ∷ []))
-  ended_by activation desk counts CommitDoubted ended = record {
-    more = ended.1.0 ∷ [];
-    order_is = ended.1.1;
-    one = omega arith;
-    few = λ number. let none = counted_quiet activation counts (line.Doubt activation number ∷ line.Closed ∷ []) in omega (arith, none);
-    quiet = λ shut number. counted_quiet activation counts (line.Doubt activation number ∷ line.Closed ∷ []);
-    settled = λ cause number. absurd (⊎_elim (λ still. let no : true ≡ false = sym ended.0 ∙ still in cc) (λ never. never ended.2) cause);
-    stays = λ fine. absurd (let no : Fine ≡ Doubt = sym fine ∙ ended.2 in cc);
-  }
-  ended_by activation desk counts ending ended = stayed (record { desk = desk; happening = Turned activation counts ending }) ended (λ number. counted_quiet activation counts (ending_lines number activation ending))
+  ended_by activation desk counts ending ended =
+      grind (arith, nat_tests, stayed, counted_quiet activation counts, shut_by)
 
   turned_by : (activation : ℕ) (turning : Turning) → Ends word order turning → Stepped word order names (turned activation turning)
   turned_by activation turning ends = grind (arith, nat_tests, ended_by)
@@ -81,8 +62,7 @@ event_by programs event.Checkpoint word names desk is = grind (arith, nat_tests,
 event_by programs event.Crash word names desk is = grind (arith, nat_tests, shut_by, lost_behind, stayed)
 
 pub step_by : (programs : List Program) (one : Event) (word : Word) (names : List (List ℕ)) (desk : Desk) → desk.closed ≡ false → Stepped word desk.order names (step programs one word desk)
-step_by programs one word names desk is =
-    subst (λ (after : Step). Stepped word desk.order names after) (sym (stepped programs one word desk is)) (event_by programs one word names desk is)
+step_by programs one word names desk is = grind (arith, nat_tests, stepped, event_by)
 
 -- the lines of what happened have no line feed in a name
 abbrev pub AreNames : List (List ℕ) → Type 0
@@ -93,12 +73,10 @@ cycles_plain [] = tt
 cycles_plain (cycle ∷ cycles) = (tt, (tt, cycles_plain cycles))
 
 counted_plain : (number activation : ℕ) (counts : Counts) (ending : Ending) → ArePlain (line.Turn activation counts.ran counts.pages counts.locks ∷ (flat_map cycle_lines counts.cycles ++ ending_lines number activation ending))
-counted_plain number activation counts ending =
-    (tt, plain_on (flat_map cycle_lines counts.cycles) (ending_lines number activation ending) (cycles_plain counts.cycles) (grind (arith, nat_tests)))
+counted_plain number activation counts ending = grind (arith, nat_tests, plain_on, cycles_plain)
 
 turn_plain : (number activation : ℕ) (counts : Counts) (ending : Ending) → ArePlain (turn_lines number activation counts ending)
-turn_plain number activation counts Idle = (tt, tt)
-turn_plain number activation counts ending = counted_plain number activation counts ending
+turn_plain number activation counts ending = grind (arith, nat_tests, counted_plain number activation counts ending)
 
 lost_plain : (lost : List ℕ) → ArePlain (map line.Lost lost)
 lost_plain [] = tt
@@ -109,8 +87,7 @@ module _ (programs : List Program) (names : List (List ℕ)) (number : ℕ) wher
   pub run_plain : AreNames names → (taken : List (Event × Word)) (desk : Desk) → ArePlain (event_lines names programs number taken desk)
   run_plain are [] desk = tt
   run_plain are (one ∷ taken) desk =
-      let after = step programs one.0 one.1 desk in
-      plain_on (happening_lines names (number_after number after.desk) after.happening) (event_lines names programs number taken after.desk) (grind (arith, nat_tests, turn_plain, plain_on, lost_plain)) (run_plain are taken after.desk)
+      grind (arith, nat_tests, plain_on, turn_plain, lost_plain, run_plain are taken (step programs one.0 one.1 desk).desk)
 
   open_is : (desk : Desk) → IsTrue (not desk.closed) → desk.closed ≡ false
   open_is desk is = grind (arith, nat_tests)

@@ -1,6 +1,6 @@
 -- What a turn leaves of a desk: whether it is closed, and what its order is.
-use Rattle.desk_law.proofs.Common.{◌≡◌, ℕ, zero, suc, List, [], ◌∷◌, ap, ◌+◌, ◌++◌, Desk, Entry, conflicts_of, Word, Fine, Doubt, Counts, Ending, Committed, CommitUnwritten, CommitDoubted, Turning, Going, Over, Attempt, Contest, Contested, Settled, Lost, Fetching, commits, takes_effect, breaks_cycles, waits_or_gets, contest_ends, fetched_first, attempts, instruction, turns, turn, arith, nat_tests, true, false, Option, Some, None, find, ◌==◌, contest, Outcome}
-use Rattle.desk_law.proofs.Contest.{VictimsKeep, victims-keep}
+use Rattle.desk_law.proofs.Common.{◌≡◌, ℕ, zero, suc, List, [], ◌∷◌, ap, ◌+◌, ◌++◌, Desk, Entry, Word, Fine, Doubt, Counts, Ending, Committed, CommitUnwritten, CommitDoubted, Turning, Going, Over, Attempt, Contest, Contested, Settled, Lost, Fetching, breaks_cycles, waits_or_gets, contest_ends, fetched_first, attempts, instruction, turns, turn, arith, nat_tests, true, false, Option, find, ◌==◌, contest, Outcome}
+use Rattle.desk_law.proofs.Contest.{victims-keep}
 
 -- an open desk with this order
 abbrev pub StaysOpen : List (ℕ × ℕ) → Desk → Type 0
@@ -37,18 +37,14 @@ module _ (order : List (ℕ × ℕ)) where
   one_more attempt desk is = ((attempt.entry.number, attempt.entry.rows + 1), ap (λ (front : List (ℕ × ℕ)). front ++ (attempt.entry.number, attempt.entry.rows + 1) ∷ []) is)
 
   breaks_cycles_keeps : (left number : ℕ) (contest : Contest) → KeepsOpen order contest → KeepsOpen order (breaks_cycles left number contest)
-  breaks_cycles_keeps left number contest kept = victims-keep (KeepsOpen order) number (λ desk counts kept. kept) by_victim left contest kept
-    where
-      by_victim : VictimsKeep (KeepsOpen order) number
-      by_victim desk counts cycle is it kept found e = grind (arith, nat_tests)
+  breaks_cycles_keeps left number contest kept =
+      grind (arith, nat_tests, victims-keep (KeepsOpen order) number (λ desk counts kept. kept))
 
   waits_or_gets_keeps : (word : Word) (attempt : Attempt) (refused holders : List ℕ) (desk : Desk) (counts : Counts) → StaysOpen order desk → Keeps word order (waits_or_gets word attempt refused holders desk counts)
   waits_or_gets_keeps word attempt refused holders desk counts was_open = grind (arith, nat_tests)
 
   contest_ends_keeps : (word : Word) (attempt : Attempt) (refused : List ℕ) (contest : Contest) → KeepsOpen order contest → Keeps word order (contest_ends word attempt refused contest)
-  contest_ends_keeps word attempt refused (Lost desk counts) kept = kept
-  contest_ends_keeps word attempt refused (Settled desk counts) kept = waits_or_gets_keeps word attempt refused (conflicts_of desk attempt.entry) desk counts kept
-  contest_ends_keeps word attempt refused (Contested desk counts) kept = waits_or_gets_keeps word attempt refused (conflicts_of desk attempt.entry) desk counts kept
+  contest_ends_keeps word attempt refused contest kept = grind (arith, nat_tests, waits_or_gets_keeps)
 
   fetched_first_keeps : (word : Word) (attempt : Attempt) (desk : Desk) (counts : Counts) (fetching : Fetching) → StaysOpen order desk → Keeps word order (fetched_first word attempt desk counts fetching)
   fetched_first_keeps word attempt desk counts fetching was_open = grind (arith, nat_tests, contest_ends_keeps, breaks_cycles_keeps)
@@ -58,8 +54,7 @@ module _ (order : List (ℕ × ℕ)) where
 
   instruction_keeps : (word : Word) (entry : Option Entry) (desk : Desk) (counts : Counts) → StaysOpen order desk → Keeps word order (instruction word entry desk counts)
   unfolding instruction
-  instruction_keeps word None desk counts was_open = was_open
-  instruction_keeps word (Some entry) desk counts was_open = grind (arith, nat_tests, attempts_keeps, was_open)
+  instruction_keeps word entry desk counts was_open = grind (arith, nat_tests, attempts_keeps)
 
   turns_end : (word : Word) (number left : ℕ) (turning : Turning) → Keeps word order turning → Ends word order (turns word number left turning)
   unfolding turns

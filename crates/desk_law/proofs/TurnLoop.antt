@@ -1,5 +1,5 @@
 -- The loop of a turn: what it keeps, and its ends.
-use Rattle.desk_law.proofs.Common.{◌≡◌, refl, ℕ, zero, suc, ◌≤◌, ◌==◌, find, Some, arith, ◌∙◌, Desk, Entry, Word, Fine, Counts, Turning, Going, Over, Ending, Limit, Attempt, instruction, turns, commits, Reads, IsAmong, IsOrderly, nat_tests}
+use Rattle.desk_law.proofs.Common.{◌≡◌, refl, ℕ, zero, suc, ◌≤◌, ◌==◌, find, Some, arith, ◌∙◌, Desk, Entry, Word, Counts, Turning, Going, Over, Ending, Limit, Attempt, instruction, turns, commits, Reads, IsAmong, IsOrderly, nat_tests}
 use Rattle.desk_law.proofs.Entries.{found-among}
 
 -- a turn, from wherever it began, is one of so many instructions from here
@@ -21,8 +21,7 @@ turns-none word number desk counts = refl
 
 turns-commit : (word : Word) (number left : ℕ) (attempt : Attempt) (desk : Desk) (counts : Counts) → turns word number left (commits word attempt desk counts) ≡ commits word attempt desk counts
 unfolding turns
-turns-commit Fine number left attempt desk counts = refl
-turns-commit _ number left attempt desk counts = refl
+turns-commit word number left attempt desk counts = grind (arith, nat_tests)
 
 module _ (begins : Word → Turning) (left : ℕ) (desk : Desk) (counts : Counts) (entry : Entry) (is : IsOrderly desk) (here : IsAmong desk.active entry)
     (turning : IsTurning begins entry.number (suc left) desk counts) where

@@ -1,5 +1,5 @@
 -- A turn leaves a desk orderly.
-use Rattle.desk_law.proofs.Common.{◌≡◌, refl, ℕ, zero, suc, ◌+◌, ◌≤◌, ◌==◌, Bool, true, false, List, [], ◌∷◌, ◌++◌, length, find, Option, Some, None, arith, sym, ◌∙◌, subst, eqb-true, eq-eqb, both_ways, ltb-false, none-some, size, Lines, Plain, Outcome, On, Commit, Check, row, after, Desk, Entry, with_entry, rolled_back, wanted, conflicts_of, Word, Unwritten, Doubt, Counts, Turning, Going, Over, Ending, Idle, Attempt, Fetching, Fetched, Broken, Contest, Contested, Settled, Lost, attempts, attempts_at, instruction, turns, limited, is_over_limit, lines_written, fetched_first, fetches_touched, asks, gets, goes_on, breaks, takes_effect, commits, contest_ends, waits_or_gets, with_grants, refused_pages, gone_on, IsAmong, IsActive, IsOrderly, touched_of, IsReady, nat_tests, next_attempt}
+use Rattle.desk_law.proofs.Common.{◌≡◌, refl, ℕ, zero, suc, ◌+◌, ◌≤◌, ◌==◌, Bool, true, false, List, [], ◌∷◌, ◌++◌, length, find, Option, Some, None, arith, sym, ◌∙◌, subst, eqb-true, eq-eqb, both_ways, ltb-false, none-some, size, Lines, Plain, Outcome, On, Commit, Check, row, after, Desk, Entry, with_entry, rolled_back, wanted, conflicts_of, Word, Unwritten, Doubt, Counts, Turning, Going, Over, Ending, Idle, Attempt, Fetching, Fetched, Broken, Contest, Contested, Settled, Lost, attempts, attempts_at, instruction, turns, limited, is_over_limit, lines_written, fetched_first, fetches_touched, asks, gets, goes_on, breaks, takes_effect, commits, contest_ends, waits_or_gets, refused_pages, gone_on, IsAmong, IsActive, IsOrderly, touched_of, IsReady, nat_tests, next_attempt}
 use Rattle.desk_law.proofs.Entries.{among-found, none-found, new-among}
 use Rattle.desk_law.proofs.Contest.{contending, rolled-consistent, breaks-all, Came}
 use Rattle.desk_law.proofs.GoesOn.{ready-again, IsGranted, grants-held, row-goes-on, marked-contending, length-replaced}
@@ -68,8 +68,7 @@ module _ (word : Word) (attempt : Attempt) (most : ℕ) (old : Desk) where
 
   goes-get : (refused : List ℕ) (desk : Desk) (counts : Counts) → Room desk counts → From attempt.entry.number old desk → IsReady attempt desk → conflicts_of desk attempt.entry ≡ [] → Goes old attempt most (gets word attempt refused desk counts)
   goes-get refused desk counts fits from ready none =
-      goes-on (with_grants attempt refused desk) counts (fetches_touched word attempt (with_grants attempt refused desk) counts) fits
-      (record { committed = from.committed; others = from.others }) (grants-held desk attempt refused ready none)
+      grind (arith, nat_tests, goes-on, grants-held desk attempt refused ready none)
 
   goes-wait : (refused holders : List ℕ) (desk : Desk) (counts : Counts) → Room desk counts → From attempt.entry.number old desk → conflicts_of desk attempt.entry ≡ holders → IsReady attempt desk → IsOrderly desk
       → Goes old attempt most (waits_or_gets word attempt refused holders desk counts)

@@ -1,8 +1,8 @@
 -- Bytes without a line feed, and the lines of a report.
-use Rattle.desk_law.proofs.Common.{◌==◌, ◌||◌, slice_index, decimal, list_any, join_with_byte, Line, line_text, printed, IsUnbroken, nat_tests, ◌≡◌, ℕ, zero, suc, ◌/◌, ◌%◌, Bool, false, List, [], ◌∷◌, ◌++◌, map, refl, codes, arith, rules}
+use Rattle.desk_law.proofs.Common.{◌==◌, ◌||◌, slice_index, decimal, list_any, join_with_byte, Line, line_text, printed, IsUnbroken, nat_tests, ◌≡◌, ℕ, zero, suc, ◌/◌, ◌%◌, Bool, false, List, [], ◌∷◌, ◌++◌, map, refl, codes, arith}
 use Rattle.std.specs.Fmt.{digits, digits_onto, digit_glyph}
 use Rattle.byteorder.specs.Endian.{big_bytes}
-use Rattle.hex.specs.Hex.{encode_with, encode_lower, lower_digits}
+use Rattle.hex.specs.Hex.{encode_with, encode_lower}
 use Rattle.desk.specs.Lines as line
 
 or_parts : (a b : Bool) → a || b ≡ false → (a ≡ false) × (b ≡ false)
@@ -24,8 +24,7 @@ unbroken_on (x ∷ xs) ys one two = unbroken_more x (xs ++ ys) (unbroken_first x
 digits_onto-unbroken : (k n : ℕ) (acc : List ℕ) → IsUnbroken acc → IsUnbroken (digits_onto k 10 false n acc)
 digits_onto-unbroken zero n acc is = is
 digits_onto-unbroken (suc k) n acc is =
-    let more : IsUnbroken (digit_glyph false (n % 10) ∷ acc) = unbroken_more (digit_glyph false (n % 10)) acc (grind (arith, nat_tests)) is in
-    grind (arith, nat_tests, more, digits_onto-unbroken k (n / 10) (digit_glyph false (n % 10) ∷ acc) more)
+    grind (arith, nat_tests, unbroken_more, digits_onto-unbroken k (n / 10) (digit_glyph false (n % 10) ∷ acc))
 
 pub decimal-unbroken : (n : ℕ) → IsUnbroken (decimal n)
 unfolding digits
@@ -100,13 +99,7 @@ IsPlain (line.NoSegment activation name segment) = IsUnbroken name
 IsPlain _ = Unit {0}
 
 words-unbroken : (one : Line) → IsPlain one → AreUnbroken (words_of one)
-words-unbroken (line.Cycle members) is = (refl, decimals-unbroken members)
-words-unbroken (line.Commit activation number steps out) is =
-    (refl, (decimal-unbroken activation, (refl, (decimal-unbroken number, (refl, (decimal-unbroken steps, (refl, (printed-unbroken out, tt))))))))
-words-unbroken (line.Check activation code address) is =
-    (refl, (decimal-unbroken activation, (refl, (decimal-unbroken code, (refl, (hex-unbroken lower_digits (big_bytes 4 address) refl, tt))))))
-words-unbroken (line.Wait activation holders) is = (refl, (decimal-unbroken activation, (refl, decimals-unbroken holders)))
-words-unbroken _ is = search (rules, decimal-unbroken)
+words-unbroken one is = grind (arith, nat_tests, decimals-unbroken, decimal-unbroken, printed-unbroken, hex-unbroken)
 
 pub body-unbroken : (one : Line) → IsPlain one → IsUnbroken (body_of one)
 body-unbroken one is = joined-unbroken (words_of one) (words-unbroken one is)

@@ -1,5 +1,5 @@
 -- A row of which no entry refuses a line.
-use Rattle.desk_law.proofs.Common.{◌≡◌, refl, ℕ, ◌<◌, true, List, [], length, Option, Some, option_map_or, arith, ap, sym, ◌∙◌, subst, is_fine_page, line_count, has, Lines, no_lines, page_of_line, Plain, touched, after, all_of, touched-below, Desk, Entry, Grant, conflicts_of, wanted, gets, granted, refused_pages, IsAmong, ArePermitted, IsOrderly, Word, Counts, next_attempt, nat_tests, counts_refused, UnrefusedAsksNothing}
+use Rattle.desk_law.proofs.Common.{◌≡◌, refl, ℕ, ◌<◌, true, List, [], length, Some, arith, ap, subst, is_fine_page, has, page_of_line, Plain, after, all_of, touched-below, Desk, Entry, Grant, conflicts_of, wanted, gets, granted, refused_pages, IsAmong, ArePermitted, IsOrderly, Word, Counts, next_attempt, nat_tests, counts_refused, UnrefusedAsksNothing}
 use Rattle.desk_law.proofs.Granted.{granted-permits}
 use Rattle.desk_law.proofs.Entries.{orderly}
 use Rattle.desk_law.proofs.Permitted.{permitted-held, held-free}
@@ -8,11 +8,7 @@ module _ (desk : Desk) (entry : Entry) (now : Plain) (is : IsOrderly desk) (amon
     (at : after entry.runs.program entry.runs.args desk.committed entry.rows ≡ Some now) (none : refused_pages (next_attempt desk entry now) desk ≡ []) where
   below : (line : ℕ) → has (all_of (wanted desk entry)) line ≡ true → page_of_line line < length desk.authority
   below line inside =
-      let lines : wanted desk entry ≡ touched entry.runs.program desk.committed.directory now =
-      ap (λ (state : Option Plain). option_map_or (touched entry.runs.program desk.committed.directory) state no_lines) at in
-      let few : line < line_count desk.committed.directory =
-      touched-below entry.runs.program desk.committed.directory now line (ap (λ (l : Lines). has (all_of l) line) (sym lines) ∙ inside) in
-      omega (arith, few, is.held.pages)
+      grind (arith, nat_tests, touched-below entry.runs.program desk.committed.directory now line)
 
   permitted_all : ArePermitted desk.authority entry.number (wanted desk entry)
   permitted_all =

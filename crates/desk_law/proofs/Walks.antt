@@ -11,8 +11,7 @@ pub record Steps (waits : ℕ → ℕ → Bool) (all : List ℕ) (steps from to 
 
 pub first-step : (waits : ℕ → ℕ → Bool) (all : List ℕ) (steps from to : ℕ) → leads waits all (suc steps) from to ≡ true → Steps waits all steps from to
 first-step waits all steps from to leads_there =
-    let (next, there, passes) = any-some (λ next. waits from next && (next == to || leads waits all steps next to)) all leads_there in
-    record { next = next; there = there; step = grind (arith, passes); rest = grind (arith, nat_tests, passes) }
+    grind (arith, nat_tests, any-some (λ next. waits from next && (next == to || leads waits all steps next to)) all leads_there)
 
 pub one-step : (waits : ℕ → ℕ → Bool) (all : List ℕ) (steps from to next : ℕ) → has all next ≡ true → waits from next ≡ true
     → (next ≡ to) ⊎ (leads waits all steps next to ≡ true) → leads waits all (suc steps) from to ≡ true
@@ -24,16 +23,14 @@ pub leads-wider : (waits wider : ℕ → ℕ → Bool) (all more : List ℕ)
     → (steps from to : ℕ) → leads waits all steps from to ≡ true → leads wider more steps from to ≡ true
 leads-wider waits wider all more wide among zero from to walk = absurd (cc)
 leads-wider waits wider all more wide among (suc steps) from to walk =
-    let first = first-step waits all steps from to walk in
-    grind (arith, first.there, first.step, first.rest, among first.next, wide from first.next, one-step wider more steps from to first.next, leads-wider waits wider all more wide among steps first.next to)
+    grind (arith, nat_tests, first-step, one-step, leads-wider waits wider all more wide among steps (first-step waits all steps from to walk).next to)
 
 -- so do more steps
 pub leads-more : (waits : ℕ → ℕ → Bool) (all : List ℕ) (steps more from to : ℕ) → steps ≤ more → leads waits all steps from to ≡ true → leads waits all more from to ≡ true
 leads-more waits all zero more from to le walk = absurd (cc)
 leads-more waits all (suc steps) zero from to le walk = absurd (omega arith)
 leads-more waits all (suc steps) (suc more) from to le walk =
-    let first = first-step waits all steps from to walk in
-    grind (arith, first.there, first.step, first.rest, one-step waits all more from to first.next, leads-more waits all steps more first.next to)
+    grind (arith, nat_tests, first-step, one-step, leads-more waits all steps more (first-step waits all steps from to walk).next to)
 
 -- one walk after another
 pub walk-on : (waits : ℕ → ℕ → Bool) (all : List ℕ) (steps others from middle to : ℕ)
@@ -110,9 +107,7 @@ stays-away : (one : ℕ) (new old : ℕ → ℕ → Bool) (all : List ℕ) (step
     → leads (except one old) all steps from to ≡ true
 stays-away one new old all zero from to leaves other walk = absurd (cc)
 stays-away one new old all (suc steps) from to leaves other walk =
-    let first = first-step new all steps from to walk in
-    let away = away-from one new old all (suc steps) from to leaves walk in
-    grind (arith, nat_tests, first.there, first.step, first.rest, away, leaves.kept from first.next, away-from one new old all steps first.next to leaves, stays-away one new old all steps first.next to leaves other, one-step (except one old) all steps from to first.next)
+    grind (arith, nat_tests, first-step, away-from, one-step, stays-away one new old all steps (first-step new all steps from to walk).next to leaves other)
 
 pub no-cycle-leaves : (one : ℕ) (new old : ℕ → ℕ → Bool) (all : List ℕ) → Leaves one new old → HasNoCycle (except one old) all → HasNoCycle new all
 no-cycle-leaves one new old all leaves none steps number =
@@ -145,17 +140,13 @@ stable-stays : (waits : ℕ → ℕ → Bool) (all : List ℕ) (to steps : ℕ) 
     → (more x : ℕ) → has all x ≡ true → leads waits all more x to ≡ true → leads waits all steps x to ≡ true
 stable-stays waits all to steps stable zero x inside walk = absurd (cc)
 stable-stays waits all to steps stable (suc more) x inside walk =
-    let first = first-step waits all more x to walk in
-    grind (arith, first.there, first.step, first.rest, stable x inside, one-step waits all steps x to first.next, stable-stays waits all to steps stable more first.next)
+    grind (arith, nat_tests, first-step, one-step, stable-stays waits all to steps stable more (first-step waits all more x to walk).next)
 
 -- so many steps are stable, or more numbers lead there than with fewer
 stable-or-more : (waits : ℕ → ℕ → Bool) (all : List ℕ) (to steps : ℕ)
     → Stable waits all to steps ⊎ (length (filter (reach waits all to steps) all) < length (filter (reach waits all to (suc steps)) all))
 stable-or-more waits all to steps =
-    let more = leads-more waits all steps (suc steps) in
-    let count = count-lt (reach waits all to steps) (reach waits all to (suc steps)) all in
-    let any = any-at (λ x. reach waits all to (suc steps) x && not (reach waits all to steps x)) all in
-    grind (arith, more, count, any)
+    grind (arith, nat_tests, leads-more waits all steps (suc steps), count-lt, any-at)
 
 -- some number of steps is stable, or each brought one number more
 record StableBy (waits : ℕ → ℕ → Bool) (all : List ℕ) (to most : ℕ) : Type 0 where
@@ -177,7 +168,4 @@ stable-by waits all to (suc most) = elim (stable-by waits all to most) [
 pub walk-short : (waits : ℕ → ℕ → Bool) (all : List ℕ) (to from steps : ℕ) → has all from ≡ true → leads waits all steps from to ≡ true
     → leads waits all (length all) from to ≡ true
 walk-short waits all to from steps inside walk =
-    elim (stable-by waits all to (length all)) [
-      | inl by ↦ leads-more waits all by.steps (length all) from to by.upto (stable-stays waits all to by.steps by.stable steps from inside walk)
-      | inr many ↦ all-pass (reach waits all to (length all)) all many from inside
-    ]
+    grind (arith, nat_tests, stable-by waits all to (length all), leads-more waits all, stable-stays waits all to, all-pass)
