@@ -108,8 +108,7 @@ commit-current store most_lines next entries entry now line whole are here is =
       | inl same ↦
           let it : some ≡ entry = one-entry 0 next entries some entry are.ascend there here (eqb-true some.number entry.number same) in
           let same_state : now ≡ state = cc in
-          current-unwritten (left_by store now) most_lines next (others entry entries) leaves line
-          (λ other among.
+          current-unwritten (left_by store now) most_lines next (others entry entries) leaves line (λ other among.
           let (other_there, differs) = among-others entry entries other among in
           ap (λ (l : Lines). has l.writes line) (does_same other other_there differs).1.touched
           ∙ grind (arith, nat_tests, it, holder-or-none store most_lines next entries are some other line there other_there, wrote-held store most_lines next entries are some line wrote))
@@ -126,8 +125,7 @@ commit-current store most_lines next entries entry now line whole are here is =
           )
     ])
     (λ none.
-    current-unwritten (left_by store now) most_lines next (others entry entries) leaves line
-    (λ other among.
+    current-unwritten (left_by store now) most_lines next (others entry entries) leaves line (λ other among.
     let (there, differs) = among-others entry entries other among in
     ap (λ (l : Lines). has l.writes line) (does_same other there differs).1.touched ∙ none other there)
     ∙ sym (after-kept entry.runs.program entry.runs.args store entry.rows now whole is line (none entry here)))

@@ -128,8 +128,7 @@ begin-waits desk runs from to waits =
 
 -- whoever is waited for is active
 pub waited-active : (desk : Desk) (from to : ℕ) → waits_for desk from to ≡ true → has (numbers desk) to ≡ true
-waited-active desk from to waits =
-    grind (arith, nat_tests, waits-by desk from to waits, has-number desk.active)
+waited-active desk from to waits = grind (arith, nat_tests, waits-by desk from to waits, has-number desk.active)
 
 -- waits that end in a set lead as far among its numbers alone
 leads-among : (waits narrow : ℕ → ℕ → Bool) (all set : List ℕ)

@@ -42,16 +42,14 @@ pub record Rolls (desk : Desk) (gone : Entry) (locks requests : ℕ → Lines) (
   pub consistent : IsOrderly (rolled_back desk gone)
   pub told : IsTold desk.committed (rolled_back desk gone).active locks requests states bytes
 
-pub rolls :
-    (desk : Desk) (gone : Entry) (locks requests : ℕ → Lines) (states : ℕ → Plain) (bytes new : List ℕ)
+pub rolls : (desk : Desk) (gone : Entry) (locks requests : ℕ → Lines) (states : ℕ → Plain) (bytes new : List ℕ)
     → IsOrderly desk → IsAmong desk.active gone → IsTold desk.committed desk.active locks requests states bytes
     → IsLaid desk.committed (due_to desk.committed gone).writes desk.committed.bytes bytes new
     → Rolls desk gone locks requests states new
 rolls desk gone locks requests states bytes new is here told laid = grind (arith, nat_tests, rolled-consistent desk gone is, told-rollback desk.committed desk.most_lines desk.next desk.active locks requests states bytes new gone is.active here told laid)
 
 -- a program check
-pub check-ends :
-    (desk : Desk) (counts : Counts) (entry : Entry) (now : Plain) (code : ℕ) (bytes : List ℕ)
+pub check-ends : (desk : Desk) (counts : Counts) (entry : Entry) (now : Plain) (code : ℕ) (bytes : List ℕ)
     → after entry.runs.program entry.runs.args desk.committed entry.rows ≡ Some now
     → row entry.runs.program desk.committed.directory (over_all now bytes) ≡ Check code
     → (word : Word) → instruction word (Some entry) desk counts ≡ Over (rolled_back desk entry) counts (Checked code now.iar)

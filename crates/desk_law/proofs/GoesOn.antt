@@ -25,8 +25,7 @@ apart-still fine mine new theirs apart none =
     record {
       first_writes = λ line inside. grind (arith, nat_tests, has-append mine.writes new.writes line, apart.first_writes line, meets-at new.writes (theirs.reads ++ theirs.writes) line);
       second_writes = λ line inside.
-          false_from_ne_true (has (all_of (with_whole_pages fine (both mine new))) line)
-          (λ there.
+          false_from_ne_true (has (all_of (with_whole_pages fine (both mine new))) line) (λ there.
           elim (or_cases (has (with_whole_pages fine (both mine new)).reads line) (has (mine.writes ++ new.writes) line) (sym (has-append (with_whole_pages fine (both mine new)).reads (mine.writes ++ new.writes) line) ∙ there)) [
             | inl read ↦ unread line inside read
             | inr written ↦ unwritten line inside written
@@ -125,8 +124,7 @@ grants-held desk attempt refused ready none =
       held =
           held-lowered (is_fine_page desk.committed.directory) desk.committed desk.next (replaced (gone_on attempt.entry) desk.active) (gone_on attempt.entry) attempt
           (both (touched_of desk.committed attempt.entry) attempt.lines) refused desk.authority
-          (ascend-replaced (gone_on attempt.entry) 0 desk.next desk.active ready.contending.active.ascend)
-          there refl
+          (ascend-replaced (gone_on attempt.entry) 0 desk.next desk.active ready.contending.active.ascend) there refl
           (ap (λ (l : Lines). with_whole_pages (is_fine_page desk.committed.directory) (both (touched_of desk.committed attempt.entry) l)) ready.lines ∙ sym (due-more desk.committed attempt.entry))
           moved;
       no_cycle = ready.contending.no_cycle;
@@ -147,8 +145,7 @@ pub gone-on-active :
     → size ((touched_of desk.committed entry).writes ++ (wanted desk entry).writes) ≤ most
     → AreConsistent desk.committed most desk.next (replaced (gone_on entry) desk.active)
 gone-on-active desk most entry mark now next are here at went none short =
-    replaced-consistent desk.committed most desk.next desk.active (gone_on entry) are live
-    (λ other among differ.
+    replaced-consistent desk.committed most desk.next desk.active (gone_on entry) are live (λ other among differ.
     subst (λ (l : Lines). AreApart l (due_to desk.committed other)) (sym due)
     (apart-still (is_fine_page desk.committed.directory) (touched_of desk.committed entry) (wanted desk entry) (due_to desk.committed other)
     (apart-turned (due_to desk.committed other) (due_to desk.committed entry) (are.apart other (record entry { waiting = mark }) among here differ))

@@ -42,8 +42,7 @@ pub granted-permits :
     (fine : ℕ → Bool) (attempt : Attempt) (locks : Lines) (before later : List Grant) → KeepsPages attempt.entry.number before later
     → ((line : ℕ) → has attempt.lines.reads line ≡ true → has locks.reads line ≡ true) → ((line : ℕ) → has attempt.lines.writes line ≡ true → has locks.writes line ≡ true)
     → ((line : ℕ) → has (all_of attempt.lines) line ≡ true → page_of_line line < length later)
-    → ArePermitted
-    (granted fine attempt locks
+    → ArePermitted (granted fine attempt locks
     (filter (λ page. refuses (slice_index_or before page nobody) attempt.entry.number (lines_within page attempt.lines)) (touched_pages attempt)) later)
     attempt.entry.number attempt.lines
 granted-permits fine attempt locks before later keeps reads writes below = record {

@@ -130,8 +130,7 @@ given-owner fine attempt locks page = grind (arith, nat_tests, owner-by)
 -- Pages granted to an entry: what is permitted to the others is held still.
 pub held-granted :
     (fine : ℕ → Bool) (store : FlatStore) (entries : List Entry) (new : Entry) (attempt : Attempt) (locks : Lines) (pages : List ℕ) (authority : List Grant)
-    → IsAmong entries new → attempt.entry.number ≡ new.number
-    → IsHeldBut attempt.entry.number store entries authority
+    → IsAmong entries new → attempt.entry.number ≡ new.number → IsHeldBut attempt.entry.number store entries authority
     → IsHeldBut attempt.entry.number store entries (granted fine attempt locks pages authority)
 held-granted fine store entries new attempt locks pages authority here same held = record {
   pages = length-each (given fine attempt locks) pages authority ∙ held.pages;

@@ -58,11 +58,9 @@ module _ (numbers : ℕ → ℕ) (none : numbers 0 ≡ 0) where
       by_writes page writes = grind (arith, nat_tests)
 
       by_fine : (page : ℕ) (is_fine storing : Bool)
-          → owner_told numbers
-          (if is_fine
+          → owner_told numbers (if is_fine
           then fine_grant_by identifier storing (within_page page locks.reads) (within_page page locks.writes)
-          else grant_by identifier (within_page page locks.reads) (within_page page locks.writes))
-          ≡ (if is_fine
+          else grant_by identifier (within_page page locks.reads) (within_page page locks.writes)) ≡ (if is_fine
           then fine_grant_by attempt.entry.number storing (within_page page locks.reads) (within_page page locks.writes)
           else grant_by attempt.entry.number (within_page page locks.reads) (within_page page locks.writes))
       by_fine page true true = λ i. record { owner = is i; write = true; lines = within_page page locks.writes }

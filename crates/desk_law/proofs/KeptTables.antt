@@ -48,8 +48,7 @@ module _ (desk : Desk) (locks requests : ℕ → Lines) (are : AreKept desk.comm
       any-entries
       (λ entry. entry.number == from && entry.waiting && list_any (λ other. other.number == to && kept_conflict (requests entry.number) locks entry.number other) desk.active)
       (λ entry. entry.number == from && entry.waiting && list_any (λ other. other.number == to && conflicts_with desk entry other) desk.active)
-      desk.active
-      (λ entry among. by_mark entry entry.waiting refl among)
+      desk.active (λ entry among. by_mark entry entry.waiting refl among)
     where
       by_mark : (entry : Entry) (mark : Bool) → entry.waiting ≡ mark → IsAmong desk.active entry
           → (entry.number == from && entry.waiting && list_any (λ other. other.number == to && kept_conflict (requests entry.number) locks entry.number other) desk.active)

@@ -135,8 +135,7 @@ module _ (programs : List Program) (number : ℕ) where
 
     -- a crash while no commit line of it was printed
     pub left_quiet : (text printed seen : List ℕ) (count : ℕ) → IsEitherOf programs number event old went.desk image → seen ≡ printed ++ take count text → commits_seen (take count text) ≡ 0 → IsLeft programs number old ((event, word) ∷ []) text printed image seen
-    left_quiet text printed seen count either is none =
-        let it = near either in
+    left_quiet text printed seen count either is none = let it = near either in
         record { at = it.at; count = count; seen_is = is; told = omega (arith, none, it.least); most = omega (arith, none, it.most) }
 
     -- a crash behind it, while the desk is open

@@ -55,8 +55,7 @@ module _ (old : Desk) (attempt : Attempt) (is : IsOrderly old) (here : IsAmong o
       (λ number. ap (λ (these : List ℕ). has these number) (numbers-replaced (gone_on attempt.entry) done.moment.active)) of in
       subst
       (λ (d : Desk). IsMemory d (row_of d.committed.directory (find (λ (entry : Entry). entry.number == attempt.entry.number) d.active) (given_back d.committed.directory (numbers old) (numbers d) memory)))
-      (sym done.is)
-      (subst (IsMemory (row_done attempt done.moment))
+      (sym done.is) (subst (IsMemory (row_done attempt done.moment))
       (sym (ap (λ (one : Option Entry). row_of done.moment.committed.directory one (given_back done.moment.committed.directory (numbers old) (numbers (row_done attempt done.moment)) memory)) found))
       (row-done done.moment attempt done.next (given_back done.moment.committed.directory (numbers old) (numbers (row_done attempt done.moment)) memory) done.granted done.went between_is))
 
@@ -124,8 +123,7 @@ idle-turns word number zero desk memory is none of = of
 idle-turns word number (suc left) desk memory is none of =
     subst
     (λ (one : Option Entry). IsMemory desk (after_turns word number left (instruction word one desk no_counts) (after_instruction number desk (instruction word one desk no_counts) memory)))
-    (sym none)
-    (by_left left)
+    (sym none) (by_left left)
   where
     back : IsMemory desk (given_back desk.committed.directory (numbers desk) (numbers desk) memory)
     back = given-back desk desk (numbers desk) memory desk.most_lines is is.active (same-fewer desk) (λ number. refl) of
@@ -148,8 +146,7 @@ memory-begin programs program args word desk memory is of = by_code (slice_get p
 
     first : (code : Program) → length desk.active < desk.most_active → absent_segment desk.committed.directory code.windows ≡ None
         → IsMemory (with_first desk (record { program = code; args = args })) (with_machine desk.next (first_machine args desk.committed (Some code)) memory)
-    first code few present =
-        let runs : Activation = record { program = code; args = args } in
+    first code few present = let runs : Activation = record { program = code; args = args } in
         record {
           committed = of.committed;
           bytes =

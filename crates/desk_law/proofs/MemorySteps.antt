@@ -70,8 +70,7 @@ module _ (old desk : Desk) (stay : List ℕ) (memory : Memory) (most : ℕ) (is_
       let (one, there, own) = number-of old.active number parts.0 in
       let one_wrote : Wrote old one line = ap (λ (l : List ℕ). has l line) (sym (wrote-is old memory one is there)) ∙ ap (λ (n : ℕ). has (wrote_by memory n) line) own ∙ wrote in
       let holds = wrote-held old.committed old.most_lines old.next old.active is_old.active one line one_wrote in
-      current-unwritten desk.committed most desk.next desk.active are line
-      (λ entry among.
+      current-unwritten desk.committed most desk.next desk.active are line (λ entry among.
       grind (arith, nat_tests, wrote-before entry line among, λ (before : Entry). holder-or-none old.committed old.most_lines old.next old.active is_old.active one before line there, holds, has-number desk.active entry among, stays number, parts.1, own))
 
   -- any other line is as it was

@@ -13,8 +13,7 @@ pub unwritten : (fine : ℕ → Bool) (first second : Lines) → AreApart (with_
 unwritten fine first second apart line inside = grind (arith, nat_tests, has-append, has_left, has_right)
 
 -- another does the same over what the commit leaves
-pub another-same :
-    (store : FlatStore) (entry other : Entry) (now state : Plain) → IsWhole store
+pub another-same : (store : FlatStore) (entry other : Entry) (now state : Plain) → IsWhole store
     → after entry.runs.program entry.runs.args store entry.rows ≡ Some now
     → after other.runs.program other.runs.args store other.rows ≡ Some state
     → AreApart (due_to store entry) (due_to store other)
@@ -29,8 +28,7 @@ pub record StaysSame (store later : FlatStore) (other : Entry) : Type 0 where
 pub another-stays :
     (store : FlatStore) (most_lines next : ℕ) (entries : List Entry) (entry other : Entry) (now : Plain) → IsWhole store
     → AreConsistent store most_lines next entries → IsAmong entries entry → IsAmong entries other → (other.number == entry.number) ≡ false
-    → after entry.runs.program entry.runs.args store entry.rows ≡ Some now
-    → StaysSame store (left_by store now) other
+    → after entry.runs.program entry.runs.args store entry.rows ≡ Some now → StaysSame store (left_by store now) other
 another-stays store most_lines next entries entry other now whole are here there differ is =
     grind (arith, nat_tests, another-same store entry other now)
 
@@ -55,7 +53,6 @@ commit-leaves store most_lines next entries entry now whole are here is =
     grind (arith, nat_tests, ascend-filter, among-others entry entries, another-same, another-stays store most_lines next entries entry)
 
 -- and after a rollback
-pub rollback-leaves :
-    (store : FlatStore) (most_lines next : ℕ) (entries : List Entry) (entry : Entry)
+pub rollback-leaves : (store : FlatStore) (most_lines next : ℕ) (entries : List Entry) (entry : Entry)
     → AreConsistent store most_lines next entries → AreConsistent store most_lines next (others entry entries)
 rollback-leaves store most_lines next entries entry are = grind (arith, nat_tests, ascend-filter, among-filter)

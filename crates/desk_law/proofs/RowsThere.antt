@@ -37,8 +37,7 @@ within-most desk entry is here = grind (arith, nat_tests, (is.active.live entry 
 pub open-row :
     (word : Word) (desk : Desk) (counts : Counts) (entry : Entry) (now next : Plain) → IsOrderly desk → IsAmong desk.active entry
     → after entry.runs.program entry.runs.args desk.committed entry.rows ≡ Some now
-    → row entry.runs.program desk.committed.directory now ≡ On next
-    → AreThere desk entry.number (wanted desk entry)
+    → row entry.runs.program desk.committed.directory now ≡ On next → AreThere desk entry.number (wanted desk entry)
     → instruction word (Some entry) desk counts ≡ Going (with_entry desk (gone_on entry)) (record counts { ran = counts.ran + 1 })
 open-row word desk counts entry now next is here at went there =
     let held : ArePart (requested desk.committed entry) (due_to desk.committed entry) = there-held desk entry is here there in
@@ -79,8 +78,7 @@ commit-row word desk counts entry now is here at went =
     ∙ stage-commit word (next_attempt desk entry now) desk counts (next_attempt desk entry now).outcome went
 
 -- A program check rolls back, whatever is there.
-pub check-row :
-    (word : Word) (desk : Desk) (counts : Counts) (entry : Entry) (now : Plain) (code : ℕ)
+pub check-row : (word : Word) (desk : Desk) (counts : Counts) (entry : Entry) (now : Plain) (code : ℕ)
     → after entry.runs.program entry.runs.args desk.committed entry.rows ≡ Some now
     → row entry.runs.program desk.committed.directory now ≡ Check code
     → instruction word (Some entry) desk counts ≡ Over (rolled_back desk entry) counts (Checked code now.iar)

@@ -94,11 +94,9 @@ module _ (taken : List ℕ) (entry_of : ℕ → Entry) (are : AreSeats taken ent
       any-named entry_of
       (λ other. other.number == (entry_of to).number && kept_conflict (by_number taken entry_of requests no_lines (entry_of from).number) (by_number taken entry_of locks no_lines) (entry_of from).number other)
       (λ other. (entry_of other).number == (entry_of to).number && kept_conflict (by_number taken entry_of requests no_lines (entry_of from).number) (by_number taken entry_of locks no_lines) (entry_of from).number (entry_of other))
-      taken (λ at inside. refl)
-      ∙ one-passes
+      taken (λ at inside. refl) ∙ one-passes
       (λ other. (entry_of other).number == (entry_of to).number && kept_conflict (by_number taken entry_of requests no_lines (entry_of from).number) (by_number taken entry_of locks no_lines) (entry_of from).number (entry_of other))
-      (not (to == from) && conflicts (requests from) (locks to)) taken to there
-      (λ other inside.
+      (not (to == from) && conflicts (requests from) (locks to)) taken to there (λ other inside.
       (λ i. are.apart other to inside there i && kept_conflict (at-number taken entry_of requests no_lines from are here i) (by_number taken entry_of locks no_lines) (entry_of from).number (entry_of other))
       ∙ grind (arith, nat_tests, conflict-seats (requests from) from other here inside)) in
       any-named entry_of

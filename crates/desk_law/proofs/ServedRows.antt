@@ -68,15 +68,11 @@ module _ (desk : Desk) (counts : Counts) (entry : Entry) (now shown : Plain) (by
       contesting-begins (λ word. instruction word (Some entry) desk counts) (served_attempt desk entry now bytes) (refused_pages (served_attempt desk entry now bytes) desk) holder holders
       (record desk { resident = first })
       (record counts { pages = counted; locks = counts.locks + length (refused_pages (served_attempt desk entry now bytes) desk) })
-      locks requests asked states bytes
-      (λ word reads.
+      locks requests asked states bytes (λ word reads.
       serve-asks desk counts entry now shown bytes is here at went within locks requests first counted told.kept fetched word reads
       ∙ ap
       (λ (these : List ℕ). asks word (served_attempt desk entry now bytes) (refused_pages (served_attempt desk entry now bytes) desk) these (record desk { resident = first })
       (record counts { pages = counted; locks = counts.locks + length (refused_pages (served_attempt desk entry now bytes) desk) }))
-      some)
-      (serve-ready desk counts entry now shown bytes is here at went within first)
-      (record { whole = is.whole; few = is.few; active = is.active; held = is.held; no_cycle = is.no_cycle })
-      here told
-      (subst (λ (l : Lines). AreAlike l (requested desk.committed entry)) (sym asked_is) alike-asked)
-      but
+      some) (serve-ready desk counts entry now shown bytes is here at went within first)
+      (record { whole = is.whole; few = is.few; active = is.active; held = is.held; no_cycle = is.no_cycle }) here told
+      (subst (λ (l : Lines). AreAlike l (requested desk.committed entry)) (sym asked_is) alike-asked) but

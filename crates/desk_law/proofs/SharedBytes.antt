@@ -20,8 +20,7 @@ current-seen store most_lines next entries entry state line whole are here is fr
     ]
 
 -- (a') where nobody conflicts, the next row's lines are seen as they are now
-pub current-wanted :
-    (desk : Desk) (most : ℕ) (entry : Entry) (state : Plain) (line : ℕ) → IsWhole desk.committed
+pub current-wanted : (desk : Desk) (most : ℕ) (entry : Entry) (state : Plain) (line : ℕ) → IsWhole desk.committed
     → AreConsistent desk.committed most desk.next desk.active → IsAmong desk.active entry
     → after entry.runs.program entry.runs.args desk.committed entry.rows ≡ Some state
     → conflicts_of desk entry ≡ [] → has (all_of (wanted desk entry)) line ≡ true

@@ -100,8 +100,7 @@ module _ (word : Word) (attempt : Attempt) (most : ℕ) (old : Desk) where
   goes-fetch : (desk : Desk) (counts : Counts) (fetching : Fetching) → Room desk counts → From attempt.entry.number old desk → IsOrderly desk → IsAmong desk.active attempt.entry
       → after attempt.entry.runs.program attempt.entry.runs.args desk.committed attempt.entry.rows ≡ Some attempt.now
       → row attempt.entry.runs.program desk.committed.directory attempt.now ≡ attempt.outcome
-      → attempt.lines ≡ wanted desk attempt.entry
-      → lines_written attempt desk ≤ desk.most_lines
+      → attempt.lines ≡ wanted desk attempt.entry → lines_written attempt desk ≤ desk.most_lines
       → Goes old attempt most (fetched_first word attempt desk counts fetching)
   goes-fetch desk counts (Broken counted) fits from is here now went lines short = goes-broken desk counts counted fits from (rolled-consistent desk attempt.entry is)
   goes-fetch desk counts (Fetched resident counted) fits from is here now went lines short =
@@ -123,16 +122,14 @@ module _ (word : Word) (attempt : Attempt) (most : ℕ) (old : Desk) where
   goes-limit : (over : Bool) (desk : Desk) (counts : Counts) → Room desk counts → From attempt.entry.number old desk → is_over_limit attempt desk ≡ over → IsOrderly desk → IsAmong desk.active attempt.entry
       → after attempt.entry.runs.program attempt.entry.runs.args desk.committed attempt.entry.rows ≡ Some attempt.now
       → row attempt.entry.runs.program desk.committed.directory attempt.now ≡ attempt.outcome
-      → attempt.lines ≡ wanted desk attempt.entry
-      → Goes old attempt most (limited over word attempt desk counts)
+      → attempt.lines ≡ wanted desk attempt.entry → Goes old attempt most (limited over word attempt desk counts)
   goes-limit true desk counts fits from over is here now went lines = ((rolled-consistent desk attempt.entry is, tt, omega (arith, fits)), rolled-done old attempt desk from)
   goes-limit false desk counts fits from under is here now went lines = grind (arith, nat_tests, goes-fetch desk counts (fetches_touched word attempt desk counts) fits from is here now went lines (ltb-false desk.most_lines (lines_written attempt desk) under))
 
   pub goes-attempt : (outcome : Outcome) (desk : Desk) (counts : Counts) → Room desk counts → From attempt.entry.number old desk → IsOrderly desk → IsAmong desk.active attempt.entry
       → after attempt.entry.runs.program attempt.entry.runs.args desk.committed attempt.entry.rows ≡ Some attempt.now
       → row attempt.entry.runs.program desk.committed.directory attempt.now ≡ attempt.outcome
-      → attempt.lines ≡ wanted desk attempt.entry
-      → Goes old attempt most (attempts word attempt outcome desk counts)
+      → attempt.lines ≡ wanted desk attempt.entry → Goes old attempt most (attempts word attempt outcome desk counts)
   goes-attempt (Check code) desk counts fits from is here now went lines = ((rolled-consistent desk attempt.entry is, tt, omega (arith, fits)), rolled-done old attempt desk from)
   goes-attempt _ desk counts fits from is here now went lines = goes-limit (is_over_limit attempt desk) desk counts fits from refl is here now went lines
 

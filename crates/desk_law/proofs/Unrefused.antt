@@ -7,8 +7,7 @@ use Rattle.desk_law.proofs.Permitted.{permitted-held, held-free}
 module _ (desk : Desk) (entry : Entry) (now : Plain) (is : IsOrderly desk) (among : IsAmong desk.active entry)
     (at : after entry.runs.program entry.runs.args desk.committed entry.rows ≡ Some now) (none : refused_pages (next_attempt desk entry now) desk ≡ []) where
   below : (line : ℕ) → has (all_of (wanted desk entry)) line ≡ true → page_of_line line < length desk.authority
-  below line inside =
-      grind (arith, nat_tests, touched-below entry.runs.program desk.committed.directory now line)
+  below line inside = grind (arith, nat_tests, touched-below entry.runs.program desk.committed.directory now line)
 
   permitted_all : ArePermitted desk.authority entry.number (wanted desk entry)
   permitted_all =

@@ -102,8 +102,7 @@ gone-on desk entry new same not_waiting = record {
       let by = waits-by (with_entry desk new) from to waits in
       let first = among-replaced new desk.active by.entry by.entry_among in
       let second = among-replaced new desk.active by.other by.other_among in
-      let still = waits-still (with_entry desk new) desk from to by in
-      grind (arith, nat_tests, first, second, still);
+      let still = waits-still (with_entry desk new) desk from to by in grind (arith, nat_tests, first, second, still);
 }
   where
     waits_for_none : (to : ℕ) → waits_for (with_entry desk new) entry.number to ≡ false

@@ -145,8 +145,7 @@ stable-stays waits all to steps stable (suc more) x inside walk =
 -- so many steps are stable, or more numbers lead there than with fewer
 stable-or-more : (waits : ℕ → ℕ → Bool) (all : List ℕ) (to steps : ℕ)
     → Stable waits all to steps ⊎ (length (filter (reach waits all to steps) all) < length (filter (reach waits all to (suc steps)) all))
-stable-or-more waits all to steps =
-    grind (arith, nat_tests, leads-more waits all steps (suc steps), count-lt, any-at)
+stable-or-more waits all to steps = grind (arith, nat_tests, leads-more waits all steps (suc steps), count-lt, any-at)
 
 -- some number of steps is stable, or each brought one number more
 record StableBy (waits : ℕ → ℕ → Bool) (all : List ℕ) (to most : ℕ) : Type 0 where

@@ -124,16 +124,14 @@ RunsAreIsolatedBy asking = OfRuns asking (λ names programs number events store 
 -- The law that what machines beside a desk that asks so commit is what the same programs leave one after another.
 abbrev pub SideBySideIsSerialBy : Asking → Type 0
 SideBySideIsSerialBy asking =
-    OfRuns asking
-    (λ names programs number events store desk ran.
+    OfRuns asking (λ names programs number events store desk ran.
     (rest : List Event) → IsTrue ran.each_open
     → IsSerial (begun programs (map (λ event. event.0) events ++ rest)) number store ran.desk.order ran.lines (record store { bytes = ran.memory.committed }) ran.desk.closed)
 
 -- The law that a commit of a desk that asks so tells the bytes that the machine of its activation printed.
 abbrev pub CommitsTellTheMachineBy : Asking → Type 0
 CommitsTellTheMachineBy asking =
-    OfRuns asking
-    (λ names programs number events store desk ran.
+    OfRuns asking (λ names programs number events store desk ran.
     (activation limit : ℕ) (word : Word) (counts : Counts) (steps : ℕ) (printed : List ℕ)
     → (step_by asking programs (Turn activation limit) word ran.desk ran.memory).0.happening ≡ Turned activation counts (Committed steps printed)
     → (machine : Machine) × ((step_by asking programs (Turn activation limit) word ran.desk ran.memory).1.machines activation ≡ Some machine) × (machine.state.out ≡ printed))

@@ -25,8 +25,7 @@ abbrev pub RowsChangeTheirLines : Type 0
 RowsChangeTheirLines =
     (desk : Desk) (entry : Entry) (now next : Plain) (line : ℕ) → IsConsistent desk → IsAmong desk.active entry
     → after entry.runs.program entry.runs.args desk.committed entry.rows ≡ Some now
-    → row entry.runs.program desk.committed.directory now ≡ On next
-    → conflicts_of desk entry ≡ []
+    → row entry.runs.program desk.committed.directory now ≡ On next → conflicts_of desk entry ≡ []
     → current (with_entry desk (gone_on entry)) line
     ≡ (if has (wanted desk entry).writes line then line_in desk.committed.directory next.store line else current desk line)
 
@@ -35,8 +34,7 @@ abbrev pub RowsRunOnCurrent : Type 0
 RowsRunOnCurrent =
     (desk : Desk) (entry : Entry) (now next : Plain) → IsConsistent desk → IsAmong desk.active entry
     → after entry.runs.program entry.runs.args desk.committed entry.rows ≡ Some now
-    → row entry.runs.program desk.committed.directory now ≡ On next
-    → conflicts_of desk entry ≡ []
+    → row entry.runs.program desk.committed.directory now ≡ On next → conflicts_of desk entry ≡ []
     → row entry.runs.program desk.committed.directory (record now { store = current_bytes desk })
     ≡ On (record next { store = current_bytes (with_entry desk (gone_on entry)) })
 

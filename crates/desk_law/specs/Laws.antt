@@ -13,8 +13,7 @@ StaysConsistent =
 abbrev pub RunsStayConsistent : Type 0
 RunsStayConsistent =
     (programs : List Program) (frames most_active most_lines : ℕ) (store : FlatStore) (events : List (Event × Word))
-    → IsWhole store → 2 ≤ frames
-    → IsConsistent (run programs events (opened frames most_active most_lines store))
+    → IsWhole store → 2 ≤ frames → IsConsistent (run programs events (opened frames most_active most_lines store))
 
 -- a number is that of an active entry
 abbrev pub IsActive : Desk → ℕ → Type 0
@@ -110,5 +109,4 @@ abbrev pub ContestedCyclesClose : Type 0
 ContestedCyclesClose =
     (desk met : Desk) (entry : Entry) (counts counted : Counts) (rounds : ℕ) (cycle : List ℕ) → IsConsistent desk → IsAmong desk.active entry
     → breaks_cycles rounds entry.number (Contested (with_entry desk (record entry { waiting = true })) counts) ≡ Contested met counted
-    → shown_cycle (waits_for met) (numbers met) entry.number ≡ Some cycle
-    → EndsWith entry.number cycle
+    → shown_cycle (waits_for met) (numbers met) entry.number ≡ Some cycle → EndsWith entry.number cycle

@@ -132,8 +132,7 @@ RunsAreIsolated =
 abbrev pub CommitsTellTheMachine : Type 0
 CommitsTellTheMachine =
     (programs : List Program) (frames most_active most_lines : ℕ) (store : FlatStore) (events : List (Event × Word))
-    (number limit : ℕ) (word : Word) (counts : Counts) (steps : ℕ) (printed : List ℕ)
-    → IsWhole store → 2 ≤ frames
+    (number limit : ℕ) (word : Word) (counts : Counts) (steps : ℕ) (printed : List ℕ) → IsWhole store → 2 ≤ frames
     → (step programs (Turn number limit) word (run programs events (opened frames most_active most_lines store))).happening
     ≡ Turned number counts (Committed steps printed)
     → (machine : Machine)

@@ -12,8 +12,7 @@ conflicting asked holds conflict desk entry =
 -- without the whole page: of whatever page only the lines that are touched are locked
 abbrev pub without_whole_pages : Asking
 without_whole_pages =
-    asks_refused_by
-    (conflicting (λ desk entry. with_whole_pages (λ page. true) (wanted desk entry))
+    asks_refused_by (conflicting (λ desk entry. with_whole_pages (λ page. true) (wanted desk entry))
     (λ desk entry. with_whole_pages (λ page. true) (touched_of desk.committed entry)) conflicts)
 
 -- without the rule that a read meets a write
