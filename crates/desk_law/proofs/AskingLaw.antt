@@ -1,5 +1,5 @@
 -- The desk that asks where it is refused does what the desk does.
-use Rattle.desk_law.proofs.Common.{◌≡◌, refl, ℕ, zero, suc, ◌+◌, ◌==◌, not, if◌then◌else◌, List, [], ◌∷◌, ◌++◌, length, find, Some, arith, ap, sym, subst, and_parts, Plain, after, Program, Event, Turn, Desk, Entry, opened, Word, Counts, Turning, Going, Over, attempts, refused_pages, conflicts_of, instruction, turns, step, IsAmong, IsConsistent, IsOrderly, Memory, after_event, after_turns, after_instruction, memory_of, IsMemory, FindTheirOwn, nat_tests, Turned, Committed, Machine, next_attempt, counts_refused, happening_lines, number_after, Step, asks_for, asks_refused, attempts_by, step_by, before, run_by, InstructionsAskAlike, IsRunOfDesk, RunsAskAlike, RunsStayConsistentBy, RunsAreIsolatedBy, SideBySideIsSerialBy, CommitsTellTheMachineBy, Line}
+use Rattle.desk_law.proofs.Common.{◌≡◌, refl, ℕ, zero, suc, ◌+◌, ◌==◌, not, if◌then◌else◌, List, [], ◌∷◌, ◌++◌, length, find, Some, arith, ap, sym, subst, and_parts, Plain, after, Program, Event, Turn, Desk, Entry, opened, Word, Counts, Turning, Going, Over, attempts, refused_pages, conflicts_of, instruction, turns, step, IsAmong, IsConsistent, IsOrderly, Memory, after_event, after_turns, memory_of, IsMemory, FindTheirOwn, nat_tests, Turned, Committed, Machine, next_attempt, counts_refused, happening_lines, number_after, Step, asks_for, asks_refused, attempts_by, step_by, before, run_by, InstructionsAskAlike, IsRunOfDesk, RunsAskAlike, RunsStayConsistentBy, RunsAreIsolatedBy, SideBySideIsSerialBy, CommitsTellTheMachineBy, Line}
 unfoldable use Rattle.desk_law.specs.Asking.{instruction_by, turns_by}
 use Rattle.desk_law.proofs.Entries.{orderly, among-found}
 use Rattle.desk_law.proofs.TurnsStay.{Stays, resident-consistent, stays-instruction}
@@ -49,9 +49,7 @@ module _ (word : Word) (number : ℕ) where
   turns-alike : (left : ℕ) (turning : Turning) (memory : Memory) → GoesOrderly turning → turns_by asks_refused word number left turning memory ≡ (turns word number left turning, after_turns word number left turning memory)
   unfolding turns turns_by
   turns-alike zero (Going desk counts) memory is = refl
-  turns-alike (suc left) (Going desk counts) memory is =
-      let next = instruction word (find (λ (entry : Entry). entry.number == number) desk.active) desk counts in
-      cc ((one-alike desk counts is).0, turns-alike left next (after_instruction number desk next memory) (one-alike desk counts is).1)
+  turns-alike (suc left) (Going desk counts) memory is = grind (arith, nat_tests, one-alike, turns-alike left)
   turns-alike zero (Over desk counts ending) memory is = refl
   turns-alike (suc left) (Over desk counts ending) memory is = refl
 

@@ -1,5 +1,5 @@
 -- A consistent desk stays so.
-use Rattle.desk_law.proofs.Common.{◌≡◌, refl, ℕ, ◌+◌, ◌<◌, ◌==◌, true, List, [], ◌∷◌, length, find, Option, Some, None, slice_get, arith, eqb-true, eq-eqb, both_ways, ltb-true, page_count, Program, Event, Begin, Turn, Checkpoint, Crash, Desk, Entry, opened, Word, Failed, Counts, Turning, Going, instruction, turns, turn, no_counts, turned, begin_if, restarted, event_of, step, run, IsAmong, Ascend, IsConsistent, turn_desk, StaysConsistent, IsActive, IdleWhereInactive, RunsStayConsistent, IsOrderly, nat_tests}
+use Rattle.desk_law.proofs.Common.{◌≡◌, refl, ℕ, ◌+◌, ◌<◌, ◌==◌, true, List, [], ◌∷◌, length, find, Option, Some, None, slice_get, arith, eqb-true, eq-eqb, both_ways, page_count, Program, Event, Begin, Turn, Checkpoint, Crash, Desk, Entry, Word, Failed, Counts, Turning, Going, instruction, turns, turn, no_counts, turned, begin_if, restarted, event_of, step, run, IsAmong, Ascend, IsConsistent, turn_desk, StaysConsistent, IsActive, IdleWhereInactive, RunsStayConsistent, IsOrderly, nat_tests}
 use Rattle.desk_law.proofs.Entries.{orderly, among-found, none-found, found-among}
 use Rattle.desk_law.proofs.Endings.{begins-consistent, refused-consistent, quiet-consistent, opened-consistent}
 use Rattle.desk_law.proofs.TurnsStay.{Stays, stays-turns, stays-instruction}
@@ -49,8 +49,7 @@ refused desk is = consistent (record desk { next = desk.next + 1 }) (refused-con
 stays-begin : (program : ℕ) (args : List ℕ) (code : Option Program) (desk : Desk) → IsConsistent desk → IsConsistent (begin_if program args code desk).desk
 stays-begin program args None desk is = is
 stays-begin program args (Some code) desk is =
-    let begun = begins-consistent desk (record { program = code; args = args }) (orderly desk is) in
-    grind (arith, nat_tests, begun, consistent, ltb-true, refused desk is)
+    grind (arith, nat_tests, begins-consistent desk, orderly desk is, refused)
 
 -- a crash
 stays-crash : (desk : Desk) → IsConsistent desk → IsConsistent (restarted desk)
@@ -87,6 +86,4 @@ run-consistent programs (event ∷ events) desk is =
 
 pub runs-consistent : RunsStayConsistent
 runs-consistent programs frames most most_lines store events whole two =
-    run-consistent programs events (opened frames most most_lines store)
-    (consistent (opened frames most most_lines store) (opened-consistent frames most most_lines store whole)
-    (record { frames = two; resident = none-resident frames (page_count store.directory) }))
+    grind (arith, nat_tests, run-consistent programs events, opened-consistent frames most most_lines store whole)

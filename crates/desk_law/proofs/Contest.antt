@@ -1,5 +1,5 @@
 -- Cycles of waits and their victims.
-use Rattle.desk_law.proofs.Common.{◌≡◌, refl, ℕ, zero, suc, ◌+◌, ◌<◌, ◌≤◌, ◌==◌, ◌⊎◌, not, max, Bool, true, false, List, [], ◌∷◌, ◌++◌, length, filter, map, find, fold, Option, Some, None, arith, sym, subst, inl, length-append, and_parts, has, leads, shown_cycle, victim_of, after-among, Desk, Entry, Grant, rolled_back, numbers, waits_for, Counts, Contest, Contested, Settled, Lost, breaks_cycle, breaks_cycles, IsAmong, IsOrderly, except, IsContending, KeepsPages, nat_tests, both, contest}
+use Rattle.desk_law.proofs.Common.{◌≡◌, refl, ℕ, zero, suc, ◌+◌, ◌<◌, ◌≤◌, ◌==◌, ◌⊎◌, not, max, Bool, true, false, List, [], ◌∷◌, ◌++◌, length, filter, map, find, fold, Option, Some, None, arith, subst, inl, length-append, and_parts, has, leads, shown_cycle, victim_of, after-among, Desk, Entry, Grant, rolled_back, numbers, waits_for, Counts, Contest, Contested, Settled, Lost, breaks_cycle, breaks_cycles, IsAmong, IsOrderly, except, IsContending, KeepsPages, nat_tests, both, contest}
 use Rattle.desk_law.proofs.Entries.{among-filter, filter-among, among-found, none-found, filter-short}
 use Rattle.desk_law.proofs.Walks.{no-cycle-fewer, no-cycle-from, no-cycle-leaves, walk-short}
 use Rattle.desk_law.proofs.Others.{rollback-leaves}
@@ -119,11 +119,7 @@ breaks-all (suc left) one most entry old desk counts named among is enough store
         by_victim None none lost e =
             grind (arith, nat_tests, number-of desk.active (victim_of cycle) (shown-victim (waits_for desk) (numbers desk) one cycle here shown), none-found (λ (entry : Entry). entry.number == victim_of cycle) desk.active none)
         by_victim (Some victim) found true e =
-            subst (Came one most entry old) (sym (stays-lost left one (rolled_back desk victim) (record counts { cycles = counts.cycles ++ cycle ∷ [] }))) (
-              gone-consistent one (rolled_back desk victim) (rolled-contending one desk victim is)
-                  (λ other there. grind (arith, nat_tests, e, among-found (λ (entry : Entry). entry.number == victim_of cycle) desk.active victim found, among-filter (λ (other : Entry). not (other.number == victim.number)) desk.active other there)),
-              one_more victim found,
-            )
+            grind (arith, nat_tests, stays-lost, gone-consistent one (rolled_back desk victim) (rolled-contending one desk victim is), among-found, among-filter, one_more)
         by_victim (Some victim) found false e =
             grind (arith, nat_tests, among-found, filter-among, rolled-contending one desk victim is, filter-shorter, freed-keeps one victim.number old.authority desk.authority, one_more victim found)
 

@@ -94,27 +94,17 @@ asks-contest word attempt refused holder holders desk counts =
 -- as it begins
 pub under-way : (desk : Desk) (entry : Entry) → IsOrderly desk → IsAmong desk.active entry
     → IsUnderWay desk (with_entry desk (record entry { waiting = true })) (record entry { waiting = true })
-under-way desk entry is here = record {
-  contending = marked-contending desk entry true here (contending entry.number desk is);
-  here = new-among (record entry { waiting = true }) desk.active entry here refl;
-  store = refl;
-  limit = refl;
-  keeps = λ page own. refl;
-}
+under-way desk entry is here =
+    let new_among = new-among (record entry { waiting = true }) desk.active entry here refl in
+    grind (arith, nat_tests, marked-contending desk entry true here, contending entry.number desk is, new_among)
 
 -- after a round
 pub round-under_way : (old desk : Desk) (entry victim : Entry) (cycle : List ℕ) → IsUnderWay old desk entry → entry_with (victim_of cycle) desk ≡ Some victim → (victim_of cycle == entry.number) ≡ false
     → IsUnderWay old (rolled_back desk victim) entry
 round-under_way old desk entry victim cycle is found other =
-    let it = among-found (λ (entry : Entry). entry.number == victim_of cycle) desk.active victim found in
-    let apart : (victim.number == entry.number) ≡ false = grind (arith, nat_tests, it, other) in
-    record {
-      contending = rolled-contending entry.number desk victim is.contending;
-      here = asker-left desk entry victim cycle is.here found other;
-      store = is.store;
-      limit = is.limit;
-      keeps = freed-keeps entry.number victim.number old.authority desk.authority apart is.keeps;
-    }
+    let rolled_contending = rolled-contending entry.number desk victim is.contending in
+    let freed_keeps = freed-keeps entry.number victim.number old.authority desk.authority in
+    grind (arith, nat_tests, among-found, rolled_contending, asker-left, freed_keeps)
 
 -- where it is settled the desk is consistent, with the mark on
 pub settled-consistent : (old desk : Desk) (entry : Entry) → IsUnderWay old desk entry → shown_cycle (waits_for desk) (numbers desk) entry.number ≡ None → IsOrderly desk

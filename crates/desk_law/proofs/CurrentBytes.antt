@@ -48,8 +48,4 @@ one-current store entries bytes other is also = same-lines store.directory bytes
 pub laid-is : (d : Layout) (lines from onto new : List ℕ) → length from ≡ byte_count d → length onto ≡ byte_count d → length new ≡ byte_count d
     → ((line : ℕ) → line_in d new line ≡ (if has lines line then line_in d from line else line_in d onto line)) → laid d lines from onto ≡ new
 laid-is d lines from onto new from_long onto_long long each =
-    let (joined_long, joined) =
-    lines-joined d (λ line. if has lines line then line_in d from line else line_in d onto line)
-    (λ line below. grind (arith, line-long d from line from_long below, line-long d onto line onto_long below))
-    (λ line beyond. grind (arith, line-beyond d from line from_long beyond, line-beyond d onto line onto_long beyond)) in
-    same-lines d (laid d lines from onto) new joined_long long (λ line. joined line ∙ sym (each line))
+    grind (arith, nat_tests, lines-joined d, line-long, line-beyond, same-lines d)

@@ -1,5 +1,5 @@
 -- A shown cycle closes, where only the waits of its number close one.
-use Rattle.desk_law.proofs.Common.{◌≡◌, refl, ℕ, zero, suc, ◌≤◌, ◌==◌, ◌&&◌, Bool, true, false, List, [], ◌∷◌, length, filter, find, Option, Some, None, arith, ap, ◌∙◌, inl, inr, and_from, has, leads, next_shown, shown_after, shown_cycle, found-has, found-passes, has-filter, Desk, Entry, with_entry, numbers, waits_for, Counts, Contested, breaks_cycles, IsAmong, HasNoCycle, EndsWith, ContestedCyclesClose, except, IsContending, nat_tests, Contest, contest, subst}
+use Rattle.desk_law.proofs.Common.{◌≡◌, refl, ℕ, zero, suc, ◌≤◌, ◌==◌, ◌&&◌, Bool, true, false, List, [], ◌∷◌, length, filter, find, Option, Some, None, arith, ◌∙◌, and_from, has, leads, next_shown, shown_after, shown_cycle, found-has, found-passes, has-filter, Desk, Entry, with_entry, numbers, waits_for, Counts, Contested, breaks_cycles, IsAmong, HasNoCycle, EndsWith, ContestedCyclesClose, except, IsContending, nat_tests, Contest, contest, subst}
 use Rattle.desk_law.proofs.Entries.{orderly, new-among}
 use Rattle.desk_law.proofs.Walks.{first-step, one-step, leads-more, walk-short, all-pass}
 use Rattle.desk_law.proofs.SomebodyGoesOn.{reached, leads-to-fewer}
@@ -34,13 +34,9 @@ module _ (waits : ℕ → ℕ → Bool) (all : List ℕ) (first : ℕ) (none : H
           → (next : ℕ) × (next_shown waits all first last ≡ Some next)
       by_length zero walk more = absurd (cc)
       by_length (suc steps) walk more =
-          let step = first-step waits all steps last first walk in
-          some-found (λ next. waits last next && leads waits all (length all) next first) all step.next step.there
-          (and_from (waits last step.next) (leads waits all (length all) step.next first) step.step
-          (elim step.rest [
-            | inl same ↦ ap (λ (n : ℕ). leads waits all (length all) n first) same ∙ round
-            | inr later ↦ walk-short waits all first step.next steps step.there later
-          ]))
+          let some_found = some-found (λ next. waits last next && leads waits all (length all) next first) all
+          (first-step waits all steps last first walk).next (first-step waits all steps last first walk).there in
+          grind (arith, nat_tests, some_found, walk-short)
 
   -- from a member on: so many steps are enough
   after-closes : (steps last : ℕ) → has all last ≡ true → (last == first) ≡ false → leads waits all (length all) last first ≡ true

@@ -6,7 +6,7 @@ use Rattle.desk_law.proofs.Others.{among-others, others, another-stays, commit-l
 use Rattle.desk_law.proofs.Waiting.{waits-by, waits-from, has-number, fewer-numbers, rollback-waits, commit-waits}
 use Rattle.desk_law.proofs.Holding.{freed, held-others, other-covers}
 use Rattle.desk_law.proofs.Contest.{gone-consistent}
-use Rattle.desk_law.proofs.GoesOn.{IsGranted, others-replaced, due-more, nobody-conflicts}
+use Rattle.desk_law.proofs.GoesOn.{IsGranted, others-replaced, due-more}
 use Rattle.desk_law.proofs.LeftLemmas.{went}
 
 -- One that was granted pages has gone: its store keeps what is due to the others, and whoever waits then did so before.
@@ -89,10 +89,7 @@ granted-closes desk attempt is went = record {
         grind (arith, nat_tests, held.covered page, it, due, new, replaced-among (gone_on attempt.entry) desk.active entry among)
 
     waits_for_none : (to : ℕ) → waits_for desk attempt.entry.number to ≡ false
-    waits_for_none to =
-        let by = waits-by desk attempt.entry.number to in
-        let it = λ (entry : Entry). one-entry 0 desk.next desk.active (record attempt.entry { waiting = is.mark }) entry is.active.ascend is.here in
-        grind (arith, nat_tests, by, it, nobody-conflicts (conflicts_with desk attempt.entry) desk.active is.none)
+    waits_for_none to = grind (arith, nat_tests, waits-by desk attempt.entry.number to, one-entry)
 
 -- an entry that begins
 abbrev pub first_entry : ℕ → Activation → Entry

@@ -1,5 +1,5 @@
 -- Who ends in a turn: victims, and the turn's own activation.
-use Rattle.desk_law.proofs.Common.{◌≡◌, refl, ℕ, zero, suc, ◌==◌, ◌⊎◌, not, Bool, true, List, [], ◌∷◌, ◌++◌, length, map, filter, find, Option, Some, None, eqb-true, eq-eqb, not_from_false, cases_Bool, has, victim_of, Plain, Outcome, On, Check, after, Desk, Entry, with_entry, numbers, Word, Counts, Turning, Going, Over, Attempt, Fetching, Contest, Contested, Settled, Lost, attempts, attempts_at, instruction, turns, limited, is_over_limit, fetches_touched, asks, gets, goes_on, takes_effect, contest_ends, waits_or_gets, with_grants, breaks_cycles, gone_on, turn_desk, turn_counts, ends_own, IsAccounted, EndsHaveCauses, nat_tests, arith, before, contest}
+use Rattle.desk_law.proofs.Common.{◌≡◌, refl, ℕ, zero, suc, ◌==◌, ◌⊎◌, not, Bool, true, List, [], ◌∷◌, ◌++◌, map, filter, find, Option, Some, None, eqb-true, eq-eqb, not_from_false, cases_Bool, has, victim_of, Plain, Outcome, On, Check, after, Desk, Entry, numbers, Word, Counts, Turning, Going, Over, Attempt, Fetching, Contest, Contested, Settled, Lost, attempts, attempts_at, instruction, turns, limited, is_over_limit, fetches_touched, asks, gets, goes_on, takes_effect, contest_ends, waits_or_gets, with_grants, breaks_cycles, gone_on, turn_desk, turn_counts, ends_own, IsAccounted, EndsHaveCauses, nat_tests, arith, before, contest}
 use Rattle.desk_law.proofs.Entries.{among-found, filter-among, numbers-replaced}
 use Rattle.desk_law.proofs.Waiting.{number-of, has-number}
 use Rattle.desk_law.proofs.Contest.{without, VictimsKeep, victims-keep}
@@ -74,12 +74,9 @@ module _ (word : Word) (attempt : Attempt) (before : List ℕ) where
   acc-contest refused contest kept = grind (arith, nat_tests, accounts, acc-wait)
 
   acc-ask : (refused holders : List ℕ) (desk : Desk) (counts : Counts) → AreKept before desk counts → AreAccounted before attempt.entry.number (asks word attempt refused holders desk counts)
-  acc-ask refused [] desk counts kept = acc-get refused desk counts kept
-  acc-ask refused (holder ∷ holders) desk counts kept =
-      let marked = with_entry desk (record attempt.entry { waiting = true }) in
-      acc-contest refused (breaks_cycles (length desk.active) attempt.entry.number (Contested marked counts))
-      (breaks-kept before (length desk.active) attempt.entry.number (Contested marked counts)
-      (λ other inside. grind (arith, kept other inside, numbers-replaced (record attempt.entry { waiting = true }) desk.active)))
+  acc-ask refused holders desk counts kept =
+      let numbers_replaced = numbers-replaced (record attempt.entry { waiting = true }) desk.active in
+      grind (arith, nat_tests, acc-get refused desk counts kept, acc-contest, breaks-kept before, numbers_replaced)
 
   acc-limit : (over : Bool) (desk : Desk) (counts : Counts) → AreKept before desk counts → AreAccounted before attempt.entry.number (limited over word attempt desk counts)
   acc-limit over desk counts kept = grind (arith, acc-ask, own-ended, own-ended before attempt.entry.number desk counts (limited over word attempt desk counts) kept)
@@ -106,7 +103,8 @@ acc-turns : (word : Word) (before : List ℕ) (number left : ℕ) (turning : Tur
 unfolding turns
 acc-turns word before number zero (Going desk counts) accounted = grind (arith, nat_tests)
 acc-turns word before number (suc left) (Going desk counts) accounted =
-    grind (arith, nat_tests, acc-instruction, acc-turns word before number left (instruction word (find (λ (entry : Entry). entry.number == number) desk.active) desk counts))
+    acc-turns word before number left (instruction word (find (λ (entry : Entry). entry.number == number) desk.active) desk counts)
+    (acc-instruction word before number (find (λ (entry : Entry). entry.number == number) desk.active) desk counts refl (λ other inside. grind (arith, accounted other inside)))
 acc-turns word before number _ (Over desk counts ending) accounted = accounted
 
 pub ends_have_causes : EndsHaveCauses

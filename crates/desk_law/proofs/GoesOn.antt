@@ -64,20 +64,14 @@ replaced-consistent store most_lines next entries new are live apart = grind (ar
 -- an entry that is marked waiting
 pub marked-contending : (desk : Desk) (entry : Entry) (mark : Bool) → IsAmong desk.active entry → IsContending entry.number desk
     → IsContending entry.number (with_entry desk (record entry { waiting = mark }))
-marked-contending desk entry mark here is = record {
-  whole = is.whole;
-  few = omega (arith, is.few, length-replaced (record entry { waiting = mark }) desk.active);
-  active =
-      replaced-consistent desk.committed desk.most_lines desk.next desk.active (record entry { waiting = mark }) is.active
-      (let live = is.active.live entry here in record { state = live.state; is = live.is; few = live.few; present = live.present })
-      (λ other among differ. apart-turned (due_to desk.committed other) (due_to desk.committed entry) (is.active.apart other entry among here differ));
-  held = held-replaced desk.committed desk.active desk.authority entry (record entry { waiting = mark }) here refl (λ page. is.held.covered page entry here) is.held;
-  no_cycle =
-      subst (HasNoCycle (except entry.number (waits_for (with_entry desk (record entry { waiting = mark })))))
-      (sym (numbers-replaced (record entry { waiting = mark }) desk.active))
-      (no-cycle-fewer (except entry.number (waits_for (with_entry desk (record entry { waiting = mark })))) (except entry.number (waits_for desk)) (numbers desk) (numbers desk)
-      (λ from to waits. marked-waits desk entry mark from to here waits) (λ x inside. inside) is.no_cycle);
-}
+marked-contending desk entry mark here is =
+    let replaced_consistent = replaced-consistent desk.committed desk.most_lines desk.next desk.active in
+    let held_replaced = held-replaced desk.committed desk.active desk.authority entry (record entry { waiting = mark })
+    here refl (λ page. is.held.covered page entry here) is.held in
+    let no_cycle_fewer = no-cycle-fewer (except entry.number (waits_for (with_entry desk
+    (record entry { waiting = mark })))) (except entry.number (waits_for desk)) (numbers desk) (numbers desk)
+    (λ from to waits. marked-waits desk entry mark from to here waits) (λ x inside. inside) is.no_cycle in
+    grind (arith, nat_tests, length-replaced, replaced_consistent, held_replaced, numbers-replaced, no_cycle_fewer)
 
 -- It may go on at another desk too, which has the same store and limit.
 pub ready-again : (attempt : Attempt) (old desk : Desk) (mark : Bool) → IsReady attempt old → IsContending attempt.entry.number desk → IsAmong desk.active (record attempt.entry { waiting = mark })
@@ -166,15 +160,11 @@ gone-on-active desk most entry mark now next are here at went none short =
 pub row-goes-on : (desk : Desk) (attempt : Attempt) (next : Plain) → IsGranted attempt desk → attempt.outcome ≡ On next
     → IsOrderly (row_done attempt desk)
 row-goes-on desk attempt next is went =
-    grind (
-      arith,
-      nat_tests,
-      length-replaced (gone_on attempt.entry) desk.active,
-      gone-on-active desk desk.most_lines attempt.entry is.mark attempt.now next is.active is.here is.now (is.went ∙ went) is.none is.short,
-      numbers-replaced (gone_on attempt.entry) desk.active,
-      no-cycle-leaves attempt.entry.number (waits_for (row_done attempt desk)) (waits_for desk) (numbers desk) (gone-on desk attempt.entry (gone_on attempt.entry) refl refl) is.no_cycle,
-      gone-on desk attempt.entry (gone_on attempt.entry) refl refl,
-    )
+    let gone_on_active = gone-on-active desk desk.most_lines attempt.entry is.mark attempt.now next is.active is.here
+    is.now in
+    let no_cycle_leaves = no-cycle-leaves attempt.entry.number (waits_for (row_done attempt desk)) (waits_for desk)
+    (numbers desk) (gone-on desk attempt.entry (gone_on attempt.entry) refl refl) is.no_cycle in
+    grind (arith, nat_tests, length-replaced, gone_on_active, numbers-replaced, no_cycle_leaves)
 
 -- those that are left are so whatever replaced one
 pub others-replaced : (gone new : Entry) (entries : List Entry) → new.number ≡ gone.number → others gone (replaced new entries) ≡ others gone entries

@@ -79,9 +79,7 @@ breaks-did number old left contest did = victims-keep (ContestDid number old) nu
     by_victim : VictimsKeep (ContestDid number old) number
     by_victim desk counts cycle None true did found is =
         (did, λ other among. grind (arith, nat_tests, is, none-found (λ (entry : Entry). entry.number == victim_of cycle) desk.active found other among))
-    by_victim desk counts cycle (Some victim) true did found is = (
-      rolled-from number old desk victim did,
-      λ other among. grind (arith, nat_tests, is, among-found (λ (entry : Entry). entry.number == victim_of cycle) desk.active victim found, rolled-left desk victim other among),
-    )
+    by_victim desk counts cycle (Some victim) true did found is =
+        grind (arith, nat_tests, rolled-from number old desk victim did, among-found (λ (entry : Entry). entry.number == victim_of cycle) desk.active victim found, rolled-left)
     by_victim desk counts cycle None false did found is = did
     by_victim desk counts cycle (Some victim) false did found is = rolled-from number old desk victim did

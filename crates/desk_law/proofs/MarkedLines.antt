@@ -1,6 +1,6 @@
 -- The lines that are marked as written: those that some active entry has written.
-use Rattle.desk_law.proofs.Common.{◌≡◌, refl, ℕ, ◌&&◌, ◌||◌, not, Bool, true, List, Some, list_any, ap, sym, ◌∙◌, inl, inr, and_parts, or_cases, or_right, FlatStore, IsWhole, has, Lines, Plain, after, touched_next, Entry, AreMarked, left_by, gone_on, IsAmong, due_to, AreConsistent, touched_of, arith, nat_tests}
-use Rattle.desk_law.proofs.CurrentLines.{within-more, wrote-held, holder-or-none}
+use Rattle.desk_law.proofs.Common.{◌≡◌, refl, ℕ, ◌&&◌, ◌||◌, not, Bool, true, List, Some, list_any, sym, ◌∙◌, inl, inr, or_cases, or_right, FlatStore, IsWhole, has, Plain, after, touched_next, Entry, AreMarked, left_by, gone_on, IsAmong, due_to, AreConsistent, touched_of, arith, nat_tests}
+use Rattle.desk_law.proofs.CurrentLines.{within-more, wrote-held}
 use Rattle.desk_law.proofs.Entries.{replaced, among-replaced, replaced-among, new-among, one-entry}
 use Rattle.desk_law.proofs.KeptTables.{both-imply, any-entries}
 use Rattle.desk_law.proofs.Others.{others, another-stays, among-others, others-among}
@@ -33,31 +33,14 @@ module _ (store : FlatStore) (most_lines next : ℕ) (entries : List Entry) (con
   pub marked-end : (gone : Entry) (new : ℕ → Bool) → IsAmong entries gone → ((line : ℕ) → new line ≡ (marked line && not (has (due_to store gone).writes line)))
       → AreMarked store (others gone entries) new
   marked-end gone new here is_new =
-      let there : (line : ℕ) → (marked line && not (has (touched_of store gone).writes line)) ≡ true → list_any (λ (one : Entry). has (due_to store one).writes line) (others gone entries) ≡ true =
-      λ line kept. let parts = and_parts (marked line) (not (has (touched_of store gone).writes line)) kept in
-      let (one, among, wrote) = any-among (λ (one : Entry). has (due_to store one).writes line) entries (sym (are.is line) ∙ parts.0) in
-      among-any (λ (one : Entry). has (due_to store one).writes line) (others gone entries) one
-      (others-among gone entries one among (grind (arith, nat_tests, one-entry 0 next entries one gone consistent.ascend among here, parts.1, wrote))) wrote in
-      let back : (line : ℕ) → list_any (λ (one : Entry). has (due_to store one).writes line) (others gone entries) ≡ true → (marked line && not (has (touched_of store gone).writes line)) ≡ true =
-      λ line some. let (one, among, wrote) = any-among (λ (one : Entry). has (due_to store one).writes line) (others gone entries) some in
-      let (there, differ) = among-others gone entries one among in
-      let held = holder-or-none store most_lines next entries consistent gone one line here there in
-      let marked_still = are.is line ∙ among-any (λ (one : Entry). has (due_to store one).writes line) entries one there wrote in
-      grind (arith, nat_tests, marked_still, held, wrote-held store most_lines next entries consistent gone line, wrote, differ) in
-      record { is = λ line. is_new line ∙ both-imply _ _ (there line) (back line) }
+      grind (arith, nat_tests, any-among, among-any, others-among gone entries, one-entry, wrote-held store most_lines next entries consistent gone, among-others)
 
   -- the same after its commit, over the store that it leaves
   pub marked-commit : (entry : Entry) (now : Plain) (new : ℕ → Bool) → IsWhole store → IsAmong entries entry → after entry.runs.program entry.runs.args store entry.rows ≡ Some now
       → ((line : ℕ) → new line ≡ (marked line && not (has (due_to store entry).writes line)))
       → AreMarked (left_by store now) (others entry entries) new
-  marked-commit entry now new whole here at is_new = record {
-    is = λ line.
-        (marked-end entry new here is_new).is line
-        ∙ any-entries (λ (one : Entry). has (due_to store one).writes line) (λ (one : Entry). has (due_to (left_by store now) one).writes line) (others entry entries)
-        (λ one among.
-        let (there, differ) = among-others entry entries one among in
-        ap (λ (lines : Lines). has lines.writes line) (sym (another-stays store most_lines next entries entry one now whole consistent here there differ at).due));
-  }
+  marked-commit entry now new whole here at is_new =
+      grind (arith, nat_tests, marked-end entry new here is_new, any-entries, among-others, another-stays store most_lines next entries entry)
 
   -- a mark and a begin change none
   pub marked-mark : (entry : Entry) (mark : Bool) → IsAmong entries entry → AreMarked store (replaced (record entry { waiting = mark }) entries) marked

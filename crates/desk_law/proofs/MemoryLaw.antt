@@ -1,5 +1,5 @@
 -- The law of isolation.
-use Rattle.desk_law.proofs.Common.{◌≤◌, ◌≡◌, refl, ℕ, zero, suc, ◌+◌, ◌<◌, ◌==◌, ◌||◌, if◌then◌else◌, Bool, true, false, List, [], ◌∷◌, ◌++◌, length, map, find, Option, Some, None, slice_get, arith, ap, sym, ◌∙◌, subst, inl, inr, eqb-true, ne_eqb, ltb-true, cond-false, FlatStore, IsWhole, has, Program, start, after, Event, Begin, Turn, Checkpoint, Crash, Desk, Entry, opened, numbers, Word, Failed, Counts, Turning, Going, Over, Idle, Committed, Attempt, instruction, turns, turn_of, no_counts, Turned, turned, begin_if, absent_segment, restarted, event_of, step, run, gone_on, row_done, IsAmong, IsConsistent, current_bytes, turn_desk, Machine, Memory, first_machine, with_machine, given_back, row_of, after_instruction, after_turns, after_event, memory_after, memory_of, IsAlone, IsMemory, FindTheirOwn, RunsAreIsolated, CommitsTellTheMachine, SideBySideIsSerial, IsOrderly, nat_tests, next_attempt, begun, IsSerial, event_lines, cases_Bool, granted, printed, Activation, run_serial}
+use Rattle.desk_law.proofs.Common.{Activation, ◌≤◌, ◌≡◌, refl, ℕ, zero, suc, ◌+◌, ◌<◌, ◌==◌, ◌||◌, if◌then◌else◌, Bool, true, false, List, [], ◌∷◌, ◌++◌, length, map, find, Option, Some, None, slice_get, arith, ap, sym, ◌∙◌, subst, inl, inr, eqb-true, ne_eqb, ltb-true, FlatStore, IsWhole, has, Program, after, Event, Begin, Turn, Checkpoint, Crash, Desk, Entry, opened, numbers, Word, Failed, Counts, Turning, Going, Over, Idle, Committed, Attempt, instruction, turns, turn_of, no_counts, Turned, turned, begin_if, absent_segment, restarted, event_of, step, run, gone_on, row_done, IsAmong, IsConsistent, current_bytes, turn_desk, Machine, Memory, first_machine, with_machine, given_back, row_of, after_instruction, after_turns, after_event, memory_after, memory_of, IsMemory, FindTheirOwn, RunsAreIsolated, CommitsTellTheMachine, SideBySideIsSerial, IsOrderly, nat_tests, next_attempt, begun, cases_Bool, granted, printed, run_serial}
 use Rattle.flat_machine.proofs.Agreement.{serial-whole}
 use Rattle.desk_law.proofs.Entries.{orderly, among-found, new-among, among-push, between, found-among, one-entry, numbers-replaced}
 use Rattle.desk_law.proofs.Others.{others, among-others, others-among}
@@ -13,7 +13,7 @@ use Rattle.desk_law.proofs.KeptTables.{both-imply}
 use Rattle.desk_law.proofs.CurrentBytes.{bytes-current, one-current}
 use Rattle.desk_law.proofs.CurrentLaw.{holders_see_current}
 use Rattle.desk_law.proofs.CurrentSteps.{current-begun, current-quiet}
-use Rattle.desk_law.proofs.MemorySteps.{AreFewer, memory-current, given-back, at-own, row-done, commit-done}
+use Rattle.desk_law.proofs.MemorySteps.{AreFewer, memory-current, given-back, row-done, commit-done}
 
 module _ (old : Desk) (attempt : Attempt) (is : IsOrderly old) (here : IsAmong old.active attempt.entry)
     (at : after attempt.entry.runs.program attempt.entry.runs.args old.committed attempt.entry.rows ≡ Some attempt.now) where
@@ -32,8 +32,7 @@ module _ (old : Desk) (attempt : Attempt) (is : IsOrderly old) (here : IsAmong o
 
   moment-fewer : (moment : Desk) → IsGranted attempt moment → From attempt.entry.number old moment → AreFewer old moment
   moment-fewer moment granted from =
-      fewer-by moment from
-      (λ entry among e. (granted.mark, one-entry 0 moment.next moment.active (record attempt.entry { waiting = granted.mark }) entry granted.active.ascend granted.here among (sym (eqb-true entry.number attempt.entry.number e))))
+      grind (arith, nat_tests, fewer-by moment from, one-entry 0 moment.next moment.active (record attempt.entry { waiting = granted.mark }))
 
   -- and where no row was done
   no-row-fewer : (desk : Desk) → NoRowDone old attempt desk → AreFewer old desk
@@ -146,28 +145,13 @@ memory-begin programs program args word desk memory is of = by_code (slice_get p
 
     first : (code : Program) → length desk.active < desk.most_active → absent_segment desk.committed.directory code.windows ≡ None
         → IsMemory (with_first desk (record { program = code; args = args })) (with_machine desk.next (first_machine args desk.committed (Some code)) memory)
-    first code few present = let runs : Activation = record { program = code; args = args } in
-        record {
-          committed = of.committed;
-          bytes =
-              one-current desk.committed (with_first desk runs).active memory.bytes (current_bytes (with_first desk runs))
-              (current-begun desk.committed desk.most_lines desk.next desk.active is.active memory.bytes (first_entry desk.next runs) refl
-              (begins-consistent desk runs (orderly desk is) few present).active (memory-current desk memory is.whole of))
-              (bytes-current (with_first desk runs) is.whole);
-          alone = λ entry among. elim (among-push desk.active (first_entry desk.next runs) entry among) [
-            | inl there ↦
-                subst (IsAlone desk.committed entry) (sym (cond-false (entry.number == desk.next) (first_machine args desk.committed (Some code)) (memory.machines entry.number) (other entry there))) (of.alone entry there)
-            | inr it ↦
-                subst (λ (x : Entry). IsAlone desk.committed x (if x.number == desk.next then first_machine args desk.committed (Some code) else memory.machines x.number)) it
-                (record {
-                  it = record { state = start code args desk.committed; wrote = [] };
-                  is = at-own desk.next (first_machine args desk.committed (Some code)) (memory.machines desk.next);
-                  bytes = desk.committed.bytes;
-                  at = refl;
-                  wrote = refl;
-                })
-          ];
-        }
+    first code few present =
+        let runs : Activation = record { program = code; args = args } in
+        let bytes = one-current desk.committed (with_first desk runs).active memory.bytes (current_bytes (with_first desk runs))
+        (current-begun desk.committed desk.most_lines desk.next desk.active is.active memory.bytes
+        (first_entry desk.next runs) refl (begins-consistent desk runs (orderly desk is) few present).active
+        (memory-current desk memory is.whole of)) (bytes-current (with_first desk runs) is.whole) in
+        grind (arith, nat_tests, bytes, begins-consistent desk, among-push, other)
 
     by_code : (code : Option Program) → IsMemory (begin_if program args code desk).desk (with_machine desk.next (first_machine args desk.committed code) memory)
     by_code None = begun-memory desk desk desk.next None memory refl refl other of
@@ -216,8 +200,7 @@ memory-run : (programs : List Program) (events : List (Event × Word)) (desk : D
     → IsMemory (run programs events desk) (memory_after programs events desk memory)
 memory-run programs [] desk memory is of = of
 memory-run programs (event ∷ events) desk memory is of =
-    memory-run programs events (step programs event.0 event.1 desk).desk (if desk.closed then memory else after_event programs event.0 event.1 desk memory)
-    (stays-consistent programs event.0 event.1 desk is) (memory-step programs event.0 event.1 desk memory is of)
+    grind (arith, nat_tests, stays-consistent, memory-step, memory-run programs events)
 
 opened-memory : (frames most_active most_lines : ℕ) (store : FlatStore) → IsWhole store → IsMemory (opened frames most_active most_lines store) (memory_of store)
 opened-memory frames most_active most_lines store whole =
@@ -264,15 +247,7 @@ commits-tell-the-machine programs frames most_active most_lines store events num
 
 pub side_by_side_is_serial : SideBySideIsSerial
 side_by_side_is_serial names programs number frames most_active most_lines store events taken rest whole two is_run =
-    let serial : IsSerial (begun programs events) number store (run programs taken (opened frames most_active most_lines store)).order (event_lines names programs number taken (opened frames most_active most_lines store)) (run programs taken (opened frames most_active most_lines store)).committed (run programs taken (opened frames most_active most_lines store)).closed =
-    run_serial names programs number frames most_active most_lines store events taken rest is_run in
-    let one_directory : (run programs taken (opened frames most_active most_lines store)).committed.directory ≡ store.directory =
-    (serial-whole (begun programs events) serial.done store (run programs taken (opened frames most_active most_lines store)).committed whole serial.leaves).1 in
-    let bytes : (memory_after programs taken (opened frames most_active most_lines store) (memory_of store)).committed ≡ (run programs taken (opened frames most_active most_lines store)).committed.bytes =
-    (memory-runs programs frames most_active most_lines store taken whole two).committed in
-    let same : (run programs taken (opened frames most_active most_lines store)).committed ≡ record store { bytes = (memory_after programs taken (opened frames most_active most_lines store) (memory_of store)).committed } =
-    λ i. record { directory = one_directory i; bytes = sym bytes i } in
-    subst
-    (λ (committed : FlatStore). IsSerial (begun programs events) number store (run programs taken (opened frames most_active most_lines store)).order
-    (event_lines names programs number taken (opened frames most_active most_lines store)) committed (run programs taken (opened frames most_active most_lines store)).closed)
-    same serial
+    let serial = run_serial names programs number frames most_active most_lines store events taken rest is_run in
+    let later = run programs taken (opened frames most_active most_lines store) in
+    let whole_then = serial-whole (begun programs events) serial.done store later.committed whole serial.leaves in
+    grind (arith, nat_tests, serial, whole_then, memory-runs)

@@ -1,5 +1,5 @@
 -- A turn leaves resident pages that fit.
-use Rattle.desk_law.proofs.Common.{◌≡◌, refl, ℕ, zero, suc, ◌<◌, ◌≤◌, ◌==◌, true, false, List, find, Option, Some, None, option_map_or, arith, ap, sym, ◌∙◌, eqb-true, Layout, page_count, line_count, has, no_lines, page_of_line, any-some, has-pages_of, Plain, Program, Outcome, row, after, touched, all_of, touched-below, Desk, Entry, rolled_back, wanted, Word, Counts, Turning, Going, Over, Attempt, Contest, Contested, Settled, Lost, attempts, attempts_at, instruction, turns, touched_pages, fetches_touched, asks, gets, takes_effect, contest_ends, waits_or_gets, breaks_cycles, AreResident, nat_tests, contest}
+use Rattle.desk_law.proofs.Common.{◌≡◌, refl, ℕ, zero, suc, ◌<◌, ◌≤◌, ◌==◌, true, false, List, find, Option, Some, None, option_map_or, arith, sym, ◌∙◌, Layout, page_count, has, no_lines, page_of_line, any-some, has-pages_of, Plain, Program, Outcome, row, after, touched, all_of, touched-below, Desk, Entry, rolled_back, wanted, Word, Counts, Turning, Going, Over, Attempt, Contest, Contested, Settled, Lost, attempts, attempts_at, instruction, turns, touched_pages, fetches_touched, asks, gets, takes_effect, contest_ends, waits_or_gets, breaks_cycles, AreResident, nat_tests, contest}
 use Rattle.desk_law.proofs.Contest.{VictimsKeep, victims-keep}
 use Rattle.desk_law.proofs.ResidentPages.{FetchFits, fetches-resident, taken-resident, none-resident}
 
@@ -23,12 +23,7 @@ pub touched-within : (program : Program) (directory : Layout) (state : Option Pl
     → attempt.lines ≡ option_map_or (touched program directory) state no_lines
     → has (touched_pages attempt) page ≡ true → page < page_count directory
 touched-within program directory state page attempt same inside =
-    let (line, there, here) = any-some (λ l. page_of_line l == page) (all_of attempt.lines) (sym (has-pages_of (all_of attempt.lines) page) ∙ inside) in
-    let low : line < line_count directory = by_state state line (sym (ap (λ l. has (all_of l) line) same) ∙ there) in
-    omega (arith, low, eqb-true (page_of_line line) page here)
-  where
-    by_state : (state : Option Plain) (line : ℕ) → has (all_of (option_map_or (touched program directory) state no_lines)) line ≡ true → line < line_count directory
-    by_state state line there = grind (arith, nat_tests, touched-below)
+    grind (arith, nat_tests, any-some (λ l. page_of_line l == page) (all_of attempt.lines) (sym (has-pages_of (all_of attempt.lines) page) ∙ inside), touched-below)
 
 -- a rollback
 pub rolled-fits : (desk : Desk) (entry : Entry) → Fits desk → Fits (rolled_back desk entry)

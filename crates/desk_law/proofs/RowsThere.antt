@@ -1,10 +1,9 @@
 -- An instruction of a consistent desk whose lines are all there: nothing is counted but the row, and nothing else changes.
 use Rattle.desk_law.proofs.Common.{nat_lt, ◌≡◌, refl, ℕ, ◌+◌, Bool, true, false, List, [], ◌++◌, length, filter, Some, slice_index_or, arith, ap, sym, ◌∙◌, subst, is_fine_page, has, size, Lines, pages_of, has-append, ArePart, Plain, On, Commit, Check, row, after, Desk, Entry, nobody, with_entry, rolled_back, wanted, requested, conflicts_of, Word, Counts, Going, Over, Checked, Attempt, Fetched, fetches, instruction, lines_written, refuses, lines_within, gets, takes_effect, commits, nat_tests, AreThere, AreAlike, gone_on, IsAmong, due_to, IsOrderly, touched_of, next_attempt, part, ◌||◌}
 use Rattle.desk_law.proofs.GoesOn.{due-more, whole-both}
-use Rattle.desk_law.proofs.InstructionStages.{GoesOn, instruction-at, stage-limit, stage-fetched, stage-gets, stage-on, stage-commit}
+use Rattle.desk_law.proofs.InstructionStages.{GoesOn, instruction-at, stage-limit, stage-fetched, stage-gets, stage-on}
 use Rattle.desk_law.proofs.LinesThere.{filter-none, fetches-none, there-resident, there-unrefused, there-held, there-lowered}
 use Rattle.desk_law.proofs.Permitted.{held-free, held-written}
-use Rattle.desk_law.proofs.Endings.{wanted-commit}
 
 -- What an instruction comes to that goes through with nothing fetched, refused or met.
 pub effect-there :
@@ -70,12 +69,7 @@ pub commit-row :
     → row entry.runs.program desk.committed.directory now ≡ Commit
     → instruction word (Some entry) desk counts ≡ commits word (next_attempt desk entry now) desk counts
 commit-row word desk counts entry now is here at went =
-    let there : AreThere desk entry.number (wanted desk entry) =
-    subst (AreThere desk entry.number) (sym (wanted-commit desk entry now at went)) (record { reads = λ line inside. absurd (cc); writes = λ line inside. absurd (cc) }) in
-    let held : ArePart (requested desk.committed entry) (due_to desk.committed entry) = there-held desk entry is here there in
-    effect-there word desk counts entry now (subst GoesOn (sym went) tt) at there (held-free desk entry is here held)
-    (ap (nat_lt desk.most_lines) (held-written desk entry held) ∙ within-most desk entry is here)
-    ∙ stage-commit word (next_attempt desk entry now) desk counts (next_attempt desk entry now).outcome went
+    grind (arith, nat_tests, effect-there word desk counts entry now, held-free, held-written)
 
 -- A program check rolls back, whatever is there.
 pub check-row : (word : Word) (desk : Desk) (counts : Counts) (entry : Entry) (now : Plain) (code : ℕ)

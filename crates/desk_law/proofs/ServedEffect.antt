@@ -1,10 +1,8 @@
 -- The end of an instruction that was served: its pages are granted and there, and its row goes on over the bytes of all.
-use Rattle.desk_law.proofs.Common.{◌≡◌, refl, ℕ, ◌+◌, ◌<◌, true, List, [], ◌++◌, length, filter, slice_index_or, arith, ap, sym, ◌∙◌, is_fine_page, has, both, with_whole_pages, page_of_line, has_left, has_right, pages_of-line, Plain, On, row, all_of, touched-below, Desk, Grant, nobody, conflicts_of, Word, Counts, Going, Attempt, Fetched, fetches, touched_pages, refuses, lines_within, granted, locks_with, with_grants, gets, AreThere, over_all, gone_on, row_done, IsCurrent, ArePermitted, KeepsPages, touched_of, IsUnderWay, IsReady, IsOrderly, nat_tests, before}
-use Rattle.desk_law.proofs.AttemptsOnCurrent.{shown-current}
+use Rattle.desk_law.proofs.Common.{◌≡◌, ℕ, ◌+◌, ◌<◌, true, List, [], length, filter, slice_index_or, arith, ◌∙◌, is_fine_page, has, both, with_whole_pages, page_of_line, has_left, has_right, pages_of-line, Plain, On, row, all_of, touched-below, Desk, Grant, nobody, conflicts_of, Word, Counts, Going, Attempt, Fetched, fetches, touched_pages, refuses, lines_within, granted, locks_with, with_grants, gets, AreThere, over_all, gone_on, row_done, IsCurrent, KeepsPages, touched_of, IsUnderWay, IsReady, IsOrderly, nat_tests, before}
 use Rattle.desk_law.proofs.Entries.{replaced}
 use Rattle.desk_law.proofs.GoesOn.{ready-again, grants-held, row-goes-on}
 use Rattle.desk_law.proofs.Granted.{granted-permits}
-use Rattle.desk_law.proofs.InstructionStages.{stage-gets, stage-on}
 use Rattle.desk_law.proofs.SharedBytes.{row-on-current}
 use Rattle.desk_law.proofs.TurnsStay.{resident-granted}
 use Rattle.desk_law.proofs.LeftLemmas.{went}
@@ -31,17 +29,7 @@ pub served-there :
     (got attempt (filter (λ page. refuses (slice_index_or before page nobody) attempt.entry.number (lines_within page attempt.lines)) (touched_pages attempt)) resident desk)
     attempt.entry.number attempt.lines
 served-there attempt before desk resident ready keeps there =
-    let at : (line : ℕ) → has (all_of attempt.lines) line ≡ true → has resident (page_of_line line) ≡ true =
-    λ line inside. there (page_of_line line) (pages_of-line (all_of attempt.lines) line inside) in
-    let permitted_all : ArePermitted (granted (is_fine_page desk.committed.directory) attempt (with_whole_pages (is_fine_page desk.committed.directory) (both (touched_of desk.committed attempt.entry) attempt.lines)) (filter (λ page. refuses (slice_index_or before page nobody) attempt.entry.number (lines_within page attempt.lines)) (touched_pages attempt)) desk.authority) attempt.entry.number attempt.lines =
-    granted-permits (is_fine_page desk.committed.directory) attempt (with_whole_pages (is_fine_page desk.committed.directory) (both (touched_of desk.committed attempt.entry) attempt.lines)) before desk.authority keeps
-    (λ line inside. has_left ((touched_of desk.committed attempt.entry).reads ++ attempt.lines.reads) _ line (has_right (touched_of desk.committed attempt.entry).reads attempt.lines.reads line inside))
-    (λ line inside. has_right (touched_of desk.committed attempt.entry).writes attempt.lines.writes line inside)
-    (touched-page attempt desk ready) in
-    record {
-      reads = λ line inside. record { resident = at line (has_left attempt.lines.reads attempt.lines.writes line inside); permits = permitted_all.reads line inside };
-      writes = λ line inside. record { resident = at line (has_right attempt.lines.reads attempt.lines.writes line inside); permits = permitted_all.writes line inside };
-    }
+    grind (arith, nat_tests, pages_of-line, granted-permits (is_fine_page desk.committed.directory) attempt (with_whole_pages (is_fine_page desk.committed.directory) (both (touched_of desk.committed attempt.entry) attempt.lines)) before desk.authority keeps, has_left, has_right, has_right, touched-page attempt desk ready, has_left, has_right)
 
 -- what a served row leaves, with the state that the storage shows after it
 pub record WasServed (attempt : Attempt) (refused resident : List ℕ) (desk : Desk) (counts : Counts) (counted : ℕ) (shown : Plain) : Type 0 where
@@ -59,18 +47,9 @@ pub served-goes :
     → row attempt.entry.runs.program desk.committed.directory (over_all attempt.now bytes) ≡ On shown
     → WasServed attempt refused resident desk counts counted shown
 served-goes attempt refused resident desk counts counted next shown bytes ready none goes current_now went =
-    let later : IsOrderly (row_done attempt (got attempt refused resident desk)) =
-    row-goes-on (got attempt refused resident desk) attempt next
-    (resident-granted attempt (with_grants attempt refused desk) resident (grants-held desk attempt refused ready none)) goes in
-    let left : (shown ≡ over_all next shown.store) × IsCurrent desk.committed (replaced (gone_on attempt.entry) desk.active) shown.store =
-    shown-current desk (record attempt.entry { waiting = ready.mark }) attempt.now next shown bytes
-    (row-on-current desk desk.most_lines (record attempt.entry { waiting = ready.mark }) attempt.now next bytes ready.contending.whole ready.contending.active later.active ready.here ready.now (ready.went ∙ goes) none current_now)
-    went in
-    record {
-      shows = λ other is. let same : other ≡ next = cc in left.0 ∙ ap (λ (s : Plain). over_all s shown.store) (sym same);
-      comes = λ word again.
-          stage-gets word attempt desk counts refused (granted (is_fine_page desk.committed.directory) attempt (locks_with attempt desk) refused desk.authority) resident counted refl again
-          ∙ stage-on word attempt (got attempt refused resident desk) (record counts { pages = counted }) attempt.outcome next goes;
-      consistent = later;
-      is_current = left.1;
-    }
+    let row_on_current = row-on-current desk desk.most_lines (record attempt.entry { waiting = ready.mark }) attempt.now
+    next bytes ready.contending.whole ready.contending.active (row-goes-on (got attempt refused resident desk)
+    attempt next (resident-granted attempt (with_grants attempt refused desk) resident
+    (grants-held desk attempt refused ready none)) goes).active ready.here ready.now (ready.went ∙ goes) none
+    current_now in
+    grind (arith, nat_tests, row_on_current)

@@ -1,5 +1,5 @@
 -- One store of bytes for all entries: it holds every line as it is now, and each row may run over it.
-use Rattle.desk_law.proofs.Common.{◌≡◌, ℕ, ◌+◌, ◌==◌, true, false, List, [], ◌++◌, length, Some, ap, sym, ◌∙◌, subst, inl, inr, or_parts, cases_Bool, byte_count, FlatStore, IsWhole, has, meets, Lines, conflicts, has-append, has_left, has_right, meets-at, Plain, Outcome, On, plan_at, row, touched, after, line_in, all_of, after-whole, after-kept, on, Keeps, Steps, lines_of_plan, row-steps, Desk, Entry, wanted, requested, due_to, conflicts_of, gone_on, IsAmong, AreConsistent, current_of, current, IsCurrent, touched_of, arith, nat_tests, Layout, Program}
+use Rattle.desk_law.proofs.Common.{◌≡◌, ℕ, ◌+◌, ◌==◌, true, false, List, [], length, Some, ap, sym, ◌∙◌, subst, inl, inr, or_parts, cases_Bool, byte_count, FlatStore, IsWhole, has, Lines, has-append, has_left, has_right, meets-at, Plain, Outcome, On, plan_at, row, touched, after, line_in, all_of, after-whole, after-kept, on, Keeps, Steps, lines_of_plan, row-steps, Desk, Entry, wanted, requested, conflicts_of, gone_on, IsAmong, AreConsistent, current_of, current, IsCurrent, touched_of, arith, nat_tests, Layout, Program}
 use Rattle.desk_law.proofs.Entries.{replaced, one-entry}
 use Rattle.desk_law.proofs.Others.{after-row}
 use Rattle.desk_law.proofs.GoesOn.{nobody-meets}
@@ -26,16 +26,9 @@ pub current-wanted : (desk : Desk) (most : ℕ) (entry : Entry) (state : Plain) 
     → conflicts_of desk entry ≡ [] → has (all_of (wanted desk entry)) line ≡ true
     → current desk line ≡ line_in desk.committed.directory state.store line
 current-wanted desk most entry state line whole are here is none wants =
-    let free : (other : Entry) → IsAmong desk.active other → conflicts (requested desk.committed entry) (due_to desk.committed other) ≡ false → has (touched_of desk.committed other).writes line ≡ false =
-    λ other there fine. let asked = requested desk.committed entry in
-    let held = due_to desk.committed other in
-    let parts = or_parts (meets asked.writes (held.reads ++ held.writes)) (meets asked.reads held.writes) fine in
-    let wanted_it = sym (has-append (wanted desk entry).reads (wanted desk entry).writes line) ∙ wants in
-    let read = meets-at asked.reads held.writes line in
-    let write = meets-at asked.writes (held.reads ++ held.writes) line in
-    let locked : has (wanted desk entry).reads line ≡ true → has asked.reads line ≡ true = λ there. has_left (wanted desk entry).reads _ line there in
-    grind (arith, nat_tests, parts, wanted_it, read, write, locked, has_right held.reads held.writes line) in
-    current-seen desk.committed most desk.next desk.active entry state line whole are here is (λ other there differ. free other there (nobody-meets desk entry none other there differ))
+    let meets_at = meets-at (requested desk.committed entry).reads in
+    let current_seen = current-seen desk.committed most desk.next desk.active entry state line whole are here is in
+    grind (arith, nat_tests, or_parts, has-append, meets_at, meets-at, has_left, has_right, current_seen, nobody-meets)
 
 -- what a row that goes on touches are the lines of its plan
 pub lines-of : (p : Program) (d : Layout) (s next : Plain) → row p d s ≡ On next → touched p d s ≡ lines_of_plan p d (plan_at s)

@@ -1,5 +1,5 @@
 -- Each end of a turn has its cause.
-use Rattle.desk_law.proofs.Common.{◌≡◌, refl, ℕ, zero, suc, ◌+◌, ◌<◌, ◌==◌, Bool, true, false, List, [], ◌∷◌, ◌++◌, length, find, Option, Some, None, arith, ap, sym, ◌∙◌, subst, eqb-true, ltb-true, brought, victim_of, Plain, Outcome, On, Commit, Check, row, after, Desk, Entry, with_entry, conflicts_of, Word, ReadFailed, Unwritten, Doubt, Counts, Turning, Going, Over, Idle, Limit, Checked, Journal, Disk, Victim, Waits, Committed, CommitUnwritten, CommitDoubted, Attempt, Fetching, Fetched, Broken, Contest, Contested, Settled, Lost, attempts, attempts_at, instruction, turns, turn_of, no_counts, can't_be_read, fetches, lines_written, asks, gets, takes_effect, contest_ends, waits_or_gets, breaks_cycles, RowIs, EndsForCause, IsOverFor, TurnsEndForCause, turn_desk, gone_on, IsAmong, IsConsistent, nat_tests, next_attempt, contest}
+use Rattle.desk_law.proofs.Common.{◌≡◌, refl, ℕ, zero, suc, ◌+◌, ◌<◌, ◌==◌, Bool, true, false, List, [], ◌∷◌, ◌++◌, length, find, Option, Some, None, arith, ap, sym, ◌∙◌, subst, eqb-true, ltb-true, brought, victim_of, Plain, Outcome, Commit, Check, row, after, Desk, Entry, with_entry, conflicts_of, Word, ReadFailed, Unwritten, Doubt, Counts, Turning, Going, Over, Idle, Limit, Checked, Journal, Disk, Victim, Waits, Committed, CommitUnwritten, CommitDoubted, Attempt, Fetching, Fetched, Broken, Contest, Contested, Settled, Lost, attempts, attempts_at, instruction, turns, turn_of, no_counts, can't_be_read, fetches, lines_written, asks, gets, takes_effect, contest_ends, waits_or_gets, breaks_cycles, RowIs, EndsForCause, IsOverFor, TurnsEndForCause, turn_desk, gone_on, IsAmong, IsConsistent, nat_tests, next_attempt, contest}
 use Rattle.desk_law.proofs.Entries.{found-among, new-among}
 use Rattle.desk_law.proofs.Contest.{VictimsKeep, victims-keep}
 use Rattle.desk_law.proofs.ContestRounds.{asker-left}
@@ -70,14 +70,10 @@ contest-comes old base entry left contest is = victims-keep (ContestComes old ba
 
 module _ (word : Word) (attempt : Attempt) (old : Desk) (base : Counts) where
   come-effect : (desk : Desk) (counts : Counts) (outcome : Outcome) → attempt.outcome ≡ outcome → Stays old base attempt.entry desk counts → Comes word attempt old base (takes_effect word attempt outcome desk counts)
-  come-effect desk counts (On next) went stays = (
-    new-among (gone_on attempt.entry) desk.active (record attempt.entry { waiting = stays.mark }) stays.here refl,
-    stays.committed,
-    stays.limit,
-    ap (λ (n : ℕ). n + 1) stays.ran,
-  )
-  come-effect desk counts Commit went stays = grind (arith, nat_tests)
-  come-effect desk counts (Check code) went stays = (stays.ran, went, refl)
+  come-effect desk counts outcome went stays =
+      let new_among = new-among (gone_on attempt.entry) desk.active (record attempt.entry { waiting = stays.mark })
+      stays.here refl in
+      grind (arith, nat_tests, new_among)
 
   come-get : (refused : List ℕ) (desk : Desk) (counts : Counts) → Stays old base attempt.entry desk counts → Comes word attempt old base (gets word attempt refused desk counts)
   come-get refused desk counts stays = grind (arith, nat_tests, come-effect, fetch-cause)

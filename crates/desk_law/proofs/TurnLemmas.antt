@@ -1,5 +1,5 @@
 -- What a turn leaves of a desk: whether it is closed, and what its order is.
-use Rattle.desk_law.proofs.Common.{◌≡◌, ℕ, zero, suc, List, [], ◌∷◌, ap, ◌+◌, ◌++◌, Desk, Entry, Word, Fine, Doubt, Counts, Ending, Committed, CommitUnwritten, CommitDoubted, Turning, Going, Over, Attempt, Contest, Contested, Settled, Lost, Fetching, breaks_cycles, waits_or_gets, contest_ends, fetched_first, attempts, instruction, turns, turn, arith, nat_tests, true, false, Option, find, ◌==◌, contest, Outcome}
+use Rattle.desk_law.proofs.Common.{◌≡◌, ℕ, zero, suc, List, [], ◌∷◌, ap, ◌+◌, ◌++◌, Desk, Entry, Word, Fine, Doubt, Counts, Ending, Committed, CommitUnwritten, CommitDoubted, Turning, Going, Over, Attempt, Contest, Contested, Settled, Lost, Fetching, breaks_cycles, waits_or_gets, contest_ends, fetched_first, attempts, instruction, turns, turn, arith, nat_tests, true, false, Option, contest, Outcome}
 use Rattle.desk_law.proofs.Contest.{victims-keep}
 
 -- an open desk with this order
@@ -61,8 +61,7 @@ module _ (order : List (ℕ × ℕ)) where
   turns_end word number left (Over desk counts ending) kept = kept
   turns_end word number zero (Going desk counts) kept = kept
   turns_end word number (suc left) (Going desk counts) kept =
-      turns_end word number left (instruction word (find (λ entry. entry.number == number) desk.active) desk counts)
-      (instruction_keeps word (find (λ entry. entry.number == number) desk.active) desk counts kept)
+      grind (arith, nat_tests, instruction_keeps, turns_end word number left)
 
   -- each turn of an open desk comes to an end
   pub turn_ends : (word : Word) (number limit : ℕ) (desk : Desk) → StaysOpen order desk → Ends word order (turn word number limit desk)

@@ -1,8 +1,8 @@
 -- A turn leaves a desk orderly.
-use Rattle.desk_law.proofs.Common.{◌≡◌, refl, ℕ, zero, suc, ◌+◌, ◌≤◌, ◌==◌, Bool, true, false, List, [], ◌∷◌, ◌++◌, length, find, Option, Some, None, arith, sym, ◌∙◌, subst, eqb-true, eq-eqb, both_ways, ltb-false, none-some, size, Lines, Plain, Outcome, On, Commit, Check, row, after, Desk, Entry, with_entry, rolled_back, wanted, conflicts_of, Word, Unwritten, Doubt, Counts, Turning, Going, Over, Ending, Idle, Attempt, Fetching, Fetched, Broken, Contest, Contested, Settled, Lost, attempts, attempts_at, instruction, turns, limited, is_over_limit, lines_written, fetched_first, fetches_touched, asks, gets, goes_on, breaks, takes_effect, commits, contest_ends, waits_or_gets, refused_pages, gone_on, IsAmong, IsActive, IsOrderly, touched_of, IsReady, nat_tests, next_attempt}
+use Rattle.desk_law.proofs.Common.{◌≡◌, refl, ℕ, zero, suc, ◌+◌, ◌≤◌, ◌==◌, Bool, true, false, List, [], ◌∷◌, ◌++◌, length, find, Option, Some, None, arith, sym, ◌∙◌, subst, eqb-true, eq-eqb, both_ways, ltb-false, none-some, size, Lines, Plain, Outcome, On, Commit, Check, row, after, Desk, Entry, with_entry, rolled_back, wanted, conflicts_of, Word, Counts, Turning, Going, Over, Ending, Idle, Attempt, Fetching, Fetched, Broken, Contest, Contested, Settled, Lost, attempts, attempts_at, instruction, turns, limited, is_over_limit, lines_written, fetched_first, fetches_touched, asks, gets, goes_on, breaks, takes_effect, commits, contest_ends, waits_or_gets, refused_pages, gone_on, IsAmong, IsActive, IsOrderly, touched_of, IsReady, nat_tests, next_attempt}
 use Rattle.desk_law.proofs.Entries.{among-found, none-found, new-among}
 use Rattle.desk_law.proofs.Contest.{contending, rolled-consistent, breaks-all, Came}
-use Rattle.desk_law.proofs.GoesOn.{ready-again, IsGranted, grants-held, row-goes-on, marked-contending, length-replaced}
+use Rattle.desk_law.proofs.GoesOn.{IsGranted, grants-held, row-goes-on, marked-contending, length-replaced}
 use Rattle.desk_law.proofs.Endings.{granted-rolled, granted-commits, granted-closes}
 use Rattle.desk_law.proofs.Instructions.{From, NoRowDone, Did, ContestDid, left-before, rolled-done, marked-before, marked-from, breaks-did}
 use Rattle.desk_law.proofs.LeftLemmas.{went}
@@ -41,11 +41,8 @@ module _ (word : Word) (attempt : Attempt) (most : ℕ) (old : Desk) where
   goes-left desk order from is = grind (arith, nat_tests, marked-before attempt.entry is.mark desk is.active is.here)
 
   goes-commit : (word : Word) (desk : Desk) (counts : Counts) → Room desk counts → From attempt.entry.number old desk → attempt.outcome ≡ Commit → IsGranted attempt desk → Goes old attempt most (commits word attempt desk counts)
-  goes-commit Unwritten desk counts fits from went is = ((goes-closed desk is went desk.order, tt, omega (arith, fits)), goes-left desk desk.order from is)
-  goes-commit Doubt desk counts fits from went is =
-      let order = desk.order ++ (attempt.entry.number, attempt.entry.rows + 1) ∷ [] in
-      ((goes-closed desk is went order, tt, omega (arith, fits)), goes-left desk order from is)
-  goes-commit _ desk counts fits from went is = grind (arith, nat_tests, granted-commits desk attempt is)
+  goes-commit word desk counts fits from went is =
+      grind (arith, nat_tests, goes-closed desk is went desk.order, goes-left desk desk.order from is, granted-commits)
 
   goes-effect : (desk : Desk) (counts : Counts) (outcome : Outcome) → Room desk counts → From attempt.entry.number old desk → attempt.outcome ≡ outcome → IsGranted attempt desk → Goes old attempt most (takes_effect word attempt outcome desk counts)
   goes-effect desk counts (On next) fits from went is = (
@@ -80,9 +77,7 @@ module _ (word : Word) (attempt : Attempt) (most : ℕ) (old : Desk) where
   goes-contest refused mark before (Lost desk counts) ready came did = ((came.0, tt, omega (arith, came.1)), record { from = did.0; own = left-before attempt.entry desk did.1 })
   goes-contest refused mark before (Contested desk counts) ready came did = absurd came
   goes-contest refused mark before (Settled desk counts) ready came did =
-      let again = ready-again attempt before desk mark ready (contending attempt.entry.number desk came.0) came.1 came.2 came.3 in
-      let waits = goes-wait refused (conflicts_of desk attempt.entry) desk counts came.5 did refl again came.0 in
-      grind (arith, nat_tests, waits)
+      grind (arith, nat_tests, contending attempt.entry.number desk came.0, goes-wait)
 
   goes-ask : (refused holders : List ℕ) (desk : Desk) (counts : Counts) → Room desk counts → From attempt.entry.number old desk → conflicts_of desk attempt.entry ≡ holders → IsReady attempt desk → IsAmong desk.active attempt.entry
       → Goes old attempt most (asks word attempt refused holders desk counts)

@@ -96,14 +96,6 @@ marked-waits desk entry mark from to here waits =
 -- one whose row goes on waits for nobody
 pub gone-on : (desk : Desk) (entry new : Entry) → new.number ≡ entry.number → new.waiting ≡ false
     → Leaves entry.number (waits_for (with_entry desk new)) (waits_for desk)
-gone-on desk entry new same not_waiting = record {
-  none = λ to. waits_for_none to;
-  kept = λ from to other waits.
-      let by = waits-by (with_entry desk new) from to waits in
-      let first = among-replaced new desk.active by.entry by.entry_among in
-      let second = among-replaced new desk.active by.other by.other_among in
-      let still = waits-still (with_entry desk new) desk from to by in grind (arith, nat_tests, first, second, still);
-}
-  where
-    waits_for_none : (to : ℕ) → waits_for (with_entry desk new) entry.number to ≡ false
-    waits_for_none to = grind (arith, nat_tests, waits-by (with_entry desk new) entry.number to, among-replaced new desk.active)
+gone-on desk entry new same not_waiting =
+    let waits_still = waits-still (with_entry desk new) desk in
+    grind (arith, nat_tests, waits-by (with_entry desk new), among-replaced new desk.active, waits_still)
