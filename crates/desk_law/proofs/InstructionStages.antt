@@ -1,5 +1,5 @@
 -- An instruction stage by stage, as one that serves a fault goes through them.
-use Rattle.desk_law.proofs.Common.{◌≡◌, refl, ℕ, ◌+◌, Bool, false, List, length, Option, Some, ap, is_fine_page, Plain, Outcome, On, Commit, Check, after, Desk, Entry, conflicts_of, Word, Fine, Counts, Going, Attempt, Fetched, Broken, Settled, fetches, instruction, attempts, attempts_at, limited, is_over_limit, fetched_first, fetches_touched, asks, gets, takes_effect, touched_pages, refused_pages, granted, locks_with, commits, breaks, contest_ends, waits_or_gets, Reads, row_done, nat_tests, arith, next_attempt}
+use Rattle.desk_law.proofs.Common.{◌≡◌, refl, ℕ, ◌+◌, Bool, false, List, length, Option, Some, ap, is_fine_page, Plain, Outcome, On, Check, after, Desk, Entry, conflicts_of, Word, Fine, Counts, Going, Attempt, Fetched, Broken, Settled, fetches, instruction, attempts, attempts_at, limited, is_over_limit, fetched_first, fetches_touched, asks, gets, takes_effect, touched_pages, refused_pages, granted, locks_with, breaks, contest_ends, waits_or_gets, Reads, row_done, nat_tests, arith, next_attempt}
 
 -- a row that goes on, or is the commit call
 abbrev pub GoesOn : Outcome → Type 0
@@ -52,6 +52,3 @@ module _ (word : Word) (attempt : Attempt) (desk : Desk) (counts : Counts) where
   pub stage-on : (outcome : Outcome) (next : Plain) → outcome ≡ On next
       → takes_effect word attempt outcome desk counts ≡ Going (row_done attempt desk) (record counts { ran = counts.ran + 1 })
   stage-on outcome next is = ap (λ (this : Outcome). takes_effect word attempt this desk counts) is
-
-  pub stage-commit : (outcome : Outcome) → outcome ≡ Commit → takes_effect word attempt outcome desk counts ≡ commits word attempt desk counts
-  stage-commit outcome is = ap (λ (this : Outcome). takes_effect word attempt this desk counts) is

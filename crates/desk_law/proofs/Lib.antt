@@ -22,7 +22,6 @@ pub mod CyclesBroken
 pub mod SomebodyGoesOn
 pub mod Granted
 pub mod AlikeSets
-pub mod FetchedThere
 pub mod FetchesCounted
 pub mod KeptTables
 pub mod Identifiers

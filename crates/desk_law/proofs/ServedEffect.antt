@@ -1,8 +1,7 @@
 -- The end of an instruction that was served: its pages are granted and there, and its row goes on over the bytes of all.
-use Rattle.desk_law.proofs.Common.{◌≡◌, ℕ, ◌+◌, ◌<◌, true, List, [], length, filter, slice_index_or, arith, ◌∙◌, is_fine_page, has, both, with_whole_pages, page_of_line, has_left, has_right, pages_of-line, Plain, On, row, all_of, touched-below, Desk, Grant, nobody, conflicts_of, Word, Counts, Going, Attempt, Fetched, fetches, touched_pages, refuses, lines_within, granted, locks_with, with_grants, gets, AreThere, over_all, gone_on, row_done, IsCurrent, KeepsPages, touched_of, IsUnderWay, IsReady, IsOrderly, nat_tests, before}
+use Rattle.desk_law.proofs.Common.{◌≡◌, ℕ, ◌+◌, true, List, [], arith, ◌∙◌, is_fine_page, Plain, On, row, Desk, conflicts_of, Word, Counts, Going, Attempt, Fetched, fetches, touched_pages, granted, locks_with, with_grants, gets, over_all, gone_on, row_done, IsCurrent, IsUnderWay, IsReady, IsOrderly, nat_tests}
 use Rattle.desk_law.proofs.Entries.{replaced}
 use Rattle.desk_law.proofs.GoesOn.{ready-again, grants-held, row-goes-on}
-use Rattle.desk_law.proofs.Granted.{granted-permits}
 use Rattle.desk_law.proofs.SharedBytes.{row-on-current}
 use Rattle.desk_law.proofs.TurnsStay.{resident-granted}
 use Rattle.desk_law.proofs.LeftLemmas.{went}
@@ -16,20 +15,6 @@ ready-settled attempt old desk ready under_way is = ready-again attempt old desk
 abbrev pub got : Attempt → List ℕ → List ℕ → Desk → Desk
 got attempt refused resident desk =
     record desk { resident = resident; authority = granted (is_fine_page desk.committed.directory) attempt (locks_with attempt desk) refused desk.authority }
-
--- A touched line lies on a page of the store.
-pub touched-page : (attempt : Attempt) (desk : Desk) → IsReady attempt desk → (line : ℕ) → has (all_of attempt.lines) line ≡ true → page_of_line line < length desk.authority
-touched-page attempt desk ready line inside = grind (arith, nat_tests, touched-below)
-
--- Once the refused pages are granted and all are there, the second attempt isn't refused.
-pub served-there :
-    (attempt : Attempt) (before : List Grant) (desk : Desk) (resident : List ℕ) → IsReady attempt desk → KeepsPages attempt.entry.number before desk.authority
-    → ((page : ℕ) → has (touched_pages attempt) page ≡ true → has resident page ≡ true)
-    → AreThere
-    (got attempt (filter (λ page. refuses (slice_index_or before page nobody) attempt.entry.number (lines_within page attempt.lines)) (touched_pages attempt)) resident desk)
-    attempt.entry.number attempt.lines
-served-there attempt before desk resident ready keeps there =
-    grind (arith, nat_tests, pages_of-line, granted-permits (is_fine_page desk.committed.directory) attempt (with_whole_pages (is_fine_page desk.committed.directory) (both (touched_of desk.committed attempt.entry) attempt.lines)) before desk.authority keeps, has_left, has_right, has_right, touched-page attempt desk ready, has_left, has_right)
 
 -- what a served row leaves, with the state that the storage shows after it
 pub record WasServed (attempt : Attempt) (refused resident : List ℕ) (desk : Desk) (counts : Counts) (counted : ℕ) (shown : Plain) : Type 0 where

@@ -1,5 +1,5 @@
 -- Each end of a turn has its cause.
-use Rattle.desk_law.proofs.Common.{◌≡◌, refl, ℕ, zero, suc, ◌+◌, ◌<◌, ◌==◌, Bool, true, false, List, [], ◌∷◌, ◌++◌, length, find, Option, Some, None, arith, ap, sym, ◌∙◌, subst, eqb-true, ltb-true, brought, victim_of, Plain, Outcome, Commit, Check, row, after, Desk, Entry, with_entry, conflicts_of, Word, ReadFailed, Unwritten, Doubt, Counts, Turning, Going, Over, Idle, Limit, Checked, Journal, Disk, Victim, Waits, Committed, CommitUnwritten, CommitDoubted, Attempt, Fetching, Fetched, Broken, Contest, Contested, Settled, Lost, attempts, attempts_at, instruction, turns, turn_of, no_counts, can't_be_read, fetches, lines_written, asks, gets, takes_effect, contest_ends, waits_or_gets, breaks_cycles, RowIs, EndsForCause, IsOverFor, TurnsEndForCause, turn_desk, gone_on, IsAmong, IsConsistent, nat_tests, next_attempt, contest}
+use Rattle.desk_law.proofs.Common.{◌≡◌, refl, ℕ, zero, suc, ◌+◌, ◌<◌, ◌==◌, Bool, true, false, List, [], ◌∷◌, ◌++◌, length, find, Option, Some, None, arith, ap, sym, ◌∙◌, subst, eqb-true, ltb-true, brought, victim_of, Plain, Outcome, Commit, Check, row, after, Desk, Entry, with_entry, conflicts_of, Word, ReadFailed, Unwritten, Doubt, Counts, Turning, Going, Over, Idle, Limit, Checked, Journal, Disk, Victim, Waits, Committed, CommitUnwritten, CommitDoubted, Attempt, Fetching, Fetched, Broken, Contest, Contested, Settled, Lost, attempts, attempts_at, instruction, turns, turn_of, no_counts, fetches, lines_written, asks, gets, takes_effect, contest_ends, waits_or_gets, breaks_cycles, RowIs, EndsForCause, IsOverFor, TurnsEndForCause, turn_desk, gone_on, IsAmong, IsConsistent, nat_tests, next_attempt, contest}
 use Rattle.desk_law.proofs.Entries.{found-among, new-among}
 use Rattle.desk_law.proofs.Contest.{VictimsKeep, victims-keep}
 use Rattle.desk_law.proofs.ContestRounds.{asker-left}
@@ -10,9 +10,6 @@ use Rattle.desk_law.proofs.LeftLemmas.{went}
 abbrev FetchCause : Word → Fetching → Type 0
 FetchCause word (Fetched resident counted) = Unit {0}
 FetchCause word (Broken counted) = word ≡ ReadFailed counted
-
-unread : (word : Word) (counted : ℕ) → can't_be_read word counted ≡ true → word ≡ ReadFailed counted
-unread word counted fails = grind (arith, nat_tests, eqb-true)
 
 fetch-cause : (word : Word) (frames : ℕ) (kept pages resident : List ℕ) (counted : ℕ) → FetchCause word (fetches word frames kept pages resident counted)
 fetch-cause word frames kept [] resident counted = tt

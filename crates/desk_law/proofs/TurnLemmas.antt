@@ -1,5 +1,5 @@
 -- What a turn leaves of a desk: whether it is closed, and what its order is.
-use Rattle.desk_law.proofs.Common.{◌≡◌, ℕ, zero, suc, List, [], ◌∷◌, ap, ◌+◌, ◌++◌, Desk, Entry, Word, Fine, Doubt, Counts, Ending, Committed, CommitUnwritten, CommitDoubted, Turning, Going, Over, Attempt, Contest, Contested, Settled, Lost, Fetching, breaks_cycles, waits_or_gets, contest_ends, fetched_first, attempts, instruction, turns, turn, arith, nat_tests, true, false, Option, contest, Outcome}
+use Rattle.desk_law.proofs.Common.{◌≡◌, ℕ, zero, suc, List, [], ◌∷◌, ◌++◌, Desk, Entry, Word, Fine, Doubt, Counts, Ending, Committed, CommitUnwritten, CommitDoubted, Turning, Going, Over, Attempt, Contest, Contested, Settled, Lost, Fetching, breaks_cycles, waits_or_gets, contest_ends, fetched_first, attempts, instruction, turns, turn, arith, nat_tests, true, false, Option, contest, Outcome}
 use Rattle.desk_law.proofs.Contest.{victims-keep}
 
 -- an open desk with this order
@@ -33,9 +33,6 @@ Ends word order (Going desk counts) = ⊥
 Ends word order (Over desk counts ending) = Ended word order desk ending
 
 module _ (order : List (ℕ × ℕ)) where
-  one_more : (attempt : Attempt) (desk : Desk) → desk.order ≡ order → (one : ℕ × ℕ) × (desk.order ++ (attempt.entry.number, attempt.entry.rows + 1) ∷ [] ≡ order ++ one ∷ [])
-  one_more attempt desk is = ((attempt.entry.number, attempt.entry.rows + 1), ap (λ (front : List (ℕ × ℕ)). front ++ (attempt.entry.number, attempt.entry.rows + 1) ∷ []) is)
-
   breaks_cycles_keeps : (left number : ℕ) (contest : Contest) → KeepsOpen order contest → KeepsOpen order (breaks_cycles left number contest)
   breaks_cycles_keeps left number contest kept =
       grind (arith, nat_tests, victims-keep (KeepsOpen order) number (λ desk counts kept. kept))
