@@ -20,15 +20,15 @@ returns-then-victim-number c =
     let few = fewer a.seating.taken c.in-Some-seat_of.loser (seat-found a.seating c.cycle_from.ensures.sound.seating (victim_of c.in-Some.members.items) c.in-Some-seat_of.loser sits).0 in
     let less : length c.roll_back.new.self.seating.taken < length a.seating.taken = subst (λ (x : Activity). length x.seating.taken < length a.seating.taken) (sym c.roll_back.ensures.shape) few in
     let its : (victim_of c.in-Some.members.items == number_in a.seating c.args.seat) ≡ true =
-    eq-eqb (victim_of c.in-Some.members.items) (number_in a.seating c.args.seat) (sym c.greatest-victim.ensures ∙ c.if-victim-number.true ∙ sym c.loop-members.invariant.1) in
+    eq-eqb (victim_of c.in-Some.members.items) (number_in a.seating c.args.seat) (sym c.greatest-victim.ensures ∙ c.if-victim-number.true ∙ sym c.loop-members.invariant.number) in
     record {
-      keeps = subst (λ (x : Activity). KeepsParts first x 0) (sym c.roll_back.ensures.shape) (keeps-rolled first a c.in-Some-seat_of.loser 0 pool c.loop-members.invariant.5);
-      counts = record { cycles = omega (arith, less, c.loop-members.invariant.3, c.push.ensures.len); rest = tally-on c.args.tally.now c.loop-members.tally _ c.loop-members.invariant.7 };
+      keeps = subst (λ (x : Activity). KeepsParts first x 0) (sym c.roll_back.ensures.shape) (keeps-rolled first a c.in-Some-seat_of.loser 0 pool c.loop-members.invariant.parts);
+      counts = record { cycles = omega (arith, less, c.loop-members.invariant.cycles, c.push.ensures.len); rest = tally-on c.args.tally.now c.loop-members.tally _ c.loop-members.invariant.rest };
       stays = tt;
       ends = record { ends = tt; victim = (c.loop-members.tally.cycles.items, _, c.push.ensures.items, sym c.greatest-victim.ensures ∙ c.if-victim-number.true ∙ ap (λ (who : Seat). who.number) c.sitter.ensures) };
       settled = λ begins attempt refused desk committed order number contested printed.
           let lost = contests-lost c.args.seat first a (tally_counts c.args.tally.now) counts c.in-Some.members.items c.in-Some-seat_of.loser pool
-          c.cycle_from.ensures.sound c.loop-members.invariant.0 (c.loop-members.invariant.1 ∙ ap (λ (who : _). who.number) c.sitter.ensures) c.loop-members.invariant.4 found sits c.roll_back.ensures.rolls its begins attempt refused desk committed order number contested in
+          c.cycle_from.ensures.sound c.loop-members.invariant.taken (c.loop-members.invariant.number ∙ ap (λ (who : _). who.number) c.sitter.ensures) c.loop-members.invariant.contests found sits c.roll_back.ensures.rolls its begins attempt refused desk committed order number contested in
           let cycles = recorded c.loop-members.tally.cycles.items c.in-Some.members.items c.push.new.self.items _ refl c.push.ensures.items in
           subst (λ (x : Activity). ComesToEnd begins x committed order (record counts { cycles = map (λ (cycle : Cycle). cycle.members.items) c.push.new.self.items }) Victim) (sym c.roll_back.ensures.shape)
           (subst (λ (these : List (List ℕ)). ComesToEnd begins (rolled a c.in-Some-seat_of.loser pool) committed order (record counts { cycles = these }) Victim) (sym cycles) lost);
@@ -46,40 +46,40 @@ loop-members-preserved c =
     let found : cycle_of c.loop-members.self.seating c.args.seat ≡ Some c.in-Some.members.items = sym c.cycle_from.ensures.cycle ∙ ap (option_map (λ cycle. cycle.items)) c.in-Some.is in
     let sits = ap (seat_of c.loop-members.self.seating) (sym c.greatest-victim.ensures) ∙ sym c.seat_of.ensures ∙ c.in-Some-seat_of.is in
     let other : (victim_of c.in-Some.members.items == number_in c.loop-members.self.seating c.args.seat) ≡ false =
-    ne_eqb (victim_of c.in-Some.members.items) (number_in c.loop-members.self.seating c.args.seat) (λ same. c.if-victim-number.false (c.greatest-victim.ensures ∙ same ∙ c.loop-members.invariant.1)) in
+    ne_eqb (victim_of c.in-Some.members.items) (number_in c.loop-members.self.seating c.args.seat) (λ same. c.if-victim-number.false (c.greatest-victim.ensures ∙ same ∙ c.loop-members.invariant.number)) in
     let loser = (seat-found c.loop-members.self.seating c.cycle_from.ensures.sound.seating (victim_of c.in-Some.members.items) c.in-Some-seat_of.loser sits).0 in
     let few = fewer c.loop-members.self.seating.taken c.in-Some-seat_of.loser loser in
     let less : length c.roll_back.new.self.seating.taken < length c.loop-members.self.seating.taken = subst (λ (a : Activity). length a.seating.taken < length c.loop-members.self.seating.taken) (sym c.roll_back.ensures.shape) few in
-    let numbered = c.loop-members.invariant.1 ∙ ap (λ (who : _). who.number) c.sitter.ensures in
+    let numbered = c.loop-members.invariant.number ∙ ap (λ (who : _). who.number) c.sitter.ensures in
     let on = contests-on c.args.seat c.args.self.now c.loop-members.self (tally_counts c.args.tally.now) (tally_counts c.loop-members.tally) c.in-Some.members.items c.in-Some-seat_of.loser c.roll_back.new.self.reach.pool
-    c.cycle_from.ensures.sound c.loop-members.invariant.0 numbered c.loop-members.invariant.4 found sits c.roll_back.ensures.rolls other in
+    c.cycle_from.ensures.sound c.loop-members.invariant.taken numbered c.loop-members.invariant.contests found sits c.roll_back.ensures.rolls other in
     let stays = stays-taken c.args.seat c.args.self.now c.loop-members.self (tally_counts c.args.tally.now) (tally_counts c.loop-members.tally) c.in-Some.members.items c.in-Some-seat_of.loser c.roll_back.new.self.reach.pool
-    c.cycle_from.ensures.sound c.loop-members.invariant.0 numbered c.loop-members.invariant.4 found sits c.roll_back.ensures.rolls other in
-    let cycles = recorded c.loop-members.tally.cycles.items c.in-Some.members.items c.push.new.self.items _ refl c.push.ensures.items in (
-      subst (λ (a : Activity). has a.seating.taken c.args.seat ≡ true) (sym c.roll_back.ensures.shape) stays,
-      subst (λ (a : Activity). number_in a.seating c.args.seat ≡ c.sitter.result.now.number) (sym c.roll_back.ensures.shape) c.loop-members.invariant.1,
-      subst (λ (a : Activity). IsSome (sitter a.seating c.args.seat).waits) (sym c.roll_back.ensures.shape) c.loop-members.invariant.2,
-      omega (arith, less, c.loop-members.invariant.3, c.push.ensures.len),
-      subst (λ (a : Activity). Contests c.args.seat c.args.self.now (tally_counts c.args.tally.now) a (record (tally_counts c.loop-members.tally) { cycles = map (λ (cycle : Cycle). cycle.members.items) c.push.new.self.items })) (sym c.roll_back.ensures.shape)
-          (subst (λ (these : List (List ℕ)). Contests c.args.seat c.args.self.now (tally_counts c.args.tally.now) (rolled c.loop-members.self c.in-Some-seat_of.loser c.roll_back.new.self.reach.pool) (record (tally_counts c.loop-members.tally) { cycles = these })) (sym cycles) on),
-      subst (λ (a : Activity). KeepsParts c.args.self.now a 0) (sym c.roll_back.ensures.shape)
-          (keeps-rolled c.args.self.now c.loop-members.self c.in-Some-seat_of.loser 0 c.roll_back.new.self.reach.pool c.loop-members.invariant.5),
-      subst (λ (a : Activity). StandsStill c.args.self.now a c.args.seat) (sym c.roll_back.ensures.shape)
-          (still-rolled c.args.self.now c.loop-members.self c.args.seat c.in-Some-seat_of.loser c.roll_back.new.self.reach.pool c.roll_back.ensures.undone c.loop-members.invariant.6 stays),
-      tally-on c.args.tally.now c.loop-members.tally _ c.loop-members.invariant.7,
-    )
+    c.cycle_from.ensures.sound c.loop-members.invariant.taken numbered c.loop-members.invariant.contests found sits c.roll_back.ensures.rolls other in
+    let cycles = recorded c.loop-members.tally.cycles.items c.in-Some.members.items c.push.new.self.items _ refl c.push.ensures.items in record {
+      taken = subst (λ (a : Activity). has a.seating.taken c.args.seat ≡ true) (sym c.roll_back.ensures.shape) stays;
+      number = subst (λ (a : Activity). number_in a.seating c.args.seat ≡ c.sitter.result.now.number) (sym c.roll_back.ensures.shape) c.loop-members.invariant.number;
+      waits = subst (λ (a : Activity). IsSome (sitter a.seating c.args.seat).waits) (sym c.roll_back.ensures.shape) c.loop-members.invariant.waits;
+      cycles = omega (arith, less, c.loop-members.invariant.cycles, c.push.ensures.len);
+      contests = subst (λ (a : Activity). Contests c.args.seat c.args.self.now (tally_counts c.args.tally.now) a (record (tally_counts c.loop-members.tally) { cycles = map (λ (cycle : Cycle). cycle.members.items) c.push.new.self.items })) (sym c.roll_back.ensures.shape)
+          (subst (λ (these : List (List ℕ)). Contests c.args.seat c.args.self.now (tally_counts c.args.tally.now) (rolled c.loop-members.self c.in-Some-seat_of.loser c.roll_back.new.self.reach.pool) (record (tally_counts c.loop-members.tally) { cycles = these })) (sym cycles) on);
+      parts = subst (λ (a : Activity). KeepsParts c.args.self.now a 0) (sym c.roll_back.ensures.shape)
+          (keeps-rolled c.args.self.now c.loop-members.self c.in-Some-seat_of.loser 0 c.roll_back.new.self.reach.pool c.loop-members.invariant.parts);
+      stays = subst (λ (a : Activity). StandsStill c.args.self.now a c.args.seat) (sym c.roll_back.ensures.shape)
+          (still-rolled c.args.self.now c.loop-members.self c.args.seat c.in-Some-seat_of.loser c.roll_back.new.self.reach.pool c.roll_back.ensures.undone c.loop-members.invariant.stays stays);
+      rest = tally-on c.args.tally.now c.loop-members.tally _ c.loop-members.invariant.rest;
+    }
 
 pub loop-members-init : goal.loop-members-init
-loop-members-init c = (
-  c.requires.taken,
-  ap (λ (who : Seat). who.number) (sym c.sitter.ensures),
-  c.requires.waits,
-  c.requires.room,
-  λ begins attempt refused first committed order number contested. contested,
-  keeps-itself c.args.self.now,
-  still-itself c.args.self.now c.args.seat c.requires.taken,
-  refl,
-)
+loop-members-init c = record {
+  taken = c.requires.taken;
+  number = ap (λ (who : Seat). who.number) (sym c.sitter.ensures);
+  waits = c.requires.waits;
+  cycles = c.requires.room;
+  contests = λ begins attempt refused first committed order number contested. contested;
+  parts = keeps-itself c.args.self.now;
+  stays = still-itself c.args.self.now c.args.seat c.requires.taken;
+  rest = refl;
+}
 
 pub returns-then-is_empty-clause-settled : goal.returns-then-is_empty-clause-settled
 returns-then-is_empty-clause-settled c begins attempt refused first committed order number contested = elim c.match-cycle_from.branch [
@@ -87,12 +87,12 @@ returns-then-is_empty-clause-settled c begins attempt refused first committed or
       let found : cycle_of c.loop-members.self.seating c.args.seat ≡ Some w.in-Some.members.items = sym c.cycle_from.ensures.cycle ∙ ap (option_map (λ cycle. cycle.items)) w.in-Some.is in
       let none = ap (seat_of c.loop-members.self.seating) (sym w.greatest-victim.ensures) ∙ sym w.seat_of.ensures ∙ w.in_default-seat_of.is in
       absurd (victim-sits c.args.seat c.args.self.now c.loop-members.self (tally_counts c.args.tally.now) (tally_counts c.loop-members.tally)
-      c.cycle_from.ensures.sound c.loop-members.invariant.0 (c.loop-members.invariant.1 ∙ ap (λ (who : _). who.number) c.sitter.ensures) c.loop-members.invariant.4
+      c.cycle_from.ensures.sound c.loop-members.invariant.taken (c.loop-members.invariant.number ∙ ap (λ (who : _). who.number) c.sitter.ensures) c.loop-members.invariant.contests
       w.in-Some.members.items found none begins attempt refused first committed order number contested)
   | in_default w ↦
       told-settles c.args.seat c.args.self.now c.loop-members.self (tally_counts c.args.tally.now) (tally_counts c.loop-members.tally)
-      c.cycle_from.ensures.sound c.loop-members.invariant.0 (c.loop-members.invariant.1 ∙ ap (λ (who : _). who.number) c.sitter.ensures) c.loop-members.invariant.4
-      c.loop-members.invariant.2 (sym c.cycle_from.ensures.cycle ∙ ap (option_map (λ cycle. cycle.items)) w.in_default.is) c.awaited-holders.result.items c.awaited-holders.ensures
+      c.cycle_from.ensures.sound c.loop-members.invariant.taken (c.loop-members.invariant.number ∙ ap (λ (who : _). who.number) c.sitter.ensures) c.loop-members.invariant.contests
+      c.loop-members.invariant.waits (sym c.cycle_from.ensures.cycle ∙ ap (option_map (λ cycle. cycle.items)) w.in_default.is) c.awaited-holders.result.items c.awaited-holders.ensures
       (sym c.is_empty.ensures ∙ c.if-is_empty.true) begins attempt refused first committed order number contested
 ]
 
@@ -102,11 +102,11 @@ returns-else-is_empty-clause-settled c begins attempt refused first committed or
       let found : cycle_of c.loop-members.self.seating c.args.seat ≡ Some w.in-Some.members.items = sym c.cycle_from.ensures.cycle ∙ ap (option_map (λ cycle. cycle.items)) w.in-Some.is in
       let none = ap (seat_of c.loop-members.self.seating) (sym w.greatest-victim.ensures) ∙ sym w.seat_of.ensures ∙ w.in_default-seat_of.is in
       absurd (victim-sits c.args.seat c.args.self.now c.loop-members.self (tally_counts c.args.tally.now) (tally_counts c.loop-members.tally)
-      c.cycle_from.ensures.sound c.loop-members.invariant.0 (c.loop-members.invariant.1 ∙ ap (λ (who : _). who.number) c.sitter.ensures) c.loop-members.invariant.4
+      c.cycle_from.ensures.sound c.loop-members.invariant.taken (c.loop-members.invariant.number ∙ ap (λ (who : _). who.number) c.sitter.ensures) c.loop-members.invariant.contests
       w.in-Some.members.items found none begins attempt refused first committed order number contested)
   | in_default w ↦
       told-stays c.args.seat c.args.self.now c.loop-members.self (tally_counts c.args.tally.now) (tally_counts c.loop-members.tally)
-      c.cycle_from.ensures.sound c.loop-members.invariant.0 (c.loop-members.invariant.1 ∙ ap (λ (who : _). who.number) c.sitter.ensures) c.loop-members.invariant.4
-      c.loop-members.invariant.2 (sym c.cycle_from.ensures.cycle ∙ ap (option_map (λ cycle. cycle.items)) w.in_default.is) c.awaited-holders.result.items c.awaited-holders.ensures
+      c.cycle_from.ensures.sound c.loop-members.invariant.taken (c.loop-members.invariant.number ∙ ap (λ (who : _). who.number) c.sitter.ensures) c.loop-members.invariant.contests
+      c.loop-members.invariant.waits (sym c.cycle_from.ensures.cycle ∙ ap (option_map (λ cycle. cycle.items)) w.in_default.is) c.awaited-holders.result.items c.awaited-holders.ensures
       (sym c.is_empty.ensures ∙ c.if-is_empty.false) begins attempt refused first committed order number contested
 ]

@@ -6,19 +6,19 @@ pub loop-left-init : goal.loop-left-init
 loop-left-init g c =
     let a = c.select.new.self in
     let taken : has a.seating.taken c.args.seat ≡ true = ap (λ (x : Activity). has x.seating.taken c.args.seat) c.select.ensures.shape ∙ c.requires.taken in
-    let same : length a.seating.taken ≡ length c.args.self.now.seating.taken = ap (λ (x : Activity). length x.seating.taken) c.select.ensures.shape in (
-      stays-itself a c.args.seat taken,
-      c.select.ensures.selected,
-      λ access none. absurd (cc (none)),
-      asks_none g.W.Outside c.args.outside.now,
-      refl,
-      subst (KeepsParts a a) (omega arith) (keeps-itself a),
-      omega (arith, same, c.requires.cycles),
-      omega (arith, c.requires.tally),
-      omega (arith, c.requires.tally),
-      omega (arith, c.requires.tally),
-      λ committed order store follows. turn-begins a c.args.seat c.args.limit committed order (tally_counts c.args.tally.now) follows,
-    )
+    let same : length a.seating.taken ≡ length c.args.self.now.seating.taken = ap (λ (x : Activity). length x.seating.taken) c.select.ensures.shape in record {
+      stays = stays-itself a c.args.seat taken;
+      selected = c.select.ensures.selected;
+      shut = λ access none. absurd (cc (none));
+      asks = asks_none g.W.Outside c.args.outside.now;
+      calm = refl;
+      parts = subst (KeepsParts a a) (omega arith) (keeps-itself a);
+      cycles = omega (arith, same, c.requires.cycles);
+      total = omega (arith, c.requires.tally);
+      pages = omega (arith, c.requires.tally);
+      locks = omega (arith, c.requires.tally);
+      turns = λ committed order store follows. turn-begins a c.args.seat c.args.limit committed order (tally_counts c.args.tally.now) follows;
+    }
 
 pub loop-left-preserved : goal.loop-left-preserved
 loop-left-preserved g c =
@@ -27,51 +27,51 @@ loop-left-preserved g c =
     let new = c.go_far-ran.new.self in let seat = c.args.seat in let inv = c.loop-left.invariant in
     let came = c.in_ok-shut_still.ensures.on.stays in let stays = c.in_ok-instruct.ensures.on.stays in
     let some = c.go_far-ran.ensures.some in let few = c.go_far-ran.ensures.few in let left = c.loop-left-test.true in
-    let total = inv.7 in let more = c.come_back.ensures.counts.few in let ran = c.instruct.ensures.counts.tally.ran in
+    let total = inv.total in let more = c.come_back.ensures.counts.few in let ran = c.instruct.ensures.counts.tally.ran in
     let pages = c.instruct.ensures.counts.tally.pages in let locks = c.instruct.ensures.counts.tally.locks in
     let told = c.go_far-ran.ensures.tally in let ran_now = ap (λ (tally : Tally). tally.ran) told in
     let pages_now = ap (λ (tally : Tally). tally.pages) told in
-    let locks_now = ap (λ (tally : Tally). tally.locks) told in (
-      stays-on first mid new seat (stays-on first back mid seat (stays-on first old back seat inv.0 came) stays) c.go_far-ran.ensures.stays,
-      c.go_far-ran.ensures.stays.selected (stays.selected (came.selected inv.1)),
-      c.go_far-ran.ensures.shut,
-      asks_on g.W.Outside g.met.W.Outside.fewer_later c.args.outside.now c.come_back.new.outside c.instruct.new.outside
-          (asks_on g.W.Outside g.met.W.Outside.fewer_later c.args.outside.now c.loop-left.outside c.come_back.new.outside inv.3 c.come_back.ensures.keeps.asks) c.instruct.ensures.keeps.asks,
-      c.in_ok-instruct.ensures.on.calm ∙ c.in_ok-shut_still.ensures.on.calm ∙ inv.4,
-      keeps-far first old mid new c.args.limit c.loop-left.left c.go_far-ran.result.0 (omega (arith, few, left)) (omega (arith, total)) inv.5 (keeps-two old back mid c.come_back.ensures.keeps.parts c.instruct.ensures.keeps.parts) c.go_far-ran.ensures.parts,
-      (let cycles = c.instruct.ensures.counts.cycles in let taken = ap (λ (seats : List ℕ). length seats) c.go_far-ran.ensures.taken in let same = ap (λ (tally : Tally). array_vec_len tally.cycles) told in omega (arith, cycles, taken, same)),
-      omega (arith, total, ap (λ (tally : Tally). tally.ran) c.come_back.ensures.counts.rest, ran, ran_now, few, left),
-      (let before = inv.8 in omega (arith, before, more, pages, pages_now, some, few, left)),
-      (let before = inv.9 in omega (arith, before, ap (λ (tally : Tally). tally.locks) c.come_back.ensures.counts.rest, locks, locks_now, some, few, left)),
-      λ committed order store follows.
+    let locks_now = ap (λ (tally : Tally). tally.locks) told in record {
+      stays = stays-on first mid new seat (stays-on first back mid seat (stays-on first old back seat inv.stays came) stays) c.go_far-ran.ensures.stays;
+      selected = c.go_far-ran.ensures.stays.selected (stays.selected (came.selected inv.selected));
+      shut = c.go_far-ran.ensures.shut;
+      asks = asks_on g.W.Outside g.met.W.Outside.fewer_later c.args.outside.now c.come_back.new.outside c.instruct.new.outside
+          (asks_on g.W.Outside g.met.W.Outside.fewer_later c.args.outside.now c.loop-left.outside c.come_back.new.outside inv.asks c.come_back.ensures.keeps.asks) c.instruct.ensures.keeps.asks;
+      calm = c.in_ok-instruct.ensures.on.calm ∙ c.in_ok-shut_still.ensures.on.calm ∙ inv.calm;
+      parts = keeps-far first old mid new c.args.limit c.loop-left.left c.go_far-ran.result.0 (omega (arith, few, left)) (omega (arith, total)) inv.parts (keeps-two old back mid c.come_back.ensures.keeps.parts c.instruct.ensures.keeps.parts) c.go_far-ran.ensures.parts;
+      cycles = let cycles = c.instruct.ensures.counts.cycles in let taken = ap (λ (seats : List ℕ). length seats) c.go_far-ran.ensures.taken in let same = ap (λ (tally : Tally). array_vec_len tally.cycles) told in omega (arith, cycles, taken, same);
+      total = omega (arith, total, ap (λ (tally : Tally). tally.ran) c.come_back.ensures.counts.rest, ran, ran_now, few, left);
+      pages = let before = inv.pages in omega (arith, before, more, pages, pages_now, some, few, left);
+      locks = let before = inv.locks in omega (arith, before, ap (λ (tally : Tally). tally.locks) c.come_back.ensures.counts.rest, locks, locks_now, some, few, left);
+      turns = λ committed order store follows.
           let begins = turn_in first seat c.args.limit committed order (tally_counts c.args.tally.now) in
-          let here = store-on g.W.Outside g.met.W.Outside.fewer_later c.args.store.now c.args.outside.now c.loop-left.outside committed inv.3 store in
-          let turning = c.in_ok-shut_still.ensures.turns begins c.loop-left.left committed order left here (inv.10 committed order store follows) in
+          let here = store-on g.W.Outside g.met.W.Outside.fewer_later c.args.store.now c.args.outside.now c.loop-left.outside committed inv.asks store in
+          let turning = c.in_ok-shut_still.ensures.turns begins c.loop-left.left committed order left here (inv.turns committed order store follows) in
           let here_still = store-on g.W.Outside g.met.W.Outside.fewer_later c.args.store.now c.loop-left.outside c.come_back.new.outside committed c.come_back.ensures.keeps.asks here in
           let goes = subst (λ (went : Went). IsStep (Ok went) (instruction_in back seat committed order (tally_counts c.come_back.new.tally)) mid seat committed order (tally_counts c.instruct.new.tally)) c.in-On.is (c.in_ok-instruct.ensures.step committed order here_still turning.follows) in
           let on = turn-goes begins back seat c.loop-left.left committed order (tally_counts c.come_back.new.tally) c.sound.ensures.sound came.taken left turning mid (tally_counts c.instruct.new.tally) c.sound-in-On.ensures.sound stays c.instruct.ensures.counts.tally.pages_before goes in
           subst (λ (counts : Counts). IsTurning begins new seat (c.loop-left.left - c.go_far-ran.result.0) committed order counts) (sym (ap tally_counts told))
           (c.go_far-ran.ensures.gone begins committed order (tally_counts c.instruct.new.tally) (c.go_far-ran.result.0 - 1) (c.loop-left.left - c.go_far-ran.result.0) (omega (arith, some))
-          (subst (λ (rows : ℕ). IsTurning begins (counted mid seat 1) seat rows committed order (record (tally_counts c.instruct.new.tally) { ran = c.instruct.new.tally.ran + 1 })) (omega (arith, some, few, left)) on)),
-    )
+          (subst (λ (rows : ℕ). IsTurning begins (counted mid seat 1) seat rows committed order (record (tally_counts c.instruct.new.tally) { ran = c.instruct.new.tally.ran + 1 })) (omega (arith, some, few, left)) on));
+    }
 
 pub returns-in_err-shut_still-clause-keeps : goal.returns-in_err-shut_still-clause-keeps
 returns-in_err-shut_still-clause-keeps g c =
     keeps-ran g.W.Outside g.met.W.Outside.fewer_later c.args.self.now c.select.new.self c.loop-left.self c.come_back.new.self c.come_back.new.self c.args.seat c.args.limit c.loop-left.left c.args.outside.now c.loop-left.outside c.come_back.new.outside c.come_back.new.outside
-    c.select.ensures.shape c.loop-left.invariant.3 c.loop-left.invariant.5 c.come_back.ensures.keeps
+    c.select.ensures.shape c.loop-left.invariant.asks c.loop-left.invariant.parts c.come_back.ensures.keeps
     (record { asks = asks_none g.W.Outside c.come_back.new.outside; parts = keeps-itself c.come_back.new.self })
 
 pub returns-in_err-shut_still-clause-over : goal.returns-in_err-shut_still-clause-over
 returns-in_err-shut_still-clause-over g c =
     ended-by-disk g.W.Outside (number_in c.args.self.now.seating c.args.seat) c.come_back.new.self c.args.outside.now c.loop-left.outside c.come_back.new.outside c.args.tally.now c.loop-left.tally c.come_back.new.tally
-    c.from_residual.result c.in_err-shut_still.field-0.0 c.from_residual.ensures.1 c.loop-left.invariant.4 (omega (arith, c.requires.tally)) c.in_err-shut_still.ensures.ends
+    c.from_residual.result c.in_err-shut_still.field-0.0 c.from_residual.ensures.1 c.loop-left.invariant.calm (omega (arith, c.requires.tally)) c.in_err-shut_still.ensures.ends
 
 pub returns-in_err-shut_still-clause-turned : goal.returns-in_err-shut_still-clause-turned
 returns-in_err-shut_still-clause-turned g c committed order store follows =
     let inv = c.loop-left.invariant in
     let begins = turn_in c.select.new.self c.args.seat c.args.limit committed order (tally_counts c.args.tally.now) in
-    let turning = inv.10 committed order store (subst (λ (x : Activity). KeepsDesk x committed) (sym c.select.ensures.shape) (follows-selected c.args.self.now c.args.seat committed follows)) in
-    let here = store-on g.W.Outside g.met.W.Outside.fewer_later c.args.store.now c.args.outside.now c.loop-left.outside committed inv.3 store in
+    let turning = inv.turns committed order store (subst (λ (x : Activity). KeepsDesk x committed) (sym c.select.ensures.shape) (follows-selected c.args.self.now c.args.seat committed follows)) in
+    let here = store-on g.W.Outside g.met.W.Outside.fewer_later c.args.store.now c.args.outside.now c.loop-left.outside committed inv.asks store in
     subst (λ (x : Activity). AreTurns c.from_residual.result (turn_in x c.args.seat c.args.limit committed order (tally_counts c.args.tally.now)) c.come_back.new.self c.args.seat committed order (tally_counts c.come_back.new.tally)) c.select.ensures.shape
     (handed (λ (r : Result _ TurnEnd). AreTurns r begins c.come_back.new.self c.args.seat committed order (tally_counts c.come_back.new.tally)) c.from_residual.result c.in_err-shut_still.field-0.0 c.from_residual.ensures.1
     (c.in_err-shut_still.ensures.turns begins c.loop-left.left committed order c.loop-left-test.true here turning))
@@ -79,14 +79,14 @@ returns-in_err-shut_still-clause-turned g c committed order store follows =
 pub returns-in_err-instruct-clause-keeps : goal.returns-in_err-instruct-clause-keeps
 returns-in_err-instruct-clause-keeps g c =
     keeps-ran g.W.Outside g.met.W.Outside.fewer_later c.args.self.now c.select.new.self c.loop-left.self c.come_back.new.self c.instruct.new.self c.args.seat c.args.limit c.loop-left.left c.args.outside.now c.loop-left.outside c.come_back.new.outside c.instruct.new.outside
-    c.select.ensures.shape c.loop-left.invariant.3 c.loop-left.invariant.5 c.come_back.ensures.keeps c.instruct.ensures.keeps
+    c.select.ensures.shape c.loop-left.invariant.asks c.loop-left.invariant.parts c.come_back.ensures.keeps c.instruct.ensures.keeps
 
 pub returns-in_err-instruct-clause-turned : goal.returns-in_err-instruct-clause-turned
 returns-in_err-instruct-clause-turned g c committed order store follows =
     let begins = turn_in c.select.new.self c.args.seat c.args.limit committed order (tally_counts c.args.tally.now) in
-    let so = so-far g.W.Outside g.met.W.Outside.fewer_later c.args.store.now c.args.outside.now c.loop-left.outside c.come_back.new.outside committed _ _ c.loop-left.invariant.3 c.come_back.ensures.keeps.asks store
+    let so = so-far g.W.Outside g.met.W.Outside.fewer_later c.args.store.now c.args.outside.now c.loop-left.outside c.come_back.new.outside committed _ _ c.loop-left.invariant.asks c.come_back.ensures.keeps.asks store
     (c.in_ok-shut_still.ensures.turns begins c.loop-left.left committed order c.loop-left-test.true)
-    (c.loop-left.invariant.10 committed order store (subst (λ (x : Activity). KeepsDesk x committed) (sym c.select.ensures.shape) (follows-selected c.args.self.now c.args.seat committed follows))) in
+    (c.loop-left.invariant.turns committed order store (subst (λ (x : Activity). KeepsDesk x committed) (sym c.select.ensures.shape) (follows-selected c.args.self.now c.args.seat committed follows))) in
     subst (λ (x : Activity). AreTurns c.from_residual-in_err-instruct.result (turn_in x c.args.seat c.args.limit committed order (tally_counts c.args.tally.now)) c.instruct.new.self c.args.seat committed order (tally_counts c.instruct.new.tally)) c.select.ensures.shape
     (handed (λ (r : Result _ TurnEnd). AreTurns r begins c.instruct.new.self c.args.seat committed order (tally_counts c.instruct.new.tally)) c.from_residual-in_err-instruct.result c.in_err-instruct.field-0.0 c.from_residual-in_err-instruct.ensures.1
     (turn-ends begins c.come_back.new.self c.args.seat c.loop-left.left committed order (tally_counts c.come_back.new.tally) c.sound.ensures.sound c.in_ok-shut_still.ensures.on.stays.taken c.loop-left-test.true so.1 g.W.Outside c.come_back.new.outside c.instruct.new.outside c.come_back.new.tally c.instruct.new.tally
@@ -95,38 +95,38 @@ returns-in_err-instruct-clause-turned g c committed order store follows =
 pub returns-in-AtCommit-clause-keeps : goal.returns-in-AtCommit-clause-keeps
 returns-in-AtCommit-clause-keeps g c =
     keeps-ran g.W.Outside g.met.W.Outside.fewer_later c.args.self.now c.select.new.self c.loop-left.self c.come_back.new.self c.instruct.new.self c.args.seat c.args.limit c.loop-left.left c.args.outside.now c.loop-left.outside c.come_back.new.outside c.instruct.new.outside
-    c.select.ensures.shape c.loop-left.invariant.3 c.loop-left.invariant.5 c.come_back.ensures.keeps c.instruct.ensures.keeps
+    c.select.ensures.shape c.loop-left.invariant.asks c.loop-left.invariant.parts c.come_back.ensures.keeps c.instruct.ensures.keeps
 
 pub returns-in-AtCommit-clause-ran : goal.returns-in-AtCommit-clause-ran
 returns-in-AtCommit-clause-ran g c =
-    omega (arith, c.loop-left.invariant.7, c.loop-left-test.true, ap (λ (tally : Tally). tally.ran) c.come_back.ensures.counts.rest, c.instruct.ensures.counts.tally.ran)
+    omega (arith, c.loop-left.invariant.total, c.loop-left-test.true, ap (λ (tally : Tally). tally.ran) c.come_back.ensures.counts.rest, c.instruct.ensures.counts.tally.ran)
 
 pub returns-in-AtCommit-clause-turned : goal.returns-in-AtCommit-clause-turned
 returns-in-AtCommit-clause-turned g c committed order store follows =
     let begins = turn_in c.select.new.self c.args.seat c.args.limit committed order (tally_counts c.args.tally.now) in
-    let so = so-far g.W.Outside g.met.W.Outside.fewer_later c.args.store.now c.args.outside.now c.loop-left.outside c.come_back.new.outside committed _ _ c.loop-left.invariant.3 c.come_back.ensures.keeps.asks store
+    let so = so-far g.W.Outside g.met.W.Outside.fewer_later c.args.store.now c.args.outside.now c.loop-left.outside c.come_back.new.outside committed _ _ c.loop-left.invariant.asks c.come_back.ensures.keeps.asks store
     (c.in_ok-shut_still.ensures.turns begins c.loop-left.left committed order c.loop-left-test.true)
-    (c.loop-left.invariant.10 committed order store (subst (λ (x : Activity). KeepsDesk x committed) (sym c.select.ensures.shape) (follows-selected c.args.self.now c.args.seat committed follows))) in
+    (c.loop-left.invariant.turns committed order store (subst (λ (x : Activity). KeepsDesk x committed) (sym c.select.ensures.shape) (follows-selected c.args.self.now c.args.seat committed follows))) in
     let at = subst (λ (went : Went). IsStep (Ok went) (instruction_in c.come_back.new.self c.args.seat committed order (tally_counts c.come_back.new.tally)) c.instruct.new.self c.args.seat committed order (tally_counts c.instruct.new.tally)) c.in-AtCommit.is (c.in_ok-instruct.ensures.step committed order so.0 so.1.follows) in
     subst (λ (x : Activity). IsAtCommit (turn_in x c.args.seat c.args.limit committed order (tally_counts c.args.tally.now)) c.instruct.new.self c.args.seat committed order (tally_counts c.instruct.new.tally)) c.select.ensures.shape
     (turn-commits begins c.come_back.new.self c.args.seat c.loop-left.left committed order (tally_counts c.come_back.new.tally) c.sound.ensures.sound c.in_ok-shut_still.ensures.on.stays.taken c.loop-left-test.true so.1 c.instruct.new.self (tally_counts c.instruct.new.tally) c.instruct.ensures.counts.tally.pages_before at)
 
 pub go_far-ran-requires-clause-rows : goal.go_far-ran-requires-clause-rows
 go_far-ran-requires-clause-rows g c seat below =
-    let kept = keeps-within c.args.self.now _ c.loop-left.self _ _ c.args.seat c.args.limit c.loop-left.left c.select.ensures.shape c.loop-left.invariant.5 c.come_back.ensures.keeps.parts c.instruct.ensures.keeps.parts in
+    let kept = keeps-within c.args.self.now _ c.loop-left.self _ _ c.args.seat c.args.limit c.loop-left.left c.select.ensures.shape c.loop-left.invariant.parts c.come_back.ensures.keeps.parts c.instruct.ensures.keeps.parts in
     let here = kept.rows (2 ^ 63) c.requires.rows seat below in omega (arith, here, c.requires.limit)
 
 pub returns-clause-keeps : goal.returns-clause-keeps
 returns-clause-keeps g c = record {
-  asks = c.loop-left.invariant.3;
-  parts = keeps-within c.args.self.now _ c.loop-left.self _ _ c.args.seat c.args.limit c.loop-left.left c.select.ensures.shape c.loop-left.invariant.5 (keeps-itself c.loop-left.self) (keeps-itself c.loop-left.self);
+  asks = c.loop-left.invariant.asks;
+  parts = keeps-within c.args.self.now _ c.loop-left.self _ _ c.args.seat c.args.limit c.loop-left.left c.select.ensures.shape c.loop-left.invariant.parts (keeps-itself c.loop-left.self) (keeps-itself c.loop-left.self);
 }
 
 pub returns-clause-turned : goal.returns-clause-turned
 returns-clause-turned g c committed order store follows printed =
     let old = c.loop-left.self in let seat = c.args.seat in let inv = c.loop-left.invariant in
     let begins = turn_in c.select.new.self seat c.args.limit committed order (tally_counts c.args.tally.now) in
-    let turning = inv.10 committed order store (subst (λ (x : Activity). KeepsDesk x committed) (sym c.select.ensures.shape) (follows-selected c.args.self.now seat committed follows)) in
+    let turning = inv.turns committed order store (subst (λ (x : Activity). KeepsDesk x committed) (sym c.select.ensures.shape) (follows-selected c.args.self.now seat committed follows)) in
     let none : c.loop-left.left ≡ 0 = omega (arith, c.loop-left-test.false) in
     subst (λ (x : Activity). ComesToEnd (turn_in x seat c.args.limit committed order (tally_counts c.args.tally.now)) old committed order (tally_counts c.loop-left.tally) Limit) c.select.ensures.shape
     (turn-limit begins old seat committed order (tally_counts c.loop-left.tally) (subst (λ (n : ℕ). IsTurning begins old seat n committed order (tally_counts c.loop-left.tally)) none turning))
@@ -136,25 +136,25 @@ come_back-requires-clause-can g c =
     let inv = c.loop-left.invariant in
     record {
       fetch = record {
-        directory = c.requires.can.directory ∙ sym (inv.5.directory ∙ ap (λ (x : Activity). x.reach.directory) c.select.ensures.shape);
+        directory = c.requires.can.directory ∙ sym (inv.parts.directory ∙ ap (λ (x : Activity). x.reach.directory) c.select.ensures.shape);
         usable = c.requires.can.usable;
-        room = (asks_only g.W.Outside c.args.outside.now c.loop-left.outside inv.3).longer (total c.args.store.now.header) c.requires.can.room;
+        room = (asks_only g.W.Outside c.args.outside.now c.loop-left.outside inv.asks).longer (total c.args.store.now.header) c.requires.can.room;
       };
-      taken = inv.0.taken;
-      selected = inv.1;
+      taken = inv.stays.taken;
+      selected = inv.selected;
     }
 
 pub instruct-requires-clause-can : goal.instruct-requires-clause-can
 instruct-requires-clause-can g c =
     let inv = c.loop-left.invariant in let keeps = c.come_back.ensures.keeps in
     let stays = c.in_ok-shut_still.ensures.on.stays in
-    let room = (asks_only g.W.Outside c.args.outside.now c.loop-left.outside inv.3).longer (total c.args.store.now.header) c.requires.can.room in
+    let room = (asks_only g.W.Outside c.args.outside.now c.loop-left.outside inv.asks).longer (total c.args.store.now.header) c.requires.can.room in
     record {
       fetch = record {
-        directory = c.requires.can.directory ∙ sym (keeps.parts.directory ∙ inv.5.directory ∙ ap (λ (x : Activity). x.reach.directory) c.select.ensures.shape);
+        directory = c.requires.can.directory ∙ sym (keeps.parts.directory ∙ inv.parts.directory ∙ ap (λ (x : Activity). x.reach.directory) c.select.ensures.shape);
         usable = c.requires.can.usable;
         room = (asks_only g.W.Outside c.loop-left.outside c.come_back.new.outside keeps.asks).longer (total c.args.store.now.header) room;
       };
       taken = stays.taken;
-      selected = stays.selected inv.1;
+      selected = stays.selected inv.selected;
     }
