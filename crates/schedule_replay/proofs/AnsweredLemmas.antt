@@ -42,10 +42,7 @@ module _ {D W : Type 0} (S : desk.Ghosts D) (G : Ghosts W) (fewer_later : FewerL
   -- those of some of the events, as of all of them
   pub answered_all : {T : Type 0} (events : List Event) (count : ℕ) (old new : D) (before after : W) (result : Result T Failed) → Answered S G (take count events) old new before after result → Answered S G events old new before after result
   answered_all events count old new before after result some =
-      let whole = take-append-drop count events in
-      let begins = begins_split (take count events) (drop count events) in
-      let turns = turns_split (take count events) (drop count events) in
-      grind (arith, nat_tests, whole, begins, turns, some)
+      grind (arith, nat_tests, take-append-drop count events, begins_split, turns_split)
 
   -- another value, or a failure of another type
   pub answered_well : {T U : Type 0} (events : List Event) (old new : D) (before after : W) (value : T) (other : U) → Answered S G events old new before after (Ok value) → Answered S G events old new before after (Ok other)

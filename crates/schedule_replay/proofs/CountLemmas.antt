@@ -1,6 +1,5 @@
 -- What lines tell of the journal and of faults of the disk, how many puts they are, and how many writes one event wants.
-use Rattle.schedule_replay.proofs.Common.{◌≡◌, ℕ, ◌+◌, List, [], ◌∷◌, ◌++◌, map, cond, refl, subst, arith, false, count_by, Result, IsErr, OnOk, flat_map, sum_by-append, Failed, Begun, Turn, TurnEnd, Stored, Reopened, begun_told, turn_told, counts_told, stored_told, reopened_told, Counts, Ending, Journal, JournalAfter, KeepsJournal, journal_emptied, journal_with, tells_fault, turn_fails, stored_fails, reopened_fails, Line, cycle_lines, turn_lines, happening_lines, ending_lines, nat_tests, Happening, Turned, Crashed, CrashFailed, ◌*◌, ◌≤◌, Option, WritesMore, writes_due, commits_in, counted_quiet, lost_behind}
-use Rattle.desk.specs.Instruction as turn
+use Rattle.schedule_replay.proofs.Common.{◌≡◌, ℕ, ◌+◌, List, [], ◌∷◌, ◌++◌, map, cond, refl, subst, arith, false, count_by, Result, IsErr, OnOk, flat_map, sum_by-append, Failed, Turn, TurnEnd, Stored, Reopened, turn_told, counts_told, stored_told, reopened_told, Counts, Ending, Journal, JournalAfter, KeepsJournal, journal_emptied, journal_with, tells_fault, turn_fails, stored_fails, reopened_fails, Line, cycle_lines, turn_lines, happening_lines, nat_tests, Happening, Turned, Crashed, CrashFailed, ◌*◌, ◌≤◌, Option, WritesMore, writes_due, commits_in, counted_quiet, lost_behind}
 use Rattle.desk.specs.Lines as line
 
 -- how many lines tell of a fault
@@ -43,9 +42,7 @@ module _ (names : List (List ℕ)) (number : ℕ) where
   counted_keep cycles ends old new is = journal_on (flat_map cycle_lines cycles) ends old old new (cycles_keep cycles old) is
 
   ended_keep : (activation : ℕ) (counts : Counts) (ending : Ending) (old new : Journal) → JournalAfter (Turned activation counts ending) old new → KeepsJournal (turn_lines number activation counts ending) old new
-  ended_keep activation counts turn.Idle old new is = is
-  ended_keep activation counts (turn.Committed steps out) old new is = counted_keep counts.cycles (line.Commit activation number steps out ∷ []) old new is
-  ended_keep activation counts ending old new is = counted_keep counts.cycles (ending_lines number activation ending) old new is
+  ended_keep activation counts ending old new is = grind (arith, nat_tests, counted_keep)
 
   -- what happened makes of a journal what its lines do
   pub happened_keep : (told : Happening) (old new : Journal) → JournalAfter told old new → KeepsJournal (happening_lines names number told) old new

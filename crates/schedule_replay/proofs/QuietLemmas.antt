@@ -1,5 +1,5 @@
 -- Events without a report, one after another.
-use Rattle.schedule_replay.proofs.Common.{◌≡◌, ℕ, ◌+◌, ◌<◌, List, [], ◌∷◌, ◌++◌, length, cond, take, get_or, refl, sym, ap, ◌∙◌, subst, arith, false, not, count_by, Option, IfSome, flat_map, fold, map-append, length-map, take_more, fold-append, sum_by-append, Ghosts, IsSure, CallsDisk, FewerLater, held_of, leaves_held, Program, stands, Turn, TurnEnd, Event, Begun, begun_told, turn_told, stored_told, counts_told, Stored, is_commit, standing_of, IsEitherOf, Desk, Word, Doubt, Line, cycle_lines, event_lines, happening_lines, Step, run, step, faulted, stage_either, stage_none, run_on, open_on, lines_on, faulted_on, Stepped, counted_quiet, step_by, RanQuietly, Tells, WentQuietly, is_rollback, last_by, out_after, tally_begun, tally_by, tally_stored, InDoubt, RanTo, WasStep, nat_tests, opening, opening_of, span}
+use Rattle.schedule_replay.proofs.Common.{◌≡◌, ℕ, ◌+◌, ◌<◌, List, [], ◌∷◌, ◌++◌, length, cond, take, get_or, refl, sym, ap, ◌∙◌, subst, arith, false, not, count_by, Option, IfSome, flat_map, fold, map-append, length-map, take_more, fold-append, sum_by-append, Ghosts, IsSure, CallsDisk, FewerLater, held_of, leaves_held, Program, stands, Turn, TurnEnd, Event, Begun, begun_told, turn_told, stored_told, counts_told, Stored, standing_of, IsEitherOf, Desk, Word, Doubt, Line, cycle_lines, event_lines, happening_lines, Step, run, step, faulted, stage_either, stage_none, run_on, open_on, lines_on, faulted_on, Stepped, counted_quiet, step_by, RanQuietly, Tells, WentQuietly, is_rollback, last_by, out_after, tally_begun, tally_by, tally_stored, InDoubt, RanTo, WasStep, nat_tests, opening, opening_of, span}
 use Rattle.schedule_replay.specs.declared.quietly.Tally.{Tally}
 use Rattle.desk.specs.declared.supervisor.Supervisor as desk
 use Rattle.desk.specs.Lines as line

@@ -1,5 +1,5 @@
 -- The report of a run, from its parts; and lines of answers, one after another, whatever stands on the disk.
-use Rattle.schedule_replay.proofs.Common.{◌≡◌, ℕ, List, [], ◌∷◌, ◌++◌, length, map, refl, sym, ap, ◌∙◌, subst, inl, inr, arith, append-nil, IsSome, Option, true, false, Result, Ok, IsErr, IfOk, OnOk, flat_map, Failed, Ghosts, Prints, IsSure, Elapses, Leaves, held_of, prints_same, prints_well, prints_on, prints_stop, leaves_held, elapses-trans, leaves_on, Program, stands, Event, standing_of, Desk, Word, Line, Open, Left, line_text, number_after, closing_lines, report, event_lines, run, faulted, commits_seen, IsLeft, IsStage, ArePlain, plain_on, commits_in, commits_on, seen_all, AreNames, Grew, run_grew, run_plain, report_parts, lines_end, left_none, left_more, stage_more, stage_none, Going, Puts, PutsTimes, BeginsWith, shown_of, Ran, HasOpened, PrintsEarlier, text_of, RanSome, Reports, Fixed, is_closed, nat_tests, opening, opening_of, span, ◌+◌, ◌<◌, get_or, take, append_assoc, take_more, flat_map-append, Bool, prints_broken, Begun, Turn, TurnEnd, Stored, Reopened, begun_told, turn_told, stored_told, reopened_told, Happening, happening_lines, CallsStore, Header, way_of, EntersOrder}
+use Rattle.schedule_replay.proofs.Common.{◌≡◌, ℕ, List, [], ◌∷◌, ◌++◌, length, map, refl, sym, ap, ◌∙◌, subst, inl, inr, arith, append-nil, IsSome, Option, true, false, Result, Ok, IsErr, IfOk, OnOk, flat_map, Failed, Ghosts, Prints, IsSure, Elapses, Leaves, held_of, prints_same, prints_well, prints_on, prints_stop, leaves_held, elapses-trans, leaves_on, Program, Event, Desk, Word, Line, Open, Left, line_text, number_after, closing_lines, report, event_lines, run, faulted, commits_seen, IsLeft, IsStage, ArePlain, plain_on, commits_in, commits_on, seen_all, AreNames, Grew, run_grew, run_plain, report_parts, lines_end, left_none, left_more, stage_more, stage_none, Going, Puts, PutsTimes, BeginsWith, shown_of, Ran, HasOpened, PrintsEarlier, text_of, RanSome, Reports, Fixed, is_closed, nat_tests, opening, opening_of, span, ◌+◌, ◌<◌, get_or, take, append_assoc, take_more, flat_map-append, Bool, prints_broken, Begun, Turn, TurnEnd, Stored, Reopened, begun_told, turn_told, stored_told, reopened_told, Happening, happening_lines, CallsStore, Header, EntersOrder}
 use Rattle.std.proofs.lemmas.Result.{IfOk-weaker}
 use Rattle.schedule_replay.proofs.PutsLemmas.{times_on, shown_after, begins_none, begins_same, begins_on, begins_behind, done, printed_none}
 use Rattle.schedule_replay.proofs.WentLemmas.{Laws, sure_puts, image_is}
@@ -46,9 +46,8 @@ closing_quiet number desk = let closing = closing_plain number [] desk in seen_a
 -- what is printed of earlier events, behind the first line and with more behind it
 earlier_behind : {T : Type 0} (old between middle new : Option (List ℕ)) (first : List ℕ) (text : List (Event × Word) → List ℕ) (taken : List (Event × Word)) (value : T)
     → Prints old between first (Ok value) → PrintsEarlier between middle text taken → BeginsWith middle new [] → PrintsEarlier old new (λ front. first ++ text front) taken
-earlier_behind old between middle new first text taken value one (inl none) more = inl none
-earlier_behind old between middle new first text taken value one (inr (front, last, is, begins)) more =
-    inr (front, last, is, begins_behind old between new first (text front) value one (begins_on between middle new (text front) begins more))
+earlier_behind old between middle new first text taken value one earlier more =
+    grind (arith, nat_tests, begins_behind, begins_on)
 
 -- the first line alone
 open_text : (number : ℕ) → flat_map line_text (Open number ∷ []) ≡ line_text (Open number)
@@ -74,9 +73,7 @@ module _ {D W : Type 0} (S : desk.Ghosts D) (G : Ghosts W) (laws : Laws S G) (na
     -- and the images of it, without a word on the screen
     images_puts : {T : Type 0} (lines : List Line) (desk : Desk) (new : D) (before after : W) (result : Result T Failed) → (S.told new).fixed.opened ≡ number → IsSure G before → S.shows new (held_of G before) desk → Puts G lines before after result → Leaves G (λ image seen. IsStage programs number desk [] image) before after
     images_puts lines desk new before after result opened sure shows puts image seen left =
-        let from = puts.images image seen left in
-        stage_none programs number desk image (laws.shown new (held_of G before) desk shows).open_desk
-        (ap stands (leaves_held G before sure image from.0 from.1) ∙ (laws.shown new (held_of G before) desk shows).standing ∙ ap (λ n. standing_of n desk) opened)
+        grind (arith, nat_tests, stage_none, held_of, leaves_held)
 
     -- what was put behind the first line
     record Tail {T : Type 0} (start : Desk) (taken : List (Event × Word)) (rest : List Event) (between after : W) (later : Result T Failed) : Type 0 where
@@ -89,15 +86,7 @@ module _ {D W : Type 0} (S : desk.Ghosts D) (G : Ghosts W) (laws : Laws S G) (na
     -- a put failed among the lines of the events
     tail_stop : {T U : Type 0} (front rest : List Event) (start : Desk) (new : D) (between after : W) (result : Result T Failed) (later : Result U Failed) → IsErr result → IsErr later → (ran : Ran S G (opening names programs number start) front new (span between after) result) → Tail start ran.taken rest between after later
     tail_stop front rest start new between after result later one two ran =
-        let put = text_of (opening names programs number start) ran.taken in
-        let ends = flat_map line_text (closing_lines number rest (run programs ran.taken start)) in
-        record {
-          printed = prints_stop (G.printed between) (G.printed after) put ends result later one two ran.printed;
-          times = times_failed _ later two;
-          images = ran.images;
-          left = λ told image seen left. longer start ran.taken put ends (shown_of G between) image seen (ran.left told image seen left);
-          time = ran.time;
-        }
+        grind (arith, nat_tests, closing_lines, prints_stop, times_failed, longer start ran.taken)
 
     -- the desk is closed
     tail_shut : {T U : Type 0} (front rest : List Event) (start : Desk) (new : D) (between after : W) (value : T) (other : U) (ran : Ran S G (opening names programs number start) front new (span between after) (Ok value)) → (S.told new).closed ≡ true → Tail start ran.taken rest between after (Ok other)
@@ -296,18 +285,13 @@ times_since G count before between after same puts result times = grind (arith, 
 
 module _ {W : Type 0} (G : Ghosts W) (names : List (List ℕ)) where
   pub tells_none : {T : Type 0} (order : List (ℕ × ℕ)) (w : W) (value : T) → Tells G names [] order order w w (Ok value)
-  tells_none order w value =
-      record { lines = []; are = (refl, refl); printed = printed_none G (G.printed w) value; times = λ told. omega arith }
+  tells_none order w value = grind (arith, nat_tests, printed_none G)
 
   -- lines of one event were put, once it was answered
   pub tells_event : {T : Type 0} (event : Event) (lines : List Line) (old new : List (ℕ × ℕ)) (header : Header) (before between after : W) (result : Result T Failed)
       → AreLinesOf names (event ∷ []) lines old new → CallsStore G header before between → Puts G lines between after result → Tells G names (event ∷ []) old new before after result
-  tells_event event lines old new header before between after result are store puts = record {
-    lines = lines;
-    are = are;
-    printed = subst (λ (those : Option (List ℕ)). Prints those (G.printed after) (flat_map line_text lines) result) store.calls.quiet.same puts.printed;
-    times = times_since G (length lines) before between after store.calls.quiet.same store.calls.puts result puts.times;
-  }
+  tells_event event lines old new header before between after result are store puts =
+      grind (arith, nat_tests, times_since)
 
   pub tells_on : {T U : Type 0} (first second : List Event) (a b c : List (ℕ × ℕ)) (old mid new : W) (value : T) (result : Result U Failed)
       → Tells G names first a b old mid (Ok value) → Tells G names second b c mid new result → Tells G names (first ++ second) a c old new result
@@ -347,26 +331,11 @@ if_ok_then result follows is = grind (arith, follows, is)
 module _ {W : Type 0} (G : Ghosts W) (names : List (List ℕ)) (events : List Event) (old new : List (ℕ × ℕ)) where
   -- the line of the opening couldn't be put
   pub told_unopened : {T : Type 0} (number : ℕ) (before after : W) (shut : T → Bool) (result : Result T Failed) → IsErr result → Puts G (Open number ∷ []) before after result → TellsReport G names events old old before after shut result
-  told_unopened number before after shut result broke puts = record {
-    number = number;
-    count = 0;
-    lines = [];
-    are = (refl, refl);
-    end = [];
-    end_is = inl refl;
-    none = if_ok_broken result _ broke;
-    all = if_ok_broken result _ broke;
-    printed = puts.printed;
-    times = puts.times;
-  }
+  told_unopened number before after shut result broke puts = grind (arith, nat_tests, if_ok_broken)
 
   -- another failure
   pub some_broken : {T U : Type 0} (before after : W) (shut : T → Bool) (other : U → Bool) (result : Result T Failed) (later : Result U Failed) → IsErr result → IsErr later → TellsSome G names events old new before after shut result → TellsSome G names events old new before after other later
-  some_broken before after shut other result later one two some = record {
-    count = some.count;
-    tells = tells_broken G names (take some.count events) old new before after result later one two some.tells;
-    all = if_ok_broken later _ two;
-  }
+  some_broken before after shut other result later one two some = grind (arith, nat_tests, tells_broken, if_ok_broken)
 
   module _ (number : ℕ) (before between middle : W) {O : Type 0} (put : O) (opened : Puts {T = O} G (Open number ∷ []) before between (Ok put)) where
     -- there are no lines of an end
@@ -406,25 +375,9 @@ module _ {W : Type 0} (G : Ghosts W) (names : List (List ℕ)) (events : List Ev
     }
       where
         more : Prints (G.printed between) (G.printed after) (flat_map line_text (tells.lines ++ end)) result
-        more =
-            prints_same (G.printed between) (G.printed after) _ (flat_map line_text (tells.lines ++ end)) result (sym (flat_map-append line_text tells.lines end))
-            (prints_on (G.printed between) (G.printed middle) (G.printed after) (flat_map line_text tells.lines) (flat_map line_text end) value result tells.printed puts.printed)
+        more = grind (arith, nat_tests, prints_same, flat_map-append, prints_on)
 
 -- from an earlier moment on, where nothing was put before
 pub told_since : {W : Type 0} (G : Ghosts W) (names : List (List ℕ)) (events : List Event) (old new : List (ℕ × ℕ)) (before between after : W) → G.printed between ≡ G.printed before → (G.moment between).puts ≡ (G.moment before).puts
     → (how : Replayed) → TellsBy G names events old new between after how → TellsBy G names events old new before after how
-told_since G names events old new before between after same puts how = since (way_of how)
-  where
-    since : (result : Result Going Failed) → TellsReport G names events old new between after is_closed result → TellsReport G names events old new before after is_closed result
-    since result told = record {
-      number = told.number;
-      count = told.count;
-      lines = told.lines;
-      are = told.are;
-      end = told.end;
-      end_is = told.end_is;
-      none = told.none;
-      all = told.all;
-      printed = subst (λ (those : Option (List ℕ)). Prints those (G.printed after) (flat_map line_text (Open told.number ∷ (told.lines ++ told.end))) result) same told.printed;
-      times = times_since G (length (Open told.number ∷ (told.lines ++ told.end))) before between after same puts result told.times;
-    }
+told_since G names events old new before between after same puts how = grind (arith, nat_tests, is_closed, times_since)

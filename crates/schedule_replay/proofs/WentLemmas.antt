@@ -1,5 +1,5 @@
 -- One event of a run, and its lines.
-use Rattle.schedule_replay.proofs.Common.{◌≡◌, ℕ, zero, suc, ◌+◌, ◌≤◌, List, [], ◌∷◌, ◌++◌, length, map, take, refl, sym, ap, ◌∙◌, subst, arith, length-append, ⊎_elim, append-nil, inr, IsSome, true, false, not, Bool, Option, unwrap_or, Result, All, flat_map, Failed, Ghosts, Prints, IsSure, CallsDisk, Leaves, FewerLater, held_of, elapses-trans, leaves_on, told_is, Program, stands, Event, TookEvent, IsEitherOf, standing_of, Desk, Word, Doubt, Step, step, faulted, Line, line_text, number_after, happening_lines, event_lines, commits_seen, IsUnbroken, IsLeft, IsStage, seen_cut, seen_all, commits_in, AreNames, Stepped, step_by, run_plain, left_quiet, left_open, stage_either, Puts, PutsTimes, shown_of, Ran, InDoubt, WasStep, text_of, view_of, RanTo, nat_tests, opening, span}
+use Rattle.schedule_replay.proofs.Common.{◌≡◌, ℕ, zero, suc, ◌+◌, ◌≤◌, List, [], ◌∷◌, ◌++◌, length, map, take, refl, sym, ap, ◌∙◌, subst, arith, length-append, append-nil, inr, IsSome, true, false, not, Bool, Option, unwrap_or, Result, All, flat_map, Failed, Ghosts, Prints, IsSure, CallsDisk, Leaves, FewerLater, held_of, elapses-trans, leaves_on, told_is, Program, stands, Event, TookEvent, IsEitherOf, standing_of, Desk, Word, Doubt, Step, step, faulted, Line, line_text, number_after, happening_lines, event_lines, commits_seen, IsUnbroken, IsLeft, IsStage, seen_cut, seen_all, commits_in, AreNames, Stepped, step_by, run_plain, left_quiet, left_open, stage_either, Puts, PutsTimes, shown_of, Ran, InDoubt, WasStep, text_of, view_of, RanTo, nat_tests, opening, span}
 use Rattle.desk.specs.declared.supervisor.Supervisor as desk
 use Rattle.schedule_replay.proofs.PutsLemmas.{PrintedNow, puts_same, begins_none}
 use Rattle.schedule_replay.proofs.RanToLemmas.{ShownTold, to_did, to_later}
@@ -39,8 +39,7 @@ module _ {D W : Type 0} (S : desk.Ghosts D) (G : Ghosts W) (fewer_later : FewerL
 
   -- what a call of the disk leaves printed
   pub quiet_is : (before between : W) → CallsDisk G before between → IsSome (G.printed before) → Leaves G (λ image seen. seen ≡ shown_of G before) before between
-  quiet_is before between calls told image seen left =
-      told_is (G.printed before) seen told (⊎_elim (λ was. printed_now before image seen was) (λ is. is) (calls.quiet.crash image seen left))
+  quiet_is before between calls told image seen left = grind (arith, nat_tests, told_is)
 
   module _ (law : ShownTold S) (names : List (List ℕ)) (are : AreNames names) (programs : List Program) (number : ℕ) where
     module _ {T : Type 0} (event : Event) (lines : List Line) (start : Desk) (new : D) (before between after : W) (result : Result T Failed) (was_open : start.closed ≡ false) (opened : (S.told new).fixed.opened ≡ number) (calls : CallsDisk G before between) (was : WasStep S G (opening names programs number start) event lines new (span before between)) (puts : Puts G lines between after result) where
@@ -109,8 +108,7 @@ module _ {D W : Type 0} (S : desk.Ghosts D) (G : Ghosts W) (fewer_later : FewerL
           let from = image_is (event_lines names programs number ((event, word) ∷ []) start) between after result lines_put kept.0 (subst (λ (those : Option (List ℕ)). IsSome those) (sym same) told) image seen left in
           left_open programs number event word names start was_open image text (shown_of G before) seen from.1.0 still
           (ap stands from.0 ∙ (law new (held_of G between) did.next kept.1).standing ∙ ap (λ n. standing_of n did.next) opened ∙ ap (standing_of number) (sym next_is))
-          (from.1.1 ∙ ap (λ (these : List ℕ). these ++ take from.1.0 text) shown)
-          few
+          (from.1.1 ∙ ap (λ (these : List ℕ). these ++ take from.1.0 text) shown) few
 
       -- what it left, once its lines were put
       comes_to : RanTo S G went.desk (event_lines names programs number ((event, word) ∷ []) start) (faulted ((event, word) ∷ [])) new (span before after)

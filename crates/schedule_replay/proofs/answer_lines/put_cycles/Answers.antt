@@ -1,4 +1,4 @@
-use Rattle.schedule_replay.proofs.Lemmas.{◌≡◌, ℕ, ◌+◌, List, [], ◌∷◌, take, get_or, rules, ap, ◌∙◌, sym, append-nil, Ok, take_all, Cycle, cycle_lines, puts_none, puts_more, puts_no_more, puts_same, puts_well, cycles_of, cycles_split}
+use Rattle.schedule_replay.proofs.Lemmas.{◌≡◌, ℕ, ◌+◌, List, [], ◌∷◌, take, get_or, rules, ap, ◌∙◌, sym, append-nil, Ok, take_all, Cycle, cycle_lines, puts_none, puts_more, puts_no_more, puts_same, puts_well, cycles_of, cycles_split, arith, nat_tests}
 use Rattle.schedule_replay.proofs.answer_lines.put_cycles.Goals as goal
 
 pub loop-cycle-init : goal.loop-cycle-init
@@ -24,6 +24,4 @@ loop-cycle-preserved g c =
     (puts_same G c.loop-cycle.outside c.put_cycle.new.outside (cycle_lines c.as_slice.result.now) (cycles_of (cycle ∷ [])) (Ok c.in_ok-put_cycle.field-0) (one cycle c.as_slice.result.now (c.as_slice.ensures.value ∙ ap (λ (each : Cycle). each.members.items) c.cycle-item.is)) c.in_ok-put_cycle.ensures))
 
 pub returns : goal.returns
-returns g c =
-    puts_same g.W.Outside c.args.outside.now c.loop-cycle.outside (cycles_of (take c.loop-cycle.cycle-index c.args.cycles.now)) (cycles_of c.args.cycles.now) _ (ap cycles_of (take_all c.loop-cycle.cycle-index c.args.cycles.now c.loop-cycle-test.false))
-    (puts_well g.W.Outside c.args.outside.now c.loop-cycle.outside (cycles_of (take c.loop-cycle.cycle-index c.args.cycles.now)) 0 tt c.loop-cycle.invariant)
+returns g c = grind (arith, nat_tests, puts_same, cycles_of, take_all, puts_well)

@@ -1,9 +1,8 @@
-use Rattle.schedule_replay.proofs.Lemmas.{[], ◌∷◌, map, rules, line_told, unended_told, puts_on, puts_stop}
+use Rattle.schedule_replay.proofs.Lemmas.{[], ◌∷◌, map, line_told, unended_told, puts_on, puts_stop, arith, nat_tests}
 use Rattle.schedule_replay.proofs.answer_lines.put_each_and.Goals as goal
 
 pub returns-in_err-put_each : goal.returns-in_err-put_each
-returns-in_err-put_each g c =
-    puts_stop g.W.Outside c.args.outside.now c.put_each.new.outside (map (unended_told c.args.unended) c.args.activations.now) (line_told c.args.last.now ∷ []) c.put_each.result c.from_residual.result (search rules) c.from_residual.ensures.0 c.put_each.ensures
+returns-in_err-put_each g c = grind (arith, nat_tests, puts_stop, unended_told, line_told)
 
 pub returns : goal.returns
 returns g c =

@@ -1,6 +1,6 @@
 use Rattle.schedule_replay.proofs.ReportLemmas.{enters_begun, enters_reopened, enters_stored, lines_one}
 use Rattle.schedule_replay.proofs.Lemmas.{refl, map, ap, ◌∙◌, arith, asks_none, Stored, begun_told, stored_told, reopened_told, stored_closes, stored_fails, happening_lines, stored_number, reopened_number, going_begun, going_if, going_by, common_steps, Told, after_begin, after_other, reopened_closes, names_are, begun_closes, if_closes, crash_closes, stored_shut, undamaged, undamaged_begun, undamaged_if, store_asked, goes_begin, goes_if, goes_crash, begin_step, checkpoint_step, crash_step, went_event}
-use Rattle.schedule_replay.proofs.Common.{Event, IsReady, WentBy, span, subst, sym, ◌∷◌, []}
+use Rattle.schedule_replay.proofs.Common.{nat_tests}
 use Rattle.desk.specs.declared.event.Event.TheVariants as event
 use Rattle.schedule_replay.proofs.events.answer.Goals as goal
 
@@ -23,13 +23,10 @@ returns-in-Begin g c =
     (lines_one names (event.Begin c.in-Begin.program c.in-Begin.args) (begun_told c.in-Begin.program begun.result) 0 (S.told old).order (S.told begun.new.self).order (begun.result, refl) (enters_begun c.in-Begin.program begun.result _ _ (ap (λ (told : Told). told.order) told)))
 
 pub answer_turn-requires-clause-ready : goal.answer_turn-requires-clause-ready
-answer_turn-requires-clause-ready g c =
-    subst (λ (event : Event). IsReady g.S.Supervisor g.W.Outside (event ∷ []) c.args.desk.now c.args.outside.now) c.in-Turn.is c.requires.ready
+answer_turn-requires-clause-ready g c = grind (arith, nat_tests)
 
 pub returns-in-Turn : goal.returns-in-Turn
-returns-in-Turn g c =
-    subst (λ (event : Event). WentBy g.S.Supervisor g.W.Outside (map (λ name. name.items) c.args.names.now) event c.args.desk.now c.answer_turn.new.desk (span c.args.outside.now c.answer_turn.new.outside) c.answer_turn.result)
-    (sym c.in-Turn.is) c.answer_turn.ensures
+returns-in-Turn g c = grind (arith, nat_tests)
 
 pub returns-in-Checkpoint : goal.returns-in-Checkpoint
 returns-in-Checkpoint g c =

@@ -1,12 +1,8 @@
-use Rattle.std.proofs.Common.{arith}
-use Rattle.schedule_replay.proofs.Lemmas.{◌≡◌, ℕ, List, [], ◌∷◌, ◌++◌, map, sym, ap, Bool, false, if◌then◌else◌, Desk, numbers, Line, Left, End, number_after, closing_lines, puts_same}
+use Rattle.schedule_replay.proofs.Lemmas.{◌≡◌, ℕ, [], ◌∷◌, ◌++◌, map, false, Desk, numbers, Left, End, number_after, closing_lines, puts_same, arith, nat_tests}
 use Rattle.schedule_replay.proofs.events.put_closing.Goals as goal
 
 closing_open : (number : ℕ) (desk : Desk) → desk.closed ≡ false → map Left (numbers desk) ++ End (number_after number desk) ∷ [] ≡ closing_lines number [] desk
-closing_open number desk was_open =
-    let lines : List Line = map Left (numbers desk) ++ End (number_after number desk) ∷ [] in
-    let none : List Line = [] in
-    ap (λ (shut : Bool). if shut then none else lines) (sym was_open)
+closing_open number desk was_open = grind (arith, nat_tests, number_after)
 
 pub returns-clause-puts : goal.returns-clause-puts
 returns-clause-puts g c = λ held start shows. grind (arith, puts_same, c.as_slice.ensures.value, c.active-left.ensures, c.number.ensures, closing_open, g.met.S.Supervisor.shown_told)

@@ -1,5 +1,5 @@
 use Rattle.std.proofs.lemmas.Bool.{both_ways}
-use Rattle.schedule_replay.proofs.Lemmas.{◌≡◌, [], ◌+◌, length, map, take, refl, sym, ap, ◌∙◌, arith, rules, append-nil, Ok, take_all, Fixed, Begin, is_closed, prints_broken, prints_well, answered_all, answered_none, ready_next, answered_more, answered_well, answered_broken, goes_since, shut_asked, shut_unasked, names_are, if_ok_broken, not_on_closed}
+use Rattle.schedule_replay.proofs.Lemmas.{◌≡◌, [], ◌+◌, length, map, take, refl, sym, ap, ◌∙◌, arith, rules, append-nil, Ok, take_all, Fixed, Begin, is_closed, prints_broken, prints_well, answered_all, answered_none, ready_next, answered_more, answered_well, answered_broken, goes_since, shut_asked, shut_unasked, names_are, if_ok_broken, not_on_closed, nat_tests}
 use Rattle.schedule_replay.specs.declared.events.Going.TheVariants as going
 use Rattle.schedule_replay.proofs.ReportLemmas.{tells_broken, tells_more, tells_none, tells_well}
 use Rattle.schedule_replay.proofs.RanLemmas.{ran_as, ran_further, ran_last, ran_none}
@@ -91,17 +91,10 @@ loop-event-preserved g c =
     }
 
 pub returns-clause-tells : goal.returns-clause-tells
-returns-clause-tells g c =
-    let S = g.S.Supervisor in
-    record {
-      count = c.loop-event.event-index;
-      tells = tells_well g.W.Outside (map (λ name. name.items) c.args.names.now) (take c.loop-event.event-index c.args.events.now) (S.told c.args.desk.now).order (S.told c.loop-event.desk).order c.args.outside.now c.loop-event.outside 0 going.On c.loop-event.invariant.tells;
-      all = λ goes_on. take_all c.loop-event.event-index c.args.events.now c.loop-event-test.false;
-    }
+returns-clause-tells g c = grind (arith, nat_tests, tells_well, take_all)
 
 pub returns-clause-ran : goal.returns-clause-ran
-returns-clause-ran g c = λ start sure shows.
-    let now = c.loop-event.invariant in
+returns-clause-ran g c = λ start sure shows. let now = c.loop-event.invariant in
     record {
       front = take c.loop-event.event-index c.args.events.now;
       rest = [];

@@ -1,12 +1,11 @@
-use Rattle.schedule_replay.proofs.Lemmas.{◌≡◌, [], map, refl, rules, arith, ap, true, Ok, false, is_closed, puts_broken, puts_well, answered_on, answered_puts, goes_since, Laws, names_are, if_ok_broken, reports_unopened, some_ran, reports_stopped, reports_shut, reports_ended}
+use Rattle.schedule_replay.proofs.Lemmas.{◌≡◌, [], map, refl, rules, arith, ap, Ok, false, is_closed, puts_broken, puts_well, answered_on, answered_puts, goes_since, Laws, names_are, if_ok_broken, reports_unopened, some_ran, reports_stopped, reports_shut, reports_ended, nat_tests}
 use Rattle.schedule_replay.specs.declared.events.Going.TheVariants as going
 use Rattle.schedule_replay.proofs.ReportLemmas.{not_on_closed, some_broken, told_ended, told_stopped, told_unopened}
 use Rattle.schedule_replay.proofs.events.put_report.Given as given
 use Rattle.schedule_replay.proofs.events.put_report.Goals as goal
 
 abbrev laws : (g : given.Over) → Laws g.S.Supervisor g.W.Outside
-laws g =
-    let L = g.met.S.Supervisor in
+laws g = let L = g.met.S.Supervisor in
     record { later = g.met.W.Outside.fewer_later; printed = g.met.W.Outside.printed_now; shown = L.shown_told }
 
 pub returns-in_err-put_one-clause-tells : goal.returns-in_err-put_one-clause-tells
@@ -16,14 +15,7 @@ returns-in_err-put_one-clause-tells g c =
     (puts_broken g.W.Outside c.args.outside.now c.put_one.new.outside _ c.put_one.result c.from_residual.result (search rules) c.from_residual.ensures.0 c.put_one.ensures)
 
 pub returns-in_err-going-clause-tells : goal.returns-in_err-going-clause-tells
-returns-in_err-going-clause-tells g c =
-    let S = g.S.Supervisor in
-    let names = map (λ name. name.items) c.args.names.now in
-    let later = c.from_residual-in_err-going.result in
-    let broke = c.from_residual-in_err-going.ensures.0 in
-    told_stopped g.W.Outside names c.args.events.now (S.told c.args.desk.now).order (S.told c.put_events.new.desk).order c.number.result c.args.outside.now c.put_one.new.outside c.put_events.new.outside c.in_ok-put_one.field-0 c.in_ok-put_one.ensures is_closed later
-    (some_broken g.W.Outside names c.args.events.now (S.told c.args.desk.now).order (S.told c.put_events.new.desk).order c.put_one.new.outside c.put_events.new.outside is_closed is_closed c.put_events.result later (search rules) broke c.put_events.ensures.tells)
-    (if_ok_broken later (λ going. is_closed going ≡ true) broke)
+returns-in_err-going-clause-tells g c = grind (arith, nat_tests, told_stopped, is_closed, some_broken, if_ok_broken)
 
 pub returns-in_err-put_closing-in-On-clause-tells : goal.returns-in_err-put_closing-in-On-clause-tells
 returns-in_err-put_closing-in-On-clause-tells g c =
