@@ -1,3 +1,4 @@
+use Rattle.std.proofs.Common.{rules}
 use Rattle.supervisor.proofs.Common.{held_of, byte_count, FlatStore, Header, most_lines, opened, Activity, Begins, activity, Session, length, false, ◌≡◌, refl, sym, ◌∙◌, ap, subst}
 use Rattle.supervisor.proofs.OpeningLemmas.{IsMade, made-opened, has-stood}
 use Rattle.supervisor.proofs.session.Session.open.Given as given
@@ -41,3 +42,22 @@ returns-clause-told g c = λ told. has-stood (held_of g.W.Outside c.args.outside
 
 pub returns-clause-room : goal.returns-clause-room
 returns-clause-room g c = c.in_ok-store.ensures.opened.room
+
+pub returns-clause-new : goal.returns-clause-new
+returns-clause-new g c = record {
+  sound = record {
+    ranges = search rules;
+    running = c.sound.ensures;
+    directory = (is-made g c).directory;
+    most = search rules;
+    room = search rules;
+    usable = λ still. c.in_ok-store.ensures.opened.usable;
+  };
+  programs_are = search rules;
+  begins_are = refl;
+  none_given = search rules;
+  no_turns = refl;
+  nothing_printed = search rules;
+  none_committed = search rules;
+  still_open = refl;
+}
