@@ -1,4 +1,5 @@
 -- The names that most proofs cite, passed on from one place. Declares nothing.
+pub use Rattle.std.proofs.lemmas.Grind.{common_steps}
 pub use Rattle.std.proofs.Common.{Bool, IfOk, List, Some, [], ap, arith, cond, drop, false, get_or, inl, inr, length, map, refl, replicate, slice_index_or, subst, suc, sym, take, take-suc, true, true≢false, vec_len, ℕ, ◌%◌, ◌*◌, ◌++◌, ◌+◌, ◌-◌, ◌/◌, ◌<◌, ◌^◌, ◌∙◌, ◌∷◌, ◌≡◌, ◌≤◌, ◌⊎◌, ⊎_elim, rules}
 pub use Rattle.std.proofs.lemmas.Bool.{cases_eq, cases_lt, cases_Bool}
 pub use Rattle.std.proofs.lemmas.Bool.Decides.{nat_tests}
@@ -12,7 +13,7 @@ pub use Rattle.lines.specs.Directory.{Layout, byte_count, length_of, page_count,
 pub use Rattle.lines.specs.Legal.{IsInRange, IsLegal}
 pub use Rattle.lines.specs.declared.line_geometry.PageSize.{PageSize}
 pub use Rattle.listing.specs.Listing.{row_lines}
-pub use Rattle.outside.proofs.Runs.{asks_on, elapses-trans, leaves_on, leaves_same, still_told}
+pub use Rattle.outside.proofs.Runs.{asks_on, asks_one, calls_on, elapses-trans, leaves_on, leaves_same, still_told}
 pub use Rattle.outside.proofs.Shows.{held_same, shows_asks, shows_none, shows_on, shows_puts}
 pub use Rattle.outside.specs.Runs.{AsksAndPuts, CallsDisk, FewerLater, OnlyAsks, held_of, Leaves}
 pub use Rattle.outside.specs.declared.failed.Failed.{Failed}
@@ -24,7 +25,7 @@ pub use Rattle.store_format.proofs.Stores.{stands_is}
 pub use Rattle.store_format.specs.Header.{Header, fresh, number_at, page_of, total, Field, fields, first_fault, header_of, name_field, segment_fields, segments_of, spare_fields, within}
 pub use Rattle.store_format.specs.Stands.{Damaged, NotAStore, Standing, Stands, standing_if}
 unfoldable pub use Rattle.store_format.specs.Stands.{stands}
-pub use Rattle.store_calls.specs.New.{IsNoEmpty, IsOfWriting, IsStored, IsTornBy, IsWrittenWhole, LeavesTorn, Written, WrittenBy, new_line, IsNoStore, IsOnTheWay, LeavesWhole}
+pub use Rattle.store_calls.specs.New.{PutsIn, IsNoEmpty, IsOfWriting, IsStored, IsTornBy, IsWrittenWhole, LeavesTorn, Written, WrittenBy, new_line, IsNoStore, IsOnTheWay, LeavesWhole}
 pub use Rattle.store_calls.specs.Renewed.{HasOne, IsRenewed, Renewed, RenewedBy, is_version_two, renew_line, renewed_header, renewed_image, widened, widened_bytes, widened_segments}
 pub use Rattle.store_calls.specs.Show.{AreRead, HasRange, HasRead, IsInside, PutsBytes, PutsDone, RangeShown, ShownBy, StopsBy, bytes_in, rows_of}
 pub use Rattle.store_calls.specs.declared.show.Range.{Range}

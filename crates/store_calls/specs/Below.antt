@@ -18,13 +18,14 @@ pub use Rattle.outside.specs.Bytes.{AreTold, bytes_at, Prints, Torn, written}
 pub use Rattle.outside.specs.Causes.{FailsOnlyCounted, Rose}
 pub use Rattle.outside.specs.Durable.{IsSure}
 pub use Rattle.outside.specs.Runs.{AsksAndPuts, CallsDisk, held_of, Leaves, OnlyAsks}
+pub use Rattle.outside.specs.declared.failed.Failed.{Failed}
 pub use Rattle.outside.specs.declared.world.Outside.{Ghosts}
 pub use Rattle.report_text.specs.ReadLines.{AreCommitsOf, IsFirstBad}
 pub use Rattle.report_text.specs.declared.line.CommitLine.{CommitLine}
 pub use Rattle.serial_audit.specs.Audit.{flat_of, IsVerdict, report_told}
 pub use Rattle.serial_audit.specs.declared.auditing.KeptStore.{KeptStore}
 pub use Rattle.serial_audit.specs.declared.bundle.Bundle.{Bundle}
-pub use Rattle.store.specs.Held.{HoldsAtLeast}
+pub use Rattle.store.specs.Appended.{IsUsable}
 pub use Rattle.store.specs.Shows.{IsShown}
 pub use Rattle.store_format.specs.Header.{fresh, front, Header, total}
 pub use Rattle.store_format.specs.Stands.{Damaged, NotAStore, Standing, Stands, stands}

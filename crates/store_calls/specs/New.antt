@@ -1,12 +1,22 @@
 -- What making a store did.
-use Rattle.std.specs.Prelude.{◌≡◌, ◌≢◌, ◌⊎◌, ℕ, ◌+◌, ◌<◌, ◌≤◌, List, [], ◌++◌, codes, decimal, length, Some, IsSome, IsTrue}
-use Rattle.store_calls.specs.Below.{Call, fresh, Ghosts, Header, held_of, IsSure, Leaves, NotAStore, OnlyAsks, option_map, PrintsBy, PutsOnce, Rose, stands, Status, Torn, total, written}
+use Rattle.std.specs.Prelude.{◌≡◌, ◌≢◌, ◌⊎◌, ℕ, ◌+◌, ◌<◌, ◌≤◌, List, [], ◌++◌, codes, decimal, length, take, OnOk, Some, IsSome, IsTrue, Result}
+use Rattle.store_calls.specs.Below.{Call, CallsDisk, Failed, FailsOnlyCounted, FaultsBy, fresh, Ghosts, Header, held_of, IsSure, Leaves, NotAStore, OnlyAsks, option_map, PrintsBy, Puts, PutsOnce, PutsTimes, Rose, stands, Status, Torn, total, written}
 use Rattle.outside.specs.Moments.{Elapses}
 use Rattle.call_status.specs.declared.status.Status.TheVariants as status
 
 -- the line of a new store: how many bytes it has
 abbrev pub new_line : Header → List ℕ
 new_line header = codes "new " ++ decimal (total header) ++ codes "\n"
+
+-- bytes are put by so many puts, or where one failed a prefix of them
+pub record PutsIn {W : Type 0} (G : Ghosts W) (bytes : List ℕ) (count : ℕ) (old new : W) (result : Result (Unit {0}) Failed) : Type 0 where
+  pub puts : Puts G bytes old new result
+  pub times : PutsTimes G count old new result
+
+-- a status is one of a call, and tells of the faults in it
+pub record EndsAs {W : Type 0} (G : Ghosts W) (IsOne : Status → Type 0) (before after : W) (status : Status) : Type 0 where
+  pub only : IsOne status
+  pub faults : FaultsBy G before after status
 
 -- The disk was empty, where it tells its bytes, and holds these now, which are sure where it is honest too; three writes succeeded.
 pub record IsWrittenWhole {W : Type 0} (G : Ghosts W) (bytes : List ℕ) (old new : W) : Type 0 where
@@ -63,6 +73,37 @@ abbrev pub LeavesWhole : {W : Type 0} → Ghosts W → List ℕ → W → W → 
 LeavesWhole G image before after =
     IsTrue (G.is_honest before) → IsSome (G.held before) → Leaves G (λ left seen. left ≡ []) before before
     → Leaves G (λ left seen. IsNoStore left ⊎ (left ≡ image)) before after
+
+-- the image begins with a store's name, and the disk is empty where it tells its bytes
+pub record CanWrite {W : Type 0} (G : Ghosts W) (image : List ℕ) (outside : W) : Type 0 where
+  pub named : take 8 image ≡ codes "801STORE"
+  pub empty : IsSome (G.held outside) → held_of G outside ≡ []
+
+-- What writing an image on an empty disk did: only the disk was called, its count tells of a failure, and whenever a crash comes it leaves no store or the whole one.
+pub record WritesImage {W : Type 0} (G : Ghosts W) (image : List ℕ) (before after : W) (result : Result (Unit {0}) Failed) : Type 0 where
+  pub calls : CallsDisk G before after
+  pub cause : FailsOnlyCounted (G.disk_faults before) (G.disk_faults after) result
+  pub done : OnOk result (IsWrittenWhole G image before after)
+  pub torn : IsTornBy G (length image) before after
+  pub crash : LeavesTorn G (length image) before after
+  pub whole : LeavesWhole G image before after
+
+-- What filling it in behind the place of its name and naming it did: a crash leaves an image that is on the way, of a disk that was sure of its bytes.
+pub record FillsImage {W : Type 0} (G : Ghosts W) (image : List ℕ) (before after : W) (result : Result (Unit {0}) Failed) : Type 0 where
+  pub calls : CallsDisk G before after
+  pub cause : FailsOnlyCounted (G.disk_faults before) (G.disk_faults after) result
+  pub done : OnOk result (IsFilled G image before after)
+  pub told : IsSome (G.held before) → IsSome (G.held after) × (length (held_of G after) ≤ length image)
+  pub left : IsSure G before → Leaves G (λ left seen. IsOnTheWay image left) before after
+
+-- What writing bytes at an offset and making them sure did: a crash leaves what one left at the start, or that with any bytes in their place.
+pub record WritesSure {W : Type 0} (G : Ghosts W) (at : ℕ) (bytes : List ℕ) (before after : W) (result : Result (Unit {0}) Failed) : Type 0 where
+  pub calls : CallsDisk G before after
+  pub cause : FailsOnlyCounted (G.disk_faults before) (G.disk_faults after) result
+  pub done : OnOk result (IsPutDown G at bytes before after)
+  pub untold : IsSome (G.held after) → IsSome (G.held before)
+  pub torn : IsTornAt G at (length bytes) before after
+  pub crash : LeavesTornAt G at (length bytes) before after
 
 -- what writing an image and then a line did, by the status; other statuses don't come
 abbrev pub WrittenBy : {W : Type 0} → Ghosts W → (image line : List ℕ) → W → W → Status → Type 0

@@ -1,7 +1,7 @@
 -- What printing bytes of a store did.
-use Rattle.std.specs.Prelude.{◌≡◌, ◌≢◌, ◌⊎◌, ℕ, ◌+◌, ◌≤◌, List, [], length, Some, IsSome, IsTrue, Result, Ok, Err, OnOk, IfErr}
+use Rattle.std.specs.Prelude.{◌≡◌, ◌≢◌, ◌⊎◌, ℕ, ◌+◌, ◌^◌, ◌≤◌, List, [], length, Some, IsSome, IsTrue, Result, Ok, Err, OnOk, IfErr}
 use Rattle.std.specs.Int.{div_ceil}
-use Rattle.store_calls.specs.Below.{AreTold, AsksAndPuts, bytes_at, Call, Damaged, FlatStore, Ghosts, held_of, IsFaultAt, IsOfOpening, IsShown, Layout, Leaves, length_of, NotAStore, OnlyAsks, Prints, PrintsBy, Rose, Standing, Stands, stands, start_of, Status}
+use Rattle.store_calls.specs.Below.{AreTold, AsksAndPuts, byte_count, bytes_at, Call, Damaged, Failed, FailsOnlyCounted, FlatStore, Ghosts, held_of, IsFaultAt, IsOfOpening, IsShown, IsUsable, Layout, Leaves, length_of, NotAStore, OnlyAsks, Prints, PrintsBy, Rose, Standing, Stands, stands, start_of, Status, total}
 use Rattle.store.specs.KeptStore.{KeptStore}
 use Rattle.listing.specs.Listing.{row_lines}
 use Rattle.call_status.specs.declared.status.Status.TheVariants as status
@@ -20,6 +20,18 @@ bytes_in (Damaged offset) at count = []
 -- the rows of a range of a store: each begins with the offset in the segment of its first byte
 abbrev pub rows_of : FlatStore → Range → List ℕ
 rows_of store range = row_lines range.from (bytes_at store.bytes (start_of store.directory range.segment + range.from) range.count)
+
+-- So many bytes from a place on may be read: the bank needn't be reopened, the disk holds the store, and they lie in it.
+pub record CanRead {W : Type 0} (G : Ghosts W) (durable : KeptStore) (at count : ℕ) (outside : W) : Type 0 where
+  pub store : IsUsable G (total durable.header) durable.bank outside
+  pub within : at + count ≤ byte_count durable.header.directory
+  pub small : at + count ≤ 2 ^ 22
+
+-- Bytes from a place on are read, as many as before: of a store that told bytes show, these are the bytes; the disk is only asked, and its count tells of a failure.
+pub record ReadsPart {W : Type 0} (G : Ghosts W) (store : KeptStore) (at : ℕ) (before now : List ℕ) (old new : W) (result : Result (Unit {0}) Failed) : Type 0 where
+  pub asks : OnlyAsks G old new
+  pub read : OnOk result (IsShown G store old → now ≡ bytes_in (stands (held_of G old)) at (length before))
+  pub cause : FailsOnlyCounted (G.disk_faults old) (G.disk_faults new) result
 
 -- how puts of these bytes went, by the result: all are printed, or a prefix of them
 abbrev pub PutsDone : {W : Type 0} → Ghosts W → List ℕ → W → W → Result (Unit {0}) Status → Type 0

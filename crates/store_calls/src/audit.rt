@@ -1,6 +1,7 @@
 // The audit of a finished run.
 ghost use Rattle.std.specs.Prelude.{◌≡◌, ◌⊎◌, ◌≤◌, ◌<◌, ◌^◌, ℕ, [], length, MatchResult};
-ghost use Rattle.store_calls.specs.Below.{call, FaultsBy, given, Puts, PutsTimes, ReadFaultsBy, Rose};
+ghost use Rattle.store_calls.specs.Below.{call, given, ReadFaultsBy, Rose};
+ghost use Rattle.store_calls.specs.New.{EndsAs, PutsIn};
 ghost use Rattle.store_calls.specs.Audited.{Audited, AuditedBy, CanAudit, IsChecked, IsOfAudit, IsUnchecked, verdict_line};
 
 use super::bundle::{open_bundle, part, store_in};
@@ -37,8 +38,7 @@ pub fn audit_source<S: Source, W: Outside>(alloc: Global, source: &mut S, outsid
 fn audit_text<W: Outside>(alloc: Global, bytes: &[u8], outside: &mut W) -> Status
     requires { length bytes.now ≤ 33554432 }
     ensures audited { AuditedBy W.Outside bytes.now outside.old outside.new result }
-    ensures only { IsOfAudit result }
-    ensures faults { FaultsBy W.Outside outside.old outside.new result }
+    ensures ends { EndsAs W.Outside IsOfAudit outside.old outside.new result }
 {
     match checked(alloc, bytes) {
         Ok(found) => match put_verdict(&found, outside) {
@@ -71,8 +71,7 @@ fn checked(alloc: Global, bytes: &[u8]) -> Result<Audit, Status>
 
 /// Puts the line of a verdict.
 fn put_verdict<W: Outside>(found: &Audit, outside: &mut W) -> Result<(), Failed>
-    ensures puts { Puts W.Outside (verdict_line found.now.commits found.now.verdict) outside.old outside.new result }
-    ensures times { PutsTimes W.Outside 1 outside.old outside.new result }
+    ensures { PutsIn W.Outside (verdict_line found.now.commits found.now.verdict) 1 outside.old outside.new result }
 {
     let text = match found.verdict {
         Verdict::Serial => serial_text(found.commits),

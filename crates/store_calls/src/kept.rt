@@ -1,7 +1,7 @@
 // The store that bytes in memory are.
 ghost use Rattle.store_calls.specs.declared.kept.KeptFault.TheVariants.{Memory};
-ghost use Rattle.std.specs.Prelude.{◌≡◌, IsSome, IfOk, IfErr, MatchResult, false};
-ghost use Rattle.store_calls.specs.Below.{byte_count, held_of, HoldsAtLeast, IsShown, OnlyAsks, stands, total};
+ghost use Rattle.std.specs.Prelude.{◌≡◌, IsSome, IfOk, IfErr, MatchResult};
+ghost use Rattle.store_calls.specs.Below.{byte_count, held_of, IsShown, IsUsable, OnlyAsks, stands, total};
 ghost use Rattle.store_calls.specs.Bundled.{IsWhyNone, Keeps, fault_of};
 ghost use Rattle.store_calls.specs.Show.{bytes_in};
 
@@ -92,8 +92,7 @@ fn all_bytes<W: Outside>(
     store: &Durable,
     outside: &mut W,
 ) -> Result<Vec<u8>, KeptFault>
-    requires usable { store.now.bank.spoiled ≡ false }
-    requires room { HoldsAtLeast W.Outside (total store.now.header) outside.old }
+    requires { IsUsable W.Outside (total store.now.header) store.now.bank outside.old }
     ensures read { IfOk result (λ bytes. IsShown W.Outside store.now outside.old → bytes.items ≡ bytes_in (stands (held_of W.Outside outside.old)) 0 (byte_count store.now.header.directory)) }
     ensures memory { IfErr result (λ fault. fault ≡ KeptFault.Memory) }
 {

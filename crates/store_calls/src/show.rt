@@ -1,7 +1,7 @@
 // Bytes of a store, printed.
-ghost use Rattle.std.specs.Prelude.{◌≡◌, ◌+◌, ◌%◌, ◌^◌, ◌≤◌, ◌<◌, [], find, length, None, OnOk, MatchOption, false};
-ghost use Rattle.store_calls.specs.Below.{byte_count, call, FailsOnlyCounted, FaultsBy, held_of, HoldsAtLeast, is_named, IsShown, length_of, OnlyAsks, page_bytes, stands, start_of, total};
-ghost use Rattle.store_calls.specs.Show.{HasRead, IsInside, IsOfShow, PutsBytes, RangeShown, bytes_in};
+ghost use Rattle.std.specs.Prelude.{◌≡◌, ◌+◌, ◌%◌, ◌^◌, ◌≤◌, ◌<◌, [], find, length, None, MatchOption};
+ghost use Rattle.store_calls.specs.Below.{byte_count, call, FaultsBy, is_named, IsUsable, length_of, page_bytes, start_of, total};
+ghost use Rattle.store_calls.specs.Show.{CanRead, HasRead, IsInside, IsOfShow, PutsBytes, RangeShown, ReadsPart};
 
 use call_status::Status;
 use lines::Directory;
@@ -90,10 +90,7 @@ fn put_range<W: Outside>(
     range: &Range,
     outside: &mut W,
 ) -> Result<(), Status>
-    requires usable { store.now.bank.spoiled ≡ false }
-    requires room { HoldsAtLeast W.Outside (total store.now.header) outside.old }
-    requires within { at + range.now.count ≤ byte_count store.now.header.directory }
-    requires small { at + range.now.count ≤ 2 ^ 22 }
+    requires there { CanRead W.Outside store.now at range.now.count outside.old }
     requires offsets { range.now.from ≤ at }
     ensures puts { PutsBytes W.Outside store.now at range.now.from range.now.count outside.old outside.new result }
 {
@@ -116,13 +113,9 @@ fn put_part<W: Outside>(
     count: u32,
     outside: &mut W,
 ) -> Result<(), Status>
-    requires usable { store.now.bank.spoiled ≡ false }
-    requires room { HoldsAtLeast W.Outside (total store.now.header) outside.old }
-    requires within { at + count ≤ byte_count store.now.header.directory }
-    requires small { at + count ≤ 2 ^ 22 }
+    requires there { CanRead W.Outside store.now at count outside.old }
     requires offsets { offset ≤ at }
-    requires some { 0 < count }
-    requires few { count ≤ 2048 }
+    requires part { (0 < count) × (count ≤ 2048) }
     ensures puts { PutsBytes W.Outside store.now at offset count outside.old outside.new result }
     ensures read { HasRead W.Outside store.now at count outside.old outside.new result }
 {
@@ -145,15 +138,9 @@ fn read_bytes<W: Outside>(
     into: &mut [u8],
     outside: &mut W,
 ) -> Result<(), Failed>
-    requires usable { store.now.bank.spoiled ≡ false }
-    requires room { HoldsAtLeast W.Outside (total store.now.header) outside.old }
-    requires within { at + length into.old ≤ byte_count store.now.header.directory }
-    requires small { at + length into.old ≤ 2 ^ 22 }
-    requires some { 0 < length into.old }
-    requires few { length into.old ≤ 2048 }
-    ensures asks { OnlyAsks W.Outside outside.old outside.new }
-    ensures read { OnOk result (IsShown W.Outside store.now outside.old → into.new ≡ bytes_in (stands (held_of W.Outside outside.old)) at (length into.old)) }
-    ensures cause { FailsOnlyCounted (W.disk_faults outside.old) (W.disk_faults outside.new) result }
+    requires there { CanRead W.Outside store.now at (length into.old) outside.old }
+    requires part { (0 < length into.old) × (length into.old ≤ 2048) }
+    ensures { ReadsPart W.Outside store.now at into.old into.new outside.old outside.new result }
 {
     let size = u32::from(store.header().directory().page().bytes());
     let here = into.len().min((size - at % size) as usize);
@@ -176,13 +163,10 @@ fn read_in_page<W: Outside>(
     into: &mut [u8],
     outside: &mut W,
 ) -> Result<(), Failed>
-    requires usable { store.now.bank.spoiled ≡ false }
-    requires room { HoldsAtLeast W.Outside (total store.now.header) outside.old }
+    requires store { IsUsable W.Outside (total store.now.header) store.now.bank outside.old }
     requires within { at < byte_count store.now.header.directory }
     requires inside { at % page_bytes store.now.header.directory.page + length into.old ≤ page_bytes store.now.header.directory.page }
-    ensures asks { OnlyAsks W.Outside outside.old outside.new }
-    ensures read { OnOk result (IsShown W.Outside store.now outside.old → into.new ≡ bytes_in (stands (held_of W.Outside outside.old)) at (length into.old)) }
-    ensures cause { FailsOnlyCounted (W.disk_faults outside.old) (W.disk_faults outside.new) result }
+    ensures { ReadsPart W.Outside store.now at into.old into.new outside.old outside.new result }
 {
     let directory = store.header().directory();
     let size = directory.page().bytes();

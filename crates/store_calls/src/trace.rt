@@ -1,6 +1,7 @@
 // The trace of an activation in a finished run.
 ghost use Rattle.std.specs.Prelude.{◌≡◌, ◌⊎◌, ◌+◌, ◌≤◌, [], length, MatchResult};
-ghost use Rattle.store_calls.specs.Below.{call, FaultsBy, flat_map, given, Puts, PutsTimes, ReadFaultsBy, Rose};
+ghost use Rattle.store_calls.specs.Below.{call, flat_map, given, ReadFaultsBy, Rose};
+ghost use Rattle.store_calls.specs.New.{EndsAs, PutsIn};
 ghost use Rattle.store_calls.specs.Traced.{CanTrace, IsOfTrace, IsTraced, IsUntraced, TracedBy, TracedFrom, status_of_trace, steps_line, touch_line, trace_lines};
 
 use super::bundle::open_bundle;
@@ -32,8 +33,7 @@ pub fn trace_source<S: Source, W: Outside>(
 fn trace_text<W: Outside>(alloc: Global, bytes: &[u8], activation: u32, outside: &mut W) -> Status
     requires { length bytes.now ≤ 33554432 }
     ensures traced { TracedBy W.Outside bytes.now activation outside.old outside.new result }
-    ensures only { IsOfTrace result }
-    ensures faults { FaultsBy W.Outside outside.old outside.new result }
+    ensures ends { EndsAs W.Outside IsOfTrace outside.old outside.new result }
 {
     match trace_in(alloc, bytes, activation) {
         Ok(trace) => match put_trace(activation, &trace, outside) {
@@ -75,8 +75,7 @@ fn status_of_trace(fault: TraceFault) -> Status
 
 /// Puts the lines of a trace.
 fn put_trace<W: Outside>(activation: u32, trace: &Trace, outside: &mut W) -> Result<(), Failed>
-    ensures puts { Puts W.Outside (trace_lines activation trace.now) outside.old outside.new result }
-    ensures times { PutsTimes W.Outside (length trace.now.touches.items + 1) outside.old outside.new result }
+    ensures { PutsIn W.Outside (trace_lines activation trace.now) (length trace.now.touches.items + 1) outside.old outside.new result }
 {
     put_touches(&trace.touches, outside)?;
     put_steps(activation, trace.steps, outside)
@@ -84,8 +83,7 @@ fn put_trace<W: Outside>(activation: u32, trace: &Trace, outside: &mut W) -> Res
 
 /// Puts the lines of touches.
 fn put_touches<W: Outside>(touches: &[Touch], outside: &mut W) -> Result<(), Failed>
-    ensures puts { Puts W.Outside (flat_map touch_line touches.now) outside.old outside.new result }
-    ensures times { PutsTimes W.Outside (length touches.now) outside.old outside.new result }
+    ensures { PutsIn W.Outside (flat_map touch_line touches.now) (length touches.now) outside.old outside.new result }
 {
     let mut text = TextLine::new();
     for touch in touches {
@@ -96,8 +94,7 @@ fn put_touches<W: Outside>(touches: &[Touch], outside: &mut W) -> Result<(), Fai
 
 /// Puts the line of one touch.
 fn put_touch<W: Outside>(text: &mut TextLine, touch: &Touch, outside: &mut W) -> Result<(), Failed>
-    ensures puts { Puts W.Outside (touch_line touch.now) outside.old outside.new result }
-    ensures times { PutsTimes W.Outside 1 outside.old outside.new result }
+    ensures { PutsIn W.Outside (touch_line touch.now) 1 outside.old outside.new result }
 {
     text.begin(b"step");
     text.number(touch.step);
@@ -112,8 +109,7 @@ fn put_touch<W: Outside>(text: &mut TextLine, touch: &Touch, outside: &mut W) ->
 
 /// Puts the last line.
 fn put_steps<W: Outside>(activation: u32, steps: u64, outside: &mut W) -> Result<(), Failed>
-    ensures puts { Puts W.Outside (steps_line activation steps) outside.old outside.new result }
-    ensures times { PutsTimes W.Outside 1 outside.old outside.new result }
+    ensures { PutsIn W.Outside (steps_line activation steps) 1 outside.old outside.new result }
 {
     let mut text = TextLine::new();
     text.begin(b"trace");

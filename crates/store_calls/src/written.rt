@@ -1,7 +1,7 @@
 // An image that is written on an empty disk, and a line that tells it.
 ghost use Rattle.std.specs.Prelude.{◌≡◌, ◌⊎◌, ◌≤◌, [], codes, length, replicate, take, IsSome, IfOk, IfErr, OnOk};
-ghost use Rattle.store_calls.specs.Below.{call, CallsDisk, FailsOnlyCounted, FaultsBy, ForSome, held_of, IsSure, Leaves, OnlyAsks, put_of, Puts, PutsTimes};
-ghost use Rattle.store_calls.specs.New.{IsFilled, IsNoEmpty, IsOfWriting, IsOnTheWay, IsPutDown, IsTornAt, IsTornBy, IsWrittenWhole, LeavesTorn, LeavesTornAt, LeavesWhole, Written};
+ghost use Rattle.store_calls.specs.Below.{call, FailsOnlyCounted, ForSome, held_of, OnlyAsks, put_of};
+ghost use Rattle.store_calls.specs.New.{CanWrite, EndsAs, FillsImage, IsNoEmpty, IsOfWriting, PutsIn, Written, WritesImage, WritesSure};
 
 use call_status::Status;
 use outside::{Failed, Outside};
@@ -41,11 +41,9 @@ fn length<W: Outside>(outside: &mut W) -> Result<u64, Failed>
 
 /// Writes an image on an empty disk, and puts a line.
 pub(super) fn write_store<W: Outside>(image: &[u8], line: &[u8], outside: &mut W) -> Status
-    requires named { take 8 image.now ≡ codes "801STORE" }
-    requires empty { IsSome (W.held outside.old) → held_of W.Outside outside.old ≡ [] }
+    requires { CanWrite W.Outside image.now outside.old }
     ensures written { Written W.Outside image.now line.now (call outside.old outside.new [] result) }
-    ensures faults { FaultsBy W.Outside outside.old outside.new result }
-    ensures only { IsOfWriting result }
+    ensures ends { EndsAs W.Outside IsOfWriting outside.old outside.new result }
 {
     match write(image, outside) {
         Err(Failed) => Status::DiskFault,
@@ -56,14 +54,8 @@ pub(super) fn write_store<W: Outside>(image: &[u8], line: &[u8], outside: &mut W
 /// Writes an image on an empty disk and makes it durable. Zeros come first where its name will be, then the rest, and last the name,
 /// each made durable before the next: so whenever a crash comes, it leaves no store or the whole one (docs/FORMATS.md, "Protocols").
 fn write<W: Outside>(image: &[u8], outside: &mut W) -> Result<(), Failed>
-    requires named { take 8 image.now ≡ codes "801STORE" }
-    requires empty { IsSome (W.held outside.old) → held_of W.Outside outside.old ≡ [] }
-    ensures calls { CallsDisk W.Outside outside.old outside.new }
-    ensures cause { FailsOnlyCounted (W.disk_faults outside.old) (W.disk_faults outside.new) result }
-    ensures done { OnOk result (IsWrittenWhole W.Outside image.now outside.old outside.new) }
-    ensures torn { IsTornBy W.Outside (length image.now) outside.old outside.new }
-    ensures crash { LeavesTorn W.Outside (length image.now) outside.old outside.new }
-    ensures whole { LeavesWhole W.Outside image.now outside.old outside.new }
+    requires { CanWrite W.Outside image.now outside.old }
+    ensures { WritesImage W.Outside image.now outside.old outside.new result }
 {
     write_sure(0, &UNNAMED, outside)?;
     fill(image, outside)
@@ -73,11 +65,7 @@ fn write<W: Outside>(image: &[u8], outside: &mut W) -> Result<(), Failed>
 fn fill<W: Outside>(image: &[u8], outside: &mut W) -> Result<(), Failed>
     requires named { take 8 image.now ≡ codes "801STORE" }
     requires begun { IsSome (W.held outside.old) → held_of W.Outside outside.old ≡ replicate 8 0 }
-    ensures calls { CallsDisk W.Outside outside.old outside.new }
-    ensures cause { FailsOnlyCounted (W.disk_faults outside.old) (W.disk_faults outside.new) result }
-    ensures done { OnOk result (IsFilled W.Outside image.now outside.old outside.new) }
-    ensures told { IsSome (W.held outside.old) → IsSome (W.held outside.new) × (length (held_of W.Outside outside.new) ≤ length image.now) }
-    ensures left { IsSure W.Outside outside.old → Leaves W.Outside (λ left seen. IsOnTheWay image.now left) outside.old outside.new }
+    ensures { FillsImage W.Outside image.now outside.old outside.new result }
 {
     write_sure(NAME, &image[NAME as usize..], outside)?;
     write_sure(0, &image[..NAME as usize], outside)
@@ -86,12 +74,7 @@ fn fill<W: Outside>(image: &[u8], outside: &mut W) -> Result<(), Failed>
 /// Writes bytes at an offset and makes them sure.
 fn write_sure<W: Outside>(at: u64, bytes: &[u8], outside: &mut W) -> Result<(), Failed>
     requires { ForSome (W.held outside.old) (λ held. at ≤ length held) }
-    ensures calls { CallsDisk W.Outside outside.old outside.new }
-    ensures cause { FailsOnlyCounted (W.disk_faults outside.old) (W.disk_faults outside.new) result }
-    ensures done { OnOk result (IsPutDown W.Outside at bytes.now outside.old outside.new) }
-    ensures untold { IsSome (W.held outside.new) → IsSome (W.held outside.old) }
-    ensures torn { IsTornAt W.Outside at (length bytes.now) outside.old outside.new }
-    ensures crash { LeavesTornAt W.Outside at (length bytes.now) outside.old outside.new }
+    ensures { WritesSure W.Outside at bytes.now outside.old outside.new result }
 {
     outside.write_at(at, bytes)?;
     outside.sync()
@@ -99,8 +82,7 @@ fn write_sure<W: Outside>(at: u64, bytes: &[u8], outside: &mut W) -> Result<(), 
 
 /// Puts a line.
 fn put_line<W: Outside>(line: &[u8], outside: &mut W) -> Status
-    ensures puts { Puts W.Outside line.now outside.old outside.new (put_of result) }
-    ensures times { PutsTimes W.Outside 1 outside.old outside.new (put_of result) }
+    ensures put { PutsIn W.Outside line.now 1 outside.old outside.new (put_of result) }
     ensures only { (result ≡ Status.Done) ⊎ (result ≡ Status.PutFault) }
 {
     match put(line, outside) {
@@ -111,8 +93,7 @@ fn put_line<W: Outside>(line: &[u8], outside: &mut W) -> Status
 
 /// Puts these bytes.
 fn put<W: Outside>(bytes: &[u8], outside: &mut W) -> Result<(), Failed>
-    ensures puts { Puts W.Outside bytes.now outside.old outside.new result }
-    ensures times { PutsTimes W.Outside 1 outside.old outside.new result }
+    ensures { PutsIn W.Outside bytes.now 1 outside.old outside.new result }
 {
     outside.put(bytes)
 }

@@ -11,7 +11,7 @@ returns-clause-made g c =
     let line : c.as_slice-2.result.now ≡ new_line header = c.as_slice-2.ensures ∙ c.new_line-line.ensures ∙ ap (λ (n : ℕ). codes "new " ++ decimal n ++ codes "\n") c.total.ensures.value in
     subst (λ (bytes : List ℕ). Written G bytes (new_line header) (call before after [] c.write_store.result)) image
     (subst (λ (bytes : List ℕ). Written G c.as_slice.result.now bytes (call before after [] c.write_store.result)) line
-    (written_since G g.met.W.Outside.fewer_later before c.ask_empty.new.outside c.in_default.ensures.asks c.as_slice.result.now c.as_slice-2.result.now after c.in_default.ensures.calm c.write_store.result c.write_store.ensures.only c.in_default.ensures.empty c.write_store.ensures.written))
+    (written_since G g.met.W.Outside.fewer_later before c.ask_empty.new.outside c.in_default.ensures.asks c.as_slice.result.now c.as_slice-2.result.now after c.in_default.ensures.calm c.write_store.result c.write_store.ensures.ends.only c.in_default.ensures.empty c.write_store.ensures.written))
 
 pub returns-in-Err-clause-made : goal.returns-in-Err-clause-made
 returns-in-Err-clause-made g c =

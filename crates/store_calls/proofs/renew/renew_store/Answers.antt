@@ -23,7 +23,7 @@ returns-clause-renewed g c =
     let line : c.as_slice-2.result.now ≡ renew_line (length (renewed_image bank old.number (flat_of old))) old.number =
     c.as_slice-2.ensures ∙ c.renew_line-line.ensures ∙ ap (λ (n : ℕ). renew_line n old.number) (c.len.ensures ∙ sym c.as_slice.ensures.len ∙ ap length image) in
     renewed_by_writing G bank (given g.S.Source c.args.source.now c.old_store.new.source) before after c.in-Ok.ensures.unfailed old c.in-Ok.ensures.has
-    c.requires.least c.requires.most c.write_store.result c.write_store.ensures.only
+    c.requires.least c.requires.most c.write_store.result c.write_store.ensures.ends.only
     (subst (λ (bytes : List ℕ). Written G bytes (renew_line (length (renewed_image bank old.number (flat_of old))) old.number) (call before after [] c.write_store.result)) image
     (subst (λ (bytes : List ℕ). Written G c.as_slice.result.now bytes (call before after [] c.write_store.result)) line
-    (written_since G g.met.W.Outside.fewer_later before c.ask_empty.new.outside c.in_default.ensures.asks c.as_slice.result.now c.as_slice-2.result.now after c.in_default.ensures.calm c.write_store.result c.write_store.ensures.only c.in_default.ensures.empty c.write_store.ensures.written)))
+    (written_since G g.met.W.Outside.fewer_later before c.ask_empty.new.outside c.in_default.ensures.asks c.as_slice.result.now c.as_slice-2.result.now after c.in_default.ensures.calm c.write_store.result c.write_store.ensures.ends.only c.in_default.ensures.empty c.write_store.ensures.written)))

@@ -8,7 +8,7 @@ returns-in-Ok-clause-complete g c = λ can calm put.
     let left = g.S.Source.left c.args.source.now in
     let left_now = g.S.Source.left c.read_text.new.source in
     let whole = subst (λ (these : List ℕ). IsWholeBundle left left_now these) (sym c.deref.ensures.value) c.in-Ok.ensures.bytes in
-    trace_ends g.W.Outside left left_now c.args.outside.now c.trace_text.new.outside c.deref.result.now whole c.args.activation can c.trace_text.result did.traced did.only (λ is. put (did.faults.put is))
+    trace_ends g.W.Outside left left_now c.args.outside.now c.trace_text.new.outside c.deref.result.now whole c.args.activation can c.trace_text.result did.traced did.ends.only (λ is. put (did.ends.faults.put is))
 
 pub returns-in-Err-clause-complete : goal.returns-in-Err-clause-complete
 returns-in-Err-clause-complete g c = λ can calm put.
